@@ -1,0 +1,5 @@
+pub mod Words
+pub mod Topology
+pub mod Routing
+pub mod Guarantee
+pub mod Frames

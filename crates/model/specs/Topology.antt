@@ -1,0 +1,48 @@
+-- What a definitions file sets up. Source: RabbitMQ, "Definition Export and Import".
+use Rattle.std.specs.Prelude.{◌≡◌, List, [], ◌∷◌, Some, map, Contains, ◌⊎◌}
+use Rattle.model.specs.Words.{Text}
+use Rattle.model.specs.declared.topologies.Exchange.{Exchange}
+use Rattle.model.specs.declared.topologies.DeclaredQueue.{DeclaredQueue}
+use Rattle.model.specs.declared.topologies.Binding.{Binding}
+use Rattle.model.specs.declared.topologies.Place.{Place}
+use Rattle.model.specs.declared.topologies.Place.TheVariants as place
+
+-- exchanges, queues and bindings, each in the order of the file
+pub record Topology : Type 0 where
+  pub exchanges : List Exchange
+  pub queues : List DeclaredQueue
+  pub bindings : List Binding
+
+-- the names of the queues, in the order of the file
+abbrev pub queue_names : List DeclaredQueue → List Text
+queue_names queues = map (λ (q : DeclaredQueue). q.name) queues
+
+-- the names of the exchanges, in the order of the file
+abbrev pub exchange_names : List Exchange → List Text
+exchange_names exchanges = map (λ (x : Exchange). x.name) exchanges
+
+-- ---- what a topology keeps
+
+-- one of the list
+abbrev pub IsIn : {A : Type 0} → A → List A → Type 0
+IsIn x [] = ⊥
+IsIn x (y ∷ ys) = (x ≡ y) ⊎ IsIn x ys
+
+-- no two are the same
+abbrev pub AreApart : List Text → Type 0
+AreApart [] = Unit {0}
+AreApart (x ∷ xs) = (IsIn x xs → ⊥) × AreApart xs
+
+-- the place is one of the topology
+abbrev pub IsThere : Topology → Place → Type 0
+IsThere t (place.Exchange name) = IsIn name (exchange_names t.exchanges)
+IsThere t (place.Queue name) = IsIn name (queue_names t.queues)
+
+-- What every topology keeps: names apart, the default exchange `""` not among them, and whatever is named is there.
+pub record IsWellFormed (t : Topology) : Type 0 where
+  pub queues_apart : AreApart (queue_names t.queues)
+  pub exchanges_apart : AreApart (exchange_names t.exchanges)
+  pub default_apart : IsIn [] (exchange_names t.exchanges) → ⊥
+  pub sources : (b : Binding) → Contains t.bindings b → IsIn b.source (exchange_names t.exchanges)
+  pub ends : (b : Binding) → Contains t.bindings b → IsThere t b.to
+  pub alternates : (x : Exchange) (other : Text) → Contains t.exchanges x → x.alternate ≡ Some other → IsIn other (exchange_names t.exchanges)

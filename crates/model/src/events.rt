@@ -1,0 +1,104 @@
+//! What comes to the broker, and what it sends.
+
+use crate::contents::Content;
+use crate::methods::{Method, Publish};
+use crate::texts::Text;
+
+/// A whole command of one connection.
+#[derive(Drop)]
+pub enum Command {
+    /// A method that carries no content.
+    Plain {
+        channel: u16,
+        method: Method,
+    },
+    /// A publish, with its whole content.
+    Full {
+        channel: u16,
+        publish: Publish,
+        content: Content,
+    },
+}
+
+/// What is sent to one connection.
+#[derive(Drop)]
+pub enum Send {
+    /// The eight bytes of the protocol header, which answer any other eight.
+    Greeting {
+        connection: u64,
+    },
+    /// A method, with its content if it carries one.
+    Command {
+        connection: u64,
+        channel: u16,
+        method: Method,
+        content: Option<Content>,
+    },
+}
+
+/// One step of the broker.
+#[derive(Drop)]
+pub enum Event {
+    /// The connection runs from now on, with channels 1 to `channels` open.
+    Running {
+        connection: u64,
+        channel_max: u16,
+        channels: u16,
+    },
+    /// A whole command.
+    Command {
+        connection: u64,
+        channel: u16,
+        method: Method,
+        content: Option<Content>,
+    },
+    /// The connection's bytes broke the wire's rules.
+    Fault {
+        connection: u64,
+        code: u16,
+    },
+    /// The connection is lost.
+    Lose {
+        connection: u64,
+    },
+    /// The connection's output holds 1,048,576 bytes or more.
+    Pause {
+        connection: u64,
+    },
+    /// It holds fewer again.
+    Resume {
+        connection: u64,
+    },
+}
+
+/// What a run is given, one after another. Connections are numbered from 1 in the order of their openings.
+#[derive(Drop)]
+pub enum Arrival {
+    /// A connection that runs at once, with channels 1 to this one open.
+    Ready(u8),
+    /// A piece of bytes from a connection.
+    In(u64, Text),
+    /// So many bytes of a connection's output are taken, at most what is there.
+    Sent(u64, u64),
+    /// A connection is lost.
+    Lose(u64),
+}
+
+/// Where a connection stands in its life. Source: AMQP 0-9-1, section 2.2.4, "The Connection Class".
+#[derive(Clone, Copy, PartialEq, Eq, Debug, Drop)]
+pub enum Phase {
+    /// The eight bytes are awaited.
+    Header,
+    /// start-ok is awaited.
+    Start,
+    /// tune-ok is awaited.
+    Tune,
+    /// connection.open is awaited.
+    Open,
+    /// Commands are performed.
+    Running,
+    /// close-ok is awaited.
+    Closing,
+    /// Nothing more is read.
+    Over,
+}

@@ -1,0 +1,26 @@
+//! The words that all of warren speaks: plain data, and the definitions of what holds of it.
+//!
+//! The data here has no behaviour of its own. The definitions stand in `specs/`, one topic a file, and every contract
+//! of the crates above is stated in their words: `docs/MODEL.md` gives them in reading order.
+#![tactic(auto)]
+
+mod contents;
+mod events;
+mod messages;
+mod methods;
+mod notes;
+mod tables;
+mod texts;
+mod topologies;
+
+pub use contents::{Content, Properties};
+pub use events::{Arrival, Command, Event, Phase, Send};
+pub use messages::{Entry, Holder, Mark, Message, Taker, User};
+pub use methods::{
+    Ack, Cancel, Close, Consume, Deliver, ExchangeDeclare, Get, GetOk, Method, Nack, Open, Publish,
+    Purge, Qos, QueueDeclare, QueueDeclared, Reject, Return, Start, StartOk, Tuning,
+};
+pub use notes::{Answer, Cause, Note, Way};
+pub use tables::Table;
+pub use texts::{Text, Token};
+pub use topologies::{Binding, DeclaredQueue, Exchange, ExchangeKind, Mode, Place};

@@ -1,0 +1,57 @@
+//! Messages, and how they stand in a queue.
+
+use crate::contents::Content;
+use crate::texts::Text;
+
+/// A publish, wherever it stands now. Dead lettering changes the current exchange and key, and keeps the first.
+#[derive(Drop)]
+pub struct Message {
+    /// Publishes count from 1 over the whole broker.
+    pub number: u64,
+    pub first_exchange: Text,
+    pub first_key: Text,
+    pub exchange: Text,
+    pub key: Text,
+    pub content: Content,
+    pub redelivered: bool,
+}
+
+/// Who was given a message.
+#[derive(Clone, Copy, PartialEq, Eq, Debug, Drop)]
+pub enum Taker {
+    /// A basic.get.
+    Get,
+    /// The consumer of this number: consumers of a channel are numbered as they are made.
+    Consumer(u32),
+}
+
+/// Where a message was given out, and under which delivery tag.
+#[derive(Clone, Copy, PartialEq, Eq, Debug, Drop)]
+pub struct Holder {
+    pub connection: u64,
+    pub channel: u16,
+    pub tag: u64,
+    pub by: Taker,
+}
+
+/// Whether a message can be given out.
+#[derive(Clone, Copy, PartialEq, Eq, Debug, Drop)]
+pub enum Mark {
+    Ready,
+    /// It was given out and is not settled.
+    Held(Holder),
+}
+
+/// A message in a queue.
+#[derive(Drop)]
+pub struct Entry {
+    pub message: Message,
+    pub mark: Mark,
+}
+
+/// One who may log in: the name, and four bytes of salt with the SHA-256 of salt and password behind them.
+#[derive(Drop)]
+pub struct User {
+    pub name: Text,
+    pub hash: Text,
+}

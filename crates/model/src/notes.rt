@@ -1,0 +1,72 @@
+//! Notes: what the broker tells of each step, for audit and for the theorems.
+
+use crate::texts::Text;
+
+/// How a publish was confirmed.
+#[derive(Clone, Copy, PartialEq, Eq, Debug, Drop)]
+pub enum Answer {
+    Ack,
+    Nack,
+}
+
+/// How a message came to a queue.
+#[derive(Clone, Copy, PartialEq, Eq, Debug, Drop)]
+pub enum Way {
+    /// By its publish.
+    Publish,
+    /// As a dead letter.
+    Dead,
+}
+
+/// Why a message left a queue.
+#[derive(Clone, Copy, PartialEq, Eq, Debug, Drop)]
+pub enum Cause {
+    /// It was acknowledged.
+    Acked,
+    /// It was taken without acknowledgement.
+    Auto,
+    /// It was rejected and not requeued.
+    Rejected,
+    /// Its queue was purged.
+    Purged,
+}
+
+/// One thing that happened to a message. `number` is its publish number: publishes count from 1 over the whole broker.
+#[derive(Drop)]
+pub enum Note {
+    /// A publish was taken; `confirm` is its confirm number on its channel, in confirm mode.
+    Published {
+        number: u64,
+        connection: u64,
+        channel: u16,
+        exchange: Text,
+        key: Text,
+        confirm: Option<u64>,
+    },
+    /// The message stands at the end of the queue.
+    Entered {
+        number: u64,
+        queue: Text,
+        way: Way,
+    },
+    /// The queue was full.
+    Refused {
+        number: u64,
+        queue: Text,
+    },
+    /// The publish was mandatory, was routed nowhere, and was sent back.
+    Returned {
+        number: u64,
+    },
+    /// The publish was confirmed.
+    Confirmed {
+        number: u64,
+        answer: Answer,
+    },
+    /// The message is gone from the queue.
+    Left {
+        number: u64,
+        queue: Text,
+        cause: Cause,
+    },
+}

@@ -1,0 +1,43 @@
+//! Field tables, as the bytes of their pairs.
+
+ghost use Rattle.std.specs.Prelude.{◌≡◌, [], IfOk};
+
+use crate::texts::Text;
+use std::alloc::AllocError;
+use std::marker::Model;
+
+/// A field table, seen as the bytes of its pairs: name, type letter and value of each, without the length before them.
+///
+/// Source: AMQP 0-9-1, section 4.2.5.5, "Field Tables".
+#[derive(Drop)]
+pub struct Table {
+    pairs: Text,
+}
+
+impl Model for Table {
+    ghost use Rattle.std.specs.Prelude.{List, ℕ};
+
+    ghost Value = { List ℕ };
+
+    ghost view = { λ t. t.pairs };
+}
+
+impl Table {
+    /// The table of no pairs.
+    pub fn empty() -> Table
+        ensures { result ≡ [] }
+    {
+        Table {
+            pairs: Text::empty(),
+        }
+    }
+
+    /// The same table, sharing its bytes.
+    pub fn clone(&self) -> Result<Table, AllocError>
+        ensures { IfOk result (λ t. t ≡ self.now) }
+    {
+        Ok(Table {
+            pairs: self.pairs.clone()?,
+        })
+    }
+}
