@@ -3,3 +3,5 @@ pub mod Topology
 pub mod Routing
 pub mod Guarantee
 pub mod Frames
+pub mod Grammar
+pub mod Headers

@@ -1,0 +1,92 @@
+-- How content headers are spelled. Source: AMQP 0-9-1, section 4.2.6.1, "The Content Header", and the basic class of its XML.
+use Rattle.std.specs.Prelude.{◌≡◌, ◌≢◌, ◌<◌, ◌≤◌, ◌+◌, ◌*◌, ◌^◌, ℕ, List, [], ◌∷◌, ◌++◌, length, take, drop, Bool, true, false, cond, Option, Some, None, is_some, flat_map, Result, Ok, Err, ◌⊎◌}
+use Rattle.std.specs.Int.{w16, w64, to_be_bytes, from_be_bytes}
+use Rattle.std.specs.List.{AllByRecursion}
+use Rattle.model.specs.Words.{Text}
+use Rattle.model.specs.Grammar.{Argument, Octet, Long_long, Short_text, Field_table, argument, IsArgument, class_at}
+use Rattle.model.specs.declared.contents.Properties.{Properties}
+use Rattle.model.specs.declared.contents.Content.{Content}
+
+abbrev pub no_properties : Properties
+no_properties = record {
+  content_type = None; content_encoding = None; headers = None; delivery_mode = None; priority = None; correlation_id = None; reply_to = None;
+  expiration = None; message_id = None; timestamp = None; kind = None; user_id = None; app_id = None; reserved = None;
+}
+
+-- a property that is present, as an argument
+abbrev pub text_of : Option Text → Option Argument
+text_of None = None
+text_of (Some t) = Some (Short_text t)
+
+abbrev pub octet_of : Option ℕ → Option Argument
+octet_of None = None
+octet_of (Some n) = Some (Octet n)
+
+abbrev pub time_of : Option ℕ → Option Argument
+time_of None = None
+time_of (Some n) = Some (Long_long n)
+
+abbrev pub table_of : Option (List ℕ) → Option Argument
+table_of None = None
+table_of (Some t) = Some (Field_table t)
+
+-- the fourteen properties in the order of their flags, from bit 15 down to bit 2
+abbrev pub properties_of : Properties → List (Option Argument)
+properties_of p =
+    text_of p.content_type ∷ text_of p.content_encoding ∷ table_of p.headers ∷ octet_of p.delivery_mode ∷ octet_of p.priority
+    ∷ text_of p.correlation_id ∷ text_of p.reply_to ∷ text_of p.expiration ∷ text_of p.message_id ∷ time_of p.timestamp
+    ∷ text_of p.kind ∷ text_of p.user_id ∷ text_of p.app_id ∷ text_of p.reserved ∷ []
+
+-- the number whose highest bit tells of the first property, and whose lowest two bits are 0
+abbrev pub flags : List (Option Argument) → ℕ
+flags [] = 0
+flags (p ∷ ps) = cond (is_some p) 1 0 * 2 ^ (length ps + 2) + flags ps
+
+-- the values that are present, one after another
+abbrev pub value_of : Option Argument → List ℕ
+value_of None = []
+value_of (Some a) = argument a
+
+abbrev pub IsValue : Option Argument → Type 0
+IsValue None = Unit {0}
+IsValue (Some a) = IsArgument a
+
+-- what has a spelling
+abbrev pub AreProperties : Properties → Type 0
+AreProperties p = AllByRecursion IsValue (properties_of p)
+
+-- class 60, weight 0, body size, flags, values
+abbrev pub header_bytes : ℕ → Properties → List ℕ
+header_bytes size p = to_be_bytes w16 60 ++ to_be_bytes w16 0 ++ to_be_bytes w64 size ++ to_be_bytes w16 (flags (properties_of p)) ++ flat_map value_of (properties_of p)
+
+-- ---- what a payload says
+
+pub record Header : Type 0 where
+  -- of the body, in bytes
+  pub size : ℕ
+  pub properties : Properties
+
+abbrev pub weight_at : List ℕ → ℕ
+weight_at bytes = from_be_bytes w16 (take 2 (drop 2 bytes))
+
+abbrev pub size_at : List ℕ → ℕ
+size_at bytes = from_be_bytes w64 (take 8 (drop 4 bytes))
+
+abbrev pub flags_at : List ℕ → ℕ
+flags_at bytes = from_be_bytes w16 (take 2 (drop 12 bytes))
+
+-- it is no header of a content of the basic class: 501 frame-error
+abbrev pub IsNoHeader : List ℕ → Type 0
+IsNoHeader payload = (length payload < 14) ⊎ (class_at payload ≢ 60) ⊎ (weight_at payload ≢ 0)
+
+-- The payload declares a body of so many bytes, or is refused by this reply code.
+pub data SaysSize (payload : List ℕ) : Result ℕ ℕ → Type 0 where
+  size : 14 ≤ length payload → class_at payload ≡ 60 → weight_at payload ≡ 0 → SaysSize payload (Ok (size_at payload))
+  no_header : IsNoHeader payload → SaysSize payload (Err 501)
+
+-- The payload of a header frame is this header, or refused by this reply code. Until properties are read, any that are present are refused as not implemented (540).
+pub data SaysHeader (payload : List ℕ) : Result Header ℕ → Type 0 where
+  said : {h : Header} → h.size < 2 ^ 64 → h.properties ≡ no_properties → payload ≡ header_bytes h.size h.properties → SaysHeader payload (Ok h)
+  no_header : IsNoHeader payload → SaysHeader payload (Err 501)
+  has_properties : 14 ≤ length payload → class_at payload ≡ 60 → weight_at payload ≡ 0 → flags_at payload ≢ 0 → SaysHeader payload (Err 540)
+  left_over : 14 < length payload → class_at payload ≡ 60 → weight_at payload ≡ 0 → flags_at payload ≡ 0 → SaysHeader payload (Err 502)
