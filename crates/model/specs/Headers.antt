@@ -1,16 +1,27 @@
 -- How content headers are spelled. Source: AMQP 0-9-1, section 4.2.6.1, "The Content Header", and the basic class of its XML.
-use Rattle.std.specs.Prelude.{◌≡◌, ◌≢◌, ◌<◌, ◌≤◌, ◌+◌, ◌*◌, ◌^◌, ℕ, List, [], ◌∷◌, ◌++◌, length, take, drop, Bool, true, false, cond, Option, Some, None, is_some, flat_map, Result, Ok, Err, ◌⊎◌}
+use Rattle.std.specs.Prelude.{◌≡◌, ◌≢◌, ◌<◌, ◌≤◌, ◌+◌, ◌*◌, ◌^◌, ℕ, List, [], ◌∷◌, ◌++◌, length, take, drop, cond, Option, Some, None, is_some, flat_map, Result, Ok, Err, ◌⊎◌}
 use Rattle.std.specs.Int.{w16, w64, to_be_bytes, from_be_bytes}
 use Rattle.std.specs.List.{AllByRecursion}
 use Rattle.model.specs.Words.{Text}
 use Rattle.model.specs.Grammar.{Argument, Octet, Long_long, Short_text, Field_table, argument, IsArgument, class_at}
 use Rattle.model.specs.declared.contents.Properties.{Properties}
-use Rattle.model.specs.declared.contents.Content.{Content}
 
 abbrev pub no_properties : Properties
 no_properties = record {
-  content_type = None; content_encoding = None; headers = None; delivery_mode = None; priority = None; correlation_id = None; reply_to = None;
-  expiration = None; message_id = None; timestamp = None; kind = None; user_id = None; app_id = None; reserved = None;
+  content_type = None;
+  content_encoding = None;
+  headers = None;
+  delivery_mode = None;
+  priority = None;
+  correlation_id = None;
+  reply_to = None;
+  expiration = None;
+  message_id = None;
+  timestamp = None;
+  kind = None;
+  user_id = None;
+  app_id = None;
+  reserved = None;
 }
 
 -- a property that is present, as an argument

@@ -5,3 +5,7 @@ pub mod Guarantee
 pub mod Frames
 pub mod Grammar
 pub mod Headers
+pub mod Broker
+pub mod Commands
+pub mod Codes
+pub mod Step

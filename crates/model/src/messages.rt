@@ -1,7 +1,10 @@
 //! Messages, and how they stand in a queue.
 
+ghost use Rattle.std.specs.Prelude.{◌≡◌, IfOk};
+
 use crate::contents::Content;
 use crate::texts::Text;
+use std::alloc::AllocError;
 
 /// A publish, wherever it stands now. Dead lettering changes the current exchange and key, and keeps the first.
 #[derive(Drop)]
@@ -14,6 +17,23 @@ pub struct Message {
     pub key: Text,
     pub content: Content,
     pub redelivered: bool,
+}
+
+impl Message {
+    /// The same message, sharing its bytes.
+    pub fn clone(&self) -> Result<Message, AllocError>
+        ensures { IfOk result (λ m. m ≡ self.now) }
+    {
+        Ok(Message {
+            number: self.number,
+            first_exchange: self.first_exchange.clone()?,
+            first_key: self.first_key.clone()?,
+            exchange: self.exchange.clone()?,
+            key: self.key.clone()?,
+            content: self.content.clone()?,
+            redelivered: self.redelivered,
+        })
+    }
 }
 
 /// Who was given a message.

@@ -1,0 +1,131 @@
+-- What the bytes of one connection say: frames, and contents put together per channel.
+-- Source: AMQP 0-9-1, section 4.2.6, "Content Framing", and section 2.3.5, "Frame Details".
+use Rattle.std.specs.Prelude.{◌≡◌, ℕ, List, [], ◌∷◌, ◌++◌, length, Bool, nat_lt, ◌==◌, ◌&&◌, ◌||◌, not, if◌then◌else◌, Option, Some, None, Result, Ok, Err, MatchBool}
+use Rattle.model.specs.Words.{Text}
+use Rattle.model.specs.Broker.{with_one}
+use Rattle.model.specs.Frames.{Frame, Begins, IsBroken}
+use Rattle.model.specs.Grammar.{IsMethod, SaysMethod}
+use Rattle.model.specs.Headers.{Header, SaysHeader}
+use Rattle.model.specs.declared.contents.Properties.{Properties}
+use Rattle.model.specs.declared.events.Command.{Command}
+use Rattle.model.specs.declared.events.Command.TheVariants.{Plain, Full}
+use Rattle.model.specs.declared.methods.Publish.{Publish}
+use Rattle.model.specs.declared.methods.Method.{Method}
+use Rattle.model.specs.declared.methods.Method.TheVariants.{BasicPublish}
+
+-- ---- one frame
+
+-- what a channel has begun and not completed
+pub data Pending : Type 0 where
+  -- a method is awaited
+  Nothing : Pending
+  -- a publish was read, and its header is awaited
+  Wants_header : (publish : Publish) → Pending
+  -- so many bytes were declared, and these were read
+  Wants_body : (publish : Publish) (properties : Properties) (size : ℕ) (body : Text) → Pending
+
+-- what a frame does: its channel goes on with this pending, a command is complete, or the stream breaks with a reply code
+pub data Taken : Type 0 where
+  Goes_on : (pending : Pending) → Taken
+  Makes : (command : Command) → Taken
+  Breaks : (code : ℕ) → Taken
+
+-- a publish waits for its content, any other method is a command
+abbrev pub taken_method : ℕ → Result Method ℕ → Taken
+taken_method h (Ok (BasicPublish p)) = Goes_on (Wants_header p)
+taken_method h (Ok m) = Makes (Plain h m)
+taken_method h (Err code) = Breaks code
+
+-- past the declared size is a frame error; at it, the publish is complete
+abbrev pub taken_body : ℕ → Publish → Properties → ℕ → Text → Taken
+taken_body h p properties size body =
+    if nat_lt size (length body) then Breaks 501
+    else if length body == size then Makes (Full h p (record { properties = properties; body = body }))
+    else Goes_on (Wants_body p properties size body)
+
+abbrev pub taken_header : ℕ → Publish → Result Header ℕ → Taken
+taken_header h p (Ok header) = taken_body h p header.properties header.size []
+taken_header h p (Err code) = Breaks code
+
+-- the type of frame that a channel awaits
+abbrev pub awaited : Pending → ℕ
+awaited Nothing = 1
+awaited (Wants_header p) = 2
+awaited (Wants_body p properties size body) = 3
+
+-- a frame of the awaited type
+abbrev pub TakesPayload : Pending → Frame → Taken → Type 0
+TakesPayload Nothing f taken = (r : Result Method ℕ) × SaysMethod f.payload r × (taken ≡ taken_method f.channel r)
+TakesPayload (Wants_header p) f taken = (r : Result Header ℕ) × SaysHeader f.payload r × (taken ≡ taken_header f.channel p r)
+TakesPayload (Wants_body p properties size body) f taken = taken ≡ taken_body f.channel p properties size (body ++ f.payload)
+
+-- a heartbeat is on channel 0 and empty, and then ignored (own)
+abbrev pub taken_heartbeat : Pending → Frame → Taken
+taken_heartbeat p f = if f.channel == 0 && length f.payload == 0 then Goes_on p else Breaks 501
+
+-- a channel above 255, or a header or body on channel 0
+abbrev pub is_on_wrong_channel : Frame → Bool
+is_on_wrong_channel f = nat_lt 255 f.channel || (f.channel == 0 && not (f.kind == 1))
+
+-- A whole frame, decided in this order: heartbeat, 504 channel-error, 505 unexpected-frame, and then its payload.
+abbrev pub TakesOn : Pending → Frame → Taken → Type 0
+TakesOn p f taken =
+    MatchBool (f.kind == 8) (taken ≡ taken_heartbeat p f)
+    (MatchBool (is_on_wrong_channel f) (taken ≡ Breaks 504)
+    (MatchBool (f.kind == awaited p) (TakesPayload p f taken) (taken ≡ Breaks 505)))
+
+-- ---- a whole stream
+
+-- what one connection's bytes have still to say
+pub record Stream : Type 0 where
+  -- the greatest frame, in bytes
+  pub max : ℕ
+  pub pending : ℕ → Pending
+  pub unread : List ℕ
+
+abbrev pub pending_after : Taken → Pending
+pending_after (Goes_on p) = p
+pending_after (Makes c) = Nothing
+pending_after (Breaks code) = Nothing
+
+-- the stream after a frame of this channel was read
+abbrev pub after_frame : Stream → ℕ → Taken → List ℕ → Stream
+after_frame s h taken rest = record s { pending = with_one s.pending h (pending_after taken); unread = rest }
+
+-- The next frame is read, with this effect.
+pub record Takes (s : Stream) (taken : Taken) (next : Stream) : Type 0 where
+  pub frame : Frame
+  pub rest : List ℕ
+  pub front : Begins s.max s.unread frame rest
+  pub effect : TakesOn (s.pending frame.channel) frame taken
+  pub left : next ≡ after_frame s frame.channel taken rest
+
+-- The next command is this one.
+pub data Yields : Stream → Command → Stream → Type 0 where
+  now : {s next : Stream} {c : Command} → Takes s (Makes c) next → Yields s c next
+  later : {s mid next : Stream} {p : Pending} {c : Command} → Takes s (Goes_on p) mid → Yields mid c next → Yields s c next
+
+-- No command comes: the rest is no whole frame, or a fault of this code is next.
+pub data Ends : Stream → Option ℕ → Type 0 where
+  short : {s : Stream} → ((f : Frame) (rest : List ℕ) → Begins s.max s.unread f rest → ⊥) → (IsBroken s.max s.unread → ⊥) → Ends s None
+  broken : {s : Stream} → IsBroken s.max s.unread → Ends s (Some 501)
+  faulty : {s next : Stream} {code : ℕ} → Takes s (Breaks code) next → Ends s (Some code)
+  beyond : {s mid : Stream} {p : Pending} {o : Option ℕ} → Takes s (Goes_on p) mid → Ends mid o → Ends s o
+
+-- All commands of a stream, and how it ends.
+abbrev pub Commands : Stream → List Command → Option ℕ → Type 0
+Commands s [] end = Ends s end
+Commands s (c ∷ cs) end = (next : Stream) × Yields s c next × Commands next cs end
+
+-- a connection that is opened as running
+abbrev pub running_stream : Stream
+running_stream = record { max = 131072; pending = λ h. Nothing; unread = [] }
+
+-- the same bytes with more behind them
+abbrev pub heard : Stream → List ℕ → Stream
+heard s bytes = record s { unread = s.unread ++ bytes }
+
+-- the command is made of a method that has a spelling
+abbrev pub IsCommand : Command → Type 0
+IsCommand (Plain h m) = IsMethod m
+IsCommand (Full h p content) = IsMethod (BasicPublish p)

@@ -1,0 +1,321 @@
+-- What the broker does at one event of a connection that runs. Each case names all that changes: what it doesn't name stays.
+-- Source: AMQP 0-9-1, its XML's rules of the channel and basic classes; RabbitMQ, "Consumer Acknowledgements and Publisher Confirms".
+use Rattle.std.specs.Prelude.{◌≡◌, ◌+◌, ℕ, List, [], ◌∷◌, ◌++◌, length, map, Bool, true, false, nat_lt, nat_le, not, ◌==◌, ◌&&◌, ◌||◌, if◌then◌else◌, Option, Some, None, find}
+use Rattle.std.specs.List.{list_any}
+use Rattle.std.specs.Str.{bytes_eq}
+use Rattle.model.specs.Words.{Text}
+use Rattle.model.specs.Topology.{Topology, queue_names}
+use Rattle.model.specs.Routing.{Routes, Picks}
+use Rattle.model.specs.Broker.{Channel, Connection, Broker, new_channel, is_full, with_one, with_pair, with_row}
+use Rattle.model.specs.Grammar.{Ids, ids, ids_of}
+use Rattle.model.specs.Headers.{no_properties}
+use Rattle.model.specs.Codes.{code_text}
+use Rattle.model.specs.declared.topologies.Exchange.{Exchange}
+use Rattle.model.specs.declared.messages.Message.{Message}
+use Rattle.model.specs.declared.messages.Holder.{Holder}
+use Rattle.model.specs.declared.messages.Entry.{Entry}
+use Rattle.model.specs.declared.messages.Mark.TheVariants.{Ready, Held}
+use Rattle.model.specs.declared.contents.Content.{Content}
+use Rattle.model.specs.declared.events.Send.{Send}
+use Rattle.model.specs.declared.events.Send.TheVariants as send
+use Rattle.model.specs.declared.methods.Publish.{Publish}
+use Rattle.model.specs.declared.methods.Method.{Method}
+use Rattle.model.specs.declared.methods.Method.TheVariants.{ConnectionClose, ConnectionCloseOk, ChannelClose, ChannelCloseOk, BasicPublish, BasicReturn, BasicAck, BasicNack, ConfirmSelect, ConfirmSelectOk}
+use Rattle.model.specs.declared.notes.Note.{Note}
+use Rattle.model.specs.declared.notes.Note.TheVariants.{Published, Entered, Refused, Returned, Confirmed}
+use Rattle.model.specs.declared.notes.Answer.{Answer}
+use Rattle.model.specs.declared.notes.Answer.TheVariants as answer
+use Rattle.model.specs.declared.notes.Way.{Way}
+use Rattle.model.specs.declared.notes.Way.TheVariants as way
+use Rattle.model.specs.declared.events.Event.{Event}
+use Rattle.model.specs.declared.events.Event.TheVariants.{Running, Command, Fault, Lose, Pause, Resume}
+
+-- ---- refusals, in the order in which they are looked for
+
+pub data Refusal : Type 0 where
+  -- nothing is done
+  Ignored : Refusal
+  -- the channel is closed with this reply code
+  Of_channel : (code : ℕ) → Refusal
+  -- the connection is closed with this reply code
+  Of_connection : (code : ℕ) → Refusal
+
+abbrev pub exchange_named : List Exchange → Text → Option Exchange
+exchange_named xs name = find (λ (x : Exchange). bytes_eq x.name name) xs
+
+-- clients may not publish to an internal exchange, nor to one that is not there
+abbrev pub refusal_at : Option Exchange → Option Refusal
+refusal_at None = Some (Of_channel 404)
+refusal_at (Some x) = if x.internal then Some (Of_channel 403) else None
+
+-- the default exchange is always there
+abbrev pub refusal_to : Topology → Text → Option Refusal
+refusal_to t [] = None
+refusal_to t (b ∷ bs) = refusal_at (exchange_named t.exchanges (b ∷ bs))
+
+-- the greatest 64-bit number
+abbrev pub greatest : ℕ
+greatest = 18446744073709551615
+
+abbrev pub is_spent : Option ℕ → Bool
+is_spent None = false
+is_spent (Some n) = n == greatest
+
+-- a counter that the publish needs is spent
+abbrev pub refusal_of_count : Broker → Channel → Option Refusal
+refusal_of_count b ch = if (b.published == greatest) || is_spent ch.confirm then Some (Of_connection 541) else None
+
+-- the first refusal, if there is one
+abbrev pub or_else : Option Refusal → Option Refusal → Option Refusal
+or_else None other = other
+or_else (Some r) other = Some r
+
+-- a publish: immediate is not implemented (nor mandatory, so far), then the exchange is looked for, then the counters
+abbrev pub refusal_of_publish : Topology → Broker → Channel → Publish → Option Refusal
+refusal_of_publish t b ch p =
+    if p.immediate || p.mandatory then Some (Of_connection 540) else or_else (refusal_to t p.exchange) (refusal_of_count b ch)
+
+-- the connection class
+abbrev pub is_of_connection : Method → Bool
+is_of_connection m = (ids_of m).class == 10
+
+-- a method on an open channel; one that is not built yet is not implemented
+abbrev pub refusal_of : Topology → Broker → Channel → Method → Option Refusal
+refusal_of t b ch (ConfirmSelect no_wait) = None
+refusal_of t b ch (BasicPublish p) = refusal_of_publish t b ch p
+refusal_of t b ch (ChannelClose m) = None
+refusal_of t b ch ChannelCloseOk = Some (Of_connection 503)
+refusal_of t b ch ConfirmSelectOk = Some (Of_connection 503)
+refusal_of t b ch _ = Some (Of_connection 540)
+
+-- a method on a channel that is not open
+abbrev pub refusal_on : Topology → Broker → Option Channel → Method → Option Refusal
+refusal_on t b None m = Some (Of_connection 504)
+refusal_on t b (Some ch) m = refusal_of t b ch m
+
+abbrev pub refusal_on_zero : Method → Option Refusal
+refusal_on_zero (ConnectionClose m) = None
+refusal_on_zero _ = Some (Of_connection 503)
+
+-- on a channel that awaits close-ok everything but a close and close-ok is ignored
+abbrev pub refusal_while_closing : Method → Option Refusal
+refusal_while_closing (ChannelClose m) = None
+refusal_while_closing ChannelCloseOk = None
+refusal_while_closing _ = Some Ignored
+
+abbrev pub is_awaiting : Option Channel → Bool
+is_awaiting None = false
+is_awaiting (Some ch) = ch.is_closing
+
+-- a command of a running connection, on a channel of its own
+abbrev pub refusal : Topology → Broker → Connection → ℕ → Method → Option Channel → Option Refusal
+refusal t b conn h m ch =
+    if is_awaiting ch then refusal_while_closing m
+    else if h == 0 then refusal_on_zero m
+    else if is_of_connection m then Some (Of_connection 503)
+    else if nat_lt conn.channel_max h then Some (Of_connection 504)
+    else refusal_on t b ch m
+
+-- ---- changes
+
+abbrev pub with_channel : Broker → ℕ → ℕ → Option Channel → Broker
+with_channel b c h ch = record b { channel = with_pair b.channel c h ch }
+
+abbrev pub without_connection : Broker → ℕ → Broker
+without_connection b c = record b { connection = with_one b.connection c None; channel = with_row b.channel c (λ h. None) }
+
+-- an entry that these held is ready again in its place, and redelivered
+abbrev pub freed : (Holder → Bool) → Entry → Entry
+freed mine e = elim e.mark [ Ready ↦ e | Held holder ↦ if mine holder then record { message = record e.message { redelivered = true }; mark = Ready } else e ]
+
+abbrev pub with_freed : Broker → (Holder → Bool) → Broker
+with_freed b mine = record b { queue = λ q. map (freed mine) (b.queue q) }
+
+abbrev pub by_channel : ℕ → ℕ → Holder → Bool
+by_channel c h holder = (holder.connection == c) && (holder.channel == h)
+
+abbrev pub by_connection : ℕ → Holder → Bool
+by_connection c holder = holder.connection == c
+
+-- what a closed channel held is requeued, and nothing is left on it but that close-ok is awaited
+abbrev pub with_closing : Broker → ℕ → ℕ → Broker
+with_closing b c h = with_freed (with_channel b c h (Some (record new_channel { is_closing = true }))) (by_channel c h)
+
+-- what a connection held is requeued, and it is gone with its channels and their consumers
+abbrev pub with_gone : Broker → ℕ → Broker
+with_gone b c = with_freed (without_connection b c) (by_connection c)
+
+-- the new state is this one
+pub record Is (made new : Broker) : Type 0 where
+  pub counted : new.published ≡ made.published
+  pub queues : (q : Text) → new.queue q ≡ made.queue q
+  pub connections : (c : ℕ) → new.connection c ≡ made.connection c
+  pub channels : (c h : ℕ) → new.channel c h ≡ made.channel c h
+
+-- ---- sends
+
+abbrev pub reply : ℕ → ℕ → Method → Send
+reply c h m = send.Command c h m None
+
+abbrev pub channel_close : ℕ → ℕ → ℕ → Ids → Send
+channel_close c h code cause = reply c h (ChannelClose (record { reply_code = code; reply_text = code_text code; class_id = cause.class; method_id = cause.method }))
+
+abbrev pub connection_close : ℕ → ℕ → Ids → Send
+connection_close c code cause = reply c 0 (ConnectionClose (record { reply_code = code; reply_text = code_text code; class_id = cause.class; method_id = cause.method }))
+
+-- ---- a publish
+
+abbrev pub message : ℕ → Publish → Content → Message
+message n p content = record { number = n; first_exchange = p.exchange; first_key = p.routing_key; exchange = p.exchange; key = p.routing_key; content = content; redelivered = false }
+
+-- a full queue refuses, any other takes the message
+abbrev pub entry_note : Topology → (Text → List Entry) → ℕ → ℕ → Way → Text → Note
+entry_note t entries size n w q = if is_full t entries q size then Refused n q else Entered n q w
+
+-- what comes to the queue q, of a message that goes to these queues
+abbrev pub comes_to : Topology → (Text → List Entry) → Message → Text → List Text → List Entry
+comes_to t entries m q [] = []
+comes_to t entries m q (r ∷ rs) =
+    if bytes_eq r q && not (is_full t entries r (length m.content.body)) then record { message = m; mark = Ready } ∷ comes_to t entries m q rs
+    else comes_to t entries m q rs
+
+abbrev pub is_none : List Text → Bool
+is_none [] = true
+is_none (q ∷ qs) = false
+
+-- an unroutable mandatory publish is sent back (AMQP 0-9-1, basic.return)
+abbrev pub returned_notes : ℕ → Bool → List Note
+returned_notes n is_returned = if is_returned then Returned n ∷ [] else []
+
+abbrev pub returned_sends : ℕ → ℕ → Publish → Content → Bool → List Send
+returned_sends c h p content is_returned =
+    if is_returned then send.Command c h (BasicReturn (record { reply_code = 312; reply_text = code_text 312; exchange = p.exchange; routing_key = p.routing_key })) (Some content) ∷ [] else []
+
+-- nack where some routed queue was full, else ack, also where it was routed nowhere
+abbrev pub answer_of : Bool → Answer
+answer_of some_full = if some_full then answer.Nack else answer.Ack
+
+abbrev pub confirm_method : Answer → ℕ → Method
+confirm_method answer.Ack n = BasicAck (record { delivery_tag = n; multiple = false })
+confirm_method answer.Nack n = BasicNack (record { delivery_tag = n; multiple = false; requeue = false })
+
+abbrev pub next_of : Option ℕ → Option ℕ
+next_of None = None
+next_of (Some n) = Some (n + 1)
+
+abbrev pub confirm_notes : ℕ → Option ℕ → Answer → List Note
+confirm_notes n None a = []
+confirm_notes n (Some m) a = Confirmed n a ∷ []
+
+abbrev pub confirm_sends : ℕ → ℕ → Option ℕ → Answer → List Send
+confirm_sends c h None a = []
+confirm_sends c h (Some m) a = reply c h (confirm_method a m) ∷ []
+
+abbrev pub after_publish : Topology → Broker → ℕ → ℕ → Channel → Publish → Content → List Text → Broker
+after_publish t b c h ch p content targets = record b {
+  published = b.published + 1;
+  queue = λ q. b.queue q ++ comes_to t b.queue (message (b.published + 1) p content) q targets;
+  channel = with_pair b.channel c h (Some (record ch { confirm = next_of ch.confirm }));
+}
+
+-- a routed queue is full for this body
+abbrev pub is_some_full : Topology → (Text → List Entry) → Content → List Text → Bool
+is_some_full t entries content targets = list_any (λ q. is_full t entries q (length content.body)) targets
+
+abbrev pub entry_notes : Topology → (Text → List Entry) → ℕ → ℕ → Way → List Text → List Note
+entry_notes t entries size n w targets = map (entry_note t entries size n w) targets
+
+-- What a publish does, on a channel of this record: it goes to each routed queue in file order, and is confirmed in confirm mode.
+pub record IsPublish (t : Topology) (old : Broker) (c h : ℕ) (ch : Channel) (p : Publish) (content : Content) (sends : List Send) (notes : List Note) (new : Broker) : Type 0 where
+  pub targets : List Text
+  pub routed : Picks (Routes t p.exchange p.routing_key) (queue_names t.queues) targets
+  pub noted : notes ≡ Published (old.published + 1) c h p.exchange p.routing_key (next_of ch.confirm)
+      ∷ entry_notes t old.queue (length content.body) (old.published + 1) way.Publish targets
+      ++ returned_notes (old.published + 1) (p.mandatory && is_none targets)
+      ++ confirm_notes (old.published + 1) (next_of ch.confirm) (answer_of (is_some_full t old.queue content targets))
+  pub sent : sends ≡ returned_sends c h p content (p.mandatory && is_none targets) ++ confirm_sends c h (next_of ch.confirm) (answer_of (is_some_full t old.queue content targets))
+  pub left : Is (after_publish t old c h ch p content targets) new
+
+-- ---- the other commands
+
+-- a step that notes nothing, with its sends and the state that it leaves
+pub record Does (sends : List Send) (notes : List Note) (new : Broker) (wanted_sends : List Send) (made : Broker) : Type 0 where
+  pub sent : sends ≡ wanted_sends
+  pub noted : notes ≡ []
+  pub left : Is made new
+
+-- confirm numbers count from 1 after the first confirm.select; a second one changes nothing
+abbrev pub started : Option ℕ → Option ℕ
+started None = Some 0
+started (Some n) = Some n
+
+abbrev pub select_sends : ℕ → ℕ → Bool → List Send
+select_sends c h no_wait = if no_wait then [] else reply c h ConfirmSelectOk ∷ []
+
+-- a close of the client: what the channel held is requeued; on one that awaits close-ok nothing changes but that it is answered
+abbrev pub after_close : Broker → ℕ → ℕ → Channel → Broker
+after_close b c h ch = if ch.is_closing then b else with_freed (with_channel b c h None) (by_channel c h)
+
+-- a publish without a content counts as one with none of it
+abbrev pub content_or_none : Option Content → Content
+content_or_none (Some content) = content
+content_or_none None = record { properties = no_properties; body = [] }
+
+-- what a command does that is not refused
+abbrev pub Performs : Topology → Broker → ℕ → ℕ → Channel → Method → Option Content → List Send → List Note → Broker → Type 0
+Performs t old c h ch (ConfirmSelect no_wait) content sends notes new =
+    Does sends notes new (select_sends c h no_wait) (with_channel old c h (Some (record ch { confirm = started ch.confirm })))
+Performs t old c h ch (BasicPublish p) content sends notes new =
+    IsPublish t old c h ch p (content_or_none content) sends notes new
+Performs t old c h ch (ChannelClose m) content sends notes new =
+    Does sends notes new (reply c h ChannelCloseOk ∷ []) (after_close old c h ch)
+Performs t old c h ch ChannelCloseOk content sends notes new =
+    Does sends notes new [] (with_channel old c h None)
+Performs t old c h ch (ConnectionClose m) content sends notes new =
+    Does sends notes new (reply c 0 ConnectionCloseOk ∷ []) (with_gone old c)
+Performs t old c h ch _ content sends notes new = ⊥
+
+-- What a refused command does: the close of its code names the method that caused it, and what was held is ready again.
+abbrev pub Refuses : Broker → ℕ → ℕ → Method → Refusal → List Send → List Note → Broker → Type 0
+Refuses old c h m Ignored sends notes new = Does sends notes new [] old
+Refuses old c h m (Of_channel code) sends notes new = Does sends notes new (channel_close c h code (ids_of m) ∷ []) (with_closing old c h)
+Refuses old c h m (Of_connection code) sends notes new = Does sends notes new (connection_close c code (ids_of m) ∷ []) (with_gone old c)
+
+abbrev pub channel_or_new : Option Channel → Channel
+channel_or_new None = new_channel
+channel_or_new (Some ch) = ch
+
+abbrev pub Decides : Topology → Broker → ℕ → ℕ → Method → Option Content → Option Refusal → List Send → List Note → Broker → Type 0
+Decides t old c h m content None sends notes new = Performs t old c h (channel_or_new (old.channel c h)) m content sends notes new
+Decides t old c h m content (Some r) sends notes new = Refuses old c h m r sends notes new
+
+-- a command of a connection that doesn't run does nothing
+abbrev pub OnConnection : Topology → Broker → ℕ → ℕ → Method → Option Content → List Send → List Note → Broker → Option Connection → Type 0
+OnConnection t old c h m content sends notes new None = Does sends notes new [] old
+OnConnection t old c h m content sends notes new (Some conn) = Decides t old c h m content (refusal t old conn h m (old.channel c h)) sends notes new
+
+-- ---- openings, pauses
+
+-- channels 1 to k are open
+abbrev pub channels_up_to : ℕ → ℕ → Option Channel
+channels_up_to k h = if nat_le 1 h && nat_le h k then Some new_channel else None
+
+abbrev pub opened : Broker → ℕ → ℕ → ℕ → Broker
+opened b c max k = record b { connection = with_one b.connection c (Some (record { channel_max = max; is_paused = false })); channel = with_row b.channel c (channels_up_to k) }
+
+abbrev pub paused : Bool → Option Connection → Option Connection
+paused is None = None
+paused is (Some conn) = Some (record conn { is_paused = is })
+
+-- of a connection that doesn't run nothing is kept here
+abbrev pub with_paused : Broker → ℕ → Bool → Broker
+with_paused b c is = record b { connection = with_one b.connection c (paused is (b.connection c)) }
+
+-- One event of the broker: what is sent and noted, and the state after it.
+abbrev pub Acts : Topology → Broker → Event → List Send → List Note → Broker → Type 0
+Acts t old (Running c max k) sends notes new = Does sends notes new [] (opened old c max k)
+Acts t old (Command c h m content) sends notes new = OnConnection t old c h m content sends notes new (old.connection c)
+Acts t old (Fault c code) sends notes new = Does sends notes new (connection_close c code (ids 0 0) ∷ []) (with_gone old c)
+Acts t old (Lose c) sends notes new = Does sends notes new [] (with_gone old c)
+Acts t old (Pause c) sends notes new = Does sends notes new [] (with_paused old c true)
+Acts t old (Resume c) sends notes new = Does sends notes new [] (with_paused old c false)
