@@ -112,6 +112,11 @@ pub data Ends : Stream → Option ℕ → Type 0 where
   faulty : {s next : Stream} {code : ℕ} → Takes s (Breaks code) next → Ends s (Some code)
   beyond : {s mid : Stream} {p : Pending} {o : Option ℕ} → Takes s (Goes_on p) mid → Ends mid o → Ends s o
 
+-- Frames that complete no command were put together: the same is still to come.
+pub data GoesOn : Stream → Stream → Type 0 where
+  stays : {s : Stream} → GoesOn s s
+  goes : {s mid new : Stream} {p : Pending} → Takes s (Goes_on p) mid → GoesOn mid new → GoesOn s new
+
 -- All commands of a stream, and how it ends.
 abbrev pub Commands : Stream → List Command → Option ℕ → Type 0
 Commands s [] end = Ends s end

@@ -9,3 +9,9 @@ pub mod Broker
 pub mod Commands
 pub mod Codes
 pub mod Step
+pub mod Spelling
+pub mod Phases
+pub mod State
+pub mod Run
+pub mod Arrivals
+pub mod Headline

@@ -1,0 +1,256 @@
+-- Everything that comes, and all that is done for it (own): pieces of bytes, openings, output taken, losses.
+use Rattle.std.specs.Prelude.{◌≡◌, ◌≢◌, ◌+◌, ◌<◌, ◌≤◌, ℕ, suc, zero, List, [], ◌∷◌, ◌++◌, length, drop, Bool, true, false, nat_lt, nat_le, ◌&&◌, not, Option, Some, None, ◌⊎◌, MatchBool, if◌then◌else◌, slice_get}
+use Rattle.std.specs.List.{AllByRecursion}
+use Rattle.model.specs.Broker.{with_one}
+use Rattle.model.specs.State.{Config, State, Step}
+use Rattle.model.specs.Grammar.{IsMethod}
+use Rattle.model.specs.Run.{Happening, notes_of, put_out, empty_state}
+use Rattle.model.specs.Spelling.{spelling, receiver, IsSpelled}
+use Rattle.model.specs.Commands.{Stream, Yields, Ends, GoesOn, running_stream, heard}
+use Rattle.model.specs.declared.events.Phase.{Phase}
+use Rattle.model.specs.declared.events.Phase.TheVariants as phase
+use Rattle.model.specs.declared.events.Command.{Command}
+use Rattle.model.specs.declared.events.Command.TheVariants.{Plain, Full}
+use Rattle.model.specs.declared.events.Event.{Event}
+use Rattle.model.specs.declared.events.Event.TheVariants as event
+use Rattle.model.specs.declared.events.Arrival.{Arrival}
+use Rattle.model.specs.declared.events.Arrival.TheVariants.{Ready, In, Sent, Lose}
+use Rattle.model.specs.declared.methods.Method.TheVariants.{BasicPublish}
+use Rattle.model.specs.declared.notes.Note.{Note}
+
+-- one connection, as its bytes go
+pub record Wire : Type 0 where
+  -- a command that was read and could not be performed for want of memory
+  pub kept : Option Command
+  -- what its bytes so far have still to say, after that
+  pub stream : Stream
+  -- put out and not yet taken
+  pub output : List ℕ
+
+pub record World : Type 0 where
+  pub config : Config
+  pub state : State
+  -- how many numbers of connections were given
+  pub given : ℕ
+  pub wire : ℕ → Wire
+
+abbrev pub new_wire : Wire
+new_wire = record { kept = None; stream = running_stream; output = [] }
+
+abbrev pub new_world : Config → World
+new_world f = record { config = f; state = empty_state; given = 0; wire = λ c. new_wire }
+
+-- ---- where a connection stands
+
+abbrev pub is_ended : Phase → Bool
+is_ended phase.Over = true
+is_ended p = false
+
+-- its phase is over, or it is lost, or it was never opened
+abbrev pub is_over : World → ℕ → Bool
+is_over w c = is_ended (w.state.session c).phase
+
+-- an output of so many bytes pauses its connection
+abbrev pub is_past_bound : List ℕ → Bool
+is_past_bound output = nat_le 1048576 (length output)
+
+abbrev pub is_paused : World → ℕ → Bool
+is_paused w c = is_past_bound (w.wire c).output
+
+abbrev pub is_awake : World → ℕ → Bool
+is_awake w c = not (is_over w c) && not (is_paused w c)
+
+abbrev pub has_output : World → ℕ → Bool
+has_output w c = nat_lt 0 (length (w.wire c).output)
+
+-- over, with no output left; a number that was never given is gone by itself
+abbrev pub is_gone : World → ℕ → Bool
+is_gone w c = is_over w c && not (has_output w c)
+
+-- how many of the connections 1 to n are not gone
+abbrev pub standing : World → ℕ → ℕ
+standing w zero = 0
+standing w (suc n) = if is_gone w (suc n) then standing w n else standing w n + 1
+
+-- ---- what is read
+
+abbrev pub event_of : ℕ → Command → Event
+event_of c (Plain h m) = event.Command c h m None
+event_of c (Full h p content) = event.Command c h (BasicPublish p) (Some content)
+
+-- The next event of a connection, and what its stream says after it.
+pub data Reads : ℕ → Option Command → Stream → Event → Stream → Type 0 where
+  again : {c : ℕ} {m : Command} {s : Stream} → Reads c (Some m) s (event_of c m) s
+  fresh : {c : ℕ} {m : Command} {s next : Stream} → Yields s m next → Reads c None s (event_of c m) next
+  fault : {c code : ℕ} {s : Stream} → Ends s (Some code) → Reads c None s (event.Fault c code) s
+
+-- What is still to come is the same: frames that end no command were put together, or the next command was read and is kept.
+pub data SameToCome : Option Command → Stream → Option Command → Stream → Type 0 where
+  still : {m : Command} {s : Stream} → SameToCome (Some m) s (Some m) s
+  waits : {s new : Stream} → GoesOn s new → SameToCome None s None new
+  kept : {m : Command} {s next : Stream} → Yields s m next → SameToCome None s (Some m) next
+
+-- a command of a connection is a method that has a spelling
+abbrev pub IsSaid : Event → Type 0
+IsSaid (event.Command c h m content) = IsMethod m
+IsSaid e = Unit {0}
+
+-- ---- events
+
+pub record Happens (f : Config) (old : State) (e : Event) (h : Happening) (new : State) : Type 0 where
+  pub under : h.config ≡ f
+  pub event : h.event ≡ e
+  pub stepped : Step f old e h.sends h.notes new
+
+-- an output that passes the bound pauses its connection, and one that falls below it resumes it
+abbrev pub Settles : Config → State → ℕ → Bool → Bool → List Happening → State → Type 0
+Settles f mid c false true hs new = (h : Happening) × (hs ≡ h ∷ []) × Happens f mid (event.Pause c) h new
+Settles f mid c true false hs new = (h : Happening) × (hs ≡ h ∷ []) × Happens f mid (event.Resume c) h new
+Settles f mid c was is hs new = (hs ≡ []) × (new ≡ mid)
+
+-- An event whose sends go to c and are put out, and the pause that it brings.
+pub record Puts (old : World) (e : Event) (c : ℕ) (hs : List Happening) (new : World) : Type 0 where
+  pub h : Happening
+  pub rest : List Happening
+  pub all : hs ≡ h ∷ rest
+  pub mid : State
+  pub happens : Happens old.config old.state e h mid
+  pub own : AllByRecursion (λ s. receiver s ≡ c) h.sends
+  pub limit : h.frame_max ≡ (mid.session c).frame_max
+  pub bounded : h.frame_max ≤ 131072
+  pub spelled : AllByRecursion (IsSpelled h.frame_max) h.sends
+  pub output : (new.wire c).output ≡ (old.wire c).output ++ spelling h.frame_max h.sends
+  pub settled : Settles old.config mid c (is_paused old c) (is_paused new c) rest new.state
+  pub config : new.config ≡ old.config
+  pub others : (d : ℕ) → d ≢ c → new.wire d ≡ old.wire d
+  pub rests : (d : ℕ) → d ≢ c → new.state.session d ≡ old.state.session d
+
+-- after a turn nothing is kept, and of one that is over nothing more is read
+abbrev pub wire_after : Bool → Stream → List ℕ → Wire
+wire_after is_over next output = if is_over then record new_wire { output = output } else record { kept = None; stream = next; output = output }
+
+-- One command, or the fault of its stream, is performed for c.
+pub record Turns (old : World) (c : ℕ) (hs : List Happening) (new : World) : Type 0 where
+  pub awake : is_awake old c ≡ true
+  pub event : Event
+  pub next : Stream
+  pub read : Reads c (old.wire c).kept (old.wire c).stream event next
+  pub said : IsSaid event
+  pub puts : Puts old event c hs new
+  pub given : new.given ≡ old.given
+  pub wire : new.wire c ≡ wire_after (is_over new c) next (new.wire c).output
+
+-- Nothing was performed, and of c the same is still to come.
+pub record Waits (old : World) (c : ℕ) (new : World) : Type 0 where
+  pub config : new.config ≡ old.config
+  pub state : new.state ≡ old.state
+  pub given : new.given ≡ old.given
+  pub others : (d : ℕ) → d ≢ c → new.wire d ≡ old.wire d
+  pub output : (new.wire c).output ≡ (old.wire c).output
+  pub coming : SameToCome (old.wire c).kept (old.wire c).stream (new.wire c).kept (new.wire c).stream
+
+pub record Same (old new : World) : Type 0 where
+  pub config : new.config ≡ old.config
+  pub state : new.state ≡ old.state
+  pub given : new.given ≡ old.given
+  pub wires : (d : ℕ) → new.wire d ≡ old.wire d
+
+-- no whole command and no fault is left
+pub record IsIdle (w : World) (c : ℕ) : Type 0 where
+  pub none_kept : (w.wire c).kept ≡ None
+  pub ends : Ends (w.wire c).stream None
+
+-- nothing is left to perform for c
+abbrev pub Rests : World → ℕ → Type 0
+Rests w c = (is_awake w c ≡ false) ⊎ IsIdle w c
+
+-- Turns of c, one after another.
+pub data Works (c : ℕ) : World → List Happening → World → Type 0 where
+  none_more : {w : World} → Works c w [] w
+  one_more : {old mid new : World} {first rest hs : List Happening} → Turns old c first mid → Works c mid rest new → hs ≡ first ++ rest → Works c old hs new
+
+-- All that c's bytes spell is performed, up to a pause or its end.
+pub record WorksOff (old : World) (c : ℕ) (hs : List Happening) (new : World) : Type 0 where
+  pub mid : World
+  pub works : Works c old hs mid
+  pub rests : Rests mid c
+  pub waits : Waits mid c new
+
+-- ---- arrivals
+
+abbrev pub with_heard : World → ℕ → List ℕ → World
+with_heard w c bytes = record w { wire = with_one w.wire c (record (w.wire c) { stream = heard (w.wire c).stream bytes }) }
+
+-- n more bytes of c's output are taken; it may be resumed by that
+pub record Takes_off (old : World) (c n : ℕ) (hs : List Happening) (new : World) : Type 0 where
+  pub config : new.config ≡ old.config
+  pub given : new.given ≡ old.given
+  pub wires : (d : ℕ) → new.wire d ≡ with_one old.wire c (record (old.wire c) { output = drop n (old.wire c).output }) d
+  pub settled : Settles old.config old.state c (is_paused old c) (is_paused new c) hs new.state
+
+-- at most 1,024 connections that are not gone; a number is given once
+abbrev pub can_open : World → Bool
+can_open w = nat_lt (standing w w.given) 1024 && nat_lt w.given 18446744073709551615
+
+pub record Opens (old : World) (e : Event) (s : Stream) (hs : List Happening) (new : World) : Type 0 where
+  pub h : Happening
+  pub all : hs ≡ h ∷ []
+  pub happens : Happens old.config old.state e h new.state
+  pub silent : h.sends ≡ []
+  pub config : new.config ≡ old.config
+  pub given : new.given ≡ old.given + 1
+  pub wires : (d : ℕ) → new.wire d ≡ with_one old.wire (old.given + 1) (record new_wire { stream = s }) d
+
+pub record Loses (old : World) (c : ℕ) (hs : List Happening) (new : World) : Type 0 where
+  pub h : Happening
+  pub all : hs ≡ h ∷ []
+  pub happens : Happens old.config old.state (event.Lose c) h new.state
+  pub silent : h.sends ≡ []
+  pub config : new.config ≡ old.config
+  pub given : new.given ≡ old.given
+  pub wires : (d : ℕ) → new.wire d ≡ with_one old.wire c new_wire d
+
+-- Output is taken, then what waited is performed.
+pub record TakesAndWorks (old : World) (c n : ℕ) (hs : List Happening) (new : World) : Type 0 where
+  pub first : List Happening
+  pub rest : List Happening
+  pub all : hs ≡ first ++ rest
+  pub mid : World
+  pub takes : Takes_off old c n first mid
+  pub works : WorksOff mid c rest new
+
+abbrev pub Nothing_happens : World → List Happening → World → Type 0
+Nothing_happens old hs new = (hs ≡ []) × Same old new
+
+-- What one arrival brings: one for a connection that is gone does nothing, nor do bytes for one that is over.
+abbrev pub Answers : World → Arrival → List Happening → World → Type 0
+Answers old (Ready k) hs new = MatchBool (can_open old) (Opens old (event.Running (old.given + 1) 255 k) running_stream hs new) (Nothing_happens old hs new)
+Answers old (In c bytes) hs new = MatchBool (is_over old c) (Nothing_happens old hs new) (WorksOff (with_heard old c bytes) c hs new)
+Answers old (Sent c n) hs new = MatchBool (is_gone old c) (Nothing_happens old hs new) (TakesAndWorks old c n hs new)
+Answers old (Lose c) hs new = MatchBool (is_gone old c) (Nothing_happens old hs new) (Loses old c hs new)
+
+-- A whole list of arrivals.
+abbrev pub Plays : World → List Arrival → List Happening → World → Type 0
+Plays old [] hs new = (hs ≡ []) × Same old new
+Plays old (a ∷ as') hs new = (mid : World) × (first : List Happening) × (rest : List Happening) × (hs ≡ first ++ rest) × Answers old a first mid × Plays mid as' rest new
+
+-- ---- what a run is seen by
+
+-- of one connection: all bytes put out for it, and whether it is over or lost
+pub record Shown : Type 0 where
+  pub output : List ℕ
+  pub is_over : Bool
+
+-- the connections in the order of their numbers, and the notes
+pub record Seen : Type 0 where
+  pub connections : List Shown
+  pub notes : List Note
+
+abbrev pub shown : List Happening → World → ℕ → Shown
+shown hs w c = record { output = put_out c hs; is_over = is_over w c }
+
+-- The notes are those of what happened, and each output is the spelling of what was sent to its connection.
+pub record Shows (hs : List Happening) (w : World) (seen : Seen) : Type 0 where
+  pub noted : seen.notes ≡ notes_of hs
+  pub counted : length seen.connections ≡ w.given
+  pub each : (i : ℕ) → i < w.given → slice_get seen.connections i ≡ Some (shown hs w (i + 1))

@@ -1,0 +1,128 @@
+-- Certified delivery: what is promised of a whole run, in the words of a client and of the topology's owner (own).
+use Rattle.std.specs.Prelude.{◌≡◌, ◌+◌, ◌⊎◌, ℕ, List, [], ◌∷◌, take, drop, map, filter_map, flat_map, ◌≢◌, count_by, Bool, false, Option, Some, None, ◌==◌, ◌&&◌, if◌then◌else◌, Contains, slice_get}
+use Rattle.std.specs.Int.{w64, from_be_bytes}
+use Rattle.std.specs.List.{list_any, AllByRecursion}
+use Rattle.std.specs.Str.{bytes_eq}
+use Rattle.model.specs.Words.{Text}
+use Rattle.model.specs.Topology.{IsIn, IsWellFormed}
+use Rattle.model.specs.Guarantee.{Guarantee, Covers, AllHold}
+use Rattle.model.specs.Frames.{Frame, AreFrames}
+use Rattle.model.specs.Spelling.{eight_bytes}
+use Rattle.model.specs.Broker.{Broker}
+use Rattle.model.specs.State.{Config}
+use Rattle.model.specs.Run.{Happening, notes_of, Balances, empty_broker}
+use Rattle.model.specs.Arrivals.{Shown}
+use Rattle.model.specs.declared.topologies.Mode.TheVariants.{Reaches, Never}
+use Rattle.model.specs.declared.events.Event.{Event}
+use Rattle.model.specs.declared.notes.Cause.{Cause}
+use Rattle.model.specs.declared.notes.Note.{Note}
+use Rattle.model.specs.declared.notes.Note.TheVariants.{Published, Entered, Confirmed, Left}
+use Rattle.model.specs.declared.notes.Answer.TheVariants as answer
+use Rattle.model.specs.declared.notes.Way.TheVariants as way
+
+-- ---- what a client reads
+
+-- an ack as a client reads it: its channel and its number
+pub record Ack : Type 0 where
+  pub channel : ℕ
+  pub number : ℕ
+
+-- a method frame whose payload begins with class 60, method 80
+abbrev pub ack_in : Frame → Option Ack
+ack_in f = if f.kind == 1 && bytes_eq (take 4 f.payload) (0 ∷ 60 ∷ 0 ∷ 80 ∷ []) then Some (record { channel = f.channel; number = from_be_bytes w64 (take 8 (drop 4 f.payload)) }) else None
+
+abbrev pub acks_in : List Frame → List Ack
+acks_in fs = filter_map ack_in fs
+
+-- the bytes as a client reads them: frames, or the eight bytes of the protocol header alone
+abbrev pub IsReading : List ℕ → List Frame → Type 0
+IsReading output frames = AreFrames 131072 output frames ⊎ ((output ≡ eight_bytes) × (frames ≡ []))
+
+-- ---- what the notes say
+
+-- a publish that was confirmed by ack
+pub record Acked : Type 0 where
+  pub number : ℕ
+  pub channel : ℕ
+  pub exchange : Text
+  pub key : Text
+  pub confirm : ℕ
+  -- the guarantees in force at it
+  pub guarantees : List Guarantee
+
+abbrev pub is_ack_of : ℕ → Note → Bool
+is_ack_of n (Confirmed m answer.Ack) = m == n
+is_ack_of n note = false
+
+-- a publish of connection c that the same event's notes confirm by ack
+abbrev pub acked_as : List Guarantee → ℕ → List Note → Note → Option Acked
+acked_as gs c notes (Published n d h x key (Some m)) =
+    if d == c && list_any (is_ack_of n) notes then Some (record { number = n; channel = h; exchange = x; key = key; confirm = m; guarantees = gs }) else None
+acked_as gs c notes note = None
+
+abbrev pub acked_at : ℕ → Happening → List Acked
+acked_at c h = filter_map (acked_as h.config.guarantees c h.notes) h.notes
+
+-- the publishes of a connection that were confirmed by ack, in order
+abbrev pub acked : ℕ → List Happening → List Acked
+acked c hs = flat_map (acked_at c) hs
+
+abbrev pub ack_for : Acked → Ack
+ack_for p = record { channel = p.channel; number = p.confirm }
+
+-- The acks in an output are those of these publishes, one by one.
+pub record HasAcksOf (ps : List Acked) (output : List ℕ) : Type 0 where
+  pub frames : List Frame
+  pub reading : IsReading output frames
+  pub acks : acks_in frames ≡ map ack_for ps
+
+abbrev pub is_publish_into : ℕ → Text → Note → Bool
+is_publish_into n q (Entered m r way.Publish) = (m == n) && bytes_eq r q
+is_publish_into n q note = false
+
+-- each queue that a guarantee promises was entered exactly once by this publish
+abbrev pub EnteredOnce : List Note → Acked → Type 0
+EnteredOnce notes p = (g : Guarantee) → Contains p.guarantees g → g.mode ≡ Reaches → Covers g p.exchange p.key → count_by (is_publish_into p.number g.queue) notes ≡ 1
+
+-- no guarantee in force forbids what the note says, for the publish that it is of
+abbrev pub IsAllowed : List Guarantee → List Note → Note → Type 0
+IsAllowed gs notes (Entered n q w) = (c h : ℕ) (x key : Text) (o : Option ℕ) → IsIn (Published n c h x key o) notes → (g : Guarantee) → Contains gs g → g.mode ≡ Never → Covers g x key → q ≢ g.queue
+IsAllowed gs notes note = Unit {0}
+
+abbrev pub AreAllowed : List Note → Happening → Type 0
+AreAllowed notes h = AllByRecursion (IsAllowed h.config.guarantees notes) h.notes
+
+-- an event by which a message may leave a queue for this cause; so far no command takes a message out
+abbrev pub IsCause : Event → Cause → Type 0
+IsCause e cause = ⊥
+
+abbrev pub HasCause : Event → Note → Type 0
+HasCause e (Left n q cause) = IsCause e cause
+HasCause e note = Unit {0}
+
+abbrev pub HaveCauses : Happening → Type 0
+HaveCauses h = AllByRecursion (HasCause h.event) h.notes
+
+-- ---- the promises
+
+-- Of what happened between these two states of the broker:
+pub record KeepsEvents (old : Broker) (hs : List Happening) (new : Broker) : Type 0 where
+  -- each publish that was confirmed by ack entered each queue that was promised at it exactly once
+  pub entered : (c : ℕ) → AllByRecursion (EnteredOnce (notes_of hs)) (acked c hs)
+  -- no message of these publishes, as a publish or a dead letter, entered a queue that was forbidden to it then
+  pub never : AllByRecursion (AreAllowed (notes_of hs)) hs
+  -- each message that stood in a queue or entered it left it or stands there
+  pub stays : Balances old (notes_of hs) new
+  -- and it left by acknowledgement, rejection or purge
+  pub causes : AllByRecursion HaveCauses hs
+
+-- The headline, of all that happened from the empty broker to this one, and of the outputs of the connections:
+pub record KeepsPromises (hs : List Happening) (last : Broker) (connections : List Shown) : Type 0 where
+  pub events : KeepsEvents empty_broker hs last
+  -- the acks in a connection's output are those of its publishes confirmed by ack, one by one
+  pub acks : (i : ℕ) (seen : Shown) → slice_get connections i ≡ Some seen → HasAcksOf (acked (i + 1) hs) seen.output
+
+-- what an accepted topology and its guarantees keep
+pub record IsSound (f : Config) : Type 0 where
+  pub wf : IsWellFormed f.topology
+  pub hold : AllHold f.topology f.guarantees

@@ -1,0 +1,66 @@
+-- The phases of a connection, and what each awaits. Source: AMQP 0-9-1, section 2.2.4, "The Connection Class"; PLAIN login by RFC 4616.
+use Rattle.std.specs.Prelude.{ℕ, List, [], ◌∷◌, ◌==◌, if◌then◌else◌}
+use Rattle.model.specs.Grammar.{ids}
+use Rattle.model.specs.Step.{reply, connection_close}
+use Rattle.model.specs.declared.events.Phase.{Phase}
+use Rattle.model.specs.declared.events.Phase.TheVariants as phase
+use Rattle.model.specs.declared.events.Send.{Send}
+use Rattle.model.specs.declared.events.Send.TheVariants as send
+use Rattle.model.specs.declared.methods.Method.{Method}
+use Rattle.model.specs.declared.methods.Method.TheVariants.{ConnectionClose, ConnectionCloseOk}
+
+pub record Session : Type 0 where
+  pub phase : Phase
+  -- the limits in force
+  pub channel_max : ℕ
+  pub frame_max : ℕ
+
+abbrev pub running_session : Session
+running_session = record { phase = phase.Running; channel_max = 255; frame_max = 131072 }
+
+-- one that was never opened, or is lost
+abbrev pub no_session : Session
+no_session = record { phase = phase.Over; channel_max = 255; frame_max = 131072 }
+
+-- in another phase; of one that is over no limits are kept
+abbrev pub to_phase : Session → Phase → Session
+to_phase s phase.Over = no_session
+to_phase s p = record s { phase = p }
+
+-- ---- what a phase answers
+
+pub record Move : Type 0 where
+  pub sends : List Send
+  pub next : Session
+
+abbrev pub stays_in : Session → Move
+stays_in s = record { sends = []; next = s }
+
+-- While close-ok is awaited, a close is answered and the phase stays; close-ok ends it; all else is ignored.
+abbrev pub while_closing : ℕ → Session → ℕ → Method → Move
+while_closing c s h (ConnectionClose m) = if h == 0 then record { sends = reply c 0 ConnectionCloseOk ∷ []; next = s } else stays_in s
+while_closing c s h ConnectionCloseOk = if h == 0 then record { sends = []; next = to_phase s phase.Over } else stays_in s
+while_closing c s h m = stays_in s
+
+-- A method in a phase other than Running. The phases before Running come with the opening of connections.
+abbrev pub answer : ℕ → Session → Phase → ℕ → Method → Move
+answer c s phase.Closing h m = while_closing c s h m
+answer c s p h m = stays_in s
+
+-- A fault of the stream: the close of its code, and the connection is over; nothing is sent while close-ok is awaited (own).
+abbrev pub faulted : ℕ → Session → Phase → ℕ → Move
+faulted c s phase.Closing code = record { sends = []; next = to_phase s phase.Over }
+faulted c s phase.Over code = stays_in s
+faulted c s p code = record { sends = connection_close c code (ids 0 0) ∷ []; next = to_phase s phase.Over }
+
+-- ---- after an event in Running, by what was sent: a close awaits close-ok, a close-ok ends the connection
+
+abbrev pub after_method : Method → Phase → Phase
+after_method (ConnectionClose m) p = phase.Closing
+after_method ConnectionCloseOk p = phase.Over
+after_method m p = p
+
+abbrev pub after_sends : List Send → Phase
+after_sends [] = phase.Running
+after_sends (send.Greeting c ∷ sends) = after_sends sends
+after_sends (send.Command c h m content ∷ sends) = after_method m (after_sends sends)

@@ -1,0 +1,61 @@
+-- Whole runs: what happened, one event after another.
+use Rattle.std.specs.Prelude.{◌≡◌, ◌+◌, ℕ, List, [], ◌∷◌, Bool, false, ◌==◌, ◌&&◌, None, count_by, flat_map}
+use Rattle.std.specs.Str.{bytes_eq}
+use Rattle.model.specs.Words.{Text}
+use Rattle.model.specs.Broker.{Broker}
+use Rattle.model.specs.State.{Config, State, Step}
+use Rattle.model.specs.Phases.{no_session}
+use Rattle.model.specs.Spelling.{spelling, sends_to}
+use Rattle.model.specs.declared.messages.Entry.{Entry}
+use Rattle.model.specs.declared.events.Send.{Send}
+use Rattle.model.specs.declared.notes.Note.{Note}
+use Rattle.model.specs.declared.notes.Note.TheVariants.{Entered, Left}
+use Rattle.model.specs.declared.events.Event.{Event}
+
+abbrev pub empty_broker : Broker
+empty_broker = record { published = 0; queue = λ q. []; connection = λ c. None; channel = λ c h. None }
+
+abbrev pub empty_state : State
+empty_state = record { broker = empty_broker; session = λ c. no_session }
+
+-- one event, with what was in force at it, and what was sent and noted
+pub record Happening : Type 0 where
+  pub config : Config
+  pub event : Event
+  pub sends : List Send
+  pub notes : List Note
+  -- the greatest frame, in bytes, of the connection that the sends are for
+  pub frame_max : ℕ
+
+-- From old these may happen, one after another, and leave new.
+abbrev pub Run : State → List Happening → State → Type 0
+Run old [] new = new ≡ old
+Run old (h ∷ hs) new = (mid : State) × Step h.config old h.event h.sends h.notes mid × Run mid hs new
+
+abbrev pub notes_of : List Happening → List Note
+notes_of hs = flat_map (λ (h : Happening). h.notes) hs
+
+abbrev pub sends_of : List Happening → List Send
+sends_of hs = flat_map (λ (h : Happening). h.sends) hs
+
+-- all bytes put out for a connection, taken ones too
+abbrev pub put_out : ℕ → List Happening → List ℕ
+put_out c hs = flat_map (λ (h : Happening). spelling h.frame_max (sends_to c h.sends)) hs
+
+-- ---- what the notes say of a queue
+
+abbrev pub is_entered : ℕ → Text → Note → Bool
+is_entered n q (Entered m r w) = (m == n) && bytes_eq r q
+is_entered n q _ = false
+
+abbrev pub is_left : ℕ → Text → Note → Bool
+is_left n q (Left m r cause) = (m == n) && bytes_eq r q
+is_left n q _ = false
+
+abbrev pub has_number : ℕ → Entry → Bool
+has_number n e = e.message.number == n
+
+-- The balance of every queue: what stood there and what entered is what left and what stands there.
+abbrev pub Balances : Broker → List Note → Broker → Type 0
+Balances old notes new = (n : ℕ) (q : Text) →
+    count_by (has_number n) (old.queue q) + count_by (is_entered n q) notes ≡ count_by (is_left n q) notes + count_by (has_number n) (new.queue q)

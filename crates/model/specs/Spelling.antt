@@ -1,0 +1,61 @@
+-- What is put out for what is sent. Source: AMQP 0-9-1, section 4.2.6, "Content Framing".
+use Rattle.std.specs.Prelude.{◌-◌, ℕ, zero, suc, List, [], ◌∷◌, length, take, drop, map, filter, flat_map, Option, Some, None, ◌==◌}
+use Rattle.std.specs.List.{AllByRecursion}
+use Rattle.model.specs.Frames.{Frame, frame_bytes, IsFrame}
+use Rattle.model.specs.Grammar.{method_bytes, IsMethod}
+use Rattle.model.specs.Headers.{header_bytes}
+use Rattle.model.specs.declared.contents.Content.{Content}
+use Rattle.model.specs.declared.methods.Method.{Method}
+use Rattle.model.specs.declared.events.Send.{Send}
+use Rattle.model.specs.declared.events.Send.TheVariants.{Greeting, Command}
+
+-- the protocol header (AMQP 0-9-1, section 4.2.2)
+abbrev pub eight_bytes : List ℕ
+eight_bytes = 65 ∷ 77 ∷ 81 ∷ 80 ∷ 0 ∷ 0 ∷ 9 ∷ 1 ∷ []
+
+abbrev pub method_frame : ℕ → Method → Frame
+method_frame h m = record { kind = 1; channel = h; payload = method_bytes m }
+
+-- the bytes in pieces of this size, the last of them the rest, and no piece of no bytes; there are at most so many steps
+abbrev pub pieces_of : ℕ → ℕ → List ℕ → List (List ℕ)
+pieces_of size zero bytes = []
+pieces_of size (suc steps) [] = []
+pieces_of size (suc steps) (b ∷ bytes) = take size (b ∷ bytes) ∷ pieces_of size steps (drop size (b ∷ bytes))
+
+abbrev pub body_frame : ℕ → List ℕ → Frame
+body_frame h piece = record { kind = 3; channel = h; payload = piece }
+
+-- the header frame of a content, and its body in frames of at most max bytes
+abbrev pub content_frames : ℕ → ℕ → Option Content → List Frame
+content_frames max h None = []
+content_frames max h (Some c) =
+    record { kind = 2; channel = h; payload = header_bytes (length c.body) c.properties } ∷ map (body_frame h) (pieces_of (max - 8) (length c.body) c.body)
+
+abbrev pub frames_of : ℕ → Send → List Frame
+frames_of max (Greeting c) = []
+frames_of max (Command c h m content) = method_frame h m ∷ content_frames max h content
+
+abbrev pub send_bytes : ℕ → Send → List ℕ
+send_bytes max (Greeting c) = eight_bytes
+send_bytes max (Command c h m content) = flat_map frame_bytes (frames_of max (Command c h m content))
+
+-- to one connection, whose frames have at most max bytes
+abbrev pub spelling : ℕ → List Send → List ℕ
+spelling max sends = flat_map (send_bytes max) sends
+
+-- whom it is for
+abbrev pub receiver : Send → ℕ
+receiver (Greeting c) = c
+receiver (Command c h m content) = c
+
+abbrev pub sends_to : ℕ → List Send → List Send
+sends_to c sends = filter (λ s. receiver s == c) sends
+
+abbrev pub HasSpelling : Send → Type 0
+HasSpelling (Greeting c) = Unit {0}
+HasSpelling (Command c h m content) = IsMethod m
+
+-- what can be put out: the method has a spelling, and each frame has at most max bytes
+pub record IsSpelled (max : ℕ) (s : Send) : Type 0 where
+  pub method : HasSpelling s
+  pub frames : AllByRecursion (IsFrame max) (frames_of max s)

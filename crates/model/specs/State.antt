@@ -1,0 +1,63 @@
+-- What one event does, in whatever phase its connection is.
+use Rattle.std.specs.Prelude.{◌≡◌, ℕ, List, [], Option}
+use Rattle.model.specs.Topology.{Topology}
+use Rattle.model.specs.Guarantee.{Guarantee}
+use Rattle.model.specs.Broker.{Broker, with_one}
+use Rattle.model.specs.Step.{Acts, Is}
+use Rattle.model.specs.Phases.{Session, running_session, no_session, Move, answer, faulted, after_sends, to_phase}
+use Rattle.model.specs.declared.messages.User.{User}
+use Rattle.model.specs.declared.contents.Content.{Content}
+use Rattle.model.specs.declared.methods.Method.{Method}
+use Rattle.model.specs.declared.events.Send.{Send}
+use Rattle.model.specs.declared.notes.Note.{Note}
+use Rattle.model.specs.declared.events.Phase.{Phase}
+use Rattle.model.specs.declared.events.Phase.TheVariants as phase
+use Rattle.model.specs.declared.events.Event.{Event}
+use Rattle.model.specs.declared.events.Event.TheVariants as event
+
+-- what is in force: a topology, with guarantees that hold of it, and who may log in
+pub record Config : Type 0 where
+  pub topology : Topology
+  pub guarantees : List Guarantee
+  pub users : List User
+
+-- the broker's own state, and each connection's phase with its limits
+pub record State : Type 0 where
+  pub broker : Broker
+  pub session : ℕ → Session
+
+-- an event that the phases alone decide
+pub record Moves (old : State) (c : ℕ) (move : Move) (sends : List Send) (notes : List Note) (new : State) : Type 0 where
+  pub sent : sends ≡ move.sends
+  pub noted : notes ≡ []
+  pub session : (d : ℕ) → new.session d ≡ with_one old.session c move.next d
+  pub broker : Is old.broker new.broker
+
+-- an event of the broker, after which its connection is in this session
+pub record Steps (f : Config) (old : State) (c : ℕ) (e : Event) (sends : List Send) (notes : List Note) (after : Session) (new : State) : Type 0 where
+  pub acts : Acts f.topology old.broker e sends notes new.broker
+  pub session : (d : ℕ) → new.session d ≡ with_one old.session c after d
+
+-- an event of the broker after which each connection is in the phase it was in
+pub record StepsAlone (f : Config) (old : State) (e : Event) (sends : List Send) (notes : List Note) (new : State) : Type 0 where
+  pub acts : Acts f.topology old.broker e sends notes new.broker
+  pub session : (d : ℕ) → new.session d ≡ old.session d
+
+-- a command: in Running the broker performs it, and the phase follows what was sent; in any other the phase answers it
+abbrev pub OfCommand : Config → State → Phase → ℕ → ℕ → Method → Option Content → List Send → List Note → State → Type 0
+OfCommand f old phase.Running c h m content sends notes new = Steps f old c (event.Command c h m content) sends notes (to_phase (old.session c) (after_sends sends)) new
+OfCommand f old p c h m content sends notes new = Moves old c (answer c (old.session c) p h m) sends notes new
+
+-- a fault of the stream: after it the connection is over
+abbrev pub OfFault : Config → State → Phase → ℕ → ℕ → List Send → List Note → State → Type 0
+OfFault f old phase.Running c code sends notes new = Steps f old c (event.Fault c code) sends notes (to_phase (old.session c) phase.Over) new
+OfFault f old p c code sends notes new = Moves old c (faulted c (old.session c) p code) sends notes new
+
+-- One event: what is sent and noted, and the state after it.
+abbrev pub Step : Config → State → Event → List Send → List Note → State → Type 0
+Step f old (event.Running c max k) sends notes new = Steps f old c (event.Running c max k) sends notes running_session new
+Step f old (event.Command c h m content) sends notes new = OfCommand f old (old.session c).phase c h m content sends notes new
+Step f old (event.Fault c code) sends notes new = OfFault f old (old.session c).phase c code sends notes new
+Step f old (event.Lose c) sends notes new = Steps f old c (event.Lose c) sends notes no_session new
+Step f old (event.Pause c) sends notes new = StepsAlone f old (event.Pause c) sends notes new
+Step f old (event.Resume c) sends notes new = StepsAlone f old (event.Resume c) sends notes new
