@@ -1,0 +1,7 @@
+-- What holds of all frames.
+use Rattle.std.specs.Prelude.{◌≡◌, ◌<◌, ◌^◌, ℕ, List}
+use Rattle.model.specs.Frames.{Frame, Begins}
+
+-- at most one frame stands at the front of any bytes
+abbrev pub OneFrame : Type 0
+OneFrame = (max : ℕ) (bytes more rest : List ℕ) (f g : Frame) → max < 2 ^ 32 → Begins max bytes f more → Begins max bytes g rest → (f ≡ g) × (more ≡ rest)

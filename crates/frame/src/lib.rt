@@ -1,0 +1,15 @@
+//! Frames, read from the front of a buffer and written at the end of one.
+//!
+//! A frame is a type (1 byte), a channel (2), the size of its payload (4), the payload, and the end byte `CE`. Numbers
+//! are big-endian. Source: AMQP 0-9-1, section 4.2.3, "General Frame Format".
+#![tactic(auto)]
+
+mod frames;
+mod laws;
+mod reading;
+mod writing;
+
+pub use frames::{Frame, Read};
+pub use laws::one_frame;
+pub use reading::read_frame;
+pub use writing::{put_frame, write_frame};

@@ -1,0 +1,62 @@
+//! Frames are read.
+
+ghost use Rattle.std.specs.Prelude.{◌≡◌, ◌≤◌, ◌⊎◌, ℕ, List, IsTrue};
+ghost use Rattle.model.specs.Frames;
+ghost use Rattle.model.specs.Frames.{Begins};
+ghost use Rattle.frame.specs.Reading.{Tells, IsWhole, IsKind};
+
+use crate::frames::{Frame, Read};
+
+/// The frame at the front of `input`, where a whole frame has at most `max` bytes.
+///
+/// `More` where no whole frame stands there but one may still come, `Fault(501)` where none can.
+pub fn read_frame(input: &[u8], max: u32) -> Read<'_>
+    requires { 4096 ≤ max }
+    ensures tells { Tells max input.now result }
+    // A frame that stands there is read.
+    ensures only { (f : Frames.Frame) (rest : List ℕ) → Begins max input.now f rest → IsWhole input.now result f rest }
+{
+    front_of(input, max)
+}
+
+fn front_of(input: &[u8], max: u32) -> Read<'_>
+    requires { 4096 ≤ max }
+    ensures { Tells max input.now result }
+{
+    if input.len() < 7 {
+        return Read::More;
+    }
+    let kind = input[0];
+    if !is_kind(kind) {
+        return Read::Fault(501);
+    }
+    let size = u32::from_be_bytes([input[3], input[4], input[5], input[6]]);
+    if max - 8 < size {
+        return Read::Fault(501);
+    }
+    let end = size as usize + 7;
+    if input.len() <= end {
+        return Read::More;
+    }
+    if input[end] != 0xCE {
+        return Read::Fault(501);
+    }
+    let channel = u16::from_be_bytes([input[1], input[2]]);
+    let payload = &input[7..end];
+    Read::Whole(
+        Frame {
+            kind,
+            channel,
+            payload,
+        },
+        end + 1,
+    )
+}
+
+// A type of frame that AMQP has.
+fn is_kind(kind: u8) -> bool
+    ensures yes { IsTrue result → IsKind kind }
+    ensures no { IsKind kind → IsTrue result }
+{
+    kind == 1 || kind == 2 || kind == 3 || kind == 8
+}

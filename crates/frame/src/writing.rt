@@ -1,0 +1,51 @@
+//! Frames are written.
+
+ghost use Rattle.std.specs.Prelude.{◌≡◌, ◌+◌, ◌<◌, ◌≤◌, ◌^◌, ◌++◌, length, vec_len, vec_capacity, OnOk, OnErr};
+ghost use Rattle.model.specs.Frames.{frame_bytes};
+ghost use Rattle.frame.specs.Reading.{seen};
+
+use crate::frames::Frame;
+use std::alloc::AllocError;
+
+/// Appends the frame to `out`, or leaves `out` as it was where memory was refused.
+///
+/// The payload has at most 2^32 - 9 bytes.
+pub fn write_frame(out: &mut Vec<u8>, frame: &Frame<'_>) -> Result<(), AllocError>
+    requires { length frame.now.payload.now + 9 ≤ 2 ^ 32 }
+    ensures ok { OnOk result (out.new.items ≡ out.old.items ++ frame_bytes (seen frame.now)) }
+    ensures err { OnErr result (out.new.items ≡ out.old.items) }
+    // Memory was really wanted.
+    ensures full { OnErr result (vec_capacity out.old < vec_len out.old + (length frame.now.payload.now + 8)) }
+{
+    out.reserve(frame.payload.len() + 8)?;
+    put_frame(out, frame);
+    Ok(())
+}
+
+/// Appends the frame to `out`, which has room for it. It takes no memory.
+pub fn put_frame(out: &mut Vec<u8>, frame: &Frame<'_>)
+    requires size { length frame.now.payload.now + 9 ≤ 2 ^ 32 }
+    requires room { vec_len out.old + (length frame.now.payload.now + 8) ≤ vec_capacity out.old }
+    ensures items { out.new.items ≡ out.old.items ++ frame_bytes (seen frame.now) }
+    ensures len { vec_len out.new ≡ vec_len out.old + (length frame.now.payload.now + 8) }
+    ensures capacity { vec_capacity out.old ≤ vec_capacity out.new }
+{
+    out.push_reserved(frame.kind);
+    put_bytes(out, &frame.channel.to_be_bytes());
+    put_bytes(out, &(frame.payload.len() as u32).to_be_bytes());
+    put_bytes(out, frame.payload);
+    out.push_reserved(0xCE);
+}
+
+// Appends bytes for which there is room.
+fn put_bytes(out: &mut Vec<u8>, bytes: &[u8])
+    requires { vec_len out.old + length bytes.now ≤ vec_capacity out.old }
+    ensures items { out.new.items ≡ out.old.items ++ bytes.now }
+    ensures len { vec_len out.new ≡ vec_len out.old + length bytes.now }
+    ensures capacity { vec_capacity out.old ≤ vec_capacity out.new }
+{
+    match out.extend_from_slice(bytes) {
+        Ok(()) => {}
+        Err(_) => unreachable!(),
+    }
+}

@@ -1,0 +1,89 @@
+-- Counts over lists, and facts on each element of a list.
+use Rattle.std.proofs.Common.{◌≡◌, ℕ, zero, suc, ◌+◌, ◌<◌, ◌⊎◌, List, [], ◌∷◌, ◌++◌, Bool, true, false, cond, eqb, length, get_or, refl, sym, ap, subst, ◌∙◌, arith, map, Option, None, inl, inr}
+use Rattle.std.specs.Prelude.{count_by, filter_map, ◌&&◌}
+use Rattle.std.specs.List.{list_any, AllByRecursion}
+use Rattle.std.proofs.lemmas.Bool.{eqb-true}
+use Rattle.std.proofs.lemmas.List.Sums.{sum_by-append, sum_by-cons}
+use Rattle.model.specs.Topology.{IsIn}
+
+-- ---- counts
+
+pub count-append : {A : Type 0} (p : A → Bool) (xs ys : List A) → count_by p (xs ++ ys) ≡ count_by p xs + count_by p ys
+count-append p xs ys = sum_by-append (λ x. cond (p x) 1 0) xs ys
+
+pub count-cons : {A : Type 0} (p : A → Bool) (x : A) (xs : List A) → count_by p (x ∷ xs) ≡ cond (p x) 1 0 + count_by p xs
+count-cons p x xs = sum_by-cons (λ x. cond (p x) 1 0) x xs
+
+pub count-cons_yes : {A : Type 0} (p : A → Bool) (x : A) (xs : List A) → p x ≡ true → count_by p (x ∷ xs) ≡ 1 + count_by p xs
+count-cons_yes p x xs e = count-cons p x xs ∙ ap (λ b. cond b 1 0 + count_by p xs) e
+
+pub count-cons_no : {A : Type 0} (p : A → Bool) (x : A) (xs : List A) → p x ≡ false → count_by p (x ∷ xs) ≡ count_by p xs
+count-cons_no p x xs e = let h : count_by p (x ∷ xs) ≡ 0 + count_by p xs = count-cons p x xs ∙ ap (λ b. cond b 1 0 + count_by p xs) e in omega arith
+
+-- a map that keeps the test keeps the count
+pub count-map : {A : Type 0} (p : A → Bool) (f : A → A) → ((x : A) → p (f x) ≡ p x) → (xs : List A) → count_by p (map f xs) ≡ count_by p xs
+count-map p f same [] = refl
+count-map p f same (x ∷ xs) = count-cons p (f x) (map f xs) ∙ rw (same x, count-map p f same xs) (sym (count-cons p x xs))
+
+-- ---- where no element passes
+
+pub count_none : {A : Type 0} (p : A → Bool) (xs : List A) → AllByRecursion (λ x. p x ≡ false) xs → count_by p xs ≡ 0
+count_none p [] a = refl
+count_none p (x ∷ xs) a = count-cons_no p x xs a.0 ∙ count_none p xs a.1
+
+pub any_none : {A : Type 0} (p : A → Bool) (xs : List A) → AllByRecursion (λ x. p x ≡ false) xs → list_any p xs ≡ false
+any_none p [] a = refl
+any_none p (x ∷ xs) a = rw a.0 (any_none p xs a.1)
+
+pub filter_map_none : {A B : Type 0} (f : A → Option B) (xs : List A) → AllByRecursion (λ x. f x ≡ None) xs → filter_map f xs ≡ []
+filter_map_none f [] a = refl
+filter_map_none f (x ∷ xs) a = rw a.0 (filter_map_none f xs a.1)
+
+-- ---- facts on each element
+
+pub all-append : {A : Type 0} (P : A → Type 0) (xs ys : List A) → AllByRecursion P xs → AllByRecursion P ys → AllByRecursion P (xs ++ ys)
+all-append P [] ys p q = q
+all-append P (x ∷ xs) ys p q = (p.0, all-append P xs ys p.1 q)
+
+pub all_each : {A : Type 0} (P Q : A → Type 0) → ((x : A) → P x → Q x) → (xs : List A) → AllByRecursion P xs → AllByRecursion Q xs
+all_each P Q f [] a = tt
+all_each P Q f (x ∷ xs) a = (f x a.0, all_each P Q f xs a.1)
+
+pub all_in : {A : Type 0} (P : A → Type 0) (x : A) (xs : List A) → AllByRecursion P xs → IsIn x xs → P x
+all_in P x [] a i = absurd i
+all_in P x (y ∷ ys) a (inl e) = subst P (sym e) a.0
+all_in P x (y ∷ ys) a (inr i) = all_in P x ys a.1 i
+
+-- ---- elements
+
+pub in-append : {A : Type 0} (x : A) (xs ys : List A) → IsIn x (xs ++ ys) → IsIn x xs ⊎ IsIn x ys
+in-append x [] ys i = inr i
+in-append x (y ∷ xs) ys (inl e) = inl (inl e)
+in-append x (y ∷ xs) ys (inr i) = elim (in-append x xs ys i) [ inl j ↦ inl (inr j) | inr j ↦ inr j ]
+
+pub in_from_contains : {A : Type 0} (xs : List A) (x : A) (k : ℕ) → k < length xs → get_or xs k x ≡ x → IsIn x xs
+in_from_contains [] x k lt e = absurd (omega arith)
+in_from_contains (y ∷ xs) x zero lt e = inl (sym e)
+in_from_contains (y ∷ xs) x (suc k) lt e = inr (in_from_contains xs x k (omega arith) e)
+
+pub in-map : {A B : Type 0} (f : A → B) (x : A) (xs : List A) → IsIn x xs → IsIn (f x) (map f xs)
+in-map f x [] i = absurd i
+in-map f x (y ∷ xs) (inl e) = inl (ap f e)
+in-map f x (y ∷ xs) (inr i) = inr (in-map f x xs i)
+
+-- ---- tests
+
+pub and_true : (b : Bool) → (b && true) ≡ b
+and_true true = refl
+and_true false = refl
+
+pub and_false : (b : Bool) → (b && false) ≡ false
+and_false true = refl
+and_false false = refl
+
+pub other_number : (n k : ℕ) → (k ≡ n → ⊥) → eqb k n ≡ false
+other_number n k ne = go (eqb k n) refl
+  where
+    go : (b : Bool) → eqb k n ≡ b → b ≡ false
+    go true e = absurd (ne (eqb-true k n e))
+    go false e = refl

@@ -1,0 +1,11 @@
+pub mod Counts
+pub mod Keys
+pub mod Balance
+pub mod Once
+pub mod Acks
+pub mod Never
+pub mod Streams
+pub mod Reading
+pub mod Plays
+pub mod Whole
+pub mod Rows

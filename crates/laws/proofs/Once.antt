@@ -1,0 +1,254 @@
+-- A publish that was confirmed by ack entered each queue of its route exactly once.
+use Rattle.std.proofs.Common.{◌≡◌, ℕ, ◌+◌, ◌<◌, ◌≤◌, ◌⊎◌, List, [], ◌∷◌, ◌++◌, Bool, true, false, cond, eqb, length, refl, sym, ap, ◌∙◌, subst, arith, append_assoc, Option, Some, None, inl, inr}
+use Rattle.std.specs.Prelude.{◌==◌, count_by, ◌&&◌, ◌||◌, if◌then◌else◌, filter_map}
+use Rattle.std.specs.Str.{bytes_eq}
+use Rattle.std.specs.List.{list_any, AllByRecursion, cons_option}
+use Rattle.std.proofs.lemmas.Slice.Eq.{bytes_eq-Decides}
+use Rattle.std.proofs.lemmas.Bool.{eq-eqb}
+use Rattle.std.proofs.lemmas.List.Folds.{list_any-append}
+use Rattle.model.specs.Words.{Text}
+use Rattle.model.specs.Topology.{Topology, queue_names, IsIn, AreApart, IsThere, IsWellFormed}
+use Rattle.model.specs.Routing.{Picks, none, take, pass, of_key, Routes, Edge, bound, default}
+use Rattle.model.specs.Guarantee.{Guarantee, Covers, Keeps, Holds}
+use Rattle.model.specs.Grammar.{IsMethod}
+use Rattle.model.specs.Broker.{Broker, is_full}
+use Rattle.model.specs.Step.{entry_note, entry_notes, confirm_notes, returned_notes, answer_of}
+use Rattle.model.specs.State.{State}
+use Rattle.model.specs.Arrivals.{IsSaid}
+use Rattle.model.specs.Run.{Happening, Run, notes_of}
+use Rattle.model.specs.Headline.{Acked, IsSound, EnteredOnce, is_ack_of, is_publish_into, acked_as, acked_at, acked}
+use Rattle.model.specs.declared.topologies.DeclaredQueue.{DeclaredQueue}
+use Rattle.model.specs.declared.topologies.Place.TheVariants as place
+use Rattle.model.specs.declared.topologies.Mode.{Mode}
+use Rattle.model.specs.declared.topologies.Mode.TheVariants.{Reaches}
+use Rattle.model.specs.declared.messages.Entry.{Entry}
+use Rattle.model.specs.declared.events.Send.{Send}
+use Rattle.model.specs.declared.events.Event.{Event}
+use Rattle.model.specs.declared.methods.Method.TheVariants.{BasicPublish}
+use Rattle.model.specs.declared.notes.Note.{Note}
+use Rattle.model.specs.declared.notes.Note.TheVariants.{Published, Entered}
+use Rattle.model.specs.declared.notes.Way.TheVariants as way
+use Rattle.laws.specs.Promises.{AreSound, AreSaid}
+use Rattle.laws.proofs.Counts.{count-append, count-cons, count-cons_yes, count-cons_no, count_none, any_none, filter_map_none, all-append, all_each, in_from_contains, in-map, other_number}
+use Rattle.laws.proofs.Balance.{Publishes, Seen, seen, number, content, confirm, some_full, is_returned, first_note, entry_part, answer_part, noted, returned_all, entry_all, answers_all, others_all}
+
+-- ---- numbers tell publishes apart
+
+-- the note is one of the publish n itself
+abbrev pub is_of_publish : ℕ → Note → Bool
+is_of_publish n (Published m c h x k o) = m == n
+is_of_publish n (Entered m q way.Publish) = m == n
+is_of_publish n note = false
+
+-- none of these notes is of the publish n
+abbrev pub AreOfOthers : ℕ → List Note → Type 0
+AreOfOthers n notes = AllByRecursion (λ (note : Note). is_of_publish n note ≡ false) notes
+
+-- an event notes only the publish that it counts
+step_of_others : (t : Topology) (old new : Broker) (e : Event) (sends : List Send) (notes : List Note) → Seen t old new e sends notes → (n : ℕ) → (n ≤ old.published) ⊎ (new.published < n) → AreOfOthers n notes
+step_of_others t old new e sends notes (inl q) n out = subst (AreOfOthers n) (sym q.noted) tt
+step_of_others t old new e sends notes (inr p) n out =
+    let made : new.published ≡ old.published + 1 = p.is.left.counted in
+    let ne : eqb (old.published + 1) n ≡ false = other_number n (old.published + 1) (λ e. elim out [ inl le ↦ omega arith | inr lt ↦ omega arith ]) in
+    subst (AreOfOthers n) (sym (noted p)) (ne, others_all p _ (λ r. refl) (λ r i. ne) refl (λ a. refl))
+
+step_grows : (t : Topology) (old new : Broker) (e : Event) (sends : List Send) (notes : List Note) → Seen t old new e sends notes → old.published ≤ new.published
+step_grows t old new e sends notes (inl q) = let e = q.same in omega arith
+step_grows t old new e sends notes (inr p) = let e = p.is.left.counted in omega arith
+
+run_of_others : (hs : List Happening) (old new : State) → Run old hs new → (n : ℕ) → n ≤ old.broker.published → AreOfOthers n (notes_of hs)
+run_of_others [] old new r n le = tt
+run_of_others (h ∷ hs) old new (mid, s, r) n le =
+    let v = seen h.config old mid h.event h.sends h.notes s in
+    let grows = step_grows h.config.topology old.broker mid.broker h.event h.sends h.notes v in
+    all-append _ h.notes (notes_of hs) (step_of_others h.config.topology old.broker mid.broker h.event h.sends h.notes v n (inl le)) (run_of_others hs mid new r n (omega arith))
+
+-- where an event stands among the notes of its run: what is noted before and after it is of other publishes
+pub record Placed (all : List Note) (h : Happening) : Type 0 where
+  pub old : Broker
+  pub new : Broker
+  pub step : Seen h.config.topology old new h.event h.sends h.notes
+  pub before : List Note
+  pub after : List Note
+  pub split : all ≡ before ++ (h.notes ++ after)
+  pub earlier : (n : ℕ) → old.published < n → AreOfOthers n before
+  pub later : (n : ℕ) → n ≤ new.published → AreOfOthers n after
+
+places_from : (all : List Note) (hs : List Happening) (old new : State) (before : List Note) → Run old hs new → all ≡ before ++ notes_of hs → ((n : ℕ) → old.broker.published < n → AreOfOthers n before) → AllByRecursion (Placed all) hs
+places_from all [] old new before r e earlier = tt
+places_from all (h ∷ hs) old new before (mid, s, r) e earlier =
+    let t = h.config.topology in
+    let v = seen h.config old mid h.event h.sends h.notes s in
+    let grows = step_grows t old.broker mid.broker h.event h.sends h.notes v in (
+      record { old = old.broker; new = mid.broker; step = v; before = before; after = notes_of hs; split = e; earlier = earlier; later = run_of_others hs mid new r },
+      places_from all hs mid new (before ++ h.notes) r (e ∙ sym (append_assoc before h.notes (notes_of hs)))
+          (λ n lt. all-append _ before h.notes (earlier n (omega (arith, grows, lt))) (step_of_others t old.broker mid.broker h.event h.sends h.notes v n (inr lt))),
+    )
+
+pub places : (hs : List Happening) (old new : State) → Run old hs new → AllByRecursion (Placed (notes_of hs)) hs
+places hs old new r = places_from (notes_of hs) hs old new [] r refl (λ n lt. tt)
+
+-- ---- a publish and its own notes
+
+-- a key that was said is short
+pub key_is_short : {t : Topology} {old new : Broker} {e : Event} {sends : List Send} {notes : List Note} (p : Publishes t old new e sends notes) → IsSaid e → length p.publish.routing_key ≤ 255
+key_is_short p said =
+    let m : IsMethod (BasicPublish p.publish) = subst IsSaid p.event said in
+    let short : length p.publish.routing_key < 256 = m.1.1.0 in
+    omega arith
+
+-- a publish as it is acked, where it was in confirm mode, was made on the connection and is acked
+abbrev pub acked_if : {t : Topology} {old new : Broker} {e : Event} {sends : List Send} {notes : List Note} → Publishes t old new e sends notes → List Guarantee → Option ℕ → Bool → Bool → Option Acked
+acked_if p gs None mine ack = None
+acked_if p gs (Some m) mine ack = if mine && ack then Some (record { number = number p; channel = p.h; exchange = p.publish.exchange; key = p.publish.routing_key; confirm = m; guarantees = gs }) else None
+
+acked_is : {t : Topology} {old new : Broker} {e : Event} {sends : List Send} {notes : List Note} (p : Publishes t old new e sends notes) (gs : List Guarantee) (c : ℕ) (all : List Note) (o : Option ℕ)
+    → acked_as gs c all (Published (number p) p.c p.h p.publish.exchange p.publish.routing_key o) ≡ acked_if p gs o (p.c == c) (list_any (is_ack_of (number p)) all)
+acked_is p gs c all None = refl
+acked_is p gs c all (Some m) = refl
+
+-- what an event counts as acked is its own publish, if it is one
+pub nothing_acked : (gs : List Guarantee) (c : ℕ) (all notes : List Note) → notes ≡ [] → filter_map (acked_as gs c all) notes ≡ []
+nothing_acked gs c all notes e = ap (filter_map (acked_as gs c all)) e
+
+pub publish_acked : {t : Topology} {old new : Broker} {e : Event} {sends : List Send} {notes : List Note} (p : Publishes t old new e sends notes) (gs : List Guarantee) (c : ℕ) (all : List Note)
+    → filter_map (acked_as gs c all) notes ≡ cons_option (acked_if p gs (confirm p) (p.c == c) (list_any (is_ack_of (number p)) all)) []
+publish_acked p gs c all =
+    ap (filter_map (acked_as gs c all)) (noted p)
+    ∙ ap (cons_option (acked_as gs c all (first_note p))) (filter_map_none (acked_as gs c all) (entry_part p ++ answer_part p) (others_all p _ (λ r. refl) (λ r i. refl) refl (λ a. refl)))
+    ∙ ap (λ (o : Option Acked). cons_option o []) (acked_is p gs c all (confirm p))
+
+-- it is acked where its answer is an ack
+pub acked_by_answer : {t : Topology} {old new : Broker} {e : Event} {sends : List Send} {notes : List Note} (p : Publishes t old new e sends notes)
+    → list_any (is_ack_of (number p)) notes ≡ list_any (is_ack_of (number p)) (confirm_notes (number p) (confirm p) (answer_of (some_full p)))
+acked_by_answer p =
+    let n = number p in
+    let returned = returned_notes n (is_returned p) in
+    let confirms = confirm_notes n (confirm p) (answer_of (some_full p)) in
+    ap (list_any (is_ack_of n)) (noted p)
+    ∙ list_any-append (is_ack_of n) (entry_part p) (answer_part p)
+    ∙ ap (λ b. b || list_any (is_ack_of n) (answer_part p)) (any_none (is_ack_of n) (entry_part p) (entry_all p _ (λ r. refl) (λ r i. refl)))
+    ∙ list_any-append (is_ack_of n) returned confirms
+    ∙ ap (λ b. b || list_any (is_ack_of n) confirms) (any_none (is_ack_of n) returned (returned_all _ n (is_returned p) refl))
+
+-- ---- targets
+
+abbrev same_as : Text → Text → Bool
+same_as q r = bytes_eq r q
+
+same_yes : (q r : Text) → q ≡ r → same_as q r ≡ true
+same_yes q r e = (bytes_eq-Decides r q).1 (sym e)
+
+same_no : (q r : Text) → (q ≡ r → ⊥) → same_as q r ≡ false
+same_no q r ne = go (same_as q r) refl
+  where
+    go : (b : Bool) → same_as q r ≡ b → b ≡ false
+    go true e = absurd (ne (sym ((bytes_eq-Decides r q).0 e)))
+    go false e = refl
+
+count_absent : {P : Text → Type 0} {xs ys : List Text} (q : Text) → Picks P xs ys → (IsIn q xs → ⊥) → count_by (same_as q) ys ≡ 0
+count_absent q none out = refl
+count_absent q (take {x = x} {ys = ys} p r) out = count-cons_no (same_as q) x ys (same_no q x (λ e. out (inl e))) ∙ count_absent q r (λ i. out (inr i))
+count_absent q (pass np r) out = count_absent q r (λ i. out (inr i))
+
+-- names are apart, and so a picked one is picked once
+count_target : {P : Text → Type 0} {xs ys : List Text} (q : Text) → Picks P xs ys → AreApart xs → IsIn q xs → P q → count_by (same_as q) ys ≡ 1
+count_target q none apart i p = absurd i
+count_target q (take {x = x} {xs = xs} {ys = ys} px r) apart (inl e) p =
+    count-cons_yes (same_as q) x ys (same_yes q x e) ∙ ap (λ n. 1 + n) (count_absent q r (λ i. apart.0 (subst (λ (z : Text). IsIn z xs) e i)))
+count_target q (take {x = x} {xs = xs} {ys = ys} px r) apart (inr i) p =
+    count-cons_no (same_as q) x ys (same_no q x (λ e. apart.0 (subst (λ (z : Text). IsIn z xs) e i))) ∙ count_target q r apart.1 i p
+count_target {P} q (pass np r) apart (inl e) p = absurd (np (subst P e p))
+count_target q (pass np r) apart (inr i) p = count_target q r apart.1 i p
+
+-- the queue of a route is there
+routed_is_there : (t : Topology) (x key q : Text) → IsWellFormed t → Routes t x key q → IsIn q (queue_names t.queues)
+routed_is_there t x key q wf (y, leads, edge) = go y q edge
+  where
+    go : (y q : Text) → Edge t (of_key key) y (place.Queue q) → IsIn q (queue_names t.queues)
+    go y q (bound ex b c e o p) = subst (IsThere t) o.leads (wf.ends b o.is_binding)
+    go y q (default queue c e k) = subst (λ z. IsIn z (queue_names t.queues)) e (in-map (λ (z : DeclaredQueue). z.name) queue t.queues (in_from_contains t.queues queue c.0 c.1 c.2))
+
+-- ---- a publish that was acked entered each queue of its route once
+
+acked_not_full : (n : ℕ) (o : Option ℕ) (full : Bool) → list_any (is_ack_of n) (confirm_notes n o (answer_of full)) ≡ true → full ≡ false
+acked_not_full n o false e = refl
+acked_not_full n None true e = absurd cc
+acked_not_full n (Some m) true e = absurd cc
+
+or_split : (a b : Bool) → (a || b) ≡ false → (a ≡ false) × (b ≡ false)
+or_split true b e = absurd cc
+or_split false b e = (refl, e)
+
+entered_as_targets : (t : Topology) (entries : Text → List Entry) (size n : ℕ) (q : Text) (rs : List Text) → list_any (λ (r : Text). is_full t entries r size) rs ≡ false
+    → count_by (is_publish_into n q) (entry_notes t entries size n way.Publish rs) ≡ count_by (same_as q) rs
+entered_as_targets t entries size n q [] e = refl
+entered_as_targets t entries size n q (r ∷ rs) e =
+    let s = or_split (is_full t entries r size) (list_any (λ (r : Text). is_full t entries r size) rs) e in
+    let yes : is_publish_into n q (entry_note t entries size n way.Publish r) ≡ same_as q r = rw (s.0, eq-eqb n n refl) refl in
+    count-cons (is_publish_into n q) (entry_note t entries size n way.Publish r) (entry_notes t entries size n way.Publish rs)
+    ∙ ap (λ v. cond v 1 0 + count_by (is_publish_into n q) (entry_notes t entries size n way.Publish rs)) yes
+    ∙ ap (λ z. cond (same_as q r) 1 0 + z) (entered_as_targets t entries size n q rs s.1)
+    ∙ sym (count-cons (same_as q) r rs)
+
+publish_once : {t : Topology} {old new : Broker} {e : Event} {sends : List Send} {notes : List Note} (p : Publishes t old new e sends notes) (q : Text) → IsWellFormed t → Routes t p.publish.exchange p.publish.routing_key q
+    → list_any (is_ack_of (number p)) notes ≡ true → count_by (is_publish_into (number p) q) notes ≡ 1
+publish_once {t} {old} p q wf routes ack =
+    let n = number p in
+    let room : some_full p ≡ false = acked_not_full n (confirm p) (some_full p) (sym (acked_by_answer p) ∙ ack) in
+    let there = routed_is_there t p.publish.exchange p.publish.routing_key q wf routes in
+    let entered = entered_as_targets t old.queue (length (content p).body) n q p.is.targets room ∙ count_target q p.is.routed wf.queues_apart there routes in
+    let answered = count_none (is_publish_into n q) (answer_part p) (answers_all p _ refl (λ a. refl)) in
+    let split = count-append (is_publish_into n q) (entry_part p) (answer_part p) in
+    ap (count_by (is_publish_into n q)) (noted p)
+    ∙ count-cons_no (is_publish_into n q) (first_note p) (entry_part p ++ answer_part p) refl
+    ∙ omega (arith, split, entered, answered)
+
+into_is_of_publish : (n : ℕ) (q : Text) (note : Note) → is_of_publish n note ≡ false → is_publish_into n q note ≡ false
+into_is_of_publish n q (Entered m r way.Publish) e = rw e refl
+into_is_of_publish n q (Entered m r way.Dead) e = refl
+into_is_of_publish n q _ e = refl
+
+-- among all notes too: those of the other events are of other publishes
+once_of_all : (all : List Note) (h : Happening) (at : Placed all h) (p : Publishes h.config.topology at.old at.new h.event h.sends h.notes) (q : Text)
+    → count_by (is_publish_into (number p) q) h.notes ≡ 1 → count_by (is_publish_into (number p) q) all ≡ 1
+once_of_all all h at p q own =
+    let n = number p in
+    let test = is_publish_into n q in
+    let made : at.new.published ≡ at.old.published + 1 = p.is.left.counted in
+    let before = count_none test at.before (all_each _ _ (into_is_of_publish n q) at.before (at.earlier n (omega arith))) in
+    let after = count_none test at.after (all_each _ _ (into_is_of_publish n q) at.after (at.later n (omega arith))) in
+    let split = count-append test at.before (h.notes ++ at.after) in
+    let split' = count-append test h.notes at.after in
+    ap (count_by test) at.split ∙ omega (arith, split, split', own, before, after)
+
+-- ---- every acked publish
+
+keeps_reaches : (t : Topology) (g : Guarantee) (x key : Text) → Holds t g → g.mode ≡ Reaches → Covers g x key → length key ≤ 255 → Routes t x key g.queue
+keeps_reaches t g x key holds m covers short =
+    let k : Keeps g.mode t g.exchange key g.queue = holds key short covers.1 in
+    let r : Keeps Reaches t g.exchange key g.queue = subst (λ (m : Mode). Keeps m t g.exchange key g.queue) m k in
+    subst (λ (z : Text). Routes t z key g.queue) (sym covers.0) r
+
+each_entered_once : (all : List Note) (h : Happening) → Placed all h → IsSound h.config → IsSaid h.event → (c : ℕ) → AllByRecursion (EnteredOnce all) (acked_at c h)
+each_entered_once all h at sound said c = by at.step
+  where
+    by : Seen h.config.topology at.old at.new h.event h.sends h.notes → AllByRecursion (EnteredOnce all) (acked_at c h)
+    by (inl quiet) = subst (AllByRecursion (EnteredOnce all)) (sym (nothing_acked h.config.guarantees c h.notes h.notes quiet.noted)) tt
+    by (inr p) = subst (AllByRecursion (EnteredOnce all)) (sym (publish_acked p h.config.guarantees c h.notes)) (one (confirm p) (p.c == c) (list_any (is_ack_of (number p)) h.notes) refl)
+      where
+        one : (o : Option ℕ) (mine ack : Bool) → list_any (is_ack_of (number p)) h.notes ≡ ack → AllByRecursion (EnteredOnce all) (cons_option (acked_if p h.config.guarantees o mine ack) [])
+        one None mine ack e = tt
+        one (Some m) true true e =
+            (λ g in_gs mode covers. once_of_all all h at p g.queue (publish_once p g.queue sound.wf (keeps_reaches h.config.topology g p.publish.exchange p.publish.routing_key (sound.hold g in_gs) mode covers (key_is_short p said)) e), tt)
+        one (Some m) true false e = tt
+        one (Some m) false ack e = tt
+
+-- In every run each publish that was confirmed by ack entered each queue that was promised at it exactly once.
+pub run_entered_once : (hs : List Happening) (old new : State) → AllByRecursion (λ (h : Happening). IsSound h.config) hs → AllByRecursion (λ (h : Happening). IsSaid h.event) hs → Run old hs new → (c : ℕ)
+    → AllByRecursion (EnteredOnce (notes_of hs)) (acked c hs)
+run_entered_once hs old new sound said r c = go hs (places hs old new r) sound said
+  where
+    go : (es : List Happening) → AllByRecursion (Placed (notes_of hs)) es → AreSound es → AreSaid es → AllByRecursion (EnteredOnce (notes_of hs)) (acked c es)
+    go [] at sound said = tt
+    go (e ∷ es) at sound said = all-append (EnteredOnce (notes_of hs)) (acked_at c e) (acked c es) (each_entered_once (notes_of hs) e at.0 sound.0 said.0 c) (go es at.1 sound.1 said.1)

@@ -1,0 +1,123 @@
+-- An output is read back as the frames that it was made of, and so the acks in it are those that were sent.
+use Rattle.std.proofs.Common.{◌≡◌, ℕ, ◌-◌, ◌<◌, ◌≤◌, ◌^◌, List, [], ◌∷◌, ◌++◌, length, get_or, take, drop, refl, sym, ap, ◌∙◌, arith, append_assoc, map, Option, Some, None, lit≤, ◌⊎◌, inl, inr}
+use Rattle.std.specs.Prelude.{filter_map, flat_map}
+use Rattle.std.specs.List.{AllByRecursion, cons_option}
+use Rattle.std.specs.Int.{w16, w32, from_be_bytes}
+use Rattle.std.proofs.lemmas.List.{take_at, drop_at}
+use Rattle.std.proofs.lemmas.List.Elements.{filter_map-append}
+use Rattle.std.proofs.lemmas.Nat.{from_be_bytes-to_be_bytes_2, from_be_bytes-to_be_bytes_4, from_be_bytes-to_be_bytes_8}
+use Rattle.model.specs.Frames.{Frame, frame_bytes, IsFrame}
+use Rattle.model.specs.Grammar.{IsMethod}
+use Rattle.model.specs.Spelling.{pieces_of, content_frames, frames_of, method_frame, body_frame, IsSpelled, eight_bytes}
+use Rattle.model.specs.Headline.{Ack, ack_in, acks_in, IsReading}
+use Rattle.model.specs.declared.contents.Content.{Content}
+use Rattle.model.specs.declared.events.Send.{Send}
+use Rattle.model.specs.declared.events.Send.TheVariants as send
+use Rattle.model.specs.declared.methods.Method.{Method}
+use Rattle.model.specs.declared.methods.Method.TheVariants.{BasicAck}
+use Rattle.laws.specs.Promises.{ack_of, ack_sent}
+use Rattle.laws.proofs.Counts.{all-append}
+
+channel_at : List ℕ → ℕ
+channel_at bs = from_be_bytes w16 (take 2 (drop 1 bs))
+
+abbrev pub size_at : List ℕ → ℕ
+size_at bs = from_be_bytes w32 (take 4 (drop 3 bs))
+
+channel_is : (f : Frame) (x : List ℕ) → f.channel < 2 ^ 16 → channel_at (frame_bytes f ++ x) ≡ f.channel
+unfolding channel_at
+channel_is f x lt = from_be_bytes-to_be_bytes_2 f.channel lt
+
+pub size_is : (f : Frame) (x : List ℕ) → length f.payload < 2 ^ 32 → size_at (frame_bytes f ++ x) ≡ length f.payload
+size_is f x lt = from_be_bytes-to_be_bytes_4 (length f.payload) lt
+
+payload_is : (f : Frame) (x : List ℕ) → take (length f.payload) (drop 7 (frame_bytes f ++ x)) ≡ f.payload
+payload_is f x = ap (take (length f.payload)) (append_assoc f.payload (206 ∷ []) x) ∙ take_at f.payload (206 ∷ x) (length f.payload) refl
+
+pub rest_is : (f : Frame) (x : List ℕ) → drop (length f.payload) (drop 7 (frame_bytes f ++ x)) ≡ 206 ∷ x
+rest_is f x = ap (drop (length f.payload)) (append_assoc f.payload (206 ∷ []) x) ∙ drop_at f.payload (206 ∷ x) (length f.payload) refl
+
+same_frame : (f g : Frame) → f.kind ≡ g.kind → f.channel ≡ g.channel → f.payload ≡ g.payload → f ≡ g
+same_frame f g k c p =
+    let a : f ≡ record { kind = g.kind; channel = f.channel; payload = f.payload } = ap (λ (n : ℕ). record { kind = n; channel = f.channel; payload = f.payload }) k in
+    let b : record { kind = g.kind; channel = f.channel; payload = f.payload } ≡ record { kind = g.kind; channel = g.channel; payload = f.payload } = ap (λ (n : ℕ). record { kind = g.kind; channel = n; payload = f.payload }) c in
+    let d : record { kind = g.kind; channel = g.channel; payload = f.payload } ≡ g = ap (λ (n : List ℕ). record { kind = g.kind; channel = g.channel; payload = n }) p in
+    a ∙ b ∙ d
+
+-- no frame begins another
+pub one_frame : (max : ℕ) → max ≤ 2 ^ 32 → (f g : Frame) (x y : List ℕ) → IsFrame max f → IsFrame max g → frame_bytes f ++ x ≡ frame_bytes g ++ y → (f ≡ g) × (x ≡ y)
+one_frame max small f g x y pf pg e =
+    let kind : f.kind ≡ g.kind = ap (λ (bs : List ℕ). get_or bs 0 0) e in
+    let fs = pf.size in
+    let gs = pg.size in
+    let channel : f.channel ≡ g.channel = sym (channel_is f x pf.channel) ∙ ap channel_at e ∙ channel_is g y pg.channel in
+    let size : length f.payload ≡ length g.payload = sym (size_is f x (omega arith)) ∙ ap size_at e ∙ size_is g y (omega arith) in
+    let payload : f.payload ≡ g.payload = sym (payload_is f x) ∙ ap (λ (bs : List ℕ). take (length f.payload) (drop 7 bs)) e ∙ ap (λ n. take n (drop 7 (frame_bytes g ++ y))) size ∙ payload_is g y in
+    let rest : (206 ∷ x) ≡ (206 ∷ y) = sym (rest_is f x) ∙ ap (λ (bs : List ℕ). drop (length f.payload) (drop 7 bs)) e ∙ ap (λ n. drop n (drop 7 (frame_bytes g ++ y))) size ∙ rest_is g y in
+    (same_frame f g kind channel payload, ap (drop 1) rest)
+
+nothing_is_frame : (f : Frame) (x : List ℕ) → [] ≡ frame_bytes f ++ x → ⊥
+nothing_is_frame f x e = cc
+
+pub frames_apart : (max : ℕ) → max ≤ 2 ^ 32 → (fs gs : List Frame) → AllByRecursion (IsFrame max) fs → AllByRecursion (IsFrame max) gs → flat_map frame_bytes fs ≡ flat_map frame_bytes gs → fs ≡ gs
+frames_apart max small [] [] a b e = refl
+frames_apart max small [] (g ∷ gs) a b e = absurd (nothing_is_frame g (flat_map frame_bytes gs) e)
+frames_apart max small (f ∷ fs) [] a b e = absurd (nothing_is_frame f (flat_map frame_bytes fs) (sym e))
+frames_apart max small (f ∷ fs) (g ∷ gs) a b e =
+    let r = one_frame max small f g (flat_map frame_bytes fs) (flat_map frame_bytes gs) a.0 b.0 e in
+    let rest = frames_apart max small fs gs a.1 b.1 r.1 in
+    ap (λ (z : Frame). z ∷ fs) r.0 ∙ ap (λ (zs : List Frame). g ∷ zs) rest
+
+-- the eight bytes are no frames: no type of frame is 65
+greeting_is_no_frames : (gs : List Frame) → AllByRecursion (IsFrame 131072) gs → eight_bytes ≡ flat_map frame_bytes gs → ⊥
+greeting_is_no_frames [] a e = cc
+greeting_is_no_frames (g ∷ gs) a e = is_no_kind (ap (λ (bs : List ℕ). get_or bs 0 0) e) a.0.kind
+  where
+    is_no_kind : 65 ≡ g.kind → (g.kind ≡ 1) ⊎ (g.kind ≡ 2) ⊎ (g.kind ≡ 3) ⊎ (g.kind ≡ 8) → ⊥
+    is_no_kind k (inl h) = omega arith
+    is_no_kind k (inr (inl h)) = omega arith
+    is_no_kind k (inr (inr (inl h))) = omega arith
+    is_no_kind k (inr (inr (inr h))) = omega arith
+
+-- an output is read in one way
+pub reading_apart : (output : List ℕ) (fs gs : List Frame) → IsReading output fs → IsReading output gs → fs ≡ gs
+reading_apart output fs gs (inl a) (inl b) = frames_apart 131072 (lit≤ tt) fs gs a.each b.each (sym a.parts ∙ b.parts)
+reading_apart output fs gs (inl a) (inr b) = absurd (greeting_is_no_frames fs a.each (sym b.0 ∙ a.parts))
+reading_apart output fs gs (inr a) (inl b) = absurd (greeting_is_no_frames gs b.each (sym a.0 ∙ b.parts))
+reading_apart output fs gs (inr a) (inr b) = a.1 ∙ sym b.1
+
+-- ---- the acks in what was sent
+
+content_acks : (max h : ℕ) (o : Option Content) → acks_in (content_frames max h o) ≡ []
+content_acks max h None = refl
+content_acks max h (Some c) = bodies (pieces_of (max - 8) (length c.body) c.body)
+  where
+    bodies : (ps : List (List ℕ)) → acks_in (map (body_frame h) ps) ≡ []
+    bodies [] = refl
+    bodies (p ∷ ps) = bodies ps
+
+-- the ack that a method frame is
+method_ack : (h : ℕ) (m : Method) → IsMethod m → ack_in (method_frame h m) ≡ ack_of h m
+method_ack h (BasicAck m) fits = ap (λ (n : ℕ). Some (record { channel = h; number = n })) (from_be_bytes-to_be_bytes_8 m.delivery_tag fits.0)
+method_ack h _ fits = refl
+
+cons_append : {A : Type 0} (o : Option A) (xs : List A) → cons_option o [] ++ xs ≡ cons_option o xs
+cons_append None xs = refl
+cons_append (Some x) xs = refl
+
+send_acks : (max : ℕ) (s : Send) → IsSpelled max s → acks_in (frames_of max s) ≡ cons_option (ack_sent s) []
+send_acks max (send.Greeting c) fits = refl
+send_acks max (send.Command c h m content) fits =
+    ap (λ (o : Option Ack). cons_option o (acks_in (content_frames max h content))) (method_ack h m fits.method) ∙ ap (λ (xs : List Ack). cons_option (ack_of h m) xs) (content_acks max h content)
+
+pub sent_acks : (max : ℕ) (sends : List Send) → AllByRecursion (IsSpelled max) sends → acks_in (flat_map (frames_of max) sends) ≡ filter_map ack_sent sends
+sent_acks max [] fits = refl
+sent_acks max (s ∷ sends) fits =
+    filter_map-append ack_in (frames_of max s) (flat_map (frames_of max) sends)
+    ∙ ap (λ (xs : List Ack). xs ++ acks_in (flat_map (frames_of max) sends)) (send_acks max s fits.0)
+    ∙ cons_append (ack_sent s) (acks_in (flat_map (frames_of max) sends))
+    ∙ ap (λ (xs : List Ack). cons_option (ack_sent s) xs) (sent_acks max sends fits.1)
+
+pub frames_each : (max : ℕ) (sends : List Send) → AllByRecursion (IsSpelled max) sends → AllByRecursion (IsFrame max) (flat_map (frames_of max) sends)
+frames_each max [] fits = tt
+frames_each max (s ∷ sends) fits = all-append (IsFrame max) (frames_of max s) (flat_map (frames_of max) sends) fits.0.frames (frames_each max sends fits.1)

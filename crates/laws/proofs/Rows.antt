@@ -1,0 +1,76 @@
+-- The worked examples.
+use Rattle.std.proofs.Common.{◌≡◌, ℕ, List, [], ◌∷◌, ◌++◌, refl, sym, ap, ◌∙◌, arith, get_or, drop, lit≤, inl, length}
+use Rattle.std.specs.Prelude.{codes}
+use Rattle.std.specs.List.{AllByRecursion}
+use Rattle.model.specs.Words.{none, word}
+use Rattle.model.specs.Frames.{Frame, frame_bytes, IsFrame, Begins}
+use Rattle.model.specs.Guarantee.{CoversKey}
+use Rattle.model.specs.Spelling.{method_frame}
+use Rattle.model.specs.Headline.{acks_in, HasAcksOf, IsReading, EnteredOnce, ack_for}
+use Rattle.model.specs.declared.methods.Method.TheVariants.{ConfirmSelectOk, BasicAck}
+use Rattle.laws.specs.Rows.{WordsOfKeys, FirstInput, FirstOutput, BadEnd, HeadlineRefuses, select_ok, first_ack, bad_end, wanted, first_acked, notes_without_entry}
+use Rattle.laws.proofs.Reading.{reading_apart, size_at, size_is, rest_is}
+
+pub words_of_keys : WordsOfKeys
+words_of_keys = record { none = refl; two = refl; empty_between = refl; dot_alone = refl }
+
+pub first_input : FirstInput
+first_input = record { select = refl; publish = refl; header = refl; body = refl }
+
+pub first_output : FirstOutput
+first_output = record { select = refl; ack = refl }
+
+other_byte : ◌≡◌ {A = ℕ} 205 206 → ⊥
+other_byte e = omega (arith, e)
+
+zero_is_not_one : ◌≡◌ {A = ℕ} 0 1 → ⊥
+zero_is_not_one e = omega (arith, e)
+
+-- the size in the header says where the end byte stands
+bad_end_is_broken : (more rest : List ℕ) (f : Frame) → Begins 131072 (bad_end ++ more) f rest → ⊥
+bad_end_is_broken more rest f b =
+    let small = b.fits.size in
+    let size : length f.payload ≡ 5 = sym (size_is f rest (omega arith)) ∙ sym (ap size_at b.parts) ∙ five in
+    let end : drop 5 (drop 7 (bad_end ++ more)) ≡ 206 ∷ rest =
+    ap (λ (bs : List ℕ). drop 5 (drop 7 bs)) b.parts ∙ sym (ap (λ n. drop n (drop 7 (frame_bytes f ++ rest))) size) ∙ rest_is f rest in
+    other_byte (ap (λ (bs : List ℕ). get_or bs 0 0) end)
+  where
+    five : size_at (bad_end ++ more) ≡ 5
+    five = refl
+
+pub bad_end_answer : BadEnd
+bad_end_answer = record { broken = record { long = lit≤ tt; never = bad_end_is_broken }; answer = refl }
+
+-- ---- what the headline refuses
+
+is_select_ok : IsFrame 131072 (method_frame 1 ConfirmSelectOk)
+is_select_ok = record { kind = inl refl; channel = lit≤ tt; size = lit≤ tt }
+
+is_first_ack : IsFrame 131072 (method_frame 1 (BasicAck (record { delivery_tag = 1; multiple = Rattle.std.specs.Prelude.false })))
+is_first_ack = record { kind = inl refl; channel = lit≤ tt; size = lit≤ tt }
+
+select_ok_reading : IsReading select_ok (method_frame 1 ConfirmSelectOk ∷ [])
+select_ok_reading = inl (record { parts = refl; each = (is_select_ok, tt) })
+
+both_reading : IsReading (select_ok ++ first_ack) (method_frame 1 ConfirmSelectOk ∷ method_frame 1 (BasicAck (record { delivery_tag = 1; multiple = Rattle.std.specs.Prelude.false })) ∷ [])
+both_reading = inl (record { parts = refl; each = (is_select_ok, (is_first_ack, tt)) })
+
+no_ack_there : HasAcksOf (first_acked ∷ []) select_ok → ⊥
+no_ack_there has =
+    let e : [] ≡ ack_for first_acked ∷ [] = ap acks_in (reading_apart select_ok (method_frame 1 ConfirmSelectOk ∷ []) has.frames select_ok_reading has.reading) ∙ has.acks in
+    cc
+
+unearned : HasAcksOf [] (select_ok ++ first_ack) → ⊥
+unearned has =
+    let e : ack_for first_acked ∷ [] ≡ [] = ap acks_in (reading_apart (select_ok ++ first_ack) _ has.frames both_reading has.reading) ∙ has.acks in
+    cc
+
+covers_new : CoversKey wanted (codes "new")
+covers_new = word none
+
+nothing_entered : EnteredOnce notes_without_entry first_acked → ⊥
+nothing_entered once =
+    zero_is_not_one (once wanted (0, lit≤ tt, refl) refl (refl, covers_new))
+
+pub headline_refuses : HeadlineRefuses
+headline_refuses = record { output_without_ack = no_ack_there; unearned_ack = unearned; ack_without_entry = nothing_entered }

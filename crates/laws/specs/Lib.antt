@@ -1,0 +1,6 @@
+pub mod Alone
+pub mod OneStep
+pub mod Promises
+pub mod Streams
+pub mod Delivery
+pub mod Rows

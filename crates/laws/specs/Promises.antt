@@ -1,0 +1,56 @@
+-- What every run keeps of the promises.
+use Rattle.std.specs.Prelude.{◌≡◌, ℕ, List, map, filter_map, Option, Some, None}
+use Rattle.std.specs.List.{AllByRecursion}
+use Rattle.model.specs.State.{State}
+use Rattle.model.specs.Run.{Happening, Run, notes_of, sends_of}
+use Rattle.model.specs.Spelling.{sends_to}
+use Rattle.model.specs.Arrivals.{IsSaid}
+use Rattle.model.specs.Headline.{Ack, IsSound, EnteredOnce, acked, ack_for, AreAllowed, HaveCauses, KeepsEvents}
+use Rattle.model.specs.declared.events.Send.{Send}
+use Rattle.model.specs.declared.events.Send.TheVariants as send
+use Rattle.model.specs.declared.methods.Method.{Method}
+use Rattle.model.specs.declared.methods.Method.TheVariants.{BasicAck}
+
+-- ---- acks as they are sent
+
+-- a basic.ack on this channel
+abbrev pub ack_of : ℕ → Method → Option Ack
+ack_of h (BasicAck m) = Some (record { channel = h; number = m.delivery_tag })
+ack_of h m = None
+
+-- the ack that a send is, if it is one
+abbrev pub ack_sent : Send → Option Ack
+ack_sent (send.Greeting c) = None
+ack_sent (send.Command c h m content) = ack_of h m
+
+-- ---- premises
+
+-- what was in force at each event was sound
+abbrev pub AreSound : List Happening → Type 0
+AreSound hs = AllByRecursion (λ (h : Happening). IsSound h.config) hs
+
+-- each command is a method that has a spelling
+abbrev pub AreSaid : List Happening → Type 0
+AreSaid hs = AllByRecursion (λ (h : Happening). IsSaid h.event) hs
+
+-- ---- laws of every run
+
+-- Each publish that was confirmed by ack entered each queue that was promised at it exactly once.
+abbrev pub AckedEnterOnce : Type 0
+AckedEnterOnce = (hs : List Happening) (old new : State) → AreSound hs → AreSaid hs → Run old hs new → (c : ℕ) → AllByRecursion (EnteredOnce (notes_of hs)) (acked c hs)
+
+-- The acks sent to a connection are those of its publishes confirmed by ack, one by one.
+abbrev pub AcksAreAcked : Type 0
+AcksAreAcked = (hs : List Happening) (old new : State) → Run old hs new → (c : ℕ) → filter_map ack_sent (sends_to c (sends_of hs)) ≡ map ack_for (acked c hs)
+
+-- No message of a publish entered a queue that was forbidden to it then.
+abbrev pub ForbiddenAreNotEntered : Type 0
+ForbiddenAreNotEntered = (hs : List Happening) (old new : State) → AreSound hs → AreSaid hs → Run old hs new → AllByRecursion (AreAllowed (notes_of hs)) hs
+
+-- What left a queue left it by an event that takes it out.
+abbrev pub CausesAreShown : Type 0
+CausesAreShown = (hs : List Happening) (old new : State) → Run old hs new → AllByRecursion HaveCauses hs
+
+-- All of these, and the balance of every queue.
+abbrev pub RunsKeepEvents : Type 0
+RunsKeepEvents = (hs : List Happening) (old new : State) → AreSound hs → AreSaid hs → Run old hs new → KeepsEvents old.broker hs new.broker

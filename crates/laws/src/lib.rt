@@ -1,0 +1,91 @@
+//! Laws of the definitions: each is the contract of a function with an empty body.
+//!
+//! They say what every run of the broker keeps, by the definitions of `model` alone. What the code does is shown
+//! elsewhere, by contracts in the same words.
+#![tactic(auto)]
+
+ghost use Rattle.std.specs.Prelude.{◌≡◌};
+ghost use Rattle.laws.specs.Alone.{SoundForWords};
+ghost use Rattle.laws.specs.Delivery.{OneReading, HeadlineHolds, TurnsKeep};
+ghost use Rattle.laws.specs.OneStep.{EveryRunBalances};
+ghost use Rattle.laws.specs.Promises.{AckedEnterOnce, AcksAreAcked, CausesAreShown, ForbiddenAreNotEntered, RunsKeepEvents};
+ghost use Rattle.laws.specs.Rows.{WordsOfKeys, FirstInput, FirstOutput, BadEnd, HeadlineRefuses};
+ghost use Rattle.laws.specs.Streams.{CuttingDoesNotMatter, FaultsStay};
+ghost use Rattle.model.specs.Guarantee.{Guarantee};
+ghost use Rattle.model.specs.State.{Config};
+ghost use Rattle.model.specs.Topology.{Topology};
+ghost use Rattle.model.specs.Words.{Text, words};
+
+/// No two keys have the same words.
+pub fn words_tell_keys_apart()
+    ensures { (a b : Text) → words a ≡ words b → a ≡ b }
+{}
+
+/// A guarantee whose pattern is words alone holds where it keeps its promise for the pattern as a key.
+pub fn word_patterns_are_sound()
+    ensures { (t : Topology) (g : Guarantee) → SoundForWords t g }
+{}
+
+/// In every run, what stood in a queue and what entered it is what left it and what stands there.
+pub fn runs_balance()
+    ensures { EveryRunBalances }
+{}
+
+/// In every run each publish that was confirmed by ack entered each queue that was promised at it exactly once.
+pub fn acked_publishes_enter_once()
+    ensures { AckedEnterOnce }
+{}
+
+/// In every run the acks sent to a connection are those of its publishes confirmed by ack, one by one.
+pub fn acks_are_those_noted()
+    ensures { AcksAreAcked }
+{}
+
+/// In every run no message of a publish entered a queue that was forbidden to it then.
+pub fn forbidden_queues_are_not_entered()
+    ensures { ForbiddenAreNotEntered }
+{}
+
+/// In every run a message left a queue only by an event that takes it out.
+pub fn what_leaves_has_a_cause()
+    ensures { CausesAreShown }
+{}
+
+/// All of this at once: what happens keeps the promises.
+pub fn runs_keep_events()
+    ensures { RunsKeepEvents }
+{}
+
+/// What a stream has yielded doesn't change when more bytes come, and goes on from there.
+pub fn cutting_does_not_matter()
+    ensures { CuttingDoesNotMatter }
+{}
+
+/// A fault of a stream stays, whatever bytes come behind it.
+pub fn faults_stay()
+    ensures { FaultsStay }
+{}
+
+/// A client reads an output in one way.
+pub fn one_reading()
+    ensures { OneReading }
+{}
+
+/// A turn keeps the promises of its own events.
+pub fn turns_keep()
+    ensures { TurnsKeep }
+{}
+
+/// Certified delivery: whatever arrives, the headline holds of the outputs and the notes.
+pub fn headline()
+    ensures { (f : Config) → HeadlineHolds f }
+{}
+
+/// Worked examples of the definitions, from the bytes of the first publish to what the headline refuses.
+pub fn worked_examples()
+    ensures words { WordsOfKeys }
+    ensures input { FirstInput }
+    ensures output { FirstOutput }
+    ensures bad_end { BadEnd }
+    ensures refused { HeadlineRefuses }
+{}

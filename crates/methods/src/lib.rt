@@ -1,0 +1,20 @@
+//! Method payloads, read and written.
+//!
+//! A payload is class (2 bytes), method (2) and the method's arguments, without anything between them. Numbers are
+//! big-endian, a short text has its length in 1 byte before it, and consecutive bits share an octet, lowest bit first.
+//! Source: AMQP 0-9-1, section 4.2.4, "Method Payloads", section 4.2.5, "Data Types", and its XML.
+#![tactic(auto)]
+
+mod lines;
+mod pieces;
+mod putting;
+mod reading;
+mod refusals;
+mod tables;
+mod takes;
+mod writing;
+
+pub use pieces::WriteError;
+pub use reading::read_method;
+pub use refusals::Refusal;
+pub use writing::{put_method, spelled_len, write_method};

@@ -1,0 +1,29 @@
+//! Why a payload is refused.
+
+ghost use Rattle.std.specs.Prelude.{◌≡◌};
+ghost use Rattle.methods.specs.declared.refusals.Refusal.TheVariants.{Memory};
+
+use std::alloc::AllocError;
+
+/// Why no method was read.
+#[derive(Clone, Copy, PartialEq, Eq, Debug, Drop)]
+pub enum Refusal {
+    /// The payload is too short for class and method. Reply code 501, frame-error.
+    FrameError,
+    /// The arguments end early, leave bytes over, or set a bit that no argument has. Reply code 502, syntax-error.
+    SyntaxError,
+    /// No method has this class and method. Reply code 503, command-invalid.
+    CommandInvalid,
+    /// The method is not built. Reply code 540, not-implemented.
+    NotImplemented,
+    /// Memory was refused.
+    Memory,
+}
+
+impl From<AllocError> for Refusal {
+    ghost from_gives = { λ _ e. e ≡ Memory };
+
+    fn from(_e: AllocError) -> Refusal {
+        Refusal::Memory
+    }
+}
