@@ -18,3 +18,6 @@ pub use pieces::WriteError;
 pub use reading::read_method;
 pub use refusals::Refusal;
 pub use writing::{put_method, spelled_len, write_method};
+
+#[cfg(test)]
+mod tests;

@@ -1,0 +1,5 @@
+pub mod Codes
+pub mod Places
+pub mod Onwards
+pub mod Staying
+pub mod Once

@@ -1,0 +1,135 @@
+-- A stream has one next command, or one end.
+use Rattle.std.proofs.Common.{◌≡◌, ◌==◌, ◌<◌, ◌^◌, ◌+◌, ℕ, zero, Bool, true, false, List, [], ◌∷◌, ◌++◌, length, MatchBool, Option, Some, None, Result, Ok, Err, sym, ap, subst, refl, ◌∙◌, append-nil}
+use Rattle.model.specs.Frames.{Frame, Begins, IsBroken}
+use Rattle.model.specs.Commands.{Stream, Pending, Nothing, Wants_header, Wants_body, Taken, Goes_on, Makes, Breaks, TakesOn, TakesPayload, taken_method, taken_header, taken_heartbeat, is_on_wrong_channel, awaited, after_frame, Takes, Yields, now, later, Ends, short, broken, faulty, beyond}
+use Rattle.model.specs.declared.events.Command.{Command}
+use Rattle.frame.proofs.Fronts.{shows, one_front}
+use Rattle.assembly.specs.Laws.{OneMethod, OneHeader}
+
+-- ---- one frame
+
+match_once : (b : Bool) (P Q : Taken → Type 0) (t u : Taken) → (P t → P u → t ≡ u) → (Q t → Q u → t ≡ u) → MatchBool b (P t) (Q t) → MatchBool b (P u) (Q u) → t ≡ u
+match_once true P Q t u f g x y = f x y
+match_once false P Q t u f g x y = g x y
+
+same : (t u v : Taken) → t ≡ v → u ≡ v → t ≡ u
+same t u v e f = e ∙ sym f
+
+payload_once : OneMethod → OneHeader → (p : Pending) (f : Frame) (t u : Taken) → TakesPayload p f t → TakesPayload p f u → t ≡ u
+payload_once m h Nothing f t u x y = x.2 ∙ ap (taken_method f.channel) (m f.payload x.0 y.0 x.1 y.1) ∙ sym y.2
+payload_once m h (Wants_header p) f t u x y = x.2 ∙ ap (taken_header f.channel p) (h f.payload x.0 y.0 x.1 y.1) ∙ sym y.2
+payload_once m h (Wants_body p properties size body) f t u x y = x ∙ sym y
+
+on_once : OneMethod → OneHeader → (p : Pending) (f : Frame) (t u : Taken) → TakesOn p f t → TakesOn p f u → t ≡ u
+on_once m h p f t u x y =
+    match_once (f.kind == 8) (λ v. v ≡ taken_heartbeat p f) (λ v. MatchBool (is_on_wrong_channel f) (v ≡ Breaks 504) (MatchBool (f.kind == awaited p) (TakesPayload p f v) (v ≡ Breaks 505))) t u
+    (same t u (taken_heartbeat p f))
+    (match_once (is_on_wrong_channel f) (λ v. v ≡ Breaks 504) (λ v. MatchBool (f.kind == awaited p) (TakesPayload p f v) (v ≡ Breaks 505)) t u
+        (same t u (Breaks 504))
+        (match_once (f.kind == awaited p) (TakesPayload p f) (λ v. v ≡ Breaks 505) t u (payload_once m h p f t u) (same t u (Breaks 505))))
+    x y
+
+record Both (t u : Taken) (a b : Stream) : Type 0 where
+  effect : t ≡ u
+  left : a ≡ b
+
+takes_once : OneMethod → OneHeader → (s a b : Stream) (t u : Taken) → s.max < 2 ^ 32 → Takes s t a → Takes s u b → Both t u a b
+takes_once m h s a b t u below x y =
+    let front = one_front s.unread x.rest y.rest x.frame y.frame (shows s.max s.unread x.frame x.rest below x.front) (shows s.max s.unread y.frame y.rest below y.front) in
+    let there : TakesOn (s.pending x.frame.channel) x.frame u = subst (λ (f : Frame). TakesOn (s.pending f.channel) f u) (sym front.0) y.effect in
+    let one : t ≡ u = on_once m h (s.pending x.frame.channel) x.frame t u x.effect there in
+    record {
+      effect = one;
+      left = x.left
+        ∙ ap (λ (f : Frame). after_frame s f.channel t x.rest) front.0
+        ∙ ap (λ (v : Taken). after_frame s y.frame.channel v x.rest) one
+        ∙ ap (λ (z : List ℕ). after_frame s y.frame.channel u z) front.1
+        ∙ sym y.left;
+    }
+
+whole_or : (s a : Stream) (t : Taken) → Takes s t a → IsBroken s.max s.unread → ⊥
+whole_or s a t x b = b.never [] x.rest x.frame (subst (λ (z : List ℕ). Begins s.max z x.frame x.rest) (sym (append-nil s.unread)) x.front)
+
+-- ---- effects differ
+
+abbrev IsGoing : Taken → Type 0
+IsGoing (Goes_on p) = Unit {0}
+IsGoing (Makes c) = ⊥
+IsGoing (Breaks code) = ⊥
+
+abbrev IsMaking : Taken → Type 0
+IsMaking (Goes_on p) = ⊥
+IsMaking (Makes c) = Unit {0}
+IsMaking (Breaks code) = ⊥
+
+going_making : (p : Pending) (c : Command) → Goes_on p ≡ Makes c → ⊥
+going_making p c e = subst IsGoing e tt
+
+going_breaking : (p : Pending) (code : ℕ) → Goes_on p ≡ Breaks code → ⊥
+going_breaking p code e = subst IsGoing e tt
+
+making_breaking : (c : Command) (code : ℕ) → Makes c ≡ Breaks code → ⊥
+making_breaking c code e = subst IsMaking e tt
+
+abbrev made_of : Taken → Option Command
+made_of (Goes_on p) = None
+made_of (Makes c) = Some c
+made_of (Breaks code) = None
+
+abbrev command_in : Option Command → Command → Command
+command_in None d = d
+command_in (Some c) d = c
+
+one_made : (c d : Command) → Makes c ≡ Makes d → c ≡ d
+one_made c d e = ap (λ (t : Taken). command_in (made_of t) c) e
+
+abbrev code_of : Taken → ℕ
+code_of (Goes_on p) = 0
+code_of (Makes c) = 0
+code_of (Breaks code) = code
+
+max_still : (s next : Stream) (t : Taken) → s.max < 2 ^ 32 → Takes s t next → next.max < 2 ^ 32
+max_still s next t below k = subst (λ (z : Stream). z.max < 2 ^ 32) (sym k.left) below
+
+-- ---- one next
+
+pub one_command : OneMethod → OneHeader → (s a b : Stream) (c d : Command) → s.max < 2 ^ 32 → Yields s c a → Yields s d b → (c ≡ d) × (a ≡ b)
+one_command m h s a b c d below (now t) (now u) = let k = takes_once m h s a b (Makes c) (Makes d) below t u in (one_made c d k.effect, k.left)
+one_command m h s a b c d below (now t) (later {mid = mid} {p = p} u y) = absurd (going_making p c (sym (takes_once m h s a mid (Makes c) (Goes_on p) below t u).effect))
+one_command m h s a b c d below (later {mid = mid} {p = p} t x) (now u) = absurd (going_making p d (takes_once m h s mid b (Goes_on p) (Makes d) below t u).effect)
+one_command m h s a b c d below (later {mid = mid} {p = p} t x) (later {mid = other} {p = q} u y) =
+    let k = takes_once m h s mid other (Goes_on p) (Goes_on q) below t u in
+    one_command m h mid a b c d (max_still s mid _ below t) x (subst (λ (z : Stream). Yields z d b) (sym k.left) y)
+
+pub one_of_them : OneMethod → OneHeader → (s a : Stream) (c : Command) (o : Option ℕ) → s.max < 2 ^ 32 → Yields s c a → Ends s o → ⊥
+one_of_them m h s a c o below (now t) (short n k) = n t.frame t.rest t.front
+one_of_them m h s a c o below (now t) (broken b) = whole_or s a _ t b
+one_of_them m h s a c o below (now t) (faulty {next = next} {code = code} u) = making_breaking c code (takes_once m h s a next (Makes c) (Breaks code) below t u).effect
+one_of_them m h s a c o below (now t) (beyond {mid = mid} {p = p} u e) = going_making p c (sym (takes_once m h s a mid (Makes c) (Goes_on p) below t u).effect)
+one_of_them m h s a c o below (later t x) (short n k) = n t.frame t.rest t.front
+one_of_them m h s a c o below (later {mid = mid} t x) (broken b) = whole_or s mid _ t b
+one_of_them m h s a c o below (later {mid = mid} {p = p} t x) (faulty {next = next} {code = code} u) = going_breaking p code (takes_once m h s mid next (Goes_on p) (Breaks code) below t u).effect
+one_of_them m h s a c o below (later {mid = mid} {p = p} t x) (beyond {mid = other} {p = q} u e) =
+    let k = takes_once m h s mid other (Goes_on p) (Goes_on q) below t u in
+    one_of_them m h mid a c o (max_still s mid _ below t) x (subst (λ (z : Stream). Ends z o) (sym k.left) e)
+
+pub one_end : OneMethod → OneHeader → (s : Stream) (o q : Option ℕ) → s.max < 2 ^ 32 → Ends s o → Ends s q → o ≡ q
+one_end m h s o q below (short n k) (short n2 k2) = refl
+one_end m h s o q below (short n k) (broken b) = absurd (k b)
+one_end m h s o q below (short n k) (faulty u) = absurd (n u.frame u.rest u.front)
+one_end m h s o q below (short n k) (beyond u e) = absurd (n u.frame u.rest u.front)
+one_end m h s o q below (broken b) (short n k) = absurd (k b)
+one_end m h s o q below (broken b) (broken b2) = refl
+one_end m h s o q below (broken b) (faulty {next = next} u) = absurd (whole_or s next _ u b)
+one_end m h s o q below (broken b) (beyond {mid = mid} u e) = absurd (whole_or s mid _ u b)
+one_end m h s o q below (faulty t) (short n k) = absurd (n t.frame t.rest t.front)
+one_end m h s o q below (faulty {next = next} t) (broken b) = absurd (whole_or s next _ t b)
+one_end m h s o q below (faulty {next = next} {code = code} t) (faulty {next = other} {code = last} u) =
+    ap (λ (x : Taken). Some (code_of x)) (takes_once m h s next other (Breaks code) (Breaks last) below t u).effect
+one_end m h s o q below (faulty {next = next} {code = code} t) (beyond {mid = mid} {p = p} u e) = absurd (going_breaking p code (sym (takes_once m h s next mid (Breaks code) (Goes_on p) below t u).effect))
+one_end m h s o q below (beyond t e) (short n k) = absurd (n t.frame t.rest t.front)
+one_end m h s o q below (beyond {mid = mid} t e) (broken b) = absurd (whole_or s mid _ t b)
+one_end m h s o q below (beyond {mid = mid} {p = p} t e) (faulty {next = next} {code = code} u) = absurd (going_breaking p code (takes_once m h s mid next (Goes_on p) (Breaks code) below t u).effect)
+one_end m h s o q below (beyond {mid = mid} {p = p} t e) (beyond {mid = other} {p = r} u f) =
+    let k = takes_once m h s mid other (Goes_on p) (Goes_on r) below t u in
+    one_end m h mid o q (max_still s mid _ below t) e (subst (λ (z : Stream). Ends z q) (sym k.left) f)

@@ -1,0 +1,132 @@
+-- What channels await, when one of them is changed.
+use Rattle.std.proofs.Common.{◌≡◌, ◌≢◌, ◌<◌, ◌≤◌, ℕ, zero, suc, ◌==◌, Bool, true, false, List, [], ◌∷◌, ◌++◌, length, slice_index_or, slice_set, get_or, set, if◌then◌else◌, Option, Some, None, Result, Ok, Err, sym, ap, subst, refl, ◌∙◌, arith, rules, tests, MatchBool, length-set, get_or-set_other, get_or-set_same}
+use Rattle.std.proofs.Math.Path.{fun_ext}
+use Rattle.std.proofs.lemmas.Bool.{eqb-false, eq-eqb, false≢true}
+use Rattle.std.proofs.lemmas.List.{get_or_default}
+use Rattle.model.specs.Broker.{with_one}
+use Rattle.model.specs.Commands
+use Rattle.model.specs.Frames.{Frame}
+use Rattle.model.specs.Commands.{Taken, Goes_on, Makes, Breaks, TakesOn, TakesPayload, awaited, taken_heartbeat, is_on_wrong_channel}
+use Rattle.model.specs.declared.events.Command.{Command}
+use Rattle.assembly.specs.declared.contents.Pending.{Pending}
+use Rattle.assembly.specs.declared.contents.Pending.TheVariants.{Nothing}
+use Rattle.assembly.specs.declared.faults.Fault.{Fault}
+use Rattle.assembly.specs.declared.faults.Fault.TheVariants.{Broken, Memory}
+use Rattle.assembly.specs.Faults.{IsFault}
+use Rattle.assembly.specs.Pending.{pending_of, pending_at, content_at, AreSpelled, IsSpelled}
+use Rattle.assembly.specs.Taking.{Does, DoesAt}
+
+-- a choice by a test of numbers, where the second is what the first says at equal ones
+choice : {A : Type 0} (a b : A) (m n : ℕ) (t : Bool) → (m == n) ≡ t → (t ≡ true → a ≡ b) → b ≡ (if t then a else b)
+choice a b m n true e f = sym (f refl)
+choice a b m n false e f = refl
+
+eq_of : (m n : ℕ) → (m == n) ≡ true → m ≡ n
+eq_of m n e = search (rules, e)
+
+-- a function with the value that it has
+pub with_one_same : {A : Type 0} (f : ℕ → A) (n : ℕ) → f ≡ with_one f n (f n)
+with_one_same f n = fun_ext (λ m. choice (f n) (f m) m n (m == n) refl (λ e. ap f (sym (eq_of m n e))))
+
+-- what one channel awaits is changed
+place : (xs : List Pending) (h m : ℕ) (p : Pending) → h < length xs → (t : Bool) → (m == h) ≡ t → pending_at (set xs h p) m ≡ (if t then pending_of p else pending_at xs m)
+place xs h m p lt true e = ap pending_of (subst (λ k. get_or (set xs h p) k Nothing ≡ p) (sym (eq_of m h e)) (get_or-set_same xs h p Nothing lt))
+place xs h m p lt false e = ap pending_of (get_or-set_other xs h m p Nothing (eqb-false m h e))
+
+pub pending_at-set : (xs : List Pending) (h : ℕ) (p : Pending) → h < length xs → pending_at (set xs h p) ≡ with_one (pending_at xs) h (pending_of p)
+pending_at-set xs h p lt = fun_ext (λ m. place xs h m p lt (m == h) refl)
+
+inner : (xs : List Pending) (h m : ℕ) (p : Pending) (q : Commands.Pending) → h < length xs → (t : Bool) → (m == h) ≡ t → (if t then q else pending_at (set xs h p) m) ≡ (if t then q else pending_at xs m)
+inner xs h m p q lt true e = refl
+inner xs h m p q lt false e = place xs h m p lt false e
+
+pub pending_at-set_twice : (xs : List Pending) (h : ℕ) (p q : Pending) → h < length xs → pending_at (set (set xs h p) h q) ≡ with_one (pending_at xs) h (pending_of q)
+pending_at-set_twice xs h p q lt =
+    fun_ext (λ m. place (set xs h p) h m q (omega (arith, length-set xs h p)) (m == h) refl ∙ inner xs h m p (pending_of q) lt (m == h) refl)
+
+past : (xs : List Pending) (h : ℕ) → content_at (xs ++ Nothing ∷ []) h ≡ content_at xs h
+past [] zero = refl
+past [] (suc h) = refl
+past (x ∷ xs) zero = refl
+past (x ∷ xs) (suc h) = past xs h
+
+-- nothing is awaited past the end
+pub content_at-push : (xs : List Pending) → content_at (xs ++ Nothing ∷ []) ≡ content_at xs
+content_at-push xs = fun_ext (past xs)
+
+pub does_at : (E : Taken → Type 0) (h : ℕ) (old new : ℕ → Commands.Pending) (r : Result (Option Command) Fault) (p : Commands.Pending) → Does E (old h) r p → new ≡ with_one old h p → DoesAt E h old r new
+does_at E h old new (Ok None) p d e = (p, d, e)
+does_at E h old new (Ok (Some c)) p d e = (d.0, d.1, e ∙ ap (with_one old h) d.2)
+does_at E h old new (Err f) p d e = (d.0, e ∙ ap (with_one old h) d.1 ∙ sym (with_one_same old h))
+
+-- of the contents as a whole
+pub pending_same : (xs ys : List Pending) → content_at xs ≡ content_at ys → pending_at xs ≡ pending_at ys
+pending_same xs ys e = ap (λ (f : ℕ → Pending). λ h. pending_of (f h)) e
+
+pub spelled_same : (xs ys : List Pending) → content_at xs ≡ content_at ys → AreSpelled ys → AreSpelled xs
+spelled_same xs ys e s = subst (λ (f : ℕ → Pending). (h : ℕ) → IsSpelled (f h)) (sym e) s
+
+spelled_at : (xs : List Pending) (h m : ℕ) (p : Pending) → h < length xs → IsSpelled p → AreSpelled xs → (t : Bool) → (m == h) ≡ t → IsSpelled (content_at (set xs h p) m)
+spelled_at xs h m p lt s all true e = subst (λ k. IsSpelled (get_or (set xs h p) k Nothing)) (sym (eq_of m h e)) (subst IsSpelled (sym (get_or-set_same xs h p Nothing lt)) s)
+spelled_at xs h m p lt s all false e = subst IsSpelled (sym (get_or-set_other xs h m p Nothing (eqb-false m h e))) (all m)
+
+pub spelled_set : (xs : List Pending) (h : ℕ) (p : Pending) → h < length xs → IsSpelled p → AreSpelled xs → AreSpelled (set xs h p)
+spelled_set xs h p lt s all m = spelled_at xs h m p lt s all (m == h) refl
+
+-- one content is taken out, a frame is taken for it, and what it has become is put back
+pub does_there : (E : Commands.Pending → Taken → Type 0) (xs : List Pending) (h : ℕ) (was x between now : Pending) (r : Result (Option Command) Fault)
+    → h < length xs → was ≡ x → x ≡ get_or xs h x → Does (E (pending_of was)) (pending_of was) r (pending_of now)
+    → DoesAt (E (pending_at xs h)) h (pending_at xs) r (pending_at (set (set xs h between) h now))
+does_there E xs h was x between now r lt e f d =
+    let same : was ≡ content_at xs h = e ∙ f ∙ get_or_default xs h x Nothing lt in
+    does_at (E (pending_at xs h)) h (pending_at xs) (pending_at (set (set xs h between) h now)) r (pending_of now)
+    (subst (λ (p : Pending). Does (E (pending_of p)) (pending_of p) r (pending_of now)) same d)
+    (pending_at-set_twice xs h between now lt)
+
+-- what follows for each effect follows for what was done
+pub does_so : (E F : Taken → Type 0) (h : ℕ) (old new : ℕ → Commands.Pending) (r : Result (Option Command) Fault) → ((t : Taken) → E t → F t) → DoesAt E h old r new → DoesAt F h old r new
+does_so E F h old new (Ok None) f d = (d.0, f (Goes_on d.0) d.1, d.2)
+does_so E F h old new (Ok (Some c)) f d = (f (Makes c) d.0, d.1, d.2)
+does_so E F h old new (Err (Broken code)) f d = (f (Breaks code) d.0, d.1)
+does_so E F h old new (Err Memory) f d = (tt, d.1)
+
+-- want of memory
+pub does_not : (E : Taken → Type 0) (h : ℕ) (old new : ℕ → Commands.Pending) (e : Fault) → e ≡ Memory → new ≡ old → DoesAt E h old (Err e) new
+does_not E h old new e m same = (subst (λ (x : Fault). IsFault (λ code. E (Breaks code)) x) (sym m) tt, same)
+
+match_true : (b : Bool) (P Q : Type 0) → b ≡ true → P → MatchBool b P Q
+match_true true P Q e p = p
+match_true false P Q e p = absurd (false≢true e)
+
+match_false : (b : Bool) (P Q : Type 0) → b ≡ false → Q → MatchBool b P Q
+match_false true P Q e q = absurd (false≢true (sym e))
+match_false false P Q e q = q
+
+apart : (a b : ℕ) → (a ≡ b → ⊥) → (a == b) ≡ false
+apart a b e = search (tests, rules)
+
+-- a heartbeat
+pub takes_heartbeat : (p : Commands.Pending) (f : Frame) (t : Taken) → f.kind ≡ 8 → t ≡ taken_heartbeat p f → TakesOn p f t
+takes_heartbeat p f t e d = match_true (f.kind == 8) _ _ (eq-eqb f.kind 8 e) d
+
+-- a frame on a channel that may not have it
+pub takes_wrong : (p : Commands.Pending) (f : Frame) → (f.kind ≡ 8 → ⊥) → is_on_wrong_channel f ≡ true → TakesOn p f (Breaks 504)
+takes_wrong p f e w = match_false (f.kind == 8) _ _ (apart f.kind 8 e) (match_true (is_on_wrong_channel f) _ _ w refl)
+
+-- any other frame
+pub takes_other : (p : Commands.Pending) (f : Frame) (t : Taken) → (f.kind ≡ 8 → ⊥) → is_on_wrong_channel f ≡ false
+    → MatchBool (f.kind == awaited p) (TakesPayload p f t) (t ≡ Breaks 505) → TakesOn p f t
+takes_other p f t e w d = match_false (f.kind == 8) _ _ (apart f.kind 8 e) (match_false (is_on_wrong_channel f) _ _ w d)
+
+abbrev Awaits : Frame → (ℕ → Commands.Pending) → ℕ → Taken → Type 0
+Awaits f old h t = MatchBool (f.kind == awaited (old h)) (TakesPayload (old h) f t) (t ≡ Breaks 505)
+
+-- any other frame, on its channel
+pub does_other : (old mid new : ℕ → Commands.Pending) (f : Frame) (h : ℕ) (r : Result (Option Command) Fault)
+    → h ≡ f.channel → mid ≡ old → (f.kind ≡ 8 → ⊥) → is_on_wrong_channel f ≡ false
+    → DoesAt (λ t. MatchBool (f.kind == awaited (mid h)) (TakesPayload (mid h) f t) (t ≡ Breaks 505)) h mid r new
+    → DoesAt (TakesOn (old f.channel) f) f.channel old r new
+does_other old mid new f h r e same k w d =
+    let a : DoesAt (Awaits f mid f.channel) f.channel mid r new = subst (λ (n : ℕ). DoesAt (Awaits f mid n) n mid r new) e d in
+    let b : DoesAt (Awaits f old f.channel) f.channel old r new = subst (λ (p : ℕ → Commands.Pending). DoesAt (Awaits f p f.channel) f.channel p r new) same a in
+    does_so (Awaits f old f.channel) (TakesOn (old f.channel) f) f.channel old new r (λ t x. takes_other (old f.channel) f t k w x) b

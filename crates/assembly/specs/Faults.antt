@@ -1,0 +1,23 @@
+-- Why a stream gives no command.
+use Rattle.std.specs.Prelude.{◌≡◌, ℕ, List, Err, ⊤}
+use Rattle.model.specs.Grammar.{SaysMethod}
+use Rattle.model.specs.Headers.{SaysHeader}
+use Rattle.methods.specs.declared.refusals.Refusal as methods_refusal
+use Rattle.headers.specs.declared.contents.Refusal as headers_refusal
+use Rattle.methods.specs.Reading as methods
+use Rattle.headers.specs.Reading as headers
+use Rattle.assembly.specs.declared.faults.Fault.{Fault}
+use Rattle.assembly.specs.declared.faults.Fault.TheVariants.{Broken, Memory}
+
+-- a fault of a code of which this holds; of a want of memory nothing is said
+abbrev pub IsFault : (ℕ → Type 0) → Fault → Type 0
+IsFault Why (Broken code) = Why code
+IsFault Why Memory = ⊤
+
+-- where the reader of methods refuses a payload so, it is this fault
+abbrev pub RefusesMethod : List ℕ → methods_refusal.Refusal → Fault → Type 0
+RefusesMethod payload refusal fault = methods.Refuses payload refusal → IsFault (λ code. SaysMethod payload (Err code)) fault
+
+-- where the reader of headers refuses a payload so, it is this fault
+abbrev pub RefusesHeader : List ℕ → headers_refusal.Refusal → Fault → Type 0
+RefusesHeader payload refusal fault = headers.Refuses payload refusal → IsFault (λ code. SaysHeader payload (Err code)) fault

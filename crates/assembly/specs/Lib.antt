@@ -1,0 +1,6 @@
+pub mod Faults
+pub mod Pending
+pub mod Taking
+pub mod Held
+pub mod Onward
+pub mod Laws

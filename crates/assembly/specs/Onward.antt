@@ -1,0 +1,40 @@
+-- What a stream's calls tell.
+use Rattle.std.specs.Prelude.{◌≡◌, ◌+◌, ◌<◌, ◌≤◌, ℕ, length, Option, Some, None, Result, Ok, Err}
+use Rattle.model.specs.Commands.{Stream, Pending, Goes_on, Makes, Takes, Yields, Ends, GoesOn, IsCommand}
+use Rattle.model.specs.declared.events.Command.{Command}
+use Rattle.assembly.specs.declared.faults.Fault.{Fault}
+use Rattle.assembly.specs.declared.faults.Fault.TheVariants.{Broken, Memory}
+use Rattle.assembly.specs.declared.reading.Step.{Step}
+use Rattle.assembly.specs.declared.reading.Step.TheVariants.{Ended, On, Made}
+use Rattle.assembly.specs.Faults.{IsFault}
+
+-- a frame that was taken ends this command, or none
+abbrev pub step : Option Command → Step
+step None = On
+step (Some c) = Made c
+
+-- one frame was read, or none stands there
+abbrev pub Steps : Stream → Result Step Fault → Stream → Type 0
+Steps old (Ok Ended) new = Ends old None × (new ≡ old)
+Steps old (Ok On) new = (p : Pending) × Takes old (Goes_on p) new × (length new.unread < length old.unread)
+Steps old (Ok (Made c)) new = Takes old (Makes c) new × IsCommand c × (length new.unread + 8 ≤ length old.unread)
+Steps old (Err e) new = IsFault (λ code. Ends old (Some code)) e × (new ≡ old)
+
+-- no command comes: the stream ends so, then and now, and the same is still to come
+pub record Stops (old : Stream) (end : Option ℕ) (new : Stream) : Type 0 where
+  pub same : GoesOn old new
+  pub ends : Ends old end
+  pub still : Ends new end
+
+-- this command was the next, and at least a frame was read
+pub record Gives (old : Stream) (c : Command) (new : Stream) : Type 0 where
+  pub next : Yields old c new
+  pub command : IsCommand c
+  pub shorter : length new.unread + 8 ≤ length old.unread
+
+-- the answer is right for this stream, and so is what is left
+abbrev pub Answers : Stream → Result (Option Command) Fault → Stream → Type 0
+Answers old (Ok (Some c)) new = Gives old c new
+Answers old (Ok None) new = Stops old None new
+Answers old (Err (Broken code)) new = Stops old (Some code) new
+Answers old (Err Memory) new = GoesOn old new

@@ -1,0 +1,29 @@
+-- What taking one frame does.
+use Rattle.std.specs.Prelude.{◌≡◌, ℕ, List, Option, Some, None, Result, Ok, Err}
+use Rattle.model.specs.Broker.{with_one}
+use Rattle.model.specs.Frames
+use Rattle.model.specs.Commands
+use Rattle.model.specs.Commands.{Taken, Goes_on, Makes, Breaks, IsCommand}
+use Rattle.model.specs.declared.events.Command.{Command}
+use Rattle.model.specs.declared.methods.Publish.{Publish}
+use Rattle.model.specs.declared.methods.Method.{Method}
+use Rattle.model.specs.declared.methods.Method.TheVariants.{BasicPublish}
+use Rattle.assembly.specs.declared.faults.Fault.{Fault}
+use Rattle.assembly.specs.Faults.{IsFault}
+
+-- A frame with such effects was taken, on a channel that awaited `old` and awaits `new` now. A fault changes nothing, and want of memory neither.
+abbrev pub Does : (Taken → Type 0) → Commands.Pending → Result (Option Command) Fault → Commands.Pending → Type 0
+Does Effect old (Ok None) new = Effect (Goes_on new)
+Does Effect old (Ok (Some c)) new = Effect (Makes c) × IsCommand c × (new ≡ Commands.Nothing)
+Does Effect old (Err e) new = IsFault (λ code. Effect (Breaks code)) e × (new ≡ old)
+
+-- the same, by what all channels await
+abbrev pub DoesAt : (Taken → Type 0) → ℕ → (ℕ → Commands.Pending) → Result (Option Command) Fault → (ℕ → Commands.Pending) → Type 0
+DoesAt Effect channel old (Ok None) new = (p : Commands.Pending) × Effect (Goes_on p) × (new ≡ with_one old channel p)
+DoesAt Effect channel old (Ok (Some c)) new = Effect (Makes c) × IsCommand c × (new ≡ with_one old channel Commands.Nothing)
+DoesAt Effect channel old (Err e) new = IsFault (λ code. Effect (Breaks code)) e × (new ≡ old)
+
+-- a publish's arguments, or the method where it is another
+abbrev pub split : Method → Result Publish Method
+split (BasicPublish publish) = Ok publish
+split method = Err method

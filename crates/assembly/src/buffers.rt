@@ -1,0 +1,69 @@
+//! Bytes that are put in at the back and taken from the front.
+
+ghost use Rattle.std.specs.Prelude.{◌≡◌, ◌≤◌, [], ◌++◌, length, drop, OnOk, OnErr, vec_len};
+
+use std::alloc::{AllocError, Global};
+use std::marker::Model;
+
+/// Bytes that wait to be read. What was taken lies in front of `start` for a while.
+#[derive(Drop)]
+pub(crate) struct Unread {
+    bytes: Vec<u8>,
+    start: usize,
+}
+
+impl Model for Unread {
+    ghost use Rattle.std.specs.Prelude.{◌≤◌, List, ℕ, drop, vec_len};
+
+    ghost Value = { List ℕ };
+
+    ghost view = { λ u. drop u.start u.bytes.items };
+
+    ghost invariant = { λ u. u.start ≤ vec_len u.bytes };
+}
+
+impl Unread {
+    pub(crate) fn new(alloc: Global) -> Unread
+        ensures { result ≡ [] }
+    {
+        Unread {
+            bytes: Vec::new(alloc),
+            start: 0,
+        }
+    }
+
+    /// All that waits.
+    pub(crate) fn bytes(&self) -> &[u8]
+        ensures { result.now ≡ self.now }
+    {
+        &self.bytes[self.start..]
+    }
+
+    /// Puts bytes in, in constant time for each, all in all.
+    pub(crate) fn put(&mut self, more: &[u8]) -> Result<(), AllocError>
+        ensures ok { OnOk result (self.new ≡ self.old ++ more.now) }
+        ensures err { OnErr result (self.new ≡ self.old) }
+    {
+        self.bytes.extend_from_slice(more)
+    }
+
+    /// Takes `n` bytes. What is left moves to the front once it is no more than what was taken since it last moved.
+    pub(crate) fn take(&mut self, n: usize)
+        requires { n ≤ length self.old }
+        ensures { self.new ≡ drop n self.old }
+    {
+        self.start += n;
+        if self.bytes.len() - self.start <= self.start {
+            let start = self.start;
+            self.start = 0;
+            drop_front(&mut self.bytes, start);
+        }
+    }
+}
+
+fn drop_front(bytes: &mut Vec<u8>, n: usize)
+    requires { n ≤ vec_len bytes.old }
+    ensures { bytes.new.items ≡ drop n bytes.old.items }
+{
+    bytes.drain(..n);
+}

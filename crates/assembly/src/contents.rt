@@ -1,0 +1,24 @@
+//! What a channel has begun and not completed.
+
+use crate::bodies::Body;
+use model::{Properties, Publish};
+
+/// A publish whose body comes in: `size` bytes are declared, and `body` has those that came.
+#[derive(Drop)]
+pub(crate) struct Gathering {
+    pub(crate) publish: Publish,
+    pub(crate) properties: Properties,
+    pub(crate) size: u64,
+    pub(crate) body: Body,
+}
+
+/// What a channel awaits.
+#[derive(Drop)]
+pub(crate) enum Pending {
+    /// A method.
+    Nothing,
+    /// The header of this publish.
+    WantsHeader(Publish),
+    /// A piece of this body.
+    WantsBody(Gathering),
+}

@@ -1,0 +1,51 @@
+//! Why a stream gives no command.
+
+ghost use Rattle.std.specs.Prelude.{◌≡◌, ℕ, List};
+ghost use Rattle.assembly.specs.Faults.{IsFault, RefusesMethod, RefusesHeader};
+
+use std::alloc::AllocError;
+
+/// Why a stream gives no command.
+#[derive(Clone, Copy, PartialEq, Eq, Debug, Drop)]
+pub enum Fault {
+    /// The bytes break the wire's rules, by this reply code.
+    Broken(u16),
+    /// Memory was refused. Nothing is lost: the call may be made again.
+    Memory,
+}
+
+impl From<AllocError> for Fault {
+    ghost use Rattle.std.specs.Prelude.{◌≡◌};
+    ghost use Rattle.assembly.specs.declared.faults.Fault.TheVariants.{Memory};
+
+    ghost from_gives = { λ _ e. e ≡ Memory };
+
+    fn from(_e: AllocError) -> Fault {
+        Fault::Memory
+    }
+}
+
+/// A method's refusal, by its reply code.
+pub(crate) fn of_method(refusal: methods::Refusal) -> Fault
+    ensures { (payload : List ℕ) → RefusesMethod payload refusal result }
+{
+    match refusal {
+        methods::Refusal::FrameError => Fault::Broken(501),
+        methods::Refusal::SyntaxError => Fault::Broken(502),
+        methods::Refusal::CommandInvalid => Fault::Broken(503),
+        methods::Refusal::NotImplemented => Fault::Broken(540),
+        methods::Refusal::Memory => Fault::Memory,
+    }
+}
+
+/// A header's refusal, by its reply code.
+pub(crate) fn of_header(refusal: headers::Refusal) -> Fault
+    ensures { (payload : List ℕ) → RefusesHeader payload refusal result }
+{
+    match refusal {
+        headers::Refusal::FrameError => Fault::Broken(501),
+        headers::Refusal::SyntaxError => Fault::Broken(502),
+        headers::Refusal::NotImplemented => Fault::Broken(540),
+        headers::Refusal::Memory => Fault::Memory,
+    }
+}

@@ -1,0 +1,85 @@
+//! What a whole frame does.
+
+ghost use Rattle.std.specs.Prelude.{◌≡◌, ◌<◌, ◌≤◌, ℕ, ◌==◌, IsTrue, MatchBool, vec_len, OnOk};
+ghost use Rattle.model.specs.Commands;
+ghost use Rattle.model.specs.Commands.{Breaks, TakesPayload, TakesOn, awaited, taken_heartbeat};
+ghost use Rattle.model.specs.Commands.{is_on_wrong_channel as is_wrong};
+ghost use Rattle.frame.specs.Reading.{seen};
+ghost use Rattle.assembly.specs.Pending.{pending_at, content_at, AreSpelled};
+ghost use Rattle.assembly.specs.Taking.{DoesAt};
+
+use crate::contents::Pending;
+use crate::faults::Fault;
+use crate::taking::take_awaited;
+use frame::Frame;
+use model::Command;
+use std::alloc::{AllocError, Global};
+use std::mem;
+
+/// Takes a whole frame: the command that it ends, or none where its channel goes on.
+pub(crate) fn take_frame(
+    alloc: Global,
+    contents: &mut Vec<Pending>,
+    frame: &Frame<'_>,
+) -> Result<Option<Command>, Fault>
+    requires { AreSpelled contents.old.items }
+    ensures spelled { AreSpelled contents.new.items }
+    ensures does { DoesAt (TakesOn (pending_at contents.old.items frame.now.channel) (seen frame.now)) frame.now.channel (pending_at contents.old.items) result (pending_at contents.new.items) }
+{
+    if frame.kind == 8 {
+        return take_heartbeat(frame);
+    }
+    if is_on_wrong_channel(frame) {
+        return Err(Fault::Broken(504));
+    }
+    let channel = usize::from(frame.channel);
+    reach(contents, channel)?;
+    take_on_channel(alloc, contents, channel, frame)
+}
+
+/// A heartbeat is empty and on channel 0, and does nothing.
+fn take_heartbeat(frame: &Frame<'_>) -> Result<Option<Command>, Fault>
+    ensures { (old : ℕ → Commands.Pending) → DoesAt (λ t. t ≡ taken_heartbeat (old frame.now.channel) (seen frame.now)) frame.now.channel old result old }
+{
+    if frame.channel == 0 && frame.payload.is_empty() {
+        Ok(None)
+    } else {
+        Err(Fault::Broken(501))
+    }
+}
+
+/// A channel above 255, or a header or body on channel 0.
+fn is_on_wrong_channel(frame: &Frame<'_>) -> bool
+    ensures { result ≡ is_wrong (seen frame.now) }
+{
+    frame.channel > 255 || (frame.channel == 0 && frame.kind != 1)
+}
+
+/// Makes room for what this channel begins. Each channel awaits what it did.
+fn reach(contents: &mut Vec<Pending>, channel: usize) -> Result<(), AllocError>
+    ensures reached { OnOk result (channel < vec_len contents.new) }
+    ensures same { content_at contents.new.items ≡ content_at contents.old.items }
+{
+    'channels: while contents.len() <= channel {
+        contents.push(Pending::Nothing)?;
+    }
+    Ok(())
+}
+
+/// Takes a frame that is no heartbeat, on a channel that may have it.
+fn take_on_channel(
+    alloc: Global,
+    contents: &mut Vec<Pending>,
+    channel: usize,
+    frame: &Frame<'_>,
+) -> Result<Option<Command>, Fault>
+    requires reached { channel < vec_len contents.old }
+    requires spelled { AreSpelled contents.old.items }
+    ensures spelled { AreSpelled contents.new.items }
+    ensures does { DoesAt (λ t. MatchBool (frame.now.kind == awaited (pending_at contents.old.items channel)) (TakesPayload (pending_at contents.old.items channel) (seen frame.now) t) (t ≡ Breaks 505)) channel (pending_at contents.old.items) result (pending_at contents.new.items) }
+{
+    let was = mem::replace(&mut contents[channel], Pending::Nothing);
+    let (now, answer) = take_awaited(alloc, was, frame);
+    contents[channel] = now;
+    answer
+}

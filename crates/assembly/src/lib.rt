@@ -1,0 +1,22 @@
+//! The commands of one connection, put together from the bytes that it sends.
+//!
+//! A [`Stream`] is fed bytes in any pieces. It reads frames at their front, gathers the content of a publish for each
+//! channel by itself, and gives one whole command at a time: a method, or a publish with all of its content.
+//! Source: AMQP 0-9-1, section 4.2.6, "Content Framing", and section 2.3.5, "Frame Details".
+#![tactic(auto)]
+
+mod bodies;
+mod buffers;
+mod contents;
+mod faults;
+mod frames;
+mod laws;
+mod reading;
+mod streams;
+mod taking;
+#[cfg(test)]
+mod tests;
+
+pub use faults::Fault;
+pub use laws::{commands_stay, faults_stay, going_on_stays, one_next};
+pub use streams::Stream;

@@ -1,0 +1,84 @@
+//! Commands are read.
+
+ghost use Rattle.std.specs.Prelude.{◌≡◌, ◌≤◌};
+ghost use Rattle.assembly.specs.Pending.{AreSpelled};
+ghost use Rattle.assembly.specs.Held.{stream};
+ghost use Rattle.assembly.specs.Onward.{Steps, Answers, step};
+
+use crate::buffers::Unread;
+use crate::contents::Pending;
+use crate::faults::Fault;
+use crate::frames::take_frame;
+use frame::{Read, read_frame};
+use model::Command;
+use std::alloc::Global;
+
+/// What stood at the front of the bytes.
+#[derive(Drop)]
+pub(crate) enum Step {
+    /// No whole frame.
+    Ended,
+    /// A frame that ends no command.
+    On,
+    /// The last frame of this command.
+    Made(Command),
+}
+
+/// Takes one frame. Where it is a fault, or memory is refused, it stays.
+fn read_one(
+    alloc: Global,
+    max: u32,
+    contents: &mut Vec<Pending>,
+    unread: &mut Unread,
+) -> Result<Step, Fault>
+    requires max { 4096 ≤ max }
+    requires spelled { AreSpelled contents.old.items }
+    ensures spelled { AreSpelled contents.new.items }
+    ensures steps { Steps (stream max contents.old.items unread.old) result (stream max contents.new.items unread.new) }
+{
+    match read_frame(unread.bytes(), max) {
+        Read::More => Ok(Step::Ended),
+        Read::Fault(code) => Err(Fault::Broken(code)),
+        Read::Whole(frame, size) => match take_frame(alloc, contents, &frame) {
+            Ok(made) => {
+                unread.take(size);
+                Ok(step_of(made))
+            }
+            Err(fault) => Err(fault),
+        },
+    }
+}
+
+/// What a frame that was taken ends.
+fn step_of(made: Option<Command>) -> Step
+    ensures { result ≡ step made }
+{
+    match made {
+        Some(command) => Step::Made(command),
+        None => Step::On,
+    }
+}
+
+/// Takes frames up to the end of a command.
+pub(crate) fn next_command(
+    alloc: Global,
+    max: u32,
+    contents: &mut Vec<Pending>,
+    unread: &mut Unread,
+) -> Result<Option<Command>, Fault>
+    requires max { 4096 ≤ max }
+    requires spelled { AreSpelled contents.old.items }
+    ensures spelled { AreSpelled contents.new.items }
+    ensures answers { Answers (stream max contents.old.items unread.old) result (stream max contents.new.items unread.new) }
+{
+    'frames: loop {
+        match read_one(alloc, max, contents, unread) {
+            Ok(step) => match step {
+                Step::Ended => return Ok(None),
+                Step::On => {}
+                Step::Made(command) => return Ok(Some(command)),
+            },
+            Err(fault) => return Err(fault),
+        }
+    }
+}

@@ -1,0 +1,177 @@
+//! What one frame does to the channel that awaits it.
+
+ghost use Rattle.std.specs.Prelude.{◌≡◌, ◌+◌, ◌==◌, ◌++◌, length, MatchBool, Ok};
+ghost use Rattle.model.specs.Commands;
+ghost use Rattle.model.specs.Commands.{Breaks, TakesPayload, awaited, taken_body, taken_method};
+ghost use Rattle.model.specs.Grammar.{IsMethod};
+ghost use Rattle.model.specs.declared.methods.Method.TheVariants.{BasicPublish};
+ghost use Rattle.frame.specs.Reading.{seen};
+ghost use Rattle.assembly.specs.Pending.{pending_of, IsSpelled};
+ghost use Rattle.assembly.specs.declared.contents.Pending.TheVariants.{WantsBody};
+ghost use Rattle.assembly.specs.Taking.{Does, split};
+
+use crate::bodies::Body;
+use crate::contents::{Gathering, Pending};
+use crate::faults::{Fault, of_header, of_method};
+use frame::Frame;
+use headers::read_header;
+use methods::read_method;
+use model::{Command, Content, Method, Publish, Text};
+use std::alloc::Global;
+
+/// What a frame did: what its channel awaits now, and the command that it ended, if it ended one.
+pub(crate) type Taking = (Pending, Result<Option<Command>, Fault>);
+
+/// Takes a frame that is no heartbeat, on a channel that may have it: one of a type that is not awaited is out of place.
+pub(crate) fn take_awaited(alloc: Global, was: Pending, frame: &Frame<'_>) -> Taking
+    requires { IsSpelled was }
+    ensures spelled { IsSpelled result.0 }
+    ensures does { Does (λ t. MatchBool (frame.now.kind == awaited (pending_of was)) (TakesPayload (pending_of was) (seen frame.now) t) (t ≡ Breaks 505)) (pending_of was) result.1 (pending_of result.0) }
+{
+    if frame.kind != awaited_kind(&was) {
+        return (was, Err(Fault::Broken(505)));
+    }
+    match was {
+        Pending::Nothing => take_method(alloc, frame),
+        Pending::WantsHeader(publish) => take_header(alloc, publish, frame),
+        Pending::WantsBody(gathering) => take_body(gathering, frame),
+    }
+}
+
+/// The type of frame that a channel awaits.
+fn awaited_kind(was: &Pending) -> u8
+    ensures { result ≡ awaited (pending_of was.now) }
+{
+    match was {
+        Pending::Nothing => 1,
+        Pending::WantsHeader(_) => 2,
+        Pending::WantsBody(_) => 3,
+    }
+}
+
+/// A method is a command, but a publish waits for its content.
+fn take_method(alloc: Global, frame: &Frame<'_>) -> Taking
+    ensures spelled { IsSpelled result.0 }
+    ensures does { Does (TakesPayload Commands.Nothing (seen frame.now)) Commands.Nothing result.1 (pending_of result.0) }
+{
+    match read_method(alloc, frame.payload) {
+        Ok(method) => begin(frame.channel, method),
+        Err(refusal) => (Pending::Nothing, Err(of_method(refusal))),
+    }
+}
+
+/// A method that was read is a command, but a publish waits for its content.
+fn begin(channel: u16, method: Method) -> Taking
+    requires { IsMethod method }
+    ensures spelled { IsSpelled result.0 }
+    ensures does { Does (λ t. t ≡ taken_method channel (Ok method)) Commands.Nothing result.1 (pending_of result.0) }
+{
+    match publish_of(method) {
+        Ok(publish) => (Pending::WantsHeader(publish), Ok(None)),
+        Err(method) => (
+            Pending::Nothing,
+            Ok(Some(Command::Plain { channel, method })),
+        ),
+    }
+}
+
+/// The method's arguments where it is a publish, or else the method.
+fn publish_of(method: Method) -> Result<Publish, Method>
+    ensures { result ≡ split method }
+{
+    match method {
+        Method::BasicPublish(publish) => Ok(publish),
+        method => Err(method),
+    }
+}
+
+/// A header declares the body of the publish before it. A body of no bytes is whole.
+fn take_header(alloc: Global, publish: Publish, frame: &Frame<'_>) -> Taking
+    requires { IsMethod (BasicPublish publish) }
+    ensures spelled { IsSpelled result.0 }
+    ensures does { Does (TakesPayload (Commands.Wants_header publish) (seen frame.now)) (Commands.Wants_header publish) result.1 (pending_of result.0) }
+{
+    match read_header(alloc, frame.payload) {
+        Ok(header) => {
+            if header.size == 0 {
+                let content = Content {
+                    properties: header.properties,
+                    body: Text::empty(),
+                };
+                return (
+                    Pending::Nothing,
+                    Ok(Some(Command::Full {
+                        channel: frame.channel,
+                        publish,
+                        content,
+                    })),
+                );
+            }
+            let gathering = Gathering {
+                publish,
+                properties: header.properties,
+                size: header.size,
+                body: Body::new(alloc),
+            };
+            (Pending::WantsBody(gathering), Ok(None))
+        }
+        Err(refusal) => (Pending::WantsHeader(publish), Err(of_header(refusal))),
+    }
+}
+
+/// A piece of a body. Past the declared size it is a fault, and at it the publish is a command.
+fn take_body(gathering: Gathering, frame: &Frame<'_>) -> Taking
+    requires { IsMethod (BasicPublish gathering.publish) }
+    ensures spelled { IsSpelled result.0 }
+    ensures does { Does (λ t. t ≡ taken_body frame.now.channel gathering.publish gathering.properties gathering.size (gathering.body ++ frame.now.payload.now)) (pending_of (WantsBody gathering)) result.1 (pending_of result.0) }
+{
+    let length = gathering.body.len() as u64 + frame.payload.len() as u64;
+    if gathering.size < length {
+        return (Pending::WantsBody(gathering), Err(Fault::Broken(501)));
+    }
+    if length == gathering.size {
+        return finish_body(gathering, frame);
+    }
+    let mut gathering = gathering;
+    match gathering.body.append(frame.payload) {
+        Ok(()) => (Pending::WantsBody(gathering), Ok(None)),
+        Err(_) => (Pending::WantsBody(gathering), Err(Fault::Memory)),
+    }
+}
+
+/// The last piece of a body.
+fn finish_body(gathering: Gathering, frame: &Frame<'_>) -> Taking
+    requires spelled { IsMethod (BasicPublish gathering.publish) }
+    requires last { length gathering.body + length frame.now.payload.now ≡ gathering.size }
+    ensures spelled { IsSpelled result.0 }
+    ensures does { Does (λ t. t ≡ taken_body frame.now.channel gathering.publish gathering.properties gathering.size (gathering.body ++ frame.now.payload.now)) (pending_of (WantsBody gathering)) result.1 (pending_of result.0) }
+{
+    let Gathering {
+        publish,
+        properties,
+        size,
+        body,
+    } = gathering;
+    match body.finish(frame.payload) {
+        Ok(body) => {
+            let content = Content { properties, body };
+            (
+                Pending::Nothing,
+                Ok(Some(Command::Full {
+                    channel: frame.channel,
+                    publish,
+                    content,
+                })),
+            )
+        }
+        Err(body) => {
+            let gathering = Gathering {
+                publish,
+                properties,
+                size,
+                body,
+            };
+            (Pending::WantsBody(gathering), Err(Fault::Memory))
+        }
+    }
+}

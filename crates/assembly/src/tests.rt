@@ -1,0 +1,74 @@
+//! Streams of bytes that were spelled by hand.
+
+use crate::{Fault, Stream};
+use model::{Command, Method};
+use std::test::Fail;
+
+// basic.publish on channel 1 to the exchange "x" with the key "k".
+const PUBLISH: [u8; 19] = [
+    1, 0, 1, 0, 0, 0, 11, 0, 60, 0, 40, 0, 0, 1, b'x', 1, b'k', 0, 0xCE,
+];
+// Its header, with a body of five bytes and no property.
+const HEADER: [u8; 22] = [
+    2, 0, 1, 0, 0, 0, 14, 0, 60, 0, 0, 0, 0, 0, 0, 0, 0, 0, 5, 0, 0, 0xCE,
+];
+// The body in two pieces.
+const FIRST: [u8; 10] = [3, 0, 1, 0, 0, 0, 2, b'h', b'e', 0xCE];
+
+const SECOND: [u8; 11] = [3, 0, 1, 0, 0, 0, 3, b'l', b'l', b'o', 0xCE];
+// confirm.select on channel 2.
+const SELECT: [u8; 13] = [1, 0, 2, 0, 0, 0, 5, 0, 85, 0, 10, 0, 0xCE];
+
+#[test]
+fn gives_a_publish_when_its_last_byte_came(rt: HostRuntime) -> Result<(), Fail> {
+    let mut stream = Stream::running(rt.alloc());
+    stream.feed(&PUBLISH)?;
+    stream.feed(&HEADER)?;
+    stream.feed(&SELECT)?;
+    stream.feed(&FIRST)?;
+    assert!(rt;
+        matches!(
+            stream.next(),
+            Ok(Some(Command::Plain {
+                channel: 2,
+                method: Method::ConfirmSelect { no_wait: false }
+            }))
+        )
+    );
+    for byte in &SECOND[..10] {
+        stream.feed(&[*byte])?;
+        assert!(rt; matches!(stream.next(), Ok(None)));
+    }
+    assert_eq!(rt; stream.unread(), 10);
+    stream.feed(&[0xCE])?;
+    match stream.next() {
+        Ok(
+            Some(
+                Command::Full {
+                    channel,
+                    publish,
+                    content,
+                },
+            ),
+        ) => {
+            assert_eq!(rt; channel, 1);
+            assert_eq!(rt; publish.exchange.as_bytes(), b"x".as_slice());
+            assert_eq!(rt; publish.routing_key.as_bytes(), b"k".as_slice());
+            assert_eq!(rt; content.body.as_bytes(), b"hello".as_slice());
+        }
+        _ => assert!(rt; false),
+    }
+    assert_eq!(rt; stream.unread(), 0);
+    Ok(())
+}
+
+#[test]
+fn answers_a_fault_again(rt: HostRuntime) -> Result<(), Fail> {
+    let mut stream = Stream::running(rt.alloc());
+    stream.feed(&PUBLISH)?;
+    stream.feed(&FIRST)?;
+    assert!(rt; matches!(stream.next(), Err(Fault::Broken(505))));
+    stream.feed(&SELECT)?;
+    assert!(rt; matches!(stream.next(), Err(Fault::Broken(505))));
+    Ok(())
+}

@@ -1,0 +1,91 @@
+//! Topologies whose guarantees hold.
+
+ghost use Rattle.std.specs.Prelude.{◌≡◌, length};
+ghost use Rattle.model.specs.Topology.{IsWellFormed};
+ghost use Rattle.model.specs.Guarantee.{AllHold};
+ghost use Rattle.certificate.specs.Admitted.{Admits};
+
+use crate::faults::CertFault;
+use crate::plain::all_plain;
+use exchange_graph::Topology;
+use guarantees::Guarantee;
+use std::alloc::Global;
+use std::marker::Model;
+
+/// A certificate of one guarantee. None is taken yet.
+#[derive(Drop)]
+pub struct Certificate {}
+
+/// A topology and guarantees that hold of it. Only `admit` makes one.
+#[derive(Drop)]
+pub struct Checked {
+    topology: Topology,
+    guarantees: Vec<Guarantee>,
+}
+
+impl Model for Checked {
+    ghost use Rattle.certificate.specs.Admitted.{Admitted};
+    ghost use Rattle.model.specs.Guarantee.{AllHold};
+
+    ghost Value = { Admitted };
+
+    ghost view = { λ c. record { topology = c.topology; guarantees = c.guarantees.items } };
+
+    ghost invariant = { λ c. AllHold c.topology c.guarantees.items };
+}
+
+/// The topology and the guarantees as they are handed in, where each guarantee holds.
+pub fn admit(
+    alloc: Global,
+    topology: Topology,
+    guarantees: Vec<Guarantee>,
+    certificates: &[Certificate],
+) -> Result<Checked, (usize, CertFault)>
+    ensures { Admits result topology guarantees.items (length certificates.now) }
+{
+    if !certificates.is_empty() {
+        return Err((0, CertFault::Form));
+    }
+    match all_plain(alloc, &topology, guarantees.as_slice()) {
+        Ok(_) => Ok(Checked {
+            topology,
+            guarantees,
+        }),
+        Err(fault) => Err(fault),
+    }
+}
+
+impl Checked {
+    /// What every `Checked` keeps.
+    pub fn holds(&self)
+        ensures guarantees { AllHold self.now.topology self.now.guarantees }
+        ensures topology { IsWellFormed self.now.topology }
+    {
+        self.topology.is_well_formed();
+    }
+
+    /// The topology.
+    pub fn topology(&self) -> &Topology
+        ensures { result.now ≡ self.now.topology }
+    {
+        &self.topology
+    }
+
+    /// The guarantees, all of them, in their order.
+    pub fn guarantees(&self) -> &[Guarantee]
+        ensures { result.now ≡ self.now.guarantees }
+    {
+        self.guarantees.as_slice()
+    }
+
+    /// Its parts, and what they keep.
+    pub fn into_parts(self) -> (Topology, Vec<Guarantee>)
+        ensures topology { result.0 ≡ self.topology }
+        ensures guarantees { result.1.items ≡ self.guarantees }
+        ensures hold { AllHold result.0 result.1.items }
+        ensures well_formed { IsWellFormed result.0 }
+    {
+        self.topology.is_well_formed();
+        (self.topology, self.guarantees)
+    }
+}

@@ -1,0 +1,83 @@
+//! An open channel: whether publishes on it are confirmed, and whether a close was sent on it.
+//!
+//! A channel is seen as the record that the model keeps of it. It has no consumers, gives no message out and limits
+//! nothing so far, so that those parts are as on a new channel.
+#![tactic(auto)]
+
+ghost use Rattle.std.specs.Prelude.{◌≡◌, ◌+◌, ◌^◌, ◌<◌, IfSome, true};
+ghost use Rattle.model.specs.Broker.{new_channel};
+ghost use Rattle.model.specs.Step.{started, next_of};
+
+use std::marker::Model;
+
+/// What is kept of an open channel. Source: AMQP 0-9-1, section 1.5, "channel"; RabbitMQ, "Publisher Confirms".
+#[derive(Drop)]
+pub struct Channel {
+    /// The last confirm number, where publishes are confirmed.
+    confirm: Option<u64>,
+    /// A close was sent, and close-ok is awaited.
+    is_closing: bool,
+}
+
+impl Model for Channel {
+    ghost use Rattle.model.specs.Broker.{Channel as Seen, new_channel};
+
+    ghost Value = { Seen };
+
+    ghost view = { λ c. record new_channel { confirm = c.confirm; is_closing = c.is_closing } };
+}
+
+impl Channel {
+    /// A channel with nothing on it: publishes are not confirmed.
+    pub fn new() -> Channel
+        ensures { result ≡ new_channel }
+    {
+        Channel {
+            confirm: None,
+            is_closing: false,
+        }
+    }
+
+    /// What is left of a channel once a close was sent on it: everything but a close and close-ok is ignored.
+    pub fn closing() -> Channel
+        ensures { result ≡ record new_channel { is_closing = true } }
+    {
+        Channel {
+            confirm: None,
+            is_closing: true,
+        }
+    }
+
+    /// Whether a close was sent and close-ok is awaited.
+    pub fn is_closing(&self) -> bool
+        ensures { result ≡ self.now.is_closing }
+    {
+        self.is_closing
+    }
+
+    /// The last confirm number, 0 before the first confirm; none where publishes are not confirmed.
+    pub fn confirm(&self) -> Option<u64>
+        ensures { result ≡ self.now.confirm }
+    {
+        self.confirm
+    }
+
+    /// Publishes are confirmed from now on, by numbers from 1. Where they already are, nothing changes.
+    pub fn select(&mut self)
+        ensures { self.new ≡ record self.old { confirm = started self.old.confirm } }
+    {
+        if self.confirm.is_none() {
+            self.confirm = Some(0);
+        }
+    }
+
+    /// One publish more: it takes the next confirm number, where publishes are confirmed.
+    pub fn count_publish(&mut self)
+        requires { IfSome self.old.confirm (λ n. n + 1 < 2 ^ 64) }
+        ensures { self.new ≡ record self.old { confirm = next_of self.old.confirm } }
+    {
+        if let Some(number) = self.confirm {
+            self.confirm = Some(number + 1);
+        }
+    }
+}

@@ -1,0 +1,269 @@
+-- What a publish does, by the names of the queues.
+use Rattle.std.proofs.Common.{◌≡◌, ℕ, zero, suc, ◌+◌, ◌<◌, ◌≤◌, List, [], ◌∷◌, ◌++◌, length, get_or, set, map, refl, sym, ap, subst, ◌∙◌, arith, Bool, true, false, cond, Option, Some, None, All, AllPairs, append_assoc, inl, inr}
+use Rattle.std.specs.List.{list_any}
+use Rattle.std.specs.Prelude.{◌&&◌, ◌||◌, not, nat_lt, option_map, position}
+use Rattle.std.specs.List.{position_or_len}
+use Rattle.std.proofs.lemmas.Grind.{common_steps}
+use Rattle.std.specs.Str.{bytes_eq}
+use Rattle.std.proofs.lemmas.Slice.Eq.{bytes_eq-Decides}
+use Rattle.std.proofs.lemmas.List.{append-nil, length-set}
+use Rattle.model.specs.Words.{Text}
+use Rattle.model.specs.Topology.{Topology, queue_names, IsIn, AreApart, IsWellFormed}
+use Rattle.model.specs.Broker.{listed, is_at, limit_of, queue_named, is_full}
+use Rattle.model.specs.Step.{message, entry_notes, comes_to, is_none}
+use Rattle.model.specs.declared.messages.Entry.{Entry}
+use Rattle.model.specs.declared.messages.Message.{Message}
+use Rattle.model.specs.declared.messages.Mark.TheVariants.{Ready}
+use Rattle.model.specs.declared.topologies.DeclaredQueue.{DeclaredQueue}
+use Rattle.model.specs.declared.contents.Content.{Content}
+use Rattle.model.specs.declared.methods.Publish.{Publish}
+use Rattle.model.specs.declared.notes.Note.{Note}
+use Rattle.model.specs.declared.notes.Note.TheVariants.{Published, Entered, Refused}
+use Rattle.model.specs.declared.notes.Way.TheVariants as way
+use Rattle.queue.specs.Line.{ready_count}
+use Rattle.exchange_graph.specs.Targets.{names_at}
+use Rattle.depot.specs.declared.turns.Turn.{Turn}
+use Rattle.depot.specs.declared.depots.Routed.{Routed}
+use Rattle.depot.specs.Store.{Store}
+use Rattle.depot.specs.Publishing.{Publishing}
+use Rattle.depot.specs.Turns.{turn_of, turn_at, limits, is_full_at, places, notes_of, is_refusal, no_turns, arriving, entered_one, entered, IsPlan, Enters}
+
+-- ---- names
+
+pub names-length : (qs : List DeclaredQueue) → length (queue_names qs) ≡ length qs
+names-length [] = refl
+names-length (q ∷ qs) = ap suc (names-length qs)
+
+is_in : (names : List Text) (i : ℕ) → i < length names → IsIn (get_or names i []) names
+is_in [] i lt = absurd (omega arith)
+is_in (n ∷ ns) zero lt = inl refl
+is_in (n ∷ ns) (suc i) lt = inr (is_in ns i (omega arith))
+
+same_name : (a : Text) → bytes_eq a a ≡ true
+same_name a = (bytes_eq-Decides a a).1 refl
+
+other_name : (a b : Text) → (a ≡ b → ⊥) → bytes_eq a b ≡ false
+other_name a b ne = go (bytes_eq a b) refl
+  where
+    go : (v : Bool) → bytes_eq a b ≡ v → v ≡ false
+    go true e = absurd (ne ((bytes_eq-Decides a b).0 e))
+    go false e = refl
+
+later_name : (n : Text) (ns : List Text) (i : ℕ) → AreApart (n ∷ ns) → i < length ns → bytes_eq n (get_or ns i []) ≡ false
+later_name n ns i apart lt = other_name n (get_or ns i []) (λ e. apart.0 (subst (λ (z : Text). IsIn z ns) (sym e) (is_in ns i lt)))
+
+pub listed_at : (names : List Text) (lists : List (List Entry)) (i : ℕ) → AreApart names → length names ≡ length lists → i < length names → listed names lists (get_or names i []) ≡ get_or lists i []
+listed_at [] lists i apart len lt = absurd (omega arith)
+listed_at (n ∷ ns) [] i apart len lt = absurd (omega arith)
+listed_at (n ∷ ns) (es ∷ ess) zero apart len lt = rw (same_name n) refl
+listed_at (n ∷ ns) (es ∷ ess) (suc i) apart len lt = rw (later_name n ns i apart (omega arith)) (listed_at ns ess i apart.1 (omega arith) (omega arith))
+
+limit_at : (qs : List DeclaredQueue) (i : ℕ) → AreApart (queue_names qs) → i < length qs → limit_of (queue_named qs (get_or (queue_names qs) i [])) ≡ get_or (limits qs) i None
+limit_at [] i apart lt = absurd (omega arith)
+limit_at (q ∷ qs) zero apart lt = rw (same_name q.name) refl
+limit_at (q ∷ qs) (suc i) apart lt = let long = names-length qs in rw (later_name q.name (queue_names qs) i apart (omega arith)) (limit_at qs i apart.1 (omega arith))
+
+full_at : (t : Topology) (lists : List (List Entry)) (i size : ℕ) → AreApart (queue_names t.queues) → length lists ≡ length t.queues → i < length t.queues
+    → is_full t (listed (queue_names t.queues) lists) (get_or (queue_names t.queues) i []) size ≡ is_full_at t.queues lists i
+full_at t lists i size apart len lt =
+    let names = queue_names t.queues in
+    let long = names-length t.queues in
+    ap (λ (o : Option ℕ). is_at o (ready_count (listed names lists (get_or names i [])))) (limit_at t.queues i apart lt)
+    ∙ ap (λ (es : List Entry). is_at (get_or (limits t.queues) i None) (ready_count es)) (listed_at names lists i apart (omega arith) (omega arith))
+
+-- ---- the queue of a name
+
+not_there : (qs : List DeclaredQueue) (name : Text) → length qs ≤ position_or_len (λ (q : DeclaredQueue). bytes_eq q.name name) qs → queue_named qs name ≡ None
+not_there [] name h = refl
+not_there (q ∷ qs) name h = go (bytes_eq q.name name) h (not_there qs name)
+  where
+    go : (b : Bool) → suc (length qs) ≤ cond (not b) (1 + position_or_len (λ (r : DeclaredQueue). bytes_eq r.name name) qs) 0
+        → (length qs ≤ position_or_len (λ (r : DeclaredQueue). bytes_eq r.name name) qs → queue_named qs name ≡ None) → cond b (Some q) (queue_named qs name) ≡ None
+    go true le rest = absurd (omega arith)
+    go false le rest = rest (omega arith)
+
+there : (qs : List DeclaredQueue) (lists : List (List Entry)) (name : Text) (i : ℕ) → position_or_len (λ (q : DeclaredQueue). bytes_eq q.name name) qs ≡ i → i < length qs → length lists ≡ length qs
+    → option_map (λ (q : DeclaredQueue). listed (queue_names qs) lists name) (queue_named qs name) ≡ Some (get_or lists i [])
+there [] lists name i is lt len = absurd (omega arith)
+there (q ∷ qs) [] name i is lt len = absurd (omega arith)
+there (q ∷ qs) (es ∷ ess) name i is lt len = go (bytes_eq q.name name) is (there qs ess name)
+  where
+    go : (b : Bool) → cond (not b) (1 + position_or_len (λ (r : DeclaredQueue). bytes_eq r.name name) qs) 0 ≡ i
+        → ((j : ℕ) → position_or_len (λ (r : DeclaredQueue). bytes_eq r.name name) qs ≡ j → j < length qs → length ess ≡ length qs → option_map (λ (r : DeclaredQueue). listed (queue_names qs) ess name) (queue_named qs name) ≡ Some (get_or ess j []))
+        → option_map (λ (r : DeclaredQueue). cond b es (listed (queue_names qs) ess name)) (cond b (Some q) (queue_named qs name)) ≡ Some (get_or (es ∷ ess) i [])
+    go true at rest = ap (λ (j : ℕ). Some (get_or (es ∷ ess) j [])) at
+    go false at rest =
+        let n = position_or_len (λ (r : DeclaredQueue). bytes_eq r.name name) qs in
+        let next : suc n ≡ i = omega arith in
+        rest n refl (omega arith) (omega arith) ∙ ap (λ (j : ℕ). Some (get_or (es ∷ ess) j [])) next
+
+counted : (qs : List DeclaredQueue) (o : Option DeclaredQueue) (es xs : List Entry) → option_map (λ (q : DeclaredQueue). es) o ≡ Some xs → option_map (λ (q : DeclaredQueue). ready_count es) o ≡ Some (ready_count xs)
+counted qs None es xs h = absurd (cc)
+counted qs (Some q) es xs h = ap (λ (x : Option (List Entry)). option_map ready_count x) h
+
+pub ready_none : (qs : List DeclaredQueue) (lists : List (List Entry)) (name : Text) (r : Option ℕ) → position (λ (q : DeclaredQueue). bytes_eq q.name name) qs ≡ r → r ≡ None
+    → option_map (λ (q : DeclaredQueue). ready_count (listed (queue_names qs) lists name)) (queue_named qs name) ≡ None
+ready_none qs lists name r at is =
+    let n = position_or_len (λ (q : DeclaredQueue). bytes_eq q.name name) qs in
+    let none : cond (nat_lt n (length qs)) (Some n) None ≡ None = at ∙ is in
+    let past : length qs ≤ n = grind (arith, common_steps) in
+    ap (option_map (λ (q : DeclaredQueue). ready_count (listed (queue_names qs) lists name))) (not_there qs name past)
+
+pub ready_some : (qs : List DeclaredQueue) (lists : List (List Entry)) (name : Text) (i : ℕ) → position (λ (q : DeclaredQueue). bytes_eq q.name name) qs ≡ Some i → length lists ≡ length qs
+    → option_map (λ (q : DeclaredQueue). ready_count (listed (queue_names qs) lists name)) (queue_named qs name) ≡ Some (ready_count (get_or lists i []))
+ready_some qs lists name i at len =
+    let n = position_or_len (λ (q : DeclaredQueue). bytes_eq q.name name) qs in
+    let some : cond (nat_lt n (length qs)) (Some n) None ≡ Some i = at in
+    let same : n ≡ i = grind (arith, common_steps) in
+    let within : i < length qs = grind (arith, common_steps) in
+    counted qs (queue_named qs name) (listed (queue_names qs) lists name) (get_or lists i []) (there qs lists name i same within len)
+
+-- ---- the queues
+
+-- what comes to the queue q by these turns
+abbrev pub arrivals : List Text → List Turn → Text → List Entry
+arrivals names [] q = []
+arrivals names (t ∷ ts) q = cond (bytes_eq (get_or names t.place []) q) (arriving t.message) [] ++ arrivals names ts q
+
+listed-set : (names : List Text) (lists : List (List Entry)) (i : ℕ) (x : List Entry) (q : Text) → AreApart names → length names ≡ length lists → i < length names
+    → listed names (set lists i (get_or lists i [] ++ x)) q ≡ listed names lists q ++ cond (bytes_eq (get_or names i []) q) x []
+listed-set [] lists i x q apart len lt = absurd (omega arith)
+listed-set (n ∷ ns) [] i x q apart len lt = absurd (omega arith)
+listed-set (n ∷ ns) (es ∷ ess) zero x q apart len lt = go (bytes_eq n q)
+  where
+    go : (b : Bool) → cond b (es ++ x) (listed ns ess q) ≡ cond b es (listed ns ess q) ++ cond b x []
+    go true = refl
+    go false = sym (append-nil (listed ns ess q))
+listed-set (n ∷ ns) (es ∷ ess) (suc i) x q apart len lt = go (bytes_eq n q) refl (listed-set ns ess i x q apart.1 (omega arith) (omega arith))
+  where
+    go : (b : Bool) → bytes_eq n q ≡ b → listed ns (set ess i (get_or ess i [] ++ x)) q ≡ listed ns ess q ++ cond (bytes_eq (get_or ns i []) q) x []
+        → cond b es (listed ns (set ess i (get_or ess i [] ++ x)) q) ≡ cond b es (listed ns ess q) ++ cond (bytes_eq (get_or ns i []) q) x []
+    go true is ih =
+        let same : n ≡ q = (bytes_eq-Decides n q).0 is in
+        let other : bytes_eq (get_or ns i []) q ≡ false
+        = other_name (get_or ns i []) q (λ e. apart.0 (subst (λ (z : Text). IsIn z ns) (e ∙ sym same) (is_in ns i (omega arith)))) in
+        sym (ap (λ (b : Bool). es ++ cond b x []) other ∙ append-nil es)
+    go false is ih = ih
+
+listed-entered : (names : List Text) (ts : List Turn) (lists : List (List Entry)) (q : Text) → AreApart names → length names ≡ length lists → All (λ (i : ℕ). i < length names) (places ts)
+    → listed names (entered ts lists) q ≡ listed names lists q ++ arrivals names ts q
+listed-entered names [] lists q apart len within = sym (append-nil (listed names lists q))
+listed-entered names (t ∷ ts) lists q apart len within =
+    let kept = length-set lists t.place (get_or lists t.place [] ++ arriving t.message) in
+    listed-entered names ts (entered_one t lists) q apart (omega arith) (λ i d lt. within (suc i) d (omega arith))
+    ∙ ap (λ (es : List Entry). es ++ arrivals names ts q) (listed-set names lists t.place (arriving t.message) q apart len (within 0 0 (omega arith)))
+    ∙ append_assoc (listed names lists q) (cond (bytes_eq (get_or names t.place []) q) (arriving t.message) []) (arrivals names ts q)
+
+-- ---- the turns of a message, and what its publish does
+
+one_arrives : (name : Text) (m : Message) (i : ℕ) (b f : Bool) (xs ys : List Entry) → xs ≡ ys
+    → cond b (arriving (turn_of name f m i).message) [] ++ xs ≡ cond (b && not f) (record { message = m; mark = Ready } ∷ ys) ys
+one_arrives name m i true true xs ys h = h
+one_arrives name m i true false xs ys h = ap (λ (zs : List Entry). record { message = m; mark = Ready } ∷ zs) h
+one_arrives name m i false true xs ys h = h
+one_arrives name m i false false xs ys h = h
+
+place_of_turn : (name : Text) (m : Message) (i : ℕ) (f : Bool) → (turn_of name f m i).place ≡ i
+place_of_turn name m i true = refl
+place_of_turn name m i false = refl
+
+note_of_turn : (name : Text) (m : Message) (i : ℕ) (f : Bool) → (turn_of name f m i).note ≡ cond f (Refused m.number name) (Entered m.number name way.Publish)
+note_of_turn name m i true = refl
+note_of_turn name m i false = refl
+
+refusal_of_turn : (name : Text) (m : Message) (i : ℕ) (f : Bool) → is_refusal (turn_of name f m i) ≡ f
+refusal_of_turn name m i true = refl
+refusal_of_turn name m i false = refl
+
+-- the places of the turns are the targets
+pub places_of_turns : (qs : List DeclaredQueue) (lists : List (List Entry)) (m : Message) (targets : List ℕ) → places (map (turn_at qs lists m) targets) ≡ targets
+places_of_turns qs lists m [] = refl
+places_of_turns qs lists m (i ∷ is) =
+    ap (λ (j : ℕ). j ∷ places (map (turn_at qs lists m) is)) (place_of_turn (get_or (queue_names qs) i []) m i (is_full_at qs lists i))
+    ∙ ap (λ (js : List ℕ). i ∷ js) (places_of_turns qs lists m is)
+
+plan_places : (t : Topology) (lists : List (List Entry)) (p : Publish) (m : Message) (turns : List Turn) (plan : IsPlan t lists p m turns) → places turns ≡ plan.targets
+plan_places t lists p m turns plan = ap places plan.turned ∙ places_of_turns t.queues lists m plan.targets
+
+pub plan_within : (t : Topology) (lists : List (List Entry)) (p : Publish) (m : Message) (turns ts : List Turn) (n : ℕ) → IsPlan t lists p m turns → ts ≡ turns → n ≡ length t.queues → All (λ (i : ℕ). i < n) (places ts)
+plan_within t lists p m turns ts n plan same len =
+    subst (λ (is : List ℕ). All (λ (i : ℕ). i < n) is) (sym (ap places same ∙ plan_places t lists p m turns plan)) (subst (λ (k : ℕ). All (λ (i : ℕ). i < k) plan.targets) (sym len) plan.routed.within)
+
+pub plan_rising : (t : Topology) (lists : List (List Entry)) (p : Publish) (m : Message) (turns : List Turn) → IsPlan t lists p m turns → AllPairs (λ (i j : ℕ). i < j) (places turns)
+plan_rising t lists p m turns plan = subst (AllPairs (λ (i j : ℕ). i < j)) (sym (plan_places t lists p m turns plan)) plan.routed.rising
+
+arrive : (t : Topology) (lists : List (List Entry)) (m : Message) (q : Text) (targets : List ℕ) → AreApart (queue_names t.queues) → length lists ≡ length t.queues → All (λ (i : ℕ). i < length t.queues) targets
+    → arrivals (queue_names t.queues) (map (turn_at t.queues lists m) targets) q ≡ comes_to t (listed (queue_names t.queues) lists) m q (names_at (queue_names t.queues) targets)
+arrive t lists m q [] apart len within = refl
+arrive t lists m q (i ∷ is) apart len within =
+    let names = queue_names t.queues in
+    let name = get_or names i [] in
+    let full = is_full_at t.queues lists i in
+    let later = comes_to t (listed names lists) m q (names_at names is) in
+    ap (λ (j : ℕ). cond (bytes_eq (get_or names j []) q) (arriving (turn_of name full m i).message) [] ++ arrivals names (map (turn_at t.queues lists m) is) q) (place_of_turn name m i full)
+    ∙ one_arrives name m i (bytes_eq name q) full _ later (arrive t lists m q is apart len (λ k d lt. within (suc k) d (omega arith)))
+    ∙ ap (λ (f : Bool). cond (bytes_eq name q && not f) (record { message = m; mark = Ready } ∷ later) later) (sym (full_at t lists i (length m.content.body) apart len (within 0 0 (omega arith))))
+
+note : (t : Topology) (lists : List (List Entry)) (m : Message) (size : ℕ) (targets : List ℕ) → AreApart (queue_names t.queues) → length lists ≡ length t.queues → All (λ (i : ℕ). i < length t.queues) targets
+    → notes_of (map (turn_at t.queues lists m) targets) ≡ entry_notes t (listed (queue_names t.queues) lists) size m.number way.Publish (names_at (queue_names t.queues) targets)
+note t lists m size [] apart len within = refl
+note t lists m size (i ∷ is) apart len within =
+    let names = queue_names t.queues in
+    let name = get_or names i [] in
+    let full = is_full_at t.queues lists i in
+    let later = entry_notes t (listed names lists) size m.number way.Publish (names_at names is) in
+    ap (λ (ns : List Note). (turn_of name full m i).note ∷ ns) (note t lists m size is apart len (λ k d lt. within (suc k) d (omega arith)))
+    ∙ ap (λ (n : Note). n ∷ later) (note_of_turn name m i full)
+    ∙ ap (λ (f : Bool). cond f (Refused m.number name) (Entered m.number name way.Publish) ∷ later) (sym (full_at t lists i size apart len (within 0 0 (omega arith))))
+
+refuse : (t : Topology) (lists : List (List Entry)) (m : Message) (size : ℕ) (targets : List ℕ) → AreApart (queue_names t.queues) → length lists ≡ length t.queues → All (λ (i : ℕ). i < length t.queues) targets
+    → list_any is_refusal (map (turn_at t.queues lists m) targets) ≡ list_any (λ (q : Text). is_full t (listed (queue_names t.queues) lists) q size) (names_at (queue_names t.queues) targets)
+refuse t lists m size [] apart len within = refl
+refuse t lists m size (i ∷ is) apart len within =
+    let names = queue_names t.queues in
+    let name = get_or names i [] in
+    let full = is_full_at t.queues lists i in
+    let later = list_any (λ (q : Text). is_full t (listed names lists) q size) (names_at names is) in
+    ap (λ (b : Bool). is_refusal (turn_of name full m i) || b) (refuse t lists m size is apart len (λ k d lt. within (suc k) d (omega arith)))
+    ∙ ap (λ (b : Bool). b || later) (refusal_of_turn name m i full ∙ sym (full_at t lists i size apart len (within 0 0 (omega arith))))
+
+nothing : (t : Topology) (lists : List (List Entry)) (m : Message) (targets : List ℕ) → no_turns (map (turn_at t.queues lists m) targets) ≡ is_none (names_at (queue_names t.queues) targets)
+nothing t lists m [] = refl
+nothing t lists m (i ∷ is) = refl
+
+-- what was done by places is the publish
+pub published : (old new : Store) (c h : ℕ) (p : Publish) (content : Content) (confirm : Option ℕ) (before after : List Note) (routed : Routed)
+    → IsWellFormed old.topology → length old.queues ≡ length old.topology.queues → new.published ≡ old.published + 1 → new.topology ≡ old.topology
+    → Enters old.topology old.queues new.queues p (message (old.published + 1) p content) (Published (old.published + 1) c h p.exchange p.routing_key confirm) before after routed
+    → Publishing old c h p content confirm before after routed new
+published old new c h p content confirm before after routed formed len counted same e =
+    let t = old.topology in
+    let lists = old.queues in
+    let names = queue_names t.queues in
+    let m = message (old.published + 1) p content in
+    let size = length content.body in
+    let apart = formed.queues_apart in
+    let targets = e.plan.targets in
+    let within = e.plan.routed.within in
+    let turned = e.plan.turned in
+    let long = names-length t.queues in
+    let places_within : All (λ (i : ℕ). i < length names) (places e.turns)
+    = plan_within t lists p m e.turns e.turns (length names) e.plan refl long in
+    record {
+      noted = Published (old.published + 1) c h p.exchange p.routing_key confirm ∷ notes_of e.turns;
+      appended = e.notes;
+      publishes = record {
+        targets = names_at names targets;
+        picked = e.plan.routed.picked;
+        notes = ap (λ (ns : List Note). Published (old.published + 1) c h p.exchange p.routing_key confirm ∷ ns) (ap notes_of turned ∙ note t lists m size targets apart len within);
+        none = e.none ∙ ap no_turns turned ∙ nothing t lists m targets;
+        full = e.full ∙ ap (list_any is_refusal) turned ∙ refuse t lists m size targets apart len within;
+        counted = counted;
+        topology = same;
+        queues = λ q.
+            ap (λ (u : Topology). listed (queue_names u.queues) new.queues q) same
+            ∙ ap (λ (ess : List (List Entry)). listed names ess q) e.entries
+            ∙ listed-entered names e.turns lists q apart (omega arith) places_within
+            ∙ ap (λ (es : List Entry). listed names lists q ++ es) (ap (λ (ts : List Turn). arrivals names ts q) turned ∙ arrive t lists m q targets apart len within);
+      };
+    }

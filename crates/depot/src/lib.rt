@@ -1,0 +1,11 @@
+//! The depot: all queues of a topology, and how many publishes there were.
+//!
+//! A caller sees a `Depot` as its topology and, of each queue, the list of its entries (`specs/Store.antt`). A publish
+//! is routed, grows all that it needs, and only then changes anything, so it is done whole or not at all.
+#![tactic(auto)]
+
+mod depots;
+mod publishing;
+mod turns;
+
+pub use depots::{Depot, Routed};

@@ -1,0 +1,11 @@
+pub mod Indices
+pub mod Members
+pub mod Passing
+pub mod Marking
+pub mod Names
+pub mod Stepping
+pub mod Reached
+pub mod Starting
+pub mod Picking
+pub mod Alls
+pub mod Good

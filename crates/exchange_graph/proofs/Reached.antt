@@ -1,0 +1,86 @@
+-- All that is marked is reached, and all that is reached is marked.
+use Rattle.std.proofs.Common.{◌≡◌, ℕ, zero, suc, ◌+◌, ◌<◌, List, [], ◌∷◌, Bool, true, false, cond, refl, sym, ap, ◌∙◌, subst, length, map, set, get_or, inl, inr, arith, Option, Some, None}
+use Rattle.std.specs.Prelude.{◌⊎◌}
+use Rattle.std.proofs.lemmas.List.{length-map, length-set}
+use Rattle.model.specs.Words.{Text}
+use Rattle.model.specs.Topology.{Topology, IsIn, IsWellFormed, exchange_names, queue_names}
+use Rattle.model.specs.Routing.{Edge, Leads, here, on, RoutesBy, Routes, of_key}
+use Rattle.model.specs.declared.topologies.DeclaredQueue.{DeclaredQueue}
+use Rattle.model.specs.declared.topologies.Place.{Place}
+use Rattle.model.specs.declared.topologies.Place.TheVariants as place
+use Rattle.exchange_graph.specs.declared.ends.End.{End}
+use Rattle.exchange_graph.specs.declared.ends.End.TheVariants.{Onward, Into}
+use Rattle.exchange_graph.specs.Fans.{AreSteps, EndsWithin, place_of}
+use Rattle.exchange_graph.specs.Marks.{Marks, IsMet, IsSet, IsClosed, IsPending, Arrives, HasRoom, Reaching, Expands, AreFound, exchange_name, queue_name}
+use Rattle.exchange_graph.proofs.Marking.{set_only, set_within}
+use Rattle.exchange_graph.proofs.Names.{apart_same}
+
+pub within_room : (t : Topology) (key name : Text) (seen found : List Bool) (ends : List End) → HasRoom t seen found → AreSteps t key name ends
+    → (e : End) → IsIn e ends → EndsWithin (length seen) (length found) e
+within_room t key name seen found ends r s e h = rw (r.exchanges, r.queues) (s.within e h)
+
+-- one step more at the end
+leads_on : {t : Topology} {key x y : Text} (z : Text) → Leads t (of_key key) x y → Edge t (of_key key) y (place.Exchange z) → Leads t (of_key key) x z
+leads_on z here s = on s here
+leads_on z (on f l) s = on f (leads_on z l s)
+
+arrives : (t : Topology) (key x y : Text) (to : Place) → Leads t (of_key key) x y → Edge t (of_key key) y to → Arrives t x key to
+arrives t key x y (place.Exchange z) l s = leads_on z l s
+arrives t key x y (place.Queue q) l s = (y, l, s)
+
+still_closed : (t : Topology) (key name : Text) (ends : List End) (seen found seen' found' : List Bool) → Marks ends seen found seen' found' → IsClosed t key name seen found → IsClosed t key name seen' found'
+still_closed t key name ends seen found seen' found' m c to s = let p = c to s in (p.0, m.kept p.0 p.1, p.2)
+
+-- one exchange more is done
+pub expanded : (t : Topology) (start key : Text) (at : ℕ) (seen found done seen' found' done' : List Bool) → IsSet seen at
+    → Reaching t start key seen found done → Expands t key at seen found done seen' found' done' → Reaching t start key seen' found' done'
+expanded t start key at seen found done seen' found' done' met r x = record {
+  room = record { exchanges = x.marks.seen_length ∙ r.room.exchanges; queues = x.marks.found_length ∙ r.room.queues };
+  done_room = ap (λ (bs : List Bool). length bs) x.ticked ∙ length-set done at true ∙ r.done_room;
+  begun = (r.begun.0, x.marks.kept (Onward r.begun.0) r.begun.1, r.begun.2);
+  sound = λ e m. (elim (x.marks.only e m) [
+    | inl p ↦ r.sound e p
+    | inr q ↦ arrives t key start (exchange_name t at) (place_of t e) (r.sound (Onward at) met) (x.steps.only e q)
+  ]);
+  closed = λ i h. (elim (set_only done at i (subst (λ (bs : List Bool). IsSet bs i) x.ticked h)) [
+    | inl p ↦ still_closed t key (exchange_name t i) x.ends seen found seen' found' x.marks (r.closed i p)
+    | inr q ↦ (λ to s. (
+        let s' : Edge t (of_key key) (exchange_name t at) to = subst (λ (n : ℕ). Edge t (of_key key) (exchange_name t n) to) q s in
+        let m = x.steps.all to s' in (m.0, x.marks.all m.0 m.1, m.2)))
+  ]);
+}
+
+-- the end of a chain is marked
+met_exchange : (t : Topology) (start key : Text) (seen found done : List Bool) → Reaching t start key seen found done → IsPending seen done None
+    → {x y : Text} → Leads t (of_key key) x y → (i : ℕ) × IsSet seen i × (exchange_name t i ≡ x) → (k : ℕ) × IsSet seen k × (exchange_name t k ≡ y)
+met_exchange t start key seen found done r p here m = m
+met_exchange t start key seen found done r p (on {y = z} s l) m =
+    let c = r.closed m.0 (p m.0 m.1) (place.Exchange z) (subst (λ (n : Text). Edge t (of_key key) n (place.Exchange z)) (sym m.2) s) in
+    met_exchange t start key seen found done r p l (exchange_end t seen found z c.0 c.1 c.2)
+  where
+    exchange_end : (t : Topology) (seen found : List Bool) (z : Text) (e : End) → IsMet seen found e → place_of t e ≡ place.Exchange z → (k : ℕ) × IsSet seen k × (exchange_name t k ≡ z)
+    exchange_end t seen found z (Onward k) m e = (k, m, (let q : exchange_name t k ≡ z = cc in q))
+    exchange_end t seen found z (Into k) m e = absurd (cc)
+
+queue_end : (t : Topology) (seen found : List Bool) (z : Text) (e : End) → IsMet seen found e → place_of t e ≡ place.Queue z → (k : ℕ) × IsSet found k × (queue_name t k ≡ z)
+queue_end t seen found z (Onward k) m e = absurd (cc)
+queue_end t seen found z (Into k) m e = (k, m, (let q : queue_name t k ≡ z = cc in q))
+
+found_all : (t : Topology) (start key : Text) (seen found done : List Bool) → IsWellFormed t → Reaching t start key seen found done → IsPending seen done None
+    → (i : ℕ) → i < length t.queues → Routes t start key (queue_name t i) → IsSet found i
+found_all t start key seen found done w r p i h s =
+    let m = met_exchange t start key seen found done r p s.1 r.begun in
+    let c = r.closed m.0 (p m.0 m.1) (place.Queue (queue_name t i)) (subst (λ (n : Text). Edge t (of_key key) n (place.Queue (queue_name t i))) (sym m.2) s.2) in
+    let q = queue_end t seen found (queue_name t i) c.0 c.1 c.2 in
+    let n : length (queue_names t.queues) ≡ length t.queues = length-map t.queues (λ (z : DeclaredQueue). z.name) in
+    let k : q.0 < length found = set_within found q.0 q.1 in
+    let same : q.0 ≡ i = apart_same (queue_names t.queues) q.0 i w.queues_apart (omega (arith, n, k, r.room.queues)) (omega (arith, n, h)) q.2 in
+    subst (λ (j : ℕ). IsSet found j) same q.1
+
+-- nothing is left to be done
+pub all_found : (t : Topology) (start key : Text) (seen found done : List Bool) → IsWellFormed t → Reaching t start key seen found done → IsPending seen done None → AreFound t start key found
+all_found t start key seen found done w r p = record {
+  room = r.room.queues;
+  sound = λ i h m. r.sound (Into i) m;
+  all = found_all t start key seen found done w r p;
+}

@@ -1,0 +1,18 @@
+use Rattle.std.proofs.Common.{◌≡◌, List, sym, subst}
+use Rattle.std.proofs.lemmas.Result.{IfOk-weaker}
+use Rattle.std.specs.Prelude.{IfOk}
+use Rattle.model.specs.declared.topologies.ExchangeKind.{ExchangeKind}
+use Rattle.model.specs.declared.topologies.ExchangeKind.TheVariants.{Direct, Fanout}
+use Rattle.exchange_graph.specs.Fans.{ArePassing}
+use Rattle.exchange_graph.proofs.Passing.{passing_direct, passing_fanout}
+use Rattle.exchange_graph.proofs.fans.passing.Goals as goal
+
+pub returns-in-Direct : goal.returns-in-Direct
+returns-in-Direct c =
+    let same : c.args.kind ≡ Direct = cc in
+    rw same (IfOk-weaker c.ends_by_key.result _ _ (λ v e. rw e (passing_direct c.args.key.now c.args.ways.now)) c.ends_by_key.ensures)
+
+pub returns-in-Fanout : goal.returns-in-Fanout
+returns-in-Fanout c =
+    let same : c.args.kind ≡ Fanout = cc in
+    rw same (IfOk-weaker c.ends_of.result _ _ (λ v e. rw e (passing_fanout c.args.key.now c.args.ways.now)) c.ends_of.ensures)

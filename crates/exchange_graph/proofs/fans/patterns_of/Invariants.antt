@@ -1,0 +1,6 @@
+use Rattle.std.proofs.Common.{◌≡◌, ◌++◌, drop}
+use Rattle.exchange_graph.specs.Fans.{patterns_of}
+use Rattle.exchange_graph.proofs.fans.patterns_of.Given as goal
+
+abbrev pub invariant-loop-way : goal.invariant-loop-way
+invariant-loop-way l = l.found.items ++ patterns_of (drop l.way-index l.ways) ≡ patterns_of l.ways

@@ -1,0 +1,11 @@
+use Rattle.std.proofs.Common.{◌≡◌}
+use Rattle.std.specs.Str.{bytes_eq}
+use Rattle.model.specs.declared.topologies.Exchange.{Exchange}
+use Rattle.exchange_graph.proofs.Indices.{place_if_some, place_if_none}
+use Rattle.exchange_graph.proofs.places.exchange_place.Goals as goal
+
+pub returns-in-Some : goal.returns-in-Some
+returns-in-Some c = place_if_some (λ (x : Exchange). bytes_eq x.name c.args.name.now) c.args.exchanges.now c.in-Some.place (cc)
+
+pub returns-in-None : goal.returns-in-None
+returns-in-None c = place_if_none (λ (x : Exchange). bytes_eq x.name c.args.name.now) c.args.exchanges.now (cc)

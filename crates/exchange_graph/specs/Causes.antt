@@ -1,0 +1,92 @@
+-- What a topology must keep to be built, and what is told where it does not. Source: RabbitMQ, "Definition Export and Import"; the limits are own.
+use Rattle.std.specs.Prelude.{◌≡◌, ◌≢◌, ◌≤◌, List, [], Some, None, length, All, Result, Ok, Err, ◌⊎◌}
+use Rattle.model.specs.Words.{Text}
+use Rattle.model.specs.Topology.{Topology, queue_names, exchange_names, IsIn, AreApart, IsThere}
+use Rattle.model.specs.declared.topologies.Exchange.{Exchange}
+use Rattle.model.specs.declared.topologies.DeclaredQueue.{DeclaredQueue}
+use Rattle.model.specs.declared.topologies.Binding.{Binding}
+use Rattle.topic_match.specs.Patterns.{IsPattern}
+use Rattle.exchange_graph.specs.declared.bad.Bad.{Bad}
+use Rattle.exchange_graph.specs.declared.bad.Bad.TheVariants.{Repeated, Absent, Argument, Worded, TooMany, NoExchange, Memory}
+
+-- no two queues and no two exchanges have one name
+pub record NamesApart (t : Topology) : Type 0 where
+  pub queues : AreApart (queue_names t.queues)
+  pub exchanges : AreApart (exchange_names t.exchanges)
+
+-- the exchange and the place that a binding names are there
+pub record Joins (t : Topology) (b : Binding) : Type 0 where
+  pub source : IsIn b.source (exchange_names t.exchanges)
+  pub end : IsThere t b.to
+
+-- every binding does
+abbrev pub AllJoin : Topology → Type 0
+AllJoin t = All (Joins t) t.bindings
+
+-- a queue with a dead-letter key has a dead-letter exchange
+abbrev pub KeyHasExchange : DeclaredQueue → Type 0
+KeyHasExchange q = (key : Text) → q.dead_letter_key ≡ Some key → q.dead_letter_exchange ≡ None → ⊥
+
+-- every queue does
+abbrev pub KeysHaveExchanges : Topology → Type 0
+KeysHaveExchanges t = All KeyHasExchange t.queues
+
+-- an exchange's name has from 1 to 255 bytes
+pub record IsNamed (x : Exchange) : Type 0 where
+  pub some : x.name ≡ [] → ⊥
+  pub short : length x.name ≤ 255
+
+-- a queue's name is a pattern of at least one word, and its dead-letter key a pattern
+pub record IsWorded (q : DeclaredQueue) : Type 0 where
+  pub some : q.name ≡ [] → ⊥
+  pub name : IsPattern q.name
+  pub key : (key : Text) → q.dead_letter_key ≡ Some key → IsPattern key
+
+-- every name and key has its form
+pub record AllWorded (t : Topology) : Type 0 where
+  pub exchanges : All IsNamed t.exchanges
+  pub queues : All IsWorded t.queues
+  pub bindings : All (λ (b : Binding). IsPattern b.key) t.bindings
+
+-- at most 256 exchanges, 256 queues and 4,096 bindings
+pub record IsSmall (t : Topology) : Type 0 where
+  pub exchanges : length t.exchanges ≤ 256
+  pub queues : length t.queues ≤ 256
+  pub bindings : length t.bindings ≤ 4096
+
+-- an alternate exchange is there
+abbrev pub AlternateIsThere : Topology → Exchange → Type 0
+AlternateIsThere t x = (other : Text) → x.alternate ≡ Some other → IsIn other (exchange_names t.exchanges)
+
+-- a dead-letter exchange is there, or is the default one
+abbrev pub DeadLettersLead : Topology → DeclaredQueue → Type 0
+DeadLettersLead t q = (x : Text) → q.dead_letter_exchange ≡ Some x → (x ≡ []) ⊎ IsIn x (exchange_names t.exchanges)
+
+-- all of these are
+pub record NamesLead (t : Topology) : Type 0 where
+  pub alternates : All (AlternateIsThere t) t.exchanges
+  pub dead : All (DeadLettersLead t) t.queues
+
+-- Nothing stands against this topology.
+pub record IsBuildable (t : Topology) : Type 0 where
+  pub apart : NamesApart t
+  pub join : AllJoin t
+  pub keys : KeysHaveExchanges t
+  pub worded : AllWorded t
+  pub small : IsSmall t
+  pub lead : NamesLead t
+
+-- This stands against it, and nothing that is looked for before.
+abbrev pub IsRefused : Bad → Topology → Type 0
+IsRefused Repeated t = NamesApart t → ⊥
+IsRefused Absent t = NamesApart t × (AllJoin t → ⊥)
+IsRefused Argument t = NamesApart t × AllJoin t × (KeysHaveExchanges t → ⊥)
+IsRefused Worded t = NamesApart t × AllJoin t × KeysHaveExchanges t × (AllWorded t → ⊥)
+IsRefused TooMany t = NamesApart t × AllJoin t × KeysHaveExchanges t × AllWorded t × (IsSmall t → ⊥)
+IsRefused NoExchange t = NamesApart t × AllJoin t × KeysHaveExchanges t × AllWorded t × IsSmall t × (NamesLead t → ⊥)
+IsRefused Memory t = Unit {0}
+
+-- What is handed in is built as it is, or refused.
+abbrev pub Builds : Result Topology Bad → Topology → Type 0
+Builds (Ok t) given = (t ≡ given) × IsBuildable given
+Builds (Err e) given = IsRefused e given

@@ -1,0 +1,111 @@
+-- What leads on from an exchange, by places in the lists of the topology.
+use Rattle.std.specs.Prelude.{◌≡◌, ◌<◌, ℕ, List, [], ◌∷◌, Option, Some, None, map, length, slice_index_or, if◌then◌else◌, option_map}
+use Rattle.std.specs.List.{position_or_len}
+use Rattle.std.specs.Str.{bytes_eq}
+use Rattle.model.specs.Words.{Text, words, tokens}
+use Rattle.model.specs.Topology.{Topology, IsIn, queue_names, exchange_names}
+use Rattle.model.specs.Routing.{Passes, Edge, of_key}
+use Rattle.model.specs.declared.texts.Token.{Token}
+use Rattle.model.specs.declared.topologies.Exchange.{Exchange}
+use Rattle.model.specs.declared.topologies.DeclaredQueue.{DeclaredQueue}
+use Rattle.model.specs.declared.topologies.Binding.{Binding}
+use Rattle.model.specs.declared.topologies.Place.{Place}
+use Rattle.model.specs.declared.topologies.Place.TheVariants as place
+use Rattle.model.specs.declared.topologies.ExchangeKind.{ExchangeKind}
+use Rattle.model.specs.declared.topologies.ExchangeKind.TheVariants.{Direct, Fanout, Topic}
+use Rattle.exchange_graph.specs.declared.ends.End.{End}
+use Rattle.exchange_graph.specs.declared.ends.End.TheVariants.{Onward, Into}
+use Rattle.exchange_graph.specs.declared.ends.Way.{Way}
+
+-- the place of the first exchange of this name, or how many there are
+abbrev pub exchange_place : List Exchange → Text → ℕ
+exchange_place exchanges name = position_or_len (λ (x : Exchange). bytes_eq x.name name) exchanges
+
+-- the place of the first queue of this name, or how many there are
+abbrev pub queue_place : List DeclaredQueue → Text → ℕ
+queue_place queues name = position_or_len (λ (q : DeclaredQueue). bytes_eq q.name name) queues
+
+-- a place, by where it stands in its list
+abbrev pub end_of : List Exchange → List DeclaredQueue → Place → End
+end_of exchanges queues (place.Exchange name) = Onward (exchange_place exchanges name)
+end_of exchanges queues (place.Queue name) = Into (queue_place queues name)
+
+-- a binding, without its source
+abbrev pub way_of : List Exchange → List DeclaredQueue → Binding → Way
+way_of exchanges queues b = record { key = b.key; end = end_of exchanges queues b.to }
+
+-- the bindings of the exchange of this name
+abbrev pub ways_from : List Exchange → List DeclaredQueue → Text → List Binding → List Way
+ways_from exchanges queues name [] = []
+ways_from exchanges queues name (b ∷ bs) =
+    if bytes_eq b.source name then way_of exchanges queues b ∷ ways_from exchanges queues name bs else ways_from exchanges queues name bs
+
+-- their keys as topic patterns
+abbrev pub patterns_of : List Way → List (List Token)
+patterns_of ways = map (λ (w : Way). tokens (words w.key)) ways
+
+-- the patterns of a topic exchange; another has none
+abbrev pub topics_of : ExchangeKind → List Way → List (List Token)
+topics_of Topic ways = patterns_of ways
+topics_of Direct ways = []
+topics_of Fanout ways = []
+
+-- what leads on from one exchange
+pub record Fan : Type 0 where
+  pub list : List Way
+  pub topics : List (List Token)
+  pub alternate : Option ℕ
+
+-- what leads on from this exchange
+abbrev pub fan_of : Topology → Exchange → Fan
+fan_of t x = record {
+  list = ways_from t.exchanges t.queues x.name t.bindings;
+  topics = topics_of x.kind (ways_from t.exchanges t.queues x.name t.bindings);
+  alternate = option_map (exchange_place t.exchanges) x.alternate;
+}
+
+-- the place where a way ends, by its name
+abbrev pub place_of : Topology → End → Place
+place_of t (Onward i) = place.Exchange (slice_index_or (exchange_names t.exchanges) i [])
+place_of t (Into i) = place.Queue (slice_index_or (queue_names t.queues) i [])
+
+-- it ends at a place of the topology
+abbrev pub EndsWithin : ℕ → ℕ → End → Type 0
+EndsWithin exchanges queues (Onward i) = i < exchanges
+EndsWithin exchanges queues (Into i) = i < queues
+
+-- These are exactly the ends of the ways whose key lets this key pass.
+pub record ArePassing (kind : ExchangeKind) (key : Text) (ways : List Way) (ends : List End) : Type 0 where
+  pub only : (e : End) → IsIn e ends → (w : Way) × IsIn w ways × (w.end ≡ e) × Passes kind w.key key
+  pub all : (w : Way) → IsIn w ways → Passes kind w.key key → IsIn w.end ends
+
+-- the ends of these ways
+abbrev pub ends_of : List Way → List End
+ends_of ways = map (λ (w : Way). w.end) ways
+
+-- the ends of the ways with this key
+abbrev pub ends_by_key : Text → List Way → List End
+ends_by_key key [] = []
+ends_by_key key (w ∷ ws) = if bytes_eq w.key key then w.end ∷ ends_by_key key ws else ends_by_key key ws
+
+-- the ends of the ways at these places
+abbrev pub ends_at : List Way → List ℕ → List End
+ends_at ways places = map (λ (i : ℕ). slice_index_or (ends_of ways) i (Onward 0)) places
+
+-- the alternate exchange, where nothing else leads on
+abbrev pub or_alternate : Option ℕ → List End → List End
+or_alternate alternate (e ∷ es) = e ∷ es
+or_alternate (Some i) [] = Onward i ∷ []
+or_alternate None [] = []
+
+-- These are the ends of the ways that let this key pass, or else of the alternate exchange.
+pub record LeadOn (kind : ExchangeKind) (key : Text) (fan : Fan) (ends : List End) : Type 0 where
+  pub passing : List End
+  pub are : ArePassing kind key fan.list passing
+  pub is : ends ≡ or_alternate fan.alternate passing
+
+-- These are exactly the steps of a route from the exchange of this name.
+pub record AreSteps (t : Topology) (key name : Text) (ends : List End) : Type 0 where
+  pub within : (e : End) → IsIn e ends → EndsWithin (length t.exchanges) (length t.queues) e
+  pub only : (e : End) → IsIn e ends → Edge t (of_key key) name (place_of t e)
+  pub all : (to : Place) → Edge t (of_key key) name to → (e : End) × IsIn e ends × (place_of t e ≡ to)

@@ -1,0 +1,5 @@
+pub mod Targets
+pub mod Causes
+pub mod Fans
+pub mod Marks
+pub mod Built

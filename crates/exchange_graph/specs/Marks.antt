@@ -1,0 +1,85 @@
+-- Which exchanges and queues were met on the way, by their places.
+use Rattle.std.specs.Prelude.{◌≡◌, ◌<◌, ℕ, ◌+◌, List, [], ◌∷◌, Bool, true, false, Option, Some, None, length, slice_index_or, slice_set, if◌then◌else◌, ◌⊎◌}
+use Rattle.model.specs.Words.{Text}
+use Rattle.model.specs.Topology.{Topology, IsIn, queue_names, exchange_names}
+use Rattle.model.specs.Routing.{Edge, Leads, RoutesBy, Routes, of_key}
+use Rattle.model.specs.declared.topologies.Place.{Place}
+use Rattle.model.specs.declared.topologies.Place.TheVariants as place
+use Rattle.exchange_graph.specs.Fans.{place_of, AreSteps}
+use Rattle.exchange_graph.specs.declared.ends.End.{End}
+use Rattle.exchange_graph.specs.declared.ends.End.TheVariants.{Onward, Into}
+
+-- the mark at this place is set
+abbrev pub IsSet : List Bool → ℕ → Type 0
+IsSet marks i = slice_index_or marks i false ≡ true
+
+-- the end is marked
+abbrev pub IsMet : List Bool → List Bool → End → Type 0
+IsMet seen found (Onward i) = IsSet seen i
+IsMet seen found (Into i) = IsSet found i
+
+-- These ends were marked, and nothing else changed.
+pub record Marks (ends : List End) (seen found seen' found' : List Bool) : Type 0 where
+  pub seen_length : length seen' ≡ length seen
+  pub found_length : length found' ≡ length found
+  pub kept : (e : End) → IsMet seen found e → IsMet seen' found' e
+  pub all : (e : End) → IsIn e ends → IsMet seen' found' e
+  pub only : (e : End) → IsMet seen' found' e → IsMet seen found e ⊎ IsIn e ends
+
+-- the places of the marks that are set, counted from k
+abbrev pub set_places : ℕ → List Bool → List ℕ
+set_places k [] = []
+set_places k (b ∷ bs) = if b then k ∷ set_places (k + 1) bs else set_places (k + 1) bs
+
+-- how many are not set
+abbrev pub unset : List Bool → ℕ
+unset [] = 0
+unset (b ∷ bs) = if b then unset bs else unset bs + 1
+
+-- a way leads from the first exchange to this place
+abbrev pub Arrives : Topology → Text → Text → Place → Type 0
+Arrives t start key (place.Exchange y) = Leads t (of_key key) start y
+Arrives t start key (place.Queue q) = RoutesBy t (of_key key) start q
+
+-- the step from the exchange of this name to this place ends at a mark
+abbrev pub IsClosed : Topology → Text → Text → List Bool → List Bool → Type 0
+IsClosed t key name seen found = (to : Place) → Edge t (of_key key) name to → (e : End) × IsMet seen found e × (place_of t e ≡ to)
+
+-- the name of the exchange at this place
+abbrev pub exchange_name : Topology → ℕ → Text
+exchange_name t i = slice_index_or (exchange_names t.exchanges) i []
+
+-- the name of the queue at this place
+abbrev pub queue_name : Topology → ℕ → Text
+queue_name t i = slice_index_or (queue_names t.queues) i []
+
+-- There is a mark for each place of a topology.
+pub record HasRoom (t : Topology) (seen found : List Bool) : Type 0 where
+  pub exchanges : length seen ≡ length t.exchanges
+  pub queues : length found ≡ length t.queues
+
+-- What is marked on the way: the first exchange, only what a way leads to, and each step from an exchange that is done.
+pub record Reaching (t : Topology) (start key : Text) (seen found done : List Bool) : Type 0 where
+  pub room : HasRoom t seen found
+  pub done_room : length done ≡ length t.exchanges
+  pub begun : (i : ℕ) × IsSet seen i × (exchange_name t i ≡ start)
+  pub sound : (e : End) → IsMet seen found e → Arrives t start key (place_of t e)
+  pub closed : (i : ℕ) → IsSet done i → IsClosed t key (exchange_name t i) seen found
+
+-- One exchange is done.
+pub record Expands (t : Topology) (key : Text) (at : ℕ) (seen found done seen' found' done' : List Bool) : Type 0 where
+  pub ends : List End
+  pub steps : AreSteps t key (exchange_name t at) ends
+  pub marks : Marks ends seen found seen' found'
+  pub ticked : done' ≡ slice_set done at true
+
+-- The queues that are marked are those that the key is routed to.
+pub record AreFound (t : Topology) (start key : Text) (found : List Bool) : Type 0 where
+  pub room : length found ≡ length t.queues
+  pub sound : (i : ℕ) → i < length t.queues → IsSet found i → Routes t start key (queue_name t i)
+  pub all : (i : ℕ) → i < length t.queues → Routes t start key (queue_name t i) → IsSet found i
+
+-- The first mark of an exchange that is not done yet, or none.
+abbrev pub IsPending : List Bool → List Bool → Option ℕ → Type 0
+IsPending seen done None = (i : ℕ) → IsSet seen i → IsSet done i
+IsPending seen done (Some i) = (i < length seen) × IsSet seen i × (slice_index_or done i false ≡ false)

@@ -1,0 +1,15 @@
+-- The queues that a message is routed to, by their places in the file.
+use Rattle.std.specs.Prelude.{◌<◌, ℕ, List, [], map, length, slice_index_or, All, AllPairs}
+use Rattle.model.specs.Words.{Text}
+use Rattle.model.specs.Topology.{Topology, queue_names}
+use Rattle.model.specs.Routing.{Routes, Picks}
+
+-- the names at these places
+abbrev pub names_at : List Text → List ℕ → List Text
+names_at names places = map (λ (i : ℕ). slice_index_or names i []) places
+
+-- These places are of exactly the queues that a message sent to the exchange under this key is routed to, each once, in the order of the file.
+pub record AreTargets (t : Topology) (exchange key : Text) (targets : List ℕ) : Type 0 where
+  pub within : All (λ (i : ℕ). i < length t.queues) targets
+  pub rising : AllPairs (λ (i j : ℕ). i < j) targets
+  pub picked : Picks (Routes t exchange key) (queue_names t.queues) (names_at (queue_names t.queues) targets)

@@ -1,0 +1,14 @@
+//! Routing: exchanges, queues and bindings, and the queues that a key leads to.
+#![tactic(auto)]
+
+mod bad;
+mod checks;
+mod ends;
+mod fans;
+mod marks;
+mod places;
+mod reach;
+mod topologies;
+
+pub use bad::Bad;
+pub use topologies::Topology;

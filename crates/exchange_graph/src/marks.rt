@@ -1,0 +1,64 @@
+//! Marks of the exchanges and queues that were met on the way.
+
+ghost use Rattle.std.specs.Prelude.{◌≡◌, ◌∷◌, [], length, IfOk, false, replicate};
+ghost use Rattle.model.specs.Topology.{IsIn};
+ghost use Rattle.exchange_graph.specs.Fans.{EndsWithin};
+ghost use Rattle.exchange_graph.specs.Marks.{IsPending, Marks, set_places};
+
+use crate::ends::End;
+use std::alloc::{AllocError, Global};
+
+/// This many marks, none of them set.
+pub fn unmarked(alloc: Global, count: usize) -> Result<Vec<bool>, AllocError>
+    ensures { IfOk result (λ marks. marks.items ≡ replicate count false) }
+{
+    let marks = vec![in alloc; false; count]?;
+    Ok(marks)
+}
+
+/// Marks one end.
+fn mark(end: End, seen: &mut [bool], found: &mut [bool])
+    requires { EndsWithin (length seen.old) (length found.old) end }
+    ensures { Marks (end ∷ []) seen.old found.old seen.new found.new }
+{
+    match end {
+        End::Onward(place) => seen[place] = true,
+        End::Into(place) => found[place] = true,
+    }
+}
+
+/// Marks these ends.
+pub fn mark_all(ends: &[End], seen: &mut [bool], found: &mut [bool])
+    requires { (e : End) → IsIn e ends.now → EndsWithin (length seen.old) (length found.old) e }
+    ensures { Marks ends.now seen.old found.old seen.new found.new }
+{
+    for end in ends {
+        mark(*end, seen, found);
+    }
+}
+
+/// The first exchange that was met and is not done, if there is one.
+pub fn pending(seen: &[bool], done: &[bool]) -> Option<usize>
+    requires { length done.now ≡ length seen.now }
+    ensures { IsPending seen.now done.now result }
+{
+    for place in 0..seen.len() {
+        if seen[place] && !done[place] {
+            return Some(place);
+        }
+    }
+    None
+}
+
+/// The places of the marks that are set.
+pub fn set_places(alloc: Global, marks: &[bool]) -> Result<Vec<usize>, AllocError>
+    ensures { IfOk result (λ places. places.items ≡ set_places 0 marks.now) }
+{
+    let mut places = Vec::new(alloc);
+    for place in 0..marks.len() {
+        if marks[place] {
+            places.push(place)?;
+        }
+    }
+    Ok(places)
+}

@@ -1,0 +1,112 @@
+//! The queues that a key leads to.
+
+ghost use Rattle.std.specs.Prelude.{◌≡◌, ◌<◌, [], length, IfOk, OnOk};
+ghost use Rattle.model.specs.Topology.{IsWellFormed};
+ghost use Rattle.exchange_graph.specs.Marks.{AreFound, Expands, HasRoom, Reaching, exchange_name};
+
+use crate::marks::{mark_all, pending, unmarked};
+use crate::places::{exchange_at, queue_at};
+use crate::topologies::Topology;
+use std::alloc::{AllocError, Global};
+
+/// Marks what one exchange leads to.
+fn expand(
+    topology: &Topology,
+    alloc: Global,
+    place: usize,
+    key: &[u8],
+    seen: &mut [bool],
+    found: &mut [bool],
+    done: &mut [bool],
+) -> Result<(), AllocError>
+    requires within { place < length topology.now.exchanges }
+    requires room { HasRoom topology.now seen.old found.old }
+    requires done { length done.old ≡ length topology.now.exchanges }
+    ensures { OnOk result (Expands topology.now key.now place seen.old found.old done.old seen.new found.new done.new) }
+{
+    let ends = topology.steps(alloc, place, key)?;
+    mark_all(ends.as_slice(), seen, found);
+    done[place] = true;
+    Ok(())
+}
+
+/// Marks all that the exchanges met lead to.
+fn spread(
+    topology: &Topology,
+    alloc: Global,
+    start: &[u8],
+    key: &[u8],
+    seen: &mut [bool],
+    found: &mut [bool],
+    done: &mut [bool],
+) -> Result<(), AllocError>
+    requires { Reaching topology.now start.now key.now seen.old found.old done.old }
+    ensures { OnOk result (AreFound topology.now start.now key.now found.new) }
+{
+    topology.is_well_formed();
+    'passes: while let Some(place) = pending(seen, done) {
+        expand(topology, alloc, place, key, seen, found, done)?;
+    }
+    Ok(())
+}
+
+/// What the exchange at this place leads to.
+fn found_from(
+    topology: &Topology,
+    alloc: Global,
+    place: usize,
+    exchange: &[u8],
+    key: &[u8],
+) -> Result<Vec<bool>, AllocError>
+    requires within { place < length topology.now.exchanges }
+    requires named { exchange_name topology.now place ≡ exchange.now }
+    ensures { IfOk result (λ found. AreFound topology.now exchange.now key.now found.items) }
+{
+    let mut seen = unmarked(alloc, topology.exchanges().len())?;
+    let mut found = unmarked(alloc, topology.queues().len())?;
+    let mut done = unmarked(alloc, topology.exchanges().len())?;
+    seen[place] = true;
+    spread(
+        topology,
+        alloc,
+        exchange,
+        key,
+        seen.as_mut_slice(),
+        found.as_mut_slice(),
+        done.as_mut_slice(),
+    )?;
+    Ok(found)
+}
+
+/// What the default exchange leads to: the queue of this name.
+fn found_by_name(topology: &Topology, alloc: Global, key: &[u8]) -> Result<Vec<bool>, AllocError>
+    ensures { IfOk result (λ found. AreFound topology.now [] key.now found.items) }
+{
+    topology.is_well_formed();
+    let mut found = unmarked(alloc, topology.queues().len())?;
+    match queue_at(topology.queues(), key) {
+        Some(place) => {
+            found[place] = true;
+            Ok(found)
+        }
+        None => Ok(found),
+    }
+}
+
+/// What an exchange leads to, by its name.
+pub fn found(
+    topology: &Topology,
+    alloc: Global,
+    exchange: &[u8],
+    key: &[u8],
+) -> Result<Vec<bool>, AllocError>
+    ensures { IfOk result (λ found. AreFound topology.now exchange.now key.now found.items) }
+{
+    if exchange.is_empty() {
+        return found_by_name(topology, alloc, key);
+    }
+    match exchange_at(topology.exchanges(), exchange) {
+        Some(place) => found_from(topology, alloc, place, exchange, key),
+        None => unmarked(alloc, topology.queues().len()),
+    }
+}

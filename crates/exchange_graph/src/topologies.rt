@@ -1,0 +1,161 @@
+//! Topologies that were found good.
+
+ghost use Rattle.std.specs.Prelude.{
+  ◌≡◌,
+  ◌<◌,
+  length,
+  slice_index_or,
+  IfOk,
+  IfSome,
+  IfNone,
+  option_copied,
+  find,
+  position,
+  Some,
+};
+ghost use Rattle.std.specs.Str.{bytes_eq};
+ghost use Rattle.model.specs.Topology.{Topology as Handed, IsIn, IsWellFormed, queue_names};
+ghost use Rattle.exchange_graph.specs.Targets.{AreTargets};
+ghost use Rattle.exchange_graph.specs.Causes.{Builds};
+ghost use Rattle.exchange_graph.specs.Fans.{AreSteps};
+ghost use Rattle.exchange_graph.specs.Marks.{exchange_name, queue_name};
+
+use crate::bad::Bad;
+use crate::checks::judge;
+use crate::ends::End;
+use crate::fans::{Fan, all_fans};
+use crate::marks::set_places;
+use crate::places::queue_at;
+use crate::reach::found;
+use model::{Binding, DeclaredQueue, Exchange};
+use std::alloc::{AllocError, Global};
+use std::marker::Model;
+
+/// Exchanges, queues and bindings, each in the order of the file.
+#[derive(Drop)]
+pub struct Topology {
+    exchanges: Vec<Exchange>,
+    queues: Vec<DeclaredQueue>,
+    bindings: Vec<Binding>,
+    fans: Vec<Fan>,
+}
+
+impl Model for Topology {
+    ghost use Rattle.model.specs.Topology.{Topology as Handed};
+    ghost use Rattle.exchange_graph.specs.Built.{IsBuilt};
+
+    ghost Value = { Handed };
+
+    ghost view = { λ t. record { exchanges = t.exchanges.items; queues = t.queues.items; bindings = t.bindings.items } };
+
+    ghost invariant = { λ t. IsBuilt (record { exchanges = t.exchanges.items; queues = t.queues.items; bindings = t.bindings.items }) t.fans.items };
+}
+
+impl Topology {
+    /// Exactly what is handed in, where nothing stands against it.
+    pub fn build(
+        alloc: Global,
+        exchanges: Vec<Exchange>,
+        queues: Vec<DeclaredQueue>,
+        bindings: Vec<Binding>,
+    ) -> Result<Topology, Bad>
+        ensures { Builds result (record { exchanges = exchanges.items; queues = queues.items; bindings = bindings.items }) }
+    {
+        match judge(exchanges.as_slice(), queues.as_slice(), bindings.as_slice()) {
+            Ok(_) => {}
+            Err(bad) => return Err(bad),
+        }
+        let fans = all_fans(
+            alloc,
+            exchanges.as_slice(),
+            queues.as_slice(),
+            bindings.as_slice(),
+        )?;
+        Ok(Topology {
+            exchanges,
+            queues,
+            bindings,
+            fans,
+        })
+    }
+
+    /// What every topology keeps.
+    pub fn is_well_formed(&self)
+        ensures { IsWellFormed self.now }
+    {
+        let _ = &self.queues;
+    }
+
+    /// The steps of a route from the exchange at this place.
+    pub(crate) fn steps(
+        &self,
+        alloc: Global,
+        place: usize,
+        key: &[u8],
+    ) -> Result<Vec<End>, AllocError>
+        requires { place < length self.now.exchanges }
+        ensures { IfOk result (λ ends. AreSteps self.now key.now (exchange_name self.now place) ends.items) }
+    {
+        self.fans[place].lead_on(alloc, self.exchanges[place].kind, key)
+    }
+
+    /// The queues that a message sent to this exchange under this key is routed to, by their places, in the order of the
+    /// file, each once. An exchange that is not there leads nowhere; `""` is the default exchange.
+    pub fn route(
+        &self,
+        alloc: Global,
+        exchange: &[u8],
+        key: &[u8],
+    ) -> Result<Vec<usize>, AllocError>
+        ensures { IfOk result (λ targets. AreTargets self.now exchange.now key.now targets.items) }
+    {
+        let found = found(self, alloc, exchange, key)?;
+        set_places(alloc, found.as_slice())
+    }
+
+    /// The exchanges, in the order of the file.
+    pub fn exchanges(&self) -> &[Exchange]
+        ensures { result.now ≡ self.now.exchanges }
+    {
+        self.exchanges.as_slice()
+    }
+
+    /// The queues, in the order of the file.
+    pub fn queues(&self) -> &[DeclaredQueue]
+        ensures { result.now ≡ self.now.queues }
+    {
+        self.queues.as_slice()
+    }
+
+    /// The bindings, in the order of the file.
+    pub fn bindings(&self) -> &[Binding]
+        ensures { result.now ≡ self.now.bindings }
+    {
+        self.bindings.as_slice()
+    }
+
+    /// The exchange of this name, if it is there. The default exchange is not.
+    pub fn exchange(&self, name: &[u8]) -> Option<&Exchange>
+        ensures { option_copied result ≡ find (λ x. bytes_eq x.name name.now) self.now.exchanges }
+    {
+        self.exchanges.iter().find(|x| x.name.as_bytes() == name)
+    }
+
+    /// The place of the queue of this name, if it is there.
+    pub fn queue_at(&self, name: &[u8]) -> Option<usize>
+        ensures place { result ≡ position (λ q. bytes_eq q.name name.now) self.now.queues }
+        ensures within { IfSome result (λ i. i < length self.now.queues) }
+        ensures named { IfSome result (λ i. queue_name self.now i ≡ name.now) }
+        ensures absent { IfNone result (IsIn name.now (queue_names self.now.queues) → ⊥) }
+    {
+        queue_at(self.queues.as_slice(), name)
+    }
+
+    /// The queue at this place.
+    pub fn queue(&self, place: usize) -> &DeclaredQueue
+        requires { place < length self.now.queues }
+        ensures { result.now ≡ slice_index_or self.now.queues place result.now }
+    {
+        &self.queues[place]
+    }
+}

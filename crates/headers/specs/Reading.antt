@@ -1,0 +1,49 @@
+-- What a reading of content headers tells. Source: AMQP 0-9-1, section 4.2.6.1, "The Content Header".
+use Rattle.std.specs.Prelude.{◌≡◌, ◌≤◌, ℕ, List, length, drop, Result, Ok, Err, ⊤}
+use Rattle.model.specs.Grammar.{class_at}
+use Rattle.model.specs.Headers
+use Rattle.model.specs.Headers.{weight_at, size_at, flags_at, SaysSize, SaysHeader}
+use Rattle.headers.specs.declared.contents.Header.{Header}
+use Rattle.headers.specs.declared.contents.Refusal.{Refusal}
+use Rattle.headers.specs.declared.contents.Refusal.TheVariants.{FrameError, SyntaxError, NotImplemented, Memory}
+
+-- the header, as the definitions have it
+abbrev pub seen : Header → Headers.Header
+seen h = record { size = h.size; properties = h.properties }
+
+-- what the fixed fields of a header say, and what follows them
+pub record Fields (payload : List ℕ) (size flags : ℕ) (rest : List ℕ) : Type 0 where
+  pub long : 14 ≤ length payload
+  pub class_is : class_at payload ≡ 60
+  pub weight_is : weight_at payload ≡ 0
+  pub size_is : size_at payload ≡ size
+  pub flags_are : flags_at payload ≡ flags
+  pub rest_is : drop 14 payload ≡ rest
+
+-- the declared size, or the one refusal
+abbrev pub TellsSize : List ℕ → Result ℕ Refusal → Type 0
+TellsSize payload (Ok n) = SaysSize payload (Ok n)
+TellsSize payload (Err FrameError) = SaysSize payload (Err 501)
+TellsSize payload (Err SyntaxError) = ⊥
+TellsSize payload (Err NotImplemented) = ⊥
+TellsSize payload (Err Memory) = ⊥
+
+-- the payload is refused for this reason, or memory was
+abbrev pub Refuses : List ℕ → Refusal → Type 0
+Refuses payload FrameError = SaysHeader payload (Err 501)
+Refuses payload SyntaxError = SaysHeader payload (Err 502)
+Refuses payload NotImplemented = SaysHeader payload (Err 540)
+Refuses payload Memory = ⊤
+
+-- the answer is right for this payload
+abbrev pub Tells : List ℕ → Result Header Refusal → Type 0
+Tells payload (Ok h) = SaysHeader payload (Ok (seen h))
+Tells payload (Err e) = Refuses payload e
+
+-- the answer is this header, or memory was refused
+abbrev pub IsHeaderOr : Headers.Header → Result Header Refusal → Type 0
+IsHeaderOr h (Ok g) = seen g ≡ h
+IsHeaderOr h (Err FrameError) = ⊥
+IsHeaderOr h (Err SyntaxError) = ⊥
+IsHeaderOr h (Err NotImplemented) = ⊥
+IsHeaderOr h (Err Memory) = ⊤

@@ -1,0 +1,11 @@
+//! A queue: the messages that wait for a consumer, in the order in which they came.
+//!
+//! A caller sees a `Queue` as a list of entries and a number of pushes that need no memory (`specs/Line.antt`). Room is
+//! made by `reserve` and spent by `push`, so a publish to many queues grows each of them first, and changes none until
+//! all of them could. How the entries are kept is nobody's business but this crate's.
+#![tactic(auto)]
+
+mod entries;
+mod listed;
+
+pub use listed::Queue;
