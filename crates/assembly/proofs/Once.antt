@@ -25,8 +25,8 @@ on_once m h p f t u x y =
     match_once (f.kind == 8) (λ v. v ≡ taken_heartbeat p f) (λ v. MatchBool (is_on_wrong_channel f) (v ≡ Breaks 504) (MatchBool (f.kind == awaited p) (TakesPayload p f v) (v ≡ Breaks 505))) t u
     (same t u (taken_heartbeat p f))
     (match_once (is_on_wrong_channel f) (λ v. v ≡ Breaks 504) (λ v. MatchBool (f.kind == awaited p) (TakesPayload p f v) (v ≡ Breaks 505)) t u
-        (same t u (Breaks 504))
-        (match_once (f.kind == awaited p) (TakesPayload p f) (λ v. v ≡ Breaks 505) t u (payload_once m h p f t u) (same t u (Breaks 505))))
+    (same t u (Breaks 504))
+    (match_once (f.kind == awaited p) (TakesPayload p f) (λ v. v ≡ Breaks 505) t u (payload_once m h p f t u) (same t u (Breaks 505))))
     x y
 
 record Both (t u : Taken) (a b : Stream) : Type 0 where
@@ -41,10 +41,10 @@ takes_once m h s a b t u below x y =
     record {
       effect = one;
       left = x.left
-        ∙ ap (λ (f : Frame). after_frame s f.channel t x.rest) front.0
-        ∙ ap (λ (v : Taken). after_frame s y.frame.channel v x.rest) one
-        ∙ ap (λ (z : List ℕ). after_frame s y.frame.channel u z) front.1
-        ∙ sym y.left;
+          ∙ ap (λ (f : Frame). after_frame s f.channel t x.rest) front.0
+          ∙ ap (λ (v : Taken). after_frame s y.frame.channel v x.rest) one
+          ∙ ap (λ (z : List ℕ). after_frame s y.frame.channel u z) front.1
+          ∙ sym y.left;
     }
 
 whole_or : (s a : Stream) (t : Taken) → Takes s t a → IsBroken s.max s.unread → ⊥

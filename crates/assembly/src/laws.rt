@@ -20,5 +20,4 @@ pub fn going_on_stays()
 /// A stream has one next command or one end, where each payload says one thing.
 pub fn one_next()
     ensures { OneNext }
-{
-}
+{}

@@ -1,7 +1,7 @@
 //! Streams of bytes that were spelled by hand.
 
 use crate::{Fault, Stream};
-use model::{Command, Method};
+use model::{Command, Content, Method, Publish};
 use std::test::Fail;
 
 // basic.publish on channel 1 to the exchange "x" with the key "k".
@@ -19,6 +19,51 @@ const SECOND: [u8; 11] = [3, 0, 1, 0, 0, 0, 3, b'l', b'l', b'o', 0xCE];
 // confirm.select on channel 2.
 const SELECT: [u8; 13] = [1, 0, 2, 0, 0, 0, 5, 0, 85, 0, 10, 0, 0xCE];
 
+/// An answer, as far as these tests tell answers apart.
+#[derive(Clone, Copy, PartialEq, Eq, Debug, Drop)]
+enum Said {
+    Nothing,
+    Select(u16),
+    /// A publish to "x" with the key "k" and the body "hello".
+    Hello(u16),
+    Other,
+    Fault(Fault),
+}
+
+fn said_of(command: &Command) -> Said {
+    match command {
+        Command::Plain { channel, method } => match method {
+            Method::ConfirmSelect { .. } => Said::Select(*channel),
+            _ => Said::Other,
+        },
+        Command::Full {
+            channel,
+            publish,
+            content,
+        } => {
+            if is_hello(publish, content) {
+                Said::Hello(*channel)
+            } else {
+                Said::Other
+            }
+        }
+    }
+}
+
+fn is_hello(publish: &Publish, content: &Content) -> bool {
+    publish.exchange.as_bytes() == b"x".as_slice()
+        && publish.routing_key.as_bytes() == b"k".as_slice()
+        && content.body.as_bytes() == b"hello".as_slice()
+}
+
+fn next(stream: &mut Stream) -> Said {
+    match stream.next() {
+        Ok(Some(command)) => said_of(&command),
+        Ok(None) => Said::Nothing,
+        Err(fault) => Said::Fault(fault),
+    }
+}
+
 #[test]
 fn gives_a_publish_when_its_last_byte_came(rt: HostRuntime) -> Result<(), Fail> {
     let mut stream = Stream::running(rt.alloc());
@@ -26,38 +71,14 @@ fn gives_a_publish_when_its_last_byte_came(rt: HostRuntime) -> Result<(), Fail> 
     stream.feed(&HEADER)?;
     stream.feed(&SELECT)?;
     stream.feed(&FIRST)?;
-    assert!(rt;
-        matches!(
-            stream.next(),
-            Ok(Some(Command::Plain {
-                channel: 2,
-                method: Method::ConfirmSelect { no_wait: false }
-            }))
-        )
-    );
+    assert_eq!(rt; next(&mut stream), Said::Select(2));
     for byte in &SECOND[..10] {
         stream.feed(&[*byte])?;
-        assert!(rt; matches!(stream.next(), Ok(None)));
+        assert_eq!(rt; next(&mut stream), Said::Nothing);
     }
     assert_eq!(rt; stream.unread(), 10);
     stream.feed(&[0xCE])?;
-    match stream.next() {
-        Ok(
-            Some(
-                Command::Full {
-                    channel,
-                    publish,
-                    content,
-                },
-            ),
-        ) => {
-            assert_eq!(rt; channel, 1);
-            assert_eq!(rt; publish.exchange.as_bytes(), b"x".as_slice());
-            assert_eq!(rt; publish.routing_key.as_bytes(), b"k".as_slice());
-            assert_eq!(rt; content.body.as_bytes(), b"hello".as_slice());
-        }
-        _ => assert!(rt; false),
-    }
+    assert_eq!(rt; next(&mut stream), Said::Hello(1));
     assert_eq!(rt; stream.unread(), 0);
     Ok(())
 }
@@ -67,8 +88,8 @@ fn answers_a_fault_again(rt: HostRuntime) -> Result<(), Fail> {
     let mut stream = Stream::running(rt.alloc());
     stream.feed(&PUBLISH)?;
     stream.feed(&FIRST)?;
-    assert!(rt; matches!(stream.next(), Err(Fault::Broken(505))));
+    assert_eq!(rt; next(&mut stream), Said::Fault(Fault::Broken(505)));
     stream.feed(&SELECT)?;
-    assert!(rt; matches!(stream.next(), Err(Fault::Broken(505))));
+    assert_eq!(rt; next(&mut stream), Said::Fault(Fault::Broken(505)));
     Ok(())
 }

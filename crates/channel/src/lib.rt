@@ -4,9 +4,9 @@
 //! nothing so far, so that those parts are as on a new channel.
 #![tactic(auto)]
 
-ghost use Rattle.std.specs.Prelude.{◌≡◌, ◌+◌, ◌^◌, ◌<◌, IfSome, true};
+ghost use Rattle.std.specs.Prelude.{◌≡◌, true, false};
 ghost use Rattle.model.specs.Broker.{new_channel};
-ghost use Rattle.model.specs.Step.{started, next_of};
+ghost use Rattle.model.specs.Step.{started, next_of, is_spent};
 
 use std::marker::Model;
 
@@ -71,13 +71,22 @@ impl Channel {
         }
     }
 
+    /// The confirm number of the next publish, where publishes are confirmed.
+    pub fn next_confirm(&self) -> Option<u64>
+        requires { is_spent self.now.confirm ≡ false }
+        ensures { result ≡ next_of self.now.confirm }
+    {
+        match self.confirm {
+            Some(number) => Some(number + 1),
+            None => None,
+        }
+    }
+
     /// One publish more: it takes the next confirm number, where publishes are confirmed.
     pub fn count_publish(&mut self)
-        requires { IfSome self.old.confirm (λ n. n + 1 < 2 ^ 64) }
+        requires { is_spent self.old.confirm ≡ false }
         ensures { self.new ≡ record self.old { confirm = next_of self.old.confirm } }
     {
-        if let Some(number) = self.confirm {
-            self.confirm = Some(number + 1);
-        }
+        self.confirm = self.next_confirm();
     }
 }

@@ -17,7 +17,12 @@ abbrev pub Refused : Properties → WriteError → Type 0
 Refused p NotImplemented = p ≢ no_properties
 Refused p Memory = ⊤
 
+-- the header is not written for this reason, which is not want of memory
+abbrev pub Barred : Properties → WriteError → Type 0
+Barred p NotImplemented = p ≢ no_properties
+Barred p Memory = ⊥
+
 -- a header without properties has 14 bytes, for a body of any size; or why there is none
 abbrev pub Counts : Properties → Result ℕ WriteError → Type 0
 Counts p (Ok n) = (p ≡ no_properties) × (n ≡ 14)
-Counts p (Err e) = Refused p e
+Counts p (Err e) = Barred p e

@@ -1,7 +1,8 @@
 //! Headers are written.
 
-ghost use Rattle.std.specs.Prelude.{◌≡◌, ◌+◌, ◌≤◌, ◌++◌, length, vec_len, vec_capacity, is_none, OnOk, IfErr};
+ghost use Rattle.std.specs.Prelude.{◌≡◌, ◌+◌, ◌<◌, ◌≤◌, ◌++◌, length, vec_len, vec_capacity, is_none, OnOk, IfErr, Err};
 ghost use Rattle.model.specs.Headers.{header_bytes, no_properties};
+ghost use Rattle.headers.specs.declared.contents.WriteError.TheVariants.{Memory};
 ghost use Rattle.headers.specs.Writing.{Counts, Refused, is_bare};
 
 use crate::contents::WriteError;
@@ -11,14 +12,20 @@ use model::Properties;
 pub fn write_header(out: &mut Vec<u8>, size: u64, properties: &Properties) -> Result<(), WriteError>
     ensures ok { OnOk result ((properties.now ≡ no_properties) × (out.new.items ≡ out.old.items ++ header_bytes size properties.now)) }
     ensures err { IfErr result (λ e. Refused properties.now e × (out.new.items ≡ out.old.items)) }
+    // Memory was really wanted.
+    ensures full { result ≡ Err Memory → vec_capacity out.old < vec_len out.old + 14 }
 {
-    let len = spelled_len(properties)?;
-    match out.reserve(len) {
-        Ok(()) => {}
-        Err(_) => return Err(WriteError::Memory),
+    match spelled_len(properties) {
+        Err(e) => Err(e),
+        Ok(len) => {
+            match out.reserve(len) {
+                Ok(()) => {}
+                Err(_) => return Err(WriteError::Memory),
+            }
+            put_header(out, size, properties);
+            Ok(())
+        }
     }
-    put_header(out, size, properties);
-    Ok(())
 }
 
 /// How many bytes the header of a body with these properties has, whatever the body's size, or why it has none.

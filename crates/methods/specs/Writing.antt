@@ -87,7 +87,13 @@ Refused m SyntaxError = IsMethod m → ⊥
 Refused m NotImplemented = has_table m ≡ true
 Refused m Memory = ⊤
 
+-- the method is not written for this reason, which is not want of memory
+abbrev pub Barred : Method → WriteError → Type 0
+Barred m SyntaxError = IsMethod m → ⊥
+Barred m NotImplemented = has_table m ≡ true
+Barred m Memory = ⊥
+
 -- the answer is so many bytes, or why there are none
 abbrev pub Counts : Method → Result ℕ WriteError → Type 0
 Counts m (Ok n) = IsWritten m × (n ≡ length (method_bytes m))
-Counts m (Err e) = Refused m e
+Counts m (Err e) = Barred m e

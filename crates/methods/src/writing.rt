@@ -1,7 +1,8 @@
 //! Methods are written.
 
-ghost use Rattle.std.specs.Prelude.{◌≡◌, ◌+◌, ◌≤◌, ◌++◌, length, vec_len, vec_capacity, OnOk, IfErr};
+ghost use Rattle.std.specs.Prelude.{◌≡◌, ◌+◌, ◌<◌, ◌≤◌, ◌++◌, length, vec_len, vec_capacity, OnOk, IfErr, Err};
 ghost use Rattle.model.specs.Grammar.{method_bytes};
+ghost use Rattle.methods.specs.declared.pieces.WriteError.TheVariants.{Memory};
 ghost use Rattle.methods.specs.Writing.{Counts, IsWritten, Refused};
 
 use crate::lines::line_of;
@@ -13,14 +14,20 @@ use model::Method;
 pub fn write_method(out: &mut Vec<u8>, m: &Method) -> Result<(), WriteError>
     ensures ok { OnOk result (IsWritten m.now × (out.new.items ≡ out.old.items ++ method_bytes m.now)) }
     ensures err { IfErr result (λ e. Refused m.now e × (out.new.items ≡ out.old.items)) }
+    // Memory was really wanted.
+    ensures full { result ≡ Err Memory → vec_capacity out.old < vec_len out.old + length (method_bytes m.now) }
 {
-    let len = spelled_len(m)?;
-    match out.reserve(len) {
-        Ok(()) => {}
-        Err(_) => return Err(WriteError::Memory),
+    match spelled_len(m) {
+        Err(e) => Err(e),
+        Ok(len) => {
+            match out.reserve(len) {
+                Ok(()) => {}
+                Err(_) => return Err(WriteError::Memory),
+            }
+            put_method(out, m);
+            Ok(())
+        }
     }
-    put_method(out, m);
-    Ok(())
 }
 
 /// How many bytes the spelling of `m` has, or why it has none.

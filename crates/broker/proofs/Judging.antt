@@ -1,0 +1,33 @@
+-- What is decided of a command, from the first test that holds.
+use Rattle.std.proofs.Common.{◌≡◌, ◌≢◌, ◌<◌, ℕ, Bool, true, false, Option, Some, None, Result, arith, refl, subst, sym, nat_eq, nat_lt}
+use Rattle.std.proofs.lemmas.Grind.{common_steps}
+use Rattle.std.proofs.lemmas.Bool.Decides.{nat_tests}
+use Rattle.model.specs.Topology.{Topology}
+use Rattle.model.specs.Broker.{Broker, Channel, Connection}
+use Rattle.model.specs.Step.{Refusal, is_awaiting, is_of_connection, refusal, refusal_while_closing, refusal_on_zero, refusal_on, refusal_of}
+use Rattle.model.specs.declared.methods.Method.{Method}
+use Rattle.broker.specs.Judged.{Judges}
+use Rattle.broker.specs.declared.refusals.Refusal as declared
+use Rattle.broker.specs.declared.refusals.Act as wanted
+
+pub closing_judged : (t : Topology) (b : Broker) (conn : Connection) (h : ℕ) (m : Method) (r : Result wanted.Act declared.Refusal) (ch : Option Channel)
+    → is_awaiting ch ≡ true → ((k : Channel) → k.is_closing ≡ true → Judges t b (Some k) m (refusal_while_closing m) r)
+    → Judges t b ch m (refusal t b conn h m ch) r
+closing_judged t b conn h m r None e f = absurd (let g : false ≡ true = e in cc)
+closing_judged t b conn h m r (Some k) e f =
+    let same : refusal t b conn h m (Some k) ≡ refusal_while_closing m = rw e refl in
+    subst (λ (x : Option Refusal). Judges t b (Some k) m x r) (sym same) (f k e)
+
+pub zero_judged : (t : Topology) (b : Broker) (conn : Connection) (h : ℕ) (m : Method) (r : Result wanted.Act declared.Refusal) (ch : Option Channel)
+    → is_awaiting ch ≡ false → h ≡ 0 → Judges t b ch m (refusal_on_zero m) r
+    → Judges t b ch m (refusal t b conn h m ch) r
+zero_judged t b conn h m r ch e z f = rw (e, z) f
+
+pub open_judged : (t : Topology) (b : Broker) (conn : Connection) (h : ℕ) (m : Method) (r : Result wanted.Act declared.Refusal) (k : Channel)
+    → k.is_closing ≡ false → h ≢ 0 → is_of_connection m ≡ false → (conn.channel_max < h → ⊥) → Judges t b (Some k) m (refusal_of t b k m) r
+    → Judges t b (Some k) m (refusal t b conn h m (Some k)) r
+open_judged t b conn h m r k e z n l f =
+    let zero : nat_eq h 0 ≡ false = grind (arith, nat_tests) in
+    let within : nat_lt conn.channel_max h ≡ false = grind (arith, nat_tests) in
+    let same : refusal t b conn h m (Some k) ≡ refusal_of t b k m = rw (e, zero, n, within) refl in
+    subst (λ (x : Option Refusal). Judges t b (Some k) m x r) (sym same) f

@@ -1,0 +1,134 @@
+-- What the parts of a step leave, as the model's state.
+use Rattle.std.proofs.Common.{◌≡◌, ◌+◌, ◌++◌, ◌∷◌, [], ℕ, zero, suc, List, Bool, true, false, ◌&&◌, ◌||◌, IsSome, Result, Option, Some, None, map, length, replicate, refl, sym, ap, subst, ◌∙◌, if◌then◌else◌}
+use Rattle.std.proofs.lemmas.List.{append-nil}
+use Rattle.std.specs.Str.{bytes_eq}
+use Rattle.model.specs.Words.{Text}
+use Rattle.model.specs.Topology.{Topology, queue_names}
+use Rattle.model.specs.Broker.{Broker, Channel, Connection, listed, with_one, with_row}
+use Rattle.model.specs.Step.{Performs, Decides, OnConnection, Refusal, Of_connection, Is, channel_or_new, refusal_of_publish, refusal_to, refusal_of_count, or_else, IsPublish, with_gone, with_freed, with_channel, freed, by_channel, by_connection, refusal, next_of, confirm_sends, confirm_notes, answer_of, returned_sends, returned_notes, entry_notes, is_none, is_some_full}
+use Rattle.model.specs.declared.messages.Entry.{Entry}
+use Rattle.model.specs.declared.messages.Holder.{Holder}
+use Rattle.model.specs.declared.contents.Content.{Content}
+use Rattle.model.specs.declared.methods.Method.{Method}
+use Rattle.model.specs.declared.methods.Publish.{Publish}
+use Rattle.model.specs.declared.events.Send.{Send}
+use Rattle.model.specs.declared.notes.Note.{Note}
+use Rattle.model.specs.declared.notes.Note.TheVariants.{Published}
+use Rattle.model.specs.declared.notes.Way.TheVariants as way
+use Rattle.depot.specs.Store.{Store, with_requeued, queue_of}
+use Rattle.depot.specs.Publishing.{Publishes}
+use Rattle.depot.specs.declared.depots.Routed.{Routed}
+use Rattle.broker.specs.Links.{Linked, link_in, channel_in, limits_of, connection_at, channel_at, connection_of, channel_of, AreLinks, Puts}
+use Rattle.broker.specs.State.{Kept, broker_of, topology_of}
+use Rattle.broker.specs.Judged.{Judges, JudgesOn}
+use Rattle.broker.specs.declared.refusals.Refusal as declared
+use Rattle.broker.specs.declared.refusals.Act as wanted
+
+-- queues with no entry have none by any name
+pub listed_none : (names : List Text) (n : ℕ) (q : Text) → listed names (replicate n []) q ≡ []
+listed_none [] n q = refl
+listed_none (name ∷ names) zero q = refl
+listed_none (name ∷ names) (suc n) q = chosen (bytes_eq name q) (listed names (replicate n []) q) (listed_none names n q)
+  where
+    chosen : (b : Bool) (x : List Entry) → x ≡ [] → (if b then [] else x) ≡ []
+    chosen true x e = refl
+    chosen false x e = e
+
+-- what is requeued in each queue is requeued in the queue of any name
+pub listed_requeued : (mine : Holder → Bool) (names : List Text) (lists : List (List Entry)) (q : Text)
+    → listed names (map (λ (es : List Entry). map (freed mine) es) lists) q ≡ map (freed mine) (listed names lists q)
+listed_requeued mine [] lists q = refl
+listed_requeued mine (name ∷ names) [] q = refl
+listed_requeued mine (name ∷ names) (entries ∷ lists) q = chosen (bytes_eq name q) (map (freed mine) entries) entries (listed names (map (λ (es : List Entry). map (freed mine) es) lists) q) (listed names lists q) refl (listed_requeued mine names lists q)
+  where
+    chosen : (b : Bool) (x y x' y' : List Entry) → x ≡ map (freed mine) y → x' ≡ map (freed mine) y' → (if b then x else x') ≡ map (freed mine) (if b then y else y')
+    chosen true x y x' y' e e' = e
+    chosen false x y x' y' e e' = e'
+
+-- a connection is gone, and what it held is requeued
+pub gone_is : (old new : Kept) (c : ℕ) → new.store ≡ with_requeued old.store (by_connection c)
+    → AreLinks new.links (with_one (connection_of old.links) c None) (with_row (channel_of old.links) c (λ h. None))
+    → Is (with_gone (broker_of old) c) (broker_of new)
+gone_is old new c e l = record {
+  counted = ap (λ (s : Store). s.published) e;
+  queues = λ q. ap (λ (s : Store). queue_of s q) e ∙ listed_requeued (by_connection c) (queue_names old.store.topology.queues) old.store.queues q;
+  connections = l.connections_are;
+  channels = l.channels_are;
+}
+
+-- a channel is another, and what it held is requeued
+pub cleared_is : (old new : Kept) (c h : ℕ) (ch : Option Channel) → new.store ≡ with_requeued old.store (by_channel c h) → Puts old.links c h ch new.links
+    → Is (with_freed (with_channel (broker_of old) c h ch) (by_channel c h)) (broker_of new)
+cleared_is old new c h ch e l = record {
+  counted = ap (λ (s : Store). s.published) e;
+  queues = λ q. ap (λ (s : Store). queue_of s q) e ∙ listed_requeued (by_channel c h) (queue_names old.store.topology.queues) old.store.queues q;
+  connections = l.connections;
+  channels = l.channels;
+}
+
+-- a channel is another, and nothing else changes
+pub put_is : (old new : Kept) (c h : ℕ) (ch : Option Channel) → new.store ≡ old.store → Puts old.links c h ch new.links
+    → Is (with_channel (broker_of old) c h ch) (broker_of new)
+put_is old new c h ch e l = record {
+  counted = ap (λ (s : Store). s.published) e;
+  queues = λ q. ap (λ (s : Store). queue_of s q) e;
+  connections = l.connections;
+  channels = l.channels;
+}
+
+-- what is judged by the connection that stands there is judged by the broker's state
+pub judged_on : (kept : Kept) (c h : ℕ) (m : Method) (r : Result wanted.Act declared.Refusal) (l : Linked) → link_in kept.links c ≡ Some l
+    → Judges (topology_of kept) (broker_of kept) (channel_in l h) m (refusal (topology_of kept) (broker_of kept) (limits_of l) h m (channel_in l h)) r
+    → JudgesOn (topology_of kept) (broker_of kept) c h m (Some r)
+judged_on kept c h m r l e j = (
+  limits_of l,
+  ap connection_at e,
+  subst (λ (x : Option Linked). Judges (topology_of kept) (broker_of kept) (channel_at x h) m (refusal (topology_of kept) (broker_of kept) (limits_of l) h m (channel_at x h)) r) (sym e) j,
+)
+
+-- a publish of the depot, counted on the channel and confirmed, is one of the broker
+pub published_is : (old new : Kept) (c h : ℕ) (ch : Channel) (p : Publish) (content : Content) (noted : List Note) (routed : Routed)
+    → p.mandatory ≡ false
+    → Publishes old.store c h p content (next_of ch.confirm) noted routed new.store
+    → Puts old.links c h (Some (record ch { confirm = next_of ch.confirm })) new.links
+    → IsPublish (topology_of old) (broker_of old) c h ch p content (confirm_sends c h (next_of ch.confirm) (answer_of routed.is_some_full))
+    (noted ++ confirm_notes (old.store.published + 1) (next_of ch.confirm) (answer_of routed.is_some_full)) (broker_of new)
+published_is old new c h ch p content noted routed man made put =
+    let n = old.store.published + 1 in
+    let entries = queue_of old.store in
+    let full = is_some_full old.store.topology entries content made.targets in
+    let front : List Note = Published n c h p.exchange p.routing_key (next_of ch.confirm) ∷ entry_notes old.store.topology entries (length content.body) n way.Publish made.targets in
+    record {
+      targets = made.targets;
+      routed = made.picked;
+      noted = ap (λ (z : List Note). z ++ confirm_notes n (next_of ch.confirm) (answer_of routed.is_some_full)) made.notes
+          ∙ ap (λ (f : Bool). front ++ confirm_notes n (next_of ch.confirm) (answer_of f)) made.full
+          ∙ ap (λ (z : List Note). z ++ confirm_notes n (next_of ch.confirm) (answer_of full)) (sym (append-nil front))
+          ∙ ap (λ (b : Bool). (front ++ returned_notes n (b && is_none made.targets)) ++ confirm_notes n (next_of ch.confirm) (answer_of full)) (sym man);
+      sent = ap (λ (f : Bool). confirm_sends c h (next_of ch.confirm) (answer_of f)) made.full
+          ∙ ap (λ (b : Bool). returned_sends c h p content (b && is_none made.targets) ++ confirm_sends c h (next_of ch.confirm) (answer_of full)) (sym man);
+      left = record { counted = made.counted; queues = made.queues; connections = put.connections; channels = put.channels };
+    }
+
+-- an open channel is the one that is meant
+pub some_channel : (ch : Option Channel) → IsSome ch → ch ≡ Some (channel_or_new ch)
+some_channel None h = cc
+some_channel (Some k) h = refl
+
+-- what is accepted is not mandatory
+pub not_mandatory : (t : Topology) (b : Broker) (ch : Channel) (p : Publish) → refusal_of_publish t b ch p ≡ None → p.mandatory ≡ false
+not_mandatory t b ch p h = chosen p.immediate p.mandatory (or_else (refusal_to t p.exchange) (refusal_of_count b ch)) h
+  where
+    chosen : (i m : Bool) (rest : Option Refusal) → (if i || m then Some (Of_connection 540) else rest) ≡ None → m ≡ false
+    chosen true m rest e = cc
+    chosen false true rest e = cc
+    chosen false false rest e = refl
+
+-- what is performed where nothing is said against it is what the command does
+pub performs_on : (t : Topology) (b : Broker) (c h : ℕ) (m : Method) (content : Option Content) (sends : List Send) (notes : List Note) (new : Broker) (conn : Connection)
+    → b.connection c ≡ Some conn → refusal t b conn h m (b.channel c h) ≡ None
+    → Performs t b c h (channel_or_new (b.channel c h)) m content sends notes new
+    → OnConnection t b c h m content sends notes new (b.connection c)
+performs_on t b c h m content sends notes new conn e r p =
+    subst (λ (o : Option Connection). OnConnection t b c h m content sends notes new o) (sym e)
+    (subst (λ (x : Option Refusal). Decides t b c h m content x sends notes new) (sym r) p)

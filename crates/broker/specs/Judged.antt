@@ -1,0 +1,52 @@
+-- What is decided of a command.
+use Rattle.std.specs.Prelude.{◌≡◌, ℕ, Bool, Option, Some, None, Result, Ok, Err, IsSome}
+use Rattle.model.specs.Topology.{Topology}
+use Rattle.model.specs.Broker.{Broker, Channel, Connection}
+use Rattle.model.specs.Step as step
+use Rattle.model.specs.Step.{Of_channel, Of_connection, refusal, refusal_of_publish, channel_or_new}
+use Rattle.model.specs.declared.methods.Close.{Close}
+use Rattle.model.specs.declared.methods.Method.{Method}
+use Rattle.model.specs.declared.methods.Method.TheVariants as method
+use Rattle.broker.specs.declared.refusals.Refusal.{Refusal}
+use Rattle.broker.specs.declared.refusals.Refusal.TheVariants as refused
+use Rattle.broker.specs.declared.refusals.Act.{Act}
+use Rattle.broker.specs.declared.refusals.Act.TheVariants as act
+
+-- a refusal of the code, as one of the model
+abbrev pub seen : Refusal → step.Refusal
+seen refused.Ignored = step.Ignored
+seen (refused.Channel code) = Of_channel code
+seen (refused.Connection code) = Of_connection code
+
+-- a refusal, if there is one
+abbrev pub seen_if : Option Refusal → Option step.Refusal
+seen_if None = None
+seen_if (Some r) = Some (seen r)
+
+-- a channel that a refusal closes is there
+abbrev pub HasChannel : Refusal → Option Channel → Type 0
+HasChannel refused.Ignored ch = Unit {0}
+HasChannel (refused.Channel code) ch = IsSome ch
+HasChannel (refused.Connection code) ch = Unit {0}
+
+-- the method asks for this act on the channel, which is there where it needs to be
+abbrev pub Asks : Topology → Broker → Option Channel → Method → Act → Type 0
+Asks t b ch m (act.Select no_wait) = (m ≡ method.ConfirmSelect no_wait) × IsSome ch
+Asks t b ch m (act.Publish p) = (m ≡ method.BasicPublish p.now) × IsSome ch × (refusal_of_publish t b (channel_or_new ch) p.now ≡ None)
+Asks t b ch m (act.CloseChannel is_closing) = (x : Close) × (m ≡ method.ChannelClose x) × IsSome ch × ((channel_or_new ch).is_closing ≡ is_closing)
+Asks t b ch m act.EndChannel = (m ≡ method.ChannelCloseOk) × IsSome ch
+Asks t b ch m act.CloseConnection = (x : Close) × (m ≡ method.ConnectionClose x)
+
+-- the act can be done: some method asks for it
+abbrev pub CanAct : Topology → Broker → Option Channel → Act → Type 0
+CanAct t b ch asked = (m : Method) × Asks t b ch m asked
+
+-- Either the method is refused as the model says, or nothing is said against it and it asks for this act.
+abbrev pub Judges : Topology → Broker → Option Channel → Method → Option step.Refusal → Result Act Refusal → Type 0
+Judges t b ch m r (Ok asked) = (r ≡ None) × Asks t b ch m asked
+Judges t b ch m r (Err e) = (r ≡ Some (seen e)) × HasChannel e ch
+
+-- The same of a command on a connection, which is silent where that doesn't run.
+abbrev pub JudgesOn : Topology → Broker → ℕ → ℕ → Method → Option (Result Act Refusal) → Type 0
+JudgesOn t b c h m None = b.connection c ≡ None
+JudgesOn t b c h m (Some r) = (conn : Connection) × (b.connection c ≡ Some conn) × Judges t b (b.channel c h) m (refusal t b conn h m (b.channel c h)) r

@@ -1,0 +1,4 @@
+pub mod Links
+pub mod State
+pub mod Judged
+pub mod Sent

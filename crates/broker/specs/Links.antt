@@ -1,0 +1,61 @@
+-- The connections that run, each with its open channels, as they are kept.
+use Rattle.std.specs.Prelude.{◌≡◌, false, ℕ, List, [], ◌∷◌, Bool, Option, Some, None, nat_eq, slice_index_or}
+use Rattle.std.specs.Map.{lookup}
+use Rattle.model.specs.Step.{is_spent}
+use Rattle.model.specs.Broker.{Channel, Connection, with_one, with_pair}
+
+-- a connection that runs; its channels stand at their numbers
+pub record Linked : Type 0 where
+  pub channel_max : ℕ
+  pub is_paused : Bool
+  pub channels : List (Option Channel)
+
+-- the open channel of this number
+abbrev pub channel_in : Linked → ℕ → Option Channel
+channel_in l h = slice_index_or l.channels h None
+
+-- the connection of this number, where each stands beside its number
+abbrev pub link_in : List (ℕ × Linked) → ℕ → Option Linked
+link_in links c = lookup (nat_eq c) links
+
+abbrev pub limits_of : Linked → Connection
+limits_of l = record { channel_max = l.channel_max; is_paused = l.is_paused }
+
+abbrev pub connection_at : Option Linked → Option Connection
+connection_at None = None
+connection_at (Some l) = Some (limits_of l)
+
+abbrev pub channel_at : Option Linked → ℕ → Option Channel
+channel_at None h = None
+channel_at (Some l) h = channel_in l h
+
+-- what the model says of these connections
+abbrev pub connection_of : List (ℕ × Linked) → ℕ → Option Connection
+connection_of links c = connection_at (link_in links c)
+
+abbrev pub channel_of : List (ℕ × Linked) → ℕ → ℕ → Option Channel
+channel_of links c h = channel_at (link_in links c) h
+
+-- the channel's confirm number can rise, where there are a channel and a number
+abbrev pub CanCount : Option Channel → Type 0
+CanCount ch = (k : Channel) → ch ≡ Some k → is_spent k.confirm ≡ false
+
+-- this channel stands at h now, and the others as before
+abbrev pub IsSet : List (Option Channel) → ℕ → Option Channel → List (Option Channel) → Type 0
+IsSet old h ch new = (k : ℕ) → slice_index_or new k None ≡ with_one (λ (i : ℕ). slice_index_or old i None) h ch k
+
+-- the same in a connection, of which all else stays
+pub record PutsIn (old : Linked) (h : ℕ) (ch : Option Channel) (new : Linked) : Type 0 where
+  pub max : new.channel_max ≡ old.channel_max
+  pub pause : new.is_paused ≡ old.is_paused
+  pub channels : (k : ℕ) → channel_in new k ≡ with_one (channel_in old) h ch k
+
+-- This stands at the channel h of the connection c now, and everything else stays.
+pub record Puts (old : List (ℕ × Linked)) (c h : ℕ) (ch : Option Channel) (new : List (ℕ × Linked)) : Type 0 where
+  pub connections : (d : ℕ) → connection_of new d ≡ connection_of old d
+  pub channels : (d k : ℕ) → channel_of new d k ≡ with_pair (channel_of old) c h ch d k
+
+-- These connections and channels are there now.
+pub record AreLinks (new : List (ℕ × Linked)) (connections : ℕ → Option Connection) (channels : ℕ → ℕ → Option Channel) : Type 0 where
+  pub connections_are : (d : ℕ) → connection_of new d ≡ connections d
+  pub channels_are : (d k : ℕ) → channel_of new d k ≡ channels d k

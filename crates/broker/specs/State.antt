@@ -1,0 +1,28 @@
+-- What is kept, as the broker's state.
+use Rattle.std.specs.Prelude.{ℕ, List, [], None}
+use Rattle.model.specs.Topology.{Topology, queue_names}
+use Rattle.model.specs.Broker.{Broker, listed}
+use Rattle.depot.specs.Store.{Store}
+use Rattle.broker.specs.Links.{Linked, connection_of, channel_of}
+
+-- the queues with their entries, and the connections that run beside their numbers
+pub record Kept : Type 0 where
+  pub store : Store
+  pub links : List (ℕ × Linked)
+
+-- the topology that the broker runs
+abbrev pub topology_of : Kept → Topology
+topology_of kept = kept.store.topology
+
+-- the state that the broker is in
+abbrev pub broker_of : Kept → Broker
+broker_of kept = record {
+  published = kept.store.published;
+  queue = listed (queue_names kept.store.topology.queues) kept.store.queues;
+  connection = connection_of kept.links;
+  channel = channel_of kept.links;
+}
+
+-- the state of a broker that nothing was asked of yet
+abbrev pub nothing : Broker
+nothing = record { published = 0; queue = λ q. []; connection = λ c. None; channel = λ c h. None }

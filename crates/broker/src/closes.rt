@@ -1,0 +1,110 @@
+//! The methods that the broker sends.
+
+ghost use Rattle.std.specs.Prelude.{◌≡◌, ◌<◌, None, true, false, length};
+ghost use Rattle.model.specs.Codes.{code_text};
+ghost use Rattle.model.specs.Grammar.{ids};
+ghost use Rattle.model.specs.Step as said;
+ghost use Rattle.model.specs.declared.methods.Method.TheVariants as seen;
+ghost use Rattle.broker.specs.Sent.{IsOwn};
+
+use crate::names::{Ids, text_of};
+use model::{Ack, Answer, Close, Method, Nack, Send};
+
+/// A method that carries no content.
+fn reply(connection: u64, channel: u16, method: Method) -> Send
+    ensures { result ≡ said.reply connection channel method }
+{
+    Send::Command {
+        connection,
+        channel,
+        method,
+        content: None,
+    }
+}
+
+/// What a close says: this code, and the method that caused it.
+fn close(code: u16, cause: Ids) -> Close
+    ensures close { result ≡ record { reply_code = code; reply_text = code_text code; class_id = cause.class; method_id = cause.method } }
+    ensures short { length result.reply_text < 256 }
+{
+    Close {
+        reply_code: code,
+        reply_text: text_of(code),
+        class_id: cause.class,
+        method_id: cause.method,
+    }
+}
+
+/// channel.close, with this reply code, for this method.
+pub(crate) fn channel_close(connection: u64, channel: u16, code: u16, cause: Ids) -> Send
+    ensures send { result ≡ said.channel_close connection channel code (ids cause.class cause.method) }
+    ensures own { IsOwn connection result }
+{
+    reply(
+        connection,
+        channel,
+        Method::ChannelClose(close(code, cause)),
+    )
+}
+
+/// connection.close, with this reply code, for this method.
+pub(crate) fn connection_close(connection: u64, code: u16, cause: Ids) -> Send
+    ensures send { result ≡ said.connection_close connection code (ids cause.class cause.method) }
+    ensures own { IsOwn connection result }
+{
+    reply(connection, 0, Method::ConnectionClose(close(code, cause)))
+}
+
+/// channel.close-ok.
+pub(crate) fn channel_close_ok(connection: u64, channel: u16) -> Send
+    ensures send { result ≡ said.reply connection channel seen.ChannelCloseOk }
+    ensures own { IsOwn connection result }
+{
+    reply(connection, channel, Method::ChannelCloseOk)
+}
+
+/// connection.close-ok.
+pub(crate) fn connection_close_ok(connection: u64) -> Send
+    ensures send { result ≡ said.reply connection 0 seen.ConnectionCloseOk }
+    ensures own { IsOwn connection result }
+{
+    reply(connection, 0, Method::ConnectionCloseOk)
+}
+
+/// confirm.select-ok.
+pub(crate) fn select_ok(connection: u64, channel: u16) -> Send
+    ensures send { result ≡ said.reply connection channel seen.ConfirmSelectOk }
+    ensures own { IsOwn connection result }
+{
+    reply(connection, channel, Method::ConfirmSelectOk)
+}
+
+/// Nack where some routed queue was full, else ack.
+pub(crate) fn answer_of(is_some_full: bool) -> Answer
+    ensures { result ≡ said.answer_of is_some_full }
+{
+    if is_some_full {
+        Answer::Nack
+    } else {
+        Answer::Ack
+    }
+}
+
+/// basic.ack or basic.nack of the publish with this confirm number, and of no other.
+pub(crate) fn confirm(connection: u64, channel: u16, answer: Answer, number: u64) -> Send
+    ensures send { result ≡ said.reply connection channel (said.confirm_method answer number) }
+    ensures own { IsOwn connection result }
+{
+    let method = match answer {
+        Answer::Ack => Method::BasicAck(Ack {
+            delivery_tag: number,
+            multiple: false,
+        }),
+        Answer::Nack => Method::BasicNack(Nack {
+            delivery_tag: number,
+            multiple: false,
+            requeue: false,
+        }),
+    };
+    reply(connection, channel, method)
+}

@@ -1,0 +1,15 @@
+//! The broker: queues, running connections and their channels, and what each event does to them.
+//!
+//! A step is one of the model's (`Acts` of the model's `Step`): the state that a caller sees is a record of lists
+//! (`Kept`), and `broker_of` reads the model's state from it.
+#![tactic(auto)]
+
+mod brokers;
+mod closes;
+mod links;
+mod names;
+mod refusals;
+mod steps;
+
+pub use brokers::Broker;
+pub use steps::Step;

@@ -1,0 +1,322 @@
+//! Connections that run, and their channels.
+//!
+//! A connection is looked up by its number in a map, and a channel stands in its connection at its number.
+
+ghost use Rattle.std.specs.Prelude.{
+  ◌≡◌,
+  ◌+◌,
+  ◌∷◌,
+  [],
+  ℕ,
+  None,
+  Some,
+  false,
+  IsSome,
+  IfOk,
+  OnErr,
+  replicate,
+  slice_set,
+  slice_index_or,
+  length,
+};
+ghost use Rattle.std.specs.Option.{option_copied};
+ghost use Rattle.model.specs.Broker.{new_channel, with_one, with_row};
+ghost use Rattle.model.specs.Broker as seen;
+ghost use Rattle.model.specs.Step.{started, next_of, channels_up_to, paused};
+ghost use Rattle.broker.specs.Links.{CanCount, IsSet};
+
+use channel::Channel;
+use std::alloc::{AllocError, Global};
+use std::collections::HashMap;
+use std::marker::Model;
+
+/// What is kept of a connection that runs.
+#[derive(Drop)]
+pub(crate) struct Link {
+    channel_max: u16,
+    is_paused: bool,
+    /// Each open channel at its number.
+    channels: Vec<Option<Channel>>,
+}
+
+impl Model for Link {
+    ghost use Rattle.broker.specs.Links.{Linked};
+
+    ghost Value = { Linked };
+
+    ghost view = { λ l. record { channel_max = l.channel_max; is_paused = l.is_paused; channels = l.channels.items } };
+}
+
+/// Room for the channels 0 to `count`, where all but 0 are open and new.
+fn open_channels(alloc: Global, count: u16) -> Result<Vec<Option<Channel>>, AllocError>
+    ensures { IfOk result (λ channels. channels.items ≡ None ∷ replicate count (Some new_channel)) }
+{
+    let mut channels = Vec::new(alloc);
+    channels.reserve(count as usize + 1)?;
+    channels.push_reserved(None);
+    for number in 0..count {
+        channels.push_reserved(Some(Channel::new()));
+    }
+    Ok(channels)
+}
+
+/// Publishes on this channel are confirmed from now on.
+fn select_in(slot: &mut Option<Channel>)
+    ensures { (ch : seen.Channel) → slot.old ≡ Some ch → slot.new ≡ Some (record ch { confirm = started ch.confirm }) }
+{
+    if let Some(channel) = slot {
+        channel.select();
+    }
+}
+
+/// One publish more on this channel.
+fn count_in(slot: &mut Option<Channel>)
+    requires { CanCount slot.old }
+    ensures { (ch : seen.Channel) → slot.old ≡ Some ch → slot.new ≡ Some (record ch { confirm = next_of ch.confirm }) }
+{
+    if let Some(channel) = slot {
+        channel.count_publish();
+    }
+}
+
+/// The same of the channel of this number.
+fn select_at(channels: &mut [Option<Channel>], number: u16)
+    ensures { (ch : seen.Channel) → slice_index_or channels.old number None ≡ Some ch → IsSet channels.old number (Some (record ch { confirm = started ch.confirm })) channels.new }
+{
+    let at = number as usize;
+    if at < channels.len() {
+        select_in(&mut channels[at]);
+    }
+}
+
+/// The same of the channel of this number.
+fn count_at(channels: &mut [Option<Channel>], number: u16)
+    requires { CanCount (slice_index_or channels.old number None) }
+    ensures { (ch : seen.Channel) → slice_index_or channels.old number None ≡ Some ch → IsSet channels.old number (Some (record ch { confirm = next_of ch.confirm })) channels.new }
+{
+    let at = number as usize;
+    if at < channels.len() {
+        count_in(&mut channels[at]);
+    }
+}
+
+/// This stands at the channel of this number from now on.
+fn put_at(channels: &mut [Option<Channel>], number: u16, channel: Option<Channel>)
+    requires { IsSome (slice_index_or channels.old number None) }
+    ensures { IsSet channels.old number channel channels.new }
+{
+    let at = number as usize;
+    if at < channels.len() {
+        channels[at] = channel;
+    }
+}
+
+impl Link {
+    ghost use Rattle.std.specs.Prelude.{◌≡◌, ◌+◌, ◌<◌, ◌^◌, ℕ, None, Some, false, IsSome, IfSome, IfOk};
+    ghost use Rattle.std.specs.Option.{option_copied};
+    ghost use Rattle.model.specs.Broker as seen;
+    ghost use Rattle.model.specs.Broker.{with_one};
+    ghost use Rattle.model.specs.Step.{started, next_of, channels_up_to};
+    ghost use Rattle.broker.specs.Links.{channel_in, PutsIn, CanCount};
+
+    /// A connection with channels 1 to `channels` open and new.
+    fn new(alloc: Global, channel_max: u16, channels: u16) -> Result<Link, AllocError>
+        ensures max { IfOk result (λ l. l.channel_max ≡ channel_max) }
+        ensures paused { IfOk result (λ l. l.is_paused ≡ false) }
+        ensures channels { IfOk result (λ l. (h : ℕ) → channel_in l h ≡ channels_up_to channels h) }
+    {
+        Ok(Link {
+            channel_max,
+            is_paused: false,
+            channels: open_channels(alloc, channels)?,
+        })
+    }
+
+    /// The greatest channel number that was agreed on.
+    pub fn channel_max(&self) -> u16
+        ensures { result ≡ self.now.channel_max }
+    {
+        self.channel_max
+    }
+
+    /// The open channel of this number.
+    pub fn channel(&self, number: u16) -> Option<&Channel>
+        ensures { option_copied result ≡ channel_in self.now number }
+    {
+        match self.channels.get(number as usize) {
+            Some(Some(channel)) => Some(channel),
+            _ => None,
+        }
+    }
+
+    /// The confirm number of the next publish on this channel, where publishes are confirmed there.
+    fn next_confirm(&self, number: u16) -> Option<u64>
+        requires { CanCount (channel_in self.now number) }
+        ensures { (ch : seen.Channel) → channel_in self.now number ≡ Some ch → result ≡ next_of ch.confirm }
+    {
+        match self.channel(number) {
+            Some(channel) => channel.next_confirm(),
+            None => None,
+        }
+    }
+
+    /// Publishes on this channel are confirmed from now on.
+    fn select(&mut self, number: u16)
+        ensures { (ch : seen.Channel) → channel_in self.old number ≡ Some ch → PutsIn self.old number (Some (record ch { confirm = started ch.confirm })) self.new }
+    {
+        select_at(&mut self.channels, number);
+    }
+
+    /// One publish more on this channel.
+    fn count_publish(&mut self, number: u16)
+        requires { CanCount (channel_in self.old number) }
+        ensures { (ch : seen.Channel) → channel_in self.old number ≡ Some ch → PutsIn self.old number (Some (record ch { confirm = next_of ch.confirm })) self.new }
+    {
+        count_at(&mut self.channels, number);
+    }
+
+    /// This stands at the channel of this number from now on.
+    fn put(&mut self, number: u16, channel: Option<Channel>)
+        requires { IsSome (channel_in self.old number) }
+        ensures { PutsIn self.old number channel self.new }
+    {
+        put_at(&mut self.channels, number, channel);
+    }
+
+    /// The connection is paused from now on, or is not.
+    fn set_paused(&mut self, is_paused: bool)
+        ensures { self.new ≡ record self.old { is_paused = is_paused } }
+    {
+        self.is_paused = is_paused;
+    }
+}
+
+/// The connections that run, each under its number.
+#[derive(Drop)]
+pub(crate) struct Links {
+    links: HashMap<u64, Link>,
+}
+
+impl Model for Links {
+    ghost use Rattle.std.specs.Prelude.{ℕ, List};
+    ghost use Rattle.broker.specs.Links.{Linked};
+
+    ghost Value = { List (ℕ × Linked) };
+
+    ghost view = { λ l. l.links.entries };
+}
+
+impl Links {
+    ghost use Rattle.std.specs.Prelude.{
+      ◌≡◌,
+      ◌+◌,
+      ◌<◌,
+      ◌^◌,
+      [],
+      ℕ,
+      None,
+      Some,
+      false,
+      IsSome,
+      IfSome,
+      OnOk,
+      OnErr,
+    };
+    ghost use Rattle.std.specs.Option.{option_copied};
+    ghost use Rattle.model.specs.Broker as seen;
+    ghost use Rattle.model.specs.Broker.{with_one, with_row};
+    ghost use Rattle.model.specs.Step.{started, next_of, channels_up_to, paused};
+    ghost use Rattle.broker.specs.Links.{link_in, connection_of, channel_of, CanCount, Puts, AreLinks};
+
+    /// No connection runs. It takes no memory.
+    pub fn new(alloc: Global) -> Links
+        ensures { result ≡ [] }
+    {
+        Links {
+            links: HashMap::new(alloc),
+        }
+    }
+
+    /// The connection of this number, if it runs.
+    pub fn get(&self, connection: u64) -> Option<&Link>
+        ensures { option_copied result ≡ link_in self.now connection }
+    {
+        self.links.get(&connection)
+    }
+
+    /// The connection runs from now on, with channels 1 to `channels` open and new.
+    pub fn open(
+        &mut self,
+        alloc: Global,
+        connection: u64,
+        channel_max: u16,
+        channels: u16,
+    ) -> Result<(), AllocError>
+        ensures ok { OnOk result (AreLinks self.new (with_one (connection_of self.old) connection (Some (record { channel_max = channel_max; is_paused = false }))) (with_row (channel_of self.old) connection (channels_up_to channels))) }
+        ensures err { OnErr result (self.new ≡ self.old) }
+    {
+        let link = Link::new(alloc, channel_max, channels)?;
+        match self.links.insert(connection, link) {
+            Ok(_) => Ok(()),
+            Err(_) => Err(AllocError),
+        }
+    }
+
+    /// The connection runs no more, and its channels are gone with it.
+    pub fn remove(&mut self, connection: u64)
+        ensures { AreLinks self.new (with_one (connection_of self.old) connection None) (with_row (channel_of self.old) connection (λ h. None)) }
+    {
+        self.links.remove(&connection);
+    }
+
+    /// The connection is paused from now on, or is not, if it runs.
+    pub fn set_paused(&mut self, connection: u64, is_paused: bool)
+        ensures { AreLinks self.new (with_one (connection_of self.old) connection (paused is_paused (connection_of self.old connection))) (channel_of self.old) }
+    {
+        if let Some(link) = self.links.get_mut(&connection) {
+            link.set_paused(is_paused);
+        }
+    }
+
+    /// The confirm number of the next publish on this channel, where publishes are confirmed there.
+    pub fn next_confirm(&self, connection: u64, channel: u16) -> Option<u64>
+        requires { CanCount (channel_of self.now connection channel) }
+        ensures { (ch : seen.Channel) → channel_of self.now connection channel ≡ Some ch → result ≡ next_of ch.confirm }
+    {
+        match self.get(connection) {
+            Some(link) => link.next_confirm(channel),
+            None => None,
+        }
+    }
+
+    /// Publishes on this channel are confirmed from now on.
+    pub fn select(&mut self, connection: u64, channel: u16)
+        requires { IsSome (channel_of self.old connection channel) }
+        ensures { (ch : seen.Channel) → channel_of self.old connection channel ≡ Some ch → Puts self.old connection channel (Some (record ch { confirm = started ch.confirm })) self.new }
+    {
+        if let Some(link) = self.links.get_mut(&connection) {
+            link.select(channel);
+        }
+    }
+
+    /// One publish more on this channel.
+    pub fn count_publish(&mut self, connection: u64, channel: u16)
+        requires there { IsSome (channel_of self.old connection channel) }
+        requires room { CanCount (channel_of self.old connection channel) }
+        ensures { (ch : seen.Channel) → channel_of self.old connection channel ≡ Some ch → Puts self.old connection channel (Some (record ch { confirm = next_of ch.confirm })) self.new }
+    {
+        if let Some(link) = self.links.get_mut(&connection) {
+            link.count_publish(channel);
+        }
+    }
+
+    /// This stands at this channel from now on.
+    pub fn put(&mut self, connection: u64, number: u16, channel: Option<Channel>)
+        requires { IsSome (channel_of self.old connection number) }
+        ensures { Puts self.old connection number channel self.new }
+    {
+        if let Some(link) = self.links.get_mut(&connection) {
+            link.put(number, channel);
+        }
+    }
+}

@@ -1,0 +1,216 @@
+//! What is decided of a command before anything is done: whether it is refused, and else what it asks for.
+//!
+//! Source: AMQP 0-9-1, section 1.1, "reply-code", and the rules of its XML.
+
+ghost use Rattle.std.specs.Prelude.{◌≡◌, Some, None, true, false, Option, IsSome, if◌then◌else◌};
+ghost use Rattle.std.specs.Option.{option_copied};
+ghost use Rattle.model.specs.Broker.{Broker};
+ghost use Rattle.model.specs.Broker.{Channel as Seen};
+ghost use Rattle.model.specs.Topology.{Topology as Handed};
+ghost use Rattle.model.specs.Step as said;
+ghost use Rattle.model.specs.declared.methods.Method.TheVariants.{BasicPublish};
+ghost use Rattle.broker.specs.Judged.{seen_if, Judges};
+ghost use Rattle.broker.specs.Links.{channel_in, limits_of};
+
+use crate::links::Link;
+use crate::names::ids_of;
+use channel::Channel;
+use exchange_graph::Topology;
+use model::{Exchange, Method, Publish, Text};
+
+/// Why a command is not performed.
+#[derive(Clone, Copy, Drop)]
+pub(crate) enum Refusal {
+    /// Nothing is done: the channel awaits close-ok.
+    Ignored,
+    /// The channel is closed with this reply code.
+    Channel(u16),
+    /// The connection is closed with this reply code.
+    Connection(u16),
+}
+
+/// What a command that is not refused asks for.
+#[derive(Clone, Copy, Drop)]
+pub(crate) enum Act<'a> {
+    /// Publishes are to be confirmed; an answer is not wanted where this is true.
+    Select(bool),
+    Publish(&'a Publish),
+    /// The client closes the channel; true where the server has closed it too and awaits close-ok.
+    CloseChannel(bool),
+    /// The client agrees to the server's close of the channel.
+    EndChannel,
+    /// The client closes the connection.
+    CloseConnection,
+}
+
+/// Clients may publish to no internal exchange, and to none that is not there.
+fn refusal_at(exchange: Option<&Exchange>) -> Option<Refusal>
+    ensures { seen_if result ≡ said.refusal_at (option_copied exchange.entry) }
+{
+    match exchange {
+        None => Some(Refusal::Channel(404)),
+        Some(exchange) => {
+            if exchange.internal {
+                Some(Refusal::Channel(403))
+            } else {
+                None
+            }
+        }
+    }
+}
+
+/// The same of the exchange of this name; the default exchange is always there.
+fn refusal_to(topology: &Topology, exchange: &Text) -> Option<Refusal>
+    ensures { seen_if result ≡ said.refusal_to topology.now exchange.now }
+{
+    if exchange.len() == 0 {
+        None
+    } else {
+        refusal_at(topology.exchange(exchange.as_bytes()))
+    }
+}
+
+/// Whether a counter of publishes can't rise any more.
+fn is_spent(published: u64, channel: &Channel) -> bool
+    ensures { (b : Broker) → b.published ≡ published → said.refusal_of_count b channel.now ≡ (if result then Some (said.Of_connection 541) else None) }
+{
+    published == u64::MAX || channel.confirm() == Some(u64::MAX)
+}
+
+/// A publish is refused for what is not built, then for its exchange, then for its counters.
+fn refusal_of_publish(
+    topology: &Topology,
+    published: u64,
+    channel: &Channel,
+    publish: &Publish,
+) -> Option<Refusal>
+    ensures { (b : Broker) → b.published ≡ published → seen_if result ≡ said.refusal_of_publish topology.now b channel.now publish.now }
+{
+    if publish.immediate || publish.mandatory {
+        return Some(Refusal::Connection(540));
+    }
+    if let Some(refusal) = refusal_to(topology, &publish.exchange) {
+        return Some(refusal);
+    }
+    if is_spent(published, channel) {
+        Some(Refusal::Connection(541))
+    } else {
+        None
+    }
+}
+
+/// A method on a channel that awaits close-ok: all is ignored but a close and close-ok.
+fn judge_while_closing(method: &Method) -> Result<Act<'_>, Refusal>
+    ensures { (t : Handed) (b : Broker) (ch : Seen) → ch.is_closing ≡ true → Judges t b (Some ch) method.now (said.refusal_while_closing method.now) result }
+{
+    match method {
+        Method::ChannelClose(_) => Ok(Act::CloseChannel(true)),
+        Method::ChannelCloseOk => Ok(Act::EndChannel),
+        _ => Err(Refusal::Ignored),
+    }
+}
+
+/// A method on channel 0.
+fn judge_on_zero(method: &Method) -> Result<Act<'_>, Refusal>
+    ensures { (t : Handed) (b : Broker) (ch : Option Seen) → Judges t b ch method.now (said.refusal_on_zero method.now) result }
+{
+    match method {
+        Method::ConnectionClose(_) => Ok(Act::CloseConnection),
+        _ => Err(Refusal::Connection(503)),
+    }
+}
+
+/// A publish on an open channel.
+fn judge_publish<'a>(
+    topology: &Topology,
+    published: u64,
+    channel: &Channel,
+    publish: &'a Publish,
+) -> Result<Act<'a>, Refusal>
+    ensures { (b : Broker) → b.published ≡ published → Judges topology.now b (Some channel.now) (BasicPublish publish.now) (said.refusal_of_publish topology.now b channel.now publish.now) result }
+{
+    match refusal_of_publish(topology, published, channel, publish) {
+        None => Ok(Act::Publish(publish)),
+        Some(refusal) => Err(refusal),
+    }
+}
+
+/// A method on an open channel. One that is not built yet is not implemented.
+fn judge_on_open<'a>(
+    topology: &Topology,
+    published: u64,
+    channel: &Channel,
+    method: &'a Method,
+) -> Result<Act<'a>, Refusal>
+    requires { channel.now.is_closing ≡ false }
+    ensures { (b : Broker) → b.published ≡ published → Judges topology.now b (Some channel.now) method.now (said.refusal_of topology.now b channel.now method.now) result }
+{
+    match method {
+        Method::ConfirmSelect { no_wait } => Ok(Act::Select(*no_wait)),
+        Method::BasicPublish(publish) => judge_publish(topology, published, channel, publish),
+        Method::ChannelClose(_) => Ok(Act::CloseChannel(false)),
+        Method::ChannelCloseOk | Method::ConfirmSelectOk => Err(Refusal::Connection(503)),
+        _ => Err(Refusal::Connection(540)),
+    }
+}
+
+/// The connection class.
+fn is_of_connection(method: &Method) -> bool
+    ensures { result ≡ said.is_of_connection method.now }
+{
+    ids_of(method).class == 10
+}
+
+/// A method on a channel that awaits nothing, of a connection that runs: on channel 0 only a close of the connection is
+/// known, and elsewhere no method of its class; a channel that is not open knows no method.
+fn judge_on_number<'a>(
+    topology: &Topology,
+    published: u64,
+    link: &Link,
+    number: u16,
+    method: &'a Method,
+) -> Result<Act<'a>, Refusal>
+    requires { said.is_awaiting (channel_in link.now number) ≡ false }
+    ensures { (b : Broker) → b.published ≡ published → Judges topology.now b (channel_in link.now number) method.now (said.refusal topology.now b (limits_of link.now) number method.now (channel_in link.now number)) result }
+{
+    if number == 0 {
+        return judge_on_zero(method);
+    }
+    if is_of_connection(method) {
+        return Err(Refusal::Connection(503));
+    }
+    if number > link.channel_max() {
+        return Err(Refusal::Connection(504));
+    }
+    match link.channel(number) {
+        None => Err(Refusal::Connection(504)),
+        Some(channel) => judge_on_open(topology, published, channel, method),
+    }
+}
+
+/// Whether a close was sent on the channel and close-ok is awaited.
+fn is_awaiting(channel: Option<&Channel>) -> bool
+    ensures { result ≡ said.is_awaiting (option_copied channel.entry) }
+{
+    match channel {
+        None => false,
+        Some(channel) => channel.is_closing(),
+    }
+}
+
+/// A method of a connection that runs.
+pub(crate) fn judge<'a>(
+    topology: &Topology,
+    published: u64,
+    link: &Link,
+    number: u16,
+    method: &'a Method,
+) -> Result<Act<'a>, Refusal>
+    ensures { (b : Broker) → b.published ≡ published → Judges topology.now b (channel_in link.now number) method.now (said.refusal topology.now b (limits_of link.now) number method.now (channel_in link.now number)) result }
+{
+    if is_awaiting(link.channel(number)) {
+        judge_while_closing(method)
+    } else {
+        judge_on_number(topology, published, link, number, method)
+    }
+}

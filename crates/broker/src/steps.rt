@@ -1,0 +1,67 @@
+//! What a step sends and notes.
+
+ghost use Rattle.std.specs.Prelude.{◌≡◌, ◌<◌, ◌∷◌, ◌++◌, [], None, IfOk, vec_len, vec_capacity};
+ghost use Rattle.model.specs.Step as said;
+ghost use Rattle.model.specs.Step.{confirm_sends, confirm_notes};
+ghost use Rattle.broker.specs.Sent.{AreOwn};
+
+use crate::closes::{answer_of, confirm};
+use model::{Note, Send};
+use std::alloc::{AllocError, Global};
+
+/// What a step sends, in this order, and what it notes.
+#[derive(Drop)]
+pub struct Step {
+    pub sends: Vec<Send>,
+    pub notes: Vec<Note>,
+}
+
+impl Step {
+    /// Nothing is sent and nothing noted. It takes no memory.
+    pub(crate) fn nothing(alloc: Global) -> Step
+        ensures sends { result.sends.items ≡ [] }
+        ensures notes { result.notes.items ≡ [] }
+    {
+        Step {
+            sends: Vec::new(alloc),
+            notes: Vec::new(alloc),
+        }
+    }
+
+    /// This is sent, and nothing noted.
+    pub(crate) fn sending(alloc: Global, send: Send) -> Result<Step, AllocError>
+        ensures sends { IfOk result (λ s. s.sends.items ≡ send ∷ []) }
+        ensures notes { IfOk result (λ s. s.notes.items ≡ []) }
+    {
+        let mut sends = Vec::new(alloc);
+        sends.push(send)?;
+        Ok(Step {
+            sends,
+            notes: Vec::new(alloc),
+        })
+    }
+
+    /// The confirm of this publish is sent and noted behind what is there, where there is a confirm number. There is room
+    /// for it.
+    pub(crate) fn confirm(
+        &mut self,
+        connection: u64,
+        channel: u16,
+        number: u64,
+        confirm_number: Option<u64>,
+        is_some_full: bool,
+    )
+        requires sends { vec_len self.old.sends < vec_capacity self.old.sends }
+        requires notes { vec_len self.old.notes < vec_capacity self.old.notes }
+        ensures sends { self.new.sends.items ≡ self.old.sends.items ++ confirm_sends connection channel confirm_number (said.answer_of is_some_full) }
+        ensures notes { self.new.notes.items ≡ self.old.notes.items ++ confirm_notes number confirm_number (said.answer_of is_some_full) }
+        ensures own { AreOwn connection (confirm_sends connection channel confirm_number (said.answer_of is_some_full)) }
+    {
+        if let Some(confirm_number) = confirm_number {
+            let answer = answer_of(is_some_full);
+            self.sends
+                .push_reserved(confirm(connection, channel, answer, confirm_number));
+            self.notes.push_reserved(Note::Confirmed { number, answer });
+        }
+    }
+}

@@ -1,0 +1,37 @@
+-- What is written down at the end is what was seen.
+use Rattle.std.proofs.Common.{◌≡◌, ℕ, ◌+◌, ◌<◌, ◌≤◌, zero, suc, List, [], ◌∷◌, ◌++◌, Some, None, true, length, slice_get, refl, sym, ap, subst, ◌∙◌, arith}
+use Rattle.model.specs.State.{Config}
+use Rattle.model.specs.Run.{Happening, notes_of, put_out}
+use Rattle.model.specs.Arrivals.{World, Seen, Shown, shown, Shows, Plays, new_world, is_over}
+use Rattle.model.specs.declared.events.Arrival.{Arrival}
+use Rattle.laws.proofs.Whole.{headline_holds}
+use Rattle.runs.specs.Told.{taken_at, finished, AreFinished, Records, Tells, AreUnopened}
+use Rattle.runs.specs.Runs.{PlaysAndTells, IsRunOf}
+
+-- a world with no connection
+no_records : (f : Config) → Records [] (new_world f) (record { connections = []; notes = [] })
+no_records f = record { noted = refl; counted = refl; each = λ i. refl; unopened = λ i le. (refl, refl) }
+
+element : (ss : List Shown) (i : ℕ) → i < length ss → (s : Shown) × (slice_get ss i ≡ Some s) × (taken_at ss i ≡ s.output)
+element [] i lt = absurd (omega arith)
+element (s ∷ ss) zero lt = (s, refl, refl)
+element (s ∷ ss) (suc i) lt = element ss i (omega arith)
+
+shows_at_end : (hs : List Happening) (w : World) (s t : Seen) → Records hs w s → AreFinished w s.connections t.connections → t.notes ≡ s.notes → Shows hs w t
+shows_at_end hs w s t r f n = record {
+  noted = n ∙ r.noted;
+  counted = f.counted ∙ r.counted;
+  each = λ i lt.
+      let x = element s.connections i (subst (λ (k : ℕ). i < k) (sym r.counted) lt) in
+      f.each i x.0 x.1 ∙ ap (λ (z : List ℕ). Some (record { output = z; is_over = is_over w (i + 1) })) (ap (λ (z : List ℕ). z ++ (w.wire (i + 1)).output) (sym x.2) ∙ r.each i);
+}
+
+pub is_run : (start last : World) (arrivals : List Arrival) (none s t : Seen) → start ≡ new_world start.config → none ≡ record { connections = []; notes = [] } → PlaysAndTells start arrivals none last s
+    → AreFinished last s.connections t.connections → t.notes ≡ s.notes → IsRunOf start.config arrivals last t
+is_run start last arrivals none s t fresh empty played f n =
+    let hs = played.0 in
+    let plays : Plays (new_world start.config) arrivals hs last = subst (λ (z : World). Plays z arrivals hs last) fresh played.1 in
+    let tells : Tells (new_world start.config) (record { connections = []; notes = [] }) hs last s =
+    subst (λ (z : Seen). Tells (new_world start.config) z hs last s) empty (subst (λ (z : World). Tells z none hs last s) fresh played.2) in
+    let shows : Shows hs last t = shows_at_end hs last s t (tells.keeps [] (no_records start.config)) f n in
+    record { happenings = hs; plays = plays; shows = shows; promises = λ sound. headline_holds start.config arrivals hs last t sound plays shows }

@@ -1,0 +1,5 @@
+pub mod Worlds
+pub mod Places
+pub mod Steps
+pub mod Onward
+pub mod Ending

@@ -1,0 +1,121 @@
+-- Turns, arrivals and lists of them, one after another.
+use Rattle.std.proofs.Common.{◌≡◌, ℕ, ◌+◌, ◌<◌, List, [], ◌∷◌, ◌++◌, Bool, true, false, length, get_or, drop, take, refl, sym, ap, subst, ◌∙◌, append_assoc, append-nil}
+use Rattle.std.specs.Prelude.{MatchBool, Option, Some, None, Result, Ok, Err, OnOk}
+use Rattle.std.proofs.lemmas.Bool.{false≢true}
+use Rattle.std.proofs.lemmas.List.{drop_more}
+use Rattle.model.specs.Run.{Happening, notes_of}
+use Rattle.model.specs.Arrivals.{World, Seen, Turns, Works, none_more, one_more, Rests, Waits, WorksOff, Same, with_heard, is_over, is_gone, can_open, Opens, Loses, Takes_off, TakesAndWorks, Nothing_happens, Answers, Plays}
+use Rattle.model.specs.Commands.{running_stream}
+use Rattle.model.specs.declared.notes.Note.{Note}
+use Rattle.model.specs.declared.events.Event.TheVariants as event
+use Rattle.model.specs.declared.events.Arrival.{Arrival}
+use Rattle.model.specs.declared.events.Arrival.TheVariants as arrival
+use Rattle.runs.specs.Told.{Tells, gathered, with_opened}
+use Rattle.runs.specs.Opened.{OpensReady, Hears, Did, DidNothing, Takes, IsLost}
+use Rattle.runs.specs.Runs.{WorksAndTells, AnswersAndTells, PlaysAndTells}
+use Rattle.runs.proofs.Steps.{tells_then, tells_not, tells_same, tells_turns, tells_waits, tells_heard, tells_takes, tells_loses, tells_opens}
+
+-- ---- tests
+
+match_true : (b : Bool) (P Q : Type 0) → b ≡ true → P → MatchBool b P Q
+match_true b P Q e p = subst (λ (x : Bool). MatchBool x P Q) (sym e) p
+
+match_false : (b : Bool) (P Q : Type 0) → b ≡ false → Q → MatchBool b P Q
+match_false b P Q e q = subst (λ (x : Bool). MatchBool x P Q) (sym e) q
+
+of_false : (b : Bool) (P Q : Type 0) → b ≡ false → MatchBool b P Q → Q
+of_false b P Q e m = subst (λ (x : Bool). MatchBool x P Q) e m
+
+pub on_ok : {T U : Type 0} (r : Result T U) (P Q : Type 0) → (P → Q) → OnOk r P → OnOk r Q
+on_ok (Ok t) P Q f p = f p
+on_ok (Err e) P Q f p = p
+
+-- ---- turns
+
+works_then : (c : ℕ) (a b d : World) (hs ks : List Happening) → Works c a hs b → Works c b ks d → Works c a (hs ++ ks) d
+works_then c a b d hs ks none_more w = w
+works_then c a b d hs ks (one_more {mid = m} {first = f} {rest = r} t rest e) w =
+    one_more t (works_then c m b d r ks rest w) (ap (λ (z : List Happening). z ++ ks) e ∙ append_assoc f r ks)
+
+pub works_one : (c : ℕ) (a b d : World) (hs ks : List Happening) → Works c a hs b → Turns b c ks d → Works c a (hs ++ ks) d
+works_one c a b d hs ks w t = works_then c a b d hs ks w (one_more t none_more (sym (append-nil ks)))
+
+-- what was performed and written down so far
+abbrev pub SoFar : World → ℕ → Seen → World → Seen → Type 0
+SoFar old c seen new after = (hs : List Happening) × Works c old hs new × Tells old seen hs new after
+
+pub so_far_not : (w : World) (c : ℕ) (s : Seen) → SoFar w c s w s
+so_far_not w c s = ([], none_more, tells_not w s)
+
+pub so_far_more : (a b d : World) (c : ℕ) (s t u : Seen) (notes : List Note) → SoFar a c s b t → Did b c notes d → u ≡ record t { notes = t.notes ++ notes } → SoFar a c s d u
+so_far_more a b d c s t u notes f did e = (
+  f.0 ++ did.0,
+  works_one c a b d f.0 did.0 f.1 did.2,
+  tells_then a b d s t u f.0 did.0 f.2 (subst (λ (z : Seen). Tells b t did.0 d z) (sym e) (tells_turns b d c did.0 t notes did.1 did.2)),
+)
+
+pub so_far_ends : (a b d : World) (c : ℕ) (s t : Seen) → SoFar a c s b t → DidNothing b c d → WorksAndTells a c s d t
+so_far_ends a b d c s t f nothing = (
+  f.0,
+  record { mid = b; works = f.1; rests = nothing.0; waits = nothing.1 },
+  subst (λ (z : List Happening). Tells a s z d t) (append-nil f.0) (tells_then a b d s t t f.0 [] f.2 (tells_waits b d c t nothing.1)),
+)
+
+-- ---- arrivals
+
+pub opens : (a b : World) (k n : ℕ) (s t : Seen) → OpensReady a k (Some n) b → t ≡ record s { connections = with_opened s.connections } → AnswersAndTells a (arrival.Ready k) s b t
+opens a b k n s t o e = (o.2.0, match_true (can_open a) _ _ o.0 o.2.1, subst (λ (z : Seen). Tells a s o.2.0 b z) (sym e) (tells_opens a b k o.2.0 s o.2.1))
+
+pub opens_not : (a b : World) (k : ℕ) (s : Seen) → OpensReady a k None b → AnswersAndTells a (arrival.Ready k) s b s
+opens_not a b k s o = ([], match_false (can_open a) _ _ o.0 (refl, o.1), tells_same a b s o.1)
+
+pub hears : (a m b : World) (c : ℕ) (bytes : List ℕ) (s t : Seen) → is_over a c ≡ false → Hears a c bytes m → WorksAndTells m c s b t → AnswersAndTells a (arrival.In c bytes) s b t
+hears a m b c bytes s t e heard w =
+    let is : m ≡ with_heard a c bytes = of_false (is_over a c) (Same a m) _ e heard in
+    let works : WorksAndTells (with_heard a c bytes) c s b t = subst (λ (z : World). WorksAndTells z c s b t) is w in
+    (works.0, match_false (is_over a c) _ _ e works.1, tells_then a (with_heard a c bytes) b s s t [] works.0 (tells_heard a c bytes s) works.2)
+
+pub takes : (a m b : World) (c n : ℕ) (s t u : Seen) → is_gone a c ≡ false → t ≡ record s { connections = gathered s.connections c (take n (a.wire c).output) } → Takes a c n m → WorksAndTells m c t b u
+    → AnswersAndTells a (arrival.Sent c n) s b u
+takes a m b c n s t u e gathers took w =
+    let off : (hs : List Happening) × Takes_off a c n hs m = of_false (is_gone a c) (Same a m) _ e took in (
+      off.0 ++ w.0,
+      match_false (is_gone a c) _ _ e (record { first = off.0; rest = w.0; all = refl; mid = m; takes = off.1; works = w.1 }),
+      tells_then a m b s t u off.0 w.0 (subst (λ (z : Seen). Tells a s off.0 m z) (sym gathers) (tells_takes a m c n off.0 s off.1)) w.2,
+    )
+
+pub loses : (a b : World) (c : ℕ) (s t : Seen) → is_gone a c ≡ false → t ≡ record s { connections = gathered s.connections c (a.wire c).output } → IsLost a c b → AnswersAndTells a (arrival.Lose c) s b t
+loses a b c s t e gathers lost =
+    let loss : (hs : List Happening) × Loses a c hs b = of_false (is_gone a c) (Same a b) _ e lost in
+    (loss.0, match_false (is_gone a c) _ _ e loss.1, subst (λ (z : Seen). Tells a s loss.0 b z) (sym gathers) (tells_loses a b c loss.0 s loss.1))
+
+-- ---- lists of arrivals
+
+-- what was played so far, if what is left is played from here
+pub record Played (start : World) (s0 : Seen) (arrivals : List Arrival) (now : World) (seen : Seen) (left : List Arrival) : Type 0 where
+  pub done : List Happening
+  pub tells : Tells start s0 done now seen
+  pub goes_on : (rest : List Happening) (w : World) → Plays now left rest w → Plays start arrivals (done ++ rest) w
+
+pub played_not : (w : World) (s : Seen) (arrivals : List Arrival) → Played w s arrivals w s arrivals
+played_not w s arrivals = record { done = []; tells = tells_not w s; goes_on = λ rest last p. p }
+
+pub played_more : (start now next : World) (s0 s t : Seen) (arrivals : List Arrival) (i : ℕ) (a : Arrival) → i < length arrivals → a ≡ get_or arrivals i a
+    → Played start s0 arrivals now s (drop i arrivals) → AnswersAndTells now a s next t → Played start s0 arrivals next t (drop (i + 1) arrivals)
+played_more start now next s0 s t arrivals i a lt at p answers =
+    let here : drop i arrivals ≡ a ∷ drop (i + 1) arrivals = drop_more arrivals i a lt ∙ ap (λ (x : Arrival). x ∷ drop (i + 1) arrivals) (sym at) in
+    record {
+      done = p.done ++ answers.0;
+      tells = tells_then start now next s0 s t p.done answers.0 p.tells answers.2;
+      goes_on = λ rest w plays.
+          subst (λ (z : List Happening). Plays start arrivals z w) (sym (append_assoc p.done answers.0 rest))
+          (p.goes_on (answers.0 ++ rest) w (subst (λ (z : List Arrival). Plays now z (answers.0 ++ rest) w) (sym here) (next, answers.0, rest, refl, answers.1, plays)));
+    }
+
+pub played_all : (start now : World) (s0 s : Seen) (arrivals left : List Arrival) → left ≡ [] → Played start s0 arrivals now s left → PlaysAndTells start arrivals s0 now s
+played_all start now s0 s arrivals left e p = (
+  p.done,
+  subst (λ (z : List Happening). Plays start arrivals z now) (append-nil p.done)
+      (p.goes_on [] now (subst (λ (z : List Arrival). Plays now z [] now) (sym e) (refl, record { config = refl; state = refl; given = refl; wires = λ d. refl }))),
+  p.tells,
+)

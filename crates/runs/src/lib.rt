@@ -1,0 +1,12 @@
+//! Runs of lists of arrivals, over any machine that takes single turns.
+#![tactic(auto)]
+
+mod machine;
+mod runs;
+#[cfg(test)]
+mod tests;
+mod transcript;
+
+pub use machine::Machine;
+pub use runs::run_over;
+pub use transcript::Transcript;

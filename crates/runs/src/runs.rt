@@ -1,0 +1,152 @@
+//! A run: arrivals one after another, and what they bring.
+
+ghost use Rattle.std.specs.Prelude.{◌≡◌, IfOk, OnOk, length, take};
+ghost use Rattle.model.specs.Arrivals.{new_world, is_gone};
+ghost use Rattle.model.specs.declared.events.Arrival.TheVariants as arrival;
+ghost use Rattle.runs.specs.Runs.{WorksAndTells, AnswersAndTells, PlaysAndTells, IsRunOf};
+
+use crate::machine::Machine;
+use crate::transcript::Transcript;
+use model::Arrival;
+use std::alloc::{AllocError, Global};
+
+/// All that arrives at a machine with no connection, in order, each with the commands that it brings.
+pub fn run_over<M: Machine>(
+    alloc: Global,
+    machine: &mut M,
+    arrivals: &[Arrival],
+) -> Result<Transcript, AllocError>
+    requires { M.world machine.old ≡ new_world (M.world machine.old).config }
+    ensures { IfOk result (λ t. IsRunOf (M.world machine.old).config arrivals.now (M.world machine.new) t) }
+{
+    let mut transcript = Transcript::new(alloc);
+    play(alloc, machine, arrivals, &mut transcript)?;
+    transcript.finish(machine)?;
+    Ok(transcript)
+}
+
+fn play<M: Machine>(
+    alloc: Global,
+    machine: &mut M,
+    arrivals: &[Arrival],
+    transcript: &mut Transcript,
+) -> Result<(), AllocError>
+    ensures { OnOk result (PlaysAndTells (M.world machine.old) arrivals.now transcript.old (M.world machine.new) transcript.new) }
+{
+    for arrival in arrivals {
+        arrive(alloc, machine, arrival, transcript)?;
+    }
+    Ok(())
+}
+
+/// One arrival, and all that it brings.
+fn arrive<M: Machine>(
+    alloc: Global,
+    machine: &mut M,
+    arrival: &Arrival,
+    transcript: &mut Transcript,
+) -> Result<(), AllocError>
+    ensures { OnOk result (AnswersAndTells (M.world machine.old) arrival.now transcript.old (M.world machine.new) transcript.new) }
+{
+    match arrival {
+        Arrival::Ready(k) => open(alloc, machine, *k, transcript),
+        Arrival::In(c, bytes) => hear(alloc, machine, *c, bytes.as_bytes(), transcript),
+        Arrival::Sent(c, n) => take(alloc, machine, *c, *n, transcript),
+        Arrival::Lose(c) => lose(machine, *c, transcript),
+    }
+}
+
+/// A connection is opened, if one can be.
+fn open<M: Machine>(
+    alloc: Global,
+    machine: &mut M,
+    k: u8,
+    transcript: &mut Transcript,
+) -> Result<(), AllocError>
+    ensures { OnOk result (AnswersAndTells (M.world machine.old) (arrival.Ready k) transcript.old (M.world machine.new) transcript.new) }
+{
+    match machine.open_ready(alloc, k)? {
+        Some(_) => transcript.open(alloc),
+        None => Ok(()),
+    }
+}
+
+/// Bytes of a connection, unless it is over.
+fn hear<M: Machine>(
+    alloc: Global,
+    machine: &mut M,
+    c: u64,
+    bytes: &[u8],
+    transcript: &mut Transcript,
+) -> Result<(), AllocError>
+    ensures { OnOk result (AnswersAndTells (M.world machine.old) (arrival.In c bytes.now) transcript.old (M.world machine.new) transcript.new) }
+{
+    if machine.is_over(c) {
+        return Ok(());
+    }
+    machine.feed(alloc, c, bytes)?;
+    work(alloc, machine, c, transcript)
+}
+
+/// Output of a connection is taken, unless it is gone, and what waited for that is performed.
+fn take<M: Machine>(
+    alloc: Global,
+    machine: &mut M,
+    c: u64,
+    n: u64,
+    transcript: &mut Transcript,
+) -> Result<(), AllocError>
+    ensures { OnOk result (AnswersAndTells (M.world machine.old) (arrival.Sent c n) transcript.old (M.world machine.new) transcript.new) }
+{
+    if is_gone(machine, c) {
+        return Ok(());
+    }
+    transcript.gather(c, front(machine.output(c), n))?;
+    machine.sent(c, n);
+    work(alloc, machine, c, transcript)
+}
+
+/// A connection is lost, unless it is gone, and what is left of its output is never taken.
+fn lose<M: Machine>(machine: &mut M, c: u64, transcript: &mut Transcript) -> Result<(), AllocError>
+    ensures { OnOk result (AnswersAndTells (M.world machine.old) (arrival.Lose c) transcript.old (M.world machine.new) transcript.new) }
+{
+    if is_gone(machine, c) {
+        return Ok(());
+    }
+    transcript.gather(c, machine.output(c))?;
+    machine.lose(c);
+    Ok(())
+}
+
+/// Turns of a connection, until it is idle, paused or over.
+fn work<M: Machine>(
+    alloc: Global,
+    machine: &mut M,
+    c: u64,
+    transcript: &mut Transcript,
+) -> Result<(), AllocError>
+    ensures { OnOk result (WorksAndTells (M.world machine.old) c transcript.old (M.world machine.new) transcript.new) }
+{
+    while let Some(notes) = machine.turn(alloc, c)? {
+        transcript.note(notes)?;
+    }
+    Ok(())
+}
+
+/// Whether the connection is over with no output left.
+fn is_gone<M: Machine>(machine: &M, c: u64) -> bool
+    ensures { result ≡ is_gone (M.world machine.now) c }
+{
+    machine.is_over(c) && machine.output(c).is_empty()
+}
+
+/// The first `n` bytes, or all if there are fewer.
+fn front(bytes: &[u8], n: u64) -> &[u8]
+    ensures { result.now ≡ take n bytes.now }
+{
+    if n < bytes.len() as u64 {
+        &bytes[..n as usize]
+    } else {
+        bytes
+    }
+}

@@ -1,0 +1,205 @@
+//! What a run shows.
+
+ghost use Rattle.std.specs.Prelude.{◌≡◌, ◌++◌, [], false, length, OnOk, OnErr, unwrap_or, option_copied};
+ghost use Rattle.model.specs.Arrivals.{Shown};
+ghost use Rattle.runs.specs.Told.{never_given, shown_of, gathered, with_opened, AreFinished};
+
+use crate::machine::Machine;
+use model::Note;
+use std::alloc::{AllocError, Global};
+use std::marker::Model;
+
+/// What was put out for one connection, and whether it is over.
+#[derive(Drop)]
+struct Gathered {
+    bytes: Vec<u8>,
+    is_over: bool,
+}
+
+impl Model for Gathered {
+    ghost use Rattle.model.specs.Arrivals.{Shown};
+
+    ghost Value = { Shown };
+
+    ghost view = { λ g. record { output = g.bytes.items; is_over = g.is_over } };
+}
+
+impl Gathered {
+    fn new(alloc: Global) -> Gathered
+        ensures { result ≡ record { output = []; is_over = false } }
+    {
+        Gathered {
+            bytes: Vec::new(alloc),
+            is_over: false,
+        }
+    }
+
+    fn bytes(&self) -> &[u8]
+        ensures { result.now ≡ self.now.output }
+    {
+        &self.bytes
+    }
+
+    fn is_over(&self) -> bool
+        ensures { result ≡ self.now.is_over }
+    {
+        self.is_over
+    }
+
+    fn add(&mut self, more: &[u8]) -> Result<(), AllocError>
+        ensures ok { OnOk result (self.new ≡ record self.old { output = self.old.output ++ more.now }) }
+        ensures err { OnErr result (self.new ≡ self.old) }
+    {
+        self.bytes.extend_from_slice(more)
+    }
+
+    /// Adds what still waits, and says whether the connection is over.
+    fn finish(&mut self, rest: &[u8], is_over: bool) -> Result<(), AllocError>
+        ensures ok { OnOk result (self.new ≡ record { output = self.old.output ++ rest.now; is_over = is_over }) }
+        ensures err { OnErr result (self.new ≡ self.old) }
+    {
+        self.bytes.extend_from_slice(rest)?;
+        self.is_over = is_over;
+        Ok(())
+    }
+}
+
+/// All bytes put out for each connection, taken ones too, and whether it is over or lost; and all notes in order.
+#[derive(Drop)]
+pub struct Transcript {
+    connections: Vec<Gathered>,
+    notes: Vec<Note>,
+}
+
+impl Model for Transcript {
+    ghost use Rattle.model.specs.Arrivals.{Seen};
+
+    ghost Value = { Seen };
+
+    ghost view = { λ t. record { connections = t.connections.items; notes = t.notes.items } };
+}
+
+impl Transcript {
+    /// One that shows nothing yet.
+    pub(crate) fn new(alloc: Global) -> Transcript
+        ensures { result ≡ record { connections = []; notes = [] } }
+    {
+        Transcript {
+            connections: Vec::new(alloc),
+            notes: Vec::new(alloc),
+        }
+    }
+
+    /// How many connections were opened: they are numbered from 1.
+    pub fn connections(&self) -> usize
+        ensures { result ≡ length self.now.connections }
+    {
+        self.connections.len()
+    }
+
+    /// All bytes put out for a connection; none for a number that was never given.
+    pub fn output(&self, connection: u64) -> &[u8]
+        ensures { result.now ≡ (shown_of self.now.connections connection).output }
+    {
+        output_of(&self.connections, connection)
+    }
+
+    /// Whether a connection is over or lost, or was never opened.
+    pub fn is_over(&self, connection: u64) -> bool
+        ensures { result ≡ (shown_of self.now.connections connection).is_over }
+    {
+        is_over_of(&self.connections, connection)
+    }
+
+    /// All notes, in the order in which they were made.
+    pub fn notes(&self) -> &[Note]
+        ensures { result.now ≡ self.now.notes }
+    {
+        &self.notes
+    }
+
+    /// Writes down that a connection was opened.
+    pub(crate) fn open(&mut self, alloc: Global) -> Result<(), AllocError>
+        ensures ok { OnOk result (self.new ≡ record self.old { connections = with_opened self.old.connections }) }
+        ensures err { OnErr result (self.new ≡ self.old) }
+    {
+        self.connections.reserve(1)?;
+        self.connections.push_reserved(Gathered::new(alloc));
+        Ok(())
+    }
+
+    /// Writes down that these bytes were put out for a connection.
+    pub(crate) fn gather(&mut self, connection: u64, bytes: &[u8]) -> Result<(), AllocError>
+        ensures ok { OnOk result (self.new ≡ record self.old { connections = gathered self.old.connections connection bytes.now }) }
+        ensures err { OnErr result (self.new ≡ self.old) }
+    {
+        add_to(&mut self.connections, connection, bytes)
+    }
+
+    /// Writes down more notes.
+    pub(crate) fn note(&mut self, mut notes: Vec<Note>) -> Result<(), AllocError>
+        ensures ok { OnOk result (self.new ≡ record self.old { notes = self.old.notes ++ notes.items }) }
+        ensures err { OnErr result (self.new ≡ self.old) }
+    {
+        self.notes.append(&mut notes)
+    }
+
+    /// Writes down what still waits in a machine's outputs, and which connections are over.
+    pub(crate) fn finish<M: Machine>(&mut self, machine: &M) -> Result<(), AllocError>
+        ensures connections { OnOk result (AreFinished (M.world machine.now) self.old.connections self.new.connections) }
+        ensures notes { self.new.notes ≡ self.old.notes }
+    {
+        finish_all(machine, &mut self.connections)
+    }
+}
+
+fn find(connections: &[Gathered], connection: u64) -> Option<&Gathered>
+    ensures { unwrap_or (option_copied result) never_given ≡ shown_of connections.now connection }
+{
+    if connection == 0 {
+        return None;
+    }
+    connections.get((connection - 1) as usize)
+}
+
+fn output_of(connections: &[Gathered], connection: u64) -> &[u8]
+    ensures { result.now ≡ (shown_of connections.now connection).output }
+{
+    match find(connections, connection) {
+        Some(one) => one.bytes(),
+        None => &[],
+    }
+}
+
+fn is_over_of(connections: &[Gathered], connection: u64) -> bool
+    ensures { result ≡ (shown_of connections.now connection).is_over }
+{
+    match find(connections, connection) {
+        Some(one) => one.is_over(),
+        None => true,
+    }
+}
+
+fn add_to(connections: &mut [Gathered], connection: u64, bytes: &[u8]) -> Result<(), AllocError>
+    ensures ok { OnOk result (connections.new ≡ gathered connections.old connection bytes.now) }
+    ensures err { OnErr result (connections.new ≡ connections.old) }
+{
+    if connection == 0 {
+        return Ok(());
+    }
+    let place = (connection - 1) as usize;
+    if place >= connections.len() {
+        return Ok(());
+    }
+    connections[place].add(bytes)
+}
+
+fn finish_all<M: Machine>(machine: &M, connections: &mut [Gathered]) -> Result<(), AllocError>
+    ensures { OnOk result (AreFinished (M.world machine.now) connections.old connections.new) }
+{
+    for (i, one) in connections.iter_mut().enumerate() {
+        let c = i as u64 + 1;
+        one.finish(machine.output(c), machine.is_over(c))?;
+    }
+    Ok(())
+}

@@ -1,0 +1,17 @@
+-- A fault of the stream, wherever a close is neither awaited nor done.
+use Rattle.std.proofs.Common.{◌≡◌, ◌≢◌, ℕ, [], ◌∷◌, refl}
+use Rattle.model.specs.Grammar.{ids}
+use Rattle.model.specs.Step.{connection_close}
+use Rattle.model.specs.Phases.{Session, Move, faulted, no_session}
+use Rattle.model.specs.declared.events.Phase.{Phase}
+use Rattle.model.specs.declared.events.Phase.TheVariants as phase
+
+pub faulted_elsewhere : (c : ℕ) (s : Session) (p : Phase) (code : ℕ) → p ≢ phase.Closing → p ≢ phase.Over
+    → faulted c s p code ≡ record { sends = connection_close c code (ids 0 0) ∷ []; next = no_session }
+faulted_elsewhere c s phase.Header code a b = refl
+faulted_elsewhere c s phase.Start code a b = refl
+faulted_elsewhere c s phase.Tune code a b = refl
+faulted_elsewhere c s phase.Open code a b = refl
+faulted_elsewhere c s phase.Running code a b = refl
+faulted_elsewhere c s phase.Closing code a b = absurd (a refl)
+faulted_elsewhere c s phase.Over code a b = absurd (b refl)
