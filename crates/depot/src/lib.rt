@@ -6,6 +6,8 @@
 
 mod depots;
 mod publishing;
+#[cfg(test)]
+mod tests;
 mod turns;
 
 pub use depots::{Depot, Routed};

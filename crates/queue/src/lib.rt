@@ -7,5 +7,7 @@
 
 mod entries;
 mod listed;
+#[cfg(test)]
+mod tests;
 
 pub use listed::Queue;
