@@ -1,6 +1,6 @@
 //! Topologies whose guarantees hold.
 
-ghost use Rattle.std.specs.Prelude.{◌≡◌, length};
+ghost use Rattle.std.specs.Prelude.{◌≡◌, length, IfOk};
 ghost use Rattle.model.specs.Topology.{IsWellFormed};
 ghost use Rattle.model.specs.Guarantee.{AllHold};
 ghost use Rattle.certificate.specs.Admitted.{Admits};
@@ -9,7 +9,7 @@ use crate::faults::CertFault;
 use crate::plain::all_plain;
 use exchange_graph::Topology;
 use guarantees::Guarantee;
-use std::alloc::Global;
+use std::alloc::{AllocError, Global};
 use std::marker::Model;
 
 /// A certificate of one guarantee. None is taken yet.
@@ -55,7 +55,30 @@ pub fn admit(
     }
 }
 
+/// The same guarantees.
+fn copy_guarantees(alloc: Global, guarantees: &[Guarantee]) -> Result<Vec<Guarantee>, AllocError>
+    ensures { IfOk result (λ made. made.items ≡ guarantees.now) }
+{
+    let mut made = Vec::new(alloc);
+    for guarantee in guarantees {
+        made.push(guarantee.clone()?)?;
+    }
+    Ok(made)
+}
+
 impl Checked {
+    /// The same topology and guarantees, which hold as they did.
+    pub fn clone(&self, alloc: Global) -> Result<Checked, AllocError>
+        ensures { IfOk result (λ c. c ≡ self.now) }
+    {
+        let topology = self.topology.clone(alloc)?;
+        let same = copy_guarantees(alloc, self.guarantees.as_slice())?;
+        Ok(Checked {
+            topology,
+            guarantees: same,
+        })
+    }
+
     /// What every `Checked` keeps.
     pub fn holds(&self)
         ensures guarantees { AllHold self.now.topology self.now.guarantees }

@@ -4,6 +4,8 @@
 mod admitted;
 mod faults;
 mod plain;
+#[cfg(test)]
+mod tests;
 
 pub use admitted::{Certificate, Checked, admit};
 pub use faults::CertFault;

@@ -3,6 +3,7 @@
 
 mod bad;
 mod checks;
+mod copies;
 mod ends;
 mod fans;
 mod marks;

@@ -22,6 +22,7 @@ ghost use Rattle.exchange_graph.specs.Marks.{exchange_name, queue_name};
 
 use crate::bad::Bad;
 use crate::checks::judge;
+use crate::copies::{copy_bindings, copy_exchanges, copy_queues};
 use crate::ends::End;
 use crate::fans::{Fan, all_fans};
 use crate::marks::set_places;
@@ -65,6 +66,27 @@ impl Topology {
             Ok(_) => {}
             Err(bad) => return Err(bad),
         }
+        let fans = all_fans(
+            alloc,
+            exchanges.as_slice(),
+            queues.as_slice(),
+            bindings.as_slice(),
+        )?;
+        Ok(Topology {
+            exchanges,
+            queues,
+            bindings,
+            fans,
+        })
+    }
+
+    /// The same topology, sharing the bytes of its names and keys.
+    pub fn clone(&self, alloc: Global) -> Result<Topology, AllocError>
+        ensures { IfOk result (λ t. t ≡ self.now) }
+    {
+        let exchanges = copy_exchanges(alloc, self.exchanges.as_slice())?;
+        let queues = copy_queues(alloc, self.queues.as_slice())?;
+        let bindings = copy_bindings(alloc, self.bindings.as_slice())?;
         let fans = all_fans(
             alloc,
             exchanges.as_slice(),

@@ -1,12 +1,16 @@
 //! Guarantees: what the owner of a topology wants of it.
 #![tactic(auto)]
 
+#[cfg(test)]
+mod tests;
+
 ghost use Rattle.std.specs.Prelude.{◌≡◌, IfOk, Decides};
 ghost use Rattle.model.specs.Guarantee.{Covers};
 
 use model::{Mode, Text};
 use std::alloc::{AllocError, Global};
 use std::marker::Model;
+use topic_match::covers_key;
 
 /// A promise of one queue, for all keys that a topic pattern covers.
 #[derive(Drop)]
@@ -70,6 +74,22 @@ impl Guarantee {
     pub fn covers(&self, alloc: Global, exchange: &[u8], key: &[u8]) -> Result<bool, AllocError>
         ensures { IfOk result (λ yes. Decides yes (Covers self.now exchange.now key.now)) }
     {
-        Err(AllocError)
+        if exchange != self.exchange.as_bytes() {
+            return Ok(false);
+        }
+        let yes = covers_key(alloc, self.pattern.as_bytes(), key)?;
+        Ok(yes)
+    }
+
+    /// The same guarantee.
+    pub fn clone(&self) -> Result<Guarantee, AllocError>
+        ensures { IfOk result (λ g. g ≡ self.now) }
+    {
+        Ok(Guarantee {
+            mode: self.mode,
+            exchange: self.exchange.clone()?,
+            pattern: self.pattern.clone()?,
+            queue: self.queue.clone()?,
+        })
     }
 }

@@ -1,5 +1,5 @@
 use super::*;
-use model::{Ack, Method};
+use model::Method;
 use std::test::*;
 
 // confirm.select with no-wait: class 85, method 10, one bit.
@@ -46,21 +46,4 @@ fn reads(rt: HostRuntime) {
             Err(Refusal::NotImplemented)
         )
     );
-}
-
-#[test]
-fn writes(rt: HostRuntime) -> Result<(), Fail> {
-    let mut out = Vec::new(rt.alloc());
-    let ack = Method::BasicAck(Ack {
-        delivery_tag: 3,
-        multiple: false,
-    });
-    write_method(&mut out, &ack)
-        .ok()
-        .ok_or("an ack is written")?;
-    assert_eq!(rt;
-        out.as_slice(),
-        [0, 60, 0, 80, 0, 0, 0, 0, 0, 0, 0, 3, 0].as_slice()
-    );
-    Ok(())
 }

@@ -158,7 +158,12 @@ impl Session {
     /// awaited nothing is sent.
     ///
     /// Where memory is refused the session is as before.
-    pub fn fault(&mut self, alloc: Global, connection: u64, code: u16) -> Result<Vec<Send>, AllocError>
+    pub fn fault(
+        &mut self,
+        alloc: Global,
+        connection: u64,
+        code: u16,
+    ) -> Result<Vec<Send>, AllocError>
         ensures short { IfOk result (λ sends. AreReplies connection sends.items) }
         ensures sends { IfOk result (λ sends. sends.items ≡ (faulted connection self.old self.old.phase code).sends) }
         ensures ok { OnOk result (self.new ≡ (faulted connection self.old self.old.phase code).next) }

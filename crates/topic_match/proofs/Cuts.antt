@@ -1,8 +1,8 @@
 -- A text is cut at its first dot.
-use Rattle.std.proofs.Common.{subst, add-one, ◌≡◌, ℕ, zero, suc, ◌+◌, ◌<◌, List, [], ◌∷◌, Bool, true, false, cond, eqb, refl, sym, ap, ◌∙◌, Option, Some, None, length, take, drop, arith}
+use Rattle.std.proofs.Common.{subst, add-one, ◌≡◌, ℕ, zero, suc, ◌+◌, ◌<◌, [], ◌∷◌, Bool, true, false, cond, eqb, refl, Some, None, length, take, drop, arith}
 use Rattle.std.specs.Prelude.{◌==◌}
 use Rattle.std.specs.List.{position_from}
-use Rattle.model.specs.Words.{Text, onto_first, pieces}
+use Rattle.model.specs.Words.{Text, pieces}
 
 -- where the first dot stands, and the pieces round it
 pub record Cut (xs : Text) (k d : ℕ) : Type 0 where

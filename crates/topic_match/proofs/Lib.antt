@@ -1,2 +1,4 @@
 pub mod Cuts
 pub mod Loops
+pub mod Rowing
+pub mod Some

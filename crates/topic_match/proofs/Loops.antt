@@ -1,5 +1,5 @@
 -- What is left of a text while its pieces are taken.
-use Rattle.std.proofs.Common.{◌≡◌, ℕ, zero, suc, ◌+◌, ◌≤◌, List, [], ◌∷◌, Bool, true, false, cond, eqb, Option, Some, None, length, arith}
+use Rattle.std.proofs.Common.{ℕ, ◌+◌, ◌≤◌, List, [], ◌∷◌, Bool, true, false, cond, eqb, Option, Some, None, length, arith}
 use Rattle.model.specs.Words.{Text, onto_first, pieces}
 
 -- how much is left, counting one for a text that has no bytes

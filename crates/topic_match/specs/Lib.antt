@@ -1,2 +1,3 @@
 pub mod Patterns
 pub mod Places
+pub mod Rows

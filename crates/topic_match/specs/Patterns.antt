@@ -1,5 +1,5 @@
 -- Which texts are topic patterns, and how they are read.
-use Rattle.std.specs.Prelude.{◌≡◌, ◌≤◌, List, [], ◌++◌, Option, Some, None, length, Result, Ok, Err}
+use Rattle.std.specs.Prelude.{◌≡◌, ◌≤◌, List, [], Option, Some, None, length, Result, Ok, Err}
 use Rattle.model.specs.Words.{Text, words, pieces, tokens}
 use Rattle.model.specs.Topology.{IsIn}
 use Rattle.model.specs.declared.texts.Token.{Token}

@@ -5,8 +5,12 @@ mod matchers;
 mod patterns;
 mod pieces;
 mod plain;
+mod rows;
+#[cfg(test)]
+mod tests;
 
 pub use matchers::Matcher;
 pub use patterns::{Bad, Pattern, is_pattern};
 pub use pieces::split;
 pub use plain::Plain;
+pub use rows::covers_key;

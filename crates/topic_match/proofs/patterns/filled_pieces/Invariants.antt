@@ -1,4 +1,4 @@
-use Rattle.std.proofs.Common.{◌≡◌, ◌+◌, ℕ, [], length}
+use Rattle.std.proofs.Common.{◌≡◌, ◌+◌, [], length}
 use Rattle.std.specs.Prelude.{option_copied}
 use Rattle.model.specs.Words.{pieces}
 use Rattle.model.specs.Topology.{IsIn}

@@ -1,4 +1,3 @@
-use Rattle.std.proofs.Common.{◌≡◌}
 use Rattle.topic_match.proofs.Cuts.{first_cut, uncut}
 use Rattle.topic_match.proofs.pieces.first_piece.Goals as goal
 
