@@ -142,7 +142,7 @@ impl Broker {
     }
 
     /// The connection is paused from now on, or is not.
-    fn pause(&mut self, connection: u64, is_paused: bool)
+    fn set_paused(&mut self, connection: u64, is_paused: bool)
         ensures paused { Is (with_paused (broker_of self.old) connection is_paused) (broker_of self.new) }
         ensures topology { topology_of self.new ≡ topology_of self.old }
     {
@@ -395,6 +395,22 @@ impl Broker {
         self.go(connection);
     }
 
+    /// The output of the connection holds 1,048,576 bytes or more from now on. It takes no memory.
+    pub fn pause(&mut self, connection: u64)
+        ensures acts { Acts (topology_of self.old) (broker_of self.old) (event_is.Pause connection) [] [] (broker_of self.new) }
+        ensures topology { topology_of self.new ≡ topology_of self.old }
+    {
+        self.set_paused(connection, true);
+    }
+
+    /// It holds fewer again. It takes no memory.
+    pub fn resume(&mut self, connection: u64)
+        ensures acts { Acts (topology_of self.old) (broker_of self.old) (event_is.Resume connection) [] [] (broker_of self.new) }
+        ensures topology { topology_of self.new ≡ topology_of self.old }
+    {
+        self.set_paused(connection, false);
+    }
+
     /// One event: what it sends, all to its own connection, what it notes, and the state after it. Where memory is
     /// wanting, nothing has changed; a pause and its end want none.
     pub fn step(&mut self, alloc: Global, event: &Event) -> Result<Step, AllocError>
@@ -430,11 +446,11 @@ impl Broker {
                 Ok(Step::nothing(alloc))
             }
             Event::Pause { connection } => {
-                self.pause(*connection, true);
+                self.pause(*connection);
                 Ok(Step::nothing(alloc))
             }
             Event::Resume { connection } => {
-                self.pause(*connection, false);
+                self.resume(*connection);
                 Ok(Step::nothing(alloc))
             }
         }

@@ -7,5 +7,7 @@
 
 mod closes;
 mod sessions;
+#[cfg(test)]
+mod tests;
 
 pub use sessions::Session;

@@ -1,0 +1,227 @@
+-- What is read next of one connection, and one turn of it.
+use Rattle.std.proofs.Common.{◌≡◌, ◌<◌, ◌≤◌, ◌+◌, ◌⊎◌, inl, inr, ℕ, List, Bool, true, false, Option, Some, None, length, refl, sym, ap, subst, ◌∙◌, arith}
+use Rattle.std.specs.Prelude.{is_some, Result, Ok, Err, IfOk, OnErr}
+use Rattle.std.proofs.lemmas.Bool.{false≢true}
+use Rattle.model.specs.Topology.{Topology}
+use Rattle.model.specs.Broker.{Broker}
+use Rattle.model.specs.Phases.{Session}
+use Rattle.model.specs.Commands.{Stream, Yields, Ends, GoesOn, IsCommand}
+use Rattle.model.specs.Arrivals.{Reads, again, fresh, fault, SameToCome, still, waits, kept, IsSaid, event_of, is_ended, is_past_bound}
+use Rattle.model.specs.declared.events.Phase.{Phase}
+use Rattle.model.specs.declared.events.Phase.TheVariants as phase
+use Rattle.model.specs.declared.events.Command.{Command}
+use Rattle.model.specs.declared.events.Command.TheVariants.{Plain, Full}
+use Rattle.model.specs.declared.events.Send.{Send}
+use Rattle.model.specs.declared.events.Event.{Event}
+use Rattle.model.specs.declared.events.Event.TheVariants as event
+use Rattle.model.specs.declared.notes.Note.{Note}
+use Rattle.assembly.specs.Held.{stream_of}
+use Rattle.engine.specs.Reading.{kept_of, IsMade, IsKept, Has, Comes, to_read}
+use Rattle.engine.specs.Performing.{IsAsked, Decides}
+use Rattle.engine.specs.Turning.{Performed, LinkPerformed, DidEvent, LinkDid, LinkTook, LinkWaits}
+use Rattle.engine.specs.declared.reading.Next.{Next}
+use Rattle.engine.specs.declared.reading.Next.TheVariants as next
+use Rattle.engine.specs.declared.links.Link.{Link}
+use Rattle.engine.specs.declared.turning.Turn.{Turn}
+use Rattle.engine.specs.declared.turning.Turn.TheVariants as turn
+
+-- ---- what is read
+
+kept_is : (c : ℕ) (m : Command) → kept_of (Some (event_of c m)) ≡ Some m
+kept_is c (Plain h m) = refl
+kept_is c (Full h p content) = refl
+
+asks_command : (c : ℕ) (m : Command) → IsAsked c (event_of c m)
+asks_command c (Plain h m) = refl
+asks_command c (Full h p content) = refl
+
+says_command : (c : ℕ) (m : Command) → IsCommand m → IsSaid (event_of c m)
+says_command c (Plain h m) is = is
+says_command c (Full h p content) is = is
+
+pub asks_made : (c : ℕ) (e : Event) → IsMade c e → IsAsked c e
+asks_made c e is = subst (λ (x : Event). IsAsked c x) (sym is.made) (asks_command c is.command)
+
+says_made : (c : ℕ) (e : Event) → IsMade c e → IsSaid e
+says_made c e is = subst (λ (x : Event). IsSaid x) (sym is.made) (says_command c is.command is.said)
+
+kept_made : (c : ℕ) (e : Event) (is : IsMade c e) → kept_of (Some e) ≡ Some is.command
+kept_made c e is = ap (λ (x : Event). kept_of (Some x)) is.made ∙ kept_is c is.command
+
+-- a command that is kept is the next
+pub kept_has : (c : ℕ) (k : Option Event) (s : Stream) → is_some k ≡ true → IsKept c k → Has c k s k s
+kept_has c None s some is = absurd (false≢true some)
+kept_has c (Some e) s some is = record {
+  event = e;
+  is = refl;
+  made = is;
+  read = subst (λ (o : Option Command). Reads c o s e s) (sym (kept_made c e is)) (subst (λ (x : Event). Reads c (Some is.command) s x s) (sym is.made) again);
+  same = subst (λ (o : Option Command). SameToCome o s o s) (sym (kept_made c e is)) still;
+  fewer = subst (λ (o : Option Command). to_read None s < to_read o s) (sym (kept_made c e is)) (omega arith);
+}
+
+-- and so is one that was read
+pub read_has : (c : ℕ) (k left : Option Event) (m : Command) (s new : Stream) → k ≡ None → left ≡ Some (event_of c m) → Yields s m new → IsCommand m → length new.unread + 8 ≤ length s.unread → Has c k s left new
+read_has c k left m s new none is y said short =
+    subst (λ (o : Option Event). Has c o s left new) (sym none) (subst (λ (o : Option Event). Has c None s o new) (sym is) (record {
+      event = event_of c m;
+      is = refl;
+      made = record { command = m; made = refl; said = said };
+      read = fresh y;
+      same = subst (λ (o : Option Command). SameToCome None s o new) (sym (kept_is c m)) (kept y);
+      fewer = omega (arith, short);
+    }))
+
+pub kept_read : (c : ℕ) (left : Option Event) (m : Command) → left ≡ Some (event_of c m) → IsCommand m → IsKept c left
+kept_read c left m is said = subst (λ (o : Option Event). IsKept c o) (sym is) (record { command = m; made = refl; said = said })
+
+pub waits_on : (k : Option Event) (s new : Stream) → k ≡ None → GoesOn s new → SameToCome (kept_of k) s (kept_of k) new
+waits_on k s new none on = subst (λ (o : Option Event). SameToCome (kept_of o) s (kept_of o) new) (sym none) (waits on)
+
+pub not_some : (k : Option Event) → is_some k ≡ false → k ≡ None
+not_some None e = refl
+not_some (Some x) e = absurd (false≢true (sym e))
+
+-- ---- after a fault a connection is over
+
+over_after : (p : Phase) (t : Topology) (b : Broker) (s : Session) (c code : ℕ) (sends : List Send) (notes : List Note) (new_b : Broker) (new_s : Session)
+    → s.phase ≡ p → Decides p t b s (event.Fault c code) sends notes new_b new_s → is_ended new_s.phase ≡ true
+over_after phase.Header t b s c code sends notes new_b new_s at by = ap (λ (z : Session). is_ended z.phase) by.session
+over_after phase.Start t b s c code sends notes new_b new_s at by = ap (λ (z : Session). is_ended z.phase) by.session
+over_after phase.Tune t b s c code sends notes new_b new_s at by = ap (λ (z : Session). is_ended z.phase) by.session
+over_after phase.Open t b s c code sends notes new_b new_s at by = ap (λ (z : Session). is_ended z.phase) by.session
+over_after phase.Running t b s c code sends notes new_b new_s at by = ap (λ (z : Session). is_ended z.phase) by.session
+over_after phase.Closing t b s c code sends notes new_b new_s at by = ap (λ (z : Session). is_ended z.phase) by.session
+over_after phase.Over t b s c code sends notes new_b new_s at by = ap (λ (z : Session). is_ended z.phase) by.session ∙ ap is_ended at
+
+-- ---- the turns
+
+-- the connection that was read from: it says and keeps something else, and all else is as before
+pub record IsRead (old mid : Link) : Type 0 where
+  pub number : mid.number ≡ old.number
+  pub session : mid.session ≡ old.session
+  pub output : mid.output.bytes ≡ old.output.bytes
+
+performed_of : (t : Topology) (b new_b : Broker) (old mid new : Link) (e : Event) (notes : List Note) → IsRead old mid
+    → Performed t b mid.number mid.session mid.output.bytes e notes new_b new.session new.output.bytes
+    → Performed t b old.number old.session old.output.bytes e notes new_b new.session new.output.bytes
+performed_of t b new_b old mid new e notes read p =
+    subst (λ (c : ℕ). Performed t b c old.session old.output.bytes e notes new_b new.session new.output.bytes) read.number
+    (subst (λ (s : Session). Performed t b mid.number s old.output.bytes e notes new_b new.session new.output.bytes) read.session
+    (subst (λ (o : List ℕ). Performed t b mid.number mid.session o e notes new_b new.session new.output.bytes) read.output p))
+
+pub did_kept : (t : Topology) (b new_b : Broker) (old mid new : Link) (what : Turn) → is_ended old.session.phase ≡ false → is_past_bound old.output.bytes ≡ false → IsRead old mid
+    → (h : Has old.number old.kept (stream_of old.stream) mid.kept (stream_of mid.stream)) → DidEvent t b mid h.event what new_b new → LinkTook t b old what new_b new
+did_kept t b new_b old mid new (turn.Did notes) open_still below read h did = (open_still, below, record {
+  event = h.event;
+  next = stream_of mid.stream;
+  read = h.read;
+  said = says_made old.number h.event h.made;
+  performed = performed_of t b new_b old mid new h.event notes.items read did.performed;
+  number = did.number ∙ read.number;
+  none_kept = did.none_kept;
+  follows = inl (ap stream_of did.stream);
+  fewer = inl (subst (λ (s : Stream). to_read None s < to_read (kept_of old.kept) (stream_of old.stream)) (sym (ap stream_of did.stream)) h.fewer);
+})
+did_kept t b new_b old mid new turn.Idle open_still below read h did = absurd did
+did_kept t b new_b old mid new turn.Paused open_still below read h did = absurd did
+did_kept t b new_b old mid new turn.Over open_still below read h did = absurd did
+
+pub did_fault : (t : Topology) (b new_b : Broker) (old mid new : Link) (code : ℕ) (what : Turn) → is_ended old.session.phase ≡ false → is_past_bound old.output.bytes ≡ false → IsRead old mid
+    → old.kept ≡ None → Ends (stream_of old.stream) (Some code) → DidEvent t b mid (event.Fault mid.number code) what new_b new → LinkTook t b old what new_b new
+did_fault t b new_b old mid new code (turn.Did notes) open_still below read none ends did =
+    let over = over_after mid.session.phase t b mid.session mid.number code did.performed.sends notes.items did.performed.mid new.session refl did.performed.decides in
+    (open_still, below, record {
+      event = event.Fault mid.number code;
+      next = stream_of old.stream;
+      read = subst (λ (k : Option Event). Reads old.number (kept_of k) (stream_of old.stream) (event.Fault mid.number code) (stream_of old.stream)) (sym none)
+          (subst (λ (c : ℕ). Reads old.number None (stream_of old.stream) (event.Fault c code) (stream_of old.stream)) (sym read.number) (fault ends));
+      said = tt;
+      performed = performed_of t b new_b old mid new (event.Fault mid.number code) notes.items read did.performed;
+      number = did.number ∙ read.number;
+      none_kept = did.none_kept;
+      follows = inr over;
+      fewer = inr over;
+    })
+did_fault t b new_b old mid new code turn.Idle open_still below read none ends did = absurd did
+did_fault t b new_b old mid new code turn.Paused open_still below read none ends did = absurd did
+did_fault t b new_b old mid new code turn.Over open_still below read none ends did = absurd did
+
+pub waits_kept : (b new_b : Broker) (old mid new : Link) → IsRead old mid → SameToCome (kept_of old.kept) (stream_of old.stream) (kept_of mid.kept) (stream_of mid.stream) → new_b ≡ b → new ≡ mid → LinkWaits b old new_b new
+waits_kept b new_b old mid new read same broker is = subst (λ (z : Link). LinkWaits b old new_b z) (sym is)
+    (record { broker = broker; number = read.number; session = read.session; output = read.output; coming = same })
+
+pub coming_on : (k left : Option Event) (s new : Stream) → k ≡ None → left ≡ None → GoesOn s new → SameToCome (kept_of k) s (kept_of left) new
+coming_on k left s new none gone on = subst (λ (o : Option Event). SameToCome (kept_of o) s (kept_of left) new) (sym none) (subst (λ (o : Option Event). SameToCome None s (kept_of o) new) (sym gone) (waits on))
+
+-- ---- by the answer
+
+pub comes_command : (c : ℕ) (k left : Option Event) (s new : Stream) (n : Next) → n ≡ next.Command → Comes c k s n left new → Has c k s left new
+comes_command c k left s new n e h = subst (λ (x : Next). Comes c k s x left new) e h
+
+pub comes_fault : (c code : ℕ) (k left : Option Event) (s new : Stream) (n : Next) → n ≡ next.Fault code → Comes c k s n left new → (left ≡ None) × (k ≡ None) × Ends s (Some code) × GoesOn s new
+comes_fault c code k left s new n e h = subst (λ (x : Next). Comes c k s x left new) e h
+
+pub comes_nothing : (c : ℕ) (k left : Option Event) (s new : Stream) (n : Next) → n ≡ next.Nothing → Comes c k s n left new → (left ≡ None) × (k ≡ None) × Ends s None × GoesOn s new
+comes_nothing c k left s new n e h = subst (λ (x : Next). Comes c k s x left new) e h
+
+-- one turn, whatever it answered
+pub record Whole {E : Type 0} (t : Topology) (b : Broker) (old : Link) (what : Result Turn E) (new_b : Broker) (new : Link) : Type 0 where
+  pub ok : IfOk what (λ x. LinkTook t b old x new_b new)
+  pub err : OnErr what (LinkWaits b old new_b new)
+  pub kept : IsKept new.number new.kept
+  pub number : new.number ≡ old.number
+
+-- nothing is kept after what was performed
+did_keeps : (t : Topology) (b new_b : Broker) (mid new : Link) (e : Event) (what : Turn) → DidEvent t b mid e what new_b new → IsKept new.number new.kept × (new.number ≡ mid.number)
+did_keeps t b new_b mid new e (turn.Did notes) did = (subst (λ (k : Option Event). IsKept new.number k) (sym did.none_kept) tt, did.number)
+did_keeps t b new_b mid new e turn.Idle did = absurd did
+did_keeps t b new_b mid new e turn.Paused did = absurd did
+did_keeps t b new_b mid new e turn.Over did = absurd did
+
+pub after_kept : {E : Type 0} (r : Result Turn E) (t : Topology) (b new_b : Broker) (old mid new : Link) → is_ended old.session.phase ≡ false → is_past_bound old.output.bytes ≡ false → IsRead old mid
+    → Has old.number old.kept (stream_of old.stream) mid.kept (stream_of mid.stream)
+    → IfOk r (λ x. (e : Event) → mid.kept ≡ Some e → DidEvent t b mid e x new_b new) → OnErr r (new_b ≡ b) → OnErr r (new ≡ mid) → Whole t b old r new_b new
+after_kept (Ok x) t b new_b old mid new open_still below read h did broker link =
+    let d = did h.event h.is in
+    let k = did_keeps t b new_b mid new h.event x d in
+    record { ok = did_kept t b new_b old mid new x open_still below read h d; err = tt; kept = k.0; number = k.1 ∙ read.number }
+after_kept (Err x) t b new_b old mid new open_still below read h did broker link = record {
+  ok = tt;
+  err = waits_kept b new_b old mid new read h.same broker link;
+  kept = subst (λ (z : Link). IsKept z.number z.kept) (sym link) (subst (λ (c : ℕ). IsKept c mid.kept) (sym read.number) (subst (λ (k : Option Event). IsKept old.number k) (sym h.is) h.made));
+  number = ap (λ (z : Link). z.number) link ∙ read.number;
+}
+
+pub after_fault : {E : Type 0} (r : Result Turn E) (t : Topology) (b new_b : Broker) (old mid new : Link) (code : ℕ) → is_ended old.session.phase ≡ false → is_past_bound old.output.bytes ≡ false → IsRead old mid
+    → (mid.kept ≡ None) × (old.kept ≡ None) × Ends (stream_of old.stream) (Some code) × GoesOn (stream_of old.stream) (stream_of mid.stream)
+    → IfOk r (λ x. DidEvent t b mid (event.Fault mid.number code) x new_b new) → OnErr r (new_b ≡ b) → OnErr r (new ≡ mid) → Whole t b old r new_b new
+after_fault (Ok x) t b new_b old mid new code open_still below read h did broker link =
+    let k = did_keeps t b new_b mid new (event.Fault mid.number code) x did in
+    record { ok = did_fault t b new_b old mid new code x open_still below read h.1 h.2 did; err = tt; kept = k.0; number = k.1 ∙ read.number }
+after_fault (Err x) t b new_b old mid new code open_still below read h did broker link = record {
+  ok = tt;
+  err = waits_kept b new_b old mid new read (coming_on old.kept mid.kept (stream_of old.stream) (stream_of mid.stream) h.1 h.0 h.3) broker link;
+  kept = subst (λ (z : Link). IsKept z.number z.kept) (sym link) (subst (λ (k : Option Event). IsKept mid.number k) (sym h.0) tt);
+  number = ap (λ (z : Link). z.number) link ∙ read.number;
+}
+
+pub after_nothing : (t : Topology) (b : Broker) (old mid : Link) → is_ended old.session.phase ≡ false → IsRead old mid
+    → (mid.kept ≡ None) × (old.kept ≡ None) × Ends (stream_of old.stream) None × GoesOn (stream_of old.stream) (stream_of mid.stream)
+    → LinkTook t b old turn.Idle b mid
+after_nothing t b old mid open_still read h = (open_still, record {
+  waits = waits_kept b b old mid mid read (coming_on old.kept mid.kept (stream_of old.stream) (stream_of mid.stream) h.1 h.0 h.3) refl refl;
+  none_kept = h.1;
+  ends = h.2;
+})
+
+-- the event is the one that is kept
+pub performed_is : (t : Topology) (b new_b : Broker) (old new : Link) (x e : Event) (notes : List Note) (k : Option Event) → k ≡ Some x → k ≡ Some e → LinkPerformed t b old x notes new_b new → LinkPerformed t b old e notes new_b new
+performed_is t b new_b old new x e notes k is other p = subst (λ (z : Event). LinkPerformed t b old z notes new_b new) (some_same x e (sym is ∙ other)) p
+  where
+    some_same : (x y : Event) → Some x ≡ Some y → x ≡ y
+    some_same x y f = cc
+
+pub on_err_map : {T F : Type 0} (r : Result T F) (P Q : Type 0) → (P → Q) → OnErr r P → OnErr r Q
+on_err_map (Ok x) P Q f p = tt
+on_err_map (Err e) P Q f p = f p

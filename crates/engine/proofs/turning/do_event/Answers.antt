@@ -1,0 +1,17 @@
+use Rattle.broker.specs.State.{topology_of, broker_of}
+use Rattle.engine.proofs.turning.do_event.Goals as goal
+
+pub returns-clause-ok : goal.returns-clause-ok
+returns-clause-ok c =
+    let max = c.frame_max-max.ensures in
+    let sends = c.deref.ensures.value in
+    record {
+      sends = c.in_ok-step.step.sends.items;
+      mid = broker_of c.perform.new.broker;
+      decides = c.in_ok-step.ensures.ok;
+      own = rw (← sends) c.put_sends.ensures.own;
+      bounded = rw (← max.value) max.most;
+      spelled = rw (← max.value, ← sends) c.put_sends.ensures.spelled;
+      put = rw (← max.value, ← sends) c.put_sends.ensures.bytes;
+      pauses = rw (← c.bytes.ensures, ← c.perform.ensures.topology) c.pause_if.ensures.pauses;
+    }

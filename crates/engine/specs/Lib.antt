@@ -1,0 +1,5 @@
+pub mod Waiting
+pub mod Reading
+pub mod Performing
+pub mod Turning
+pub mod World

@@ -1,0 +1,64 @@
+-- What a connection's bytes ask for next.
+use Rattle.std.specs.Prelude.{◌≡◌, ◌+◌, ◌<◌, ℕ, length, Option, Some, None}
+use Rattle.model.specs.Commands.{Stream, Ends, GoesOn, IsCommand}
+use Rattle.model.specs.Arrivals.{Reads, SameToCome, event_of}
+use Rattle.model.specs.declared.contents.Content.{Content}
+use Rattle.model.specs.declared.methods.Method.{Method}
+use Rattle.model.specs.declared.methods.Method.TheVariants.{BasicPublish}
+use Rattle.model.specs.declared.events.Command.{Command}
+use Rattle.model.specs.declared.events.Command.TheVariants.{Plain, Full}
+use Rattle.model.specs.declared.events.Event.{Event}
+use Rattle.model.specs.declared.events.Event.TheVariants as event
+use Rattle.engine.specs.declared.reading.Next.{Next}
+use Rattle.engine.specs.declared.reading.Next.TheVariants as next
+
+-- ---- a command that is kept, as an event
+
+-- a publish with its content
+abbrev pub with_content : ℕ → Content → Method → Command
+with_content h content (BasicPublish p) = Full h p content
+with_content h content m = Plain h m
+
+-- the command of these parts
+abbrev pub command_of : ℕ → Method → Option Content → Command
+command_of h m None = Plain h m
+command_of h m (Some content) = with_content h content m
+
+-- the command that is kept
+abbrev pub kept_of : Option Event → Option Command
+kept_of None = None
+kept_of (Some (event.Command c h m content)) = Some (command_of h m content)
+kept_of (Some e) = None
+
+-- the event is this command of the connection c
+pub record IsMade (c : ℕ) (e : Event) : Type 0 where
+  pub command : Command
+  pub made : e ≡ event_of c command
+  pub said : IsCommand command
+
+-- what is kept is a command of the connection c
+abbrev pub IsKept : ℕ → Option Event → Type 0
+IsKept c None = Unit {0}
+IsKept c (Some e) = IsMade c e
+
+-- ---- what comes
+
+-- how much is to be read and performed, where a command that is kept counts one
+abbrev pub to_read : Option Command → Stream → ℕ
+to_read None s = length s.unread
+to_read (Some m) s = length s.unread + 1
+
+-- A command is the next, and is kept.
+pub record Has (c : ℕ) (kept : Option Event) (old : Stream) (left : Option Event) (new : Stream) : Type 0 where
+  pub event : Event
+  pub is : left ≡ Some event
+  pub made : IsMade c event
+  pub read : Reads c (kept_of kept) old event new
+  pub same : SameToCome (kept_of kept) old (kept_of left) new
+  pub fewer : to_read None new < to_read (kept_of kept) old
+
+-- This is what comes next of the connection c.
+abbrev pub Comes : ℕ → Option Event → Stream → Next → Option Event → Stream → Type 0
+Comes c kept old next.Command left new = Has c kept old left new
+Comes c kept old (next.Fault code) left new = (left ≡ None) × (kept ≡ None) × Ends old (Some code) × GoesOn old new
+Comes c kept old next.Nothing left new = (left ≡ None) × (kept ≡ None) × Ends old None × GoesOn old new

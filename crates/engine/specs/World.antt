@@ -1,0 +1,86 @@
+-- What an engine holds, and the world that it stands for.
+use Rattle.std.specs.List.{AllByRecursion}
+use Rattle.std.specs.Prelude.{◌≡◌, ◌<◌, ◌≤◌, ◌==◌, ◌&&◌, not, nat_lt, if◌then◌else◌, ℕ, List, [], ◌∷◌, length, Bool, true, false, Option, Some, None}
+use Rattle.model.specs.Guarantee.{Guarantee, AllHold}
+use Rattle.model.specs.Topology.{IsWellFormed}
+use Rattle.model.specs.Commands.{running_stream}
+use Rattle.model.specs.Phases.{Session, no_session, running_session}
+use Rattle.model.specs.State.{Config, State}
+use Rattle.model.specs.Arrivals.{Wire, World, new_wire, is_ended}
+use Rattle.model.specs.declared.messages.User.{User}
+use Rattle.assembly.specs.Held.{stream_of}
+use Rattle.broker.specs.State as broker
+use Rattle.broker.specs.State.{topology_of, broker_of}
+use Rattle.engine.specs.Reading.{IsKept, kept_of}
+use Rattle.engine.specs.declared.links.Link.{Link}
+
+-- the broker, what is in force, how many numbers were given, and the connections that are not gone
+pub record Parts : Type 0 where
+  pub broker : broker.Kept
+  pub guarantees : List Guarantee
+  pub users : List User
+  pub given : ℕ
+  -- numbers rise
+  pub links : List Link
+
+-- the connection of this number
+abbrev pub link_in : List Link → ℕ → Option Link
+link_in [] c = None
+link_in (l ∷ ls) c = if l.number == c then Some l else link_in ls c
+
+abbrev pub session_of : Option Link → Session
+session_of None = no_session
+session_of (Some l) = l.session
+
+-- of one that is over nothing more is read
+abbrev pub wire_in : Bool → Link → Wire
+wire_in true l = record new_wire { output = l.output.bytes }
+wire_in false l = record { kept = kept_of l.kept; stream = stream_of l.stream; output = l.output.bytes }
+
+abbrev pub wire_of : Option Link → Wire
+wire_of None = new_wire
+wire_of (Some l) = wire_in (is_ended l.session.phase) l
+
+abbrev pub config_of : Parts → Config
+config_of p = record { topology = topology_of p.broker; guarantees = p.guarantees; users = p.users }
+
+abbrev pub state_of : Parts → State
+state_of p = record { broker = broker_of p.broker; session = λ c. session_of (link_in p.links c) }
+
+abbrev pub world_of : Parts → World
+world_of p = record { config = config_of p; state = state_of p; given = p.given; wire = λ c. wire_of (link_in p.links c) }
+
+-- ---- what every engine keeps
+
+-- numbers rise from past this one
+abbrev pub AreRising : ℕ → List Link → Type 0
+AreRising low [] = Unit {0}
+AreRising low (l ∷ ls) = (low < l.number) × AreRising l.number ls
+
+-- over, with no output left
+abbrev pub is_link_gone : Link → Bool
+is_link_gone l = is_ended l.session.phase && not (nat_lt 0 (length l.output.bytes))
+
+-- a connection that was given its number, and is not gone
+pub record IsLink (given : ℕ) (l : Link) : Type 0 where
+  pub within : l.number ≤ given
+  pub here : is_link_gone l ≡ false
+  pub kept : IsKept l.number l.kept
+
+-- a connection as it is opened
+pub record IsNew (l : Link) (number : ℕ) : Type 0 where
+  pub number_is : l.number ≡ number
+  pub session : l.session ≡ running_session
+  pub kept : l.kept ≡ None
+  pub stream : stream_of l.stream ≡ running_stream
+  pub output : l.output.bytes ≡ []
+
+-- the connections that are not gone, where so many numbers were given
+pub record AreLinks (given : ℕ) (ls : List Link) : Type 0 where
+  pub rising : AreRising 0 ls
+  pub each : AllByRecursion (IsLink given) ls
+
+pub record IsEngine (p : Parts) : Type 0 where
+  pub hold : AllHold (topology_of p.broker) p.guarantees
+  pub formed : IsWellFormed (topology_of p.broker)
+  pub links : AreLinks p.given p.links

@@ -1,0 +1,13 @@
+//! The engine: bytes of connections in, bytes out.
+//!
+//! An [`Engine`] has the broker, and of each connection its session, its stream and its output. A turn performs the next
+//! command that a connection's bytes spell, and puts out what the broker sends. [`run`] does all that arrives.
+#![tactic(auto)]
+
+mod links;
+mod output;
+mod performing;
+mod reading;
+mod scratch;
+mod sending;
+mod turning;

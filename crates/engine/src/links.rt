@@ -1,0 +1,46 @@
+//! What is kept of one connection.
+
+ghost use Rattle.std.specs.Prelude.{◌≡◌, IsTrue};
+ghost use Rattle.model.specs.Phases.{no_session};
+ghost use Rattle.engine.specs.World.{is_link_gone, IsNew};
+
+use crate::output::Output;
+use assembly::Stream;
+use model::Event;
+use session::Session;
+use std::alloc::Global;
+
+/// A connection that is not gone.
+#[derive(Drop)]
+pub(crate) struct Link {
+    /// Connections count from 1 in the order of their openings.
+    pub(crate) number: u64,
+    pub(crate) session: Session,
+    pub(crate) stream: Stream,
+    /// A command that was read and could not be performed for want of memory.
+    pub(crate) kept: Option<Event>,
+    pub(crate) output: Output,
+}
+
+impl Link {
+    /// A connection that runs at once.
+    pub(crate) fn running(alloc: Global, number: u64) -> Link
+        ensures { IsNew result number }
+    {
+        Link {
+            number,
+            session: Session::running(),
+            stream: Stream::running(alloc),
+            kept: None,
+            output: Output::new(alloc),
+        }
+    }
+
+    /// It is over, with no output left. Of one that is over no limits are kept.
+    pub(crate) fn is_gone(&self) -> bool
+        ensures value { result ≡ is_link_gone self.now }
+        ensures over { IsTrue result → self.now.session ≡ no_session }
+    {
+        self.session.is_over() && self.output.bytes().is_empty()
+    }
+}

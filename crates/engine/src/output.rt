@@ -1,0 +1,125 @@
+//! Bytes that are put in at the back and taken from the front.
+
+ghost use Rattle.std.specs.Prelude.{◌≡◌, ◌≤◌, ◌+◌, ◌^◌, [], ◌++◌, length, drop, OnOk, vec_len, vec_capacity};
+ghost use Rattle.model.specs.Frames.{frame_bytes};
+ghost use Rattle.frame.specs.Reading.{seen};
+
+use frame::{put_frame, Frame};
+use std::alloc::{AllocError, Global};
+use std::marker::Model;
+
+/// Bytes that wait to be taken. What was taken lies in front of `start` for a while.
+#[derive(Drop)]
+pub(crate) struct Output {
+    bytes: Vec<u8>,
+    start: usize,
+}
+
+impl Model for Output {
+    ghost use Rattle.std.specs.Prelude.{◌≤◌, ◌-◌, drop, vec_len, vec_capacity};
+    ghost use Rattle.engine.specs.Waiting.{Waiting};
+
+    ghost Value = { Waiting };
+
+    ghost view = { λ o. record { bytes = drop o.start o.bytes.items; room = vec_capacity o.bytes - vec_len o.bytes } };
+
+    ghost invariant = { λ o. o.start ≤ vec_len o.bytes };
+}
+
+impl Output {
+    pub(crate) fn new(alloc: Global) -> Output
+        ensures { result.bytes ≡ [] }
+    {
+        Output {
+            bytes: Vec::new(alloc),
+            start: 0,
+        }
+    }
+
+    /// All that waits.
+    pub(crate) fn bytes(&self) -> &[u8]
+        ensures { result.now ≡ self.now.bytes }
+    {
+        &self.bytes[self.start..]
+    }
+
+    /// Makes room for `n` more bytes.
+    pub(crate) fn reserve(&mut self, n: usize) -> Result<(), AllocError>
+        ensures bytes { self.new.bytes ≡ self.old.bytes }
+        ensures ok { OnOk result (n ≤ self.new.room) }
+    {
+        self.bytes.reserve(n)
+    }
+
+    /// Puts bytes in, for which there is room.
+    pub(crate) fn put(&mut self, more: &[u8])
+        requires { length more.now ≤ self.old.room }
+        ensures bytes { self.new.bytes ≡ self.old.bytes ++ more.now }
+        ensures room { self.old.room ≤ self.new.room + length more.now }
+    {
+        append(&mut self.bytes, more);
+    }
+
+    /// Puts a frame in, for which there is room.
+    pub(crate) fn put_frame(&mut self, frame: &Frame<'_>)
+        requires size { length frame.now.payload.now + 9 ≤ 2 ^ 32 }
+        requires room { length frame.now.payload.now + 8 ≤ self.old.room }
+        ensures bytes { self.new.bytes ≡ self.old.bytes ++ frame_bytes (seen frame.now) }
+        ensures room { self.old.room ≤ self.new.room + (length frame.now.payload.now + 8) }
+    {
+        frame_into(&mut self.bytes, frame);
+    }
+
+    /// Takes `n` bytes. What is left moves to the front once it is no more than what was taken since it last moved.
+    pub(crate) fn take(&mut self, n: usize)
+        requires { n ≤ length self.old.bytes }
+        ensures { self.new.bytes ≡ drop n self.old.bytes }
+    {
+        self.start += n;
+        if self.bytes.len() - self.start <= self.start {
+            let start = self.start;
+            self.start = 0;
+            drop_front(&mut self.bytes, start);
+        }
+    }
+
+    /// Takes `n` bytes, or all if there are fewer.
+    pub(crate) fn take_up_to(&mut self, n: u64)
+        ensures { self.new.bytes ≡ drop n self.old.bytes }
+    {
+        let waiting = self.bytes().len();
+        if n < waiting as u64 {
+            self.take(n as usize);
+        } else {
+            self.take(waiting);
+        }
+    }
+}
+
+fn frame_into(bytes: &mut Vec<u8>, frame: &Frame<'_>)
+    requires size { length frame.now.payload.now + 9 ≤ 2 ^ 32 }
+    requires room { vec_len bytes.old + (length frame.now.payload.now + 8) ≤ vec_capacity bytes.old }
+    ensures items { bytes.new.items ≡ bytes.old.items ++ frame_bytes (seen frame.now) }
+    ensures len { vec_len bytes.new ≡ vec_len bytes.old + (length frame.now.payload.now + 8) }
+    ensures capacity { vec_capacity bytes.old ≤ vec_capacity bytes.new }
+{
+    put_frame(bytes, frame);
+}
+
+fn append(bytes: &mut Vec<u8>, more: &[u8])
+    requires { vec_len bytes.old + length more.now ≤ vec_capacity bytes.old }
+    ensures items { bytes.new.items ≡ bytes.old.items ++ more.now }
+    ensures capacity { vec_capacity bytes.old ≤ vec_capacity bytes.new }
+{
+    match bytes.extend_from_slice(more) {
+        Ok(()) => {}
+        Err(_) => unreachable!(),
+    }
+}
+
+fn drop_front(bytes: &mut Vec<u8>, n: usize)
+    requires { n ≤ vec_len bytes.old }
+    ensures { bytes.new.items ≡ drop n bytes.old.items }
+{
+    bytes.drain(..n);
+}

@@ -1,0 +1,112 @@
+//! One event of one connection.
+
+ghost use Rattle.std.specs.Prelude.{◌≡◌, ℕ, [], true, false, IfOk, OnErr, OnOk};
+ghost use Rattle.model.specs.Broker as seen;
+ghost use Rattle.session.specs.Replies.{AreReplies};
+ghost use Rattle.broker.specs.State.{topology_of, broker_of};
+ghost use Rattle.engine.specs.Performing.{IsAsked, session_after, move_of, ByBroker, ByPhase, Decides, PausesOr};
+
+use broker::{Broker, Step};
+use model::{Event, Phase, Send};
+use session::Session;
+use std::alloc::{AllocError, Global};
+
+/// Learns in `session` what the broker sent at this event.
+fn learn(session: &mut Session, event: &Event, sends: &[Send])
+    ensures { session.new ≡ session_after session.old event.now sends.now }
+{
+    match event {
+        Event::Fault { .. } => session.end(),
+        _ => session.after(sends),
+    }
+}
+
+/// An event of the connection `c`, which runs.
+fn by_broker(c: u64, alloc: Global, broker: &mut Broker, session: &mut Session, event: &Event) -> Result<Step, AllocError>
+    requires { IsAsked c event.now }
+    ensures ok { IfOk result (λ d. ByBroker (topology_of broker.old) (broker_of broker.old) session.old event.now d.sends.items d.notes.items (broker_of broker.new) session.new) }
+    ensures replies { IfOk result (λ d. AreReplies c d.sends.items) }
+    ensures broker_kept { OnErr result (broker.new ≡ broker.old) }
+    ensures session_kept { OnErr result (session.new ≡ session.old) }
+    ensures topology { topology_of broker.new ≡ topology_of broker.old }
+{
+    let step = broker.step(alloc, event)?;
+    learn(session, event, &step.sends);
+    Ok(step)
+}
+
+/// What the phase of the connection `c` answers.
+fn sends_of(c: u64, alloc: Global, session: &mut Session, event: &Event) -> Result<Vec<Send>, AllocError>
+    requires { IsAsked c event.now }
+    ensures sends { IfOk result (λ sends. sends.items ≡ (move_of session.old.phase session.old event.now).sends) }
+    ensures replies { IfOk result (λ sends. AreReplies c sends.items) }
+    ensures ok { OnOk result (session.new ≡ (move_of session.old.phase session.old event.now).next) }
+    ensures err { OnErr result (session.new ≡ session.old) }
+{
+    match event {
+        Event::Command {
+            channel, method, ..
+        } => session.take(alloc, c, *channel, method),
+        Event::Fault { code, .. } => session.fault(alloc, c, *code),
+        _ => unreachable!(),
+    }
+}
+
+/// An event of the connection `c`, which runs no more.
+fn by_phase(c: u64, alloc: Global, session: &mut Session, event: &Event) -> Result<Step, AllocError>
+    requires { IsAsked c event.now }
+    ensures ok { IfOk result (λ d. (b : seen.Broker) → ByPhase session.old.phase b session.old event.now d.sends.items d.notes.items b session.new) }
+    ensures replies { IfOk result (λ d. AreReplies c d.sends.items) }
+    ensures err { OnErr result (session.new ≡ session.old) }
+{
+    let sends = sends_of(c, alloc, session, event)?;
+    Ok(Step {
+        sends,
+        notes: Vec::new(alloc),
+    })
+}
+
+/// A command of the connection `c`, or the fault of its stream.
+pub(crate) fn perform(
+    c: u64,
+    alloc: Global,
+    broker: &mut Broker,
+    session: &mut Session,
+    event: &Event,
+) -> Result<Step, AllocError>
+    requires { IsAsked c event.now }
+    ensures ok { IfOk result (λ d. Decides session.old.phase (topology_of broker.old) (broker_of broker.old) session.old event.now d.sends.items d.notes.items (broker_of broker.new) session.new) }
+    ensures replies { IfOk result (λ d. AreReplies c d.sends.items) }
+    ensures broker_kept { OnErr result (broker.new ≡ broker.old) }
+    ensures session_kept { OnErr result (session.new ≡ session.old) }
+    ensures topology { topology_of broker.new ≡ topology_of broker.old }
+{
+    match session.phase() {
+        Phase::Running => by_broker(c, alloc, broker, session, event),
+        _ => by_phase(c, alloc, session, event),
+    }
+}
+
+/// The pause that more output brings, where it is past the bound now.
+pub(crate) fn pause_if(broker: &mut Broker, c: u64, is: bool)
+    ensures pauses { PausesOr (topology_of broker.old) c false is (broker_of broker.old) (broker_of broker.new) }
+    ensures topology { topology_of broker.new ≡ topology_of broker.old }
+{
+    if is {
+        broker.pause(c);
+    }
+}
+
+/// The resumption that less output brings, where it was past the bound and is no more.
+pub(crate) fn resume_if(broker: &mut Broker, c: u64, was: bool, is: bool)
+    requires { is ≡ true → was ≡ true }
+    ensures pauses { PausesOr (topology_of broker.old) c was is (broker_of broker.old) (broker_of broker.new) }
+    ensures topology { topology_of broker.new ≡ topology_of broker.old }
+{
+    if !was {
+        return;
+    }
+    if !is {
+        broker.resume(c);
+    }
+}

@@ -1,0 +1,62 @@
+//! A place to spell one method.
+
+ghost use Rattle.std.specs.Prelude.{◌≡◌, ◌≤◌, [], length, true, vec_len, vec_capacity, IfOk};
+ghost use Rattle.model.specs.Grammar.{IsMethod, method_bytes};
+ghost use Rattle.session.specs.Replies.{is_answer};
+
+use methods::put_method;
+use model::Method;
+use std::alloc::{AllocError, Global};
+use std::marker::Model;
+
+/// Room for the bytes of a method that fits the least frame. It is used again for each.
+#[derive(Drop)]
+pub(crate) struct Scratch {
+    bytes: Vec<u8>,
+}
+
+impl Model for Scratch {
+    ghost use Rattle.std.specs.Prelude.{◌≤◌, ℕ, List, vec_capacity};
+
+    ghost Value = { List ℕ };
+
+    ghost view = { λ s. s.bytes.items };
+
+    ghost invariant = { λ s. 4096 ≤ vec_capacity s.bytes };
+}
+
+impl Scratch {
+    pub(crate) fn new(alloc: Global) -> Result<Scratch, AllocError> {
+        Ok(Scratch {
+            bytes: Vec::with_capacity(alloc, 4096)?,
+        })
+    }
+
+    /// Spells this answer in place of what stands here.
+    pub(crate) fn spell(&mut self, method: &Method)
+        requires answer { is_answer method.now ≡ true }
+        requires fits { IsMethod method.now }
+        requires size { length (method_bytes method.now) ≤ 4088 }
+        ensures { self.new ≡ method_bytes method.now }
+    {
+        spell_into(&mut self.bytes, method);
+    }
+
+    pub(crate) fn bytes(&self) -> &[u8]
+        ensures { result.now ≡ self.now }
+    {
+        self.bytes.as_slice()
+    }
+}
+
+fn spell_into(bytes: &mut Vec<u8>, method: &Method)
+    requires answer { is_answer method.now ≡ true }
+    requires fits { IsMethod method.now }
+    requires size { length (method_bytes method.now) ≤ 4088 }
+    requires room { 4096 ≤ vec_capacity bytes.old }
+    ensures items { bytes.new.items ≡ method_bytes method.now }
+    ensures room { 4096 ≤ vec_capacity bytes.new }
+{
+    bytes.clear();
+    put_method(bytes, method);
+}

@@ -1,0 +1,150 @@
+//! One turn of one connection.
+
+ghost use Rattle.std.specs.Prelude.{◌≡◌, ◌≤◌, Some, None, false, IfOk, OnErr};
+ghost use Rattle.model.specs.Arrivals.{is_ended, is_past_bound};
+ghost use Rattle.model.specs.declared.events.Event as event;
+ghost use Rattle.model.specs.declared.events.Event.TheVariants as happens;
+ghost use Rattle.broker.specs.State.{topology_of, broker_of};
+ghost use Rattle.engine.specs.Reading.{IsKept, IsMade};
+ghost use Rattle.engine.specs.Performing.{IsAsked};
+ghost use Rattle.engine.specs.Turning.{Performed, DidEvent, LinkTook, LinkWaits};
+
+use crate::links::Link;
+use crate::output::Output;
+use crate::performing::{pause_if, perform};
+use crate::reading::{Next, forget, read_next};
+use crate::scratch::Scratch;
+use crate::sending::put_sends;
+use broker::Broker;
+use model::{Event, Note};
+use session::Session;
+use std::alloc::{AllocError, Global};
+
+/// What a turn did.
+#[derive(Drop)]
+pub enum Turn {
+    /// The next command was performed, or the stream's fault, with these notes.
+    Did(Vec<Note>),
+    /// No whole command is there.
+    Idle,
+    /// The output holds 1,048,576 bytes or more.
+    Paused,
+    /// The connection is over, or gone.
+    Over,
+}
+
+/// A command of the connection `c`, or the fault of its stream, with room for what it sends.
+fn do_event(
+    c: u64,
+    alloc: Global,
+    broker: &mut Broker,
+    scratch: &mut Scratch,
+    session: &mut Session,
+    output: &mut Output,
+    event: &Event,
+) -> Result<Vec<Note>, AllocError>
+    requires asked { IsAsked c event.now }
+    requires room { 4096 ≤ output.old.room }
+    ensures ok { IfOk result (λ notes. Performed (topology_of broker.old) (broker_of broker.old) c session.old output.old.bytes event.now notes.items (broker_of broker.new) session.new output.new.bytes) }
+    ensures broker_kept { OnErr result (broker.new ≡ broker.old) }
+    ensures session_kept { OnErr result (session.new ≡ session.old) }
+    ensures output_kept { OnErr result (output.new ≡ output.old) }
+    ensures topology { topology_of broker.new ≡ topology_of broker.old }
+{
+    let step = perform(c, alloc, broker, session, event)?;
+    let max = session.frame_max();
+    put_sends(c, output, scratch, max, &step.sends);
+    let is_past = output.bytes().len() >= 1_048_576;
+    pause_if(broker, c, is_past);
+    Ok(step.notes)
+}
+
+/// The command that is kept, which stays so where memory is refused.
+fn do_kept(
+    alloc: Global,
+    broker: &mut Broker,
+    scratch: &mut Scratch,
+    link: &mut Link,
+) -> Result<Turn, AllocError>
+    requires kept { (e : event.Event) × (link.old.kept ≡ Some e) × IsAsked link.old.number e }
+    requires room { 4096 ≤ link.old.output.room }
+    ensures ok { IfOk result (λ t. (e : event.Event) → link.old.kept ≡ Some e → DidEvent (topology_of broker.old) (broker_of broker.old) link.old e t (broker_of broker.new) link.new) }
+    ensures broker_kept { OnErr result (broker.new ≡ broker.old) }
+    ensures link_kept { OnErr result (link.new ≡ link.old) }
+    ensures topology { topology_of broker.new ≡ topology_of broker.old }
+{
+    let done = match &link.kept {
+        Some(event) => do_event(
+            link.number,
+            alloc,
+            broker,
+            scratch,
+            &mut link.session,
+            &mut link.output,
+            event,
+        ),
+        None => unreachable!(),
+    };
+    match done {
+        Ok(notes) => {
+            forget(&mut link.kept);
+            Ok(Turn::Did(notes))
+        }
+        Err(e) => Err(e),
+    }
+}
+
+/// A fault of the stream, which the stream answers again where memory is refused.
+fn do_fault(
+    alloc: Global,
+    broker: &mut Broker,
+    scratch: &mut Scratch,
+    link: &mut Link,
+    code: u16,
+) -> Result<Turn, AllocError>
+    requires kept { link.old.kept ≡ None }
+    requires room { 4096 ≤ link.old.output.room }
+    ensures ok { IfOk result (λ t. DidEvent (topology_of broker.old) (broker_of broker.old) link.old (happens.Fault link.old.number code) t (broker_of broker.new) link.new) }
+    ensures broker_kept { OnErr result (broker.new ≡ broker.old) }
+    ensures link_kept { OnErr result (link.new ≡ link.old) }
+    ensures topology { topology_of broker.new ≡ topology_of broker.old }
+{
+    let connection = link.number;
+    let done = do_event(
+        connection,
+        alloc,
+        broker,
+        scratch,
+        &mut link.session,
+        &mut link.output,
+        &Event::Fault { connection, code },
+    );
+    match done {
+        Ok(notes) => Ok(Turn::Did(notes)),
+        Err(e) => Err(e),
+    }
+}
+
+/// One turn of a connection that is awake, where there is room for what it sends.
+pub(crate) fn turn_with_room(
+    alloc: Global,
+    broker: &mut Broker,
+    scratch: &mut Scratch,
+    link: &mut Link,
+) -> Result<Turn, AllocError>
+    requires kept { IsKept link.old.number link.old.kept }
+    requires room { 4096 ≤ link.old.output.room }
+    requires open { is_ended link.old.session.phase ≡ false }
+    requires below { is_past_bound link.old.output.bytes ≡ false }
+    ensures ok { IfOk result (λ t. LinkTook (topology_of broker.old) (broker_of broker.old) link.old t (broker_of broker.new) link.new) }
+    ensures err { OnErr result (LinkWaits (broker_of broker.old) link.old (broker_of broker.new) link.new) }
+    ensures kept { IsKept link.new.number link.new.kept }
+    ensures number { link.new.number ≡ link.old.number }
+    ensures topology { topology_of broker.new ≡ topology_of broker.old }
+{
+    match read_next(link.number, &mut link.stream, &mut link.kept)? {
+        Next::Command => do_kept(alloc, broker, scratch, link),
+        Next::Fault(code) => do_fault(alloc, broker, scratch, link, code),
+        Next::Nothing => Ok(Turn::Idle),
+    }
+}
