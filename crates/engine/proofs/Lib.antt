@@ -3,3 +3,9 @@ pub mod Written
 pub mod Replies
 pub mod Turned
 pub mod Numbered
+pub mod Found
+pub mod Standing
+pub mod Changed
+pub mod Lifted
+pub mod Openings
+pub mod Tooks

@@ -4,10 +4,17 @@
 //! command that a connection's bytes spell, and puts out what the broker sends. [`run`] does all that arrives.
 #![tactic(auto)]
 
+mod connections;
+mod engines;
 mod links;
+mod machines;
 mod output;
 mod performing;
 mod reading;
 mod scratch;
 mod sending;
 mod turning;
+
+pub use engines::{Engine, Refused};
+pub use machines::run;
+pub use turning::Turn;

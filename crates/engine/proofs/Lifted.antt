@@ -1,0 +1,319 @@
+-- A turn of one connection is a turn of the world.
+use Rattle.std.proofs.Common.{◌≡◌, ◌≢◌, ◌≤◌, ◌+◌, ℕ, List, [], ◌∷◌, ◌++◌, Bool, true, false, cond, Option, Some, None, drop, refl, sym, ap, subst, ◌∙◌, append-nil, ◌⊎◌, inl, inr}
+use Rattle.std.specs.Prelude.{◌==◌, ◌&&◌, not, if◌then◌else◌, MatchBool}
+use Rattle.std.specs.List.{AllByRecursion}
+use Rattle.std.proofs.lemmas.Bool.{eq-eqb}
+use Rattle.model.specs.Broker.{Broker, with_one}
+use Rattle.model.specs.Commands.{Stream, Ends, stays, running_stream, heard}
+use Rattle.model.specs.Phases.{Session, to_phase, after_sends, answer, faulted}
+use Rattle.model.specs.State.{Config, State, Step, Steps, StepsAlone, Moves, OfCommand, OfFault}
+use Rattle.model.specs.Step.{Acts, Is}
+use Rattle.model.specs.Spelling.{spelling}
+use Rattle.model.specs.Run.{Happening, notes_of}
+use Rattle.model.specs.Arrivals.{World, Wire, Turns, Puts, Happens, Settles, Reads, again, fresh, fault, event_of, is_over, is_paused, is_awake, is_ended, is_past_bound, wire_after, new_wire, Waits, Same, SameToCome, still, waits, IsIdle, Takes_off, Loses, with_heard}
+use Rattle.model.specs.declared.contents.Content.{Content}
+use Rattle.model.specs.declared.methods.Method.{Method}
+use Rattle.model.specs.declared.methods.Method.TheVariants.{BasicPublish}
+use Rattle.model.specs.declared.notes.Note.{Note}
+use Rattle.model.specs.declared.events.Send.{Send}
+use Rattle.model.specs.declared.events.Phase.{Phase}
+use Rattle.model.specs.declared.events.Phase.TheVariants as phase
+use Rattle.model.specs.declared.events.Command.{Command}
+use Rattle.model.specs.declared.events.Command.TheVariants.{Plain, Full}
+use Rattle.model.specs.declared.events.Event.{Event}
+use Rattle.model.specs.declared.events.Event.TheVariants as event
+use Rattle.assembly.specs.Held.{stream_of}
+use Rattle.broker.specs.State.{topology_of, broker_of}
+use Rattle.engine.specs.Performing.{Decides, ByBroker, ByPhase, session_after, move_of, PausesOr}
+use Rattle.engine.specs.Reading.{kept_of}
+use Rattle.engine.specs.Turning.{Performed, LinkDid, LinkWaits}
+use Rattle.engine.specs.Waiting.{Waiting}
+use Rattle.engine.specs.World.{Parts, link_in, session_of, wire_in, wire_of, config_of, state_of, world_of}
+use Rattle.engine.specs.Engines.{Becomes, LinkSent, LinkFed}
+use Rattle.engine.proofs.Changed.{either}
+use Rattle.runs.proofs.Worlds.{world_same}
+use Rattle.runs.specs.Opened.{Hears}
+use Rattle.engine.specs.declared.links.Link.{Link}
+
+is_same : (b new : Broker) → new ≡ b → Is b new
+is_same b new e = subst (λ (z : Broker). Is b z) (sym e) (record { counted = refl; queues = λ q. refl; connections = λ c. refl; channels = λ c h. refl })
+
+-- ---- what one connection does is a step
+
+moved : (s : State) (c : ℕ) (sess sess' : Session) (e : Event) (p : Phase) (sends : List Send) (notes : List Note) (mid : Broker) (move : Session → _)
+    → s.session c ≡ sess → ByPhase p s.broker sess e sends notes mid sess' → ((z : Session) → move_of p z e ≡ move z)
+    → Moves s c (move (s.session c)) sends notes (record { broker = mid; session = with_one s.session c sess' })
+moved s c sess sess' e p sends notes mid move eq by is =
+    let same : move_of p sess e ≡ move (s.session c) = is sess ∙ ap move (sym eq) in
+    record {
+      sent = by.sent ∙ ap (λ z. z.sends) same;
+      noted = by.noted;
+      session = λ k. ap (λ (z : Session). with_one s.session c z k) (by.session ∙ ap (λ z. z.next) same);
+      broker = is_same s.broker mid by.broker;
+    }
+
+stepped_by : (f : Config) (s : State) (c : ℕ) (sess sess' : Session) (e : Event) (sends : List Send) (notes : List Note) (mid : Broker) (after : Session)
+    → ByBroker f.topology s.broker sess e sends notes mid sess' → session_after sess e sends ≡ after
+    → Steps f s c e sends notes after (record { broker = mid; session = with_one s.session c sess' })
+stepped_by f s c sess sess' e sends notes mid after by is = record { acts = by.acts; session = λ k. ap (λ (z : Session). with_one s.session c z k) (by.session ∙ is) }
+
+of_command : (p : Phase) (f : Config) (s : State) (c h : ℕ) (m : Method) (content : Option Content) (sess sess' : Session) (sends : List Send) (notes : List Note) (mid : Broker)
+    → s.session c ≡ sess → Decides p f.topology s.broker sess (event.Command c h m content) sends notes mid sess'
+    → OfCommand f s p c h m content sends notes (record { broker = mid; session = with_one s.session c sess' })
+of_command phase.Running f s c h m content sess sess' sends notes mid eq by = stepped_by f s c sess sess' _ sends notes mid _ by (ap (λ (z : Session). to_phase z (after_sends sends)) (sym eq))
+of_command phase.Header f s c h m content sess sess' sends notes mid eq by = moved s c sess sess' _ phase.Header sends notes mid (λ z. answer c z phase.Header h m) eq by (λ z. refl)
+of_command phase.Start f s c h m content sess sess' sends notes mid eq by = moved s c sess sess' _ phase.Start sends notes mid (λ z. answer c z phase.Start h m) eq by (λ z. refl)
+of_command phase.Tune f s c h m content sess sess' sends notes mid eq by = moved s c sess sess' _ phase.Tune sends notes mid (λ z. answer c z phase.Tune h m) eq by (λ z. refl)
+of_command phase.Open f s c h m content sess sess' sends notes mid eq by = moved s c sess sess' _ phase.Open sends notes mid (λ z. answer c z phase.Open h m) eq by (λ z. refl)
+of_command phase.Closing f s c h m content sess sess' sends notes mid eq by = moved s c sess sess' _ phase.Closing sends notes mid (λ z. answer c z phase.Closing h m) eq by (λ z. refl)
+of_command phase.Over f s c h m content sess sess' sends notes mid eq by = moved s c sess sess' _ phase.Over sends notes mid (λ z. answer c z phase.Over h m) eq by (λ z. refl)
+
+of_fault : (p : Phase) (f : Config) (s : State) (c code : ℕ) (sess sess' : Session) (sends : List Send) (notes : List Note) (mid : Broker)
+    → s.session c ≡ sess → Decides p f.topology s.broker sess (event.Fault c code) sends notes mid sess'
+    → OfFault f s p c code sends notes (record { broker = mid; session = with_one s.session c sess' })
+of_fault phase.Running f s c code sess sess' sends notes mid eq by = stepped_by f s c sess sess' _ sends notes mid _ by (ap (λ (z : Session). to_phase z phase.Over) (sym eq))
+of_fault phase.Header f s c code sess sess' sends notes mid eq by = moved s c sess sess' _ phase.Header sends notes mid (λ z. faulted c z phase.Header code) eq by (λ z. refl)
+of_fault phase.Start f s c code sess sess' sends notes mid eq by = moved s c sess sess' _ phase.Start sends notes mid (λ z. faulted c z phase.Start code) eq by (λ z. refl)
+of_fault phase.Tune f s c code sess sess' sends notes mid eq by = moved s c sess sess' _ phase.Tune sends notes mid (λ z. faulted c z phase.Tune code) eq by (λ z. refl)
+of_fault phase.Open f s c code sess sess' sends notes mid eq by = moved s c sess sess' _ phase.Open sends notes mid (λ z. faulted c z phase.Open code) eq by (λ z. refl)
+of_fault phase.Closing f s c code sess sess' sends notes mid eq by = moved s c sess sess' _ phase.Closing sends notes mid (λ z. faulted c z phase.Closing code) eq by (λ z. refl)
+of_fault phase.Over f s c code sess sess' sends notes mid eq by = moved s c sess sess' _ phase.Over sends notes mid (λ z. faulted c z phase.Over code) eq by (λ z. refl)
+
+commanded : (m : Command) (f : Config) (s : State) (c : ℕ) (sess sess' : Session) (sends : List Send) (notes : List Note) (mid : Broker)
+    → s.session c ≡ sess → Decides sess.phase f.topology s.broker sess (event_of c m) sends notes mid sess'
+    → Step f s (event_of c m) sends notes (record { broker = mid; session = with_one s.session c sess' })
+commanded (Plain h m) f s c sess sess' sends notes mid eq by =
+    subst (λ (z : Session). OfCommand f s z.phase c h m None sends notes (record { broker = mid; session = with_one s.session c sess' })) (sym eq) (of_command sess.phase f s c h m None sess sess' sends notes mid eq by)
+commanded (Full h p content) f s c sess sess' sends notes mid eq by =
+    subst (λ (z : Session). OfCommand f s z.phase c h (BasicPublish p) (Some content) sends notes (record { broker = mid; session = with_one s.session c sess' })) (sym eq) (of_command sess.phase f s c h (BasicPublish p) (Some content) sess sess' sends notes mid eq by)
+
+pub asked_steps : (c : ℕ) (k : Option Command) (st nx : Stream) (e : Event) (f : Config) (s : State) (sess sess' : Session) (sends : List Send) (notes : List Note) (mid : Broker)
+    → Reads c k st e nx → s.session c ≡ sess → Decides sess.phase f.topology s.broker sess e sends notes mid sess'
+    → Step f s e sends notes (record { broker = mid; session = with_one s.session c sess' })
+asked_steps c k st nx e f s sess sess' sends notes mid (again {m = m}) eq by = commanded m f s c sess sess' sends notes mid eq by
+asked_steps c k st nx e f s sess sess' sends notes mid (fresh {m = m} y) eq by = commanded m f s c sess sess' sends notes mid eq by
+asked_steps c k st nx e f s sess sess' sends notes mid (fault {code = code} y) eq by =
+    subst (λ (z : Session). OfFault f s z.phase c code sends notes (record { broker = mid; session = with_one s.session c sess' })) (sym eq) (of_fault sess.phase f s c code sess sess' sends notes mid eq by)
+
+-- ---- the pause that it brings
+
+-- what follows the event itself
+pub record Ended (f : Config) (mid : State) (c : ℕ) (was is : Bool) (new : State) : Type 0 where
+  pub hs : List Happening
+  pub settled : Settles f mid c was is hs new
+  pub quiet : notes_of hs ≡ []
+
+pub ended : (f : Config) (mid new : State) (c : ℕ) (was is : Bool) → PausesOr f.topology c was is mid.broker new.broker → ((d : ℕ) → new.session d ≡ mid.session d) → Ended f mid c was is new
+ended f mid new c false true p s =
+    let h : Happening = record { config = f; event = event.Pause c; sends = []; notes = []; frame_max = 0 } in
+    record { hs = h ∷ []; settled = (h, refl, record { under = refl; event = refl; stepped = record { acts = p.acts; session = s } }); quiet = refl }
+ended f mid new c true false p s =
+    let h : Happening = record { config = f; event = event.Resume c; sends = []; notes = []; frame_max = 0 } in
+    record { hs = h ∷ []; settled = (h, refl, record { under = refl; event = refl; stepped = record { acts = p.acts; session = s } }); quiet = refl }
+ended f mid new c true true p s = record { hs = []; settled = (refl, λ i. record { broker = p i; session = λ d. s d i }); quiet = refl }
+ended f mid new c false false p s = record { hs = []; settled = (refl, λ i. record { broker = p i; session = λ d. s d i }); quiet = refl }
+
+-- ---- the turn
+
+at_own : {A : Type 0} (f : ℕ → A) (n : ℕ) (a : A) → with_one f n a n ≡ a
+at_own f n a = ap (λ (b : Bool). cond b a (f n)) (eq-eqb n n refl)
+
+at_others : {A : Type 0} (f : ℕ → A) (n d : ℕ) (a : A) → d ≢ n → with_one f n a d ≡ f d
+at_others f n d a ne = ap (λ (b : Bool). cond b a (f d)) (Rattle.engine.proofs.Numbered.other_false d n ne)
+
+same_config : (old new : Parts) (l l' : Link) → Becomes old l l' new → config_of new ≡ config_of old
+same_config old new l l' b = λ i. record { topology = b.topology i; guarantees = b.guarantees i; users = b.users i }
+
+-- of one that is awake, the connection's own fields are what its world shows
+wire_open : (b : Bool) (l : Link) → b ≡ false → wire_in b l ≡ record { kept = kept_of l.kept; stream = stream_of l.stream; output = l.output.bytes }
+wire_open false l e = refl
+wire_open true l e = absurd (Rattle.std.proofs.lemmas.Bool.false≢true (sym e))
+
+output_in : (b : Bool) (l : Link) → (wire_in b l).output ≡ l.output.bytes
+output_in true l = refl
+output_in false l = refl
+
+-- after a turn nothing is kept, and the stream is what follows, unless the connection is over
+wire_left : (b : Bool) (l : Link) (next : Stream) → l.kept ≡ None → (stream_of l.stream ≡ next) ⊎ (b ≡ true) → wire_in b l ≡ wire_after b next l.output.bytes
+wire_left true l next k f = refl
+wire_left false l next k (inl f) = λ i. record { kept = kept_of (k i); stream = f i; output = l.output.bytes }
+wire_left false l next k (inr f) = absurd (Rattle.std.proofs.lemmas.Bool.false≢true f)
+
+pub turned : (old new : Parts) (l l' : Link) (notes : List Note) → Becomes old l l' new → link_in old.links l.number ≡ Some l
+    → is_ended l.session.phase ≡ false → is_past_bound l.output.bytes ≡ false
+    → LinkDid (topology_of old.broker) (broker_of old.broker) l notes (broker_of new.broker) l'
+    → (hs : List Happening) × (notes ≡ notes_of hs) × Turns (world_of old) l.number hs (world_of new)
+turned old new l l' notes b found open_still below did =
+    let c = l.number in
+    let p = did.performed in
+    let wire_was : wire_of (link_in old.links c) ≡ record { kept = kept_of l.kept; stream = stream_of l.stream; output = l.output.bytes } = ap wire_of found ∙ wire_open _ l open_still in
+    let session_was : session_of (link_in old.links c) ≡ l.session = ap session_of found in
+    let wire_is : wire_of (link_in new.links c) ≡ wire_of (Some l') = b.wires c ∙ at_own (λ d. wire_of (link_in old.links d)) c (wire_of (Some l')) in
+    let session_is : session_of (link_in new.links c) ≡ l'.session = b.sessions c ∙ at_own (λ d. session_of (link_in old.links d)) c l'.session in
+    let output_is : (wire_of (link_in new.links c)).output ≡ l'.output.bytes = ap (λ (w : Wire). w.output) wire_is ∙ output_in (is_ended l'.session.phase) l' in
+    let output_was : (wire_of (link_in old.links c)).output ≡ l.output.bytes = ap (λ (w : Wire). w.output) wire_was in
+    let over_is : is_over (world_of new) c ≡ is_ended l'.session.phase = ap (λ (s : Session). is_ended s.phase) session_is in
+    let mid : State = record { broker = p.mid; session = with_one (λ d. session_of (link_in old.links d)) c l'.session } in
+    let h : Happening = record { config = config_of old; event = did.event; sends = p.sends; notes = notes; frame_max = l'.session.frame_max } in
+    let past_was : is_paused (world_of old) c ≡ false = ap is_past_bound output_was ∙ below in
+    let past_is : is_paused (world_of new) c ≡ is_past_bound l'.output.bytes = ap is_past_bound output_is in
+    let rest : Ended (config_of old) mid c false (is_past_bound l'.output.bytes) (state_of new) = ended (config_of old) mid (state_of new) c false (is_past_bound l'.output.bytes) p.pauses b.sessions in
+    (h ∷ rest.hs, sym (ap (λ (z : List Note). notes ++ z) rest.quiet ∙ append-nil notes), record {
+      awake = ap (λ (v : Bool). not v && not (is_paused (world_of old) c)) (ap (λ (s : Session). is_ended s.phase) session_was ∙ open_still) ∙ ap (λ (v : Bool). not false && not v) past_was;
+      event = did.event;
+      next = did.next;
+      read = subst (λ (w : Wire). Reads c w.kept w.stream did.event did.next) (sym wire_was) did.read;
+      said = did.said;
+      puts = record {
+        h = h;
+        rest = rest.hs;
+        all = refl;
+        mid = mid;
+        happens = record { under = refl; event = refl; stepped = asked_steps c (kept_of l.kept) (stream_of l.stream) did.next did.event (config_of old) (state_of old) l.session l'.session p.sends notes p.mid did.read session_was p.decides };
+        own = p.own;
+        limit = sym (ap (λ (s : Session). s.frame_max) (at_own (λ d. session_of (link_in old.links d)) c l'.session));
+        bounded = p.bounded;
+        spelled = p.spelled;
+        output = output_is ∙ p.put ∙ ap (λ (z : List ℕ). z ++ spelling l'.session.frame_max p.sends) (sym output_was);
+        settled = subst (λ (v : Bool). Settles (config_of old) mid c v (is_paused (world_of new) c) rest.hs (state_of new)) (sym past_was)
+            (subst (λ (v : Bool). Settles (config_of old) mid c false v rest.hs (state_of new)) (sym past_is) rest.settled);
+        config = same_config old new l l' b;
+        others = λ d ne. b.wires d ∙ at_others (λ k. wire_of (link_in old.links k)) c d (wire_of (Some l')) ne;
+        rests = λ d ne. b.sessions d ∙ at_others (λ k. session_of (link_in old.links k)) c d l'.session ne;
+      };
+      given = b.given;
+      wire = wire_is ∙ wire_left (is_ended l'.session.phase) l' did.next did.none_kept did.follows
+          ∙ ap (λ (v : Bool). wire_after v did.next l'.output.bytes) (sym over_is) ∙ ap (λ (z : List ℕ). wire_after (is_over (world_of new) c) did.next z) (sym output_is);
+    })
+
+-- ---- nothing was performed
+
+with_same : {A : Type 0} (f : ℕ → A) (n : ℕ) (a : A) → a ≡ f n → (d : ℕ) → with_one f n a d ≡ f d
+with_same f n a e d = go (d == n) refl
+  where
+    go : (b : Bool) → (d == n) ≡ b → cond b a (f d) ≡ f d
+    go true q = e ∙ ap f (sym (Rattle.std.proofs.lemmas.Bool.eqb-true d n q))
+    go false q = refl
+
+same_to_come : (k : Option Command) (s : Stream) → SameToCome k s k s
+same_to_come None s = waits stays
+same_to_come (Some m) s = still
+
+-- what a connection has still to say, in the world
+coming_in : (b : Bool) (l l' : Link) → SameToCome (kept_of l.kept) (stream_of l.stream) (kept_of l'.kept) (stream_of l'.stream) → SameToCome (wire_in b l).kept (wire_in b l).stream (wire_in b l').kept (wire_in b l').stream
+coming_in true l l' s = same_to_come None running_stream
+coming_in false l l' s = s
+
+pub waited : (old new : Parts) (l l' : Link) → Becomes old l l' new → link_in old.links l.number ≡ Some l → LinkWaits (broker_of old.broker) l (broker_of new.broker) l' → Waits (world_of old) l.number (world_of new)
+waited old new l l' b found w =
+    let c = l.number in
+    let sessions : (d : ℕ) → session_of (link_in new.links d) ≡ session_of (link_in old.links d) =
+    λ d. b.sessions d ∙ with_same (λ k. session_of (link_in old.links k)) c l'.session (w.session ∙ sym (ap session_of found)) d in
+    let wire_was : wire_of (link_in old.links c) ≡ wire_of (Some l) = ap wire_of found in
+    let wire_is : wire_of (link_in new.links c) ≡ wire_of (Some l') = b.wires c ∙ at_own (λ d. wire_of (link_in old.links d)) c (wire_of (Some l')) in
+    let phase : is_ended l'.session.phase ≡ is_ended l.session.phase = ap (λ (s : Session). is_ended s.phase) w.session in
+    record {
+      config = same_config old new l l' b;
+      state = λ i. record { broker = w.broker i; session = λ d. sessions d i };
+      given = b.given;
+      others = λ d ne. b.wires d ∙ at_others (λ k. wire_of (link_in old.links k)) c d (wire_of (Some l')) ne;
+      output = ap (λ (x : Wire). x.output) wire_is ∙ output_in (is_ended l'.session.phase) l' ∙ w.output ∙ sym (ap (λ (x : Wire). x.output) wire_was ∙ output_in (is_ended l.session.phase) l);
+      coming = subst (λ (x : Wire). SameToCome x.kept x.stream (wire_of (link_in new.links c)).kept (wire_of (link_in new.links c)).stream) (sym wire_was)
+          (subst (λ (x : Wire). SameToCome (wire_of (Some l)).kept (wire_of (Some l)).stream x.kept x.stream) (sym (wire_is ∙ ap (λ (v : Bool). wire_in v l') phase))
+          (coming_in (is_ended l.session.phase) l l' w.coming));
+    }
+
+pub idle : (old : Parts) (l : Link) → link_in old.links l.number ≡ Some l → l.kept ≡ None → Ends (stream_of l.stream) None → is_ended l.session.phase ≡ false → IsIdle (world_of old) l.number
+idle old l found none ends open_still =
+    let wire_was : wire_of (link_in old.links l.number) ≡ record { kept = kept_of l.kept; stream = stream_of l.stream; output = l.output.bytes } = ap wire_of found ∙ wire_open _ l open_still in
+    record {
+      none_kept = ap (λ (x : Wire). x.kept) wire_was ∙ ap kept_of none;
+      ends = subst (λ (x : Wire). Ends x.stream None) (sym wire_was) ends;
+    }
+
+-- ---- output was taken
+
+pub taken : (old new : Parts) (l l' : Link) (n : ℕ) → Becomes old l l' new → link_in old.links l.number ≡ Some l
+    → LinkSent (topology_of old.broker) (broker_of old.broker) l n (broker_of new.broker) l'
+    → (hs : List Happening) × Takes_off (world_of old) l.number n hs (world_of new)
+taken old new l l' n b found s =
+    let c = l.number in
+    let sessions : (d : ℕ) → session_of (link_in new.links d) ≡ session_of (link_in old.links d) =
+    λ d. b.sessions d ∙ with_same (λ k. session_of (link_in old.links k)) c l'.session (s.session ∙ sym (ap session_of found)) d in
+    let wire_was : wire_of (link_in old.links c) ≡ wire_of (Some l) = ap wire_of found in
+    let wire_is : wire_of (link_in new.links c) ≡ wire_of (Some l') = b.wires c ∙ at_own (λ d. wire_of (link_in old.links d)) c (wire_of (Some l')) in
+    let output_is : (wire_of (link_in new.links c)).output ≡ l'.output.bytes = ap (λ (x : Wire). x.output) wire_is ∙ output_in (is_ended l'.session.phase) l' in
+    let output_was : (wire_of (link_in old.links c)).output ≡ l.output.bytes = ap (λ (x : Wire). x.output) wire_was ∙ output_in (is_ended l.session.phase) l in
+    let phase : is_ended l'.session.phase ≡ is_ended l.session.phase = ap (λ (z : Session). is_ended z.phase) s.session in
+    let dropped : wire_of (Some l') ≡ record (wire_of (link_in old.links c)) { output = drop n (wire_of (link_in old.links c)).output } =
+    ap (λ (v : Bool). wire_in v l') phase ∙ drop_in (is_ended l.session.phase) l l' n s ∙ ap (λ (x : Wire). record x { output = drop n x.output }) (sym wire_was) in
+    let rest : Ended (config_of old) (state_of old) c (is_past_bound l.output.bytes) (is_past_bound l'.output.bytes) (state_of new) = ended (config_of old) (state_of old) (state_of new) c (is_past_bound l.output.bytes) (is_past_bound l'.output.bytes) s.pauses sessions in
+    (rest.hs, record {
+      config = same_config old new l l' b;
+      given = b.given;
+      wires = λ d. b.wires d ∙ ap (λ (x : Wire). with_one (λ k. wire_of (link_in old.links k)) c x d) dropped;
+      settled = subst (λ (v : Bool). Settles (config_of old) (state_of old) c v (is_paused (world_of new) c) rest.hs (state_of new)) (sym (ap is_past_bound output_was))
+          (subst (λ (v : Bool). Settles (config_of old) (state_of old) c (is_past_bound l.output.bytes) v rest.hs (state_of new)) (sym (ap is_past_bound output_is)) rest.settled);
+    })
+  where
+    drop_in : (b : Bool) (l l' : Link) (n : ℕ) → LinkSent (topology_of old.broker) (broker_of old.broker) l n (broker_of new.broker) l' → wire_in b l' ≡ record (wire_in b l) { output = drop n (wire_in b l).output }
+    drop_in true l l' n s = λ i. record new_wire { output = s.output i }
+    drop_in false l l' n s = λ i. record { kept = kept_of (s.kept i); stream = stream_of (s.stream i); output = s.output i }
+
+-- ---- bytes were heard
+
+pub hears : (old new : Parts) (l l' : Link) (bytes : List ℕ) → Becomes old l l' new → link_in old.links l.number ≡ Some l → broker_of new.broker ≡ broker_of old.broker → LinkFed l bytes l'
+    → Hears (world_of old) l.number bytes (world_of new)
+hears old new l l' bytes b found same fed = go (is_ended l.session.phase) refl
+  where
+    sessions : (d : ℕ) → session_of (link_in new.links d) ≡ session_of (link_in old.links d)
+    sessions d = b.sessions d ∙ with_same (λ k. session_of (link_in old.links k)) l.number l'.session (fed.session ∙ sym (ap session_of found)) d
+    phase : is_ended l'.session.phase ≡ is_ended l.session.phase
+    phase = ap (λ (z : Session). is_ended z.phase) fed.session
+    over_was : is_over (world_of old) l.number ≡ is_ended l.session.phase
+    over_was = ap (λ (o : Option Link). is_ended (session_of o).phase) found
+    state_same : state_of new ≡ state_of old
+    state_same = λ i. record { broker = same i; session = λ d. sessions d i }
+    go : (v : Bool) → is_ended l.session.phase ≡ v → Hears (world_of old) l.number bytes (world_of new)
+    go true e = subst (λ (v : Bool). MatchBool v (Same (world_of old) (world_of new)) (world_of new ≡ with_heard (world_of old) l.number bytes)) (sym (over_was ∙ e))
+        (record {
+          config = same_config old new l l' b;
+          state = state_same;
+          given = b.given;
+          wires = λ d. b.wires d ∙ with_same (λ k. wire_of (link_in old.links k)) l.number (wire_of (Some l'))
+              (ap (λ (v : Bool). wire_in v l') (phase ∙ e) ∙ ap (λ (z : List ℕ). record new_wire { output = z }) (ap (λ (o : Waiting). o.bytes) fed.output) ∙ sym (ap wire_of found ∙ ap (λ (v : Bool). wire_in v l) e)) d;
+        })
+    go false e = subst (λ (v : Bool). MatchBool v (Same (world_of old) (world_of new)) (world_of new ≡ with_heard (world_of old) l.number bytes)) (sym (over_was ∙ e))
+        (world_same (with_heard (world_of old) l.number bytes) (world_of new) (record {
+          config = same_config old new l l' b;
+          state = state_same;
+          given = b.given;
+          wires = λ d. b.wires d ∙ ap (λ (x : Wire). with_one (λ k. wire_of (link_in old.links k)) l.number x d) (heard_wire e);
+        }))
+      where
+        heard_wire : is_ended l.session.phase ≡ false → wire_of (Some l') ≡ record (wire_of (link_in old.links l.number)) { stream = heard (wire_of (link_in old.links l.number)).stream bytes }
+        heard_wire e =
+            wire_open _ l' (phase ∙ e)
+            ∙ (λ i. record { kept = kept_of (fed.kept i); stream = fed.stream e i; output = (fed.output i).bytes })
+            ∙ ap (λ (x : Wire). record x { stream = heard x.stream bytes }) (sym (ap wire_of found ∙ wire_open _ l e))
+
+-- ---- a loss
+
+pub lost : (old new : Parts) (c : ℕ) → topology_of new.broker ≡ topology_of old.broker → new.guarantees ≡ old.guarantees → new.users ≡ old.users → new.given ≡ old.given
+    → Acts (topology_of old.broker) (broker_of old.broker) (event.Lose c) [] [] (broker_of new.broker)
+    → ((d : ℕ) → link_in new.links d ≡ (if c == d then None else link_in old.links d))
+    → (hs : List Happening) × Loses (world_of old) c hs (world_of new)
+lost old new c t g u n acts links =
+    let h : Happening = record { config = config_of old; event = event.Lose c; sends = []; notes = []; frame_max = 0 } in
+    (h ∷ [], record {
+      h = h;
+      all = refl;
+      happens = record { under = refl; event = refl; stepped = record { acts = acts; session = λ d. at_or session_of d (links d) } };
+      silent = refl;
+      config = λ i. record { topology = t i; guarantees = g i; users = u i };
+      given = n;
+      wires = λ d. at_or wire_of d (links d);
+    })
+  where
+    at_or : {A : Type 0} (F : Option Link → A) (d : ℕ) → link_in new.links d ≡ cond (c == d) None (link_in old.links d) → F (link_in new.links d) ≡ with_one (λ k. F (link_in old.links k)) c (F None) d
+    at_or F d e = either F old.links new.links c d None e

@@ -1,0 +1,220 @@
+-- From the connection at a place to the world.
+use Rattle.std.proofs.Common.{◌≡◌, ◌⊎◌, inl, inr, ◌<◌, ◌≤◌, ◌+◌, ℕ, List, [], ◌∷◌, Bool, true, false, cond, Option, Some, None, Result, Ok, Err, get_or, set, remove, length, refl, sym, ap, subst, ◌∙◌, arith}
+use Rattle.std.specs.Prelude.{IfOk, OnErr, MatchBool, ◌==◌}
+use Rattle.std.proofs.lemmas.Bool.{false≢true}
+use Rattle.model.specs.Broker.{Broker}
+use Rattle.model.specs.Topology.{Topology}
+use Rattle.model.specs.Phases.{Session}
+use Rattle.model.specs.Step.{Acts}
+use Rattle.model.specs.Commands.{Stream, stays}
+use Rattle.model.specs.State.{Config}
+use Rattle.model.specs.Run.{Happening}
+use Rattle.model.specs.Headline.{IsSound}
+use Rattle.model.specs.Arrivals.{World, Same, Waits, is_ended, is_over, is_paused, is_gone, is_past_bound, SameToCome, still, waits, Takes_off, Loses, with_heard}
+use Rattle.model.specs.declared.events.Command.{Command}
+use Rattle.model.specs.declared.events.Event.{Event}
+use Rattle.model.specs.declared.events.Event.TheVariants as event
+use Rattle.model.specs.declared.notes.Note.{Note}
+use Rattle.laws.proofs.Whole.{turn_keeps}
+use Rattle.runs.specs.Opened.{Hears, Takes, IsLost}
+use Rattle.runs.proofs.Worlds.{waits_not}
+use Rattle.assembly.specs.Held.{stream_of}
+use Rattle.broker.specs.State.{topology_of, broker_of}
+use Rattle.engine.specs.Reading.{kept_of, to_read}
+use Rattle.engine.specs.Turning.{LinkDid, LinkTook, LinkIdle, LinkWaits, LinkSame}
+use Rattle.engine.specs.World.{Parts, link_in, session_of, wire_of, config_of, world_of, is_link_gone, AreLinks, AreRising, IsEngine}
+use Rattle.engine.specs.Engines.{Becomes, Changes, IsPlaceOf, LinkTookOr, LinksTook, LinkSent, LinksSent, LinkFed, LinksFed, Turned, OnDid, left_of, left_in, put_back}
+use Rattle.engine.specs.declared.links.Link.{Link}
+use Rattle.engine.specs.declared.turning.Turn.{Turn}
+use Rattle.engine.specs.declared.turning.Turn.TheVariants as turn
+use Rattle.engine.proofs.Numbered.{link_in-place, link_in-remove, rising-remove, all-remove}
+use Rattle.engine.proofs.Standing.{gone_none, gone_some}
+use Rattle.engine.proofs.Changed.{sessions_change, wires_change, links_change, left_change}
+use Rattle.engine.proofs.Lifted.{turned, waited, idle, taken, hears, lost}
+
+-- all but the broker and the connections is as before
+pub record Stays (old new : Parts) : Type 0 where
+  pub topology : topology_of new.broker ≡ topology_of old.broker
+  pub guarantees : new.guarantees ≡ old.guarantees
+  pub users : new.users ≡ old.users
+  pub given : new.given ≡ old.given
+
+pub becomes : (old new : Parts) (i : ℕ) (l l' : Link) → Stays old new → AreRising 0 old.links → Changes old.links i l l' new.links → Becomes old l l' new
+becomes old new i l l' st r ch = record {
+  topology = st.topology;
+  guarantees = st.guarantees;
+  users = st.users;
+  given = st.given;
+  sessions = sessions_change old.links i l l' new.links r ch;
+  wires = wires_change old.links i l l' new.links r ch;
+}
+
+pub sound : (p : Parts) → IsEngine p → IsSound (config_of p)
+sound p e = record { wf = e.formed; hold = e.hold }
+
+pub engine_with : (old new : Parts) → IsEngine old → Stays old new → AreLinks old.given new.links → IsEngine new
+engine_with old new e st a = record {
+  hold = subst (λ (g : List _). Rattle.model.specs.Guarantee.AllHold (topology_of new.broker) g) (sym st.guarantees)
+      (subst (λ (t : Topology). Rattle.model.specs.Guarantee.AllHold t old.guarantees) (sym st.topology) e.hold);
+  formed = subst (λ (t : Topology). Rattle.model.specs.Topology.IsWellFormed t) (sym st.topology) e.formed;
+  links = subst (λ (n : ℕ). AreLinks n new.links) (sym st.given) a;
+}
+
+-- every engine stays one
+pub engine_change : (old new : Parts) (i : ℕ) (l l' : Link) → IsEngine old → Stays old new → Changes old.links i l l' new.links → IsEngine new
+engine_change old new i l l' e st ch = engine_with old new e st (links_change old.given old.links i l l' new.links e.links ch)
+
+-- ---- turns
+
+same_to_come : (k : Option Command) (s : Stream) → SameToCome k s k s
+same_to_come None s = waits stays
+same_to_come (Some m) s = still
+
+same_waits : (b new_b : Broker) (l l' : Link) → LinkSame b l new_b l' → LinkWaits b l new_b l'
+same_waits b new_b l l' same = subst (λ (z : Link). LinkWaits b l new_b z) (sym same.link)
+    (record { broker = same.broker; number = refl; session = refl; output = refl; coming = same_to_come (kept_of l.kept) (stream_of l.stream) })
+
+left_less : (b : Bool) (m n : ℕ) → (m < n) ⊎ (b ≡ true) → cond b 0 (m + 1) < n + 1
+left_less true m n f = omega arith
+left_less false m n (inl lt) = omega (arith, lt)
+left_less false m n (inr e) = absurd (false≢true e)
+
+did_less : (t : Topology) (b new_b : Broker) (l l' : Link) (notes : List Note) → is_ended l.session.phase ≡ false → LinkDid t b l notes new_b l' → left_of l' < left_of l
+did_less t b new_b l l' notes open_still did =
+    let reads : to_read (kept_of l'.kept) (stream_of l'.stream) ≡ to_read None (stream_of l'.stream) = ap (λ (k : Option Event). to_read (kept_of k) (stream_of l'.stream)) did.none_kept in
+    let was : left_of l ≡ to_read (kept_of l.kept) (stream_of l.stream) + 1 = ap (λ (v : Bool). cond v 0 (to_read (kept_of l.kept) (stream_of l.stream) + 1)) open_still in
+    subst (λ (n : ℕ). left_of l' < n) (sym was)
+    (subst (λ (m : ℕ). cond (is_ended l'.session.phase) 0 (m + 1) < to_read (kept_of l.kept) (stream_of l.stream) + 1) (sym reads)
+    (left_less (is_ended l'.session.phase) (to_read None (stream_of l'.stream)) (to_read (kept_of l.kept) (stream_of l.stream)) did.fewer))
+
+-- what a turn's answer says of the world
+pub record Outcome {E : Type 0} (old new : Parts) (c : ℕ) (what : Result Turn E) : Type 0 where
+  pub ok : IfOk what (λ t. Turned (world_of old) c t (world_of new))
+  pub fewer : IfOk what (λ t. OnDid t (left_in new.links < left_in old.links))
+  pub err : OnErr what (Waits (world_of old) c (world_of new))
+
+outcome : {E : Type 0} (old new : Parts) (i : ℕ) (l l' : Link) (what : Result Turn E) → IsEngine old → Stays old new → Changes old.links i l l' new.links
+    → LinkTookOr (topology_of old.broker) (broker_of old.broker) l what (broker_of new.broker) l' → Outcome old new l.number what
+outcome old new i l l' (Ok (turn.Did notes)) e st ch t =
+    let b = becomes old new i l l' st e.links.rising ch in
+    let found = link_in-place 0 old.links i l e.links.rising ch.within ch.here in
+    let done = turned old new l l' notes.items b found t.0 t.1 t.2 in
+    record {
+      ok = record { happenings = done.0; noted = done.1; turns = done.2; promises = turn_keeps (world_of old) (world_of new) l.number done.0 (sound old e) done.2 };
+      fewer = left_change old.links i l l' new.links ch (did_less (topology_of old.broker) (broker_of old.broker) (broker_of new.broker) l l' notes.items t.0 t.2);
+      err = tt;
+    }
+outcome old new i l l' (Ok turn.Idle) e st ch t =
+    let b = becomes old new i l l' st e.links.rising ch in
+    let found = link_in-place 0 old.links i l e.links.rising ch.within ch.here in
+    record { ok = (idle old l found t.1.none_kept t.1.ends t.0, waited old new l l' b found t.1.waits); fewer = tt; err = tt }
+outcome old new i l l' (Ok turn.Paused) e st ch t =
+    let b = becomes old new i l l' st e.links.rising ch in
+    let found = link_in-place 0 old.links i l e.links.rising ch.within ch.here in
+    record { ok = (ap is_past_bound (ap (λ (o : Option Link). (wire_of o).output) found ∙ Rattle.engine.proofs.Standing.output_in (is_ended l.session.phase) l) ∙ t.0, waited old new l l' b found (same_waits (broker_of old.broker) (broker_of new.broker) l l' t.1)); fewer = tt; err = tt }
+outcome old new i l l' (Ok turn.Over) e st ch t =
+    let b = becomes old new i l l' st e.links.rising ch in
+    let found = link_in-place 0 old.links i l e.links.rising ch.within ch.here in
+    record { ok = (ap (λ (o : Option Link). is_ended (session_of o).phase) found ∙ t.0, waited old new l l' b found (same_waits (broker_of old.broker) (broker_of new.broker) l l' t.1)); fewer = tt; err = tt }
+outcome old new i l l' (Err x) e st ch t =
+    let b = becomes old new i l l' st e.links.rising ch in
+    let found = link_in-place 0 old.links i l e.links.rising ch.within ch.here in
+    record { ok = tt; fewer = tt; err = waited old new l l' b found t }
+
+number_is : (ls : List Link) (c i : ℕ) (l : Link) → IsPlaceOf ls c (Some i) → get_or ls i l ≡ l → l.number ≡ c
+number_is ls c i l place here = sym (ap (λ (z : Link). z.number) here) ∙ place.1 l
+
+pub took : {E : Type 0} (old new : Parts) (c i : ℕ) (what : Result Turn E) → IsEngine old → Stays old new → IsPlaceOf old.links c (Some i)
+    → LinksTook (topology_of old.broker) (broker_of old.broker) old.links i what (broker_of new.broker) new.links → Outcome old new c what
+took old new c i what e st place t =
+    subst (λ (n : ℕ). Outcome old new n what) (number_is old.links c i t.old place t.changes.here) (outcome old new i t.old t.new what e st t.changes t.took)
+
+pub took_engine : {E : Type 0} (old new : Parts) (i : ℕ) (what : Result Turn E) → IsEngine old → Stays old new
+    → LinksTook (topology_of old.broker) (broker_of old.broker) old.links i what (broker_of new.broker) new.links → IsEngine new
+took_engine old new i what e st t = engine_change old new i t.old t.new e st t.changes
+
+-- of a connection that is not there nothing is performed
+pub not_there : (p : Parts) (c : ℕ) → link_in p.links c ≡ None → (is_over (world_of p) c ≡ true) × Waits (world_of p) c (world_of p)
+not_there p c none = (ap (λ (o : Option Link). is_ended (session_of o).phase) none, waits_not (world_of p) c)
+
+on_true : (A B : Type 0) (v : Bool) → v ≡ true → A → MatchBool v A B
+on_true A B true e a = a
+on_true A B false e a = absurd (false≢true e)
+
+on_false : (A B : Type 0) (v : Bool) → v ≡ false → B → MatchBool v A B
+on_false A B true e b = absurd (false≢true (sym e))
+on_false A B false e b = b
+
+-- ---- output that is taken
+
+nothing_changes : (p : Parts) → Same (world_of p) (world_of p)
+nothing_changes p = record { config = refl; state = refl; given = refl; wires = λ d. refl }
+
+pub takes_none : (p : Parts) (c n : ℕ) → IsEngine p → link_in p.links c ≡ None → Takes (world_of p) c n (world_of p)
+takes_none p c n e none = on_true (Same (world_of p) (world_of p)) ((hs : List Happening) × Takes_off (world_of p) c n hs (world_of p)) (is_gone (world_of p) c) (gone_none p c e.links none) (nothing_changes p)
+
+pub sends : (old new : Parts) (c i n : ℕ) → IsEngine old → Stays old new → IsPlaceOf old.links c (Some i)
+    → LinksSent (topology_of old.broker) (broker_of old.broker) old.links i n (broker_of new.broker) new.links → Takes (world_of old) c n (world_of new)
+sends old new c i n e st place s =
+    let found = link_in-place 0 old.links i s.old e.links.rising s.changes.within s.changes.here in
+    let b = becomes old new i s.old s.new st e.links.rising s.changes in
+    let gone : is_gone (world_of old) s.old.number ≡ false = gone_some old s.old.number s.old e.links found in
+    subst (λ (k : ℕ). Takes (world_of old) k n (world_of new)) (number_is old.links c i s.old place s.changes.here)
+    (on_false (Same (world_of old) (world_of new)) ((hs : List Happening) × Takes_off (world_of old) s.old.number n hs (world_of new)) (is_gone (world_of old) s.old.number) gone (taken old new s.old s.new n b found s.sent))
+
+pub sends_engine : (old new : Parts) (i n : ℕ) → IsEngine old → Stays old new
+    → LinksSent (topology_of old.broker) (broker_of old.broker) old.links i n (broker_of new.broker) new.links → IsEngine new
+sends_engine old new i n e st s = engine_change old new i s.old s.new e st s.changes
+
+-- ---- bytes that are heard
+
+gone_same : (l l' : Link) (bytes : List ℕ) → LinkFed l bytes l' → is_link_gone l' ≡ is_link_gone l
+gone_same l l' bytes fed = λ i. Rattle.std.specs.Prelude.◌&&◌ (is_ended (fed.session i).phase) (Rattle.std.specs.Prelude.not (Rattle.std.specs.Prelude.nat_lt 0 (length (fed.output i).bytes)))
+
+pub fed_changes : (given : ℕ) (ls new_ls : List Link) (i : ℕ) (bytes : List ℕ) → AreLinks given ls → (f : LinksFed ls i bytes new_ls) → Changes ls i f.old f.new new_ls
+fed_changes given ls new_ls i bytes a f =
+    let here : is_link_gone f.old ≡ false = (Rattle.engine.proofs.Numbered.all_at (Rattle.engine.specs.World.IsLink given) ls i f.old a.each f.within f.here).here in
+    let still : is_link_gone f.new ≡ false = gone_same f.old f.new bytes f.fed ∙ here in
+    record {
+      within = f.within;
+      here = f.here;
+      number = f.fed.number;
+      kept = λ k. subst (λ (n : ℕ). Rattle.engine.specs.Reading.IsKept n f.new.kept) (sym f.fed.number) (subst (λ (o : Option Event). Rattle.engine.specs.Reading.IsKept f.old.number o) (sym f.fed.kept) k);
+      left = f.left ∙ sym (ap (λ (v : Bool). cond v (remove ls i) (set ls i f.new)) still);
+      over = λ gone. absurd (false≢true (sym still ∙ gone));
+    }
+
+pub feeds : (old new : Parts) (c i : ℕ) (bytes : List ℕ) → IsEngine old → Stays old new → broker_of new.broker ≡ broker_of old.broker → IsPlaceOf old.links c (Some i) → LinksFed old.links i bytes new.links
+    → Hears (world_of old) c bytes (world_of new)
+feeds old new c i bytes e st same place f =
+    let ch = fed_changes old.given old.links new.links i bytes e.links f in
+    let found = link_in-place 0 old.links i f.old e.links.rising f.within f.here in
+    let b = becomes old new i f.old f.new st e.links.rising ch in
+    subst (λ (k : ℕ). Hears (world_of old) k bytes (world_of new)) (number_is old.links c i f.old place f.here) (hears old new f.old f.new bytes b found same f.fed)
+
+pub feeds_engine : (old new : Parts) (i : ℕ) (bytes : List ℕ) → IsEngine old → Stays old new → LinksFed old.links i bytes new.links → IsEngine new
+feeds_engine old new i bytes e st f = engine_change old new i f.old f.new e st (fed_changes old.given old.links new.links i bytes e.links f)
+
+pub hears_none : (p : Parts) (c : ℕ) (bytes : List ℕ) → link_in p.links c ≡ None → Hears (world_of p) c bytes (world_of p)
+hears_none p c bytes none = on_true (Same (world_of p) (world_of p)) (world_of p ≡ with_heard (world_of p) c bytes) (is_over (world_of p) c) (not_there p c none).0 (nothing_changes p)
+
+-- ---- losses
+
+pub loses_none : (p : Parts) (c : ℕ) → IsEngine p → link_in p.links c ≡ None → IsLost (world_of p) c (world_of p)
+loses_none p c e none = on_true (Same (world_of p) (world_of p)) ((hs : List Happening) × Loses (world_of p) c hs (world_of p)) (is_gone (world_of p) c) (gone_none p c e.links none) (nothing_changes p)
+
+pub loses : (old new : Parts) (c i : ℕ) → IsEngine old → Stays old new → IsPlaceOf old.links c (Some i) → new.links ≡ remove old.links i
+    → Acts (topology_of old.broker) (broker_of old.broker) (event.Lose c) [] [] (broker_of new.broker) → IsLost (world_of old) c (world_of new)
+loses old new c i e st place left acts =
+    let at = Rattle.engine.proofs.Found.element old.links i place.0 in
+    let l : Link = at.0 in
+    let is : l.number ≡ c = number_is old.links c i l place at.1 in
+    let found : link_in old.links c ≡ Some l = subst (λ (k : ℕ). link_in old.links k ≡ Some l) is (link_in-place 0 old.links i l e.links.rising place.0 at.1) in
+    let gone : is_gone (world_of old) c ≡ false = gone_some old c l e.links found in
+    on_false (Same (world_of old) (world_of new)) ((hs : List Happening) × Loses (world_of old) c hs (world_of new)) (is_gone (world_of old) c) gone
+    (lost old new c st.topology st.guarantees st.users st.given acts
+      (λ d. ap (λ (z : List Link). link_in z d) left ∙ link_in-remove 0 old.links i l d e.links.rising place.0 at.1 ∙ ap (λ (k : ℕ). cond (k == d) None (link_in old.links d)) is))
+
+pub loses_engine : (old new : Parts) (i : ℕ) → IsEngine old → Stays old new → new.links ≡ remove old.links i → IsEngine new
+loses_engine old new i e st left = engine_with old new e st
+    (subst (λ (z : List Link). AreLinks old.given z) (sym left) (record { rising = rising-remove 0 old.links i e.links.rising; each = all-remove (Rattle.engine.specs.World.IsLink old.given) old.links i e.links.each }))

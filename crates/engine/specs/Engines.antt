@@ -1,0 +1,133 @@
+-- What the calls of an engine come to, from single connections to the world.
+use Rattle.std.specs.Prelude.{◌≡◌, ◌+◌, ◌<◌, ◌≤◌, ℕ, zero, suc, List, [], ◌∷◌, length, drop, Bool, true, false, Option, Some, None, Result, Ok, Err, if◌then◌else◌, get_or, set}
+use Rattle.std.specs.List.{remove}
+use Rattle.model.specs.Topology.{Topology}
+use Rattle.model.specs.Broker.{Broker, with_one}
+use Rattle.model.specs.Commands.{heard}
+use Rattle.model.specs.Phases.{no_session}
+use Rattle.model.specs.Run.{Happening, notes_of}
+use Rattle.model.specs.Arrivals.{World, Turns, Waits, IsIdle, is_over, is_paused, is_ended, is_past_bound}
+use Rattle.model.specs.Headline.{KeepsEvents}
+use Rattle.model.specs.declared.notes.Note.{Note}
+use Rattle.assembly.specs.Held.{stream_of}
+use Rattle.broker.specs.State.{topology_of}
+use Rattle.engine.specs.Reading.{IsKept, kept_of, to_read}
+use Rattle.engine.specs.Performing.{PausesOr}
+use Rattle.engine.specs.Turning.{LinkTook, LinkWaits}
+use Rattle.engine.specs.World.{Parts, link_in, session_of, wire_of, is_link_gone}
+use Rattle.engine.specs.declared.links.Link.{Link}
+use Rattle.engine.specs.declared.turning.Turn.{Turn}
+use Rattle.engine.specs.declared.turning.Turn.TheVariants as turn
+
+-- ---- one connection
+
+-- how much a connection has still to read and perform
+abbrev pub left_of : Link → ℕ
+left_of l = if is_ended l.session.phase then 0 else to_read (kept_of l.kept) (stream_of l.stream) + 1
+
+-- the same of all of them
+abbrev pub left_in : List Link → ℕ
+left_in [] = 0
+left_in (l ∷ ls) = left_of l + left_in ls
+
+-- The turn of one connection is right, or memory was wanting and nothing was performed.
+abbrev pub LinkTookOr : {E : Type 0} → Topology → Broker → Link → Result Turn E → Broker → Link → Type 0
+LinkTookOr t b old (Ok what) new_b new = LinkTook t b old what new_b new
+LinkTookOr t b old (Err e) new_b new = LinkWaits b old new_b new
+
+-- So many bytes of the output were taken, and the resumption that this brings is known.
+pub record LinkSent (t : Topology) (b : Broker) (old : Link) (n : ℕ) (new_b : Broker) (new : Link) : Type 0 where
+  pub number : new.number ≡ old.number
+  pub session : new.session ≡ old.session
+  pub kept : new.kept ≡ old.kept
+  pub stream : new.stream ≡ old.stream
+  pub output : new.output.bytes ≡ drop n old.output.bytes
+  pub pauses : PausesOr t old.number (is_past_bound old.output.bytes) (is_past_bound new.output.bytes) b new_b
+
+-- The bytes were heard, unless the connection is over.
+pub record LinkFed (old : Link) (bytes : List ℕ) (new : Link) : Type 0 where
+  pub number : new.number ≡ old.number
+  pub session : new.session ≡ old.session
+  pub kept : new.kept ≡ old.kept
+  pub output : new.output ≡ old.output
+  pub stream : is_ended old.session.phase ≡ false → stream_of new.stream ≡ heard (stream_of old.stream) bytes
+
+-- ---- the connections
+
+-- the connection of this number is at this place, if it is there
+abbrev pub IsPlaceOf : List Link → ℕ → Option ℕ → Type 0
+IsPlaceOf ls c None = link_in ls c ≡ None
+IsPlaceOf ls c (Some i) = (i < length ls) × ((l : Link) → (get_or ls i l).number ≡ c)
+
+-- this connection in its place; it is taken out where it is gone by now
+abbrev pub put_back : List Link → ℕ → Link → List Link
+put_back ls i l = if is_link_gone l then remove ls i else set ls i l
+
+-- the connection at this place is taken out where it is gone; of a gone one no limits are kept
+pub record IsSwept (ls : List Link) (i : ℕ) (l : Link) (new_ls : List Link) : Type 0 where
+  pub left : new_ls ≡ (if is_link_gone l then remove ls i else ls)
+  pub over : is_link_gone l ≡ true → l.session ≡ no_session
+
+-- The connection at this place became this one.
+pub record Changes (ls : List Link) (i : ℕ) (old new : Link) (new_ls : List Link) : Type 0 where
+  pub within : i < length ls
+  pub here : get_or ls i old ≡ old
+  pub number : new.number ≡ old.number
+  pub kept : IsKept old.number old.kept → IsKept new.number new.kept
+  pub left : new_ls ≡ put_back ls i new
+  pub over : is_link_gone new ≡ true → new.session ≡ no_session
+
+-- One turn of the connection at this place.
+pub record LinksTook {E : Type 0} (t : Topology) (b : Broker) (ls : List Link) (i : ℕ) (what : Result Turn E) (new_b : Broker) (new_ls : List Link) : Type 0 where
+  pub old : Link
+  pub new : Link
+  pub changes : Changes ls i old new new_ls
+  pub took : LinkTookOr t b old what new_b new
+
+-- Output of the connection at this place was taken.
+pub record LinksSent (t : Topology) (b : Broker) (ls : List Link) (i n : ℕ) (new_b : Broker) (new_ls : List Link) : Type 0 where
+  pub old : Link
+  pub new : Link
+  pub changes : Changes ls i old new new_ls
+  pub sent : LinkSent t b old n new_b new
+
+-- The connection at this place heard these bytes.
+pub record LinksFed (ls : List Link) (i : ℕ) (bytes : List ℕ) (new_ls : List Link) : Type 0 where
+  pub within : i < length ls
+  pub old : Link
+  pub here : get_or ls i old ≡ old
+  pub new : Link
+  pub fed : LinkFed old bytes new
+  pub left : new_ls ≡ set ls i new
+
+-- ---- the engine
+
+-- one connection is this link now, and all else is as before but the broker
+pub record Becomes (old : Parts) (l new_l : Link) (new : Parts) : Type 0 where
+  pub topology : topology_of new.broker ≡ topology_of old.broker
+  pub guarantees : new.guarantees ≡ old.guarantees
+  pub users : new.users ≡ old.users
+  pub given : new.given ≡ old.given
+  pub sessions : (d : ℕ) → session_of (link_in new.links d) ≡ with_one (λ c. session_of (link_in old.links c)) l.number new_l.session d
+  pub wires : (d : ℕ) → wire_of (link_in new.links d) ≡ with_one (λ c. wire_of (link_in old.links c)) l.number (wire_of (Some new_l)) d
+
+-- The next command or fault of a connection was performed, and the promises hold of what happened by it.
+pub record IsTurn (old : World) (c : ℕ) (notes : List Note) (new : World) : Type 0 where
+  pub happenings : List Happening
+  pub noted : notes ≡ notes_of happenings
+  pub turns : Turns old c happenings new
+  pub promises : KeepsEvents old.state.broker happenings new.state.broker
+
+-- The turn is right: what was performed, or why nothing was.
+abbrev pub Turned : World → ℕ → Turn → World → Type 0
+Turned old c (turn.Did notes) new = IsTurn old c notes.items new
+Turned old c turn.Idle new = IsIdle old c × Waits old c new
+Turned old c turn.Paused new = (is_paused old c ≡ true) × Waits old c new
+Turned old c turn.Over new = (is_over old c ≡ true) × Waits old c new
+
+-- this holds where something was performed
+abbrev pub OnDid : Turn → Type 0 → Type 0
+OnDid (turn.Did notes) P = P
+OnDid turn.Idle P = Unit {0}
+OnDid turn.Paused P = Unit {0}
+OnDid turn.Over P = Unit {0}

@@ -1,0 +1,147 @@
+//! Single connections of an engine, by their places.
+
+ghost use Rattle.std.specs.Prelude.{
+  ◌≡◌,
+  ◌≤◌,
+  ◌<◌,
+  ℕ,
+  length,
+  get_or,
+  IfSome,
+  OnOk,
+  OnErr,
+  IfOk,
+  vec_len,
+};
+ghost use Rattle.broker.specs.State.{topology_of, broker_of};
+ghost use Rattle.engine.specs.Reading.{IsKept};
+ghost use Rattle.engine.specs.Turning.{LinkTook, LinkWaits};
+ghost use Rattle.engine.specs.World.{AreRising};
+ghost use Rattle.engine.specs.Engines.{
+  IsPlaceOf,
+  LinksTook,
+  LinkSent,
+  LinksSent,
+  LinkFed,
+  LinksFed,
+  IsSwept,
+};
+ghost use Rattle.engine.specs.declared.links.Link as seen_link;
+
+use crate::links::Link;
+use crate::performing::resume_if;
+use crate::scratch::Scratch;
+use crate::turning::{Turn, turn_with_room};
+use broker::Broker;
+use std::alloc::{AllocError, Global};
+
+/// How many bytes one event sends at most: one method, in the least frame.
+const MOST_SENT: usize = 4_096;
+
+/// An output of so many bytes pauses its connection.
+const BOUND: usize = 1_048_576;
+
+/// The place of the connection of this number.
+pub(crate) fn place_of(links: &[Link], number: u64) -> Option<usize>
+    requires { AreRising 0 links.now }
+    ensures place { IsPlaceOf links.now number result }
+    ensures within { IfSome result (λ i. i < length links.now) }
+{
+    match links.binary_search_by_key(&number, |link| link.number) {
+        Ok(place) => Some(place),
+        Err(_) => None,
+    }
+}
+
+/// One turn of one connection, with room made for the greatest step.
+fn turn_link(
+    alloc: Global,
+    broker: &mut Broker,
+    scratch: &mut Scratch,
+    link: &mut Link,
+) -> Result<Turn, AllocError>
+    requires { IsKept link.old.number link.old.kept }
+    ensures ok { IfOk result (λ t. LinkTook (topology_of broker.old) (broker_of broker.old) link.old t (broker_of broker.new) link.new) }
+    ensures err { OnErr result (LinkWaits (broker_of broker.old) link.old (broker_of broker.new) link.new) }
+    ensures kept { IsKept link.new.number link.new.kept }
+    ensures number { link.new.number ≡ link.old.number }
+    ensures topology { topology_of broker.new ≡ topology_of broker.old }
+{
+    if link.session.is_over() {
+        return Ok(Turn::Over);
+    }
+    if link.output.bytes().len() >= BOUND {
+        return Ok(Turn::Paused);
+    }
+    link.output.reserve(MOST_SENT)?;
+    turn_with_room(alloc, broker, scratch, link)
+}
+
+/// Takes the connection at this place out, where it is over with no output left.
+fn sweep(links: &mut Vec<Link>, place: usize)
+    requires { place < vec_len links.old }
+    ensures { (l : seen_link.Link) → get_or links.old.items place l ≡ l → IsSwept links.old.items place l links.new.items }
+{
+    if links[place].is_gone() {
+        links.remove(place);
+    }
+}
+
+/// One turn of the connection at this place, which is taken out where it is gone by then.
+pub(crate) fn turn_at(
+    alloc: Global,
+    broker: &mut Broker,
+    scratch: &mut Scratch,
+    links: &mut Vec<Link>,
+    place: usize,
+) -> Result<Turn, AllocError>
+    requires within { place < vec_len links.old }
+    requires kept { (l : seen_link.Link) → get_or links.old.items place l ≡ l → IsKept l.number l.kept }
+    ensures took { LinksTook (topology_of broker.old) (broker_of broker.old) links.old.items place result (broker_of broker.new) links.new.items }
+    ensures topology { topology_of broker.new ≡ topology_of broker.old }
+{
+    let turn = turn_link(alloc, broker, scratch, &mut links[place]);
+    sweep(links, place);
+    turn
+}
+
+/// Takes bytes from the front of a connection's output.
+fn take_from(broker: &mut Broker, link: &mut Link, n: u64)
+    ensures sent { LinkSent (topology_of broker.old) (broker_of broker.old) link.old n (broker_of broker.new) link.new }
+    ensures topology { topology_of broker.new ≡ topology_of broker.old }
+{
+    let was = link.output.bytes().len() >= BOUND;
+    link.output.take_up_to(n);
+    let is = link.output.bytes().len() >= BOUND;
+    resume_if(broker, link.number, was, is);
+}
+
+/// The same of the connection at this place, which is taken out where it is gone by then.
+pub(crate) fn take_at(broker: &mut Broker, links: &mut Vec<Link>, place: usize, n: u64)
+    requires { place < vec_len links.old }
+    ensures sent { LinksSent (topology_of broker.old) (broker_of broker.old) links.old.items place n (broker_of broker.new) links.new.items }
+    ensures topology { topology_of broker.new ≡ topology_of broker.old }
+{
+    take_from(broker, &mut links[place], n);
+    sweep(links, place);
+}
+
+/// Puts bytes behind those that the connection has still to read, unless it is over.
+fn feed_link(link: &mut Link, bytes: &[u8]) -> Result<(), AllocError>
+    ensures ok { OnOk result (LinkFed link.old bytes.now link.new) }
+    ensures err { OnErr result (link.new ≡ link.old) }
+{
+    if link.session.is_over() {
+        return Ok(());
+    }
+    link.stream.feed(bytes)
+}
+
+/// The same of the connection at this place.
+pub(crate) fn feed_at(links: &mut [Link], place: usize, bytes: &[u8]) -> Result<(), AllocError>
+    requires { place < length links.old }
+    ensures ok { OnOk result (LinksFed links.old place bytes.now links.new) }
+    ensures err { OnErr result (links.new ≡ links.old) }
+{
+    feed_link(&mut links[place], bytes)
+}

@@ -1,0 +1,209 @@
+//! The engine.
+
+ghost use Rattle.std.specs.Prelude.{◌≡◌, ◌<◌, [], IfOk, OnErr, OnOk};
+ghost use Rattle.broker.specs.State.{topology_of, broker_of};
+ghost use Rattle.model.specs.Step.{Acts};
+ghost use Rattle.model.specs.declared.events.Event.TheVariants as happens;
+ghost use Rattle.model.specs.Arrivals.{Same, Waits, new_world, is_over};
+ghost use Rattle.runs.specs.Opened.{Hears, Takes, IsLost};
+ghost use Rattle.engine.specs.World.{world_of};
+ghost use Rattle.engine.specs.Engines.{Turned, OnDid, left_in};
+ghost use Rattle.engine.specs.Opening.{Opened};
+ghost use Rattle.engine.specs.Certified.{in_force};
+
+use crate::connections::{feed_at, place_of, take_at, turn_at};
+use crate::links::Link;
+use crate::scratch::Scratch;
+use crate::turning::Turn;
+use broker::Broker;
+use certificate::Checked;
+use guarantees::Guarantee;
+use model::{Event, User};
+use std::alloc::{AllocError, Global};
+use std::marker::Model;
+
+/// How many connections stand at most.
+const MOST_CONNECTIONS: usize = 1024;
+
+/// Why no connection was opened.
+#[derive(Clone, Copy, PartialEq, Eq, Debug, Drop)]
+pub enum Refused {
+    /// 1,024 connections are not gone.
+    Full,
+    /// The last number was given.
+    Spent,
+    /// A growth was refused.
+    Memory,
+}
+
+impl From<AllocError> for Refused {
+    ghost use Rattle.std.specs.Prelude.{◌≡◌};
+    ghost use Rattle.engine.specs.declared.engines.Refused.TheVariants.{Memory};
+
+    ghost from_gives = { λ _ r. r ≡ Memory };
+
+    fn from(_: AllocError) -> Refused {
+        Refused::Memory
+    }
+}
+
+/// The broker with its connections: bytes of each in, bytes for each out.
+///
+/// Connections are numbered from 1 in the order of their openings, and no number is given twice. A connection is gone
+/// when it is lost, or over with no output left.
+#[derive(Drop)]
+pub struct Engine {
+    broker: Broker,
+    guarantees: Vec<Guarantee>,
+    users: Vec<User>,
+    given: u64,
+    /// Those that are not gone, in the order of their numbers.
+    links: Vec<Link>,
+    scratch: Scratch,
+}
+
+impl Model for Engine {
+    ghost use Rattle.engine.specs.World.{Parts, IsEngine};
+
+    ghost Value = { Parts };
+
+    ghost view = { λ e. record { broker = e.broker; guarantees = e.guarantees.items; users = e.users.items; given = e.given; links = e.links.items } };
+
+    ghost invariant = { λ e. IsEngine (record { broker = e.broker; guarantees = e.guarantees.items; users = e.users.items; given = e.given; links = e.links.items }) };
+}
+
+impl Engine {
+    /// An engine with no connection, over a topology whose guarantees hold.
+    pub fn new(alloc: Global, checked: Checked, users: Vec<User>) -> Result<Engine, AllocError>
+        ensures { IfOk result (λ e. world_of e ≡ new_world (in_force checked users.items)) }
+    {
+        let (topology, guarantees) = checked.into_parts();
+        Ok(Engine {
+            broker: Broker::new(alloc, topology)?,
+            guarantees,
+            users,
+            given: 0,
+            links: Vec::new(alloc),
+            scratch: Scratch::new(alloc)?,
+        })
+    }
+
+    /// Opens a connection that runs at once, with channels 1 to `channels` open: its number.
+    ///
+    /// Refused `Full` where 1,024 connections are not gone, `Spent` where the last number was given. A refusal changes
+    /// nothing.
+    pub fn open_ready(&mut self, alloc: Global, channels: u8) -> Result<u64, Refused>
+        ensures { Opened (world_of self.old) channels result (world_of self.new) }
+    {
+        if self.links.len() >= MOST_CONNECTIONS {
+            return Err(Refused::Full);
+        }
+        if self.given == u64::MAX {
+            return Err(Refused::Spent);
+        }
+        self.links.reserve(1)?;
+        let number = self.given + 1;
+        open_in(alloc, &mut self.broker, number, channels)?;
+        self.links.push_reserved(Link::running(alloc, number));
+        self.given = number;
+        Ok(number)
+    }
+
+    /// Takes in bytes of the connection `c`. Of one that is over or gone nothing more is read.
+    pub fn feed(&mut self, c: u64, bytes: &[u8]) -> Result<(), AllocError>
+        ensures ok { OnOk result (Hears (world_of self.old) c bytes.now (world_of self.new)) }
+        ensures err { OnErr result (self.new ≡ self.old) }
+    {
+        match place_of(&self.links, c) {
+            Some(place) => feed_at(&mut self.links, place, bytes),
+            None => Ok(()),
+        }
+    }
+
+    /// Performs the next command of the connection `c`, or the fault of its bytes: at most one.
+    ///
+    /// `Idle` where no whole command and no fault is left, `Paused` where the output holds 1,048,576 bytes or more, `Over`
+    /// where the connection is over or gone. Where memory is refused nothing is performed, and the same is still to come.
+    pub fn turn(&mut self, alloc: Global, c: u64) -> Result<Turn, AllocError>
+        ensures ok { IfOk result (λ t. Turned (world_of self.old) c t (world_of self.new)) }
+        ensures fewer { IfOk result (λ t. OnDid t (left_in self.new.links < left_in self.old.links)) }
+        ensures err { OnErr result (Waits (world_of self.old) c (world_of self.new)) }
+    {
+        match place_of(&self.links, c) {
+            Some(place) => turn_at(
+                alloc,
+                &mut self.broker,
+                &mut self.scratch,
+                &mut self.links,
+                place,
+            ),
+            None => Ok(Turn::Over),
+        }
+    }
+
+    /// Takes `n` bytes from the front of `c`'s output, at most what is there.
+    pub fn sent(&mut self, c: u64, n: u64)
+        ensures { Takes (world_of self.old) c n (world_of self.new) }
+    {
+        if let Some(place) = place_of(&self.links, c) {
+            take_at(&mut self.broker, &mut self.links, place, n);
+        }
+    }
+
+    /// Loses the connection `c`: its output is never taken, and what it held is ready again.
+    pub fn lose(&mut self, c: u64)
+        ensures { IsLost (world_of self.old) c (world_of self.new) }
+    {
+        if let Some(place) = place_of(&self.links, c) {
+            self.broker.lose(c);
+            self.links.remove(place);
+        }
+    }
+
+    /// What was put out for `c` and not yet taken.
+    pub fn output(&self, c: u64) -> &[u8]
+        ensures { result.now ≡ ((world_of self.now).wire c).output }
+    {
+        match place_of(&self.links, c) {
+            Some(place) => self.links[place].output.bytes(),
+            None => &[],
+        }
+    }
+
+    /// Whether `c` is over or lost, or was never opened.
+    pub fn is_over(&self, c: u64) -> bool
+        ensures { result ≡ is_over (world_of self.now) c }
+    {
+        match place_of(&self.links, c) {
+            Some(place) => self.links[place].session.is_over(),
+            None => true,
+        }
+    }
+}
+
+/// The connection runs from now on, with channels 1 to `channels` open.
+fn open_in(
+    alloc: Global,
+    broker: &mut Broker,
+    number: u64,
+    channels: u8,
+) -> Result<(), AllocError>
+    ensures ok { OnOk result (Acts (topology_of broker.old) (broker_of broker.old) (happens.Running number 255 channels) [] [] (broker_of broker.new)) }
+    ensures err { OnErr result (broker.new ≡ broker.old) }
+    ensures topology { topology_of broker.new ≡ topology_of broker.old }
+{
+    match broker.step(alloc, &opening(number, channels)) {
+        Ok(_) => Ok(()),
+        Err(e) => Err(e),
+    }
+}
+
+fn opening(number: u64, channels: u8) -> Event
+    ensures { result ≡ happens.Running number 255 channels }
+{
+    Event::Running {
+        connection: number,
+        channel_max: 255,
+        channels: u16::from(channels),
+    }
+}
