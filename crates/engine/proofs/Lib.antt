@@ -9,3 +9,4 @@ pub mod Changed
 pub mod Lifted
 pub mod Openings
 pub mod Tooks
+pub mod Swept

@@ -6,11 +6,11 @@ use Rattle.model.specs.Broker.{Broker}
 use Rattle.model.specs.Topology.{Topology}
 use Rattle.model.specs.Phases.{Session}
 use Rattle.model.specs.Step.{Acts}
-use Rattle.model.specs.Commands.{Stream, stays}
+use Rattle.model.specs.Commands.{Stream}
 use Rattle.model.specs.State.{Config}
 use Rattle.model.specs.Run.{Happening}
 use Rattle.model.specs.Headline.{IsSound}
-use Rattle.model.specs.Arrivals.{World, Same, Waits, is_ended, is_over, is_paused, is_gone, is_past_bound, SameToCome, still, waits, Takes_off, Loses, with_heard}
+use Rattle.model.specs.Arrivals.{World, Same, Waits, is_ended, is_over, is_paused, is_gone, is_past_bound, Takes_off, Loses, with_heard}
 use Rattle.model.specs.declared.events.Command.{Command}
 use Rattle.model.specs.declared.events.Event.{Event}
 use Rattle.model.specs.declared.events.Event.TheVariants as event
@@ -30,6 +30,7 @@ use Rattle.engine.specs.declared.turning.Turn.TheVariants as turn
 use Rattle.engine.proofs.Numbered.{link_in-place, link_in-remove, rising-remove, all-remove}
 use Rattle.engine.proofs.Standing.{gone_none, gone_some}
 use Rattle.engine.proofs.Changed.{sessions_change, wires_change, links_change, left_change}
+use Rattle.engine.proofs.Turned.{same_coming}
 use Rattle.engine.proofs.Lifted.{turned, waited, idle, taken, hears, lost}
 
 -- all but the broker and the connections is as before
@@ -66,13 +67,9 @@ engine_change old new i l l' e st ch = engine_with old new e st (links_change ol
 
 -- ---- turns
 
-same_to_come : (k : Option Command) (s : Stream) → SameToCome k s k s
-same_to_come None s = waits stays
-same_to_come (Some m) s = still
-
 same_waits : (b new_b : Broker) (l l' : Link) → LinkSame b l new_b l' → LinkWaits b l new_b l'
 same_waits b new_b l l' same = subst (λ (z : Link). LinkWaits b l new_b z) (sym same.link)
-    (record { broker = same.broker; number = refl; session = refl; output = refl; coming = same_to_come (kept_of l.kept) (stream_of l.stream) })
+    (record { broker = same.broker; number = refl; session = refl; output = refl; coming = same_coming (kept_of l.kept) (stream_of l.stream) })
 
 left_less : (b : Bool) (m n : ℕ) → (m < n) ⊎ (b ≡ true) → cond b 0 (m + 1) < n + 1
 left_less true m n f = omega arith

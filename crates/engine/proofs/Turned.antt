@@ -5,7 +5,7 @@ use Rattle.std.proofs.lemmas.Bool.{false≢true}
 use Rattle.model.specs.Topology.{Topology}
 use Rattle.model.specs.Broker.{Broker}
 use Rattle.model.specs.Phases.{Session}
-use Rattle.model.specs.Commands.{Stream, Yields, Ends, GoesOn, IsCommand}
+use Rattle.model.specs.Commands.{Stream, Yields, Ends, GoesOn, IsCommand, stays}
 use Rattle.model.specs.Arrivals.{Reads, again, fresh, fault, SameToCome, still, waits, kept, IsSaid, event_of, is_ended, is_past_bound}
 use Rattle.model.specs.declared.events.Phase.{Phase}
 use Rattle.model.specs.declared.events.Phase.TheVariants as phase
@@ -225,3 +225,7 @@ performed_is t b new_b old new x e notes k is other p = subst (λ (z : Event). L
 pub on_err_map : {T F : Type 0} (r : Result T F) (P Q : Type 0) → (P → Q) → OnErr r P → OnErr r Q
 on_err_map (Ok x) P Q f p = tt
 on_err_map (Err e) P Q f p = f p
+
+pub same_coming : (k : Option Command) (s : Stream) → SameToCome k s k s
+same_coming None s = waits stays
+same_coming (Some m) s = still

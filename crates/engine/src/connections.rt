@@ -11,7 +11,6 @@ ghost use Rattle.std.specs.Prelude.{
   OnOk,
   OnErr,
   IfOk,
-  vec_len,
 };
 ghost use Rattle.broker.specs.State.{topology_of, broker_of};
 ghost use Rattle.engine.specs.Reading.{IsKept};
@@ -79,7 +78,7 @@ fn turn_link(
 
 /// Takes the connection at this place out, where it is over with no output left.
 fn sweep(links: &mut Vec<Link>, place: usize)
-    requires { place < vec_len links.old }
+    requires { place < length links.old.items }
     ensures { (l : seen_link.Link) → get_or links.old.items place l ≡ l → IsSwept links.old.items place l links.new.items }
 {
     if links[place].is_gone() {
@@ -95,7 +94,7 @@ pub(crate) fn turn_at(
     links: &mut Vec<Link>,
     place: usize,
 ) -> Result<Turn, AllocError>
-    requires within { place < vec_len links.old }
+    requires within { place < length links.old.items }
     requires kept { (l : seen_link.Link) → get_or links.old.items place l ≡ l → IsKept l.number l.kept }
     ensures took { LinksTook (topology_of broker.old) (broker_of broker.old) links.old.items place result (broker_of broker.new) links.new.items }
     ensures topology { topology_of broker.new ≡ topology_of broker.old }
@@ -118,7 +117,7 @@ fn take_from(broker: &mut Broker, link: &mut Link, n: u64)
 
 /// The same of the connection at this place, which is taken out where it is gone by then.
 pub(crate) fn take_at(broker: &mut Broker, links: &mut Vec<Link>, place: usize, n: u64)
-    requires { place < vec_len links.old }
+    requires { place < length links.old.items }
     ensures sent { LinksSent (topology_of broker.old) (broker_of broker.old) links.old.items place n (broker_of broker.new) links.new.items }
     ensures topology { topology_of broker.new ≡ topology_of broker.old }
 {

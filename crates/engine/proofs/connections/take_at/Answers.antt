@@ -1,0 +1,21 @@
+use Rattle.std.proofs.Common.{sym, ap, subst, Option, ℕ}
+use Rattle.model.specs.declared.events.Event.{Event}
+use Rattle.engine.specs.Reading.{IsKept}
+use Rattle.engine.proofs.Swept.{changes_swept}
+use Rattle.engine.proofs.connections.take_at.Goals as goal
+
+pub returns : goal.returns
+returns c =
+    let old = c.index_mut.result.now in
+    let new = c.take_from.new.link in
+    let sent = c.take_from.ensures.sent in
+    record {
+      sent = record {
+        old = old;
+        new = new;
+        changes = changes_swept c.args.links.now.items c.args.place old new c.sweep.new.links.items c.requires (sym c.index_mut.ensures.value) sent.number
+            (λ k. subst (λ (n : ℕ). IsKept n new.kept) (sym sent.number) (subst (λ (o : Option Event). IsKept old.number o) (sym sent.kept) k)) c.sweep.ensures;
+        sent = sent;
+      };
+      topology = c.take_from.ensures.topology;
+    }
