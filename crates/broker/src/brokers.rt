@@ -115,21 +115,19 @@ impl Broker {
         }
     }
 
-    /// The connection runs from now on, with channels 1 to `channels` open.
-    fn open(
+    /// The connection runs from now on, with channels 1 to `channels` open. Where memory is wanting, nothing has changed.
+    pub fn open(
         &mut self,
         alloc: Global,
         connection: u64,
         channel_max: u16,
         channels: u16,
-    ) -> Result<Step, AllocError>
-        ensures ok { IfOk result (λ s. Does s.sends.items s.notes.items (broker_of self.new) [] (opened (broker_of self.old) connection channel_max channels)) }
-        ensures own { IfOk result (λ s. AreOwn connection s.sends.items) }
+    ) -> Result<(), AllocError>
+        ensures ok { OnOk result (Acts (topology_of self.old) (broker_of self.old) (event_is.Running connection channel_max channels) [] [] (broker_of self.new)) }
         ensures topology { topology_of self.new ≡ topology_of self.old }
         ensures err { OnErr result (self.new ≡ self.old) }
     {
-        self.links.open(alloc, connection, channel_max, channels)?;
-        Ok(Step::nothing(alloc))
+        self.links.open(alloc, connection, channel_max, channels)
     }
 
     /// The connection runs no more: what it held is ready again.
@@ -426,7 +424,10 @@ impl Broker {
                 connection,
                 channel_max,
                 channels,
-            } => self.open(alloc, *connection, *channel_max, *channels),
+            } => {
+                self.open(alloc, *connection, *channel_max, *channels)?;
+                Ok(Step::nothing(alloc))
+            }
             Event::Command {
                 connection,
                 channel,

@@ -1,6 +1,6 @@
 -- From the connection at a place to the world.
 use Rattle.std.proofs.Common.{◌≡◌, ◌⊎◌, inl, inr, ◌<◌, ◌≤◌, ◌+◌, ℕ, List, [], ◌∷◌, Bool, true, false, cond, Option, Some, None, Result, Ok, Err, get_or, set, remove, length, refl, sym, ap, subst, ◌∙◌, arith}
-use Rattle.std.specs.Prelude.{IfOk, OnErr, MatchBool, ◌==◌}
+use Rattle.std.specs.Prelude.{IfOk, OnOk, OnErr, MatchBool, ◌==◌}
 use Rattle.std.proofs.lemmas.Bool.{false≢true}
 use Rattle.model.specs.Broker.{Broker}
 use Rattle.model.specs.Topology.{Topology}
@@ -215,3 +215,29 @@ loses old new c i e st place left acts =
 pub loses_engine : (old new : Parts) (i : ℕ) → IsEngine old → Stays old new → new.links ≡ remove old.links i → IsEngine new
 loses_engine old new i e st left = engine_with old new e st
     (subst (λ (z : List Link). AreLinks old.given z) (sym left) (record { rising = rising-remove 0 old.links i e.links.rising; each = all-remove (Rattle.engine.specs.World.IsLink old.given) old.links i e.links.each }))
+
+-- ---- bytes that are heard, or memory was wanting
+
+pub fed_engine : {T E : Type 0} (r : Result T E) (old new : Parts) (i : ℕ) (bytes : List ℕ) → IsEngine old → Stays old new → OnOk r (LinksFed old.links i bytes new.links) → OnErr r (new.links ≡ old.links) → IsEngine new
+fed_engine (Ok x) old new i bytes e st ok err = feeds_engine old new i bytes e st ok
+fed_engine (Err x) old new i bytes e st ok err = engine_with old new e st (subst (λ (z : List Link). AreLinks old.given z) (sym err) e.links)
+
+pub fed_ok : {T E : Type 0} (r : Result T E) (old new : Parts) (c i : ℕ) (bytes : List ℕ) → IsEngine old → Stays old new → broker_of new.broker ≡ broker_of old.broker → IsPlaceOf old.links c (Some i)
+    → OnOk r (LinksFed old.links i bytes new.links) → OnOk r (Hears (world_of old) c bytes (world_of new))
+fed_ok (Ok x) old new c i bytes e st same place ok = feeds old new c i bytes e st same place ok
+fed_ok (Err x) old new c i bytes e st same place ok = tt
+
+pub fed_err : {T E : Type 0} (r : Result T E) (p : Parts) (ls : List Link) → OnErr r (ls ≡ p.links) → OnErr r (record p { links = ls } ≡ p)
+fed_err (Ok x) p ls err = tt
+fed_err (Err x) p ls err = λ i. record p { links = err i }
+
+-- ---- what is asked of one connection
+
+found_at : (ls : List Link) (c i : ℕ) (l : Link) → AreRising 0 ls → IsPlaceOf ls c (Some i) → get_or ls i l ≡ l → link_in ls c ≡ Some l
+found_at ls c i l r place here = subst (λ (k : ℕ). link_in ls k ≡ Some l) (number_is ls c i l place here) (link_in-place 0 ls i l r place.0 here)
+
+pub output_at : (p : Parts) (c i : ℕ) (l : Link) → IsEngine p → IsPlaceOf p.links c (Some i) → get_or p.links i l ≡ l → ((world_of p).wire c).output ≡ l.output.bytes
+output_at p c i l e place here = ap (λ (o : Option Link). (wire_of o).output) (found_at p.links c i l e.links.rising place here) ∙ Rattle.engine.proofs.Standing.output_in (is_ended l.session.phase) l
+
+pub over_at : (p : Parts) (c i : ℕ) (l : Link) → IsEngine p → IsPlaceOf p.links c (Some i) → get_or p.links i l ≡ l → is_over (world_of p) c ≡ is_ended l.session.phase
+over_at p c i l e place here = ap (λ (o : Option Link). is_ended (session_of o).phase) (found_at p.links c i l e.links.rising place here)

@@ -137,10 +137,10 @@ fn feed_link(link: &mut Link, bytes: &[u8]) -> Result<(), AllocError>
 }
 
 /// The same of the connection at this place.
-pub(crate) fn feed_at(links: &mut [Link], place: usize, bytes: &[u8]) -> Result<(), AllocError>
-    requires { place < length links.old }
-    ensures ok { OnOk result (LinksFed links.old place bytes.now links.new) }
-    ensures err { OnErr result (links.new ≡ links.old) }
+pub(crate) fn feed_at(links: &mut Vec<Link>, place: usize, bytes: &[u8]) -> Result<(), AllocError>
+    requires { place < length links.old.items }
+    ensures ok { OnOk result (LinksFed links.old.items place bytes.now links.new.items) }
+    ensures err { OnErr result (links.new.items ≡ links.old.items) }
 {
     feed_link(&mut links[place], bytes)
 }

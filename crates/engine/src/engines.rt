@@ -1,9 +1,6 @@
 //! The engine.
 
-ghost use Rattle.std.specs.Prelude.{◌≡◌, ◌<◌, [], IfOk, OnErr, OnOk};
-ghost use Rattle.broker.specs.State.{topology_of, broker_of};
-ghost use Rattle.model.specs.Step.{Acts};
-ghost use Rattle.model.specs.declared.events.Event.TheVariants as happens;
+ghost use Rattle.std.specs.Prelude.{◌≡◌, ◌<◌, IfOk, OnErr, OnOk};
 ghost use Rattle.model.specs.Arrivals.{Same, Waits, new_world, is_over};
 ghost use Rattle.runs.specs.Opened.{Hears, Takes, IsLost};
 ghost use Rattle.engine.specs.World.{world_of};
@@ -18,7 +15,7 @@ use crate::turning::Turn;
 use broker::Broker;
 use certificate::Checked;
 use guarantees::Guarantee;
-use model::{Event, User};
+use model::User;
 use std::alloc::{AllocError, Global};
 use std::marker::Model;
 
@@ -103,7 +100,8 @@ impl Engine {
         }
         self.links.reserve(1)?;
         let number = self.given + 1;
-        open_in(alloc, &mut self.broker, number, channels)?;
+        self.broker
+            .open(alloc, number, 255, u16::from(channels))?;
         self.links.push_reserved(Link::running(alloc, number));
         self.given = number;
         Ok(number)
@@ -178,32 +176,5 @@ impl Engine {
             Some(place) => self.links[place].session.is_over(),
             None => true,
         }
-    }
-}
-
-/// The connection runs from now on, with channels 1 to `channels` open.
-fn open_in(
-    alloc: Global,
-    broker: &mut Broker,
-    number: u64,
-    channels: u8,
-) -> Result<(), AllocError>
-    ensures ok { OnOk result (Acts (topology_of broker.old) (broker_of broker.old) (happens.Running number 255 channels) [] [] (broker_of broker.new)) }
-    ensures err { OnErr result (broker.new ≡ broker.old) }
-    ensures topology { topology_of broker.new ≡ topology_of broker.old }
-{
-    match broker.step(alloc, &opening(number, channels)) {
-        Ok(_) => Ok(()),
-        Err(e) => Err(e),
-    }
-}
-
-fn opening(number: u64, channels: u8) -> Event
-    ensures { result ≡ happens.Running number 255 channels }
-{
-    Event::Running {
-        connection: number,
-        channel_max: 255,
-        channels: u16::from(channels),
     }
 }

@@ -3,8 +3,5 @@ use Rattle.engine.proofs.engines.Engine.open_ready.Goals as goal
 pub invariant_of-self : goal.invariant_of-self
 invariant_of-self c = ?
 
-pub returns-in-Some : goal.returns-in-Some
-returns-in-Some c = ?
-
-pub returns-in-None : goal.returns-in-None
-returns-in-None c = ?
+pub returns : goal.returns
+returns c = ?

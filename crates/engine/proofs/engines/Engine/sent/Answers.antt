@@ -1,10 +1,19 @@
+use Rattle.std.proofs.Common.{refl, Some}
+use Rattle.engine.specs.World.{Parts, world_of}
+use Rattle.engine.specs.Engines.{IsPlaceOf}
+use Rattle.engine.proofs.Tooks.{sends, sends_engine}
 use Rattle.engine.proofs.engines.Engine.sent.Goals as goal
 
 pub invariant_of-self : goal.invariant_of-self
-invariant_of-self c = ?
+invariant_of-self c =
+    let i = c.self.inside in
+    sends_engine (record { broker = i.broker; guarantees = i.guarantees.items; users = i.users.items; given = i.given; links = i.links.items }) _ c.in-Some.place c.args.n c.self.invariant
+    (record { topology = c.take_at.ensures.topology; guarantees = refl; users = refl; given = refl }) c.take_at.ensures.sent
 
 pub returns-in-Some : goal.returns-in-Some
-returns-in-Some c = ?
-
-pub returns-in-None : goal.returns-in-None
-returns-in-None c = ?
+returns-in-Some c =
+    let i = c.self.inside in
+    let old : Parts = record { broker = i.broker; guarantees = i.guarantees.items; users = i.users.items; given = i.given; links = i.links.items } in
+    let new : Parts = record { broker = c.take_at.new.broker; guarantees = i.guarantees.items; users = i.users.items; given = i.given; links = c.take_at.new.links.items } in
+    let place : IsPlaceOf i.links.items c.args.c (Some c.in-Some.place) = rw (← c.deref.ensures.value) c.in-Some.ensures.place in
+    rw (← c.self.view_is) (sends old new c.args.c c.in-Some.place c.args.n c.self.invariant (record { topology = c.take_at.ensures.topology; guarantees = refl; users = refl; given = refl }) place c.take_at.ensures.sent)
