@@ -1,6 +1,6 @@
 -- An engine with no connection, and one more connection.
 use Rattle.std.proofs.Common.{◌≡◌, ◌≢◌, ◌<◌, ◌≤◌, ◌+◌, ℕ, List, [], ◌∷◌, ◌++◌, Bool, true, false, cond, Option, Some, None, length, refl, sym, ap, subst, ◌∙◌, arith}
-use Rattle.std.specs.Prelude.{◌==◌, ◌&&◌, nat_lt, if◌then◌else◌}
+use Rattle.std.specs.Prelude.{◌==◌, ◌&&◌, nat_lt, nat_le, if◌then◌else◌}
 use Rattle.std.specs.List.{AllByRecursion}
 use Rattle.std.proofs.lemmas.Bool.Decides.{nat_tests}
 use Rattle.model.specs.Broker.{Broker, with_one}
@@ -21,7 +21,7 @@ use Rattle.assembly.specs.Held.{stream_of}
 use Rattle.broker.specs.State as kept
 use Rattle.broker.specs.State.{topology_of, broker_of, nothing}
 use Rattle.runs.specs.Opened.{OpensReady}
-use Rattle.engine.specs.World.{Parts, link_in, session_of, wire_of, config_of, state_of, world_of, AreLinks, IsLink, AreRising, IsNew}
+use Rattle.engine.specs.World.{Parts, link_in, session_of, wire_of, config_of, state_of, world_of, AreLinks, IsLink, AreRising, IsNew, IsEngine}
 use Rattle.engine.specs.declared.links.Link.{Link}
 use Rattle.engine.proofs.Numbered.{link_in-push, rising-push}
 use Rattle.engine.proofs.Standing.{standing_is}
@@ -97,3 +97,32 @@ opened old new l k sends notes a few left t g u n ls is acts =
           ∙ ap (λ (w : Wire). with_one (λ c. wire_of (link_in old.links c)) l.number w d) (wire_new l (old.given + 1) is)
           ∙ ap (λ (c : ℕ). with_one (λ c. wire_of (link_in old.links c)) c new_wire d) is.number_is;
     }))
+
+pub full_is : (p : Parts) → AreLinks p.given p.links → 1024 ≤ length p.links → nat_lt (standing (world_of p) p.given) 1024 ≡ false
+full_is p a many = let same = standing_is p a in grind (arith, nat_tests, same, many)
+
+pub room_is : (p : Parts) → AreLinks p.given p.links → length p.links < 1024 → nat_lt (standing (world_of p) p.given) 1024 ≡ true
+room_is p a few = let same = standing_is p a in grind (arith, nat_tests, same, few)
+
+pub engine_opened : (old new : Parts) (l : Link) → IsEngine old → topology_of new.broker ≡ topology_of old.broker → new.guarantees ≡ old.guarantees → new.given ≡ old.given + 1 → new.links ≡ old.links ++ l ∷ [] → IsNew l (old.given + 1) → IsEngine new
+engine_opened old new l e t g n ls is = record {
+  hold = subst (λ (gs : List Guarantee). Rattle.model.specs.Guarantee.AllHold (topology_of new.broker) gs) (sym g)
+      (subst (λ (x : Topology). Rattle.model.specs.Guarantee.AllHold x old.guarantees) (sym t) e.hold);
+  formed = subst (λ (x : Topology). Rattle.model.specs.Topology.IsWellFormed x) (sym t) e.formed;
+  links = subst (λ (k : ℕ). AreLinks k new.links) (sym n) (subst (λ (z : List Link). AreLinks (old.given + 1) z) (sym ls) (links_opened old.given old.links l e.links is));
+}
+
+pub spent_is : (given : ℕ) → 18446744073709551616 ≤ given + 1 → nat_lt given 18446744073709551615 ≡ false
+spent_is given most = grind (arith, nat_tests, most)
+
+pub many : (ls slice : List Link) → slice ≡ ls → true ≡ nat_le 1024 (length slice) → 1024 ≤ length ls
+many ls slice same e = let h : true ≡ nat_le 1024 (length ls) = e ∙ ap (λ (z : List Link). nat_le 1024 (length z)) same in grind (arith, nat_tests, h)
+
+pub few : (ls slice : List Link) → slice ≡ ls → false ≡ nat_le 1024 (length slice) → length ls < 1024
+few ls slice same e = let h : false ≡ nat_le 1024 (length ls) = e ∙ ap (λ (z : List Link). nat_le 1024 (length z)) same in grind (arith, nat_tests, h)
+
+pub not_more : (n : ℕ) → (n < 18446744073709551616 → ⊥) → 18446744073709551616 ≤ n
+not_more n never = grind (arith, never)
+
+pub less : (n : ℕ) → n + 1 < 18446744073709551616 → n < 18446744073709551615
+less n lt = omega (arith, lt)

@@ -144,7 +144,7 @@ on_false A B false e b = b
 
 -- ---- output that is taken
 
-nothing_changes : (p : Parts) → Same (world_of p) (world_of p)
+pub nothing_changes : (p : Parts) → Same (world_of p) (world_of p)
 nothing_changes p = record { config = refl; state = refl; given = refl; wires = λ d. refl }
 
 pub takes_none : (p : Parts) (c n : ℕ) → IsEngine p → link_in p.links c ≡ None → Takes (world_of p) c n (world_of p)

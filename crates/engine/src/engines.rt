@@ -1,6 +1,6 @@
 //! The engine.
 
-ghost use Rattle.std.specs.Prelude.{◌≡◌, ◌<◌, IfOk, OnErr, OnOk};
+ghost use Rattle.std.specs.Prelude.{◌≡◌, ◌<◌, nat_le, length, IfOk, OnErr, OnOk};
 ghost use Rattle.model.specs.Arrivals.{Same, Waits, new_world, is_over};
 ghost use Rattle.runs.specs.Opened.{Hears, Takes, IsLost};
 ghost use Rattle.engine.specs.World.{world_of};
@@ -92,14 +92,14 @@ impl Engine {
     pub fn open_ready(&mut self, alloc: Global, channels: u8) -> Result<u64, Refused>
         ensures { Opened (world_of self.old) channels result (world_of self.new) }
     {
-        if self.links.len() >= MOST_CONNECTIONS {
+        if is_full(&self.links) {
             return Err(Refused::Full);
         }
-        if self.given == u64::MAX {
-            return Err(Refused::Spent);
-        }
+        let number = match self.given.checked_add(1) {
+            Some(number) => number,
+            None => return Err(Refused::Spent),
+        };
         self.links.reserve(1)?;
-        let number = self.given + 1;
         self.broker
             .open(alloc, number, 255, u16::from(channels))?;
         self.links.push_reserved(Link::running(alloc, number));
@@ -177,4 +177,11 @@ impl Engine {
             None => true,
         }
     }
+}
+
+/// No more connections can stand.
+fn is_full(links: &[Link]) -> bool
+    ensures { result ≡ nat_le 1024 (length links.now) }
+{
+    links.len() >= MOST_CONNECTIONS
 }
