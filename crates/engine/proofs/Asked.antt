@@ -1,7 +1,7 @@
 -- What is asked next, and what is decided of it.
 use Rattle.std.specs.Prelude.{Result, Ok, Err, IfOk, IsOk, OnErr}
 use Rattle.model.specs.Step.{Does}
-use Rattle.std.proofs.Common.{◌≡◌, ◌≢◌, ℕ, List, [], Option, Some, None, refl, sym, subst}
+use Rattle.std.proofs.Common.{◌≢◌, List, [], refl}
 use Rattle.std.proofs.lemmas.Bool.{false≢true}
 use Rattle.model.specs.Topology.{Topology}
 use Rattle.model.specs.Broker.{Broker}

@@ -1,15 +1,12 @@
 -- One connection of the list became another: what is found by its number, what all keep, and how much is left.
-use Rattle.std.proofs.Common.{◌≡◌, ◌≢◌, ◌+◌, ◌<◌, ◌≤◌, ℕ, zero, suc, List, [], ◌∷◌, Bool, true, false, cond, eqb, Option, Some, None, get_or, set, length, remove, refl, sym, ap, subst, ◌∙◌, arith}
-use Rattle.std.specs.Prelude.{◌==◌, ◌&&◌, not, nat_lt, if◌then◌else◌}
-use Rattle.std.specs.List.{AllByRecursion}
+use Rattle.std.proofs.Common.{◌≡◌, ◌+◌, ◌<◌, ◌≤◌, ℕ, zero, suc, List, [], ◌∷◌, Bool, true, false, cond, Option, Some, None, get_or, set, length, remove, refl, sym, ap, subst, ◌∙◌, arith}
+use Rattle.std.specs.Prelude.{◌==◌, ◌&&◌, not, nat_lt}
 use Rattle.std.proofs.lemmas.Bool.{eqb-true, eq-eqb, false≢true}
 use Rattle.std.proofs.lemmas.Bool.Decides.{nat_tests}
 use Rattle.model.specs.Broker.{with_one}
-use Rattle.model.specs.Phases.{Session, no_session}
-use Rattle.model.specs.Arrivals.{Wire, new_wire, is_ended}
-use Rattle.assembly.specs.Held.{stream_of}
+use Rattle.model.specs.Arrivals.{new_wire, is_ended}
 use Rattle.engine.specs.World.{link_in, session_of, wire_in, wire_of, is_link_gone, IsLink, AreLinks, AreRising}
-use Rattle.engine.specs.Engines.{Changes, put_back, left_of, left_in}
+use Rattle.engine.specs.Engines.{Changes, left_of, left_in}
 use Rattle.engine.specs.declared.links.Link.{Link}
 use Rattle.engine.proofs.Numbered.{link_in-set, link_in-remove, rising-set, rising-remove, all-set, all-remove, all_at}
 

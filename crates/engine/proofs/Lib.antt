@@ -10,3 +10,4 @@ pub mod Lifted
 pub mod Openings
 pub mod Tooks
 pub mod Swept
+pub mod Certifying

@@ -1,16 +1,15 @@
 -- A turn of one connection is a turn of the world.
-use Rattle.std.proofs.Common.{◌≡◌, ◌≢◌, ◌≤◌, ◌+◌, ℕ, List, [], ◌∷◌, ◌++◌, Bool, true, false, cond, Option, Some, None, drop, refl, sym, ap, subst, ◌∙◌, append-nil, ◌⊎◌, inl, inr}
+use Rattle.std.proofs.Common.{◌≡◌, ◌≢◌, ℕ, List, [], ◌∷◌, ◌++◌, Bool, true, false, cond, Option, Some, None, drop, refl, sym, ap, subst, ◌∙◌, append-nil, ◌⊎◌, inl, inr}
 use Rattle.std.specs.Prelude.{◌==◌, ◌&&◌, not, if◌then◌else◌, MatchBool}
-use Rattle.std.specs.List.{AllByRecursion}
 use Rattle.std.proofs.lemmas.Bool.{eq-eqb}
 use Rattle.model.specs.Broker.{Broker, with_one}
 use Rattle.model.specs.Commands.{Stream, Ends, stays, running_stream, heard}
 use Rattle.model.specs.Phases.{Session, to_phase, after_sends, answer, faulted}
-use Rattle.model.specs.State.{Config, State, Step, Steps, StepsAlone, Moves, OfCommand, OfFault}
+use Rattle.model.specs.State.{Config, State, Step, Steps, Moves, OfCommand, OfFault}
 use Rattle.model.specs.Step.{Acts, Is}
 use Rattle.model.specs.Spelling.{spelling}
 use Rattle.model.specs.Run.{Happening, notes_of}
-use Rattle.model.specs.Arrivals.{World, Wire, Turns, Puts, Happens, Settles, Reads, again, fresh, fault, event_of, is_over, is_paused, is_awake, is_ended, is_past_bound, wire_after, new_wire, Waits, Same, SameToCome, still, waits, IsIdle, Takes_off, Loses, with_heard}
+use Rattle.model.specs.Arrivals.{Wire, Turns, Settles, Reads, again, fresh, fault, event_of, is_over, is_paused, is_ended, is_past_bound, wire_after, new_wire, Waits, Same, SameToCome, still, waits, IsIdle, Takes_off, Loses, with_heard}
 use Rattle.model.specs.declared.contents.Content.{Content}
 use Rattle.model.specs.declared.methods.Method.{Method}
 use Rattle.model.specs.declared.methods.Method.TheVariants.{BasicPublish}
@@ -26,7 +25,7 @@ use Rattle.assembly.specs.Held.{stream_of}
 use Rattle.broker.specs.State.{topology_of, broker_of}
 use Rattle.engine.specs.Performing.{Decides, ByBroker, ByPhase, session_after, move_of, PausesOr}
 use Rattle.engine.specs.Reading.{kept_of}
-use Rattle.engine.specs.Turning.{Performed, LinkDid, LinkWaits}
+use Rattle.engine.specs.Turning.{LinkDid, LinkWaits}
 use Rattle.engine.specs.Waiting.{Waiting}
 use Rattle.engine.specs.World.{Parts, link_in, session_of, wire_in, wire_of, config_of, state_of, world_of}
 use Rattle.engine.specs.Engines.{Becomes, LinkSent, LinkFed}
@@ -157,34 +156,37 @@ turned old new l l' notes b found open_still below did =
     let h : Happening = record { config = config_of old; event = did.event; sends = p.sends; notes = notes; frame_max = l'.session.frame_max } in
     let past_was : is_paused (world_of old) c ≡ false = ap is_past_bound output_was ∙ below in
     let past_is : is_paused (world_of new) c ≡ is_past_bound l'.output.bytes = ap is_past_bound output_is in
-    let rest : Ended (config_of old) mid c false (is_past_bound l'.output.bytes) (state_of new) = ended (config_of old) mid (state_of new) c false (is_past_bound l'.output.bytes) p.pauses b.sessions in
-    (h ∷ rest.hs, sym (ap (λ (z : List Note). notes ++ z) rest.quiet ∙ append-nil notes), record {
-      awake = ap (λ (v : Bool). not v && not (is_paused (world_of old) c)) (ap (λ (s : Session). is_ended s.phase) session_was ∙ open_still) ∙ ap (λ (v : Bool). not false && not v) past_was;
-      event = did.event;
-      next = did.next;
-      read = subst (λ (w : Wire). Reads c w.kept w.stream did.event did.next) (sym wire_was) did.read;
-      said = did.said;
-      puts = record {
-        h = h;
-        rest = rest.hs;
-        all = refl;
-        mid = mid;
-        happens = record { under = refl; event = refl; stepped = asked_steps c (kept_of l.kept) (stream_of l.stream) did.next did.event (config_of old) (state_of old) l.session l'.session p.sends notes p.mid did.read session_was p.decides };
-        own = p.own;
-        limit = sym (ap (λ (s : Session). s.frame_max) (at_own (λ d. session_of (link_in old.links d)) c l'.session));
-        bounded = p.bounded;
-        spelled = p.spelled;
-        output = output_is ∙ p.put ∙ ap (λ (z : List ℕ). z ++ spelling l'.session.frame_max p.sends) (sym output_was);
-        settled = subst (λ (v : Bool). Settles (config_of old) mid c v (is_paused (world_of new) c) rest.hs (state_of new)) (sym past_was)
-            (subst (λ (v : Bool). Settles (config_of old) mid c false v rest.hs (state_of new)) (sym past_is) rest.settled);
-        config = same_config old new l l' b;
-        others = λ d ne. b.wires d ∙ at_others (λ k. wire_of (link_in old.links k)) c d (wire_of (Some l')) ne;
-        rests = λ d ne. b.sessions d ∙ at_others (λ k. session_of (link_in old.links k)) c d l'.session ne;
-      };
-      given = b.given;
-      wire = wire_is ∙ wire_left (is_ended l'.session.phase) l' did.next did.none_kept did.follows
-          ∙ ap (λ (v : Bool). wire_after v did.next l'.output.bytes) (sym over_is) ∙ ap (λ (z : List ℕ). wire_after (is_over (world_of new) c) did.next z) (sym output_is);
-    })
+    let rest : Ended (config_of old) mid c false (is_past_bound l'.output.bytes) (state_of new) = ended (config_of old) mid (state_of new) c false (is_past_bound l'.output.bytes) p.pauses b.sessions in (
+      h ∷ rest.hs,
+      sym (ap (λ (z : List Note). notes ++ z) rest.quiet ∙ append-nil notes),
+      record {
+        awake = ap (λ (v : Bool). not v && not (is_paused (world_of old) c)) (ap (λ (s : Session). is_ended s.phase) session_was ∙ open_still) ∙ ap (λ (v : Bool). not false && not v) past_was;
+        event = did.event;
+        next = did.next;
+        read = subst (λ (w : Wire). Reads c w.kept w.stream did.event did.next) (sym wire_was) did.read;
+        said = did.said;
+        puts = record {
+          h = h;
+          rest = rest.hs;
+          all = refl;
+          mid = mid;
+          happens = record { under = refl; event = refl; stepped = asked_steps c (kept_of l.kept) (stream_of l.stream) did.next did.event (config_of old) (state_of old) l.session l'.session p.sends notes p.mid did.read session_was p.decides };
+          own = p.own;
+          limit = sym (ap (λ (s : Session). s.frame_max) (at_own (λ d. session_of (link_in old.links d)) c l'.session));
+          bounded = p.bounded;
+          spelled = p.spelled;
+          output = output_is ∙ p.put ∙ ap (λ (z : List ℕ). z ++ spelling l'.session.frame_max p.sends) (sym output_was);
+          settled = subst (λ (v : Bool). Settles (config_of old) mid c v (is_paused (world_of new) c) rest.hs (state_of new)) (sym past_was)
+              (subst (λ (v : Bool). Settles (config_of old) mid c false v rest.hs (state_of new)) (sym past_is) rest.settled);
+          config = same_config old new l l' b;
+          others = λ d ne. b.wires d ∙ at_others (λ k. wire_of (link_in old.links k)) c d (wire_of (Some l')) ne;
+          rests = λ d ne. b.sessions d ∙ at_others (λ k. session_of (link_in old.links k)) c d l'.session ne;
+        };
+        given = b.given;
+        wire = wire_is ∙ wire_left (is_ended l'.session.phase) l' did.next did.none_kept did.follows
+            ∙ ap (λ (v : Bool). wire_after v did.next l'.output.bytes) (sym over_is) ∙ ap (λ (z : List ℕ). wire_after (is_over (world_of new) c) did.next z) (sym output_is);
+      },
+    )
 
 -- ---- nothing was performed
 
@@ -247,14 +249,16 @@ taken old new l l' n b found s =
     let phase : is_ended l'.session.phase ≡ is_ended l.session.phase = ap (λ (z : Session). is_ended z.phase) s.session in
     let dropped : wire_of (Some l') ≡ record (wire_of (link_in old.links c)) { output = drop n (wire_of (link_in old.links c)).output } =
     ap (λ (v : Bool). wire_in v l') phase ∙ drop_in (is_ended l.session.phase) l l' n s ∙ ap (λ (x : Wire). record x { output = drop n x.output }) (sym wire_was) in
-    let rest : Ended (config_of old) (state_of old) c (is_past_bound l.output.bytes) (is_past_bound l'.output.bytes) (state_of new) = ended (config_of old) (state_of old) (state_of new) c (is_past_bound l.output.bytes) (is_past_bound l'.output.bytes) s.pauses sessions in
-    (rest.hs, record {
-      config = same_config old new l l' b;
-      given = b.given;
-      wires = λ d. b.wires d ∙ ap (λ (x : Wire). with_one (λ k. wire_of (link_in old.links k)) c x d) dropped;
-      settled = subst (λ (v : Bool). Settles (config_of old) (state_of old) c v (is_paused (world_of new) c) rest.hs (state_of new)) (sym (ap is_past_bound output_was))
-          (subst (λ (v : Bool). Settles (config_of old) (state_of old) c (is_past_bound l.output.bytes) v rest.hs (state_of new)) (sym (ap is_past_bound output_is)) rest.settled);
-    })
+    let rest : Ended (config_of old) (state_of old) c (is_past_bound l.output.bytes) (is_past_bound l'.output.bytes) (state_of new) = ended (config_of old) (state_of old) (state_of new) c (is_past_bound l.output.bytes) (is_past_bound l'.output.bytes) s.pauses sessions in (
+      rest.hs,
+      record {
+        config = same_config old new l l' b;
+        given = b.given;
+        wires = λ d. b.wires d ∙ ap (λ (x : Wire). with_one (λ k. wire_of (link_in old.links k)) c x d) dropped;
+        settled = subst (λ (v : Bool). Settles (config_of old) (state_of old) c v (is_paused (world_of new) c) rest.hs (state_of new)) (sym (ap is_past_bound output_was))
+            (subst (λ (v : Bool). Settles (config_of old) (state_of old) c (is_past_bound l.output.bytes) v rest.hs (state_of new)) (sym (ap is_past_bound output_is)) rest.settled);
+      },
+    )
   where
     drop_in : (b : Bool) (l l' : Link) (n : ℕ) → LinkSent (topology_of old.broker) (broker_of old.broker) l n (broker_of new.broker) l' → wire_in b l' ≡ record (wire_in b l) { output = drop n (wire_in b l).output }
     drop_in true l l' n s = λ i. record new_wire { output = s.output i }
@@ -268,12 +272,16 @@ hears old new l l' bytes b found same fed = go (is_ended l.session.phase) refl
   where
     sessions : (d : ℕ) → session_of (link_in new.links d) ≡ session_of (link_in old.links d)
     sessions d = b.sessions d ∙ with_same (λ k. session_of (link_in old.links k)) l.number l'.session (fed.session ∙ sym (ap session_of found)) d
+
     phase : is_ended l'.session.phase ≡ is_ended l.session.phase
     phase = ap (λ (z : Session). is_ended z.phase) fed.session
+
     over_was : is_over (world_of old) l.number ≡ is_ended l.session.phase
     over_was = ap (λ (o : Option Link). is_ended (session_of o).phase) found
+
     state_same : state_of new ≡ state_of old
     state_same = λ i. record { broker = same i; session = λ d. sessions d i }
+
     go : (v : Bool) → is_ended l.session.phase ≡ v → Hears (world_of old) l.number bytes (world_of new)
     go true e = subst (λ (v : Bool). MatchBool v (Same (world_of old) (world_of new)) (world_of new ≡ with_heard (world_of old) l.number bytes)) (sym (over_was ∙ e))
         (record {
@@ -304,16 +312,18 @@ pub lost : (old new : Parts) (c : ℕ) → topology_of new.broker ≡ topology_o
     → ((d : ℕ) → link_in new.links d ≡ (if c == d then None else link_in old.links d))
     → (hs : List Happening) × Loses (world_of old) c hs (world_of new)
 lost old new c t g u n acts links =
-    let h : Happening = record { config = config_of old; event = event.Lose c; sends = []; notes = []; frame_max = 0 } in
-    (h ∷ [], record {
-      h = h;
-      all = refl;
-      happens = record { under = refl; event = refl; stepped = record { acts = acts; session = λ d. at_or session_of d (links d) } };
-      silent = refl;
-      config = λ i. record { topology = t i; guarantees = g i; users = u i };
-      given = n;
-      wires = λ d. at_or wire_of d (links d);
-    })
+    let h : Happening = record { config = config_of old; event = event.Lose c; sends = []; notes = []; frame_max = 0 } in (
+      h ∷ [],
+      record {
+        h = h;
+        all = refl;
+        happens = record { under = refl; event = refl; stepped = record { acts = acts; session = λ d. at_or session_of d (links d) } };
+        silent = refl;
+        config = λ i. record { topology = t i; guarantees = g i; users = u i };
+        given = n;
+        wires = λ d. at_or wire_of d (links d);
+      },
+    )
   where
     at_or : {A : Type 0} (F : Option Link → A) (d : ℕ) → link_in new.links d ≡ cond (c == d) None (link_in old.links d) → F (link_in new.links d) ≡ with_one (λ k. F (link_in old.links k)) c (F None) d
     at_or F d e = either F old.links new.links c d None e

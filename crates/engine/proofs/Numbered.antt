@@ -1,5 +1,5 @@
 -- Connections by their numbers: one changed, taken out, or put at the end.
-use Rattle.std.proofs.Common.{◌≡◌, ◌<◌, ◌≤◌, ◌+◌, ℕ, zero, suc, List, [], ◌∷◌, ◌++◌, Bool, true, false, cond, eqb, Option, Some, None, get_or, set, length, remove, refl, sym, ap, subst, ◌∙◌, arith}
+use Rattle.std.proofs.Common.{◌≡◌, ◌<◌, ◌≤◌, ℕ, zero, suc, List, [], ◌∷◌, ◌++◌, Bool, true, false, cond, Some, None, get_or, set, length, remove, refl, sym, ap, subst, ◌∙◌, arith}
 use Rattle.std.specs.Prelude.{◌==◌, if◌then◌else◌}
 use Rattle.std.specs.List.{AllByRecursion}
 use Rattle.std.proofs.lemmas.Bool.{eqb-true, eq-eqb}
@@ -49,6 +49,7 @@ link_in-set low (x ∷ xs) (suc i) old new d r lt g n = go (x.number == d) refl 
   where
     apart : old.number ≡ d → x.number ≡ d → ⊥
     apart e k = let above = above_at x.number xs i old r.1 (omega (arith, lt)) g in omega (arith, above, e, k)
+
     go : (b : Bool) → (x.number == d) ≡ b → link_in (set xs i new) d ≡ (if old.number == d then Some new else link_in xs d)
         → cond b (Some x) (link_in (set xs i new) d) ≡ (if old.number == d then Some new else cond b (Some x) (link_in xs d))
     go true e ih = sym (ap (λ (v : Bool). cond v (Some new) (Some x)) (other_false old.number d (λ k. apart k (eqb-true x.number d e))))
@@ -67,6 +68,7 @@ link_in-remove low (x ∷ xs) (suc i) old d r lt g = go (x.number == d) refl (li
   where
     apart : old.number ≡ d → x.number ≡ d → ⊥
     apart e k = let above = above_at x.number xs i old r.1 (omega (arith, lt)) g in omega (arith, above, e, k)
+
     go : (b : Bool) → (x.number == d) ≡ b → link_in (remove xs i) d ≡ (if old.number == d then None else link_in xs d)
         → cond b (Some x) (link_in (remove xs i) d) ≡ (if old.number == d then None else cond b (Some x) (link_in xs d))
     go true e ih = sym (ap (λ (v : Bool). cond v None (Some x)) (other_false old.number d (λ k. apart k (eqb-true x.number d e))))

@@ -1,24 +1,20 @@
 -- An engine with no connection, and one more connection.
-use Rattle.std.proofs.Common.{◌≡◌, ◌≢◌, ◌<◌, ◌≤◌, ◌+◌, ℕ, List, [], ◌∷◌, ◌++◌, Bool, true, false, cond, Option, Some, None, length, refl, sym, ap, subst, ◌∙◌, arith}
+use Rattle.std.proofs.Common.{◌≡◌, ◌<◌, ◌≤◌, ◌+◌, ℕ, List, [], ◌∷◌, ◌++◌, true, false, cond, Option, Some, length, refl, sym, ap, subst, ◌∙◌, arith}
 use Rattle.std.specs.Prelude.{◌==◌, ◌&&◌, nat_lt, nat_le, if◌then◌else◌}
 use Rattle.std.specs.List.{AllByRecursion}
 use Rattle.std.proofs.lemmas.Bool.Decides.{nat_tests}
-use Rattle.model.specs.Broker.{Broker, with_one}
-use Rattle.model.specs.Commands.{running_stream}
-use Rattle.model.specs.Phases.{Session, no_session, running_session}
+use Rattle.model.specs.Broker.{with_one}
+use Rattle.model.specs.Phases.{Session, running_session}
 use Rattle.model.specs.State.{Config}
 use Rattle.model.specs.Step.{Acts, Is}
 use Rattle.model.specs.Run.{Happening}
 use Rattle.model.specs.Topology.{Topology}
 use Rattle.model.specs.Guarantee.{Guarantee}
 use Rattle.model.specs.Arrivals.{World, Wire, new_wire, new_world, can_open, standing, Opens}
-use Rattle.model.specs.declared.messages.User.{User}
 use Rattle.model.specs.declared.events.Send.{Send}
 use Rattle.model.specs.declared.events.Event.{Event}
 use Rattle.model.specs.declared.events.Event.TheVariants as event
 use Rattle.model.specs.declared.notes.Note.{Note}
-use Rattle.assembly.specs.Held.{stream_of}
-use Rattle.broker.specs.State as kept
 use Rattle.broker.specs.State.{topology_of, broker_of, nothing}
 use Rattle.runs.specs.Opened.{OpensReady}
 use Rattle.engine.specs.World.{Parts, link_in, session_of, wire_of, config_of, state_of, world_of, AreLinks, IsLink, AreRising, IsNew, IsEngine}
@@ -76,27 +72,33 @@ pub opened : (old new : Parts) (l : Link) (k : ℕ) (sends : List Send) (notes :
 opened old new l k sends notes a few left t g u n ls is acts =
     let h : Happening = record { config = config_of old; event = event.Running (old.given + 1) 255 k; sends = []; notes = []; frame_max = 0 } in
     let same : (d : ℕ) → link_in new.links d ≡ cond (l.number == d) (Some l) (link_in old.links d) =
-    λ d. ap (λ (z : List Link). link_in z d) ls ∙ link_in-push old.links l d (below old.given l.number old.links (let e = is.number_is in omega (arith, e)) a.each) in
-    (can_open_is old a few left, sym n, (h ∷ [], record {
-      h = h;
-      all = refl;
-      happens = record {
-        under = refl;
-        event = refl;
-        stepped = record {
-          acts = record { sent = refl; noted = refl; left = acts.left };
-          session = λ d. either session_of old.links new.links l.number d (Some l) (same d)
-              ∙ ap (λ (s : Session). with_one (λ c. session_of (link_in old.links c)) l.number s d) is.session
-              ∙ ap (λ (c : ℕ). with_one (λ c. session_of (link_in old.links c)) c running_session d) is.number_is;
-        };
-      };
-      silent = refl;
-      config = λ i. record { topology = t i; guarantees = g i; users = u i };
-      given = n;
-      wires = λ d. either wire_of old.links new.links l.number d (Some l) (same d)
-          ∙ ap (λ (w : Wire). with_one (λ c. wire_of (link_in old.links c)) l.number w d) (wire_new l (old.given + 1) is)
-          ∙ ap (λ (c : ℕ). with_one (λ c. wire_of (link_in old.links c)) c new_wire d) is.number_is;
-    }))
+    λ d. ap (λ (z : List Link). link_in z d) ls ∙ link_in-push old.links l d (below old.given l.number old.links (let e = is.number_is in omega (arith, e)) a.each) in (
+      can_open_is old a few left,
+      sym n,
+      (
+        h ∷ [],
+        record {
+          h = h;
+          all = refl;
+          happens = record {
+            under = refl;
+            event = refl;
+            stepped = record {
+              acts = record { sent = refl; noted = refl; left = acts.left };
+              session = λ d. either session_of old.links new.links l.number d (Some l) (same d)
+                  ∙ ap (λ (s : Session). with_one (λ c. session_of (link_in old.links c)) l.number s d) is.session
+                  ∙ ap (λ (c : ℕ). with_one (λ c. session_of (link_in old.links c)) c running_session d) is.number_is;
+            };
+          };
+          silent = refl;
+          config = λ i. record { topology = t i; guarantees = g i; users = u i };
+          given = n;
+          wires = λ d. either wire_of old.links new.links l.number d (Some l) (same d)
+              ∙ ap (λ (w : Wire). with_one (λ c. wire_of (link_in old.links c)) l.number w d) (wire_new l (old.given + 1) is)
+              ∙ ap (λ (c : ℕ). with_one (λ c. wire_of (link_in old.links c)) c new_wire d) is.number_is;
+        },
+      ),
+    )
 
 pub full_is : (p : Parts) → AreLinks p.given p.links → 1024 ≤ length p.links → nat_lt (standing (world_of p) p.given) 1024 ≡ false
 full_is p a many = let same = standing_is p a in grind (arith, nat_tests, same, many)

@@ -6,7 +6,7 @@ use Rattle.std.proofs.lemmas.Grind.{common_steps}
 use Rattle.model.specs.Topology.{Topology}
 use Rattle.model.specs.Grammar.{IsMethod, method_bytes}
 use Rattle.model.specs.Broker.{Broker, Channel, Connection}
-use Rattle.model.specs.Step.{Acts, OnConnection, Decides, Performs, Refusal, Ignored, Of_channel, Of_connection, refusal, refusal_on, is_none, confirm_sends, confirm_method, returned_sends, select_sends, next_of, answer_of, is_some_full, content_or_none, channel_or_new}
+use Rattle.model.specs.Step.{Acts, OnConnection, Decides, Performs, Refusal, Ignored, Of_channel, Of_connection, refusal, refusal_on, is_none, confirm_sends, returned_sends, select_sends, next_of, answer_of, is_some_full, content_or_none, channel_or_new}
 use Rattle.model.specs.declared.contents.Content.{Content}
 use Rattle.model.specs.declared.methods.Publish.{Publish}
 use Rattle.model.specs.declared.methods.Method.{Method}
@@ -19,7 +19,7 @@ use Rattle.model.specs.declared.events.Send.TheVariants as send
 use Rattle.model.specs.declared.events.Event.{Event}
 use Rattle.model.specs.declared.events.Event.TheVariants as event
 use Rattle.broker.specs.Sent.{AreOwn, connection_of_event}
-use Rattle.session.specs.Replies.{is_answer, IsReply, AreReplies}
+use Rattle.session.specs.Replies.{is_answer, AreReplies}
 use Rattle.engine.specs.Performing.{IsAsked}
 
 -- one answer at most

@@ -1,13 +1,13 @@
 -- As many connections stand as are kept.
 use Rattle.std.proofs.Common.{◌≡◌, ◌≢◌, ◌+◌, ◌<◌, ◌≤◌, ℕ, zero, suc, List, [], ◌∷◌, Bool, true, false, cond, eqb, Option, Some, None, length, refl, sym, ap, subst, ◌∙◌, arith}
-use Rattle.std.specs.Prelude.{◌==◌, ◌&&◌, not, nat_lt, nat_le, if◌then◌else◌}
+use Rattle.std.specs.Prelude.{◌==◌, ◌&&◌, not, nat_lt, nat_le}
 use Rattle.std.specs.List.{AllByRecursion}
 use Rattle.std.proofs.lemmas.Bool.{eqb-true, false≢true}
 use Rattle.std.proofs.lemmas.Bool.Decides.{nat_tests}
-use Rattle.model.specs.Arrivals.{World, is_gone, is_ended, standing}
+use Rattle.model.specs.Arrivals.{is_gone, is_ended, standing}
 use Rattle.engine.specs.World.{Parts, link_in, session_of, wire_in, wire_of, world_of, is_link_gone, IsLink, AreLinks, AreRising}
 use Rattle.engine.specs.declared.links.Link.{Link}
-use Rattle.engine.proofs.Numbered.{none_below, other_false}
+use Rattle.engine.proofs.Numbered.{none_below}
 
 abbrev pub one : Bool → ℕ
 one b = cond b 1 0
@@ -68,6 +68,7 @@ found_link P (x ∷ xs) c l a e = go (x.number == c) refl e (found_link P xs c l
   where
     some_same : (x y : Link) → Some x ≡ Some y → x ≡ y
     some_same x y f = cc
+
     go : (b : Bool) → (x.number == c) ≡ b → cond b (Some x) (link_in xs c) ≡ Some l → (link_in xs c ≡ Some l → P l) → P l
     go true q f rest = subst P (some_same x l f) a.0
     go false q f rest = rest f

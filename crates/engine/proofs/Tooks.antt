@@ -1,17 +1,13 @@
 -- From the connection at a place to the world.
-use Rattle.std.proofs.Common.{◌≡◌, ◌⊎◌, inl, inr, ◌<◌, ◌≤◌, ◌+◌, ℕ, List, [], ◌∷◌, Bool, true, false, cond, Option, Some, None, Result, Ok, Err, get_or, set, remove, length, refl, sym, ap, subst, ◌∙◌, arith}
+use Rattle.std.proofs.Common.{◌≡◌, ◌⊎◌, inl, inr, ◌<◌, ◌+◌, ℕ, List, [], Bool, true, false, cond, Option, Some, None, Result, Ok, Err, get_or, set, remove, length, refl, sym, ap, subst, ◌∙◌, arith}
 use Rattle.std.specs.Prelude.{IfOk, OnOk, OnErr, MatchBool, ◌==◌}
 use Rattle.std.proofs.lemmas.Bool.{false≢true}
 use Rattle.model.specs.Broker.{Broker}
 use Rattle.model.specs.Topology.{Topology}
-use Rattle.model.specs.Phases.{Session}
 use Rattle.model.specs.Step.{Acts}
-use Rattle.model.specs.Commands.{Stream}
-use Rattle.model.specs.State.{Config}
 use Rattle.model.specs.Run.{Happening}
 use Rattle.model.specs.Headline.{IsSound}
-use Rattle.model.specs.Arrivals.{World, Same, Waits, is_ended, is_over, is_paused, is_gone, is_past_bound, Takes_off, Loses, with_heard}
-use Rattle.model.specs.declared.events.Command.{Command}
+use Rattle.model.specs.Arrivals.{Same, Waits, is_ended, is_over, is_gone, is_past_bound, Takes_off, Loses, with_heard}
 use Rattle.model.specs.declared.events.Event.{Event}
 use Rattle.model.specs.declared.events.Event.TheVariants as event
 use Rattle.model.specs.declared.notes.Note.{Note}
@@ -21,9 +17,9 @@ use Rattle.runs.proofs.Worlds.{waits_not}
 use Rattle.assembly.specs.Held.{stream_of}
 use Rattle.broker.specs.State.{topology_of, broker_of}
 use Rattle.engine.specs.Reading.{kept_of, to_read}
-use Rattle.engine.specs.Turning.{LinkDid, LinkTook, LinkIdle, LinkWaits, LinkSame}
+use Rattle.engine.specs.Turning.{LinkDid, LinkWaits, LinkSame}
 use Rattle.engine.specs.World.{Parts, link_in, session_of, wire_of, config_of, world_of, is_link_gone, AreLinks, AreRising, IsEngine}
-use Rattle.engine.specs.Engines.{Becomes, Changes, IsPlaceOf, LinkTookOr, LinksTook, LinkSent, LinksSent, LinkFed, LinksFed, Turned, OnDid, left_of, left_in, put_back}
+use Rattle.engine.specs.Engines.{Becomes, Changes, IsPlaceOf, LinkTookOr, LinksTook, LinksSent, LinkFed, LinksFed, Turned, OnDid, left_of, left_in}
 use Rattle.engine.specs.declared.links.Link.{Link}
 use Rattle.engine.specs.declared.turning.Turn.{Turn}
 use Rattle.engine.specs.declared.turning.Turn.TheVariants as turn
@@ -210,7 +206,7 @@ loses old new c i e st place left acts =
     let gone : is_gone (world_of old) c ≡ false = gone_some old c l e.links found in
     on_false (Same (world_of old) (world_of new)) ((hs : List Happening) × Loses (world_of old) c hs (world_of new)) (is_gone (world_of old) c) gone
     (lost old new c st.topology st.guarantees st.users st.given acts
-      (λ d. ap (λ (z : List Link). link_in z d) left ∙ link_in-remove 0 old.links i l d e.links.rising place.0 at.1 ∙ ap (λ (k : ℕ). cond (k == d) None (link_in old.links d)) is))
+    (λ d. ap (λ (z : List Link). link_in z d) left ∙ link_in-remove 0 old.links i l d e.links.rising place.0 at.1 ∙ ap (λ (k : ℕ). cond (k == d) None (link_in old.links d)) is))
 
 pub loses_engine : (old new : Parts) (i : ℕ) → IsEngine old → Stays old new → new.links ≡ remove old.links i → IsEngine new
 loses_engine old new i e st left = engine_with old new e st

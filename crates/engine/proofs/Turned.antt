@@ -1,5 +1,5 @@
 -- What is read next of one connection, and one turn of it.
-use Rattle.std.proofs.Common.{◌≡◌, ◌<◌, ◌≤◌, ◌+◌, ◌⊎◌, inl, inr, ℕ, List, Bool, true, false, Option, Some, None, length, refl, sym, ap, subst, ◌∙◌, arith}
+use Rattle.std.proofs.Common.{◌≡◌, ◌<◌, ◌≤◌, ◌+◌, inl, inr, ℕ, List, true, false, Option, Some, None, length, refl, sym, ap, subst, ◌∙◌, arith}
 use Rattle.std.specs.Prelude.{is_some, Result, Ok, Err, IfOk, OnErr}
 use Rattle.std.proofs.lemmas.Bool.{false≢true}
 use Rattle.model.specs.Topology.{Topology}
@@ -18,7 +18,7 @@ use Rattle.model.specs.declared.notes.Note.{Note}
 use Rattle.assembly.specs.Held.{stream_of}
 use Rattle.engine.specs.Reading.{kept_of, IsMade, IsKept, Has, Comes, to_read}
 use Rattle.engine.specs.Performing.{IsAsked, Decides}
-use Rattle.engine.specs.Turning.{Performed, LinkPerformed, DidEvent, LinkDid, LinkTook, LinkWaits}
+use Rattle.engine.specs.Turning.{Performed, LinkPerformed, DidEvent, LinkTook, LinkWaits}
 use Rattle.engine.specs.declared.reading.Next.{Next}
 use Rattle.engine.specs.declared.reading.Next.TheVariants as next
 use Rattle.engine.specs.declared.links.Link.{Link}
@@ -112,17 +112,21 @@ performed_of t b new_b old mid new e notes read p =
 
 pub did_kept : (t : Topology) (b new_b : Broker) (old mid new : Link) (what : Turn) → is_ended old.session.phase ≡ false → is_past_bound old.output.bytes ≡ false → IsRead old mid
     → (h : Has old.number old.kept (stream_of old.stream) mid.kept (stream_of mid.stream)) → DidEvent t b mid h.event what new_b new → LinkTook t b old what new_b new
-did_kept t b new_b old mid new (turn.Did notes) open_still below read h did = (open_still, below, record {
-  event = h.event;
-  next = stream_of mid.stream;
-  read = h.read;
-  said = says_made old.number h.event h.made;
-  performed = performed_of t b new_b old mid new h.event notes.items read did.performed;
-  number = did.number ∙ read.number;
-  none_kept = did.none_kept;
-  follows = inl (ap stream_of did.stream);
-  fewer = inl (subst (λ (s : Stream). to_read None s < to_read (kept_of old.kept) (stream_of old.stream)) (sym (ap stream_of did.stream)) h.fewer);
-})
+did_kept t b new_b old mid new (turn.Did notes) open_still below read h did = (
+  open_still,
+  below,
+  record {
+    event = h.event;
+    next = stream_of mid.stream;
+    read = h.read;
+    said = says_made old.number h.event h.made;
+    performed = performed_of t b new_b old mid new h.event notes.items read did.performed;
+    number = did.number ∙ read.number;
+    none_kept = did.none_kept;
+    follows = inl (ap stream_of did.stream);
+    fewer = inl (subst (λ (s : Stream). to_read None s < to_read (kept_of old.kept) (stream_of old.stream)) (sym (ap stream_of did.stream)) h.fewer);
+  },
+)
 did_kept t b new_b old mid new turn.Idle open_still below read h did = absurd did
 did_kept t b new_b old mid new turn.Paused open_still below read h did = absurd did
 did_kept t b new_b old mid new turn.Over open_still below read h did = absurd did
@@ -130,19 +134,22 @@ did_kept t b new_b old mid new turn.Over open_still below read h did = absurd di
 pub did_fault : (t : Topology) (b new_b : Broker) (old mid new : Link) (code : ℕ) (what : Turn) → is_ended old.session.phase ≡ false → is_past_bound old.output.bytes ≡ false → IsRead old mid
     → old.kept ≡ None → Ends (stream_of old.stream) (Some code) → DidEvent t b mid (event.Fault mid.number code) what new_b new → LinkTook t b old what new_b new
 did_fault t b new_b old mid new code (turn.Did notes) open_still below read none ends did =
-    let over = over_after mid.session.phase t b mid.session mid.number code did.performed.sends notes.items did.performed.mid new.session refl did.performed.decides in
-    (open_still, below, record {
-      event = event.Fault mid.number code;
-      next = stream_of old.stream;
-      read = subst (λ (k : Option Event). Reads old.number (kept_of k) (stream_of old.stream) (event.Fault mid.number code) (stream_of old.stream)) (sym none)
-          (subst (λ (c : ℕ). Reads old.number None (stream_of old.stream) (event.Fault c code) (stream_of old.stream)) (sym read.number) (fault ends));
-      said = tt;
-      performed = performed_of t b new_b old mid new (event.Fault mid.number code) notes.items read did.performed;
-      number = did.number ∙ read.number;
-      none_kept = did.none_kept;
-      follows = inr over;
-      fewer = inr over;
-    })
+    let over = over_after mid.session.phase t b mid.session mid.number code did.performed.sends notes.items did.performed.mid new.session refl did.performed.decides in (
+      open_still,
+      below,
+      record {
+        event = event.Fault mid.number code;
+        next = stream_of old.stream;
+        read = subst (λ (k : Option Event). Reads old.number (kept_of k) (stream_of old.stream) (event.Fault mid.number code) (stream_of old.stream)) (sym none)
+            (subst (λ (c : ℕ). Reads old.number None (stream_of old.stream) (event.Fault c code) (stream_of old.stream)) (sym read.number) (fault ends));
+        said = tt;
+        performed = performed_of t b new_b old mid new (event.Fault mid.number code) notes.items read did.performed;
+        number = did.number ∙ read.number;
+        none_kept = did.none_kept;
+        follows = inr over;
+        fewer = inr over;
+      },
+    )
 did_fault t b new_b old mid new code turn.Idle open_still below read none ends did = absurd did
 did_fault t b new_b old mid new code turn.Paused open_still below read none ends did = absurd did
 did_fault t b new_b old mid new code turn.Over open_still below read none ends did = absurd did
@@ -209,11 +216,14 @@ after_fault (Err x) t b new_b old mid new code open_still below read h did broke
 pub after_nothing : (t : Topology) (b : Broker) (old mid : Link) → is_ended old.session.phase ≡ false → IsRead old mid
     → (mid.kept ≡ None) × (old.kept ≡ None) × Ends (stream_of old.stream) None × GoesOn (stream_of old.stream) (stream_of mid.stream)
     → LinkTook t b old turn.Idle b mid
-after_nothing t b old mid open_still read h = (open_still, record {
-  waits = waits_kept b b old mid mid read (coming_on old.kept mid.kept (stream_of old.stream) (stream_of mid.stream) h.1 h.0 h.3) refl refl;
-  none_kept = h.1;
-  ends = h.2;
-})
+after_nothing t b old mid open_still read h = (
+  open_still,
+  record {
+    waits = waits_kept b b old mid mid read (coming_on old.kept mid.kept (stream_of old.stream) (stream_of mid.stream) h.1 h.0 h.3) refl refl;
+    none_kept = h.1;
+    ends = h.2;
+  },
+)
 
 -- the event is the one that is kept
 pub performed_is : (t : Topology) (b new_b : Broker) (old new : Link) (x e : Event) (notes : List Note) (k : Option Event) → k ≡ Some x → k ≡ Some e → LinkPerformed t b old x notes new_b new → LinkPerformed t b old e notes new_b new

@@ -100,8 +100,7 @@ impl Engine {
             None => return Err(Refused::Spent),
         };
         self.links.reserve(1)?;
-        self.broker
-            .open(alloc, number, 255, u16::from(channels))?;
+        self.broker.open(alloc, number, 255, u16::from(channels))?;
         self.links.push_reserved(Link::running(alloc, number));
         self.given = number;
         Ok(number)

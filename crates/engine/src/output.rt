@@ -4,7 +4,7 @@ ghost use Rattle.std.specs.Prelude.{◌≡◌, ◌≤◌, ◌+◌, ◌^◌, [], 
 ghost use Rattle.model.specs.Frames.{frame_bytes};
 ghost use Rattle.frame.specs.Reading.{seen};
 
-use frame::{put_frame, Frame};
+use frame::{Frame, put_frame};
 use std::alloc::{AllocError, Global};
 use std::marker::Model;
 

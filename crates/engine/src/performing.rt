@@ -22,7 +22,13 @@ fn learn(session: &mut Session, event: &Event, sends: &[Send])
 }
 
 /// An event of the connection `c`, which runs.
-fn by_broker(c: u64, alloc: Global, broker: &mut Broker, session: &mut Session, event: &Event) -> Result<Step, AllocError>
+fn by_broker(
+    c: u64,
+    alloc: Global,
+    broker: &mut Broker,
+    session: &mut Session,
+    event: &Event,
+) -> Result<Step, AllocError>
     requires { IsAsked c event.now }
     ensures ok { IfOk result (λ d. ByBroker (topology_of broker.old) (broker_of broker.old) session.old event.now d.sends.items d.notes.items (broker_of broker.new) session.new) }
     ensures replies { IfOk result (λ d. AreReplies c d.sends.items) }
@@ -36,7 +42,12 @@ fn by_broker(c: u64, alloc: Global, broker: &mut Broker, session: &mut Session, 
 }
 
 /// What the phase of the connection `c` answers.
-fn sends_of(c: u64, alloc: Global, session: &mut Session, event: &Event) -> Result<Vec<Send>, AllocError>
+fn sends_of(
+    c: u64,
+    alloc: Global,
+    session: &mut Session,
+    event: &Event,
+) -> Result<Vec<Send>, AllocError>
     requires { IsAsked c event.now }
     ensures sends { IfOk result (λ sends. sends.items ≡ (move_of session.old.phase session.old event.now).sends) }
     ensures replies { IfOk result (λ sends. AreReplies c sends.items) }
@@ -45,7 +56,9 @@ fn sends_of(c: u64, alloc: Global, session: &mut Session, event: &Event) -> Resu
 {
     match event {
         Event::Command {
-            channel, method, ..
+            channel,
+            method,
+            ..
         } => session.take(alloc, c, *channel, method),
         Event::Fault { code, .. } => session.fault(alloc, c, *code),
         _ => unreachable!(),

@@ -39,14 +39,22 @@ fn put_send(c: u64, output: &mut Output, scratch: &mut Scratch, max: u32, send: 
 {
     match send {
         Send::Command {
-            channel, method, ..
+            channel,
+            method,
+            ..
         } => put_method_frame(output, scratch, *channel, method),
         Send::Greeting { .. } => unreachable!(),
     }
 }
 
 /// Puts in all that is sent to the connection `c` at one event.
-pub(crate) fn put_sends(c: u64, output: &mut Output, scratch: &mut Scratch, max: u32, sends: &[Send])
+pub(crate) fn put_sends(
+    c: u64,
+    output: &mut Output,
+    scratch: &mut Scratch,
+    max: u32,
+    sends: &[Send],
+)
     requires replies { AreReplies c sends.now }
     requires max { 4096 ≤ max }
     requires room { 4096 ≤ output.old.room }

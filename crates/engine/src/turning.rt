@@ -121,7 +121,7 @@ fn do_fault(
     );
     match done {
         Ok(notes) => Ok(Turn::Did(notes)),
-        Err(e) => Err(e),
+        Err(error) => Err(error),
     }
 }
 

@@ -1,4 +1,4 @@
-use Rattle.std.proofs.Common.{sym, ap, subst, Option, ℕ}
+use Rattle.std.proofs.Common.{sym, subst, Option, ℕ}
 use Rattle.model.specs.declared.events.Event.{Event}
 use Rattle.engine.specs.Reading.{IsKept}
 use Rattle.engine.proofs.Swept.{changes_swept}

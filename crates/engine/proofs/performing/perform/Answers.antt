@@ -1,6 +1,6 @@
 use Rattle.std.proofs.Common.{refl, ◌∙◌}
 use Rattle.broker.specs.State.{topology_of, broker_of}
-use Rattle.engine.specs.Performing.{ByPhase, Decides}
+use Rattle.engine.specs.Performing.{Decides}
 use Rattle.engine.proofs.Asked.{decides_elsewhere, ok_map, on_err}
 use Rattle.engine.proofs.performing.perform.Goals as goal
 

@@ -11,7 +11,7 @@ returns-in-Command c =
     let mid : Link = record { number = old.number; session = old.session; stream = c.read_next.new.stream; kept = c.read_next.new.kept; output = old.output } in
     let has = comes_command old.number old.kept mid.kept (stream_of old.stream) (stream_of mid.stream) c.in_ok-read_next.field-0 c.in-Command.is c.in_ok-read_next.ensures.ok in
     let whole = after_kept c.do_kept.result (topology_of c.args.broker.now) (broker_of c.args.broker.now) (broker_of c.do_kept.new.broker) old mid c.do_kept.new.link c.requires.open c.requires.below
-        (record { number = refl; session = refl; output = refl }) has c.do_kept.ensures.ok (on_err_map c.do_kept.result _ _ (λ e. ap broker_of e) c.do_kept.ensures.broker_kept) c.do_kept.ensures.link_kept in
+    (record { number = refl; session = refl; output = refl }) has c.do_kept.ensures.ok (on_err_map c.do_kept.result _ _ (λ e. ap broker_of e) c.do_kept.ensures.broker_kept) c.do_kept.ensures.link_kept in
     record { ok = whole.ok; err = whole.err; kept = whole.kept; number = whole.number; topology = c.do_kept.ensures.topology }
 
 pub returns-in-Fault : goal.returns-in-Fault
@@ -20,7 +20,7 @@ returns-in-Fault c =
     let mid : Link = record { number = old.number; session = old.session; stream = c.read_next.new.stream; kept = c.read_next.new.kept; output = old.output } in
     let h = comes_fault old.number c.in-Fault.code old.kept mid.kept (stream_of old.stream) (stream_of mid.stream) c.in_ok-read_next.field-0 c.in-Fault.is c.in_ok-read_next.ensures.ok in
     let whole = after_fault c.do_fault.result (topology_of c.args.broker.now) (broker_of c.args.broker.now) (broker_of c.do_fault.new.broker) old mid c.do_fault.new.link c.in-Fault.code c.requires.open c.requires.below
-        (record { number = refl; session = refl; output = refl }) h c.do_fault.ensures.ok (on_err_map c.do_fault.result _ _ (λ e. ap broker_of e) c.do_fault.ensures.broker_kept) c.do_fault.ensures.link_kept in
+    (record { number = refl; session = refl; output = refl }) h c.do_fault.ensures.ok (on_err_map c.do_fault.result _ _ (λ e. ap broker_of e) c.do_fault.ensures.broker_kept) c.do_fault.ensures.link_kept in
     record { ok = whole.ok; err = whole.err; kept = whole.kept; number = whole.number; topology = c.do_fault.ensures.topology }
 
 pub returns-in-Nothing : goal.returns-in-Nothing

@@ -1,5 +1,5 @@
 use Rattle.std.proofs.Common.{refl, Some}
-use Rattle.engine.specs.World.{Parts, world_of}
+use Rattle.engine.specs.World.{Parts}
 use Rattle.engine.specs.Engines.{IsPlaceOf}
 use Rattle.engine.proofs.Tooks.{fed_engine, fed_ok, fed_err, hears_none}
 use Rattle.engine.proofs.engines.Engine.feed.Goals as goal

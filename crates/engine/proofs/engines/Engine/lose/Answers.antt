@@ -1,9 +1,6 @@
-use Rattle.std.proofs.Common.{refl, Some, ap, subst, ◌∙◌}
-use Rattle.broker.specs.State.{topology_of, broker_of}
-use Rattle.runs.specs.Opened.{IsLost}
-use Rattle.engine.specs.World.{Parts, world_of}
+use Rattle.std.proofs.Common.{refl, Some}
+use Rattle.engine.specs.World.{Parts}
 use Rattle.engine.specs.Engines.{IsPlaceOf}
-use Rattle.engine.specs.declared.links.Link.{Link}
 use Rattle.engine.proofs.Tooks.{loses, loses_engine}
 use Rattle.engine.proofs.engines.Engine.lose.Goals as goal
 

@@ -1,5 +1,5 @@
-use Rattle.std.proofs.Common.{◌≡◌, refl, sym, ap, subst, ◌∙◌, ◌+◌, ℕ, true, false, Some, List, ◌++◌, ◌∷◌, [], arith}
-use Rattle.std.specs.Prelude.{nat_lt, nat_le, length}
+use Rattle.std.proofs.Common.{◌≡◌, refl, sym, ap, subst, ◌∙◌, ◌+◌, ℕ, true, false, Some, List, ◌++◌, ◌∷◌, []}
+use Rattle.std.specs.Prelude.{nat_lt}
 use Rattle.model.specs.Step.{Acts}
 use Rattle.model.specs.Arrivals.{Same, standing}
 use Rattle.model.specs.declared.events.Event.TheVariants as event
@@ -52,5 +52,5 @@ returns c =
     subst (λ (p : Parts). OpensReady (world_of p) c.args.channels (Some c.in-Some.number) (world_of new)) c.self.view_is
     (subst (λ (n : ℕ). OpensReady (world_of old) c.args.channels (Some n) (world_of new)) (sym counts)
     (opened old new c.running.result c.args.channels [] [] c.self.invariant.links (few i.links.items c.deref.result.now c.deref.ensures.value c.if-is_full.ensures) (less i.given c.in-Some.ensures.0)
-      c.open.ensures.topology refl refl counts (c.push_reserved.ensures.items ∙ ap (λ (z : List Link). z ++ c.running.result ∷ []) c.reserve.ensures.items)
-      (subst (λ (n : ℕ). IsNew c.running.result n) counts c.running.ensures) acts))
+    c.open.ensures.topology refl refl counts (c.push_reserved.ensures.items ∙ ap (λ (z : List Link). z ++ c.running.result ∷ []) c.reserve.ensures.items)
+    (subst (λ (n : ℕ). IsNew c.running.result n) counts c.running.ensures) acts))

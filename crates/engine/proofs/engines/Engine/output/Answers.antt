@@ -1,5 +1,5 @@
 use Rattle.std.proofs.Common.{Some, sym, ◌∙◌}
-use Rattle.engine.specs.World.{Parts, world_of}
+use Rattle.engine.specs.World.{Parts}
 use Rattle.engine.specs.Engines.{IsPlaceOf}
 use Rattle.engine.proofs.Tooks.{output_at}
 use Rattle.engine.proofs.engines.Engine.output.Goals as goal

@@ -1,5 +1,5 @@
 use Rattle.std.proofs.Common.{refl, Some}
-use Rattle.engine.specs.World.{Parts, world_of}
+use Rattle.engine.specs.World.{Parts}
 use Rattle.engine.specs.Engines.{IsPlaceOf}
 use Rattle.engine.proofs.Tooks.{sends, sends_engine}
 use Rattle.engine.proofs.engines.Engine.sent.Goals as goal

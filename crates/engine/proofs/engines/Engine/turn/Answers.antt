@@ -1,6 +1,5 @@
 use Rattle.std.proofs.Common.{refl, Some}
-use Rattle.broker.specs.State.{topology_of, broker_of}
-use Rattle.engine.specs.World.{Parts, world_of}
+use Rattle.engine.specs.World.{Parts}
 use Rattle.engine.specs.Engines.{IsPlaceOf}
 use Rattle.engine.proofs.Tooks.{took, took_engine, not_there}
 use Rattle.engine.proofs.engines.Engine.turn.Goals as goal

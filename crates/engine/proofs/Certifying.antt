@@ -1,0 +1,13 @@
+-- A run of an engine over what was admitted is certified.
+use Rattle.std.proofs.Common.{◌≡◌, List, ap, subst}
+use Rattle.model.specs.State.{Config}
+use Rattle.model.specs.Arrivals.{World, Seen, new_world}
+use Rattle.model.specs.Headline.{IsSound}
+use Rattle.model.specs.declared.events.Arrival.{Arrival}
+use Rattle.runs.specs.Runs.{IsRunOf}
+use Rattle.engine.specs.Certified.{IsCertified}
+
+pub certified : (f : Config) (start last : World) (arrivals : List Arrival) (seen : Seen) → start ≡ new_world f → IsSound f → IsRunOf start.config arrivals last seen → IsCertified f arrivals seen
+certified f start last arrivals seen fresh sound run =
+    let r : IsRunOf f arrivals last seen = subst (λ (g : Config). IsRunOf g arrivals last seen) (ap (λ (w : World). w.config) fresh) run in
+    record { last = last; run = r; promises = r.promises sound }
