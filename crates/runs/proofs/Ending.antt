@@ -1,11 +1,11 @@
 -- What is written down at the end is what was seen.
-use Rattle.std.proofs.Common.{◌≡◌, ℕ, ◌+◌, ◌<◌, ◌≤◌, zero, suc, List, [], ◌∷◌, ◌++◌, Some, None, true, length, slice_get, refl, sym, ap, subst, ◌∙◌, arith}
+use Rattle.std.proofs.Common.{◌≡◌, ℕ, ◌+◌, ◌<◌, zero, suc, List, [], ◌∷◌, ◌++◌, Some, length, slice_get, refl, sym, ap, subst, ◌∙◌, arith}
 use Rattle.model.specs.State.{Config}
-use Rattle.model.specs.Run.{Happening, notes_of, put_out}
-use Rattle.model.specs.Arrivals.{World, Seen, Shown, shown, Shows, Plays, new_world, is_over}
+use Rattle.model.specs.Run.{Happening}
+use Rattle.model.specs.Arrivals.{World, Seen, Shown, Shows, Plays, new_world, is_over}
 use Rattle.model.specs.declared.events.Arrival.{Arrival}
 use Rattle.laws.proofs.Whole.{headline_holds}
-use Rattle.runs.specs.Told.{taken_at, finished, AreFinished, Records, Tells, AreUnopened}
+use Rattle.runs.specs.Told.{taken_at, AreFinished, Records, Tells}
 use Rattle.runs.specs.Runs.{PlaysAndTells, IsRunOf}
 
 -- a world with no connection

@@ -1,13 +1,10 @@
 -- Turns, arrivals and lists of them, one after another.
 use Rattle.std.proofs.Common.{◌≡◌, ℕ, ◌+◌, ◌<◌, List, [], ◌∷◌, ◌++◌, Bool, true, false, length, get_or, drop, take, refl, sym, ap, subst, ◌∙◌, append_assoc, append-nil}
-use Rattle.std.specs.Prelude.{MatchBool, Option, Some, None, Result, Ok, Err, OnOk}
-use Rattle.std.proofs.lemmas.Bool.{false≢true}
+use Rattle.std.specs.Prelude.{MatchBool, Some, None, Result, Ok, Err, OnOk}
 use Rattle.std.proofs.lemmas.List.{drop_more}
-use Rattle.model.specs.Run.{Happening, notes_of}
-use Rattle.model.specs.Arrivals.{World, Seen, Turns, Works, none_more, one_more, Rests, Waits, WorksOff, Same, with_heard, is_over, is_gone, can_open, Opens, Loses, Takes_off, TakesAndWorks, Nothing_happens, Answers, Plays}
-use Rattle.model.specs.Commands.{running_stream}
+use Rattle.model.specs.Run.{Happening}
+use Rattle.model.specs.Arrivals.{World, Seen, Turns, Works, none_more, one_more, Same, with_heard, is_over, is_gone, can_open, Loses, Takes_off, Plays}
 use Rattle.model.specs.declared.notes.Note.{Note}
-use Rattle.model.specs.declared.events.Event.TheVariants as event
 use Rattle.model.specs.declared.events.Arrival.{Arrival}
 use Rattle.model.specs.declared.events.Arrival.TheVariants as arrival
 use Rattle.runs.specs.Told.{Tells, gathered, with_opened}

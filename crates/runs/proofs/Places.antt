@@ -1,8 +1,8 @@
 -- Connections by place and by number.
-use Rattle.std.proofs.Common.{◌≡◌, ◌≢◌, ℕ, zero, suc, ◌+◌, ◌-◌, ◌<◌, ◌≤◌, List, [], ◌∷◌, ◌++◌, Bool, true, false, cond, eqb, length, take, drop, slice_get, slice_set, Some, None, Option, refl, sym, ap, subst, ◌∙◌, arith, append-nil, eq-eqb, ne_eqb, get_or}
-use Rattle.std.specs.Prelude.{if◌then◌else◌, ◌==◌}
+use Rattle.std.proofs.Common.{◌≡◌, ◌≢◌, ℕ, zero, suc, ◌+◌, ◌-◌, ◌<◌, ◌≤◌, List, [], ◌∷◌, ◌++◌, Bool, true, false, cond, eqb, length, take, drop, slice_set, refl, sym, ap, ◌∙◌, arith, eq-eqb, ne_eqb, get_or}
+use Rattle.std.specs.Prelude.{◌==◌}
 use Rattle.model.specs.Broker.{with_one}
-use Rattle.model.specs.Arrivals.{World, Shown}
+use Rattle.model.specs.Arrivals.{Shown}
 use Rattle.runs.specs.Told.{taken_at, gathered_at, gathered, with_opened}
 
 -- ---- one value changed

@@ -1,6 +1,6 @@
 -- What each happening adds to what is written down.
 use Rattle.std.proofs.Common.{◌≡◌, ◌≢◌, ℕ, zero, suc, ◌+◌, ◌-◌, ◌<◌, ◌≤◌, List, [], ◌∷◌, ◌++◌, Bool, true, false, cond, not, eqb, length, take, drop, refl, sym, ap, subst, ◌∙◌, arith, append-nil, append_assoc, eq-eqb, ne_eqb}
-use Rattle.std.specs.Prelude.{◌&&◌, ◌==◌, MatchBool}
+use Rattle.std.specs.Prelude.{◌&&◌}
 use Rattle.std.specs.List.{AllByRecursion}
 use Rattle.std.proofs.lemmas.Bool.{eqb-true, eqb-false, false≢true}
 use Rattle.std.proofs.lemmas.List.Concat.{flat_map-append}
@@ -9,14 +9,14 @@ use Rattle.model.specs.Phases.{Session, no_session, running_session}
 use Rattle.model.specs.Run.{Happening, notes_of, put_out}
 use Rattle.model.specs.Spelling.{receiver, sends_to, spelling}
 use Rattle.model.specs.Commands.{running_stream}
-use Rattle.model.specs.Arrivals.{World, Wire, Shown, Seen, is_over, is_paused, is_ended, is_awake, Settles, Happens, Puts, Turns, Waits, Same, with_heard, Takes_off, Opens, Loses}
+use Rattle.model.specs.Arrivals.{World, Wire, Shown, Seen, is_over, is_paused, is_ended, Settles, Happens, Puts, Turns, Waits, Same, with_heard, Takes_off, Opens, Loses}
 use Rattle.model.specs.declared.notes.Note.{Note}
 use Rattle.model.specs.declared.events.Send.{Send}
 use Rattle.model.specs.declared.events.Event.{Event}
 use Rattle.model.specs.declared.events.Event.TheVariants as event
 use Rattle.runs.specs.Told.{taken_at, gathered, with_opened, AreUnopened, Records, Tells}
 use Rattle.runs.proofs.Worlds.{world_same}
-use Rattle.runs.proofs.Places.{with_here, with_other, length-gathered, taken_here, taken_other, taken_past, taken_opened, take_nothing, drop_nothing, take_and_drop}
+use Rattle.runs.proofs.Places.{with_here, with_other, length-gathered, taken_here, taken_other, taken_opened, take_nothing, drop_nothing, take_and_drop}
 
 notes-append : (hs ks : List Happening) → notes_of (hs ++ ks) ≡ notes_of hs ++ notes_of ks
 notes-append hs ks = flat_map-append (λ (h : Happening). h.notes) hs ks

@@ -1,5 +1,5 @@
 -- What the single calls of a machine come to.
-use Rattle.std.specs.Prelude.{◌≡◌, ◌+◌, ℕ, List, Bool, true, false, Option, Some, None, MatchBool}
+use Rattle.std.specs.Prelude.{◌≡◌, ◌+◌, ℕ, List, true, false, Option, Some, None, MatchBool}
 use Rattle.model.specs.Run.{Happening, notes_of}
 use Rattle.model.specs.Commands.{running_stream}
 use Rattle.model.specs.Arrivals.{World, Same, Waits, Rests, Turns, Opens, Loses, Takes_off, can_open, is_over, is_gone, with_heard}

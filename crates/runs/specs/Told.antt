@@ -1,5 +1,5 @@
 -- What is written down of a run while it goes on.
-use Rattle.std.specs.Prelude.{◌≡◌, ◌+◌, ◌-◌, ◌≤◌, ℕ, zero, suc, List, [], ◌∷◌, ◌++◌, length, Bool, true, false, ◌==◌, if◌then◌else◌, Option, Some, None, slice_get, unwrap_or}
+use Rattle.std.specs.Prelude.{◌≡◌, ◌+◌, ◌-◌, ◌≤◌, ℕ, zero, suc, List, [], ◌∷◌, ◌++◌, length, true, false, ◌==◌, if◌then◌else◌, Some, slice_get, unwrap_or}
 use Rattle.model.specs.Run.{Happening, notes_of, put_out}
 use Rattle.model.specs.Arrivals.{World, Shown, Seen, is_over}
 

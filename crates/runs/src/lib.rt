@@ -9,4 +9,4 @@ mod transcript;
 
 pub use machine::Machine;
 pub use runs::run_over;
-pub use transcript::Transcript;
+pub use transcript::{Shown, Transcript};

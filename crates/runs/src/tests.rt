@@ -50,7 +50,7 @@ fn arrivals_for_no_connection_do_nothing(rt: HostRuntime) -> Result<(), Fail> {
     let arrivals = [Arrival::In(1, bytes), Arrival::Sent(1, 5), Arrival::Lose(2)];
     let mut machine = Closed;
     let transcript = run_over(alloc, &mut machine, &arrivals)?;
-    assert_eq!(rt; transcript.connections(), 0);
+    assert!(rt; transcript.connections().is_empty());
     assert!(rt; transcript.output(1).is_empty());
     assert!(rt; transcript.is_over(1));
     assert!(rt; transcript.notes().is_empty());
@@ -67,8 +67,10 @@ fn a_transcript_keeps_connections_apart(rt: HostRuntime) -> Result<(), Fail> {
     transcript.gather(1, b"one")?;
     transcript.gather(2, b" two")?;
     transcript.gather(3, b"nobody")?;
-    assert_eq!(rt; transcript.connections(), 2);
+    assert_eq!(rt; transcript.connections().len(), 2);
     assert_eq!(rt; transcript.output(1), b"one".as_slice());
+    assert_eq!(rt; transcript.connections()[1].output(), b"to two".as_slice());
+    assert!(rt; !transcript.connections()[1].is_over());
     assert_eq!(rt; transcript.output(2), b"to two".as_slice());
     assert!(rt; !transcript.is_over(1));
     assert!(rt; transcript.output(0).is_empty());

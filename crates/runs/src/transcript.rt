@@ -1,7 +1,6 @@
 //! What a run shows.
 
-ghost use Rattle.std.specs.Prelude.{◌≡◌, ◌++◌, [], false, length, OnOk, OnErr, unwrap_or, option_copied};
-ghost use Rattle.model.specs.Arrivals.{Shown};
+ghost use Rattle.std.specs.Prelude.{◌≡◌, ◌++◌, [], false, OnOk, OnErr, unwrap_or, option_copied};
 ghost use Rattle.runs.specs.Told.{never_given, shown_of, gathered, with_opened, AreFinished};
 
 use crate::machine::Machine;
@@ -9,38 +8,40 @@ use model::Note;
 use std::alloc::{AllocError, Global};
 use std::marker::Model;
 
-/// What was put out for one connection, and whether it is over.
+/// All bytes put out for one connection, taken ones too, and whether it is over or lost.
 #[derive(Drop)]
-struct Gathered {
+pub struct Shown {
     bytes: Vec<u8>,
     is_over: bool,
 }
 
-impl Model for Gathered {
-    ghost use Rattle.model.specs.Arrivals.{Shown};
+impl Model for Shown {
+    ghost use Rattle.model.specs.Arrivals.{Shown as OfConnection};
 
-    ghost Value = { Shown };
+    ghost Value = { OfConnection };
 
-    ghost view = { λ g. record { output = g.bytes.items; is_over = g.is_over } };
+    ghost view = { λ s. record { output = s.bytes.items; is_over = s.is_over } };
 }
 
-impl Gathered {
-    fn new(alloc: Global) -> Gathered
+impl Shown {
+    fn new(alloc: Global) -> Shown
         ensures { result ≡ record { output = []; is_over = false } }
     {
-        Gathered {
+        Shown {
             bytes: Vec::new(alloc),
             is_over: false,
         }
     }
 
-    fn bytes(&self) -> &[u8]
+    /// All bytes put out for the connection.
+    pub fn output(&self) -> &[u8]
         ensures { result.now ≡ self.now.output }
     {
         &self.bytes
     }
 
-    fn is_over(&self) -> bool
+    /// Whether the connection is over or lost.
+    pub fn is_over(&self) -> bool
         ensures { result ≡ self.now.is_over }
     {
         self.is_over
@@ -67,7 +68,7 @@ impl Gathered {
 /// All bytes put out for each connection, taken ones too, and whether it is over or lost; and all notes in order.
 #[derive(Drop)]
 pub struct Transcript {
-    connections: Vec<Gathered>,
+    connections: Vec<Shown>,
     notes: Vec<Note>,
 }
 
@@ -90,11 +91,11 @@ impl Transcript {
         }
     }
 
-    /// How many connections were opened: they are numbered from 1.
-    pub fn connections(&self) -> usize
-        ensures { result ≡ length self.now.connections }
+    /// The connections that were opened, in the order of their numbers, which count from 1.
+    pub fn connections(&self) -> &[Shown]
+        ensures { result.now ≡ self.now.connections }
     {
-        self.connections.len()
+        self.connections.as_slice()
     }
 
     /// All bytes put out for a connection; none for a number that was never given.
@@ -124,7 +125,7 @@ impl Transcript {
         ensures err { OnErr result (self.new ≡ self.old) }
     {
         self.connections.reserve(1)?;
-        self.connections.push_reserved(Gathered::new(alloc));
+        self.connections.push_reserved(Shown::new(alloc));
         Ok(())
     }
 
@@ -153,7 +154,7 @@ impl Transcript {
     }
 }
 
-fn find(connections: &[Gathered], connection: u64) -> Option<&Gathered>
+fn find(connections: &[Shown], connection: u64) -> Option<&Shown>
     ensures { unwrap_or (option_copied result) never_given ≡ shown_of connections.now connection }
 {
     if connection == 0 {
@@ -162,16 +163,16 @@ fn find(connections: &[Gathered], connection: u64) -> Option<&Gathered>
     connections.get((connection - 1) as usize)
 }
 
-fn output_of(connections: &[Gathered], connection: u64) -> &[u8]
+fn output_of(connections: &[Shown], connection: u64) -> &[u8]
     ensures { result.now ≡ (shown_of connections.now connection).output }
 {
     match find(connections, connection) {
-        Some(one) => one.bytes(),
+        Some(one) => one.output(),
         None => &[],
     }
 }
 
-fn is_over_of(connections: &[Gathered], connection: u64) -> bool
+fn is_over_of(connections: &[Shown], connection: u64) -> bool
     ensures { result ≡ (shown_of connections.now connection).is_over }
 {
     match find(connections, connection) {
@@ -180,7 +181,7 @@ fn is_over_of(connections: &[Gathered], connection: u64) -> bool
     }
 }
 
-fn add_to(connections: &mut [Gathered], connection: u64, bytes: &[u8]) -> Result<(), AllocError>
+fn add_to(connections: &mut [Shown], connection: u64, bytes: &[u8]) -> Result<(), AllocError>
     ensures ok { OnOk result (connections.new ≡ gathered connections.old connection bytes.now) }
     ensures err { OnErr result (connections.new ≡ connections.old) }
 {
@@ -194,7 +195,7 @@ fn add_to(connections: &mut [Gathered], connection: u64, bytes: &[u8]) -> Result
     connections[place].add(bytes)
 }
 
-fn finish_all<M: Machine>(machine: &M, connections: &mut [Gathered]) -> Result<(), AllocError>
+fn finish_all<M: Machine>(machine: &M, connections: &mut [Shown]) -> Result<(), AllocError>
     ensures { OnOk result (AreFinished (M.world machine.now) connections.old connections.new) }
 {
     for (i, one) in connections.iter_mut().enumerate() {

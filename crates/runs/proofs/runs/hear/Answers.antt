@@ -1,5 +1,4 @@
 use Rattle.std.proofs.Common.{sym, ◌∙◌}
-use Rattle.model.specs.Arrivals.{is_over}
 use Rattle.model.specs.declared.events.Arrival.TheVariants as arrival
 use Rattle.runs.specs.Runs.{WorksAndTells, AnswersAndTells}
 use Rattle.runs.proofs.Onward.{on_ok, hears}

@@ -1,5 +1,4 @@
 use Rattle.std.proofs.Common.{◌≡◌, Some, None}
-use Rattle.model.specs.Arrivals.{Seen}
 use Rattle.model.specs.declared.events.Arrival.TheVariants as arrival
 use Rattle.runs.specs.Told.{with_opened}
 use Rattle.runs.specs.Opened.{OpensReady}

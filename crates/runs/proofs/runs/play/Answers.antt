@@ -1,4 +1,3 @@
-use Rattle.std.proofs.Common.{◌≡◌}
 use Rattle.std.proofs.lemmas.List.{drop_all}
 use Rattle.runs.proofs.Onward.{played_more, played_all}
 use Rattle.runs.proofs.runs.play.Goals as goal

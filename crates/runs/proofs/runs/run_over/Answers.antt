@@ -1,4 +1,3 @@
-use Rattle.std.proofs.Common.{◌≡◌}
 use Rattle.runs.proofs.Ending.{is_run}
 use Rattle.runs.proofs.runs.run_over.Goals as goal
 

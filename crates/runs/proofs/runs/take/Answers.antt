@@ -1,5 +1,4 @@
 use Rattle.std.proofs.Common.{◌≡◌, List, ℕ, sym, ap, take, ◌∙◌}
-use Rattle.model.specs.Arrivals.{Seen, is_gone}
 use Rattle.model.specs.declared.events.Arrival.TheVariants as arrival
 use Rattle.runs.specs.Told.{gathered}
 use Rattle.runs.specs.Runs.{WorksAndTells, AnswersAndTells}

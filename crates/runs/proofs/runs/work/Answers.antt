@@ -1,4 +1,3 @@
-use Rattle.std.proofs.Common.{◌≡◌}
 use Rattle.runs.specs.Opened.{Did, DidNothing}
 use Rattle.runs.proofs.Onward.{so_far_not, so_far_more, so_far_ends}
 use Rattle.runs.proofs.runs.work.Goals as goal

@@ -1,4 +1,4 @@
-use Rattle.std.proofs.Common.{◌≡◌, ◌≢◌, ◌-◌, ◌++◌, ap, sym, ◌∙◌, slice_set, get_or, arith, List}
+use Rattle.std.proofs.Common.{◌≡◌, ◌-◌, ◌++◌, ap, sym, ◌∙◌, slice_set, get_or, arith}
 use Rattle.model.specs.Arrivals.{Shown}
 use Rattle.runs.specs.Told.{gathered}
 use Rattle.runs.proofs.Onward.{on_ok}
