@@ -1,6 +1,5 @@
 -- What can be built is well formed.
-use Rattle.std.proofs.Common.{◌≡◌, List, [], subst, sym}
-use Rattle.std.specs.Prelude.{Contains}
+use Rattle.std.proofs.Common.{[]}
 use Rattle.std.proofs.lemmas.List.Elements.{All-contains}
 use Rattle.model.specs.Topology.{Topology, IsIn, IsWellFormed, exchange_names}
 use Rattle.model.specs.declared.topologies.Exchange.{Exchange}

@@ -1,11 +1,10 @@
 -- Marks that are set one by one.
-use Rattle.std.proofs.Common.{◌≡◌, ℕ, zero, suc, ◌+◌, ◌<◌, ◌≤◌, List, [], ◌∷◌, ◌++◌, Bool, true, false, cond, refl, sym, ap, ◌∙◌, subst, length, take, drop, set, get_or, inl, inr, arith, Option, Some, None}
+use Rattle.std.proofs.Common.{◌≡◌, ℕ, zero, suc, ◌+◌, ◌<◌, List, [], ◌∷◌, ◌++◌, Bool, true, false, cond, refl, ap, ◌∙◌, length, take, set, get_or, inl, inr, arith}
 use Rattle.std.proofs.lemmas.List.{take_more}
 use Rattle.std.specs.Prelude.{◌⊎◌}
-use Rattle.model.specs.Topology.{IsIn}
 use Rattle.exchange_graph.specs.declared.ends.End.{End}
-use Rattle.exchange_graph.specs.Marks.{Marks, IsMet, IsSet, unset, set_places}
-use Rattle.exchange_graph.proofs.Members.{in_append, in_left, in_right, in_get}
+use Rattle.exchange_graph.specs.Marks.{Marks, IsSet, unset}
+use Rattle.exchange_graph.proofs.Members.{in_append, in_left, in_right}
 
 pub marks_none : (seen found : List Bool) → Marks [] seen found seen found
 marks_none seen found = record {

@@ -1,9 +1,9 @@
 -- Names, and where they stand.
 use Rattle.std.proofs.Common.{◌≡◌, ℕ, zero, suc, ◌+◌, ◌<◌, List, [], ◌∷◌, Bool, true, false, cond, refl, sym, ap, ◌∙◌, subst, length, map, get_or, inl, inr, arith}
-use Rattle.std.specs.Prelude.{◌⊎◌, Contains, not, Option, Some, None, position, IfSome, IfNone}
+use Rattle.std.specs.Prelude.{Contains, not, Option, Some, None, position, IfSome, IfNone}
 use Rattle.exchange_graph.proofs.Indices.{place_if_some, place_if_none}
 use Rattle.std.specs.Str.{bytes_eq}
-use Rattle.std.specs.List.{position_or_len, prefix_len}
+use Rattle.std.specs.List.{position_or_len}
 use Rattle.std.proofs.lemmas.Slice.Eq.{bytes_eq-Decides}
 use Rattle.std.proofs.lemmas.List.{length-map}
 use Rattle.model.specs.Words.{Text}

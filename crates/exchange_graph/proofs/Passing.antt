@@ -1,20 +1,18 @@
 -- The ways that let a key pass, by the kind of their exchange.
-use Rattle.std.proofs.Common.{◌≡◌, ℕ, zero, suc, ◌+◌, ◌<◌, List, [], ◌∷◌, Bool, true, false, cond, refl, sym, ap, ◌∙◌, subst, length, map, get_or, inl, inr, arith}
-use Rattle.std.specs.Prelude.{◌⊎◌}
+use Rattle.std.proofs.Common.{◌≡◌, ℕ, zero, suc, ◌<◌, List, [], ◌∷◌, Bool, true, false, cond, refl, sym, ap, ◌∙◌, subst, length, get_or, inl, inr, arith}
 use Rattle.std.specs.Str.{bytes_eq}
 use Rattle.std.proofs.lemmas.Slice.Eq.{bytes_eq-Decides}
 use Rattle.std.proofs.lemmas.List.{length-map}
 use Rattle.model.specs.declared.texts.Token.{Token}
 use Rattle.model.specs.Words.{Text, words, tokens, Matches}
 use Rattle.model.specs.Topology.{IsIn}
-use Rattle.model.specs.declared.topologies.ExchangeKind.{ExchangeKind}
 use Rattle.model.specs.declared.topologies.ExchangeKind.TheVariants.{Direct, Fanout, Topic}
 use Rattle.topic_match.specs.Places.{AreMatches}
 use Rattle.exchange_graph.specs.declared.ends.End.{End}
 use Rattle.exchange_graph.specs.declared.ends.End.TheVariants.{Onward}
 use Rattle.exchange_graph.specs.declared.ends.Way.{Way}
 use Rattle.exchange_graph.specs.Fans.{ArePassing, ends_by_key, ends_of, ends_at, patterns_of}
-use Rattle.exchange_graph.proofs.Members.{in_map, map_in, in_get, get_in}
+use Rattle.exchange_graph.proofs.Members.{in_map, map_in, in_get}
 
 -- ---- direct
 

@@ -1,17 +1,17 @@
 -- All that is marked is reached, and all that is reached is marked.
-use Rattle.std.proofs.Common.{◌≡◌, ℕ, zero, suc, ◌+◌, ◌<◌, List, [], ◌∷◌, Bool, true, false, cond, refl, sym, ap, ◌∙◌, subst, length, map, set, get_or, inl, inr, arith, Option, Some, None}
-use Rattle.std.specs.Prelude.{◌⊎◌}
+use Rattle.std.proofs.Common.{◌≡◌, ℕ, ◌<◌, List, Bool, true, sym, ap, ◌∙◌, subst, length, inl, inr, arith, None}
 use Rattle.std.proofs.lemmas.List.{length-map, length-set}
 use Rattle.model.specs.Words.{Text}
 use Rattle.model.specs.Topology.{Topology, IsIn, IsWellFormed, exchange_names, queue_names}
-use Rattle.model.specs.Routing.{Edge, Leads, here, on, RoutesBy, Routes, of_key}
+use Rattle.model.specs.Routing.{Edge, Leads, here, on, Routes, of_key}
+use Rattle.model.specs.declared.topologies.Exchange.{Exchange}
 use Rattle.model.specs.declared.topologies.DeclaredQueue.{DeclaredQueue}
 use Rattle.model.specs.declared.topologies.Place.{Place}
 use Rattle.model.specs.declared.topologies.Place.TheVariants as place
 use Rattle.exchange_graph.specs.declared.ends.End.{End}
 use Rattle.exchange_graph.specs.declared.ends.End.TheVariants.{Onward, Into}
 use Rattle.exchange_graph.specs.Fans.{AreSteps, EndsWithin, place_of}
-use Rattle.exchange_graph.specs.Marks.{Marks, IsMet, IsSet, IsClosed, IsPending, Arrives, HasRoom, Reaching, Expands, AreFound, exchange_name, queue_name}
+use Rattle.exchange_graph.specs.Marks.{Marks, IsMet, IsSet, IsClosed, IsPending, Arrives, HasRoom, Reaching, Expands, AreMet, exchange_name, queue_name}
 use Rattle.exchange_graph.proofs.Marking.{set_only, set_within}
 use Rattle.exchange_graph.proofs.Names.{apart_same}
 
@@ -77,10 +77,26 @@ found_all t start key seen found done w r p i h s =
     let same : q.0 ≡ i = apart_same (queue_names t.queues) q.0 i w.queues_apart (omega (arith, n, k, r.room.queues)) (omega (arith, n, h)) q.2 in
     subst (λ (j : ℕ). IsSet found j) same q.1
 
+seen_all : (t : Topology) (start key : Text) (seen found done : List Bool) → IsWellFormed t → Reaching t start key seen found done → IsPending seen done None
+    → (i : ℕ) → i < length t.exchanges → Leads t (of_key key) start (exchange_name t i) → IsSet seen i
+seen_all t start key seen found done w r p i h l =
+    let m = met_exchange t start key seen found done r p l r.begun in
+    let n : length (exchange_names t.exchanges) ≡ length t.exchanges = length-map t.exchanges (λ (z : Exchange). z.name) in
+    let k : m.0 < length seen = set_within seen m.0 m.1 in
+    let same : m.0 ≡ i = apart_same (exchange_names t.exchanges) m.0 i w.exchanges_apart (omega (arith, n, k, r.room.exchanges)) (omega (arith, n, h)) m.2 in
+    subst (λ (j : ℕ). IsSet seen j) same m.1
+
 -- nothing is left to be done
-pub all_found : (t : Topology) (start key : Text) (seen found done : List Bool) → IsWellFormed t → Reaching t start key seen found done → IsPending seen done None → AreFound t start key found
-all_found t start key seen found done w r p = record {
-  room = r.room.queues;
-  sound = λ i h m. r.sound (Into i) m;
-  all = found_all t start key seen found done w r p;
+pub all_met : (t : Topology) (start key : Text) (seen found done : List Bool) → IsWellFormed t → Reaching t start key seen found done → IsPending seen done None → AreMet t start key seen found
+all_met t start key seen found done w r p = record {
+  exchanges = record {
+    room = r.room.exchanges;
+    sound = λ i h m. r.sound (Onward i) m;
+    all = seen_all t start key seen found done w r p;
+  };
+  queues = record {
+    room = r.room.queues;
+    sound = λ i h m. r.sound (Into i) m;
+    all = found_all t start key seen found done w r p;
+  };
 }

@@ -1,10 +1,10 @@
 -- Where a route begins.
-use Rattle.std.proofs.Common.{◌≡◌, ℕ, zero, suc, ◌+◌, ◌<◌, List, [], ◌∷◌, Bool, true, false, cond, refl, sym, ap, ◌∙◌, subst, length, map, set, replicate, eqb, get_or, inl, inr, arith, Option, Some, None}
-use Rattle.std.specs.Prelude.{◌⊎◌, Contains}
+use Rattle.std.proofs.Common.{◌≡◌, ℕ, zero, suc, ◌<◌, [], ◌∷◌, Bool, true, false, refl, sym, ap, ◌∙◌, subst, length, set, replicate, eqb, inl, inr, arith}
+use Rattle.std.specs.Prelude.{Contains}
 use Rattle.std.proofs.lemmas.List.{length-map, length-set, length-replicate}
 use Rattle.model.specs.Words.{Text}
 use Rattle.model.specs.Topology.{Topology, IsIn, IsWellFormed, exchange_names, queue_names}
-use Rattle.model.specs.Routing.{Reading, Edge, bound, alternate, default, Leads, here, on, RoutesBy, Routes, of_key}
+use Rattle.model.specs.Routing.{Reading, Edge, bound, alternate, default, Leads, here, on, Routes, of_key}
 use Rattle.model.specs.declared.topologies.Exchange.{Exchange}
 use Rattle.model.specs.declared.topologies.DeclaredQueue.{DeclaredQueue}
 use Rattle.model.specs.declared.topologies.Place.{Place}
@@ -12,7 +12,7 @@ use Rattle.model.specs.declared.topologies.Place.TheVariants as place
 use Rattle.exchange_graph.specs.declared.ends.End.{End}
 use Rattle.exchange_graph.specs.declared.ends.End.TheVariants.{Onward, Into}
 use Rattle.exchange_graph.specs.Fans.{place_of}
-use Rattle.exchange_graph.specs.Marks.{IsMet, IsSet, Arrives, HasRoom, Reaching, AreFound, exchange_name, queue_name}
+use Rattle.exchange_graph.specs.Marks.{IsMet, IsSet, Arrives, Reaching, AreFound, AreSeen, exchange_name, queue_name}
 use Rattle.exchange_graph.proofs.Members.{in_map, in_contains, in_get}
 use Rattle.exchange_graph.proofs.Marking.{set_only, set_here}
 use Rattle.exchange_graph.proofs.Names.{apart_same, one_at}
@@ -57,6 +57,25 @@ nothing_found t start key m b some absent = record {
   room = length-replicate m false ∙ b;
   sound = λ i h p. absurd (none_set m i p);
   all = λ i h s. absurd (no_route (queue_name t i) s.1 s.2 some absent);
+}
+
+-- no exchange leads on from it
+alone : {t : Topology} {r : Reading} {x y : Text} → Leads t r x y → (IsIn x (exchange_names t.exchanges) → ⊥) → x ≡ y
+alone here absent = refl
+alone (on s l) absent = absurd (no_onward s refl absent)
+  where
+    no_onward : {t : Topology} {r : Reading} {name z : Text} {to : Place} → Edge t r name to → to ≡ place.Exchange z → (IsIn name (exchange_names t.exchanges) → ⊥) → ⊥
+    no_onward {t} (bound x b c e s p) q absent = absent (subst (λ (n : Text). IsIn n (exchange_names t.exchanges)) e (in_map (λ (y : Exchange). y.name) t.exchanges x (in_contains t.exchanges x c)))
+    no_onward {t} (alternate x c e o s) q absent = absent (subst (λ (n : Text). IsIn n (exchange_names t.exchanges)) e (in_map (λ (y : Exchange). y.name) t.exchanges x (in_contains t.exchanges x c)))
+    no_onward (default d c e n) q absent = cc
+
+pub nothing_seen : (t : Topology) (start key : Text) (m : ℕ) → m ≡ length t.exchanges → (IsIn start (exchange_names t.exchanges) → ⊥) → AreSeen t start key (replicate m false)
+nothing_seen t start key m b absent = record {
+  room = length-replicate m false ∙ b;
+  sound = λ i h p. absurd (none_set m i p);
+  all = λ i h l. absurd (absent (
+      let n : length (exchange_names t.exchanges) ≡ length t.exchanges = length-map t.exchanges (λ (z : Exchange). z.name) in
+      subst (λ (x : Text). IsIn x (exchange_names t.exchanges)) (sym (alone l absent)) (in_get (exchange_names t.exchanges) i [] (omega (arith, n, h)))));
 }
 
 -- ---- from the default exchange

@@ -1,5 +1,5 @@
 -- What a topology must keep to be built, and what is told where it does not. Source: RabbitMQ, "Definition Export and Import"; the limits are own.
-use Rattle.std.specs.Prelude.{◌≡◌, ◌≢◌, ◌≤◌, List, [], Some, None, length, All, Result, Ok, Err, ◌⊎◌}
+use Rattle.std.specs.Prelude.{◌≡◌, ◌≤◌, [], Some, None, length, All, Result, Ok, Err, ◌⊎◌}
 use Rattle.model.specs.Words.{Text}
 use Rattle.model.specs.Topology.{Topology, queue_names, exchange_names, IsIn, AreApart, IsThere}
 use Rattle.model.specs.declared.topologies.Exchange.{Exchange}

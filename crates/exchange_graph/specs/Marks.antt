@@ -79,6 +79,17 @@ pub record AreFound (t : Topology) (start key : Text) (found : List Bool) : Type
   pub sound : (i : ℕ) → i < length t.queues → IsSet found i → Routes t start key (queue_name t i)
   pub all : (i : ℕ) → i < length t.queues → Routes t start key (queue_name t i) → IsSet found i
 
+-- The exchanges that are marked are those at the ends of chains, the first among them.
+pub record AreSeen (t : Topology) (start key : Text) (seen : List Bool) : Type 0 where
+  pub room : length seen ≡ length t.exchanges
+  pub sound : (i : ℕ) → i < length t.exchanges → IsSet seen i → Leads t (of_key key) start (exchange_name t i)
+  pub all : (i : ℕ) → i < length t.exchanges → Leads t (of_key key) start (exchange_name t i) → IsSet seen i
+
+-- both
+pub record AreMet (t : Topology) (start key : Text) (seen found : List Bool) : Type 0 where
+  pub exchanges : AreSeen t start key seen
+  pub queues : AreFound t start key found
+
 -- The first mark of an exchange that is not done yet, or none.
 abbrev pub IsPending : List Bool → List Bool → Option ℕ → Type 0
 IsPending seen done None = (i : ℕ) → IsSet seen i → IsSet done i

@@ -9,6 +9,8 @@ mod fans;
 mod marks;
 mod places;
 mod reach;
+#[cfg(test)]
+mod tests;
 mod topologies;
 
 pub use bad::Bad;

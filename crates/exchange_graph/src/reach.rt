@@ -2,12 +2,27 @@
 
 ghost use Rattle.std.specs.Prelude.{◌≡◌, ◌<◌, [], length, IfOk, OnOk};
 ghost use Rattle.model.specs.Topology.{IsWellFormed};
-ghost use Rattle.exchange_graph.specs.Marks.{AreFound, Expands, HasRoom, Reaching, exchange_name};
+ghost use Rattle.exchange_graph.specs.Marks.{
+  AreFound,
+  AreMet,
+  AreSeen,
+  Expands,
+  HasRoom,
+  Reaching,
+  exchange_name,
+};
 
 use crate::marks::{mark_all, pending, unmarked};
 use crate::places::{exchange_at, queue_at};
 use crate::topologies::Topology;
 use std::alloc::{AllocError, Global};
+
+/// A mark for each exchange and for each queue that a way leads to.
+#[derive(Drop)]
+struct Met {
+    seen: Vec<bool>,
+    found: Vec<bool>,
+}
 
 /// Marks what one exchange leads to.
 fn expand(
@@ -41,7 +56,7 @@ fn spread(
     done: &mut [bool],
 ) -> Result<(), AllocError>
     requires { Reaching topology.now start.now key.now seen.old found.old done.old }
-    ensures { OnOk result (AreFound topology.now start.now key.now found.new) }
+    ensures { OnOk result (AreMet topology.now start.now key.now seen.new found.new) }
 {
     topology.is_well_formed();
     'passes: while let Some(place) = pending(seen, done) {
@@ -50,17 +65,17 @@ fn spread(
     Ok(())
 }
 
-/// What the exchange at this place leads to.
-fn found_from(
+/// What is met on the ways from the exchange at this place.
+fn met_from(
     topology: &Topology,
     alloc: Global,
     place: usize,
     exchange: &[u8],
     key: &[u8],
-) -> Result<Vec<bool>, AllocError>
+) -> Result<Met, AllocError>
     requires within { place < length topology.now.exchanges }
     requires named { exchange_name topology.now place ≡ exchange.now }
-    ensures { IfOk result (λ found. AreFound topology.now exchange.now key.now found.items) }
+    ensures { IfOk result (λ met. AreMet topology.now exchange.now key.now met.seen.items met.found.items) }
 {
     let mut seen = unmarked(alloc, topology.exchanges().len())?;
     let mut found = unmarked(alloc, topology.queues().len())?;
@@ -75,7 +90,7 @@ fn found_from(
         found.as_mut_slice(),
         done.as_mut_slice(),
     )?;
-    Ok(found)
+    Ok(Met { seen, found })
 }
 
 /// What the default exchange leads to: the queue of this name.
@@ -93,7 +108,7 @@ fn found_by_name(topology: &Topology, alloc: Global, key: &[u8]) -> Result<Vec<b
     }
 }
 
-/// What an exchange leads to, by its name.
+/// The queues that an exchange leads to, by its name.
 pub fn found(
     topology: &Topology,
     alloc: Global,
@@ -106,7 +121,22 @@ pub fn found(
         return found_by_name(topology, alloc, key);
     }
     match exchange_at(topology.exchanges(), exchange) {
-        Some(place) => found_from(topology, alloc, place, exchange, key),
+        Some(place) => Ok(met_from(topology, alloc, place, exchange, key)?.found),
         None => unmarked(alloc, topology.queues().len()),
+    }
+}
+
+/// The exchanges that an exchange leads to, by its name, itself among them.
+pub fn seen(
+    topology: &Topology,
+    alloc: Global,
+    exchange: &[u8],
+    key: &[u8],
+) -> Result<Vec<bool>, AllocError>
+    ensures { IfOk result (λ seen. AreSeen topology.now exchange.now key.now seen.items) }
+{
+    match exchange_at(topology.exchanges(), exchange) {
+        Some(place) => Ok(met_from(topology, alloc, place, exchange, key)?.seen),
+        None => unmarked(alloc, topology.exchanges().len()),
     }
 }

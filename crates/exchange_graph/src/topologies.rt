@@ -15,7 +15,7 @@ ghost use Rattle.std.specs.Prelude.{
 };
 ghost use Rattle.std.specs.Str.{bytes_eq};
 ghost use Rattle.model.specs.Topology.{Topology as Handed, IsIn, IsWellFormed, queue_names};
-ghost use Rattle.exchange_graph.specs.Targets.{AreTargets};
+ghost use Rattle.exchange_graph.specs.Targets.{AreTargets, AreVisited};
 ghost use Rattle.exchange_graph.specs.Causes.{Builds};
 ghost use Rattle.exchange_graph.specs.Fans.{AreSteps};
 ghost use Rattle.exchange_graph.specs.Marks.{exchange_name, queue_name};
@@ -27,7 +27,7 @@ use crate::ends::End;
 use crate::fans::{Fan, all_fans};
 use crate::marks::set_places;
 use crate::places::queue_at;
-use crate::reach::found;
+use crate::reach::{found, seen};
 use model::{Binding, DeclaredQueue, Exchange};
 use std::alloc::{AllocError, Global};
 use std::marker::Model;
@@ -133,6 +133,20 @@ impl Topology {
     {
         let found = found(self, alloc, exchange, key)?;
         set_places(alloc, found.as_slice())
+    }
+
+    /// The exchanges that a message sent to this exchange under this key passes, by their places, in the order of the
+    /// file, each once, and this one among them. The default exchange `""` and one that is not there have no place.
+    pub fn visited(
+        &self,
+        alloc: Global,
+        exchange: &[u8],
+        key: &[u8],
+    ) -> Result<Vec<usize>, AllocError>
+        ensures { IfOk result (λ visited. AreVisited self.now exchange.now key.now visited.items) }
+    {
+        let seen = seen(self, alloc, exchange, key)?;
+        set_places(alloc, seen.as_slice())
     }
 
     /// The exchanges, in the order of the file.

@@ -1,4 +1,4 @@
-use Rattle.std.proofs.Common.{◌≡◌, ◌<◌, List, ℕ, [], length, map, refl, subst, arith}
+use Rattle.std.proofs.Common.{◌<◌, List, ℕ, [], length, refl, subst}
 use Rattle.std.proofs.lemmas.List.{length-map}
 use Rattle.model.specs.Topology.{IsIn, queue_names}
 use Rattle.exchange_graph.proofs.Members.{in_get}

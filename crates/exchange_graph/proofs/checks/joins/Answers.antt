@@ -1,4 +1,4 @@
-use Rattle.std.proofs.Common.{◌≡◌, List, ℕ, subst}
+use Rattle.std.proofs.Common.{List, ℕ, subst}
 use Rattle.model.specs.Topology.{IsIn, exchange_names}
 use Rattle.exchange_graph.proofs.checks.joins.Goals as goal
 

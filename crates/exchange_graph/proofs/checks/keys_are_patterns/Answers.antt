@@ -1,4 +1,4 @@
-use Rattle.std.proofs.Common.{◌≡◌, List, ℕ, arith, refl, subst}
+use Rattle.std.proofs.Common.{List, ℕ, arith, refl, subst}
 use Rattle.topic_match.specs.Patterns.{IsPattern}
 use Rattle.model.specs.declared.topologies.Binding.{Binding}
 use Rattle.exchange_graph.proofs.Alls.{all_more, all_taken}

@@ -1,4 +1,4 @@
-use Rattle.std.proofs.Common.{◌≡◌, List, ℕ, arith, refl, subst}
+use Rattle.std.proofs.Common.{arith, refl}
 use Rattle.exchange_graph.specs.Causes.{KeyHasExchange}
 use Rattle.exchange_graph.proofs.Alls.{all_more, all_taken}
 use Rattle.exchange_graph.proofs.checks.keys_have_exchanges.Goals as goal

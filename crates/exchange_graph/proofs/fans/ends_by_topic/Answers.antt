@@ -1,4 +1,3 @@
-use Rattle.std.proofs.Common.{List, ◌≡◌}
 use Rattle.std.proofs.lemmas.Result.{IfOk-weaker}
 use Rattle.exchange_graph.proofs.Passing.{topic_within, topic_passes}
 use Rattle.exchange_graph.proofs.fans.ends_by_topic.Goals as goal

@@ -1,9 +1,6 @@
-use Rattle.std.proofs.Common.{◌≡◌, List, sym, subst}
+use Rattle.std.proofs.Common.{◌≡◌}
 use Rattle.std.proofs.lemmas.Result.{IfOk-weaker}
-use Rattle.std.specs.Prelude.{IfOk}
-use Rattle.model.specs.declared.topologies.ExchangeKind.{ExchangeKind}
 use Rattle.model.specs.declared.topologies.ExchangeKind.TheVariants.{Direct, Fanout}
-use Rattle.exchange_graph.specs.Fans.{ArePassing}
 use Rattle.exchange_graph.proofs.Passing.{passing_direct, passing_fanout}
 use Rattle.exchange_graph.proofs.fans.passing.Goals as goal
 

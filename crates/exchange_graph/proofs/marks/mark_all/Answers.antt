@@ -1,4 +1,4 @@
-use Rattle.std.proofs.Common.{◌≡◌, ◌<◌, arith, length}
+use Rattle.std.proofs.Common.{◌<◌, arith, length}
 use Rattle.exchange_graph.specs.declared.ends.End.TheVariants.{Onward}
 use Rattle.exchange_graph.proofs.Members.{in_get}
 use Rattle.exchange_graph.proofs.Marking.{marks_more}

@@ -1,4 +1,4 @@
-use Rattle.std.proofs.Common.{◌≡◌, take}
+use Rattle.std.proofs.Common.{take}
 use Rattle.exchange_graph.specs.Marks.{Marks}
 use Rattle.exchange_graph.proofs.marks.mark_all.Given as goal
 

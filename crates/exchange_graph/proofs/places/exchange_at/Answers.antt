@@ -1,4 +1,3 @@
-use Rattle.std.proofs.Common.{◌≡◌}
 use Rattle.model.specs.declared.topologies.Exchange.{Exchange}
 use Rattle.exchange_graph.proofs.Names.{named_if_some, absent_if_none}
 use Rattle.exchange_graph.proofs.places.exchange_at.Goals as goal

@@ -1,4 +1,3 @@
-use Rattle.std.proofs.Common.{◌≡◌}
 use Rattle.model.specs.declared.topologies.DeclaredQueue.{DeclaredQueue}
 use Rattle.exchange_graph.proofs.Names.{named_if_some, absent_if_none}
 use Rattle.exchange_graph.proofs.places.queue_at.Goals as goal

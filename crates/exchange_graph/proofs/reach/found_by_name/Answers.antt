@@ -1,4 +1,4 @@
-use Rattle.std.proofs.Common.{◌≡◌, length, refl}
+use Rattle.std.proofs.Common.{length, refl}
 use Rattle.exchange_graph.proofs.Starting.{default_one, default_none}
 use Rattle.exchange_graph.proofs.reach.found_by_name.Goals as goal
 

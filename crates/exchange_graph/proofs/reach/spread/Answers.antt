@@ -1,7 +1,7 @@
-use Rattle.std.proofs.Common.{◌≡◌, ◌<◌, List, Bool, sym, subst, arith}
+use Rattle.std.proofs.Common.{◌<◌, List, Bool, sym, subst, arith}
 use Rattle.exchange_graph.specs.Marks.{unset}
 use Rattle.exchange_graph.proofs.Marking.{unset_fewer}
-use Rattle.exchange_graph.proofs.Reached.{expanded, all_found}
+use Rattle.exchange_graph.proofs.Reached.{expanded, all_met}
 use Rattle.exchange_graph.proofs.reach.spread.Goals as goal
 
 pub passes-smaller : goal.passes-smaller
@@ -17,4 +17,4 @@ passes-preserved c =
 
 pub returns : goal.returns
 returns c =
-    all_found c.args.topology.now c.args.start.now c.args.key.now c.passes.seen c.passes.found c.passes.done c.is_well_formed.ensures c.passes.invariant c.in_default.ensures
+    all_met c.args.topology.now c.args.start.now c.args.key.now c.passes.seen c.passes.found c.passes.done c.is_well_formed.ensures c.passes.invariant c.in_default.ensures

@@ -1,6 +1,3 @@
-use Rattle.std.proofs.Common.{◌≡◌, map}
-use Rattle.model.specs.Topology.{Topology}
-use Rattle.exchange_graph.specs.Causes.{IsBuildable}
 use Rattle.exchange_graph.proofs.Good.{well_formed}
 use Rattle.exchange_graph.proofs.topologies.Topology.build.Goals as goal
 

@@ -1,4 +1,4 @@
-use Rattle.std.proofs.Common.{◌≡◌, ℕ, List, Bool, sym, ap, subst, ◌∙◌}
+use Rattle.std.proofs.Common.{ℕ, List, Bool, sym, ap, subst, ◌∙◌}
 use Rattle.std.proofs.lemmas.Result.{IfOk-weaker}
 use Rattle.exchange_graph.specs.Marks.{set_places}
 use Rattle.exchange_graph.specs.Targets.{AreTargets}

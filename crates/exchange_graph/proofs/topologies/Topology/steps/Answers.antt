@@ -1,4 +1,3 @@
-use Rattle.std.proofs.Common.{◌≡◌}
 use Rattle.std.proofs.lemmas.Result.{IfOk-weaker}
 use Rattle.exchange_graph.proofs.Stepping.{steps_at}
 use Rattle.exchange_graph.proofs.topologies.Topology.steps.Goals as goal

@@ -1,6 +1,6 @@
-use Rattle.std.proofs.Common.{◌≡◌, length, refl}
+use Rattle.std.proofs.Common.{length, refl}
 use Rattle.exchange_graph.proofs.Starting.{begins}
-use Rattle.exchange_graph.proofs.reach.found_from.Goals as goal
+use Rattle.exchange_graph.proofs.reach.met_from.Goals as goal
 
 pub spread-requires : goal.spread-requires
 spread-requires c =
