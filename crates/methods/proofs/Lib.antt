@@ -1,3 +1,3 @@
-pub mod Exactly
+pub mod Rebuilt
 pub mod Whole
 pub mod Rows

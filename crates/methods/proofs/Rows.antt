@@ -1,11 +1,11 @@
 -- A line with a method's ids and arguments is spelled as the method is.
-use Rattle.std.proofs.Common.{◌≡◌, ℕ, ◌≤◌, List, [], ◌∷◌, ◌++◌, Bool, true, false, Option, Some, None, refl, sym, ap, subst, ◌∙◌, append-nil, arith}
+use Rattle.std.proofs.Common.{◌≡◌, ℕ, List, [], ◌++◌, refl, sym, ap, subst, ◌∙◌, append-nil, arith}
 use Rattle.std.specs.Int.{w16, to_be_bytes}
 use Rattle.std.specs.List.{AllByRecursion, flat_map}
-use Rattle.model.specs.Grammar.{Argument, argument, IsArgument, ids_of, arguments, method_bytes, IsMethod}
+use Rattle.model.specs.Grammar.{Argument, argument, IsArgument, method_bytes, IsMethod}
 use Rattle.model.specs.declared.methods.Method.{Method}
 use Rattle.methods.specs.declared.pieces.Piece.{Piece}
-use Rattle.methods.specs.declared.pieces.Piece.TheVariants.{Nothing, Short, Long, LongLong, ShortText, LongText, Bit, TwoBits}
+use Rattle.methods.specs.declared.pieces.Piece.TheVariants.{Nothing, Octet, Short, Long, LongLong, ShortText, LongText, Pairs, Bit, TwoBits, FourBits, FiveBits}
 use Rattle.methods.specs.declared.pieces.Line.{Line}
 use Rattle.methods.specs.Writing.{onto, piece_bytes, IsPiece, Row, row_of, row_in, line_bytes, spelled, IsLine}
 
@@ -14,6 +14,7 @@ Fit given = AllByRecursion IsArgument given
 
 bytes_onto : (p : Piece) (others : List Argument) → flat_map argument (onto p others) ≡ piece_bytes p ++ flat_map argument others
 bytes_onto Nothing others = refl
+bytes_onto (Octet n) others = refl
 bytes_onto (Short n) others = refl
 bytes_onto (Long n) others = refl
 bytes_onto (LongLong n) others = refl
@@ -21,9 +22,14 @@ bytes_onto (ShortText t) others = refl
 bytes_onto (LongText t) others = refl
 bytes_onto (Bit b) others = refl
 bytes_onto (TwoBits a b) others = refl
+bytes_onto (FourBits a b c d) others = refl
+bytes_onto (FiveBits a b c d e) others = refl
+bytes_onto (Pairs t) others = refl
 
 fit_onto : (p : Piece) (others : List Argument) → IsPiece p → Fit others → Fit (onto p others)
 fit_onto Nothing others fits rest = rest
+fit_onto (Octet n) others fits rest = (fits, rest)
+fit_onto (Pairs t) others fits rest = (fits, rest)
 fit_onto (Short n) others fits rest = (fits, rest)
 fit_onto (Long n) others fits rest = (fits, rest)
 fit_onto (LongLong n) others fits rest = (fits, rest)
@@ -31,9 +37,13 @@ fit_onto (ShortText t) others fits rest = (fits, rest)
 fit_onto (LongText t) others fits rest = (fits, rest)
 fit_onto (Bit b) others fits rest = (omega arith, rest)
 fit_onto (TwoBits a b) others fits rest = (omega arith, rest)
+fit_onto (FourBits a b c d) others fits rest = (omega arith, rest)
+fit_onto (FiveBits a b c d e) others fits rest = (omega arith, rest)
 
 fit_first : (p : Piece) (others : List Argument) → Fit (onto p others) → IsPiece p × Fit others
 fit_first Nothing others fit = (tt, fit)
+fit_first (Octet n) others fit = (fit.0, fit.1)
+fit_first (Pairs t) others fit = (fit.0, fit.1)
 fit_first (Short n) others fit = (fit.0, fit.1)
 fit_first (Long n) others fit = (fit.0, fit.1)
 fit_first (LongLong n) others fit = (fit.0, fit.1)
@@ -41,6 +51,8 @@ fit_first (ShortText t) others fit = (fit.0, fit.1)
 fit_first (LongText t) others fit = (fit.0, fit.1)
 fit_first (Bit b) others fit = (tt, fit.1)
 fit_first (TwoBits a b) others fit = (tt, fit.1)
+fit_first (FourBits a b c d) others fit = (tt, fit.1)
+fit_first (FiveBits a b c d e) others fit = (tt, fit.1)
 
 -- a line, and the method that it is
 pub record Is (l : Line) (m : Method) : Type 0 where

@@ -1,23 +1,21 @@
 -- What was read of the arguments tells what the payload says.
-use Rattle.std.proofs.Common.{◌≡◌, ℕ, ◌+◌, ◌/◌, ◌%◌, ◌^◌, ◌<◌, ◌≤◌, ◌⊎◌, Bool, true, false, cond, List, [], ◌∷◌, ◌++◌, length, map, take, drop, Option, Some, None, Result, Ok, Err, refl, sym, ap, subst, ◌∙◌, arith, inl, inr}
-use Rattle.std.specs.Prelude.{◌==◌, if◌then◌else◌}
-use Rattle.std.specs.Int.{w16, from_be_bytes, to_be_bytes}
+use Rattle.std.proofs.Common.{◌≡◌, ℕ, ◌^◌, ◌<◌, ◌≤◌, Bool, true, false, cond, List, [], ◌++◌, map, drop, Option, Some, Result, Ok, Err, refl, sym, ap, subst, ◌∙◌, append-nil, arith}
+use Rattle.std.specs.Prelude.{◌==◌}
+use Rattle.std.specs.Int.{w16, to_be_bytes}
 use Rattle.std.specs.List.{AllByRecursion, flat_map}
 use Rattle.std.proofs.lemmas.Nat.{from_be_bytes-to_be_bytes_2}
-use Rattle.model.specs.Grammar.{Argument, Octet, Short, Long, Long_long, Short_text, Long_text, Field_table, Bits, argument, IsArgument, Ids, ids, ids_of, arguments, method_bytes, IsMethod, class_at, method_at, is_known, is_left_out, is_read, SaysMethod, said, too_short, unknown, left_out, not_read, bad_arguments}
-use Rattle.model.specs.declared.methods.Close.{Close}
-use Rattle.model.specs.declared.methods.Publish.{Publish}
-use Rattle.model.specs.declared.methods.Ack.{Ack}
-use Rattle.model.specs.declared.methods.Nack.{Nack}
+use Rattle.model.specs.Grammar.{Argument, argument, IsArgument, Ids, ids, ids_of, arguments, method_bytes, IsMethod, class_at, method_at, is_known, is_left_out, is_unread, Spells, exact, any_rest, SaysMethod, said, unknown, left_out, bad_arguments}
 use Rattle.model.specs.declared.methods.Method.{Method}
-use Rattle.model.specs.declared.methods.Method.TheVariants.{ConnectionClose, ConnectionCloseOk, ChannelClose, ChannelCloseOk, BasicPublish, BasicAck, BasicNack, ConfirmSelect, ConfirmSelectOk}
+use Rattle.model.specs.declared.methods.Method.TheVariants.{ConnectionCloseOk, ExchangeDelete, ExchangeBind, ExchangeUnbind, QueueBind, QueueDelete, QueueUnbind}
+use Rattle.field_table.specs.Arguments.{Kind, kind_of, arguments_at}
+use Rattle.field_table.proofs.Exactly.{IsBytes, IsBytes-drop, IsKind, arguments_take, arguments_again, all_fit, all_sized, all_whole}
 use Rattle.methods.specs.declared.refusals.Refusal.{Refusal}
 use Rattle.methods.specs.declared.refusals.Refusal.TheVariants.{FrameError, SyntaxError, CommandInvalid, NotImplemented, Memory}
-use Rattle.methods.specs.Arguments.{Kind, kind_of, arguments_at, a_short, a_long_long, a_short_text, some_bits}
-use Rattle.methods.specs.Reading.{kinds_of, close_kinds, Refuses, Tells, IsMethodOr, Starts, Fails, Reads}
-use Rattle.methods.proofs.Exactly.{IsBytes, IsBytes-drop, IsKind, AreArguments, arguments_take, arguments_again}
+use Rattle.methods.specs.Kinds.{close_kinds, declare_exchange_kinds, tag_kinds, connection_kinds, channel_kinds, exchange_kinds, queue_class_kinds, basic_kinds, confirm_kinds, kinds_of}
+use Rattle.methods.specs.Reading.{Refuses, Tells, IsMethodOr, Starts, IsRead, Fails, Reads}
+use Rattle.methods.proofs.Rebuilt.{same_method}
 
--- ---- one line for each method that is read
+-- ---- the table
 
 -- the row of a method in the table
 pub record Row (x : Method) : Type 0 where
@@ -25,62 +23,19 @@ pub record Row (x : Method) : Type 0 where
   pub known : is_known (ids_of x).class (ids_of x).method ≡ true
   pub built : is_left_out (ids_of x).class (ids_of x).method ≡ false
 
-abbrev IsRead : Method → Type 0
-IsRead x = is_read (ids_of x).class (ids_of x).method ≡ true
+row : (x : Method) → Row x
+row ConnectionCloseOk = record { kinds = refl; known = refl; built = refl }
+row _ = record { kinds = refl; known = refl; built = refl }
 
-row : (x : Method) → IsRead x → Row x
-row (ConnectionClose m) e = record { kinds = refl; known = refl; built = refl }
-row ConnectionCloseOk e = record { kinds = refl; known = refl; built = refl }
-row (ChannelClose m) e = record { kinds = refl; known = refl; built = refl }
-row ChannelCloseOk e = record { kinds = refl; known = refl; built = refl }
-row (BasicPublish m) e = record { kinds = refl; known = refl; built = refl }
-row (BasicAck m) e = record { kinds = refl; known = refl; built = refl }
-row (BasicNack m) e = record { kinds = refl; known = refl; built = refl }
-row (ConfirmSelect no_wait) e = record { kinds = refl; known = refl; built = refl }
-row ConfirmSelectOk e = record { kinds = refl; known = refl; built = refl }
-row _ e = absurd (let h : false ≡ true = e in cc)
-
--- a method from its arguments
-abbrev close_of : List Argument → Close
-close_of (Short code ∷ Short_text text ∷ Short class ∷ Short method ∷ []) = record { reply_code = code; reply_text = text; class_id = class; method_id = method }
-close_of _ = record { reply_code = 0; reply_text = []; class_id = 0; method_id = 0 }
-
-abbrev publish_of : List Argument → Publish
-publish_of (Short n ∷ Short_text exchange ∷ Short_text key ∷ Bits (mandatory ∷ immediate ∷ []) ∷ []) = record { reserved = n; exchange = exchange; routing_key = key; mandatory = mandatory; immediate = immediate }
-publish_of _ = record { reserved = 0; exchange = []; routing_key = []; mandatory = false; immediate = false }
-
-abbrev ack_of : List Argument → Ack
-ack_of (Long_long tag ∷ Bits (multiple ∷ []) ∷ []) = record { delivery_tag = tag; multiple = multiple }
-ack_of _ = record { delivery_tag = 0; multiple = false }
-
-abbrev nack_of : List Argument → Nack
-nack_of (Long_long tag ∷ Bits (multiple ∷ requeue ∷ []) ∷ []) = record { delivery_tag = tag; multiple = multiple; requeue = requeue }
-nack_of _ = record { delivery_tag = 0; multiple = false; requeue = false }
-
-abbrev bit_of : List Argument → Bool
-bit_of (Bits (b ∷ []) ∷ []) = b
-bit_of _ = false
-
-abbrev rebuilt : Ids → List Argument → Method
-rebuilt i given =
-    if i.class == 10 then (if i.method == 50 then ConnectionClose (close_of given) else ConnectionCloseOk)
-    else if i.class == 20 then (if i.method == 40 then ChannelClose (close_of given) else ChannelCloseOk)
-    else if i.class == 60 then (if i.method == 40 then BasicPublish (publish_of given) else if i.method == 80 then BasicAck (ack_of given) else BasicNack (nack_of given))
-    else (if i.method == 10 then ConfirmSelect (bit_of given) else ConfirmSelectOk)
-
-rebuilt_same : (x : Method) → IsRead x → rebuilt (ids_of x) (arguments x) ≡ x
-rebuilt_same (ConnectionClose m) e = refl
-rebuilt_same ConnectionCloseOk e = refl
-rebuilt_same (ChannelClose m) e = refl
-rebuilt_same ChannelCloseOk e = refl
-rebuilt_same (BasicPublish m) e = refl
-rebuilt_same (BasicAck m) e = refl
-rebuilt_same (BasicNack m) e = refl
-rebuilt_same (ConfirmSelect no_wait) e = refl
-rebuilt_same ConfirmSelectOk e = refl
-rebuilt_same _ e = absurd (let h : false ≡ true = e in cc)
-
--- ---- the ids
+-- what is not read of a method is nothing
+bare : (x : Method) → is_unread (ids_of x).class (ids_of x).method ≡ true → arguments x ≡ []
+bare ExchangeDelete e = refl
+bare ExchangeBind e = refl
+bare ExchangeUnbind e = refl
+bare QueueBind e = refl
+bare QueueDelete e = refl
+bare QueueUnbind e = refl
+bare _ e = absurd (let h : false ≡ true = e in cc)
 
 record AreSmall (i : Ids) : Type 0 where
   class : i.class < 2 ^ 16
@@ -90,43 +45,113 @@ ids_fit : (x : Method) → AreSmall (ids_of x)
 ids_fit ConnectionCloseOk = record { class = omega arith; method = omega arith }
 ids_fit _ = record { class = omega arith; method = omega arith }
 
-either : (b : Bool) (xs ys : List Kind) → AllByRecursion IsKind xs → AllByRecursion IsKind ys → AllByRecursion IsKind (cond b xs ys)
+abbrev AreKinds : List Kind → Type 0
+AreKinds ks = AllByRecursion IsKind ks
+
+either : (b : Bool) (xs ys : List Kind) → AreKinds xs → AreKinds ys → AreKinds (cond b xs ys)
 either true xs ys p q = p
 either false xs ys p q = q
 
-kinds_fit : (c m : ℕ) → AllByRecursion IsKind (kinds_of c m)
+tag_fit : (n : ℕ) → n ≤ 8 → AreKinds (tag_kinds n)
+tag_fit n h = (tt, (h, tt))
+
+connection_fit : (m : ℕ) → AreKinds (connection_kinds m)
+connection_fit m =
+    either (m == 10) _ _ (tt, (tt, (tt, (tt, (tt, tt)))))
+    (either (m == 11) _ _ (tt, (tt, (tt, (tt, tt))))
+    (either (m == 30) _ _ (tt, (tt, (tt, tt)))
+    (either (m == 31) _ _ (tt, (tt, (tt, tt)))
+    (either (m == 40) _ _ (tt, (tt, (omega arith, tt)))
+    (either (m == 41) _ _ (tt, tt)
+    (either (m == 50) close_kinds [] (tt, (tt, (tt, (tt, tt)))) tt))))))
+
+channel_fit : (m : ℕ) → AreKinds (channel_kinds m)
+channel_fit m =
+    either (m == 10) _ _ (tt, tt)
+    (either (m == 11) _ _ (tt, tt)
+    (either (m == 20) _ _ (omega arith, tt)
+    (either (m == 21) _ _ (omega arith, tt)
+    (either (m == 40) close_kinds [] (tt, (tt, (tt, (tt, tt)))) tt))))
+
+exchange_fit : (m : ℕ) → AreKinds (exchange_kinds m)
+exchange_fit m = either (m == 10) declare_exchange_kinds [] (tt, (tt, (tt, (omega arith, (tt, tt))))) tt
+
+queue_fit : (m : ℕ) → AreKinds (queue_class_kinds m)
+queue_fit m =
+    either (m == 10) _ _ (tt, (tt, (omega arith, (tt, tt))))
+    (either (m == 11) _ _ (tt, (tt, (tt, tt)))
+    (either (m == 30) _ _ (tt, (tt, (omega arith, tt)))
+    (either (m == 31) _ [] (tt, tt) tt)))
+
+basic_fit : (m : ℕ) → AreKinds (basic_kinds m)
+basic_fit m =
+    either (m == 10) _ _ (tt, (tt, (omega arith, tt)))
+    (either (m == 20) _ _ (tt, (tt, (tt, (omega arith, (tt, tt)))))
+    (either (m == 21) _ _ (tt, tt)
+    (either (m == 30) _ _ (tt, (omega arith, tt))
+    (either (m == 31) _ _ (tt, tt)
+    (either (m == 40) _ _ (tt, (tt, (tt, (omega arith, tt))))
+    (either (m == 50) _ _ (tt, (tt, (tt, (tt, tt))))
+    (either (m == 60) _ _ (tt, (tt, (omega arith, (tt, (tt, tt)))))
+    (either (m == 70) _ _ (tt, (tt, (omega arith, tt)))
+    (either (m == 71) _ _ (tt, (omega arith, (tt, (tt, (tt, tt)))))
+    (either (m == 72) _ _ (tt, tt)
+    (either (m == 80) _ _ (tag_fit 1 (omega arith))
+    (either (m == 90) _ _ (tag_fit 1 (omega arith))
+    (either (m == 110) _ _ (omega arith, tt)
+    (either (m == 120) (tag_kinds 2) [] (tag_fit 2 (omega arith)) tt))))))))))))))
+
+confirm_fit : (m : ℕ) → AreKinds (confirm_kinds m)
+confirm_fit m = either (m == 10) _ [] (omega arith, tt) tt
+
+kinds_fit : (c m : ℕ) → AreKinds (kinds_of c m)
 kinds_fit c m =
-    either (c == 10) _ _ (either (m == 50) close_kinds [] (tt, (tt, (tt, (tt, tt)))) tt)
-    (either (c == 20) _ _ (either (m == 40) close_kinds [] (tt, (tt, (tt, (tt, tt)))) tt)
-    (either (c == 60) _ _ (either (m == 40) _ _ (tt, (tt, (tt, (omega arith, tt)))) (either (m == 80) _ _ (tt, (omega arith, tt)) (tt, (omega arith, tt))))
-    (either (c == 85) _ _ (either (m == 10) _ [] (omega arith, tt) tt) tt)))
+    either (c == 10) _ _ (connection_fit m)
+    (either (c == 20) _ _ (channel_fit m)
+    (either (c == 40) _ _ (exchange_fit m)
+    (either (c == 50) _ _ (queue_fit m)
+    (either (c == 60) _ _ (basic_fit m)
+    (either (c == 85) _ [] (confirm_fit m) tt)))))
 
 -- ---- what a payload says
 
--- a method that is spelled so has these arguments
+-- a method that is spelled so has these ids and arguments
 pub record Found (x : Method) (c m : ℕ) (rest : List ℕ) : Type 0 where
   pub ids_are : ids_of x ≡ ids c m
-  pub read : is_read c m ≡ true → arguments_at (kinds_of c m) rest ≡ Some (arguments x)
+  pub read : is_unread c m ≡ false → arguments_at (kinds_of c m) rest ≡ Some (arguments x)
 
-found : (payload rest : List ℕ) (c m : ℕ) (x : Method) → Starts payload c m rest → IsMethod x → payload ≡ method_bytes x → Found x c m rest
-found payload rest c m x starts fits e =
-    let small = ids_fit x in
-    let class : c ≡ (ids_of x).class = sym starts.class_is ∙ ap (λ (z : List ℕ). class_at z) e ∙ from_be_bytes-to_be_bytes_2 (ids_of x).class small.class in
-    let method : m ≡ (ids_of x).method = sym starts.method_is ∙ ap (λ (z : List ℕ). method_at z) e ∙ from_be_bytes-to_be_bytes_2 (ids_of x).method small.method in
-    let same : rest ≡ flat_map argument (arguments x) = sym (ap (λ (z : List ℕ). drop 4 z) starts.parts) ∙ ap (λ (z : List ℕ). drop 4 z) e in
+not_both : (b : Bool) → b ≡ true → b ≡ false → ⊥
+not_both b e f = let h : false ≡ true = sym f ∙ e in cc
+
+-- the ids at the front are those of the method
+front : (payload rest tail : List ℕ) (c m : ℕ) (x : Method) → Starts payload c m rest → payload ≡ method_bytes x ++ tail
+    → (c ≡ (ids_of x).class) × (m ≡ (ids_of x).method) × (rest ≡ flat_map argument (arguments x) ++ tail)
+front payload rest tail c m x starts e =
+    let small = ids_fit x in (
+      sym starts.class_is ∙ ap (λ (z : List ℕ). class_at z) e ∙ from_be_bytes-to_be_bytes_2 (ids_of x).class small.class,
+      sym starts.method_is ∙ ap (λ (z : List ℕ). method_at z) e ∙ from_be_bytes-to_be_bytes_2 (ids_of x).method small.method,
+      sym (ap (λ (z : List ℕ). drop 4 z) starts.parts) ∙ ap (λ (z : List ℕ). drop 4 z) e,
+    )
+
+found : (payload rest : List ℕ) (c m : ℕ) (x : Method) → Starts payload c m rest → IsMethod x → Spells payload x → Found x c m rest
+found payload rest c m x starts fits (exact e) =
+    let f = front payload rest [] c m x starts (e ∙ sym (append-nil (method_bytes x))) in
+    let same : rest ≡ flat_map argument (arguments x) = f.2 ∙ append-nil (flat_map argument (arguments x)) in
     record {
-      ids_are = sym (ap (λ (i : ℕ). ids i m) class ∙ ap (λ (i : ℕ). ids (ids_of x).class i) method);
+      ids_are = sym (ap (λ (i : ℕ). ids i m) f.0 ∙ ap (λ (i : ℕ). ids (ids_of x).class i) f.1);
       read = λ r.
-          let its : IsRead x = sym (ap (λ (i : ℕ). is_read i m) class ∙ ap (λ (i : ℕ). is_read (ids_of x).class i) method) ∙ r in
-          ap (λ (i : ℕ). arguments_at (kinds_of i m) rest) class
-          ∙ ap (λ (i : ℕ). arguments_at (kinds_of (ids_of x).class i) rest) method
-          ∙ ap (λ (ks : List Kind). arguments_at ks rest) (row x its).kinds
+          ap (λ (i : ℕ). arguments_at (kinds_of i m) rest) f.0
+          ∙ ap (λ (i : ℕ). arguments_at (kinds_of (ids_of x).class i) rest) f.1
+          ∙ ap (λ (ks : List Kind). arguments_at ks rest) (row x).kinds
           ∙ ap (λ (z : List ℕ). arguments_at (map kind_of (arguments x)) z) same
-          ∙ arguments_again (arguments x) fits;
+          ∙ arguments_again (arguments x) (all_sized (arguments x) fits);
     }
-
-none_or : {A : Type 0} (r : Option A) (x : A) → r ≡ None → r ≡ Some x → ⊥
-none_or r x e f = cc
+found payload rest c m x starts fits (any_rest tail u e) =
+    let f = front payload rest tail c m x starts e in
+    record {
+      ids_are = sym (ap (λ (i : ℕ). ids i m) f.0 ∙ ap (λ (i : ℕ). ids (ids_of x).class i) f.1);
+      read = λ r. absurd (not_both (is_unread c m) (ap (λ (i : ℕ). is_unread i m) f.0 ∙ ap (λ (i : ℕ). is_unread (ids_of x).class i) f.1 ∙ u) r);
+    }
 
 -- the facts of the ids of a payload are those of its class and method
 at_ids : (payload rest : List ℕ) (c m : ℕ) (F : ℕ → ℕ → Bool) (b : Bool) → Starts payload c m rest → F c m ≡ b → F (class_at payload) (method_at payload) ≡ b
@@ -135,56 +160,62 @@ at_ids payload rest c m F b starts e = ap (λ (i : ℕ). F i (method_at payload)
 refuses : (payload rest : List ℕ) (c m : ℕ) (r : Refusal) → Starts payload c m rest → Fails c m rest r → Refuses payload r
 refuses payload rest c m FrameError starts f = absurd f
 refuses payload rest c m SyntaxError starts f =
-    bad_arguments starts.long (at_ids payload rest c m is_read true starts f.0)
-    (λ x fits e. none_or (arguments_at (kinds_of c m) rest) (arguments x) f.1 ((found payload rest c m x starts fits e).read f.0))
+    bad_arguments starts.long (at_ids payload rest c m is_known true starts f.known)
+    (λ x fits s. f.lacks (arguments x) ((found payload rest c m x starts fits s).read f.read) (all_whole (arguments x) fits))
 refuses payload rest c m CommandInvalid starts f = unknown starts.long (at_ids payload rest c m is_known false starts f.0) (at_ids payload rest c m is_left_out false starts f.1)
-refuses payload rest c m NotImplemented starts f =
-    elim f [
-      | inl out ↦ left_out starts.long (at_ids payload rest c m is_left_out true starts out)
-      | inr both ↦ not_read starts.long (at_ids payload rest c m is_known true starts both.0) (at_ids payload rest c m is_read false starts both.1)
-    ]
+refuses payload rest c m NotImplemented starts f = left_out starts.long (at_ids payload rest c m is_left_out true starts f)
 refuses payload rest c m Memory starts f = tt
+
+-- the front of a payload, by the ids of a method
+its_front : (payload rest : List ℕ) (c m : ℕ) (x : Method) → Starts payload c m rest → ids_of x ≡ ids c m
+    → payload ≡ to_be_bytes w16 (ids_of x).class ++ to_be_bytes w16 (ids_of x).method ++ rest
+its_front payload rest c m x starts e =
+    starts.parts
+    ∙ ap (λ (i : ℕ). to_be_bytes w16 i ++ to_be_bytes w16 m ++ rest) (sym (ap (λ (i : Ids). i.class) e))
+    ∙ ap (λ (i : ℕ). to_be_bytes w16 (ids_of x).class ++ to_be_bytes w16 i ++ rest) (sym (ap (λ (i : Ids). i.method) e))
+
+-- a method whose arguments were read, or are not read
+said_read : (payload rest : List ℕ) (c m : ℕ) (x : Method) (b : Bool) → is_unread c m ≡ b → IsBytes payload → Starts payload c m rest → IsRead c m rest x → SaysMethod payload (Ok x)
+said_read payload rest c m x false u are starts reads =
+    let given = reads.given u in
+    let rest_fits : IsBytes rest = subst (λ (z : List ℕ). IsBytes z) (ap (λ (z : List ℕ). drop 4 z) starts.parts) (IsBytes-drop 4 payload are) in
+    let a = arguments_take (kinds_of c m) rest (arguments x) (kinds_fit c m) rest_fits given.0 in
+    said {m = x} (all_fit (arguments x) a.fit given.1)
+    (exact (its_front payload rest c m x starts reads.ids_are ∙ ap (λ (z : List ℕ). to_be_bytes w16 (ids_of x).class ++ to_be_bytes w16 (ids_of x).method ++ z) a.parts))
+said_read payload rest c m x true u are starts reads =
+    let mine : is_unread (ids_of x).class (ids_of x).method ≡ true = ap (λ (i : Ids). is_unread i.class i.method) reads.ids_are ∙ u in
+    let none : arguments x ≡ [] = bare x mine in
+    let fits : IsMethod x = subst (λ (z : List Argument). AllByRecursion IsArgument z) (sym none) tt in
+    let head : List ℕ = to_be_bytes w16 (ids_of x).class ++ to_be_bytes w16 (ids_of x).method in
+    let ends : method_bytes x ≡ head = ap (λ (z : List Argument). to_be_bytes w16 (ids_of x).class ++ to_be_bytes w16 (ids_of x).method ++ flat_map argument z) none ∙ append-nil head in
+    said {m = x} fits (any_rest rest mine (its_front payload rest c m x starts reads.ids_are ∙ ap (λ (z : List ℕ). z ++ rest) (sym ends)))
 
 pub tells : (payload rest : List ℕ) (c m : ℕ) (r : Result Method Refusal) → IsBytes payload → Starts payload c m rest → Reads c m rest r → Tells payload r
 tells payload rest c m (Err e) are starts reads = refuses payload rest c m e starts reads
-tells payload rest c m (Ok x) are starts reads =
-    let class : (ids_of x).class ≡ c = ap (λ (i : Ids). i.class) reads.0 in
-    let method : (ids_of x).method ≡ m = ap (λ (i : Ids). i.method) reads.0 in
-    let rest_fits : IsBytes rest = subst (λ (z : List ℕ). IsBytes z) (ap (λ (z : List ℕ). drop 4 z) starts.parts) (IsBytes-drop 4 payload are) in
-    let a = arguments_take (kinds_of c m) rest (arguments x) (kinds_fit c m) rest_fits reads.2 in
-    said {m = x} a.fit
-    (ap (λ (i : ℕ). is_read i (ids_of x).method) class ∙ ap (λ (i : ℕ). is_read c i) method ∙ reads.1)
-    (starts.parts
-    ∙ ap (λ (i : ℕ). to_be_bytes w16 i ++ to_be_bytes w16 m ++ rest) (sym class)
-    ∙ ap (λ (i : ℕ). to_be_bytes w16 (ids_of x).class ++ to_be_bytes w16 i ++ rest) (sym method)
-    ∙ ap (λ (z : List ℕ). to_be_bytes w16 (ids_of x).class ++ to_be_bytes w16 (ids_of x).method ++ z) a.parts)
-
-not_both : (b : Bool) → b ≡ true → b ≡ false → ⊥
-not_both b e f = let h : false ≡ true = sym f ∙ e in cc
+tells payload rest c m (Ok x) are starts reads = said_read payload rest c m x (is_unread c m) refl are starts reads
 
 same_some : {A : Type 0} (r : Option A) (x y : A) → r ≡ Some x → r ≡ Some y → x ≡ y
 same_some r x y e f = cc
 
-pub only : (payload rest : List ℕ) (c m : ℕ) (r : Result Method Refusal) (x : Method) → Starts payload c m rest → Reads c m rest r → IsMethod x → IsRead x → payload ≡ method_bytes x → IsMethodOr x r
-only payload rest c m r x starts reads fits its e = go r reads
+-- two methods of the same ids, with the same arguments or none that are read
+same_read : (rest : List ℕ) (c m : ℕ) (n x : Method) (b : Bool) → is_unread c m ≡ b → IsRead c m rest n → Found x c m rest → n ≡ x
+same_read rest c m n x false u reads f =
+    same_method n x (reads.ids_are ∙ sym f.ids_are) (same_some (arguments_at (kinds_of c m) rest) (arguments n) (arguments x) (reads.given u).0 (f.read u))
+same_read rest c m n x true u reads f =
+    let theirs : is_unread (ids_of n).class (ids_of n).method ≡ true = ap (λ (i : Ids). is_unread i.class i.method) reads.ids_are ∙ u in
+    let mine : is_unread (ids_of x).class (ids_of x).method ≡ true = ap (λ (i : Ids). is_unread i.class i.method) f.ids_are ∙ u in
+    same_method n x (reads.ids_are ∙ sym f.ids_are) (bare n theirs ∙ sym (bare x mine))
+
+pub only : (payload rest : List ℕ) (c m : ℕ) (r : Result Method Refusal) (x : Method) → Starts payload c m rest → Reads c m rest r → IsMethod x → Spells payload x → IsMethodOr x r
+only payload rest c m r x starts reads fits s = go r reads
   where
     f : Found x c m rest
-    f = found payload rest c m x starts fits e
-
-    here_read : is_read c m ≡ true
-    here_read = sym (ap (λ (i : Ids). is_read i.class i.method) f.ids_are) ∙ its
+    f = found payload rest c m x starts fits s
 
     go : (r : Result Method Refusal) → Reads c m rest r → IsMethodOr x r
-    go (Ok n) reads =
-        let same : arguments n ≡ arguments x = same_some (arguments_at (kinds_of c m) rest) (arguments n) (arguments x) reads.2 (f.read here_read) in
-        let ids_same : ids_of n ≡ ids_of x = reads.0 ∙ sym f.ids_are in
-        let theirs : IsRead n = ap (λ (i : Ids). is_read i.class i.method) ids_same ∙ its in
-        sym (rebuilt_same n theirs) ∙ ap (λ (i : Ids). rebuilt i (arguments n)) ids_same ∙ ap (λ (z : List Argument). rebuilt (ids_of x) z) same ∙ rebuilt_same x its
+    go (Ok n) reads = same_read rest c m n x (is_unread c m) refl reads f
     go (Err FrameError) reads = reads
-    go (Err SyntaxError) reads = none_or (arguments_at (kinds_of c m) rest) (arguments x) reads.1 (f.read here_read)
-    go (Err CommandInvalid) reads = not_both _ (sym (ap (λ (i : Ids). is_known i.class i.method) f.ids_are) ∙ (row x its).known) reads.0
-    go (Err NotImplemented) reads = elim reads [
-      | inl out ↦ not_both _ out (sym (ap (λ (i : Ids). is_left_out i.class i.method) f.ids_are) ∙ (row x its).built)
-      | inr both ↦ not_both _ here_read both.1
-    ]
+    go (Err SyntaxError) reads = reads.lacks (arguments x) (f.read reads.read) (all_whole (arguments x) fits)
+    go (Err CommandInvalid) reads = not_both _ (sym (ap (λ (i : Ids). is_known i.class i.method) f.ids_are) ∙ (row x).known) reads.0
+    go (Err NotImplemented) reads = not_both _ reads (sym (ap (λ (i : Ids). is_left_out i.class i.method) f.ids_are) ∙ (row x).built)
     go (Err Memory) reads = tt

@@ -1,3 +1,3 @@
-pub mod Arguments
+pub mod Kinds
 pub mod Reading
 pub mod Writing

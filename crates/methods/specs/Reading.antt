@@ -1,28 +1,14 @@
 -- What a reading of method payloads tells. Source: AMQP 0-9-1, section 4.2.4, "Method Payloads", and its XML.
-use Rattle.std.specs.Prelude.{◌≡◌, ◌≤◌, ◌<◌, ◌⊎◌, ◌==◌, ℕ, List, [], ◌∷◌, ◌++◌, length, true, false, if◌then◌else◌, Option, Some, None, Result, Ok, Err, ⊤}
+use Rattle.std.specs.Prelude.{◌≡◌, ◌≤◌, ℕ, List, ◌++◌, length, true, false, Option, Some, Result, Ok, Err, ⊤}
 use Rattle.std.specs.Int.{w16, to_be_bytes}
-use Rattle.model.specs.Grammar.{Argument, ids, ids_of, arguments, class_at, method_at, is_known, is_left_out, is_read, SaysMethod}
+use Rattle.std.specs.List.{AllByRecursion}
+use Rattle.model.specs.Tables.{IsTable}
+use Rattle.model.specs.Grammar.{Argument, ids, ids_of, arguments, class_at, method_at, is_known, is_left_out, is_unread, SaysMethod}
 use Rattle.model.specs.declared.methods.Method.{Method}
+use Rattle.field_table.specs.Arguments.{IsWhole, arguments_at}
 use Rattle.methods.specs.declared.refusals.Refusal.{Refusal}
 use Rattle.methods.specs.declared.refusals.Refusal.TheVariants.{FrameError, SyntaxError, CommandInvalid, NotImplemented, Memory}
-use Rattle.methods.specs.Arguments.{Kind, a_short, a_long_long, a_short_text, some_bits, arguments_at}
-
--- ---- the table
-
-abbrev pub close_kinds : List Kind
-close_kinds = a_short ∷ a_short_text ∷ a_short ∷ a_short ∷ []
-
--- the kinds of the arguments of each method that is read, by class and method
-abbrev pub kinds_of : ℕ → ℕ → List Kind
-kinds_of c m =
-    if c == 10 then (if m == 50 then close_kinds else [])
-    else if c == 20 then (if m == 40 then close_kinds else [])
-    else if c == 60 then
-    (if m == 40 then a_short ∷ a_short_text ∷ a_short_text ∷ some_bits 2 ∷ []
-    else if m == 80 then a_long_long ∷ some_bits 1 ∷ []
-    else a_long_long ∷ some_bits 2 ∷ [])
-    else if c == 85 then (if m == 10 then some_bits 1 ∷ [] else [])
-    else []
+use Rattle.methods.specs.Kinds.{kinds_of}
 
 -- ---- the answer
 
@@ -57,26 +43,58 @@ pub record Starts (payload : List ℕ) (class method : ℕ) (rest : List ℕ) : 
   pub method_is : method_at payload ≡ method
   pub parts : payload ≡ to_be_bytes w16 class ++ to_be_bytes w16 method ++ rest
 
--- what was read is these arguments, or there are none
+-- the tables among the arguments are tables
+abbrev pub AreWhole : List Argument → Type 0
+AreWhole given = AllByRecursion IsWhole given
+
+-- there are no arguments, or a table among them is none
+abbrev pub Lacks : Option (List Argument) → Type 0
+Lacks read = (given : List Argument) → read ≡ Some given → AreWhole given → ⊥
+
 abbrev pub Wants : Option (List Argument) → Refusal → Type 0
 Wants read FrameError = ⊥
-Wants read SyntaxError = read ≡ None
+Wants read SyntaxError = Lacks read
 Wants read CommandInvalid = ⊥
 Wants read NotImplemented = ⊥
 Wants read Memory = ⊤
 
+-- the pairs are no table, or memory was refused
+abbrev pub NoTable : List ℕ → Refusal → Type 0
+NoTable pairs FrameError = ⊥
+NoTable pairs SyntaxError = IsTable pairs → ⊥
+NoTable pairs CommandInvalid = ⊥
+NoTable pairs NotImplemented = ⊥
+NoTable pairs Memory = ⊤
+
+-- the table of these pairs, if they are pairs
+abbrev pub IsTableOr : List ℕ → Result (List ℕ) Refusal → Type 0
+IsTableOr pairs (Ok t) = (t ≡ pairs) × IsTable pairs
+IsTableOr pairs (Err e) = NoTable pairs e
+
+-- what was read is these arguments
 abbrev pub Gives : {X : Type 0} → (X → List Argument) → Result X Refusal → Option (List Argument) → Type 0
-Gives view (Ok x) read = read ≡ Some (view x)
+Gives view (Ok x) read = (read ≡ Some (view x)) × AreWhole (view x)
 Gives view (Err e) read = Wants read e
 
--- a method of this class and method with these arguments, or none has them
+-- a method of this class and method with these arguments
+pub record IsRead (c m : ℕ) (bytes : List ℕ) (x : Method) : Type 0 where
+  pub known : is_known c m ≡ true
+  pub ids_are : ids_of x ≡ ids c m
+  pub given : is_unread c m ≡ false → (arguments_at (kinds_of c m) bytes ≡ Some (arguments x)) × AreWhole (arguments x)
+
+-- a known method whose arguments are read, and are not there
+pub record IsWithout (c m : ℕ) (bytes : List ℕ) : Type 0 where
+  pub known : is_known c m ≡ true
+  pub read : is_unread c m ≡ false
+  pub lacks : Lacks (arguments_at (kinds_of c m) bytes)
+
 abbrev pub Fails : ℕ → ℕ → List ℕ → Refusal → Type 0
 Fails c m bytes FrameError = ⊥
-Fails c m bytes SyntaxError = (is_read c m ≡ true) × (arguments_at (kinds_of c m) bytes ≡ None)
+Fails c m bytes SyntaxError = IsWithout c m bytes
 Fails c m bytes CommandInvalid = (is_known c m ≡ false) × (is_left_out c m ≡ false)
-Fails c m bytes NotImplemented = (is_left_out c m ≡ true) ⊎ ((is_known c m ≡ true) × (is_read c m ≡ false))
+Fails c m bytes NotImplemented = is_left_out c m ≡ true
 Fails c m bytes Memory = ⊤
 
 abbrev pub Reads : ℕ → ℕ → List ℕ → Result Method Refusal → Type 0
-Reads c m bytes (Ok x) = (ids_of x ≡ ids c m) × (is_read c m ≡ true) × (arguments_at (kinds_of c m) bytes ≡ Some (arguments x))
+Reads c m bytes (Ok x) = IsRead c m bytes x
 Reads c m bytes (Err e) = Fails c m bytes e

@@ -1,44 +1,54 @@
 -- Methods as they are written. Source: AMQP 0-9-1, section 4.2.4, "Method Payloads", and its XML.
-use Rattle.std.specs.Prelude.{◌≡◌, ◌<◌, ◌+◌, ◌^◌, ℕ, List, [], ◌∷◌, ◌++◌, length, Bool, true, false, Result, Ok, Err, ⊤}
+use Rattle.std.specs.Prelude.{◌≡◌, ◌<◌, ◌^◌, ℕ, List, [], ◌∷◌, ◌++◌, length, Option, Some, None, ⊤}
 use Rattle.std.specs.Int.{w16, to_be_bytes}
-use Rattle.model.specs.Grammar.{Argument, Short, Long, Long_long, Short_text, Long_text, Bits, argument, arguments, ids_of, method_bytes, IsMethod}
+use Rattle.model.specs.Tables.{IsTable}
+use Rattle.model.specs.Grammar.{Argument, Octet, Short, Long, Long_long, Short_text, Long_text, Field_table, Bits, argument, arguments, ids_of, method_bytes, IsMethod}
 use Rattle.model.specs.declared.methods.Method.{Method}
-use Rattle.model.specs.declared.methods.Method.TheVariants.{ConnectionStart, ConnectionStartOk, ExchangeDeclare, QueueDeclare, BasicConsume}
 use Rattle.methods.specs.declared.pieces.Piece.{Piece}
 use Rattle.methods.specs.declared.pieces.Piece.TheVariants as pieces
 use Rattle.methods.specs.declared.pieces.Line.{Line}
 use Rattle.methods.specs.declared.pieces.WriteError.{WriteError}
-use Rattle.methods.specs.declared.pieces.WriteError.TheVariants.{SyntaxError, NotImplemented, Memory}
+use Rattle.methods.specs.declared.pieces.WriteError.TheVariants.{SyntaxError, Memory}
 
 -- the piece before these arguments
 abbrev pub onto : Piece → List Argument → List Argument
 onto pieces.Nothing others = others
+onto (pieces.Octet n) others = Octet n ∷ others
 onto (pieces.Short n) others = Short n ∷ others
 onto (pieces.Long n) others = Long n ∷ others
 onto (pieces.LongLong n) others = Long_long n ∷ others
 onto (pieces.ShortText t) others = Short_text t.now ∷ others
 onto (pieces.LongText t) others = Long_text t.now ∷ others
+onto (pieces.Pairs t) others = Field_table t.now ∷ others
 onto (pieces.Bit b) others = Bits (b ∷ []) ∷ others
 onto (pieces.TwoBits a b) others = Bits (a ∷ b ∷ []) ∷ others
+onto (pieces.FourBits a b c d) others = Bits (a ∷ b ∷ c ∷ d ∷ []) ∷ others
+onto (pieces.FiveBits a b c d e) others = Bits (a ∷ b ∷ c ∷ d ∷ e ∷ []) ∷ others
 
 -- how a piece is spelled
 abbrev pub piece_bytes : Piece → List ℕ
 piece_bytes pieces.Nothing = []
+piece_bytes (pieces.Octet n) = argument (Octet n)
 piece_bytes (pieces.Short n) = argument (Short n)
 piece_bytes (pieces.Long n) = argument (Long n)
 piece_bytes (pieces.LongLong n) = argument (Long_long n)
 piece_bytes (pieces.ShortText t) = argument (Short_text t.now)
 piece_bytes (pieces.LongText t) = argument (Long_text t.now)
+piece_bytes (pieces.Pairs t) = argument (Field_table t.now)
 piece_bytes (pieces.Bit b) = argument (Bits (b ∷ []))
 piece_bytes (pieces.TwoBits a b) = argument (Bits (a ∷ b ∷ []))
+piece_bytes (pieces.FourBits a b c d) = argument (Bits (a ∷ b ∷ c ∷ d ∷ []))
+piece_bytes (pieces.FiveBits a b c d e) = argument (Bits (a ∷ b ∷ c ∷ d ∷ e ∷ []))
 
 -- a piece that has a spelling
 abbrev pub IsPiece : Piece → Type 0
+IsPiece (pieces.Octet n) = n < 2 ^ 8
 IsPiece (pieces.Short n) = n < 2 ^ 16
 IsPiece (pieces.Long n) = n < 2 ^ 32
 IsPiece (pieces.LongLong n) = n < 2 ^ 64
 IsPiece (pieces.ShortText t) = length t.now < 256
 IsPiece (pieces.LongText t) = length t.now < 2 ^ 32
+IsPiece (pieces.Pairs t) = IsTable t.now
 IsPiece _ = ⊤
 
 -- what a method is, apart from its name
@@ -67,33 +77,12 @@ pub record IsLine (l : Line) : Type 0 where
   pub fourth : IsPiece l.fourth
   pub fifth : IsPiece l.fifth
 
--- the methods with a field table, which are not written yet
-abbrev pub has_table : Method → Bool
-has_table (ConnectionStart m) = true
-has_table (ConnectionStartOk m) = true
-has_table (ExchangeDeclare m) = true
-has_table (QueueDeclare m) = true
-has_table (BasicConsume m) = true
-has_table _ = false
-
--- a method that can be written
-pub record IsWritten (m : Method) : Type 0 where
-  pub fits : IsMethod m
-  pub built : has_table m ≡ false
-
 -- the method is not written for this reason, or memory was refused
 abbrev pub Refused : Method → WriteError → Type 0
 Refused m SyntaxError = IsMethod m → ⊥
-Refused m NotImplemented = has_table m ≡ true
 Refused m Memory = ⊤
 
--- the method is not written for this reason, which is not want of memory
-abbrev pub Barred : Method → WriteError → Type 0
-Barred m SyntaxError = IsMethod m → ⊥
-Barred m NotImplemented = has_table m ≡ true
-Barred m Memory = ⊥
-
--- the answer is so many bytes, or why there are none
-abbrev pub Counts : Method → Result ℕ WriteError → Type 0
-Counts m (Ok n) = IsWritten m × (n ≡ length (method_bytes m))
-Counts m (Err e) = Barred m e
+-- the answer is so many bytes, or the method has no spelling
+abbrev pub Counts : Method → Option ℕ → Type 0
+Counts m (Some n) = IsMethod m × (n ≡ length (method_bytes m))
+Counts m None = IsMethod m → ⊥

@@ -5,13 +5,14 @@
 //! Source: AMQP 0-9-1, section 4.2.4, "Method Payloads", section 4.2.5, "Data Types", and its XML.
 #![tactic(auto)]
 
+mod classes;
+mod fields;
+mod known;
 mod lines;
 mod pieces;
 mod putting;
 mod reading;
 mod refusals;
-mod tables;
-mod takes;
 mod writing;
 
 pub use pieces::WriteError;

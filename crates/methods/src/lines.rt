@@ -1,17 +1,34 @@
 //! Each method as it is written.
 
-ghost use Rattle.std.specs.Prelude.{◌≡◌, true, false, MatchOption};
+ghost use Rattle.std.specs.Prelude.{◌≡◌};
 ghost use Rattle.methods.specs.declared.pieces.Piece.TheVariants.{Nothing};
-ghost use Rattle.methods.specs.Writing.{has_table, row_in, row_of};
+ghost use Rattle.methods.specs.Writing.{row_in, row_of};
 
 use crate::pieces::{Line, Piece};
 use model::Method;
 
-/// The method's ids and arguments, unless it has a field table.
-pub fn line_of(m: &Method) -> Option<Line<'_>>
-    ensures { MatchOption result (has_table m.now ≡ true) (λ l. (has_table m.now ≡ false) × (row_in l ≡ row_of m.now)) }
+/// The method's ids and arguments.
+pub fn line_of(m: &Method) -> Line<'_>
+    ensures { row_in result ≡ row_of m.now }
 {
-    let line = match m {
+    match m {
+        Method::ConnectionStart(s) => five(
+            10,
+            10,
+            Piece::Octet(s.version_major),
+            Piece::Octet(s.version_minor),
+            Piece::Pairs(&s.server_properties),
+            Piece::LongText(&s.mechanisms),
+            Piece::LongText(&s.locales),
+        ),
+        Method::ConnectionStartOk(s) => four(
+            10,
+            11,
+            Piece::Pairs(&s.client_properties),
+            Piece::ShortText(&s.mechanism),
+            Piece::LongText(&s.response),
+            Piece::ShortText(&s.locale),
+        ),
         Method::ConnectionTune(t) => three(
             10,
             30,
@@ -56,10 +73,27 @@ pub fn line_of(m: &Method) -> Option<Line<'_>>
             Piece::Short(c.method_id),
         ),
         Method::ChannelCloseOk => bare(20, 41),
+        Method::ExchangeDeclare(d) => five(
+            40,
+            10,
+            Piece::Short(d.reserved),
+            Piece::ShortText(&d.exchange),
+            Piece::ShortText(&d.kind),
+            Piece::FiveBits(d.passive, d.durable, d.auto_delete, d.internal, d.no_wait),
+            Piece::Pairs(&d.arguments),
+        ),
         Method::ExchangeDeclareOk => bare(40, 11),
         Method::ExchangeDelete => bare(40, 20),
         Method::ExchangeBind => bare(40, 30),
         Method::ExchangeUnbind => bare(40, 40),
+        Method::QueueDeclare(d) => four(
+            50,
+            10,
+            Piece::Short(d.reserved),
+            Piece::ShortText(&d.queue),
+            Piece::FiveBits(d.passive, d.durable, d.exclusive, d.auto_delete, d.no_wait),
+            Piece::Pairs(&d.arguments),
+        ),
         Method::QueueDeclareOk(d) => three(
             50,
             11,
@@ -86,6 +120,15 @@ pub fn line_of(m: &Method) -> Option<Line<'_>>
             Piece::Bit(q.global),
         ),
         Method::BasicQosOk => bare(60, 11),
+        Method::BasicConsume(c) => five(
+            60,
+            20,
+            Piece::Short(c.reserved),
+            Piece::ShortText(&c.queue),
+            Piece::ShortText(&c.consumer_tag),
+            Piece::FourBits(c.no_local, c.no_ack, c.exclusive, c.no_wait),
+            Piece::Pairs(&c.arguments),
+        ),
         Method::BasicConsumeOk { consumer_tag } => one(60, 21, Piece::ShortText(consumer_tag)),
         Method::BasicCancel(c) => two(
             60,
@@ -158,13 +201,7 @@ pub fn line_of(m: &Method) -> Option<Line<'_>>
         ),
         Method::ConfirmSelect { no_wait } => one(85, 10, Piece::Bit(*no_wait)),
         Method::ConfirmSelectOk => bare(85, 11),
-        Method::ConnectionStart(_) => return None,
-        Method::ConnectionStartOk(_) => return None,
-        Method::ExchangeDeclare(_) => return None,
-        Method::QueueDeclare(_) => return None,
-        Method::BasicConsume(_) => return None,
-    };
-    Some(line)
+    }
 }
 
 fn bare<'a>(class: u16, method: u16) -> Line<'a>

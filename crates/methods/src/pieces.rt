@@ -1,18 +1,22 @@
 //! Arguments as they are written.
 
-use model::Text;
+use model::{Table, Text};
 
 /// An argument, or none.
 #[derive(Clone, Copy, Drop)]
 pub enum Piece<'a> {
     Nothing,
+    Octet(u8),
     Short(u16),
     Long(u32),
     LongLong(u64),
     ShortText(&'a Text),
     LongText(&'a Text),
+    Pairs(&'a Table),
     Bit(bool),
     TwoBits(bool, bool),
+    FourBits(bool, bool, bool, bool),
+    FiveBits(bool, bool, bool, bool, bool),
 }
 
 /// A method as it is written: class, method, and at most five arguments.
@@ -30,10 +34,8 @@ pub struct Line<'a> {
 /// Why no method was written.
 #[derive(Clone, Copy, PartialEq, Eq, Debug, Drop)]
 pub enum WriteError {
-    /// A text is too long to have a spelling. Reply code 502, syntax-error.
+    /// The method has no spelling: a text is too long, or a table is none. Reply code 502, syntax-error.
     SyntaxError,
-    /// The method has a field table, which is not written yet. Reply code 540, not-implemented.
-    NotImplemented,
     /// Memory was refused.
     Memory,
 }

@@ -1,9 +1,11 @@
 //! Lines are measured and put behind bytes.
 
-ghost use Rattle.std.specs.Prelude.{◌≡◌, ◌+◌, ◌≤◌, ◌<◌, ◌^◌, ◌++◌, length, vec_len, vec_capacity, MatchOption, IfSome};
+ghost use Rattle.std.specs.Prelude.{◌≡◌, ◌+◌, ◌≤◌, ◌<◌, ◌^◌, [], ◌∷◌, ◌++◌, length, vec_len, vec_capacity, MatchOption, IfSome};
+ghost use Rattle.model.specs.Grammar.{octet as octet_of};
 ghost use Rattle.methods.specs.Writing.{piece_bytes, IsPiece, IsLine, spelled};
 
 use crate::pieces::{Line, Piece};
+use field_table::{is_table, put_bytes};
 
 /// How many bytes a line has, with its ids, if its texts are not too long.
 pub fn line_len(line: &Line<'_>) -> Option<usize>
@@ -24,6 +26,10 @@ fn piece_len(piece: &Piece<'_>) -> Option<usize>
 {
     match piece {
         Piece::Nothing => Some(0),
+        Piece::Octet(n) => {
+            let _n = *n;
+            Some(1)
+        }
         Piece::Short(n) => {
             let _n = *n;
             Some(2)
@@ -50,8 +56,17 @@ fn piece_len(piece: &Piece<'_>) -> Option<usize>
                 None
             }
         }
+        Piece::Pairs(t) => {
+            if is_table(t.as_bytes()) {
+                Some(4 + t.len())
+            } else {
+                None
+            }
+        }
         Piece::Bit(_) => Some(1),
         Piece::TwoBits(_, _) => Some(1),
+        Piece::FourBits(_, _, _, _) => Some(1),
+        Piece::FiveBits(_, _, _, _, _) => Some(1),
     }
 }
 
@@ -81,6 +96,7 @@ fn put_piece(out: &mut Vec<u8>, piece: &Piece<'_>)
 {
     match piece {
         Piece::Nothing => {}
+        Piece::Octet(n) => put_bytes(out, &[*n]),
         Piece::Short(n) => put_bytes(out, &n.to_be_bytes()),
         Piece::Long(n) => put_bytes(out, &n.to_be_bytes()),
         Piece::LongLong(n) => put_bytes(out, &n.to_be_bytes()),
@@ -92,20 +108,20 @@ fn put_piece(out: &mut Vec<u8>, piece: &Piece<'_>)
             put_bytes(out, &(t.len() as u32).to_be_bytes());
             put_bytes(out, t.as_bytes());
         }
+        Piece::Pairs(t) => {
+            put_bytes(out, &(t.len() as u32).to_be_bytes());
+            put_bytes(out, t.as_bytes());
+        }
         Piece::Bit(b) => put_bytes(out, &[*b as u8]),
-        Piece::TwoBits(a, b) => put_bytes(out, &[*a as u8 + 2 * (*b as u8)]),
+        Piece::TwoBits(a, b) => put_bytes(out, &[octet(*a, *b, false, false, false)]),
+        Piece::FourBits(a, b, c, d) => put_bytes(out, &[octet(*a, *b, *c, *d, false)]),
+        Piece::FiveBits(a, b, c, d, e) => put_bytes(out, &[octet(*a, *b, *c, *d, *e)]),
     }
 }
 
-// Appends bytes for which there is room.
-fn put_bytes(out: &mut Vec<u8>, bytes: &[u8])
-    requires { vec_len out.old + length bytes.now ≤ vec_capacity out.old }
-    ensures items { out.new.items ≡ out.old.items ++ bytes.now }
-    ensures len { vec_len out.new ≡ vec_len out.old + length bytes.now }
-    ensures capacity { vec_capacity out.old ≤ vec_capacity out.new }
+// The octet of these bits, the first the lowest.
+fn octet(a: bool, b: bool, c: bool, d: bool, e: bool) -> u8
+    ensures { result ≡ octet_of (a ∷ b ∷ c ∷ d ∷ e ∷ []) }
 {
-    match out.extend_from_slice(bytes) {
-        Ok(()) => {}
-        Err(_) => unreachable!(),
-    }
+    a as u8 + 2 * (b as u8) + 4 * (c as u8) + 8 * (d as u8) + 16 * (e as u8)
 }

@@ -10,11 +10,12 @@ use std::alloc::AllocError;
 pub enum Refusal {
     /// The payload is too short for class and method. Reply code 501, frame-error.
     FrameError,
-    /// The arguments end early, leave bytes over, or set a bit that no argument has. Reply code 502, syntax-error.
+    /// The arguments end early, leave bytes over, set a bit that no argument has, or hold a table that is none. Reply
+    /// code 502, syntax-error.
     SyntaxError,
     /// No method has this class and method. Reply code 503, command-invalid.
     CommandInvalid,
-    /// The method is not built. Reply code 540, not-implemented.
+    /// The method is left out: class tx, or basic.recover-async. Reply code 540, not-implemented.
     NotImplemented,
     /// Memory was refused.
     Memory,

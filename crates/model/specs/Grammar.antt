@@ -3,6 +3,7 @@ use Rattle.std.specs.Prelude.{◌≡◌, ◌<◌, ◌≤◌, ◌+◌, ◌*◌, �
 use Rattle.std.specs.Int.{w16, w32, w64, to_be_bytes, from_be_bytes}
 use Rattle.std.specs.List.{AllByRecursion, list_any}
 use Rattle.model.specs.Words.{Text}
+use Rattle.model.specs.Tables.{IsTable}
 use Rattle.model.specs.declared.methods.Method.{Method}
 use Rattle.model.specs.declared.methods.Method.TheVariants.{ConnectionStart, ConnectionStartOk, ConnectionTune, ConnectionTuneOk, ConnectionOpen, ConnectionOpenOk, ConnectionClose, ConnectionCloseOk, ChannelOpen, ChannelOpenOk, ChannelFlow, ChannelFlowOk, ChannelClose, ChannelCloseOk, ExchangeDeclare, ExchangeDeclareOk, ExchangeDelete, ExchangeBind, ExchangeUnbind, QueueDeclare, QueueDeclareOk, QueueBind, QueuePurge, QueuePurgeOk, QueueDelete, QueueUnbind, BasicQos, BasicQosOk, BasicConsume, BasicConsumeOk, BasicCancel, BasicCancelOk, BasicPublish, BasicReturn, BasicDeliver, BasicGet, BasicGetOk, BasicGetEmpty, BasicAck, BasicReject, BasicRecover, BasicRecoverOk, BasicNack, ConfirmSelect, ConfirmSelectOk}
 
@@ -43,7 +44,7 @@ IsArgument (Long n) = n < 2 ^ 32
 IsArgument (Long_long n) = n < 2 ^ 64
 IsArgument (Short_text t) = length t < 256
 IsArgument (Long_text t) = length t < 2 ^ 32
-IsArgument (Field_table pairs) = length pairs < 2 ^ 32
+IsArgument (Field_table pairs) = IsTable pairs
 IsArgument (Bits bs) = length bs ≤ 8
 
 -- ---- the table of methods
@@ -182,21 +183,23 @@ is_known c m =
 abbrev pub is_left_out : ℕ → ℕ → Bool
 is_left_out c m = (c == 90) || ((c == 60) && (m == 100))
 
--- the methods that are read so far; the others of the table are refused as not implemented until they are
-abbrev pub is_read : ℕ → ℕ → Bool
-is_read c m =
-    if c == 10 then list_any (λ n. m == n) (50 ∷ 51 ∷ [])
-    else if c == 20 then list_any (λ n. m == n) (40 ∷ 41 ∷ [])
-    else if c == 60 then list_any (λ n. m == n) (40 ∷ 80 ∷ 120 ∷ [])
-    else if c == 85 then list_any (λ n. m == n) (10 ∷ 11 ∷ [])
+-- the methods that declare, bind and delete for a client, which are refused: they are known by their ids, and their arguments are not read (own)
+abbrev pub is_unread : ℕ → ℕ → Bool
+is_unread c m =
+    if c == 40 then list_any (λ n. m == n) (20 ∷ 30 ∷ 40 ∷ [])
+    else if c == 50 then list_any (λ n. m == n) (20 ∷ 40 ∷ 50 ∷ [])
     else false
+
+-- the payload spells the method; where arguments are not read, any bytes stand in their place
+pub data Spells (payload : List ℕ) (m : Method) : Type 0 where
+  exact : payload ≡ method_bytes m → Spells payload m
+  any_rest : (rest : List ℕ) → is_unread (ids_of m).class (ids_of m).method ≡ true → payload ≡ method_bytes m ++ rest → Spells payload m
 
 -- The payload of a method frame is this method, or refused by this reply code: 501 frame-error, 503 command-invalid, 540 not-implemented, 502 syntax-error.
 pub data SaysMethod (payload : List ℕ) : Result Method ℕ → Type 0 where
-  said : {m : Method} → IsMethod m → is_read (ids_of m).class (ids_of m).method ≡ true → payload ≡ method_bytes m → SaysMethod payload (Ok m)
+  said : {m : Method} → IsMethod m → Spells payload m → SaysMethod payload (Ok m)
   too_short : length payload < 4 → SaysMethod payload (Err 501)
   unknown : 4 ≤ length payload → is_known (class_at payload) (method_at payload) ≡ false → is_left_out (class_at payload) (method_at payload) ≡ false → SaysMethod payload (Err 503)
   left_out : 4 ≤ length payload → is_left_out (class_at payload) (method_at payload) ≡ true → SaysMethod payload (Err 540)
-  not_read : 4 ≤ length payload → is_known (class_at payload) (method_at payload) ≡ true → is_read (class_at payload) (method_at payload) ≡ false → SaysMethod payload (Err 540)
-  bad_arguments : 4 ≤ length payload → is_read (class_at payload) (method_at payload) ≡ true
-      → ((m : Method) → IsMethod m → payload ≡ method_bytes m → ⊥) → SaysMethod payload (Err 502)
+  bad_arguments : 4 ≤ length payload → is_known (class_at payload) (method_at payload) ≡ true
+      → ((m : Method) → IsMethod m → Spells payload m → ⊥) → SaysMethod payload (Err 502)

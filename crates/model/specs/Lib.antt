@@ -1,4 +1,5 @@
 pub mod Words
+pub mod Tables
 pub mod Topology
 pub mod Routing
 pub mod Guarantee

@@ -1,6 +1,6 @@
 //! Field tables, as the bytes of their pairs.
 
-ghost use Rattle.std.specs.Prelude.{◌≡◌, [], IfOk};
+ghost use Rattle.std.specs.Prelude.{◌≡◌, [], length, IfOk};
 
 use crate::texts::Text;
 use std::alloc::AllocError;
@@ -30,6 +30,27 @@ impl Table {
         Table {
             pairs: Text::empty(),
         }
+    }
+
+    /// The table of these pairs, which may be any bytes: what spells no pairs is no table on the wire.
+    pub fn from_pairs(pairs: Text) -> Table
+        ensures { result ≡ pairs }
+    {
+        Table { pairs }
+    }
+
+    /// The bytes of the pairs.
+    pub fn as_bytes(&self) -> &[u8]
+        ensures { result.now ≡ self.now }
+    {
+        self.pairs.as_bytes()
+    }
+
+    /// How many bytes the pairs have.
+    pub fn len(&self) -> usize
+        ensures { result ≡ length self.now }
+    {
+        self.pairs.len()
     }
 
     /// The same table, sharing its bytes.

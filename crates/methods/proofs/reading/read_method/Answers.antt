@@ -10,4 +10,4 @@ pub returns-in-Some-clause-tells : goal.returns-in-Some-clause-tells
 returns-in-Some-clause-tells c = tells c.args.payload.now _ _ _ c.with_ids.result (λ i. (c.type_inv.payload i).fits) c.in-Some.ensures c.with_ids.ensures
 
 pub returns-in-Some-clause-only : goal.returns-in-Some-clause-only
-returns-in-Some-clause-only c = λ m fits its e. only c.args.payload.now _ _ _ c.with_ids.result m c.in-Some.ensures c.with_ids.ensures fits its e
+returns-in-Some-clause-only c = λ m fits s. only c.args.payload.now _ _ _ c.with_ids.result m c.in-Some.ensures c.with_ids.ensures fits s

@@ -1,0 +1,5 @@
+pub mod Exactly
+pub mod Letters
+pub mod Alone
+pub mod Firsts
+pub mod Views

@@ -1,0 +1,5 @@
+use Rattle.model.specs.Grammar.{Long_text}
+use Rattle.field_table.proofs.takes.long_text_at.Goals as goal
+
+pub returns : goal.returns
+returns c = c.sized_at.ensures Long_text

@@ -1,0 +1,25 @@
+-- What a reading or a writing of tables answers.
+use Rattle.std.specs.Prelude.{◌≡◌, ℕ, List, Result, Ok, Err}
+use Rattle.model.specs.Tables.{Pairs, table_bytes, HasSpelling}
+use Rattle.field_table.specs.declared.refusals.Refusal.{Refusal}
+use Rattle.field_table.specs.declared.refusals.Refusal.TheVariants.{SyntaxError, Memory}
+
+-- refused for this reason; nothing is owed where memory was refused
+abbrev pub Refused : Refusal → Type 0 → Type 0
+Refused SyntaxError why = why
+Refused Memory why = Unit {0}
+
+abbrev pub Answers : {X : Type 0} → Result X Refusal → (X → Type 0) → Type 0 → Type 0
+Answers (Ok x) Found why = Found x
+Answers (Err e) Found why = Refused e why
+
+-- the bytes are the length and the pairs of this table
+pub record Spells (bytes : List ℕ) (ps : Pairs) : Type 0 where
+  pub fits : HasSpelling ps
+  pub parts : bytes ≡ table_bytes ps
+
+-- the answer is this, or memory was refused
+abbrev pub IsOr : {X : Type 0} → Result X Refusal → (X → Type 0) → Type 0
+IsOr (Ok x) Is = Is x
+IsOr (Err SyntaxError) Is = ⊥
+IsOr (Err Memory) Is = Unit {0}

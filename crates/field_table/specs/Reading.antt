@@ -1,0 +1,55 @@
+-- What stands at the front of bytes, and what whole bytes are. Source: AMQP 0-9-1, section 4.2.5.5, "Field Tables".
+use Rattle.std.specs.Prelude.{◌≡◌, ◌<◌, ◌≤◌, ◌-◌, ℕ, List, ◌∷◌, ◌++◌, length}
+use Rattle.model.specs.Words.{Text}
+use Rattle.model.specs.Tables.{Value, Values, Pairs, letter, content, values_bytes, pairs_bytes, IsValue, AreValues, ArePairs}
+use Rattle.std.specs.List.{AllByRecursion}
+use Rattle.field_table.specs.Arguments.{IsSized}
+use Rattle.field_table.specs.Leaves.{seen}
+use Rattle.field_table.specs.Values.{unread_of, contents_of}
+use Rattle.field_table.specs.declared.leaves.Leaf.{Leaf}
+use Rattle.field_table.specs.declared.leaves.Leaf.TheVariants as leaves
+
+-- this value stands at the front, where arrays and tables may stand inside one another so many levels deep
+pub record IsFirst (depth : ℕ) (bytes : List ℕ) (v : Value) (rest : List ℕ) : Type 0 where
+  pub fits : IsValue depth v
+  pub parts : bytes ≡ letter v ∷ content v ++ rest
+
+abbrev pub HasNone : ℕ → List ℕ → Type 0
+HasNone depth bytes = (v : Value) (rest : List ℕ) → IsFirst depth bytes v rest → ⊥
+
+-- this name and this value stand at the front
+pub record IsFirstPair (depth : ℕ) (bytes : List ℕ) (name : Text) (v : Value) (rest : List ℕ) : Type 0 where
+  pub short : length name < 256
+  pub fits : IsValue depth v
+  pub parts : bytes ≡ (length name ∷ name) ++ (letter v ∷ content v ++ rest)
+
+abbrev pub HasNoPair : ℕ → List ℕ → Type 0
+HasNoPair depth bytes = (name : Text) (v : Value) (rest : List ℕ) → IsFirstPair depth bytes name v rest → ⊥
+
+-- the bytes are these values
+pub record SpellsValues (depth : ℕ) (bytes : List ℕ) (vs : Values) : Type 0 where
+  pub fits : AreValues depth vs
+  pub parts : bytes ≡ values_bytes vs
+
+-- the bytes are these pairs
+pub record SpellsPairs (depth : ℕ) (bytes : List ℕ) (ps : Pairs) : Type 0 where
+  pub fits : ArePairs depth ps
+  pub parts : bytes ≡ pairs_bytes ps
+
+-- the bytes are values, or pairs
+abbrev pub HasValues : ℕ → List ℕ → Type 0
+HasValues depth bytes = (vs : Values) × SpellsValues depth bytes vs
+
+abbrev pub HasPairs : ℕ → List ℕ → Type 0
+HasPairs depth bytes = (ps : Pairs) × SpellsPairs depth bytes ps
+
+-- what an array or a table holds is values, or pairs, one level deeper
+abbrev pub Holds : ℕ → Leaf → Type 0
+Holds depth (leaves.Array body) = (1 ≤ depth) × HasValues (depth - 1) body.now
+Holds depth (leaves.Table body) = (1 ≤ depth) × HasPairs (depth - 1) body.now
+Holds depth _ = Unit {0}
+
+-- what is read of the value is the leaf, and it fits where its numbers do
+pub record Means (depth : ℕ) (leaf : Leaf) (v : Value) : Type 0 where
+  pub read : seen leaf ≡ unread_of v
+  pub fits : AllByRecursion IsSized (contents_of v) → IsValue depth v

@@ -1,0 +1,68 @@
+-- The table or value that a `Table` or a `Field` stands for.
+use Rattle.std.specs.Prelude.{List, [], ◌∷◌, map}
+use Rattle.model.specs.Words.{Text}
+use Rattle.model.specs.Tables.{Value, Values, Pairs, Truth, Byte, Short, Long, Long_long, Float, Double, Decimal, Long_string, Field_array, Timestamp, Inner_table, Byte_array, Void, no_values, value, no_pairs, pair}
+use Rattle.field_table.specs.declared.fields.Field.{Field, fold-Field}
+use Rattle.field_table.specs.declared.fields.Field.TheOpen as fields
+use Rattle.field_table.specs.declared.fields.Entry.{Entry, fold-Entry}
+use Rattle.field_table.specs.declared.fields.Table.{Table, fold-Table}
+
+-- a name and its value
+pub record Named : Type 0 where
+  pub name : Text
+  pub value : Value
+
+-- these values, and then those
+abbrev pub values_then : List Value → Values → Values
+values_then [] vs = vs
+values_then (x ∷ xs) vs = value x (values_then xs vs)
+
+-- these pairs, and then those
+abbrev pub pairs_then : List Named → Pairs → Pairs
+pairs_then [] ps = ps
+pairs_then (x ∷ xs) ps = pair x.name x.value (pairs_then xs ps)
+
+-- one level, with each value inside already seen
+abbrev pub field_step : fields.Field-F Value Named Pairs → Value
+field_step (fields.Truth b) = Truth b
+field_step (fields.Byte n) = Byte n
+field_step (fields.Short n) = Short n
+field_step (fields.Long n) = Long n
+field_step (fields.LongLong n) = Long_long n
+field_step (fields.Float n) = Float n
+field_step (fields.Double n) = Double n
+field_step (fields.Decimal scale digits) = Decimal scale digits
+field_step (fields.Text t) = Long_string t
+field_step (fields.Array v) = Field_array (values_then v.items no_values)
+field_step (fields.Timestamp n) = Timestamp n
+field_step (fields.Table t) = Inner_table t
+field_step (fields.Bytes t) = Byte_array t
+field_step fields.Void = Void
+
+abbrev pub entry_step : fields.Entry-F Value Named Pairs → Named
+entry_step e = record { name = e.name; value = e.value }
+
+abbrev pub table_step : fields.Table-F Value Named Pairs → Pairs
+table_step t = pairs_then t.entries.items no_pairs
+
+abbrev pub field_view : Field → Value
+field_view = fold-Field Value Named Pairs field_step entry_step table_step
+
+abbrev pub entry_view : Entry → Named
+entry_view = fold-Entry Value Named Pairs field_step entry_step table_step
+
+abbrev pub table_view : Table → Pairs
+table_view = fold-Table Value Named Pairs field_step entry_step table_step
+
+-- the values of an array, and the pairs of a table
+abbrev pub fields_view : List Field → List Value
+fields_view fs = map field_view fs
+
+abbrev pub entries_view : List Entry → List Named
+entries_view es = map entry_view es
+
+abbrev pub array_view : List Field → Values
+array_view fs = values_then (fields_view fs) no_values
+
+abbrev pub pairs_view : List Entry → Pairs
+pairs_view es = pairs_then (entries_view es) no_pairs

@@ -1,0 +1,96 @@
+//! Whether bytes are a table, without reading what it says.
+
+ghost use Rattle.std.specs.Prelude.{MatchBool, MatchOption};
+ghost use Rattle.model.specs.Words.{Text};
+ghost use Rattle.model.specs.Tables.{Value, IsTable};
+ghost use Rattle.field_table.specs.Reading.{IsFirst, HasNone, IsFirstPair, HasNoPair, HasValues, HasPairs, Holds};
+
+use crate::leaves::{Leaf, leaf_at};
+use crate::takes::short_text_at;
+
+/// How deep arrays and tables may stand inside a table.
+pub(crate) const DEPTH: usize = 15;
+
+/// Whether the bytes are the pairs of a table, without the length before them. It takes no memory.
+pub fn is_table(pairs: &[u8]) -> bool
+    ensures { MatchBool result (IsTable pairs.now) (IsTable pairs.now → ⊥) }
+{
+    if pairs.len() >= 0x1_0000_0000 {
+        return false;
+    }
+    are_pairs(pairs, DEPTH)
+}
+
+/// The bytes are the pairs of a table in which arrays and tables may stand `depth` levels deep.
+#[cycle(check)]
+fn are_pairs(bytes: &[u8], depth: usize) -> bool
+    ensures { MatchBool result (HasPairs depth bytes.now) (HasPairs depth bytes.now → ⊥) }
+{
+    let mut rest = bytes;
+    'pairs: while !rest.is_empty() {
+        match pair_end(rest, depth) {
+            Some(after) => rest = after,
+            None => return false,
+        }
+    }
+    true
+}
+
+/// What follows the pair at the front.
+#[cycle(check)]
+fn pair_end(bytes: &[u8], depth: usize) -> Option<&[u8]>
+    ensures { MatchOption result (HasNoPair depth bytes.now) (λ rest. (name : Text) × (v : Value) × IsFirstPair depth bytes.now name v rest.now) }
+{
+    let (_, rest) = short_text_at(bytes)?;
+    value_end(rest, depth)
+}
+
+/// The bytes are the values of an array in which arrays and tables may stand `depth` levels deep.
+#[cycle(check)]
+fn are_values(bytes: &[u8], depth: usize) -> bool
+    ensures { MatchBool result (HasValues depth bytes.now) (HasValues depth bytes.now → ⊥) }
+{
+    let mut rest = bytes;
+    'values: while !rest.is_empty() {
+        match value_end(rest, depth) {
+            Some(after) => rest = after,
+            None => return false,
+        }
+    }
+    true
+}
+
+/// What follows the value at the front.
+#[cycle(check)]
+fn value_end(bytes: &[u8], depth: usize) -> Option<&[u8]>
+    ensures { MatchOption result (HasNone depth bytes.now) (λ rest. (v : Value) × IsFirst depth bytes.now v rest.now) }
+{
+    let (leaf, rest) = leaf_at(bytes)?;
+    if is_sound(leaf, depth) {
+        Some(rest)
+    } else {
+        None
+    }
+}
+
+/// What an array or a table holds is right.
+#[cycle(check)]
+fn is_sound(leaf: Leaf<'_>, depth: usize) -> bool
+    ensures { MatchBool result (Holds depth leaf.entry) (Holds depth leaf.entry → ⊥) }
+{
+    match leaf {
+        Leaf::Array(values) => {
+            if depth == 0 {
+                return false;
+            }
+            are_values(values, depth - 1)
+        }
+        Leaf::Table(pairs) => {
+            if depth == 0 {
+                return false;
+            }
+            are_pairs(pairs, depth - 1)
+        }
+        _ => true,
+    }
+}

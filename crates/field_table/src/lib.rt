@@ -1,0 +1,28 @@
+//! Field tables, and the single arguments that tables, methods and headers are made of.
+//!
+//! A table is a length (4 bytes) and then pairs, each a name (a short text), a type letter and a value; an array is a
+//! length and then letters and values. Tables and arrays stand inside one another, at most 16 levels deep.
+//! Source: AMQP 0-9-1, section 4.2.5, "Data Types", with the type letters of RabbitMQ.
+#![tactic(auto)]
+
+mod checking;
+mod fields;
+mod leaves;
+mod measuring;
+mod reading;
+mod refusals;
+mod takes;
+mod writing;
+
+pub use checking::is_table;
+pub use fields::{Entry, Field, Table};
+pub use reading::read_table;
+pub use refusals::Refusal;
+pub use takes::{
+    five_bits_at, four_bits_at, long_at, long_long_at, long_text_at, octet_at, one_bit_at,
+    pairs_at, short_at, short_text_at, two_bits_at,
+};
+pub use writing::{put_bytes, write_table};
+
+#[cfg(test)]
+mod tests;

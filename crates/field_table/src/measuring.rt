@@ -1,0 +1,126 @@
+//! How long tables are when they are spelled, and whether they can be.
+
+ghost use Rattle.std.specs.Prelude.{◌≡◌, ◌<◌, ◌≤◌, ◌+◌, ◌^◌, ◌∷◌, ◌++◌, length, MatchOption, IfSome};
+ghost use Rattle.model.specs.Tables.{letter, content, values_bytes, pairs_bytes, IsValue};
+ghost use Rattle.field_table.specs.View.{field_view, entry_view, array_view, pairs_view};
+ghost use Rattle.field_table.specs.Writing.{AreValuesWithin, ArePairsWithin, IsEntry, entry_bytes};
+
+use crate::fields::{Entry, Field};
+
+/// A length that 4 bytes cannot hold.
+const LIMIT: usize = 0x1_0000_0000;
+
+/// How many bytes the pairs of a table have, in which arrays and tables may stand `depth` levels deep.
+#[cycle(measure)]
+pub(crate) fn pairs_len(entries: &[Entry], depth: usize) -> Option<usize>
+    ensures cases { MatchOption result (ArePairsWithin depth (pairs_view entries.now) → ⊥) (λ n. ArePairsWithin depth (pairs_view entries.now) × (n ≡ length (pairs_bytes (pairs_view entries.now)))) }
+    ensures bound { IfSome result (λ n. n < 2 ^ 32) }
+{
+    let mut len = 0;
+    'pairs: for entry in entries {
+        len += entry_len(entry, depth)?;
+        if len >= LIMIT {
+            return None;
+        }
+    }
+    Some(len)
+}
+
+/// How many bytes a name and its value have.
+#[cycle(measure)]
+fn entry_len(entry: &Entry, depth: usize) -> Option<usize>
+    ensures cases { MatchOption result (IsEntry depth (entry_view entry.now) → ⊥) (λ n. IsEntry depth (entry_view entry.now) × (n ≡ length (entry_bytes (entry_view entry.now)))) }
+    ensures bound { IfSome result (λ n. n < 2 ^ 34) }
+{
+    let name = entry.name.len();
+    if name >= 256 {
+        return None;
+    }
+    let value = field_len(&entry.value, depth)?;
+    Some(1 + name + value)
+}
+
+/// How many bytes the values of an array have, in which arrays and tables may stand `depth` levels deep.
+#[cycle(measure)]
+pub(crate) fn values_len(values: &[Field], depth: usize) -> Option<usize>
+    ensures cases { MatchOption result (AreValuesWithin depth (array_view values.now) → ⊥) (λ n. AreValuesWithin depth (array_view values.now) × (n ≡ length (values_bytes (array_view values.now)))) }
+    ensures bound { IfSome result (λ n. n < 2 ^ 32) }
+{
+    let mut len = 0;
+    'values: for value in values {
+        len += field_len(value, depth)?;
+        if len >= LIMIT {
+            return None;
+        }
+    }
+    Some(len)
+}
+
+/// How many bytes a value has, with its letter.
+#[cycle(measure)]
+fn field_len(field: &Field, depth: usize) -> Option<usize>
+    ensures cases { MatchOption result (IsValue depth (field_view field.now) → ⊥) (λ n. IsValue depth (field_view field.now) × (n ≡ length (letter (field_view field.now) ∷ content (field_view field.now)))) }
+    ensures bound { IfSome result (λ n. n < 2 ^ 33) }
+{
+    match field {
+        Field::Truth(_) => Some(2),
+        Field::Byte(n) => {
+            let _n = *n;
+            Some(2)
+        }
+        Field::Short(n) => {
+            let _n = *n;
+            Some(3)
+        }
+        Field::Long(n) => {
+            let _n = *n;
+            Some(5)
+        }
+        Field::LongLong(n) => {
+            let _n = *n;
+            Some(9)
+        }
+        Field::Float(n) => {
+            let _n = *n;
+            Some(5)
+        }
+        Field::Double(n) => {
+            let _n = *n;
+            Some(9)
+        }
+        Field::Decimal { scale, digits } => {
+            let _scale = *scale;
+            let _digits = *digits;
+            Some(6)
+        }
+        Field::Text(t) => text_len(t.len()),
+        Field::Array(values) => Some(5 + values_len(values, less(depth)?)?),
+        Field::Timestamp(n) => {
+            let _n = *n;
+            Some(9)
+        }
+        Field::Table(table) => Some(5 + pairs_len(&table.entries, less(depth)?)?),
+        Field::Bytes(t) => text_len(t.len()),
+        Field::Void => Some(1),
+    }
+}
+
+/// How many bytes a text of this length has, with its letter and its length.
+fn text_len(len: usize) -> Option<usize>
+    ensures { MatchOption result (2 ^ 32 ≤ len) (λ n. (len < 2 ^ 32) × (n ≡ 5 + len)) }
+{
+    if len >= LIMIT {
+        return None;
+    }
+    Some(5 + len)
+}
+
+/// One level less, where there is one.
+fn less(depth: usize) -> Option<usize>
+    ensures { MatchOption result (depth ≡ 0) (λ n. n + 1 ≡ depth) }
+{
+    if depth == 0 {
+        return None;
+    }
+    Some(depth - 1)
+}

@@ -1,0 +1,170 @@
+//! Single arguments, taken from the front of bytes.
+
+ghost use Rattle.std.specs.Prelude.{◌≡◌, ℕ, List, [], ◌∷◌, option_map};
+ghost use Rattle.model.specs.Grammar.{Argument, Octet, Short, Long, Long_long, Short_text, Long_text, Field_table, Bits};
+ghost use Rattle.field_table.specs.Arguments.{long_text_at as read_long_text, argument_at, an_octet, a_short, a_long, a_long_long, a_short_text, a_long_text, a_field_table, some_bits};
+
+/// A number of 1 byte.
+pub fn octet_at(bytes: &[u8]) -> Option<(u8, &[u8])>
+    ensures { option_map (λ x. (Octet x.0, x.1.now)) result ≡ argument_at an_octet bytes.now }
+{
+    if bytes.len() < 1 {
+        return None;
+    }
+    let (front, rest) = bytes.split_at(1);
+    Some((front[0], rest))
+}
+
+/// A number of 2 bytes.
+pub fn short_at(bytes: &[u8]) -> Option<(u16, &[u8])>
+    ensures { option_map (λ x. (Short x.0, x.1.now)) result ≡ argument_at a_short bytes.now }
+{
+    if bytes.len() < 2 {
+        return None;
+    }
+    let (front, rest) = bytes.split_at(2);
+    Some((u16::from_be_bytes([front[0], front[1]]), rest))
+}
+
+/// A number of 4 bytes.
+pub fn long_at(bytes: &[u8]) -> Option<(u32, &[u8])>
+    ensures { option_map (λ x. (Long x.0, x.1.now)) result ≡ argument_at a_long bytes.now }
+{
+    if bytes.len() < 4 {
+        return None;
+    }
+    let (front, rest) = bytes.split_at(4);
+    let number = u32::from_be_bytes([front[0], front[1], front[2], front[3]]);
+    Some((number, rest))
+}
+
+/// A number of 8 bytes.
+pub fn long_long_at(bytes: &[u8]) -> Option<(u64, &[u8])>
+    ensures { option_map (λ x. (Long_long x.0, x.1.now)) result ≡ argument_at a_long_long bytes.now }
+{
+    if bytes.len() < 8 {
+        return None;
+    }
+    let (front, rest) = bytes.split_at(8);
+    let number = u64::from_be_bytes([
+        front[0], front[1], front[2], front[3], front[4], front[5], front[6], front[7],
+    ]);
+    Some((number, rest))
+}
+
+/// A text of fewer than 256 bytes.
+pub fn short_text_at(bytes: &[u8]) -> Option<(&[u8], &[u8])>
+    ensures { option_map (λ x. (Short_text x.0.now, x.1.now)) result ≡ argument_at a_short_text bytes.now }
+{
+    if bytes.len() < 1 {
+        return None;
+    }
+    let len = bytes[0] as usize;
+    let (_, rest) = bytes.split_at(1);
+    if rest.len() < len {
+        return None;
+    }
+    Some(rest.split_at(len))
+}
+
+/// A text with its length in 4 bytes before it.
+pub fn long_text_at(bytes: &[u8]) -> Option<(&[u8], &[u8])>
+    ensures { option_map (λ x. (Long_text x.0.now, x.1.now)) result ≡ argument_at a_long_text bytes.now }
+{
+    sized_at(bytes)
+}
+
+/// The pairs of a table, with their length in 4 bytes before them. Whether they are pairs is [`crate::is_table`]'s to say.
+pub fn pairs_at(bytes: &[u8]) -> Option<(&[u8], &[u8])>
+    ensures { option_map (λ x. (Field_table x.0.now, x.1.now)) result ≡ argument_at a_field_table bytes.now }
+{
+    sized_at(bytes)
+}
+
+/// As many bytes as a number of 4 bytes before them says.
+fn sized_at(bytes: &[u8]) -> Option<(&[u8], &[u8])>
+    ensures { (made : List ℕ → Argument) → option_map (λ x. (made x.0.now, x.1.now)) result ≡ read_long_text made bytes.now }
+{
+    if bytes.len() < 4 {
+        return None;
+    }
+    let (front, rest) = bytes.split_at(4);
+    let len = u32::from_be_bytes([front[0], front[1], front[2], front[3]]) as usize;
+    if rest.len() < len {
+        return None;
+    }
+    Some(rest.split_at(len))
+}
+
+/// One bit, in an octet of its own.
+pub fn one_bit_at(bytes: &[u8]) -> Option<(bool, &[u8])>
+    ensures { option_map (λ x. (Bits (x.0 ∷ []), x.1.now)) result ≡ argument_at (some_bits 1) bytes.now }
+{
+    if bytes.len() < 1 {
+        return None;
+    }
+    let octet = bytes[0];
+    if octet < 2 {
+        let (_, rest) = bytes.split_at(1);
+        return Some((octet % 2 == 1, rest));
+    }
+    None
+}
+
+/// Two bits that share an octet.
+pub fn two_bits_at(bytes: &[u8]) -> Option<(bool, bool, &[u8])>
+    ensures { option_map (λ x. (Bits (x.0 ∷ x.1 ∷ []), x.2.now)) result ≡ argument_at (some_bits 2) bytes.now }
+{
+    if bytes.len() < 1 {
+        return None;
+    }
+    let octet = bytes[0];
+    if octet < 4 {
+        let (_, rest) = bytes.split_at(1);
+        return Some((octet % 2 == 1, octet / 2 % 2 == 1, rest));
+    }
+    None
+}
+
+/// Four bits that share an octet.
+pub fn four_bits_at(bytes: &[u8]) -> Option<([bool; 4], &[u8])>
+    ensures { option_map (λ x. (Bits x.0, x.1.now)) result ≡ argument_at (some_bits 4) bytes.now }
+{
+    if bytes.len() < 1 {
+        return None;
+    }
+    let octet = bytes[0];
+    if octet < 16 {
+        let (_, rest) = bytes.split_at(1);
+        let bits = [
+            octet % 2 == 1,
+            octet / 2 % 2 == 1,
+            octet / 4 % 2 == 1,
+            octet / 8 % 2 == 1,
+        ];
+        return Some((bits, rest));
+    }
+    None
+}
+
+/// Five bits that share an octet.
+pub fn five_bits_at(bytes: &[u8]) -> Option<([bool; 5], &[u8])>
+    ensures { option_map (λ x. (Bits x.0, x.1.now)) result ≡ argument_at (some_bits 5) bytes.now }
+{
+    if bytes.len() < 1 {
+        return None;
+    }
+    let octet = bytes[0];
+    if octet < 32 {
+        let (_, rest) = bytes.split_at(1);
+        let bits = [
+            octet % 2 == 1,
+            octet / 2 % 2 == 1,
+            octet / 4 % 2 == 1,
+            octet / 8 % 2 == 1,
+            octet / 16 % 2 == 1,
+        ];
+        return Some((bits, rest));
+    }
+    None
+}

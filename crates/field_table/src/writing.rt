@@ -1,0 +1,165 @@
+//! Tables are written.
+
+ghost use Rattle.std.specs.Prelude.{◌≡◌, ◌<◌, ◌≤◌, ◌+◌, ◌-◌, ◌^◌, [], ◌∷◌, ◌++◌, length, vec_len, vec_capacity, OnOk, IfErr, IfSome, IsSome, Err};
+ghost use Rattle.std.specs.Int.{w32, to_be_bytes};
+ghost use Rattle.model.specs.Tables.{letter, content, sized, values_bytes, pairs_bytes, table_bytes, HasSpelling, IsValue};
+ghost use Rattle.field_table.specs.declared.refusals.Refusal.TheVariants.{Memory};
+ghost use Rattle.field_table.specs.View.{field_view, entry_view, array_view, pairs_view, table_view};
+ghost use Rattle.field_table.specs.Answers.{Refused};
+ghost use Rattle.field_table.specs.Writing.{AreValuesWithin, ArePairsWithin, IsEntry, entry_bytes};
+
+use crate::checking::DEPTH;
+use crate::fields::{Entry, Field, Table};
+use crate::measuring::{pairs_len, values_len};
+use crate::refusals::Refusal;
+
+/// Appends the spelling of the table to `out`, its length (4 bytes) first.
+///
+/// A table that has no spelling is `SyntaxError`. On an error `out` is as it was.
+pub fn write_table(out: &mut Vec<u8>, table: &Table) -> Result<(), Refusal>
+    ensures ok { OnOk result (HasSpelling (table_view table.now) × (out.new.items ≡ out.old.items ++ table_bytes (table_view table.now))) }
+    ensures err { IfErr result (λ e. Refused e (HasSpelling (table_view table.now) → ⊥) × (out.new.items ≡ out.old.items)) }
+    // Memory was really wanted.
+    ensures full { result ≡ Err Memory → vec_capacity out.old < vec_len out.old + length (table_bytes (table_view table.now)) }
+{
+    match pairs_len(&table.entries, DEPTH) {
+        None => Err(Refusal::SyntaxError),
+        Some(len) => {
+            if out.reserve(4 + len).is_err() {
+                return Err(Refusal::Memory);
+            }
+            put_bytes(out, &(len as u32).to_be_bytes());
+            put_pairs(out, &table.entries, DEPTH);
+            Ok(())
+        }
+    }
+}
+
+/// Appends the pairs of a table, in which arrays and tables may stand `depth` levels deep.
+#[cycle(put)]
+fn put_pairs(out: &mut Vec<u8>, entries: &[Entry], depth: usize)
+    requires fits { ArePairsWithin depth (pairs_view entries.now) }
+    requires room { vec_len out.old + length (pairs_bytes (pairs_view entries.now)) ≤ vec_capacity out.old }
+    ensures items { out.new.items ≡ out.old.items ++ pairs_bytes (pairs_view entries.now) }
+    ensures len { vec_len out.new ≡ vec_len out.old + length (pairs_bytes (pairs_view entries.now)) }
+    ensures capacity { vec_capacity out.old ≤ vec_capacity out.new }
+{
+    'pairs: for entry in entries {
+        put_entry(out, entry, depth);
+    }
+}
+
+/// Appends a name and its value.
+#[cycle(put)]
+fn put_entry(out: &mut Vec<u8>, entry: &Entry, depth: usize)
+    requires fits { IsEntry depth (entry_view entry.now) }
+    requires room { vec_len out.old + length (entry_bytes (entry_view entry.now)) ≤ vec_capacity out.old }
+    ensures items { out.new.items ≡ out.old.items ++ entry_bytes (entry_view entry.now) }
+    ensures len { vec_len out.new ≡ vec_len out.old + length (entry_bytes (entry_view entry.now)) }
+    ensures capacity { vec_capacity out.old ≤ vec_capacity out.new }
+{
+    put_bytes(out, &[entry.name.len() as u8]);
+    put_bytes(out, entry.name.as_bytes());
+    put_field(out, &entry.value, depth);
+}
+
+/// Appends the values of an array, in which arrays and tables may stand `depth` levels deep.
+#[cycle(put)]
+fn put_values(out: &mut Vec<u8>, values: &[Field], depth: usize)
+    requires fits { AreValuesWithin depth (array_view values.now) }
+    requires room { vec_len out.old + length (values_bytes (array_view values.now)) ≤ vec_capacity out.old }
+    ensures items { out.new.items ≡ out.old.items ++ values_bytes (array_view values.now) }
+    ensures len { vec_len out.new ≡ vec_len out.old + length (values_bytes (array_view values.now)) }
+    ensures capacity { vec_capacity out.old ≤ vec_capacity out.new }
+{
+    'values: for value in values {
+        put_field(out, value, depth);
+    }
+}
+
+/// Appends a value with its letter.
+#[cycle(put)]
+fn put_field(out: &mut Vec<u8>, field: &Field, depth: usize)
+    requires fits { IsValue depth (field_view field.now) }
+    requires room { vec_len out.old + length (letter (field_view field.now) ∷ content (field_view field.now)) ≤ vec_capacity out.old }
+    ensures items { out.new.items ≡ out.old.items ++ letter (field_view field.now) ∷ content (field_view field.now) }
+    ensures len { vec_len out.new ≡ vec_len out.old + length (letter (field_view field.now) ∷ content (field_view field.now)) }
+    ensures capacity { vec_capacity out.old ≤ vec_capacity out.new }
+{
+    match field {
+        Field::Truth(truth) => put(out, b't', &[*truth as u8]),
+        Field::Byte(number) => put(out, b'b', &[*number]),
+        Field::Short(number) => put(out, b's', &number.to_be_bytes()),
+        Field::Long(number) => put(out, b'I', &number.to_be_bytes()),
+        Field::LongLong(number) => put(out, b'l', &number.to_be_bytes()),
+        Field::Float(bits) => put(out, b'f', &bits.to_be_bytes()),
+        Field::Double(bits) => put(out, b'd', &bits.to_be_bytes()),
+        Field::Decimal { scale, digits } => {
+            put(out, b'D', &[*scale]);
+            put_bytes(out, &digits.to_be_bytes());
+        }
+        Field::Text(text) => put_sized(out, b'S', text.as_bytes()),
+        Field::Array(values) => {
+            put_size(out, b'A', values_len(values, depth - 1));
+            put_values(out, values, depth - 1);
+        }
+        Field::Timestamp(seconds) => put(out, b'T', &seconds.to_be_bytes()),
+        Field::Table(table) => {
+            put_size(out, b'F', pairs_len(&table.entries, depth - 1));
+            put_pairs(out, &table.entries, depth - 1);
+        }
+        Field::Bytes(data) => put_sized(out, b'x', data.as_bytes()),
+        Field::Void => put_bytes(out, b"V"),
+    }
+}
+
+/// Appends a letter and bytes with their length before them.
+fn put_sized(out: &mut Vec<u8>, letter: u8, body: &[u8])
+    requires fits { length body.now < 2 ^ 32 }
+    requires room { vec_len out.old + length (letter ∷ sized body.now) ≤ vec_capacity out.old }
+    ensures items { out.new.items ≡ out.old.items ++ letter ∷ sized body.now }
+    ensures len { vec_len out.new ≡ vec_len out.old + length (letter ∷ sized body.now) }
+    ensures capacity { vec_capacity out.old ≤ vec_capacity out.new }
+{
+    put(out, letter, &(body.len() as u32).to_be_bytes());
+    put_bytes(out, body);
+}
+
+/// Appends a letter and a length that is known.
+fn put_size(out: &mut Vec<u8>, letter: u8, len: Option<usize>)
+    requires known { IsSome len }
+    requires fits { IfSome len (λ n. n < 2 ^ 32) }
+    requires room { vec_len out.old + 5 ≤ vec_capacity out.old }
+    ensures items { IfSome len (λ n. out.new.items ≡ out.old.items ++ letter ∷ to_be_bytes w32 n) }
+    ensures len { vec_len out.new ≡ vec_len out.old + 5 }
+    ensures capacity { vec_capacity out.old ≤ vec_capacity out.new }
+{
+    match len {
+        None => unreachable!(),
+        Some(len) => put(out, letter, &(len as u32).to_be_bytes()),
+    }
+}
+
+/// Appends a letter and bytes for which there is room.
+fn put(out: &mut Vec<u8>, letter: u8, bytes: &[u8])
+    requires { vec_len out.old + length (letter ∷ bytes.now) ≤ vec_capacity out.old }
+    ensures items { out.new.items ≡ out.old.items ++ letter ∷ bytes.now }
+    ensures len { vec_len out.new ≡ vec_len out.old + length (letter ∷ bytes.now) }
+    ensures capacity { vec_capacity out.old ≤ vec_capacity out.new }
+{
+    put_bytes(out, &[letter]);
+    put_bytes(out, bytes);
+}
+
+/// Appends bytes for which there is room.
+pub fn put_bytes(out: &mut Vec<u8>, bytes: &[u8])
+    requires { vec_len out.old + length bytes.now ≤ vec_capacity out.old }
+    ensures items { out.new.items ≡ out.old.items ++ bytes.now }
+    ensures len { vec_len out.new ≡ vec_len out.old + length bytes.now }
+    ensures capacity { vec_capacity out.old ≤ vec_capacity out.new }
+{
+    match out.extend_from_slice(bytes) {
+        Ok(()) => {}
+        Err(_) => unreachable!(),
+    }
+}

@@ -1,0 +1,120 @@
+-- The arguments of each method, by class and method. Source: AMQP 0-9-1's XML, with RabbitMQ's `confirm` class and `basic.nack`.
+use Rattle.std.specs.Prelude.{◌==◌, ℕ, List, [], ◌∷◌, if◌then◌else◌}
+use Rattle.field_table.specs.Arguments.{Kind, an_octet, a_short, a_long, a_long_long, a_short_text, a_long_text, a_field_table, some_bits}
+
+abbrev pub start_kinds : List Kind
+start_kinds = an_octet ∷ an_octet ∷ a_field_table ∷ a_long_text ∷ a_long_text ∷ []
+
+abbrev pub start_ok_kinds : List Kind
+start_ok_kinds = a_field_table ∷ a_short_text ∷ a_long_text ∷ a_short_text ∷ []
+
+abbrev pub tuning_kinds : List Kind
+tuning_kinds = a_short ∷ a_long ∷ a_short ∷ []
+
+abbrev pub open_kinds : List Kind
+open_kinds = a_short_text ∷ a_short_text ∷ some_bits 1 ∷ []
+
+abbrev pub close_kinds : List Kind
+close_kinds = a_short ∷ a_short_text ∷ a_short ∷ a_short ∷ []
+
+abbrev pub declare_exchange_kinds : List Kind
+declare_exchange_kinds = a_short ∷ a_short_text ∷ a_short_text ∷ some_bits 5 ∷ a_field_table ∷ []
+
+abbrev pub declare_queue_kinds : List Kind
+declare_queue_kinds = a_short ∷ a_short_text ∷ some_bits 5 ∷ a_field_table ∷ []
+
+abbrev pub declared_kinds : List Kind
+declared_kinds = a_short_text ∷ a_long ∷ a_long ∷ []
+
+-- of queue.purge and of basic.get
+abbrev pub queue_kinds : List Kind
+queue_kinds = a_short ∷ a_short_text ∷ some_bits 1 ∷ []
+
+abbrev pub qos_kinds : List Kind
+qos_kinds = a_long ∷ a_short ∷ some_bits 1 ∷ []
+
+abbrev pub consume_kinds : List Kind
+consume_kinds = a_short ∷ a_short_text ∷ a_short_text ∷ some_bits 4 ∷ a_field_table ∷ []
+
+abbrev pub cancel_kinds : List Kind
+cancel_kinds = a_short_text ∷ some_bits 1 ∷ []
+
+abbrev pub publish_kinds : List Kind
+publish_kinds = a_short ∷ a_short_text ∷ a_short_text ∷ some_bits 2 ∷ []
+
+abbrev pub return_kinds : List Kind
+return_kinds = a_short ∷ a_short_text ∷ a_short_text ∷ a_short_text ∷ []
+
+abbrev pub deliver_kinds : List Kind
+deliver_kinds = a_short_text ∷ a_long_long ∷ some_bits 1 ∷ a_short_text ∷ a_short_text ∷ []
+
+abbrev pub get_ok_kinds : List Kind
+get_ok_kinds = a_long_long ∷ some_bits 1 ∷ a_short_text ∷ a_short_text ∷ a_long ∷ []
+
+-- a delivery tag and so many bits
+abbrev pub tag_kinds : ℕ → List Kind
+tag_kinds n = a_long_long ∷ some_bits n ∷ []
+
+abbrev pub connection_kinds : ℕ → List Kind
+connection_kinds m =
+    if m == 10 then start_kinds
+    else if m == 11 then start_ok_kinds
+    else if m == 30 then tuning_kinds
+    else if m == 31 then tuning_kinds
+    else if m == 40 then open_kinds
+    else if m == 41 then a_short_text ∷ []
+    else if m == 50 then close_kinds
+    else []
+
+abbrev pub channel_kinds : ℕ → List Kind
+channel_kinds m =
+    if m == 10 then a_short_text ∷ []
+    else if m == 11 then a_long_text ∷ []
+    else if m == 20 then some_bits 1 ∷ []
+    else if m == 21 then some_bits 1 ∷ []
+    else if m == 40 then close_kinds
+    else []
+
+abbrev pub exchange_kinds : ℕ → List Kind
+exchange_kinds m = if m == 10 then declare_exchange_kinds else []
+
+abbrev pub queue_class_kinds : ℕ → List Kind
+queue_class_kinds m =
+    if m == 10 then declare_queue_kinds
+    else if m == 11 then declared_kinds
+    else if m == 30 then queue_kinds
+    else if m == 31 then a_long ∷ []
+    else []
+
+abbrev pub basic_kinds : ℕ → List Kind
+basic_kinds m =
+    if m == 10 then qos_kinds
+    else if m == 20 then consume_kinds
+    else if m == 21 then a_short_text ∷ []
+    else if m == 30 then cancel_kinds
+    else if m == 31 then a_short_text ∷ []
+    else if m == 40 then publish_kinds
+    else if m == 50 then return_kinds
+    else if m == 60 then deliver_kinds
+    else if m == 70 then queue_kinds
+    else if m == 71 then get_ok_kinds
+    else if m == 72 then a_short_text ∷ []
+    else if m == 80 then tag_kinds 1
+    else if m == 90 then tag_kinds 1
+    else if m == 110 then some_bits 1 ∷ []
+    else if m == 120 then tag_kinds 2
+    else []
+
+abbrev pub confirm_kinds : ℕ → List Kind
+confirm_kinds m = if m == 10 then some_bits 1 ∷ [] else []
+
+-- the kinds of a method's arguments; of one whose arguments are not read, none
+abbrev pub kinds_of : ℕ → ℕ → List Kind
+kinds_of c m =
+    if c == 10 then connection_kinds m
+    else if c == 20 then channel_kinds m
+    else if c == 40 then exchange_kinds m
+    else if c == 50 then queue_class_kinds m
+    else if c == 60 then basic_kinds m
+    else if c == 85 then confirm_kinds m
+    else []

@@ -1,0 +1,122 @@
+-- Field tables, and how they are spelled. Source: AMQP 0-9-1, section 4.2.5.5, "Field Tables"; the type letters are RabbitMQ's (own profile).
+use Rattle.std.specs.Prelude.{◌≡◌, ◌<◌, ◌≤◌, ◌-◌, ◌^◌, ℕ, List, [], ◌∷◌, ◌++◌, length, Bool, cond}
+use Rattle.std.specs.Int.{w16, w32, w64, to_be_bytes}
+use Rattle.model.specs.Words.{Text}
+
+mutual
+  -- a value of a table or an array; numbers are as their bytes say, whether a client means them signed or not, and floats are not read
+  pub data Value : Type 0 where
+    Truth : (b : Bool) → Value
+    Byte : (n : ℕ) → Value
+    Short : (n : ℕ) → Value
+    Long : (n : ℕ) → Value
+    Long_long : (n : ℕ) → Value
+    Float : (n : ℕ) → Value
+    Double : (n : ℕ) → Value
+    Decimal : (scale digits : ℕ) → Value
+    Long_string : (t : Text) → Value
+    Field_array : (vs : Values) → Value
+    Timestamp : (n : ℕ) → Value
+    Inner_table : (ps : Pairs) → Value
+    Byte_array : (t : Text) → Value
+    Void : Value
+
+  -- the values of an array, in order
+  pub data Values : Type 0 where
+    no_values : Values
+    value : (v : Value) → (vs : Values) → Values
+
+  -- the names and values of a table, in order; a name may stand there twice
+  pub data Pairs : Type 0 where
+    no_pairs : Pairs
+    pair : (name : Text) → (v : Value) → (ps : Pairs) → Pairs
+
+-- the letter that tells the type: t b s I l f d D S A T F x V
+abbrev pub letter : Value → ℕ
+letter (Truth b) = 116
+letter (Byte n) = 98
+letter (Short n) = 115
+letter (Long n) = 73
+letter (Long_long n) = 108
+letter (Float n) = 102
+letter (Double n) = 100
+letter (Decimal scale digits) = 68
+letter (Long_string t) = 83
+letter (Field_array vs) = 65
+letter (Timestamp n) = 84
+letter (Inner_table ps) = 70
+letter (Byte_array t) = 120
+letter Void = 86
+
+-- bytes behind their length
+abbrev pub sized : List ℕ → List ℕ
+sized body = to_be_bytes w32 (length body) ++ body
+
+abbrev mutual
+  -- what stands behind the letter: numbers are big-endian
+  pub content : Value → List ℕ
+  content (Truth b) = cond b 1 0 ∷ []
+  content (Byte n) = n ∷ []
+  content (Short n) = to_be_bytes w16 n
+  content (Long n) = to_be_bytes w32 n
+  content (Long_long n) = to_be_bytes w64 n
+  content (Float n) = to_be_bytes w32 n
+  content (Double n) = to_be_bytes w64 n
+  content (Decimal scale digits) = scale ∷ to_be_bytes w32 digits
+  content (Long_string t) = sized t
+  content (Field_array vs) = sized (values_bytes vs)
+  content (Timestamp n) = to_be_bytes w64 n
+  content (Inner_table ps) = sized (pairs_bytes ps)
+  content (Byte_array t) = sized t
+  content Void = []
+
+  -- letter and content of each
+  pub values_bytes : Values → List ℕ
+  values_bytes no_values = []
+  values_bytes (value v vs) = letter v ∷ content v ++ values_bytes vs
+
+  -- name, letter and content of each; a name has its length in one byte before it
+  pub pairs_bytes : Pairs → List ℕ
+  pairs_bytes no_pairs = []
+  pairs_bytes (pair name v ps) = (length name ∷ name) ++ (letter v ∷ content v ++ pairs_bytes ps)
+
+abbrev mutual
+  -- what has a spelling, where arrays and tables may stand inside one another so many levels deep
+  pub IsValue : ℕ → Value → Type 0
+  IsValue depth (Truth b) = Unit {0}
+  IsValue depth (Byte n) = n < 2 ^ 8
+  IsValue depth (Short n) = n < 2 ^ 16
+  IsValue depth (Long n) = n < 2 ^ 32
+  IsValue depth (Long_long n) = n < 2 ^ 64
+  IsValue depth (Float n) = n < 2 ^ 32
+  IsValue depth (Double n) = n < 2 ^ 64
+  IsValue depth (Decimal scale digits) = (scale < 2 ^ 8) × (digits < 2 ^ 32)
+  IsValue depth (Long_string t) = length t < 2 ^ 32
+  IsValue depth (Field_array vs) = (1 ≤ depth) × (length (values_bytes vs) < 2 ^ 32) × AreValues (depth - 1) vs
+  IsValue depth (Timestamp n) = n < 2 ^ 64
+  IsValue depth (Inner_table ps) = (1 ≤ depth) × (length (pairs_bytes ps) < 2 ^ 32) × ArePairs (depth - 1) ps
+  IsValue depth (Byte_array t) = length t < 2 ^ 32
+  IsValue depth Void = Unit {0}
+
+  pub AreValues : ℕ → Values → Type 0
+  AreValues depth no_values = Unit {0}
+  AreValues depth (value v vs) = IsValue depth v × AreValues depth vs
+
+  pub ArePairs : ℕ → Pairs → Type 0
+  ArePairs depth no_pairs = Unit {0}
+  ArePairs depth (pair name v ps) = (length name < 256) × IsValue depth v × ArePairs depth ps
+
+-- a table is spelled as its length and its pairs
+abbrev pub table_bytes : Pairs → List ℕ
+table_bytes ps = sized (pairs_bytes ps)
+
+-- a table that has a spelling: 4 bytes hold its length, and tables and arrays stand inside one another at most 16 levels deep, the outermost counted (own)
+pub record HasSpelling (ps : Pairs) : Type 0 where
+  pub size : length (pairs_bytes ps) < 2 ^ 32
+  pub fits : ArePairs 15 ps
+
+-- the bytes are the pairs of a table that has a spelling
+pub record IsTable (bytes : List ℕ) : Type 0 where
+  pub pairs : Pairs
+  pub fits : HasSpelling pairs
+  pub spelled : bytes ≡ pairs_bytes pairs
