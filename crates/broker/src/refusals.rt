@@ -149,7 +149,21 @@ fn judge_on_open<'a>(
         Method::ConfirmSelect { no_wait } => Ok(Act::Select(*no_wait)),
         Method::BasicPublish(publish) => judge_publish(topology, published, channel, publish),
         Method::ChannelClose(_) => Ok(Act::CloseChannel(false)),
-        Method::ChannelCloseOk | Method::ConfirmSelectOk => Err(Refusal::Connection(503)),
+        Method::ChannelCloseOk
+        | Method::ChannelOpenOk { .. }
+        | Method::ChannelFlowOk { .. }
+        | Method::ExchangeDeclareOk
+        | Method::QueueDeclareOk(_)
+        | Method::QueuePurgeOk { .. }
+        | Method::BasicQosOk
+        | Method::BasicConsumeOk { .. }
+        | Method::BasicCancelOk { .. }
+        | Method::BasicReturn(_)
+        | Method::BasicDeliver(_)
+        | Method::BasicGetOk(_)
+        | Method::BasicGetEmpty { .. }
+        | Method::BasicRecoverOk
+        | Method::ConfirmSelectOk => Err(Refusal::Connection(503)),
         _ => Err(Refusal::Connection(540)),
     }
 }

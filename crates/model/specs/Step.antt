@@ -20,7 +20,7 @@ use Rattle.model.specs.declared.events.Send.{Send}
 use Rattle.model.specs.declared.events.Send.TheVariants as send
 use Rattle.model.specs.declared.methods.Publish.{Publish}
 use Rattle.model.specs.declared.methods.Method.{Method}
-use Rattle.model.specs.declared.methods.Method.TheVariants.{ConnectionClose, ConnectionCloseOk, ChannelClose, ChannelCloseOk, BasicPublish, BasicReturn, BasicAck, BasicNack, ConfirmSelect, ConfirmSelectOk}
+use Rattle.model.specs.declared.methods.Method.TheVariants.{ConnectionClose, ConnectionCloseOk, ChannelOpenOk, ChannelFlowOk, ChannelClose, ChannelCloseOk, ExchangeDeclareOk, QueueDeclareOk, QueuePurgeOk, BasicQosOk, BasicConsumeOk, BasicCancelOk, BasicPublish, BasicReturn, BasicDeliver, BasicGetOk, BasicGetEmpty, BasicAck, BasicRecoverOk, BasicNack, ConfirmSelect, ConfirmSelectOk}
 use Rattle.model.specs.declared.notes.Note.{Note}
 use Rattle.model.specs.declared.notes.Note.TheVariants.{Published, Entered, Refused, Returned, Confirmed}
 use Rattle.model.specs.declared.notes.Answer.{Answer}
@@ -79,12 +79,25 @@ refusal_of_publish t b ch p =
 abbrev pub is_of_connection : Method → Bool
 is_of_connection m = (ids_of m).class == 10
 
--- a method on an open channel; one that is not built yet is not implemented
+-- a method on an open channel: one that only a server sends, or that answers what the server never asks for, is invalid (AMQP 0-9-1, section 1.1, command-invalid); one that is not built yet is not implemented
 abbrev pub refusal_of : Topology → Broker → Channel → Method → Option Refusal
 refusal_of t b ch (ConfirmSelect no_wait) = None
 refusal_of t b ch (BasicPublish p) = refusal_of_publish t b ch p
 refusal_of t b ch (ChannelClose m) = None
 refusal_of t b ch ChannelCloseOk = Some (Of_connection 503)
+refusal_of t b ch (ChannelOpenOk reserved) = Some (Of_connection 503)
+refusal_of t b ch (ChannelFlowOk active) = Some (Of_connection 503)
+refusal_of t b ch ExchangeDeclareOk = Some (Of_connection 503)
+refusal_of t b ch (QueueDeclareOk m) = Some (Of_connection 503)
+refusal_of t b ch (QueuePurgeOk count) = Some (Of_connection 503)
+refusal_of t b ch BasicQosOk = Some (Of_connection 503)
+refusal_of t b ch (BasicConsumeOk tag) = Some (Of_connection 503)
+refusal_of t b ch (BasicCancelOk tag) = Some (Of_connection 503)
+refusal_of t b ch (BasicReturn m) = Some (Of_connection 503)
+refusal_of t b ch (BasicDeliver m) = Some (Of_connection 503)
+refusal_of t b ch (BasicGetOk m) = Some (Of_connection 503)
+refusal_of t b ch (BasicGetEmpty reserved) = Some (Of_connection 503)
+refusal_of t b ch BasicRecoverOk = Some (Of_connection 503)
 refusal_of t b ch ConfirmSelectOk = Some (Of_connection 503)
 refusal_of t b ch _ = Some (Of_connection 540)
 
