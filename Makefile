@@ -1,8 +1,12 @@
 # `make` alone lists the targets.
-.PHONY: help test
+.PHONY: help run test
 
 help:
-	@echo "make test      proves every crate, tries the must-fail edits and runs the tests (rt ci)"
+	@echo "make run       builds warren and replays examples/first_publish"
+	@echo "make test      proves every crate, tries the must-fail edits, runs the tests and the program (rt ci)"
+
+run:
+	@cd crates/warren && rt run -- replay /dev/stdin < ../../examples/first_publish/script
 
 test:
 	@rt ci
