@@ -1,5 +1,4 @@
 pub mod Asked
-pub mod Written
 pub mod Replies
 pub mod Turned
 pub mod Numbered
