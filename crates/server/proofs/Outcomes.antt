@@ -1,0 +1,78 @@
+-- What the steps of a call come to.
+use Rattle.std.proofs.Common.{◌≡◌, ◌++◌, ℕ, Bool, true, false, List, Option, Some, None, take, drop, refl, sym, ap, ◌∙◌, subst, inl, inr, append_assoc, take-append-drop}
+use Rattle.std.specs.Io.KnownBytes.{Appends, Keeps}
+use Rattle.clap.specs.Words.{kind_of}
+use Rattle.clap.specs.declared.error.Error.{Error}
+use Rattle.command_line.specs.CommandLine.{AsksReplay, IsRefused}
+use Rattle.model.specs.Words.{Text}
+use Rattle.server.specs.Files.{Known}
+use Rattle.server.specs.Streams.{Stream, GetsNothing, Tries, tried}
+use Rattle.server.specs.declared.refusals.Refusal.{Refusal}
+use Rattle.server.specs.declared.refusals.Refusal.TheVariants.{Memory}
+use Rattle.server.specs.Program.{Does, replayed, refused, unasked, unread, PrintsFile, IsWhy, Refuses, Shows, status_of}
+
+-- ---- streams
+
+-- one that was not written to
+pub untouched : (o : Option Text) → Keeps o o
+untouched None = tt
+untouched (Some bytes) = refl
+
+more : (a b c : Option Text) (xs ys : Text) → Appends a b xs → Appends b c ys → Appends a c (xs ++ ys)
+more None b c xs ys p q = tt
+more (Some x) None c xs ys p q = absurd p
+more (Some x) (Some y) None xs ys p q = absurd q
+more (Some x) (Some y) (Some z) xs ys p q = q ∙ ap (λ (l : Text). l ++ ys) p ∙ append_assoc x xs ys
+
+no_more : (a b c : Option Text) (xs : Text) → Appends a b xs → Keeps b c → Appends a c xs
+no_more None b c xs p q = tt
+no_more (Some x) None c xs p q = absurd p
+no_more (Some x) (Some y) None xs p q = absurd q
+no_more (Some x) (Some y) (Some z) xs p q = q ∙ p
+
+-- so far the text was put on the stream but for this rest
+pub record HasPut (before after : Option Text) (text rest : Text) : Type 0 where
+  pub front : Text
+  pub whole : text ≡ front ++ rest
+  pub gets : Appends before after front
+
+pub piece_put : (a b c : Option Text) (text rest : Text) (n : ℕ) → HasPut a b text rest → Appends b c (take n rest) → HasPut a c text (drop n rest)
+piece_put a b c text rest n h p = record {
+  front = h.front ++ take n rest;
+  whole = h.whole ∙ ap (λ (l : Text). h.front ++ l) (sym (take-append-drop n rest)) ∙ sym (append_assoc h.front (take n rest) (drop n rest));
+  gets = more a b c h.front (take n rest) h.gets p;
+}
+
+pub nothing_put : (a b c : Option Text) (text rest : Text) → HasPut a b text rest → Keeps b c → HasPut a c text rest
+nothing_put a b c text rest h p = record { front = h.front; whole = h.whole; gets = no_more a b c h.front h.gets p }
+
+-- ---- the program
+
+at_status : (words : List Text) (holds : Text → Known) (out err : Stream) (m n : ℕ) → n ≡ m → Does words holds out err m → Does words holds out err n
+at_status words holds out err m n e d = subst (λ (k : ℕ). Does words holds out err k) (sym e) d
+
+pub replays : (words : List Text) (holds : Text → Known) (out err : Stream) (file printed : Text) (n : ℕ)
+    → AsksReplay words file → PrintsFile (holds file) printed → GetsNothing err → Tries out printed 0 n → Does words holds out err n
+replays words holds out err file printed n asks prints quiet put =
+    at_status words holds out err (tried put.0 0) n put.2 (replayed put.0 asks prints put.1 quiet)
+
+pub refuses : (words : List Text) (holds : Text → Known) (out err : Stream) (file : Text) (why : Refusal) (n : ℕ)
+    → AsksReplay words file → IsWhy why (holds file) → GetsNothing out → Refuses err file why n → Does words holds out err n
+refuses words holds out err file why n asks is quiet put =
+    elim put [
+      | inl told ↦ at_status words holds out err (tried told.0 (status_of why)) n told.2 (refused why told.0 asks is quiet told.1)
+      | inr told ↦ at_status words holds out err (tried told.0 4) n told.2 (refused Memory told.0 asks tt quiet told.1)
+    ]
+
+four : (done : Bool) → tried done 4 ≡ 4
+four true = refl
+four false = refl
+
+pub shows : (words : List Text) (holds : Text → Known) (out err : Stream) (e : Error) (n : ℕ)
+    → IsRefused words e → GetsNothing out → Shows (kind_of e) err n → Does words holds out err n
+shows words holds out err e n is quiet shown =
+    elim shown [
+      | inl (kind, told) ↦ at_status words holds out err 4 n (told.2 ∙ four told.0) (unread told.0 quiet told.1)
+      | inr (kind, told) ↦ at_status words holds out err (tried told.0 3) n told.1
+          (unasked told.0 (elim is [ inl memory ↦ absurd (kind memory) | inr nothing ↦ nothing ]) quiet)
+    ]

@@ -1,0 +1,7 @@
+pub mod Script
+pub mod Lines
+pub mod Transcript
+pub mod Files
+pub mod Streams
+pub mod Refusals
+pub mod Program

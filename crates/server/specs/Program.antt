@@ -1,0 +1,107 @@
+-- What the program does (own): what it prints, its messages and its status.
+use Rattle.std.specs.Prelude.{◌≡◌, ◌⊎◌, ◌++◌, ℕ, Bool, List, [], ◌∷◌, None, false, Ok, Err, codes, decimal, ⊤}
+use Rattle.model.specs.Words.{Text}
+use Rattle.model.specs.State.{Config}
+use Rattle.model.specs.Arrivals.{Seen}
+use Rattle.model.specs.declared.events.Arrival.{Arrival}
+use Rattle.model.specs.Topology.{Topology}
+use Rattle.model.specs.declared.topologies.ExchangeKind.TheVariants.{Direct}
+use Rattle.model.specs.declared.topologies.Place.TheVariants as place
+use Rattle.clap.specs.declared.error.kind.ErrorKind.{ErrorKind}
+use Rattle.clap.specs.declared.error.kind.ErrorKind.TheVariants.{OutOfMemory}
+use Rattle.engine.specs.Certified.{in_force, IsCertified}
+use Rattle.command_line.specs.CommandLine.{AsksReplay, AsksNothing}
+use Rattle.server.specs.declared.refusals.Refusal.{Refusal}
+use Rattle.server.specs.declared.refusals.Refusal.TheVariants.{Line, TooLong, Unread, Unwritten, Memory}
+use Rattle.server.specs.Script.{script}
+use Rattle.server.specs.Transcript.{transcript_text}
+use Rattle.server.specs.Files.{Known, HasText, IsTooLong, IsClosed}
+use Rattle.server.specs.Streams.{Stream, GetsNothing, Puts, Tries, tried}
+
+-- ---- what a script prints
+
+-- the topology of a script without definitions: the queue `audit` is bound to the direct exchange `orders` by the key `new`
+abbrev pub built_in : Topology
+built_in = record {
+  exchanges = record { name = codes "orders"; kind = Direct; internal = false; alternate = None } ∷ [];
+  queues = record { name = codes "audit"; limit = None; dead_letter_exchange = None; dead_letter_key = None } ∷ [];
+  bindings = record { source = codes "orders"; to = place.Queue (codes "audit"); key = codes "new" } ∷ [];
+}
+
+-- what is in force over it: no guarantee, and nobody who may log in
+abbrev pub unguaranteed : Config
+unguaranteed = in_force (record { topology = built_in; guarantees = [] }) []
+
+-- The text prints what a run of the script's arrivals shows, and certified delivery holds of that run.
+pub record Prints (text printed : Text) : Type 0 where
+  pub arrivals : List Arrival
+  pub read : script text ≡ Ok arrivals
+  pub seen : Seen
+  pub certified : IsCertified unguaranteed arrivals seen
+  pub shown : printed ≡ transcript_text seen
+
+-- ---- refusals
+
+-- the line that tells of a file: `warren: FILE: ` and what is wrong with it
+abbrev pub told : Text → Text → Text
+told file what = codes "warren: " ++ (file ++ (codes ": " ++ (what ++ 10 ∷ [])))
+
+-- what tells of want of memory
+abbrev pub out_of_memory : Text
+out_of_memory = codes "warren: memory\n"
+
+-- what tells of a refusal
+abbrev pub message : Text → Refusal → Text
+message file (Line n) = told file (codes "line " ++ decimal n)
+message file TooLong = told file (codes "refused 10")
+message file Unread = told file (codes "cannot read")
+message file Unwritten = told file (codes "cannot write")
+message file Memory = out_of_memory
+
+-- the exit status: 3 for a file that is refused, 4 for memory, input or output
+abbrev pub status_of : Refusal → ℕ
+status_of (Line n) = 3
+status_of TooLong = 3
+status_of Unread = 4
+status_of Unwritten = 4
+status_of Memory = 4
+
+-- Why a script of which this is known is not replayed: its first line at fault, its length, or that it cannot be read.
+abbrev pub IsWhy : Refusal → Known → Type 0
+IsWhy (Line n) known = (text : Text) × HasText known text × (script text ≡ Err n)
+IsWhy TooLong known = IsTooLong known
+IsWhy Unread known = IsClosed known
+IsWhy Unwritten known = ⊥
+IsWhy Memory known = ⊤
+
+-- the same of a script that was read
+abbrev pub IsOf : Refusal → Text → Type 0
+IsOf (Line n) text = script text ≡ Err n
+IsOf Memory text = ⊤
+IsOf other text = ⊥
+
+-- the file's text prints this
+abbrev pub PrintsFile : Known → Text → Type 0
+PrintsFile known printed = (text : Text) × HasText known text × Prints text printed
+
+-- ---- the program
+
+-- this refusal of the file was told, or want of memory for telling it
+abbrev pub Refuses : Stream → Text → Refusal → ℕ → Type 0
+Refuses err file why status = Tries err (message file why) (status_of why) status ⊎ Tries err out_of_memory 4 status
+
+-- a command line that was refused for this was shown: want of memory by our own line, any other by clap's text
+abbrev pub Shows : ErrorKind → Stream → ℕ → Type 0
+Shows kind err status = ((kind ≡ OutOfMemory) × Tries err out_of_memory 4 status) ⊎ ((kind ≡ OutOfMemory → ⊥) × ((done : Bool) × (status ≡ tried done 3)))
+
+-- What a call comes to, by its words, the files as they are known, what standard output and standard error got, and the
+-- status. Where a stream took no more, `done` is false and the status 4.
+pub data Does (words : List Text) (holds : Text → Known) (out err : Stream) : ℕ → Type 0 where
+  -- the script was run, and what it prints was put out
+  replayed : {file printed : Text} (done : Bool) → AsksReplay words file → PrintsFile (holds file) printed → Puts out printed done → GetsNothing err → Does words holds out err (tried done 0)
+  -- the script was refused, which was told
+  refused : {file : Text} (why : Refusal) (done : Bool) → AsksReplay words file → IsWhy why (holds file) → GetsNothing out → Puts err (message file why) done → Does words holds out err (tried done (status_of why))
+  -- the words ask for nothing, and clap's own text was shown
+  unasked : (done : Bool) → AsksNothing words → GetsNothing out → Does words holds out err (tried done 3)
+  -- memory was wanting before the words were read
+  unread : (done : Bool) → GetsNothing out → Puts err out_of_memory done → Does words holds out err 4

@@ -1,0 +1,97 @@
+//! Why the program does not do what it is asked for, and how it tells so.
+
+ghost use Rattle.std.specs.Prelude.{◌≡◌, IfOk, string_bytes};
+ghost use Rattle.server.specs.Program.{message, out_of_memory, status_of, Refuses};
+ghost use Rattle.server.specs.Streams.{Tries};
+
+use crate::storage;
+use crate::streams::{put, tried};
+use std::alloc::{AllocError, Global};
+use std::io::Write;
+
+/// What tells that a growth was refused.
+const OUT_OF_MEMORY: &str = "warren: memory\n";
+
+/// Why a command is not done.
+#[derive(Clone, Copy, PartialEq, Eq, Debug, Drop)]
+pub enum Refusal {
+    /// This line of the script is at fault. Lines count from 1.
+    Line(u64),
+    /// The file is too long.
+    TooLong,
+    /// The file cannot be read.
+    Unread,
+    /// The file cannot be written.
+    Unwritten,
+    /// A growth was refused.
+    Memory,
+}
+
+impl From<AllocError> for Refusal {
+    ghost use Rattle.std.specs.Prelude.{◌≡◌};
+    ghost use Rattle.server.specs.declared.refusals.Refusal.TheVariants.{Memory};
+
+    ghost from_gives = { λ _ r. r ≡ Memory };
+
+    fn from(_: AllocError) -> Refusal {
+        Refusal::Memory
+    }
+}
+
+impl From<storage::Unread> for Refusal {
+    ghost use Rattle.std.specs.Prelude.{◌≡◌};
+    ghost use Rattle.server.specs.Refusals.{of_file};
+
+    ghost from_gives = { λ why r. r ≡ of_file why };
+
+    fn from(why: storage::Unread) -> Refusal {
+        match why {
+            storage::Unread::Failed => Refusal::Unread,
+            storage::Unread::TooLong => Refusal::TooLong,
+            storage::Unread::Memory => Refusal::Memory,
+        }
+    }
+}
+
+/// What is wrong with a file, as it is told.
+fn message(alloc: Global, file: &str, refusal: Refusal) -> Result<String, AllocError>
+    ensures { IfOk result (λ text. string_bytes text ≡ message file.now refusal) }
+{
+    match refusal {
+        Refusal::Line(n) => format!(in alloc; "warren: {file}: line {n}\n"),
+        Refusal::TooLong => format!(in alloc; "warren: {file}: refused 10\n"),
+        Refusal::Unread => format!(in alloc; "warren: {file}: cannot read\n"),
+        Refusal::Unwritten => format!(in alloc; "warren: {file}: cannot write\n"),
+        Refusal::Memory => String::from_str(alloc, OUT_OF_MEMORY),
+    }
+}
+
+/// The status of a refusal: 3 for a file that is refused, 4 for memory, input or output.
+fn status_of(refusal: Refusal) -> u8
+    ensures { result ≡ status_of refusal }
+{
+    match refusal {
+        Refusal::Line(_) => 3,
+        Refusal::TooLong => 3,
+        Refusal::Unread => 4,
+        Refusal::Unwritten => 4,
+        Refusal::Memory => 4,
+    }
+}
+
+/// Tells that a growth was refused, and gives the status.
+pub fn refuse_memory<E: Write>(err: &mut E) -> u8
+    ensures { Tries (record { before = E.contents err.old; after = E.contents err.new }) out_of_memory 4 result }
+{
+    tried(put(err, OUT_OF_MEMORY.as_bytes()), 4)
+}
+
+/// Tells why a file is refused, and gives the status.
+pub fn refuse<E: Write>(alloc: Global, err: &mut E, file: &str, refusal: Refusal) -> u8
+    ensures { Refuses (record { before = E.contents err.old; after = E.contents err.new }) file.now refusal result }
+{
+    match message(alloc, file, refusal) {
+        Ok(text) => tried(put(err, text.as_bytes()), status_of(refusal)),
+        Err(_) => refuse_memory(err),
+    }
+}

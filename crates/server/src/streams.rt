@@ -1,0 +1,39 @@
+//! Texts that are put on a stream.
+
+ghost use Rattle.std.specs.Prelude.{◌≡◌, is_ok};
+ghost use Rattle.server.specs.Streams.{Puts, tried};
+
+use std::io;
+use std::io::{ErrorKind, Write};
+
+/// Puts a text behind what the stream holds. Where a write fails, the stream took a beginning of it.
+pub fn put<W: Write>(stream: &mut W, text: &[u8]) -> io::Result<()>
+    ensures { Puts (record { before = W.contents stream.old; after = W.contents stream.new }) text.now (is_ok result) }
+{
+    let mut rest = text;
+    'pieces: for _ in 0..u64::MAX {
+        if rest.is_empty() {
+            return Ok(());
+        }
+        match stream.write(rest) {
+            Ok(0) => return Err(io::Error::from(ErrorKind::WriteZero)),
+            Ok(n) => rest = rest.split_at(n).1,
+            Err(error) => {
+                if error.kind() != ErrorKind::Interrupted {
+                    return Err(error);
+                }
+            }
+        }
+    }
+    Err(io::Error::from(ErrorKind::Interrupted))
+}
+
+/// This status where a stream took all, and 4 where it didn't.
+pub fn tried(put: io::Result<()>, status: u8) -> u8
+    ensures { result ≡ tried (is_ok put) status }
+{
+    match put {
+        Ok(()) => status,
+        Err(_) => 4,
+    }
+}
