@@ -1,0 +1,52 @@
+-- Users, one by one.
+use Rattle.std.proofs.Common.{◌≡◌, ℕ, ◌+◌, ◌<◌, ◌≤◌, List, [], ◌∷◌, ◌++◌, Option, Some, None, length, map, take, drop, get_or, refl, sym, ap, ◌∙◌, subst, append_assoc, append-nil}
+use Rattle.std.specs.Prelude.{All, IsSome}
+use Rattle.std.proofs.lemmas.List.{drop_more, at_drop_all}
+use Rattle.model.specs.Words.{Text}
+use Rattle.model.specs.declared.messages.User.{User}
+use Rattle.exchange_graph.proofs.Alls.{all_more, all_taken}
+use Rattle.definitions.specs.declared.document.UserEntry.{UserEntry}
+use Rattle.definitions.specs.Causes.{hash_of}
+use Rattle.definitions.specs.States.{user_of}
+use Rattle.definitions.specs.Hashed.{AreHashed}
+
+is_hashed : (e : UserEntry) (o : Option Text) (h : Text) → o ≡ hash_of e → o ≡ Some h → IsSome (hash_of e)
+is_hashed e o h p q = subst (λ (z : Option Text). IsSome z) (sym q ∙ p) refl
+
+is_user : (e : UserEntry) (o : Option Text) (name h : Text) → o ≡ hash_of e → o ≡ Some h → name ≡ e.name → user_of e ≡ record { name = name; hash = h }
+is_user e o name h p q n = rw (n, ← p, q) refl
+
+-- what is so far read of some entries
+pub record AreSoFar (entries : List UserEntry) (i : ℕ) (made : List User) : Type 0 where
+  pub hashed : All (λ (u : UserEntry). IsSome (hash_of u)) (take i entries)
+  pub are : made ++ map user_of (drop i entries) ≡ map user_of entries
+
+pub one_more : (entries : List UserEntry) (i : ℕ) (e : UserEntry) (made : List User) (o : Option Text) (name h : Text) → i < length entries → e ≡ get_or entries i e
+    → o ≡ hash_of e → o ≡ Some h → name ≡ e.name → AreSoFar entries i made → AreSoFar entries (i + 1) (made ++ record { name = name; hash = h } ∷ [])
+one_more entries i e made o name h l g p q n s = record {
+  hashed = all_more (λ (u : UserEntry). IsSome (hash_of u)) entries i e l g (is_hashed e o h p q) s.hashed;
+  are =
+      append_assoc made (record { name = name; hash = h } ∷ []) (map user_of (drop (i + 1) entries))
+      ∙ ap (λ (u : User). made ++ u ∷ map user_of (drop (i + 1) entries)) (sym (is_user e o name h p q n))
+      ∙ ap (λ (x : UserEntry). made ++ user_of x ∷ map user_of (drop (i + 1) entries)) g
+      ∙ ap (λ (xs : List UserEntry). made ++ map user_of xs) (sym (drop_more entries i e l))
+      ∙ s.are;
+}
+
+pub all_read : (entries : List UserEntry) (i : ℕ) (made : List User) → length entries ≤ i → AreSoFar entries i made → AreHashed entries made
+all_read entries i made l s = record {
+  hashed = all_taken (λ (u : UserEntry). IsSome (hash_of u)) entries i l s.hashed;
+  are =
+      sym (append-nil made)
+      ∙ ap (λ (xs : List UserEntry). made ++ map user_of xs) (sym (at_drop_all (λ (xs : List UserEntry). xs) entries i l))
+      ∙ s.are;
+}
+
+-- an entry without a hash
+pub not_hashed : (entries : List UserEntry) (i : ℕ) (e : UserEntry) (o : Option Text) → i < length entries → e ≡ get_or entries i e → o ≡ hash_of e → o ≡ None
+    → All (λ (u : UserEntry). IsSome (hash_of u)) entries → ⊥
+not_hashed entries i e o l g p q a =
+    let s : IsSome (hash_of e) = subst (λ (x : UserEntry). IsSome (hash_of x)) (sym g) (a i e l) in
+    let n : hash_of e ≡ None = sym p ∙ q in
+    let z : IsSome {T = Text} None = subst (λ (z : Option Text). IsSome z) n s in
+    cc

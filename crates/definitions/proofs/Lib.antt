@@ -1,0 +1,6 @@
+pub mod Naming
+pub mod Deciding
+pub mod Order
+pub mod Hashing
+pub mod Building
+pub mod Whole

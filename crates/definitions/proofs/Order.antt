@@ -1,0 +1,71 @@
+-- The causes one by one, in their order.
+use Rattle.std.proofs.Common.{◌≡◌, ℕ, ◌+◌, ◌<◌, ◌==◌, Option, Some, None, inl, inr, refl, sym, ap, ◌∙◌, subst, arith}
+use Rattle.std.proofs.lemmas.Bool.Decides.{eqb_tells}
+use Rattle.std.specs.Prelude.{◌⊎◌, if◌then◌else◌, MatchOption}
+use Rattle.definitions.specs.declared.bad.Bad.{Bad}
+use Rattle.definitions.specs.declared.bad.Bad.TheVariants.{NotJson, Malformed, OtherVhost, Repeated, Absent, OtherType, Unsupported, NoOverflow, Worded, TooMany, NoExchange, OtherPermission, OtherHash, Memory}
+use Rattle.definitions.specs.declared.known.Known.{Known}
+use Rattle.definitions.specs.Numbers.{number}
+use Rattle.definitions.specs.File.{File}
+use Rattle.definitions.specs.Known.{KnowsFile}
+use Rattle.definitions.specs.Causes.{HasNamesApart, IsClear, IsClearBelow}
+
+-- the cause of a number
+abbrev numbered : ℕ → Bad
+numbered n = if n == 1 then NotJson else if n == 2 then Malformed else if n == 3 then OtherVhost else if n == 4 then Repeated else if n == 5 then Absent else if n == 6 then OtherType
+    else if n == 7 then Unsupported else if n == 8 then NoOverflow else if n == 9 then Worded else if n == 10 then TooMany else if n == 11 then NoExchange else if n == 12 then OtherPermission
+    else if n == 13 then OtherHash else Memory
+
+again : (b : Bad) → numbered (number b) ≡ b
+again NotJson = refl
+again Malformed = refl
+again OtherVhost = refl
+again Repeated = refl
+again Absent = refl
+again OtherType = refl
+again Unsupported = refl
+again NoOverflow = refl
+again Worded = refl
+again TooMany = refl
+again NoExchange = refl
+again OtherPermission = refl
+again OtherHash = refl
+again Memory = refl
+
+pub number_same : (a b : Bad) → number a ≡ number b → a ≡ b
+number_same a b e = sym (again a) ∙ ap numbered e ∙ again b
+
+split : (a n : ℕ) → a < n + 1 → (a < n) ⊎ (a ≡ n)
+split a n h = elim (eqb_tells a n) [ inl e ↦ inr e.1 | inr e ↦ inl (let ne = e.1 in omega (arith, h, ne)) ]
+
+-- no cause of an entry has a number below 3
+pub none_below : (f : File) → IsClearBelow 3 f
+none_below f NotJson h = tt
+none_below f Malformed h = tt
+none_below f OtherVhost h = absurd (omega (arith, h))
+none_below f Repeated h = absurd (omega (arith, h))
+none_below f Absent h = absurd (omega (arith, h))
+none_below f OtherType h = absurd (omega (arith, h))
+none_below f Unsupported h = absurd (omega (arith, h))
+none_below f NoOverflow h = absurd (omega (arith, h))
+none_below f Worded h = absurd (omega (arith, h))
+none_below f TooMany h = absurd (omega (arith, h))
+none_below f NoExchange h = absurd (omega (arith, h))
+none_below f OtherPermission h = absurd (omega (arith, h))
+none_below f OtherHash h = absurd (omega (arith, h))
+none_below f Memory h = tt
+
+-- one cause more
+pub below_next : (f : File) (bad : Bad) → IsClearBelow (number bad) f → IsClear bad f → IsClearBelow (number bad + 1) f
+below_next f bad below clear other h = elim (split (number other) (number bad) h) [
+  | inl l ↦ below other l
+  | inr e ↦ subst (λ (b : Bad). IsClear b f) (sym (number_same other bad e)) clear
+]
+
+pub known_file : (f : File) (o : Option Known) (k : Known) → MatchOption o (HasNamesApart f → ⊥) (λ known. KnowsFile known.users known.queues known.exchanges f) → o ≡ Some k
+    → KnowsFile k.users k.queues k.exchanges f
+known_file f None k m e = absurd (cc)
+known_file f (Some j) k m e = let q : j ≡ k = cc in subst (λ (z : Known). KnowsFile z.users z.queues z.exchanges f) q m
+
+pub names_apart : (f : File) (k : Known) → KnowsFile k.users k.queues k.exchanges f → HasNamesApart f
+names_apart f k w = record { users = w.of_users.apart; queues = w.of_queues.apart; exchanges = w.of_exchanges.apart }

@@ -1,0 +1,259 @@
+-- What a definitions file must keep, cause by cause. Source: RabbitMQ, "Definition Export and Import"; the limits, and what is not built, are own.
+use Rattle.std.specs.Prelude.{codes, ◌≡◌, ◌<◌, ◌≤◌, ℕ, List, [], true, false, Option, Some, None, IsSome, map, length, All, Result, Ok, Err, ◌⊎◌, if◌then◌else◌, ◌==◌}
+use Rattle.std.specs.Str.{bytes_eq}
+use Rattle.base64.specs.Engines.{standard}
+use Rattle.base64.specs.GeneralPurpose.{decode_of}
+use Rattle.base64.specs.declared.decode.DecodeError.{DecodeError}
+use Rattle.model.specs.Words.{Text}
+use Rattle.model.specs.Topology.{AreApart, IsIn}
+use Rattle.model.specs.declared.topologies.ExchangeKind.{ExchangeKind}
+use Rattle.model.specs.declared.topologies.ExchangeKind.TheVariants.{Direct, Fanout, Topic}
+use Rattle.topic_match.specs.Patterns.{IsPattern}
+use Rattle.definitions.specs.declared.document.VhostEntry.{VhostEntry}
+use Rattle.definitions.specs.declared.document.UserEntry.{UserEntry}
+use Rattle.definitions.specs.declared.document.PermissionEntry.{PermissionEntry}
+use Rattle.definitions.specs.declared.document.ExchangeEntry.{ExchangeEntry}
+use Rattle.definitions.specs.declared.document.QueueEntry.{QueueEntry}
+use Rattle.definitions.specs.declared.document.BindingEntry.{BindingEntry}
+use Rattle.definitions.specs.declared.bad.Bad.{Bad}
+use Rattle.definitions.specs.declared.bad.Bad.TheVariants.{NotJson, Malformed, OtherVhost, Repeated, Absent, OtherType, Unsupported, NoOverflow, Worded, TooMany, NoExchange, OtherPermission, OtherHash, Memory}
+use Rattle.definitions.specs.Numbers.{number}
+use Rattle.definitions.specs.File.{File}
+
+-- ---- names of a file
+
+abbrev pub user_names : File → List Text
+user_names f = map (λ (u : UserEntry). u.name) f.users
+
+abbrev pub exchange_names : File → List Text
+exchange_names f = map (λ (x : ExchangeEntry). x.name) f.exchanges
+
+abbrev pub queue_names : File → List Text
+queue_names f = map (λ (q : QueueEntry). q.name) f.queues
+
+-- the users of the permissions
+abbrev pub permission_names : File → List Text
+permission_names f = map (λ (p : PermissionEntry). p.user) f.permissions
+
+-- ---- 3: one vhost
+
+-- there is one vhost, `/`, and no entry names another
+pub record HasOneVhost (f : File) : Type 0 where
+  pub one : length f.vhosts ≡ 1
+  pub vhosts : All (λ (v : VhostEntry). v.name ≡ codes "/") f.vhosts
+  pub permissions : All (λ (p : PermissionEntry). p.vhost ≡ codes "/") f.permissions
+  pub exchanges : All (λ (x : ExchangeEntry). x.vhost ≡ codes "/") f.exchanges
+  pub queues : All (λ (q : QueueEntry). q.vhost ≡ codes "/") f.queues
+  pub bindings : All (λ (b : BindingEntry). b.vhost ≡ codes "/") f.bindings
+
+-- ---- 4: names apart
+
+-- no two users, no two queues and no two exchanges have one name
+pub record HasNamesApart (f : File) : Type 0 where
+  pub users : AreApart (user_names f)
+  pub queues : AreApart (queue_names f)
+  pub exchanges : AreApart (exchange_names f)
+
+-- ---- 5: what a binding names is there
+
+-- one of these exchanges has this name; the default exchange is none of them
+pub record IsExchange (exchanges : List Text) (name : Text) : Type 0 where
+  pub some : name ≡ [] → ⊥
+  pub there : IsIn name exchanges
+
+-- a binding's destination is there, where its type is known
+pub record Leads (exchanges queues : List Text) (b : BindingEntry) : Type 0 where
+  pub queue : b.destination_type ≡ codes "queue" → IsIn b.destination queues
+  pub exchange : b.destination_type ≡ codes "exchange" → IsExchange exchanges b.destination
+
+-- a binding's source and destination are there
+pub record Joins (exchanges queues : List Text) (b : BindingEntry) : Type 0 where
+  pub source : IsExchange exchanges b.source
+  pub end : Leads exchanges queues b
+
+-- every binding does
+abbrev pub HasAllJoin : File → Type 0
+HasAllJoin f = All (Joins (exchange_names f) (queue_names f)) f.bindings
+
+-- ---- 6: exchange types
+
+-- the exchange type of this name
+abbrev pub kind_named : Text → Option ExchangeKind
+kind_named t = if bytes_eq t (codes "direct") then Some Direct else if bytes_eq t (codes "fanout") then Some Fanout else if bytes_eq t (codes "topic") then Some Topic else None
+
+-- every exchange has one
+abbrev pub HasTypes : File → Type 0
+HasTypes f = All (λ (x : ExchangeEntry). IsSome (kind_named x.kind)) f.exchanges
+
+-- ---- 7: nothing that is not built
+
+-- an exchange has only listed members and arguments, and is not auto-delete
+pub record IsPlainExchange (x : ExchangeEntry) : Type 0 where
+  pub members : x.listed ≡ true
+  pub arguments : x.arguments.listed ≡ true
+  pub stays : x.auto_delete ≡ false
+
+-- a queue has only listed members and arguments, is not auto-delete, refuses what is too much, and has no dead-letter key without a dead-letter exchange
+pub record IsPlainQueue (q : QueueEntry) : Type 0 where
+  pub members : q.listed ≡ true
+  pub arguments : q.arguments.listed ≡ true
+  pub stays : q.auto_delete ≡ false
+  pub overflow : (o : Text) → q.arguments.overflow ≡ Some o → o ≡ codes "reject-publish"
+  pub key : (key : Text) → q.arguments.dead_letter_key ≡ Some key → q.arguments.dead_letter_exchange ≡ None → ⊥
+
+-- a binding has only listed members and no argument, and leads to a queue or an exchange
+pub record IsPlainBinding (b : BindingEntry) : Type 0 where
+  pub members : b.listed ≡ true
+  pub destination : (b.destination_type ≡ codes "queue") ⊎ (b.destination_type ≡ codes "exchange")
+
+-- there is none of these, and no policy, parameter or topic permission
+pub record IsSupported (f : File) : Type 0 where
+  pub plain : f.plain ≡ true
+  pub exchanges : All IsPlainExchange f.exchanges
+  pub queues : All IsPlainQueue f.queues
+  pub bindings : All IsPlainBinding f.bindings
+
+-- ---- 8: limits refuse
+
+-- a queue with a limit says what it does past it
+abbrev pub SaysOverflow : QueueEntry → Type 0
+SaysOverflow q = (n : ℕ) → q.arguments.max_length ≡ Some n → q.arguments.overflow ≡ None → ⊥
+
+-- every queue does
+abbrev pub HasOverflows : File → Type 0
+HasOverflows f = All SaysOverflow f.queues
+
+-- ---- 9: names and keys
+
+-- a name has at most 255 bytes
+abbrev pub IsShort : Text → Type 0
+IsShort name = length name ≤ 255
+
+-- an exchange's name has from 1 to 255 bytes
+pub record IsNamed (x : ExchangeEntry) : Type 0 where
+  pub some : x.name ≡ [] → ⊥
+  pub short : IsShort x.name
+
+-- a queue's name is a pattern of at least one word, and its dead-letter key a pattern
+pub record IsWorded (q : QueueEntry) : Type 0 where
+  pub some : q.name ≡ [] → ⊥
+  pub name : IsPattern q.name
+  pub key : (key : Text) → q.arguments.dead_letter_key ≡ Some key → IsPattern key
+
+-- every name and key has its form
+pub record HasAllWorded (f : File) : Type 0 where
+  pub users : All (λ (u : UserEntry). IsShort u.name) f.users
+  pub exchanges : All IsNamed f.exchanges
+  pub queues : All IsWorded f.queues
+  pub bindings : All (λ (b : BindingEntry). IsPattern b.key) f.bindings
+
+-- ---- 10: limits of a file
+
+-- at most 256 exchanges, 256 queues, 4,096 bindings and 256 users
+pub record IsSmall (f : File) : Type 0 where
+  pub exchanges : length f.exchanges ≤ 256
+  pub queues : length f.queues ≤ 256
+  pub bindings : length f.bindings ≤ 4096
+  pub users : length f.users ≤ 256
+
+-- ---- 11: where exchanges and queues pass on
+
+-- an alternate exchange is one of these
+abbrev pub AlternateIsThere : List Text → ExchangeEntry → Type 0
+AlternateIsThere exchanges x = (other : Text) → x.arguments.alternate ≡ Some other → IsIn other exchanges
+
+-- a dead-letter exchange is one of these, or is the default one
+abbrev pub DeadLettersLead : List Text → QueueEntry → Type 0
+DeadLettersLead exchanges q = (x : Text) → q.arguments.dead_letter_exchange ≡ Some x → (x ≡ []) ⊎ IsIn x exchanges
+
+-- all of these are
+pub record HasNamesLead (f : File) : Type 0 where
+  pub alternates : All (AlternateIsThere (exchange_names f)) f.exchanges
+  pub dead : All (DeadLettersLead (exchange_names f)) f.queues
+
+-- ---- 12: permissions
+
+-- to configure nothing, and to write and read all
+pub record IsWhole (p : PermissionEntry) : Type 0 where
+  pub configure : p.configure ≡ codes "^$"
+  pub write : p.write ≡ codes ".*"
+  pub read : p.read ≡ codes ".*"
+
+-- a user is one of those who have a permission
+pub record IsPermitted (names : List Text) (u : UserEntry) : Type 0 where
+  pub there : IsIn u.name names
+
+-- a permission is of one of these users
+pub record IsOfUser (names : List Text) (p : PermissionEntry) : Type 0 where
+  pub there : IsIn p.user names
+
+-- each user has exactly one permission, each is of a user, and each is whole
+pub record HasPermissions (f : File) : Type 0 where
+  pub whole : All IsWhole f.permissions
+  pub apart : AreApart (permission_names f)
+  pub each : All (IsPermitted (permission_names f)) f.users
+  pub known : All (IsOfUser (user_names f)) f.permissions
+
+-- ---- 13: password hashes
+
+-- exactly 36 bytes
+abbrev pub of_36 : Text → Option Text
+of_36 hash = if length hash == 36 then Some hash else None
+
+-- the 36 bytes of which this is the padded Base64 (RFC 4648, section 4)
+abbrev pub hash_decoded : Result Text DecodeError → Option Text
+hash_decoded (Ok hash) = of_36 hash
+hash_decoded (Err e) = None
+
+-- a user's salt and hash, if it is hashed by SHA-256
+unfoldable pub hash_of : UserEntry → Option Text
+hash_of u = if bytes_eq u.hashing_algorithm (codes "rabbit_password_hashing_sha256") then hash_decoded (decode_of standard u.password_hash) else None
+
+-- every user has one
+abbrev pub HasHashes : File → Type 0
+HasHashes f = All (λ (u : UserEntry). IsSome (hash_of u)) f.users
+
+-- ---- all of them
+
+-- the file is clear of this cause
+abbrev pub IsClear : Bad → File → Type 0
+IsClear NotJson f = Unit {0}
+IsClear Malformed f = Unit {0}
+IsClear OtherVhost f = HasOneVhost f
+IsClear Repeated f = HasNamesApart f
+IsClear Absent f = HasAllJoin f
+IsClear OtherType f = HasTypes f
+IsClear Unsupported f = IsSupported f
+IsClear NoOverflow f = HasOverflows f
+IsClear Worded f = HasAllWorded f
+IsClear TooMany f = IsSmall f
+IsClear NoExchange f = HasNamesLead f
+IsClear OtherPermission f = HasPermissions f
+IsClear OtherHash f = HasHashes f
+IsClear Memory f = Unit {0}
+
+-- .. and of every cause below this number
+abbrev pub IsClearBelow : ℕ → File → Type 0
+IsClearBelow n f = (bad : Bad) → number bad < n → IsClear bad f
+
+-- This cause stands in the file, and none below it.
+pub record IsLeast (bad : Bad) (f : File) : Type 0 where
+  pub below : IsClearBelow (number bad) f
+  pub stands : IsClear bad f → ⊥
+
+-- the cause that is told is the least; want of memory owes nothing
+abbrev pub IsTold : Bad → File → Type 0
+IsTold NotJson f = IsLeast NotJson f
+IsTold Malformed f = IsLeast Malformed f
+IsTold OtherVhost f = IsLeast OtherVhost f
+IsTold Repeated f = IsLeast Repeated f
+IsTold Absent f = IsLeast Absent f
+IsTold OtherType f = IsLeast OtherType f
+IsTold Unsupported f = IsLeast Unsupported f
+IsTold NoOverflow f = IsLeast NoOverflow f
+IsTold Worded f = IsLeast Worded f
+IsTold TooMany f = IsLeast TooMany f
+IsTold NoExchange f = IsLeast NoExchange f
+IsTold OtherPermission f = IsLeast OtherPermission f
+IsTold OtherHash f = IsLeast OtherHash f
+IsTold Memory f = Unit {0}

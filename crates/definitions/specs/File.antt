@@ -1,0 +1,57 @@
+-- What a definitions file states, entry by entry. Source: RabbitMQ, "Definition Export and Import".
+use Rattle.std.specs.Prelude.{codes, ◌≡◌, ℕ, List, Bool, Option, Some, None, Result, Ok, Err, option_and_then}
+use Rattle.serde_json.specs.Data.{Data}
+use Rattle.json_file.specs.Members.{array_at, each}
+use Rattle.json_file.specs.Outcomes.{Fails}
+use Rattle.json_file.specs.declared.faults.Fault.{Fault}
+use Rattle.definitions.specs.declared.document.VhostEntry.{VhostEntry}
+use Rattle.definitions.specs.declared.document.UserEntry.{UserEntry}
+use Rattle.definitions.specs.declared.document.PermissionEntry.{PermissionEntry}
+use Rattle.definitions.specs.declared.document.ExchangeEntry.{ExchangeEntry}
+use Rattle.definitions.specs.declared.document.QueueEntry.{QueueEntry}
+use Rattle.definitions.specs.declared.document.BindingEntry.{BindingEntry}
+use Rattle.definitions.specs.declared.document.Document.{Document}
+use Rattle.definitions.specs.Shape.{◌>>=◌, vhost_at, user_at, permission_at, exchange_at, queue_at, binding_at, plain_at}
+
+-- the entries, each list in the order of the file, and whether there is no policy, parameter or topic permission
+pub record File : Type 0 where
+  pub vhosts : List VhostEntry
+  pub users : List UserEntry
+  pub permissions : List PermissionEntry
+  pub exchanges : List ExchangeEntry
+  pub queues : List QueueEntry
+  pub bindings : List BindingEntry
+  pub plain : Bool
+
+-- the entries of the array at this member
+abbrev pub entries_at : {A : Type 0} → (Data → Option A) → List ℕ → Data → Option (List A)
+entries_at reads name d = option_and_then (each reads) (array_at name d)
+
+-- the entries that a JSON value states, if it is an object with all of these members, each of its kind; others are ignored
+unfoldable pub file_at : Data → Option File
+file_at d = do
+  vhosts ← entries_at vhost_at (codes "vhosts") d
+  users ← entries_at user_at (codes "users") d
+  permissions ← entries_at permission_at (codes "permissions") d
+  exchanges ← entries_at exchange_at (codes "exchanges") d
+  queues ← entries_at queue_at (codes "queues") d
+  bindings ← entries_at binding_at (codes "bindings") d
+  plain ← plain_at d
+  Some (record { vhosts = vhosts; users = users; permissions = permissions; exchanges = exchanges; queues = queues; bindings = bindings; plain = plain })
+
+-- the entries that a document holds
+abbrev pub file_of : Document → File
+file_of d = record {
+  vhosts = d.vhosts.items;
+  users = d.users.items;
+  permissions = d.permissions.items;
+  exchanges = d.exchanges.items;
+  queues = d.queues.items;
+  bindings = d.bindings.items;
+  plain = d.plain;
+}
+
+-- what a value states is given, or it is refused where it states nothing
+abbrev pub GivesFile : Result Document Fault → Option File → Type 0
+GivesFile (Ok d) o = o ≡ Some (file_of d)
+GivesFile (Err e) o = Fails e (o ≡ None)

@@ -1,0 +1,52 @@
+-- What is known of a file whose entries were looked at.
+use Rattle.std.specs.Prelude.{◌≡◌, ℕ, List, Result, Ok, Err, ⊤}
+use Rattle.model.specs.Topology.{Topology}
+use Rattle.definitions.specs.declared.bad.Bad.{Bad}
+use Rattle.definitions.specs.declared.bad.Bad.TheVariants.{NotJson, Malformed, OtherVhost, Repeated, Absent, OtherType, Unsupported, NoOverflow, Worded, TooMany, NoExchange, OtherPermission, OtherHash, Memory}
+use Rattle.definitions.specs.declared.document.Document.{Document}
+use Rattle.definitions.specs.File.{File, file_of}
+use Rattle.definitions.specs.Causes.{IsClearBelow, IsTold}
+use Rattle.definitions.specs.States.{topology_of, users_of}
+use Rattle.definitions.specs.Reads.{IsFile, IsFirst, Stated}
+
+-- the entries of a file are given, or it is refused because it has none
+abbrev pub IsUnread : Bad → List ℕ → Type 0
+IsUnread NotJson bytes = IsFirst NotJson bytes
+IsUnread Malformed bytes = IsFirst Malformed bytes
+IsUnread OtherVhost bytes = ⊥
+IsUnread Repeated bytes = ⊥
+IsUnread Absent bytes = ⊥
+IsUnread OtherType bytes = ⊥
+IsUnread Unsupported bytes = ⊥
+IsUnread NoOverflow bytes = ⊥
+IsUnread Worded bytes = ⊥
+IsUnread TooMany bytes = IsFirst TooMany bytes
+IsUnread NoExchange bytes = ⊥
+IsUnread OtherPermission bytes = ⊥
+IsUnread OtherHash bytes = ⊥
+IsUnread Memory bytes = Unit {0}
+
+abbrev pub Opens : Result Document Bad → List ℕ → Type 0
+Opens (Ok d) bytes = IsFile bytes (file_of d)
+Opens (Err bad) bytes = IsUnread bad bytes
+
+-- no cause below 13 stands in the entries, or the least is told
+abbrev pub Judges : Result ⊤ Bad → File → Type 0
+Judges (Ok done) f = IsClearBelow 13 f
+Judges (Err bad) f = IsTold bad f
+
+-- the topology of the entries is given, or memory is wanting
+abbrev pub Topologies : Result Topology Bad → File → Type 0
+Topologies (Ok t) f = t ≡ topology_of f
+Topologies (Err bad) f = bad ≡ Memory
+
+-- no cause stands in the entries, and they are given as what they set up
+pub record IsSettled (s : Stated) (f : File) : Type 0 where
+  pub clear : IsClearBelow 15 f
+  pub topology : s.topology ≡ topology_of f
+  pub users : s.users ≡ users_of f
+
+-- .. or the least cause is told
+abbrev pub Settles : Result Stated Bad → File → Type 0
+Settles (Ok s) f = IsSettled s f
+Settles (Err bad) f = IsTold bad f

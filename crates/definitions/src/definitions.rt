@@ -1,0 +1,98 @@
+//! Definitions files.
+
+ghost use Rattle.std.specs.Prelude.{◌≡◌};
+ghost use Rattle.definitions.specs.Causes.{IsClearBelow};
+ghost use Rattle.definitions.specs.File.{file_of};
+ghost use Rattle.definitions.specs.Judged.{Opens, Settles, Topologies};
+ghost use Rattle.definitions.specs.Reads.{Reads};
+
+use crate::bad::Bad;
+use crate::document::Document;
+use crate::judging::judge;
+use crate::shape::document;
+use crate::stating::{bindings_of, exchanges_of, queues_of, users_of};
+use exchange_graph::{Bad as NotBuilt, Topology};
+use json_file::parse;
+use model::User;
+use std::alloc::Global;
+use std::marker::Model;
+
+/// What a file sets up.
+#[derive(Drop)]
+pub struct Definitions {
+    topology: Topology,
+    users: Vec<User>,
+}
+
+impl Model for Definitions {
+    ghost use Rattle.definitions.specs.Reads.{Stated};
+
+    ghost Value = { Stated };
+
+    ghost view = { λ d. record { topology = d.topology; users = d.users.items } };
+}
+
+impl Definitions {
+    /// Its exchanges, queues and bindings, each in the order of the file.
+    pub fn topology(&self) -> &Topology
+        ensures { result.now ≡ self.now.topology }
+    {
+        &self.topology
+    }
+
+    /// Its users, in the order of the file.
+    pub fn users(&self) -> &[User]
+        ensures { result.now ≡ self.now.users }
+    {
+        self.users.as_slice()
+    }
+}
+
+/// The entries of a file, or why it has none.
+fn open(alloc: Global, bytes: &[u8]) -> Result<Document, Bad>
+    ensures { Opens result bytes.now }
+{
+    let value = parse(alloc, bytes)?;
+    let document = document(alloc, &value)?;
+    Ok(document)
+}
+
+/// The topology of a file in which no cause stands that is told of its topology.
+fn build(alloc: Global, document: &Document) -> Result<Topology, Bad>
+    requires { IsClearBelow 13 (file_of document.now) }
+    ensures { Topologies result (file_of document.now) }
+{
+    let exchanges = exchanges_of(alloc, document.exchanges.as_slice())?;
+    let queues = queues_of(alloc, document.queues.as_slice())?;
+    let bindings = bindings_of(alloc, document.bindings.as_slice())?;
+    match Topology::build(alloc, exchanges, queues, bindings) {
+        Ok(topology) => Ok(topology),
+        Err(bad) => match bad {
+            NotBuilt::Memory => Err(Bad::Memory),
+            _ => unreachable!(),
+        },
+    }
+}
+
+/// What the entries of a file set up, or the least cause that stands in them.
+fn settle(alloc: Global, document: &Document) -> Result<Definitions, Bad>
+    ensures { Settles result (file_of document.now) }
+{
+    judge(alloc, document)?;
+    let Some(users) = users_of(alloc, document.users.as_slice())? else {
+        return Err(Bad::OtherHash);
+    };
+    let topology = build(alloc, document)?;
+    Ok(Definitions { topology, users })
+}
+
+/// What a definitions file sets up. It is refused by the least cause that stands anywhere in it.
+///
+/// A file has at most 16,777,216 bytes. Source: RabbitMQ, "Definition Export and Import"; `docs/FORMATS.md` lists the
+/// members, the causes and the limits.
+pub fn read_definitions(alloc: Global, bytes: &[u8]) -> Result<Definitions, Bad>
+    ensures { Reads result bytes.now }
+{
+    let document = open(alloc, bytes)?;
+    settle(alloc, &document)
+}

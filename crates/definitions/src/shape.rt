@@ -1,0 +1,250 @@
+//! From a JSON value to its entries.
+
+ghost use Rattle.std.specs.Prelude.{◌≡◌};
+ghost use Rattle.serde_json.specs.View.{view};
+ghost use Rattle.json_file.specs.Outcomes.{Gives};
+ghost use Rattle.definitions.specs.File.{GivesFile, file_at};
+ghost use Rattle.definitions.specs.Shape.{
+  binding_listed_at,
+  exchange_arguments_at,
+  plain_at,
+  queue_arguments_at,
+};
+
+use crate::document::{
+    BindingEntry, Document, ExchangeArguments, ExchangeEntry, PermissionEntry, QueueArguments,
+    QueueEntry, UserEntry, VhostEntry,
+};
+use json_file::{
+    Entry, Fault, arguments, entries, has_only, is_filled, optional_number, optional_text, text,
+    truth,
+};
+use serde_json::Value;
+use std::alloc::Global;
+
+impl Entry for VhostEntry {
+    ghost use Rattle.definitions.specs.Shape.{vhost_at};
+
+    ghost states = { vhost_at };
+
+    #[tactic(auto, unfolding(crate::specs::Shape::vhost_at))]
+    fn read(alloc: Global, value: &Value) -> Result<VhostEntry, Fault> {
+        Ok(VhostEntry {
+            name: text(alloc, value, "name")?,
+        })
+    }
+}
+
+impl Entry for UserEntry {
+    ghost use Rattle.definitions.specs.Shape.{user_at};
+
+    ghost states = { user_at };
+
+    #[tactic(auto, unfolding(crate::specs::Shape::user_at))]
+    fn read(alloc: Global, value: &Value) -> Result<UserEntry, Fault> {
+        Ok(UserEntry {
+            name: text(alloc, value, "name")?,
+            password_hash: text(alloc, value, "password_hash")?,
+            hashing_algorithm: text(alloc, value, "hashing_algorithm")?,
+        })
+    }
+}
+
+impl Entry for PermissionEntry {
+    ghost use Rattle.definitions.specs.Shape.{permission_at};
+
+    ghost states = { permission_at };
+
+    #[tactic(auto, unfolding(crate::specs::Shape::permission_at))]
+    fn read(alloc: Global, value: &Value) -> Result<PermissionEntry, Fault> {
+        Ok(PermissionEntry {
+            user: text(alloc, value, "user")?,
+            vhost: text(alloc, value, "vhost")?,
+            configure: text(alloc, value, "configure")?,
+            write: text(alloc, value, "write")?,
+            read: text(alloc, value, "read")?,
+        })
+    }
+}
+
+/// The arguments of an exchange.
+#[tactic(auto, unfolding(crate::specs::Shape::exchange_arguments_at))]
+fn exchange_arguments(alloc: Global, value: &Value) -> Result<ExchangeArguments, Fault>
+    ensures { Gives result (exchange_arguments_at (view value.now)) }
+{
+    let stated = arguments(value)?;
+    Ok(ExchangeArguments {
+        alternate: optional_text(alloc, stated, "alternate-exchange")?,
+        listed: has_only(stated, &["alternate-exchange"]),
+    })
+}
+
+impl Entry for ExchangeEntry {
+    ghost use Rattle.definitions.specs.Shape.{exchange_at};
+
+    ghost states = { exchange_at };
+
+    #[tactic(auto, unfolding(crate::specs::Shape::exchange_at))]
+    fn read(alloc: Global, value: &Value) -> Result<ExchangeEntry, Fault> {
+        let name = text(alloc, value, "name")?;
+        let vhost = text(alloc, value, "vhost")?;
+        let kind = text(alloc, value, "type")?;
+        let _ = truth(value, "durable")?;
+        let auto_delete = truth(value, "auto_delete")?;
+        let internal = truth(value, "internal")?;
+        let arguments = exchange_arguments(alloc, value)?;
+        let listed = has_only(
+            value,
+            &[
+                "name",
+                "vhost",
+                "type",
+                "durable",
+                "auto_delete",
+                "internal",
+                "arguments",
+            ],
+        );
+        Ok(ExchangeEntry {
+            name,
+            vhost,
+            kind,
+            auto_delete,
+            internal,
+            arguments,
+            listed,
+        })
+    }
+}
+
+/// The arguments of a queue.
+#[tactic(auto, unfolding(crate::specs::Shape::queue_arguments_at))]
+fn queue_arguments(alloc: Global, value: &Value) -> Result<QueueArguments, Fault>
+    ensures { Gives result (queue_arguments_at (view value.now)) }
+{
+    let stated = arguments(value)?;
+    let max_length = optional_number(stated, "x-max-length")?;
+    let overflow = optional_text(alloc, stated, "x-overflow")?;
+    let dead_letter_exchange = optional_text(alloc, stated, "x-dead-letter-exchange")?;
+    let dead_letter_key = optional_text(alloc, stated, "x-dead-letter-routing-key")?;
+    let listed = has_only(
+        stated,
+        &[
+            "x-max-length",
+            "x-overflow",
+            "x-dead-letter-exchange",
+            "x-dead-letter-routing-key",
+        ],
+    );
+    Ok(QueueArguments {
+        max_length,
+        overflow,
+        dead_letter_exchange,
+        dead_letter_key,
+        listed,
+    })
+}
+
+impl Entry for QueueEntry {
+    ghost use Rattle.definitions.specs.Shape.{queue_at};
+
+    ghost states = { queue_at };
+
+    #[tactic(auto, unfolding(crate::specs::Shape::queue_at))]
+    fn read(alloc: Global, value: &Value) -> Result<QueueEntry, Fault> {
+        let name = text(alloc, value, "name")?;
+        let vhost = text(alloc, value, "vhost")?;
+        let _ = truth(value, "durable")?;
+        let auto_delete = truth(value, "auto_delete")?;
+        let arguments = queue_arguments(alloc, value)?;
+        let listed = has_only(
+            value,
+            &["name", "vhost", "durable", "auto_delete", "arguments"],
+        );
+        Ok(QueueEntry {
+            name,
+            vhost,
+            auto_delete,
+            arguments,
+            listed,
+        })
+    }
+}
+
+/// Whether a binding has only its members, and no argument.
+#[tactic(auto, unfolding(crate::specs::Shape::binding_listed_at))]
+fn binding_listed(value: &Value) -> Result<bool, Fault>
+    ensures { Gives result (binding_listed_at (view value.now)) }
+{
+    let stated = arguments(value)?;
+    let members = has_only(
+        value,
+        &[
+            "source",
+            "vhost",
+            "destination",
+            "destination_type",
+            "routing_key",
+            "arguments",
+        ],
+    );
+    Ok(members & has_only(stated, &[]))
+}
+
+impl Entry for BindingEntry {
+    ghost use Rattle.definitions.specs.Shape.{binding_at};
+
+    ghost states = { binding_at };
+
+    #[tactic(auto, unfolding(crate::specs::Shape::binding_at))]
+    fn read(alloc: Global, value: &Value) -> Result<BindingEntry, Fault> {
+        let source = text(alloc, value, "source")?;
+        let vhost = text(alloc, value, "vhost")?;
+        let destination = text(alloc, value, "destination")?;
+        let destination_type = text(alloc, value, "destination_type")?;
+        let key = text(alloc, value, "routing_key")?;
+        let listed = binding_listed(value)?;
+        Ok(BindingEntry {
+            source,
+            vhost,
+            destination,
+            destination_type,
+            key,
+            listed,
+        })
+    }
+}
+
+/// Whether there is no policy, parameter or topic permission.
+#[tactic(auto, unfolding(crate::specs::Shape::plain_at))]
+fn plain(value: &Value) -> Result<bool, Fault>
+    ensures { Gives result (plain_at (view value.now)) }
+{
+    let policies = is_filled(value, "policies")?;
+    let parameters = is_filled(value, "parameters")?;
+    let topic_permissions = is_filled(value, "topic_permissions")?;
+    Ok(!policies & !parameters & !topic_permissions)
+}
+
+/// The entries that a value states, if it is an object with all of them, each of its kind.
+#[tactic(auto, unfolding(crate::specs::File::file_at))]
+pub fn document(alloc: Global, value: &Value) -> Result<Document, Fault>
+    ensures { GivesFile result (file_at (view value.now)) }
+{
+    let vhosts = entries::<VhostEntry>(alloc, value, "vhosts")?;
+    let users = entries::<UserEntry>(alloc, value, "users")?;
+    let permissions = entries::<PermissionEntry>(alloc, value, "permissions")?;
+    let exchanges = entries::<ExchangeEntry>(alloc, value, "exchanges")?;
+    let queues = entries::<QueueEntry>(alloc, value, "queues")?;
+    let bindings = entries::<BindingEntry>(alloc, value, "bindings")?;
+    let plain = plain(value)?;
+    Ok(Document {
+        vhosts,
+        users,
+        permissions,
+        exchanges,
+        queues,
+        bindings,
+        plain,
+    })
+}

@@ -1,0 +1,145 @@
+//! What the entries of a file set up.
+
+ghost use Rattle.std.specs.Prelude.{◌≡◌, All, IfOk, IsSome, MatchOption, map};
+ghost use Rattle.definitions.specs.Causes.{hash_of, of_36};
+ghost use Rattle.definitions.specs.States.{binding_of, exchange_of, place_of, queue_of, user_of};
+ghost use Rattle.definitions.specs.Hashed.{AreHashed};
+
+use crate::causes::kind_named;
+use crate::document::{BindingEntry, ExchangeEntry, QueueEntry, UserEntry};
+use base64::DecodeAllocError;
+use base64::engine::general_purpose::STANDARD;
+use model::{Binding, DeclaredQueue, Exchange, ExchangeKind, Place, Text, User};
+use std::alloc::{AllocError, Global};
+
+/// The same text, if there is one.
+fn copy(text: &Option<Text>) -> Result<Option<Text>, AllocError>
+    ensures { IfOk result (λ t. t ≡ text.now) }
+{
+    match text {
+        Some(text) => Ok(Some(text.clone()?)),
+        None => Ok(None),
+    }
+}
+
+/// An exchange.
+fn exchange_of(entry: &ExchangeEntry) -> Result<Exchange, AllocError>
+    ensures { IfOk result (λ x. x ≡ exchange_of entry.now) }
+{
+    Ok(Exchange {
+        name: entry.name.clone()?,
+        kind: kind_named(entry.kind.as_bytes()).unwrap_or(ExchangeKind::Direct),
+        internal: entry.internal,
+        alternate: copy(&entry.arguments.alternate)?,
+    })
+}
+
+/// The exchanges.
+pub fn exchanges_of(alloc: Global, entries: &[ExchangeEntry]) -> Result<Vec<Exchange>, AllocError>
+    ensures { IfOk result (λ made. made.items ≡ map exchange_of entries.now) }
+{
+    let mut made = Vec::new(alloc);
+    for entry in entries {
+        made.push(exchange_of(entry)?)?;
+    }
+    Ok(made)
+}
+
+/// A queue.
+fn queue_of(entry: &QueueEntry) -> Result<DeclaredQueue, AllocError>
+    ensures { IfOk result (λ q. q ≡ queue_of entry.now) }
+{
+    Ok(DeclaredQueue {
+        name: entry.name.clone()?,
+        limit: entry.arguments.max_length,
+        dead_letter_exchange: copy(&entry.arguments.dead_letter_exchange)?,
+        dead_letter_key: copy(&entry.arguments.dead_letter_key)?,
+    })
+}
+
+/// The queues.
+pub fn queues_of(alloc: Global, entries: &[QueueEntry]) -> Result<Vec<DeclaredQueue>, AllocError>
+    ensures { IfOk result (λ made. made.items ≡ map queue_of entries.now) }
+{
+    let mut made = Vec::new(alloc);
+    for entry in entries {
+        made.push(queue_of(entry)?)?;
+    }
+    Ok(made)
+}
+
+/// Where a binding leads.
+fn place_of(entry: &BindingEntry) -> Result<Place, AllocError>
+    ensures { IfOk result (λ p. p ≡ place_of entry.now) }
+{
+    if entry.destination_type.as_bytes() == b"queue".as_slice() {
+        Ok(Place::Queue(entry.destination.clone()?))
+    } else {
+        Ok(Place::Exchange(entry.destination.clone()?))
+    }
+}
+
+/// A binding.
+fn binding_of(entry: &BindingEntry) -> Result<Binding, AllocError>
+    ensures { IfOk result (λ b. b ≡ binding_of entry.now) }
+{
+    Ok(Binding {
+        source: entry.source.clone()?,
+        to: place_of(entry)?,
+        key: entry.key.clone()?,
+    })
+}
+
+/// The bindings.
+pub fn bindings_of(alloc: Global, entries: &[BindingEntry]) -> Result<Vec<Binding>, AllocError>
+    ensures { IfOk result (λ made. made.items ≡ map binding_of entries.now) }
+{
+    let mut made = Vec::new(alloc);
+    for entry in entries {
+        made.push(binding_of(entry)?)?;
+    }
+    Ok(made)
+}
+
+/// These bytes, if there are exactly 36.
+fn of_36(alloc: Global, bytes: &[u8]) -> Result<Option<Text>, AllocError>
+    ensures { IfOk result (λ o. o ≡ of_36 bytes.now) }
+{
+    if bytes.len() == 36 {
+        Ok(Some(Text::from_slice(alloc, bytes)?))
+    } else {
+        Ok(None)
+    }
+}
+
+/// A user's salt and hash, if the password is hashed as it is to be.
+#[tactic(auto, unfolding(crate::specs::Causes::hash_of))]
+fn hash_of(alloc: Global, entry: &UserEntry) -> Result<Option<Text>, AllocError>
+    ensures { IfOk result (λ o. o ≡ hash_of entry.now) }
+{
+    if entry.hashing_algorithm.as_bytes() != b"rabbit_password_hashing_sha256".as_slice() {
+        return Ok(None);
+    }
+    match STANDARD.decode(alloc, entry.password_hash.as_bytes()) {
+        Ok(hash) => of_36(alloc, hash.as_slice()),
+        Err(DecodeAllocError::DecodeError(_)) => Ok(None),
+        Err(DecodeAllocError::OutOfMemory) => Err(AllocError),
+    }
+}
+
+/// The users, or `None` where a password is hashed in another way.
+pub fn users_of(alloc: Global, entries: &[UserEntry]) -> Result<Option<Vec<User>>, AllocError>
+    ensures { IfOk result (λ o. MatchOption o (All (λ u. IsSome (hash_of u)) entries.now → ⊥) (λ made. AreHashed entries.now made.items)) }
+{
+    let mut made = Vec::new(alloc);
+    for entry in entries {
+        match hash_of(alloc, entry)? {
+            Some(hash) => made.push(User {
+                name: entry.name.clone()?,
+                hash,
+            })?,
+            None => return Ok(None),
+        }
+    }
+    Ok(Some(made))
+}

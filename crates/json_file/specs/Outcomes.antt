@@ -1,0 +1,40 @@
+-- What a reader gives, and why it gives nothing. Want of memory owes nothing.
+use Rattle.std.specs.Prelude.{◌≡◌, ◌≤◌, ◌<◌, ℕ, List, Option, Some, None, Result, Ok, Err, length, Vec}
+use Rattle.std.specs.declared.alloc.Global.{Global}
+use denote.Ref.{Bor}
+use Rattle.serde_json.specs.Data.{Data}
+use Rattle.serde_json.specs.View.{view}
+use Rattle.serde_json.specs.declared.value.Value.{Value}
+use Rattle.json_file.specs.Members.{IsJson}
+use Rattle.json_file.specs.declared.faults.Fault.{Fault}
+use Rattle.json_file.specs.declared.faults.Fault.TheVariants.{TooLong, NotJson, Malformed, Memory}
+
+-- a member is not read for this reason alone
+abbrev pub Fails : Fault → Type 0 → Type 0
+Fails TooLong why = ⊥
+Fails NotJson why = ⊥
+Fails Malformed why = why
+Fails Memory why = Unit {0}
+
+-- what stands there is given, or it is refused where nothing does
+abbrev pub Gives : {A : Type 0} → Result A Fault → Option A → Type 0
+Gives (Ok x) o = o ≡ Some x
+Gives (Err e) o = Fails e (o ≡ None)
+
+-- the same of a value that is lent
+abbrev pub GivesView : Result (Bor Value) Fault → Option Data → Type 0
+GivesView (Ok v) o = o ≡ Some (view v.now)
+GivesView (Err e) o = Fails e (o ≡ None)
+
+-- the same of a list
+abbrev pub GivesItems : {A : Type 0} → Result (Vec A Global) Fault → Option (List A) → Type 0
+GivesItems (Ok v) o = o ≡ Some v.items
+GivesItems (Err e) o = Fails e (o ≡ None)
+
+-- a file is parsed, or refused
+abbrev pub Parses : Result Value Fault → List ℕ → Type 0
+Parses (Ok v) bytes = IsJson bytes (view v)
+Parses (Err TooLong) bytes = 16777216 < length bytes
+Parses (Err NotJson) bytes = (length bytes ≤ 16777216) × ((d : Data) → IsJson bytes d → ⊥)
+Parses (Err Malformed) bytes = ⊥
+Parses (Err Memory) bytes = Unit {0}

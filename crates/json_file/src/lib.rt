@@ -1,0 +1,12 @@
+//! JSON files: parsed whole, and read member by member.
+#![tactic(auto)]
+
+mod arrays;
+mod faults;
+mod members;
+
+pub use arrays::{Entry, entries};
+pub use faults::Fault;
+pub use members::{
+    arguments, has_only, is_filled, optional_number, optional_text, parse, text, truth,
+};

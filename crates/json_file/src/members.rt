@@ -1,0 +1,144 @@
+//! What stands at the members of a value.
+
+ghost use Rattle.std.specs.Prelude.{◌≡◌, map, string_bytes};
+ghost use Rattle.std.specs.BTreeMap.{keys};
+ghost use Rattle.std.specs.List.{list_all, list_any};
+ghost use Rattle.std.specs.Str.{bytes_eq};
+ghost use Rattle.serde_json.specs.View.{view};
+ghost use Rattle.json_file.specs.Members.{
+  IsJson,
+  arguments_at,
+  has_only,
+  is_filled,
+  optional_number_at,
+  optional_text_at,
+  text_at,
+  truth_at,
+};
+ghost use Rattle.json_file.specs.Outcomes.{Gives, GivesView, Parses};
+
+use crate::faults::Fault;
+use model::Text;
+use serde_json::{Map, Value};
+use std::alloc::Global;
+
+/// The greatest length of a file, in bytes.
+const LIMIT: usize = 16_777_216;
+
+/// The value that a file states, where it is JSON of at most 16,777,216 bytes and nests at most 127 deep.
+pub fn parse(alloc: Global, bytes: &[u8]) -> Result<Value, Fault>
+    ensures { Parses result bytes.now }
+{
+    if bytes.len() > LIMIT {
+        return Err(Fault::TooLong);
+    }
+    match Value::from_slice(alloc, bytes) {
+        Ok(value) => Ok(value),
+        Err(error) => {
+            if error.is_memory() {
+                Err(Fault::Memory)
+            } else {
+                Err(Fault::NotJson)
+            }
+        }
+    }
+}
+
+/// The text at this member.
+#[tactic(auto, unfolding(crate::specs::Members::text_at))]
+pub fn text(alloc: Global, value: &Value, name: &str) -> Result<Text, Fault>
+    ensures { Gives result (text_at name.now (view value.now)) }
+{
+    match value.get(name).and_then(Value::as_str) {
+        Some(text) => Ok(Text::from_slice(alloc, text.as_bytes())?),
+        None => Err(Fault::Malformed),
+    }
+}
+
+/// The truth value at this member.
+#[tactic(auto, unfolding(crate::specs::Members::truth_at))]
+pub fn truth(value: &Value, name: &str) -> Result<bool, Fault>
+    ensures { Gives result (truth_at name.now (view value.now)) }
+{
+    match value.get(name).and_then(Value::as_bool) {
+        Some(truth) => Ok(truth),
+        None => Err(Fault::Malformed),
+    }
+}
+
+/// The object at the member `arguments`.
+#[tactic(auto, unfolding(crate::specs::Members::arguments_at))]
+pub fn arguments(value: &Value) -> Result<&Value, Fault>
+    ensures { GivesView result (arguments_at (view value.now)) }
+{
+    match value.get("arguments") {
+        Some(found) if found.is_object() => Ok(found),
+        _ => Err(Fault::Malformed),
+    }
+}
+
+/// The text at this member, where it is there.
+#[tactic(auto, unfolding(crate::specs::Members::optional_text_at))]
+pub fn optional_text(alloc: Global, value: &Value, name: &str) -> Result<Option<Text>, Fault>
+    ensures { Gives result (optional_text_at name.now (view value.now)) }
+{
+    match value.get(name) {
+        None => Ok(None),
+        Some(found) => match found.as_str() {
+            Some(text) => Ok(Some(Text::from_slice(alloc, text.as_bytes())?)),
+            None => Err(Fault::Malformed),
+        },
+    }
+}
+
+/// The whole number below 2^32 at this member, where it is there.
+#[tactic(auto, unfolding(crate::specs::Members::optional_number_at))]
+pub fn optional_number(value: &Value, name: &str) -> Result<Option<u32>, Fault>
+    ensures { Gives result (optional_number_at name.now (view value.now)) }
+{
+    match value.get(name) {
+        None => Ok(None),
+        Some(found) => match found.as_u64() {
+            Some(number) if number <= 4_294_967_295 => Ok(Some(number as u32)),
+            _ => Err(Fault::Malformed),
+        },
+    }
+}
+
+/// Whether there is an array at this member with an element, where it is there.
+#[tactic(auto, unfolding(crate::specs::Members::is_filled))]
+pub fn is_filled(value: &Value, name: &str) -> Result<bool, Fault>
+    ensures { Gives result (is_filled name.now (view value.now)) }
+{
+    match value.get(name) {
+        None => Ok(false),
+        Some(found) => match found.as_array() {
+            Some(array) => Ok(!array.is_empty()),
+            None => Err(Fault::Malformed),
+        },
+    }
+}
+
+/// Whether this is one of the names.
+fn is_among(names: &[&str], name: &str) -> bool
+    ensures { result ≡ list_any (λ n. bytes_eq n.now name.now) names.now }
+{
+    names.iter().any(|other| *other == name)
+}
+
+/// Whether each key of the map is one of these names.
+fn are_among(members: &Map<String, Value>, names: &[&str]) -> bool
+    ensures { result ≡ list_all (λ k. list_any (λ n. bytes_eq n.now (string_bytes k)) names.now) (keys members.now) }
+{
+    members.keys().all(|key| is_among(names, key.as_str()))
+}
+
+/// Whether the value is an object all of whose members have one of these names.
+pub fn has_only(value: &Value, names: &[&str]) -> bool
+    ensures { result ≡ has_only (map (λ n. n.now) names.now) (view value.now) }
+{
+    match value.as_object() {
+        Some(members) => are_among(members, names),
+        None => false,
+    }
+}
