@@ -11,6 +11,8 @@ mod closing;
 #[cfg(test)]
 mod confirms;
 #[cfg(test)]
+mod engines;
+#[cfg(test)]
 mod faults;
 #[cfg(test)]
 mod frames;
