@@ -1,13 +1,19 @@
--- Faults carry facts, and a method is a publish or a command.
-use Rattle.std.proofs.Common.{◌≡◌, ℕ, sym, ap, subst, Result, Ok, Err, refl}
-use Rattle.model.specs.Commands.{Makes, taken_method}
+-- Faults carry facts, a method is a publish or a command, and a header may be of a content that is too large.
+use Rattle.std.proofs.Common.{◌≡◌, ℕ, true, Option, Some, None, sym, ap, subst, Result, Ok, Err, refl}
+use Rattle.model.specs.Commands
+use Rattle.model.specs.Commands.{Taken, Goes_on, Makes, Breaks, Wants_header, TakesPayload, is_too_large, taken_method, taken_dropped}
+use Rattle.model.specs.Frames.{Frame}
+use Rattle.model.specs.Headers.{SaysSize}
+use Rattle.model.specs.declared.events.Command.{Command}
+use Rattle.model.specs.declared.methods.Publish.{Publish}
 use Rattle.model.specs.declared.methods.Method.{Method}
 use Rattle.model.specs.declared.methods.Method.TheVariants.{BasicPublish}
 use Rattle.model.specs.declared.events.Command.TheVariants.{Plain}
 use Rattle.assembly.specs.declared.faults.Fault.{Fault}
 use Rattle.assembly.specs.declared.faults.Fault.TheVariants.{Broken, Memory}
 use Rattle.assembly.specs.Faults.{IsFault}
-use Rattle.assembly.specs.Taking.{split}
+use Rattle.assembly.specs.Taking.{Does, split}
+use Rattle.assembly.proofs.Places.{match_true}
 
 -- what follows for each code follows for the fault
 pub map_fault : (P Q : ℕ → Type 0) (e : Fault) → ((code : ℕ) → P code → Q code) → IsFault P e → IsFault Q e
@@ -23,3 +29,13 @@ IsValue (Err e) = ⊥
 pub plain : (h : ℕ) (m n : Method) → split m ≡ Err n → (n ≡ m) × (Makes (Plain h n) ≡ taken_method h (Ok m))
 plain h (BasicPublish p) n e = absurd (subst IsValue e tt)
 plain h m n e = let same : n ≡ m = cc in (same, ap (λ x. Makes (Plain h x)) same)
+
+-- what follows for each effect follows for what was done
+pub does_wider : (E F : Taken → Type 0) (old new : Commands.Pending) (r : Result (Option Command) Fault) → ((t : Taken) → E t → F t) → Does E old r new → Does F old r new
+does_wider E F old new (Ok None) f d = f (Goes_on new) d
+does_wider E F old new (Ok (Some c)) f d = (f (Makes c) d.0, d.1, d.2)
+does_wider E F old new (Err e) f d = (map_fault _ _ e (λ code x. f (Breaks code) x) d.0, d.1)
+
+-- a header of a content that is too large
+pub takes_large : (p : Publish) (f : Frame) (size : ℕ) (t : Taken) → SaysSize f.payload (Ok size) → is_too_large f.payload size ≡ true → t ≡ taken_dropped f.channel size 0 → TakesPayload (Wants_header p) f t
+takes_large p f size t s e d = (Ok size, s, match_true (is_too_large f.payload size) _ _ e d)

@@ -1,4 +1,5 @@
 pub mod Codes
+pub mod Sizes
 pub mod Places
 pub mod Onwards
 pub mod Staying

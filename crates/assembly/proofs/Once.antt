@@ -1,10 +1,14 @@
 -- A stream has one next command, or one end.
 use Rattle.std.proofs.Common.{◌≡◌, ◌==◌, ◌<◌, ◌^◌, ◌+◌, ℕ, zero, Bool, true, false, List, [], ◌∷◌, ◌++◌, length, MatchBool, Option, Some, None, Result, Ok, Err, sym, ap, subst, refl, ◌∙◌, append-nil}
 use Rattle.model.specs.Frames.{Frame, Begins, IsBroken}
-use Rattle.model.specs.Commands.{Stream, Pending, Nothing, Wants_header, Wants_body, Taken, Goes_on, Makes, Breaks, TakesOn, TakesPayload, taken_method, taken_header, taken_heartbeat, is_on_wrong_channel, awaited, after_frame, Takes, Yields, now, later, Ends, short, broken, faulty, beyond}
+use Rattle.model.specs.Commands.{Stream, Pending, Nothing, Wants_header, Wants_body, Drops, Taken, Goes_on, Makes, Breaks, TakesOn, TakesPayload, TakesSized, is_too_large, taken_method, taken_header, taken_dropped, taken_heartbeat, is_on_wrong_channel, awaited, after_frame, Takes, Yields, now, later, Ends, short, broken, faulty, beyond}
+use Rattle.model.specs.Headers.{Header, SaysHeader}
 use Rattle.model.specs.declared.events.Command.{Command}
+use Rattle.model.specs.declared.methods.Publish.{Publish}
 use Rattle.frame.proofs.Fronts.{shows, one_front}
-use Rattle.assembly.specs.Laws.{OneMethod, OneHeader}
+use Rattle.methods.proofs.Whole.{one_method}
+use Rattle.headers.proofs.Told.{one_header}
+use Rattle.assembly.proofs.Sizes.{size_once}
 
 -- ---- one frame
 
@@ -15,29 +19,39 @@ match_once false P Q t u f g x y = g x y
 same : (t u v : Taken) → t ≡ v → u ≡ v → t ≡ u
 same t u v e f = e ∙ sym f
 
-payload_once : OneMethod → OneHeader → (p : Pending) (f : Frame) (t u : Taken) → TakesPayload p f t → TakesPayload p f u → t ≡ u
-payload_once m h Nothing f t u x y = x.2 ∙ ap (taken_method f.channel) (m f.payload x.0 y.0 x.1 y.1) ∙ sym y.2
-payload_once m h (Wants_header p) f t u x y = x.2 ∙ ap (taken_header f.channel p) (h f.payload x.0 y.0 x.1 y.1) ∙ sym y.2
-payload_once m h (Wants_body p properties size body) f t u x y = x ∙ sym y
+-- and what it does is one thing
+sized_once : (p : Publish) (f : Frame) (r : Result ℕ ℕ) (t u : Taken) → TakesSized p f r t → TakesSized p f r u → t ≡ u
+sized_once p f (Err code) t u x y = x ∙ sym y
+sized_once p f (Ok n) t u x y =
+    match_once (is_too_large f.payload n) (λ v. v ≡ taken_dropped f.channel n 0) (λ v. (r : Result Header ℕ) × SaysHeader f.payload r × (v ≡ taken_header f.channel p r)) t u
+    (same t u (taken_dropped f.channel n 0))
+    (λ a b. a.2 ∙ ap (taken_header f.channel p) (one_header f.payload a.0 b.0 a.1 b.1) ∙ sym b.2)
+    x y
 
-on_once : OneMethod → OneHeader → (p : Pending) (f : Frame) (t u : Taken) → TakesOn p f t → TakesOn p f u → t ≡ u
-on_once m h p f t u x y =
+payload_once : (p : Pending) (f : Frame) (t u : Taken) → TakesPayload p f t → TakesPayload p f u → t ≡ u
+payload_once Nothing f t u x y = x.2 ∙ ap (taken_method f.channel) (one_method f.payload x.0 y.0 x.1 y.1) ∙ sym y.2
+payload_once (Wants_header p) f t u x y = sized_once p f x.0 t u x.2 (subst (λ (r : Result ℕ ℕ). TakesSized p f r u) (sym (size_once f.payload x.0 y.0 x.1 y.1)) y.2)
+payload_once (Wants_body p properties size body) f t u x y = x ∙ sym y
+payload_once (Drops size count) f t u x y = x ∙ sym y
+
+on_once : (p : Pending) (f : Frame) (t u : Taken) → TakesOn p f t → TakesOn p f u → t ≡ u
+on_once p f t u x y =
     match_once (f.kind == 8) (λ v. v ≡ taken_heartbeat p f) (λ v. MatchBool (is_on_wrong_channel f) (v ≡ Breaks 504) (MatchBool (f.kind == awaited p) (TakesPayload p f v) (v ≡ Breaks 505))) t u
     (same t u (taken_heartbeat p f))
     (match_once (is_on_wrong_channel f) (λ v. v ≡ Breaks 504) (λ v. MatchBool (f.kind == awaited p) (TakesPayload p f v) (v ≡ Breaks 505)) t u
     (same t u (Breaks 504))
-    (match_once (f.kind == awaited p) (TakesPayload p f) (λ v. v ≡ Breaks 505) t u (payload_once m h p f t u) (same t u (Breaks 505))))
+    (match_once (f.kind == awaited p) (TakesPayload p f) (λ v. v ≡ Breaks 505) t u (payload_once p f t u) (same t u (Breaks 505))))
     x y
 
 record Both (t u : Taken) (a b : Stream) : Type 0 where
   effect : t ≡ u
   left : a ≡ b
 
-takes_once : OneMethod → OneHeader → (s a b : Stream) (t u : Taken) → s.max < 2 ^ 32 → Takes s t a → Takes s u b → Both t u a b
-takes_once m h s a b t u below x y =
+takes_once : (s a b : Stream) (t u : Taken) → s.max < 2 ^ 32 → Takes s t a → Takes s u b → Both t u a b
+takes_once s a b t u below x y =
     let front = one_front s.unread x.rest y.rest x.frame y.frame (shows s.max s.unread x.frame x.rest below x.front) (shows s.max s.unread y.frame y.rest below y.front) in
     let there : TakesOn (s.pending x.frame.channel) x.frame u = subst (λ (f : Frame). TakesOn (s.pending f.channel) f u) (sym front.0) y.effect in
-    let one : t ≡ u = on_once m h (s.pending x.frame.channel) x.frame t u x.effect there in
+    let one : t ≡ u = on_once (s.pending x.frame.channel) x.frame t u x.effect there in
     record {
       effect = one;
       left = x.left
@@ -93,43 +107,43 @@ max_still s next t below k = subst (λ (z : Stream). z.max < 2 ^ 32) (sym k.left
 
 -- ---- one next
 
-pub one_command : OneMethod → OneHeader → (s a b : Stream) (c d : Command) → s.max < 2 ^ 32 → Yields s c a → Yields s d b → (c ≡ d) × (a ≡ b)
-one_command m h s a b c d below (now t) (now u) = let k = takes_once m h s a b (Makes c) (Makes d) below t u in (one_made c d k.effect, k.left)
-one_command m h s a b c d below (now t) (later {mid = mid} {p = p} u y) = absurd (going_making p c (sym (takes_once m h s a mid (Makes c) (Goes_on p) below t u).effect))
-one_command m h s a b c d below (later {mid = mid} {p = p} t x) (now u) = absurd (going_making p d (takes_once m h s mid b (Goes_on p) (Makes d) below t u).effect)
-one_command m h s a b c d below (later {mid = mid} {p = p} t x) (later {mid = other} {p = q} u y) =
-    let k = takes_once m h s mid other (Goes_on p) (Goes_on q) below t u in
-    one_command m h mid a b c d (max_still s mid _ below t) x (subst (λ (z : Stream). Yields z d b) (sym k.left) y)
+pub one_command : (s a b : Stream) (c d : Command) → s.max < 2 ^ 32 → Yields s c a → Yields s d b → (c ≡ d) × (a ≡ b)
+one_command s a b c d below (now t) (now u) = let k = takes_once s a b (Makes c) (Makes d) below t u in (one_made c d k.effect, k.left)
+one_command s a b c d below (now t) (later {mid = mid} {p = p} u y) = absurd (going_making p c (sym (takes_once s a mid (Makes c) (Goes_on p) below t u).effect))
+one_command s a b c d below (later {mid = mid} {p = p} t x) (now u) = absurd (going_making p d (takes_once s mid b (Goes_on p) (Makes d) below t u).effect)
+one_command s a b c d below (later {mid = mid} {p = p} t x) (later {mid = other} {p = q} u y) =
+    let k = takes_once s mid other (Goes_on p) (Goes_on q) below t u in
+    one_command mid a b c d (max_still s mid _ below t) x (subst (λ (z : Stream). Yields z d b) (sym k.left) y)
 
-pub one_of_them : OneMethod → OneHeader → (s a : Stream) (c : Command) (o : Option ℕ) → s.max < 2 ^ 32 → Yields s c a → Ends s o → ⊥
-one_of_them m h s a c o below (now t) (short n k) = n t.frame t.rest t.front
-one_of_them m h s a c o below (now t) (broken b) = whole_or s a _ t b
-one_of_them m h s a c o below (now t) (faulty {next = next} {code = code} u) = making_breaking c code (takes_once m h s a next (Makes c) (Breaks code) below t u).effect
-one_of_them m h s a c o below (now t) (beyond {mid = mid} {p = p} u e) = going_making p c (sym (takes_once m h s a mid (Makes c) (Goes_on p) below t u).effect)
-one_of_them m h s a c o below (later t x) (short n k) = n t.frame t.rest t.front
-one_of_them m h s a c o below (later {mid = mid} t x) (broken b) = whole_or s mid _ t b
-one_of_them m h s a c o below (later {mid = mid} {p = p} t x) (faulty {next = next} {code = code} u) = going_breaking p code (takes_once m h s mid next (Goes_on p) (Breaks code) below t u).effect
-one_of_them m h s a c o below (later {mid = mid} {p = p} t x) (beyond {mid = other} {p = q} u e) =
-    let k = takes_once m h s mid other (Goes_on p) (Goes_on q) below t u in
-    one_of_them m h mid a c o (max_still s mid _ below t) x (subst (λ (z : Stream). Ends z o) (sym k.left) e)
+pub one_of_them : (s a : Stream) (c : Command) (o : Option ℕ) → s.max < 2 ^ 32 → Yields s c a → Ends s o → ⊥
+one_of_them s a c o below (now t) (short n k) = n t.frame t.rest t.front
+one_of_them s a c o below (now t) (broken b) = whole_or s a _ t b
+one_of_them s a c o below (now t) (faulty {next = next} {code = code} u) = making_breaking c code (takes_once s a next (Makes c) (Breaks code) below t u).effect
+one_of_them s a c o below (now t) (beyond {mid = mid} {p = p} u e) = going_making p c (sym (takes_once s a mid (Makes c) (Goes_on p) below t u).effect)
+one_of_them s a c o below (later t x) (short n k) = n t.frame t.rest t.front
+one_of_them s a c o below (later {mid = mid} t x) (broken b) = whole_or s mid _ t b
+one_of_them s a c o below (later {mid = mid} {p = p} t x) (faulty {next = next} {code = code} u) = going_breaking p code (takes_once s mid next (Goes_on p) (Breaks code) below t u).effect
+one_of_them s a c o below (later {mid = mid} {p = p} t x) (beyond {mid = other} {p = q} u e) =
+    let k = takes_once s mid other (Goes_on p) (Goes_on q) below t u in
+    one_of_them mid a c o (max_still s mid _ below t) x (subst (λ (z : Stream). Ends z o) (sym k.left) e)
 
-pub one_end : OneMethod → OneHeader → (s : Stream) (o q : Option ℕ) → s.max < 2 ^ 32 → Ends s o → Ends s q → o ≡ q
-one_end m h s o q below (short n k) (short n2 k2) = refl
-one_end m h s o q below (short n k) (broken b) = absurd (k b)
-one_end m h s o q below (short n k) (faulty u) = absurd (n u.frame u.rest u.front)
-one_end m h s o q below (short n k) (beyond u e) = absurd (n u.frame u.rest u.front)
-one_end m h s o q below (broken b) (short n k) = absurd (k b)
-one_end m h s o q below (broken b) (broken b2) = refl
-one_end m h s o q below (broken b) (faulty {next = next} u) = absurd (whole_or s next _ u b)
-one_end m h s o q below (broken b) (beyond {mid = mid} u e) = absurd (whole_or s mid _ u b)
-one_end m h s o q below (faulty t) (short n k) = absurd (n t.frame t.rest t.front)
-one_end m h s o q below (faulty {next = next} t) (broken b) = absurd (whole_or s next _ t b)
-one_end m h s o q below (faulty {next = next} {code = code} t) (faulty {next = other} {code = last} u) =
-    ap (λ (x : Taken). Some (code_of x)) (takes_once m h s next other (Breaks code) (Breaks last) below t u).effect
-one_end m h s o q below (faulty {next = next} {code = code} t) (beyond {mid = mid} {p = p} u e) = absurd (going_breaking p code (sym (takes_once m h s next mid (Breaks code) (Goes_on p) below t u).effect))
-one_end m h s o q below (beyond t e) (short n k) = absurd (n t.frame t.rest t.front)
-one_end m h s o q below (beyond {mid = mid} t e) (broken b) = absurd (whole_or s mid _ t b)
-one_end m h s o q below (beyond {mid = mid} {p = p} t e) (faulty {next = next} {code = code} u) = absurd (going_breaking p code (takes_once m h s mid next (Goes_on p) (Breaks code) below t u).effect)
-one_end m h s o q below (beyond {mid = mid} {p = p} t e) (beyond {mid = other} {p = r} u f) =
-    let k = takes_once m h s mid other (Goes_on p) (Goes_on r) below t u in
-    one_end m h mid o q (max_still s mid _ below t) e (subst (λ (z : Stream). Ends z q) (sym k.left) f)
+pub one_end : (s : Stream) (o q : Option ℕ) → s.max < 2 ^ 32 → Ends s o → Ends s q → o ≡ q
+one_end s o q below (short n k) (short n2 k2) = refl
+one_end s o q below (short n k) (broken b) = absurd (k b)
+one_end s o q below (short n k) (faulty u) = absurd (n u.frame u.rest u.front)
+one_end s o q below (short n k) (beyond u e) = absurd (n u.frame u.rest u.front)
+one_end s o q below (broken b) (short n k) = absurd (k b)
+one_end s o q below (broken b) (broken b2) = refl
+one_end s o q below (broken b) (faulty {next = next} u) = absurd (whole_or s next _ u b)
+one_end s o q below (broken b) (beyond {mid = mid} u e) = absurd (whole_or s mid _ u b)
+one_end s o q below (faulty t) (short n k) = absurd (n t.frame t.rest t.front)
+one_end s o q below (faulty {next = next} t) (broken b) = absurd (whole_or s next _ t b)
+one_end s o q below (faulty {next = next} {code = code} t) (faulty {next = other} {code = last} u) =
+    ap (λ (x : Taken). Some (code_of x)) (takes_once s next other (Breaks code) (Breaks last) below t u).effect
+one_end s o q below (faulty {next = next} {code = code} t) (beyond {mid = mid} {p = p} u e) = absurd (going_breaking p code (sym (takes_once s next mid (Breaks code) (Goes_on p) below t u).effect))
+one_end s o q below (beyond t e) (short n k) = absurd (n t.frame t.rest t.front)
+one_end s o q below (beyond {mid = mid} t e) (broken b) = absurd (whole_or s mid _ t b)
+one_end s o q below (beyond {mid = mid} {p = p} t e) (faulty {next = next} {code = code} u) = absurd (going_breaking p code (takes_once s mid next (Goes_on p) (Breaks code) below t u).effect)
+one_end s o q below (beyond {mid = mid} {p = p} t e) (beyond {mid = other} {p = r} u f) =
+    let k = takes_once s mid other (Goes_on p) (Goes_on r) below t u in
+    one_end mid o q (max_still s mid _ below t) e (subst (λ (z : Stream). Ends z q) (sym k.left) f)

@@ -94,7 +94,7 @@ does_so E F h old new (Err Memory) f d = (tt, d.1)
 pub does_not : (E : Taken → Type 0) (h : ℕ) (old new : ℕ → Commands.Pending) (e : Fault) → e ≡ Memory → new ≡ old → DoesAt E h old (Err e) new
 does_not E h old new e m same = (subst (λ (x : Fault). IsFault (λ code. E (Breaks code)) x) (sym m) tt, same)
 
-match_true : (b : Bool) (P Q : Type 0) → b ≡ true → P → MatchBool b P Q
+pub match_true : (b : Bool) (P Q : Type 0) → b ≡ true → P → MatchBool b P Q
 match_true true P Q e p = p
 match_true false P Q e p = absurd (false≢true e)
 

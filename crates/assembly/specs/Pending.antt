@@ -1,23 +1,25 @@
 -- What a channel has begun and not completed, as the stream's definitions see it.
-use Rattle.std.specs.Prelude.{◌≡◌, ℕ, List, slice_index_or, ⊤}
+use Rattle.std.specs.Prelude.{◌≡◌, ◌≤◌, ℕ, List, slice_index_or, ⊤}
 use Rattle.model.specs.Grammar.{IsMethod}
 use Rattle.model.specs.Commands
 use Rattle.model.specs.Commands.{Wants_header, Wants_body}
 use Rattle.model.specs.declared.methods.Method.TheVariants.{BasicPublish}
 use Rattle.assembly.specs.declared.contents.Pending.{Pending}
-use Rattle.assembly.specs.declared.contents.Pending.TheVariants.{Nothing, WantsHeader, WantsBody}
+use Rattle.assembly.specs.declared.contents.Pending.TheVariants.{Nothing, WantsHeader, WantsBody, Drops}
 
 -- what the definitions call it
 abbrev pub pending_of : Pending → Commands.Pending
 pending_of Nothing = Commands.Nothing
 pending_of (WantsHeader publish) = Wants_header publish
 pending_of (WantsBody g) = Wants_body g.publish g.properties g.size g.body
+pending_of (Drops d) = Commands.Drops d.size d.count
 
--- its publish, if there is one, has a spelling
+-- its publish, if there is one, has a spelling, and no more is dropped than was declared
 abbrev pub IsSpelled : Pending → Type 0
 IsSpelled Nothing = ⊤
 IsSpelled (WantsHeader publish) = IsMethod (BasicPublish publish)
 IsSpelled (WantsBody g) = IsMethod (BasicPublish g.publish)
+IsSpelled (Drops d) = d.count ≤ d.size
 
 -- the element of a channel, in a list by channel number
 abbrev pub content_at : List Pending → ℕ → Pending
@@ -27,6 +29,6 @@ content_at contents channel = slice_index_or contents channel Nothing
 abbrev pub pending_at : List Pending → ℕ → Commands.Pending
 pending_at contents channel = pending_of (content_at contents channel)
 
--- each publish among them has a spelling
+-- the same of each channel
 abbrev pub AreSpelled : List Pending → Type 0
 AreSpelled contents = (channel : ℕ) → IsSpelled (content_at contents channel)

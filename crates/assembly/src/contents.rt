@@ -12,6 +12,13 @@ pub(crate) struct Gathering {
     pub(crate) body: Body,
 }
 
+/// A body that is dropped: `size` bytes are declared, and `count` of them came.
+#[derive(Clone, Copy, Drop)]
+pub(crate) struct Dropping {
+    pub(crate) size: u64,
+    pub(crate) count: u64,
+}
+
 /// What a channel awaits.
 #[derive(Drop)]
 pub(crate) enum Pending {
@@ -21,4 +28,6 @@ pub(crate) enum Pending {
     WantsHeader(Publish),
     /// A piece of this body.
     WantsBody(Gathering),
+    /// A piece of this body, of a content that is too large.
+    Drops(Dropping),
 }

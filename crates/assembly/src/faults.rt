@@ -1,7 +1,7 @@
 //! Why a stream gives no command.
 
 ghost use Rattle.std.specs.Prelude.{◌≡◌, ℕ, List};
-ghost use Rattle.assembly.specs.Faults.{IsFault, RefusesMethod, RefusesHeader};
+ghost use Rattle.assembly.specs.Faults.{IsFault, RefusesMethod, RefusesSize, RefusesHeader};
 
 use std::alloc::AllocError;
 
@@ -38,6 +38,13 @@ pub(crate) fn of_method(refusal: methods::Refusal) -> Fault
     }
 }
 
+/// A refusal of a header's size: nothing but 501 is a reason.
+pub(crate) fn of_size(_refusal: headers::Refusal) -> Fault
+    ensures { (payload : List ℕ) → RefusesSize payload _refusal result }
+{
+    Fault::Broken(501)
+}
+
 /// A header's refusal, by its reply code.
 pub(crate) fn of_header(refusal: headers::Refusal) -> Fault
     ensures { (payload : List ℕ) → RefusesHeader payload refusal result }
@@ -45,7 +52,6 @@ pub(crate) fn of_header(refusal: headers::Refusal) -> Fault
     match refusal {
         headers::Refusal::FrameError => Fault::Broken(501),
         headers::Refusal::SyntaxError => Fault::Broken(502),
-        headers::Refusal::NotImplemented => Fault::Broken(540),
         headers::Refusal::Memory => Fault::Memory,
     }
 }

@@ -17,7 +17,7 @@ pub fn going_on_stays()
     ensures { GoingOnStays }
 {}
 
-/// A stream has one next command or one end, where each payload says one thing.
+/// A stream has one next command or one end.
 pub fn one_next()
     ensures { OneNext }
 {}

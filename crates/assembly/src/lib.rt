@@ -7,7 +7,10 @@
 
 mod bodies;
 mod buffers;
+#[cfg(test)]
+mod client_tests;
 mod contents;
+mod dropping;
 mod faults;
 mod frames;
 mod laws;

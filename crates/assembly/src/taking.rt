@@ -1,8 +1,9 @@
 //! What one frame does to the channel that awaits it.
 
-ghost use Rattle.std.specs.Prelude.{◌≡◌, ◌+◌, ◌==◌, ◌++◌, length, MatchBool, Ok};
+ghost use Rattle.std.specs.Prelude.{◌≡◌, ◌+◌, ◌==◌, ◌++◌, ℕ, length, MatchBool, Result, Ok};
 ghost use Rattle.model.specs.Commands;
-ghost use Rattle.model.specs.Commands.{Breaks, TakesPayload, awaited, taken_body, taken_method};
+ghost use Rattle.model.specs.Commands.{Breaks, TakesPayload, awaited, taken_body, taken_header, taken_method};
+ghost use Rattle.model.specs.Headers.{Header, SaysHeader};
 ghost use Rattle.model.specs.Grammar.{IsMethod};
 ghost use Rattle.model.specs.declared.methods.Method.TheVariants.{BasicPublish};
 ghost use Rattle.frame.specs.Reading.{seen};
@@ -12,9 +13,10 @@ ghost use Rattle.assembly.specs.Taking.{Does, split};
 
 use crate::bodies::Body;
 use crate::contents::{Gathering, Pending};
-use crate::faults::{Fault, of_header, of_method};
+use crate::dropping::{begin_dropping, drop_piece, is_too_large};
+use crate::faults::{Fault, of_header, of_method, of_size};
 use frame::Frame;
-use headers::read_header;
+use headers::{read_header, read_size};
 use methods::read_method;
 use model::{Command, Content, Method, Publish, Text};
 use std::alloc::Global;
@@ -35,6 +37,7 @@ pub(crate) fn take_awaited(alloc: Global, was: Pending, frame: &Frame<'_>) -> Ta
         Pending::Nothing => take_method(alloc, frame),
         Pending::WantsHeader(publish) => take_header(alloc, publish, frame),
         Pending::WantsBody(gathering) => take_body(gathering, frame),
+        Pending::Drops(dropping) => drop_piece(frame.channel, dropping, frame.payload.len()),
     }
 }
 
@@ -46,6 +49,7 @@ fn awaited_kind(was: &Pending) -> u8
         Pending::Nothing => 1,
         Pending::WantsHeader(_) => 2,
         Pending::WantsBody(_) => 3,
+        Pending::Drops(_) => 3,
     }
 }
 
@@ -85,11 +89,28 @@ fn publish_of(method: Method) -> Result<Publish, Method>
     }
 }
 
-/// A header declares the body of the publish before it. A body of no bytes is whole.
+/// A header declares the body of the publish before it. Of a content that is too large nothing else is read.
 fn take_header(alloc: Global, publish: Publish, frame: &Frame<'_>) -> Taking
     requires { IsMethod (BasicPublish publish) }
     ensures spelled { IsSpelled result.0 }
     ensures does { Does (TakesPayload (Commands.Wants_header publish) (seen frame.now)) (Commands.Wants_header publish) result.1 (pending_of result.0) }
+{
+    match read_size(frame.payload) {
+        Ok(size) => {
+            if is_too_large(frame.payload, size) {
+                return begin_dropping(frame.channel, size);
+            }
+            begin_content(alloc, publish, frame)
+        }
+        Err(refusal) => (Pending::WantsHeader(publish), Err(of_size(refusal))),
+    }
+}
+
+/// A header that is not too large. A body of no bytes is whole.
+fn begin_content(alloc: Global, publish: Publish, frame: &Frame<'_>) -> Taking
+    requires { IsMethod (BasicPublish publish) }
+    ensures spelled { IsSpelled result.0 }
+    ensures does { Does (λ t. (r : Result Header ℕ) × SaysHeader frame.now.payload.now r × (t ≡ taken_header frame.now.channel publish r)) (Commands.Wants_header publish) result.1 (pending_of result.0) }
 {
     match read_header(alloc, frame.payload) {
         Ok(header) => {

@@ -5,7 +5,7 @@ use Rattle.std.specs.Str.{bytes_eq}
 use Rattle.model.specs.Words.{Text}
 use Rattle.model.specs.Topology.{Topology, queue_names}
 use Rattle.model.specs.Broker.{Broker, Channel, Connection, listed, with_one, with_row}
-use Rattle.model.specs.Step.{Performs, Decides, OnConnection, Refusal, Of_connection, Is, channel_or_new, refusal_of_publish, refusal_to, refusal_of_count, or_else, IsPublish, with_gone, with_freed, with_channel, freed, by_channel, by_connection, refusal, next_of, confirm_sends, confirm_notes, answer_of, returned_sends, returned_notes, entry_notes, is_none, is_some_full}
+use Rattle.model.specs.Step.{Performs, Decides, OnConnection, Refusal, Of_connection, Is, channel_or_new, refusal_of_publish, refusal_to, refusal_of_count, or_else, IsPublish, with_gone, with_freed, with_channel, freed, by_channel, by_connection, refusal, refusal_of_large, next_of, confirm_sends, confirm_notes, answer_of, returned_sends, returned_notes, entry_notes, is_none, is_some_full}
 use Rattle.model.specs.declared.messages.Entry.{Entry}
 use Rattle.model.specs.declared.messages.Holder.{Holder}
 use Rattle.model.specs.declared.contents.Content.{Content}
@@ -20,7 +20,7 @@ use Rattle.depot.specs.Publishing.{Publishes}
 use Rattle.depot.specs.declared.depots.Routed.{Routed}
 use Rattle.broker.specs.Links.{Linked, link_in, channel_in, limits_of, connection_at, channel_at, connection_of, channel_of, AreLinks, Puts}
 use Rattle.broker.specs.State.{Kept, broker_of, topology_of}
-use Rattle.broker.specs.Judged.{Judges, JudgesOn}
+use Rattle.broker.specs.Judged.{seen, HasChannel, Judges, JudgesOn, JudgesLarge}
 use Rattle.broker.specs.declared.refusals.Refusal as declared
 use Rattle.broker.specs.declared.refusals.Act as wanted
 
@@ -84,6 +84,17 @@ judged_on kept c h m r l e j = (
   limits_of l,
   ap connection_at e,
   subst (λ (x : Option Linked). Judges (topology_of kept) (broker_of kept) (channel_at x h) m (refusal (topology_of kept) (broker_of kept) (limits_of l) h m (channel_at x h)) r) (sym e) j,
+)
+
+-- the same of a content that is too large
+pub large_judged : (kept : Kept) (c h : ℕ) (r : declared.Refusal) (l : Linked) → link_in kept.links c ≡ Some l
+    → seen r ≡ refusal_of_large (limits_of l) h (channel_in l h) → HasChannel r (channel_in l h)
+    → JudgesLarge (broker_of kept) c h (Some r)
+large_judged kept c h r l e is has = (
+  limits_of l,
+  ap connection_at e,
+  subst (λ (x : Option Linked). seen r ≡ refusal_of_large (limits_of l) h (channel_at x h)) (sym e) is,
+  subst (λ (x : Option Linked). HasChannel r (channel_at x h)) (sym e) has,
 )
 
 -- a publish of the depot, counted on the channel and confirmed, is one of the broker

@@ -3,7 +3,7 @@ use Rattle.std.specs.Prelude.{◌≡◌, ℕ, Bool, Option, Some, None, Result, 
 use Rattle.model.specs.Topology.{Topology}
 use Rattle.model.specs.Broker.{Broker, Channel, Connection}
 use Rattle.model.specs.Step as step
-use Rattle.model.specs.Step.{Of_channel, Of_connection, refusal, refusal_of_publish, channel_or_new}
+use Rattle.model.specs.Step.{Of_channel, Of_connection, refusal, refusal_of_large, refusal_of_publish, channel_or_new}
 use Rattle.model.specs.declared.methods.Close.{Close}
 use Rattle.model.specs.declared.methods.Method.{Method}
 use Rattle.model.specs.declared.methods.Method.TheVariants as method
@@ -50,3 +50,8 @@ Judges t b ch m r (Err e) = (r ≡ Some (seen e)) × HasChannel e ch
 abbrev pub JudgesOn : Topology → Broker → ℕ → ℕ → Method → Option (Result Act Refusal) → Type 0
 JudgesOn t b c h m None = b.connection c ≡ None
 JudgesOn t b c h m (Some r) = (conn : Connection) × (b.connection c ≡ Some conn) × Judges t b (b.channel c h) m (refusal t b conn h m (b.channel c h)) r
+
+-- The same of a publish whose content is too large: it is refused as the model says.
+abbrev pub JudgesLarge : Broker → ℕ → ℕ → Option Refusal → Type 0
+JudgesLarge b c h None = b.connection c ≡ None
+JudgesLarge b c h (Some r) = (conn : Connection) × (b.connection c ≡ Some conn) × (seen r ≡ refusal_of_large conn h (b.channel c h)) × HasChannel r (b.channel c h)

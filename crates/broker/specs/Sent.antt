@@ -5,7 +5,7 @@ use Rattle.model.specs.Grammar.{IsMethod}
 use Rattle.model.specs.declared.events.Send.{Send}
 use Rattle.model.specs.declared.events.Send.TheVariants as send
 use Rattle.model.specs.declared.events.Event.{Event}
-use Rattle.model.specs.declared.events.Event.TheVariants.{Running, Command, Fault, Lose, Pause, Resume}
+use Rattle.model.specs.declared.events.Event.TheVariants.{Running, Command, TooLarge, Fault, Lose, Pause, Resume}
 
 -- the connection that it goes to
 abbrev pub receiver : Send → ℕ
@@ -28,6 +28,7 @@ AreOwn c sends = AllByRecursion (IsOwn c) sends
 abbrev pub connection_of_event : Event → ℕ
 connection_of_event (Running c max k) = c
 connection_of_event (Command c h m content) = c
+connection_of_event (TooLarge c h) = c
 connection_of_event (Fault c code) = c
 connection_of_event (Lose c) = c
 connection_of_event (Pause c) = c

@@ -9,7 +9,7 @@ use crate::closes::{
 };
 use crate::links::Links;
 use crate::names::{Ids, ids_of};
-use crate::refusals::{Act, Refusal, judge};
+use crate::refusals::{Act, Refusal, judge, judge_large};
 use crate::steps::Step;
 use channel::Channel;
 use depot::Depot;
@@ -62,6 +62,7 @@ impl Broker {
       IsPublish,
       Refuses,
       OnConnection,
+      OnLarge,
       Performs,
       content_or_none,
       opened,
@@ -74,12 +75,13 @@ impl Broker {
       started,
       select_sends,
       channel_or_new,
+      empty_publish,
       refusal_of_publish,
     };
     ghost use Rattle.model.specs.declared.events.Event.TheVariants as event_is;
     ghost use Rattle.model.specs.declared.methods.Method.TheVariants.{ChannelCloseOk};
     ghost use Rattle.broker.specs.State.{broker_of, topology_of, nothing};
-    ghost use Rattle.broker.specs.Judged.{seen as said_of, HasChannel, JudgesOn, Asks, CanAct};
+    ghost use Rattle.broker.specs.Judged.{seen as said_of, HasChannel, JudgesOn, JudgesLarge, Asks, CanAct};
     ghost use Rattle.model.specs.declared.methods.Method.{Method as Seen};
     ghost use Rattle.broker.specs.Sent.{IsOwn, AreOwn, connection_of_event};
 
@@ -112,6 +114,16 @@ impl Broker {
                 channel,
                 method,
             )),
+        }
+    }
+
+    /// What is decided of a publish whose content is too large, or none where its connection doesn't run.
+    fn judge_large(&self, connection: u64, channel: u16) -> Option<Refusal>
+        ensures { JudgesLarge (broker_of self.now) connection channel result }
+    {
+        match self.links.get(connection) {
+            None => None,
+            Some(link) => Some(judge_large(link, channel)),
         }
     }
 
@@ -306,6 +318,37 @@ impl Broker {
         }
     }
 
+    /// A publish whose texts are not known any more is refused in the same way.
+    fn refuse_publish(
+        &mut self,
+        alloc: Global,
+        connection: u64,
+        channel: u16,
+        refusal: Refusal,
+    ) -> Result<Step, AllocError>
+        requires { HasChannel refusal ((broker_of self.old).channel connection channel) }
+        ensures ok { IfOk result (λ s. Refuses (broker_of self.old) connection channel empty_publish (said_of refusal) s.sends.items s.notes.items (broker_of self.new)) }
+        ensures own { IfOk result (λ s. AreOwn connection s.sends.items) }
+        ensures topology { topology_of self.new ≡ topology_of self.old }
+        ensures err { OnErr result (self.new ≡ self.old) }
+    {
+        let publish = Ids {
+            class: 60,
+            method: 40,
+        };
+        match refusal {
+            Refusal::Ignored => Ok(Step::nothing(alloc)),
+            Refusal::Channel(code) => {
+                let send = channel_close(connection, channel, code, publish);
+                self.close_channel(alloc, connection, channel, send)
+            }
+            Refusal::Connection(code) => {
+                let send = connection_close(connection, code, publish);
+                self.close_connection(alloc, connection, send)
+            }
+        }
+    }
+
     /// A publish, with no content where none came with it.
     fn publish_content(
         &mut self,
@@ -385,6 +428,24 @@ impl Broker {
         }
     }
 
+    /// A publish whose content is too large: nothing where its connection doesn't run, else it is refused.
+    fn refuse_large(
+        &mut self,
+        alloc: Global,
+        connection: u64,
+        channel: u16,
+    ) -> Result<Step, AllocError>
+        ensures ok { IfOk result (λ s. OnLarge (broker_of self.old) connection channel s.sends.items s.notes.items (broker_of self.new) ((broker_of self.old).connection connection)) }
+        ensures own { IfOk result (λ s. AreOwn connection s.sends.items) }
+        ensures topology { topology_of self.new ≡ topology_of self.old }
+        ensures err { OnErr result (self.new ≡ self.old) }
+    {
+        match self.judge_large(connection, channel) {
+            None => Ok(Step::nothing(alloc)),
+            Some(refusal) => self.refuse_publish(alloc, connection, channel, refusal),
+        }
+    }
+
     /// The connection is lost: what it held is ready again, and it is gone with its channels. It takes no memory.
     pub fn lose(&mut self, connection: u64)
         ensures acts { Acts (topology_of self.old) (broker_of self.old) (event_is.Lose connection) [] [] (broker_of self.new) }
@@ -434,6 +495,10 @@ impl Broker {
                 method,
                 content,
             } => self.perform(alloc, *connection, *channel, method, content),
+            Event::TooLarge {
+                connection,
+                channel,
+            } => self.refuse_large(alloc, *connection, *channel),
             Event::Fault { connection, code } => {
                 let cause = Ids {
                     class: 0,

@@ -9,7 +9,7 @@ ghost use Rattle.model.specs.Broker.{Channel as Seen};
 ghost use Rattle.model.specs.Topology.{Topology as Handed};
 ghost use Rattle.model.specs.Step as said;
 ghost use Rattle.model.specs.declared.methods.Method.TheVariants.{BasicPublish};
-ghost use Rattle.broker.specs.Judged.{seen_if, Judges};
+ghost use Rattle.broker.specs.Judged.{seen, seen_if, HasChannel, Judges};
 ghost use Rattle.broker.specs.Links.{channel_in, limits_of};
 
 use crate::links::Link;
@@ -226,5 +226,25 @@ pub(crate) fn judge<'a>(
         judge_while_closing(method)
     } else {
         judge_on_number(topology, published, link, number, method)
+    }
+}
+
+/// A publish whose content is too large, of a connection that runs: no channel takes it, and one that is open is closed.
+pub(crate) fn judge_large(link: &Link, number: u16) -> Refusal
+    ensures is { seen result ≡ said.refusal_of_large (limits_of link.now) number (channel_in link.now number) }
+    ensures channel { HasChannel result (channel_in link.now number) }
+{
+    if is_awaiting(link.channel(number)) {
+        return Refusal::Ignored;
+    }
+    if number == 0 {
+        return Refusal::Connection(503);
+    }
+    if link.channel_max() < number {
+        return Refusal::Connection(504);
+    }
+    match link.channel(number) {
+        None => Refusal::Connection(504),
+        Some(_) => Refusal::Channel(311),
     }
 }

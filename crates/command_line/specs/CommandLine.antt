@@ -1,20 +1,30 @@
 -- The command line of warren, as clap's contract reads it: which subcommand the words name, and what its arguments are.
-use Rattle.std.specs.Prelude.{◌≡◌, ◌⊎◌, List, [], Option, Some, None, codes, true, if◌then◌else◌}
+use Rattle.std.specs.Prelude.{◌≡◌, ◌⊎◌, List, [], Option, Some, None, true, codes, if◌then◌else◌, option_map, option_and_then}
 use Rattle.std.specs.Str.{bytes_eq}
 use Rattle.clap.specs.Words.{App, Row, Rule, Text, first_of, new_app, new_rule, subcommand_of, with_rule, with_subcommand, fault_of, kind_of}
 use Rattle.clap.specs.declared.error.Error.{Error}
 use Rattle.clap.specs.declared.error.kind.ErrorKind.TheVariants.{OutOfMemory}
 use Rattle.clap.specs.declared.builder.ArgAction.TheVariants.{Set}
 use Rattle.command_line.specs.declared.asked.Asked.{Asked}
-use Rattle.command_line.specs.declared.asked.Asked.TheVariants.{Replay}
+use Rattle.command_line.specs.declared.asked.Asked.TheVariants as asked
 
--- a file that has to be named
-abbrev pub file : Text → Rule
-file id = record (new_rule id) { required = true; action = Some Set }
+-- ---- the subcommands and their arguments
 
--- `replay SCRIPT`
+-- a text that has to be given, by its place
+abbrev pub needed : Text → Rule
+needed id = record (new_rule id) { required = true; action = Some Set }
+
+-- a file that may be named, by `--` and the option's name
+abbrev pub option : Text → Rule
+option id = record (new_rule id) { long = Some id; action = Some Set; value_names = 1 }
+
+-- `replay SCRIPT [--definitions FILE]`
 abbrev pub replay : App
-replay = with_rule (new_app (codes "replay")) (file (codes "SCRIPT"))
+replay = with_rule (with_rule (new_app (codes "replay")) (needed (codes "SCRIPT"))) (option (codes "definitions"))
+
+-- `route DEFS EXCHANGE KEY`
+abbrev pub route : App
+route = with_rule (with_rule (with_rule (new_app (codes "route")) (needed (codes "DEFS"))) (needed (codes "EXCHANGE"))) (needed (codes "KEY"))
 
 -- a program that is called with one of its subcommands
 abbrev pub with_subcommands : Text → App
@@ -22,25 +32,59 @@ with_subcommands name = record (new_app name) { top = record (new_app name).top 
 
 -- the whole program
 abbrev pub warren : App
-warren = with_subcommand (with_subcommands (codes "warren")) replay.top
+warren = with_subcommand (with_subcommand (with_subcommands (codes "warren")) replay.top) route.top
 
--- the script of the subcommand that is named, where that is `replay`
-abbrev pub script_of : Option (Text × List Row) → Option Text
-script_of None = None
-script_of (Some named) = if bytes_eq named.0 (codes "replay") then first_of (codes "SCRIPT") named.1 else None
+-- ---- what can be asked for
 
--- Nothing is at fault in the words, and they name the command `replay` with this script.
-pub record AsksReplay (words : List Text) (script : Text) : Type 0 where
+-- a command with its arguments
+pub data Wanted : Type 0 where
+  Replay : (script : Text) (definitions : Option Text) → Wanted
+  Route : (definitions exchange key : Text) → Wanted
+
+-- what was asked for, by its texts
+abbrev pub wanted_of : Asked → Wanted
+wanted_of (asked.Replay script definitions) = Replay script.now (option_map (λ file. file.now) definitions)
+wanted_of (asked.Route definitions exchange key) = Route definitions.now exchange.now key.now
+
+infixl 10 ◌>>=◌
+abbrev pub ◌>>=◌ : {A B : Type 0} → Option A → (A → Option B) → Option B
+o >>= f = option_and_then f o
+
+-- the arguments of `replay`
+abbrev pub replay_of : List Row → Option Wanted
+replay_of rows = do
+  script ← first_of (codes "SCRIPT") rows
+  Some (Replay script (first_of (codes "definitions") rows))
+
+-- the arguments of `route`
+abbrev pub route_of : List Row → Option Wanted
+route_of rows = do
+  definitions ← first_of (codes "DEFS") rows
+  exchange ← first_of (codes "EXCHANGE") rows
+  key ← first_of (codes "KEY") rows
+  Some (Route definitions exchange key)
+
+-- the command of this name, with its arguments
+abbrev pub wanted_by : Text × List Row → Option Wanted
+wanted_by named =
+    if bytes_eq named.0 (codes "replay") then replay_of named.1 else
+    if bytes_eq named.0 (codes "route") then route_of named.1 else
+    None
+
+-- ---- what the words ask for
+
+-- Nothing is at fault in the words, and they name this command, with these arguments.
+pub record AsksFor (words : List Text) (wanted : Wanted) : Type 0 where
   pub faultless : fault_of warren words ≡ []
-  pub named : script_of (subcommand_of warren words) ≡ Some script
+  pub named : option_and_then wanted_by (subcommand_of warren words) ≡ Some wanted
 
 -- the words ask for this
 abbrev pub Asks : List Text → Asked → Type 0
-Asks words (Replay script) = AsksReplay words script.now
+Asks words asked = AsksFor words (wanted_of asked)
 
 -- the words ask for nothing that the program does; a call for help is such
 abbrev pub AsksNothing : List Text → Type 0
-AsksNothing words = (script : Text) → AsksReplay words script → ⊥
+AsksNothing words = (wanted : Wanted) → AsksFor words wanted → ⊥
 
 -- Why a command line is refused: a growth was refused, or it asks for nothing.
 abbrev pub IsRefused : List Text → Error → Type 0

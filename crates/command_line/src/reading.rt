@@ -1,9 +1,32 @@
 //! The words of a command line.
 
-ghost use Rattle.std.specs.Prelude.{◌≡◌, map, codes, false, true, IfOk, MatchResult, Some, option_map};
-ghost use Rattle.clap.specs.Words.{app_of, rule_of, subcommand_rows_of};
+ghost use Rattle.std.specs.Prelude.{
+  ◌≡◌,
+  map,
+  codes,
+  false,
+  true,
+  IfOk,
+  MatchResult,
+  Some,
+  option_map,
+  option_and_then,
+};
+ghost use Rattle.clap.specs.Words.{app_of, first_of, found_of, rows_of, rule_of, subcommand_rows_of};
 ghost use Rattle.clap.specs.declared.Command.TheViews.{out-Command as fields_of};
-ghost use Rattle.command_line.specs.CommandLine.{Asks, IsRefused, file, replay, script_of, warren, with_subcommands};
+ghost use Rattle.command_line.specs.CommandLine.{
+  Asks,
+  IsRefused,
+  needed,
+  option,
+  replay,
+  replay_of,
+  route,
+  route_of,
+  wanted_by,
+  wanted_of,
+  warren,
+};
 
 use crate::asked::Asked;
 use clap::error::ErrorKind;
@@ -11,22 +34,46 @@ use clap::{Arg, ArgAction, ArgMatches, Command, Error};
 use std::alloc::{AllocError, Global};
 use std::convert::AsStr;
 
-/// A file that has to be named.
-fn file<'a>(alloc: Global, id: &'a str) -> Arg<'a>
-    ensures rule { rule_of result ≡ file id.entry.now }
+/// A text that has to be given.
+fn needed<'a>(alloc: Global, id: &'a str) -> Arg<'a>
+    ensures rule { rule_of result ≡ needed id.entry.now }
     ensures local { result.global ≡ false }
 {
     Arg::new(alloc, id).required(true).action(ArgAction::Set)
 }
 
-/// `replay SCRIPT`.
+/// A file that may be named, by `--` and the option's name.
+fn option<'a>(alloc: Global, id: &'a str) -> Arg<'a>
+    ensures rule { rule_of result ≡ option id.entry.now }
+    ensures local { result.global ≡ false }
+{
+    Arg::new(alloc, id)
+        .long(id)
+        .value_name("FILE")
+        .action(ArgAction::Set)
+}
+
+/// `replay SCRIPT [--definitions FILE]`.
 fn replay_command<'a>(alloc: Global) -> Result<Command<'a>, AllocError>
     ensures app { IfOk result (λ c. app_of c ≡ replay) }
     ensures local { IfOk result (λ c. (fields_of c).has_globals ≡ false) }
 {
     Command::new(alloc, "replay")
         .about("Runs a script and prints what it puts out")
-        .arg(file(alloc, "SCRIPT"))
+        .arg(needed(alloc, "SCRIPT"))?
+        .arg(option(alloc, "definitions"))
+}
+
+/// `route DEFS EXCHANGE KEY`.
+fn route_command<'a>(alloc: Global) -> Result<Command<'a>, AllocError>
+    ensures app { IfOk result (λ c. app_of c ≡ route) }
+    ensures local { IfOk result (λ c. (fields_of c).has_globals ≡ false) }
+{
+    Command::new(alloc, "route")
+        .about("Prints the queues to which a key leads from an exchange")
+        .arg(needed(alloc, "DEFS"))?
+        .arg(needed(alloc, "EXCHANGE"))?
+        .arg(needed(alloc, "KEY"))
 }
 
 /// The program with its subcommands.
@@ -35,14 +82,59 @@ fn warren_command<'a>(alloc: Global) -> Result<Command<'a>, AllocError>
 {
     Command::new(alloc, "warren")
         .subcommand_required(true)
-        .subcommand(replay_command(alloc)?)
+        .subcommand(replay_command(alloc)?)?
+        .subcommand(route_command(alloc)?)
 }
 
-/// The script of `replay`, where that was named.
-fn named_script<'a>(matches: &ArgMatches<'a>) -> Option<&'a str>
-    ensures { option_map (λ s. s.now) result ≡ script_of (subcommand_rows_of matches.now) }
+/// The text that was given for an argument.
+fn text_of<'a>(given: &ArgMatches<'a>, id: &str) -> Option<&'a str>
+    ensures { option_map (λ s. s.now) result ≡ first_of id.now (rows_of (found_of given.now)) }
 {
-    matches.subcommand_matches("replay")?.get_str("SCRIPT")
+    given.get_str(id)
+}
+
+/// What the arguments of `replay` ask for.
+fn replay<'a>(given: &ArgMatches<'a>) -> Option<Asked<'a>>
+    ensures { option_map wanted_of result ≡ replay_of (rows_of (found_of given.now)) }
+{
+    let script = text_of(given, "SCRIPT")?;
+    Some(Asked::Replay {
+        script,
+        definitions: text_of(given, "definitions"),
+    })
+}
+
+/// What the arguments of `route` ask for.
+fn route<'a>(given: &ArgMatches<'a>) -> Option<Asked<'a>>
+    ensures { option_map wanted_of result ≡ route_of (rows_of (found_of given.now)) }
+{
+    let definitions = text_of(given, "DEFS")?;
+    let exchange = text_of(given, "EXCHANGE")?;
+    let key = text_of(given, "KEY")?;
+    Some(Asked::Route {
+        definitions,
+        exchange,
+        key,
+    })
+}
+
+/// What the command of this name asks for.
+fn named<'a>(name: &str, given: &ArgMatches<'a>) -> Option<Asked<'a>>
+    ensures { option_map wanted_of result ≡ wanted_by (name.now, rows_of (found_of given.now)) }
+{
+    match name {
+        "replay" => replay(given),
+        "route" => route(given),
+        _ => None,
+    }
+}
+
+/// What the subcommand that was named asks for.
+fn asked<'a>(matches: &ArgMatches<'a>) -> Option<Asked<'a>>
+    ensures { option_map wanted_of result ≡ option_and_then wanted_by (subcommand_rows_of matches.now) }
+{
+    let (name, given) = matches.subcommand()?;
+    named(name, given)
 }
 
 /// What the words ask for. The first of them is the program's name.
@@ -53,8 +145,8 @@ pub fn command<'a, S: AsStr>(alloc: Global, words: &'a [S]) -> Result<Asked<'a>,
 {
     let mut warren = warren_command(alloc)?;
     let matches = warren.try_get_matches_from_mut(words)?;
-    match named_script(&matches) {
-        Some(script) => Ok(Asked::Replay { script }),
+    match asked(&matches) {
+        Some(asked) => Ok(asked),
         None => Err(warren.error(ErrorKind::MissingSubcommand, "a command is missing")?),
     }
 }

@@ -66,17 +66,53 @@ fn reads(rt: HostRuntime) -> Result<(), Fail> {
     assert_eq!(rt; topology.queues()[5].limit, Some(2));
     assert_eq!(rt; topology.queues()[6].limit, Some(0));
     assert!(rt; topology.exchanges()[6].internal);
-    assert_eq!(rt; read.users().len(), 2);
-    assert_eq!(rt; read.users()[1].name.as_bytes(), b"second".as_slice());
-    let targets = topology
-        .route(alloc, b"ix.topic", b"a.b.c")
+    assert!(rt; topology.queues()[1].dead_letter_exchange.is_some());
+    assert!(rt; topology.queues()[1].dead_letter_key.is_none());
+    Ok(())
+}
+
+/// The salt `01020304`, and the SHA-256 of it and `peer-pass`.
+const PEER: [u8; 36] = [
+    0x01, 0x02, 0x03, 0x04, 0xbe, 0x73, 0x02, 0xe1, 0x02, 0xee, 0x88, 0x77, 0x52, 0x43, 0x1d, 0x14,
+    0xe4, 0xda, 0xd6, 0x9e, 0x65, 0x5c, 0xd4, 0xa5, 0x86, 0xb5, 0x51, 0x73, 0x55, 0x53, 0x06, 0x36,
+    0xaa, 0x5d, 0xe8, 0x35,
+];
+
+#[test]
+fn reads_users(rt: HostRuntime) -> Result<(), Fail> {
+    let read = read_definitions(rt.alloc(), FILE.as_bytes())
         .ok()
-        .ok_or("there is memory")?;
-    assert_eq!(rt; targets.as_slice(), [0, 3].as_slice());
-    let targets = topology
-        .route(alloc, b"ix.alt", b"unknown")
+        .ok_or("it is read")?;
+    let users = read.users();
+    assert_eq!(rt; users.len(), 2);
+    assert_eq!(rt; users[0].name.as_bytes(), b"peer".as_slice());
+    assert_eq!(rt; users[0].hash.as_bytes(), PEER.as_slice());
+    assert_eq!(rt; users[1].name.as_bytes(), b"second".as_slice());
+    Ok(())
+}
+
+/// What the session published, and the queues that RabbitMQ 3.10.8 was seen to put it into or to refuse it for.
+#[test]
+fn routes_as_measured(rt: HostRuntime) -> Result<(), Fail> {
+    let alloc = rt.alloc();
+    let read = read_definitions(alloc, FILE.as_bytes())
         .ok()
-        .ok_or("there is memory")?;
-    assert_eq!(rt; targets.as_slice(), [4].as_slice());
+        .ok_or("it is read")?;
+    let rows: [(&str, &str, &[usize]); 6] = [
+        ("ix.direct", "work", &[0]),
+        ("ix.direct", "nowhere", &[]),
+        ("ix.direct", "limited", &[5]),
+        ("ix.direct", "zero", &[6]),
+        ("ix.topic", "x.e2e", &[3, 5]),
+        ("ix.alt", "nope", &[4]),
+    ];
+    for (exchange, key, places) in rows {
+        let targets = read
+            .topology()
+            .route(alloc, exchange.as_bytes(), key.as_bytes())
+            .ok()
+            .ok_or("there is memory")?;
+        assert_eq!(rt; targets.as_slice(), places, "{exchange} {key}");
+    }
     Ok(())
 }

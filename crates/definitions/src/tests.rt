@@ -334,6 +334,31 @@ fn two_causes(rt: HostRuntime) -> Result<(), Fail> {
     Ok(())
 }
 
+/// A limit without an overflow, a key with an empty word, and a policy, one after the other.
+#[test]
+fn three_causes(rt: HostRuntime) -> Result<(), Fail> {
+    let alloc = rt.alloc();
+    let policy = edited(alloc, WHOLE, "\"policies\":[]", "\"policies\":[{}]")?;
+    let key = edited(alloc, policy.as_str(), "\"e2e\"", "\"a..b\"")?;
+    let limit = edited(
+        alloc,
+        key.as_str(),
+        ",\"x-overflow\":\"reject-publish\"",
+        "",
+    )?;
+    assert_eq!(rt; number(alloc, limit.as_bytes()), 7);
+    let rest = edited(
+        alloc,
+        limit.as_str(),
+        "\"policies\":[{}]",
+        "\"policies\":[]",
+    )?;
+    assert_eq!(rt; number(alloc, rest.as_bytes()), 8);
+    let rest = edited(alloc, rest.as_str(), "\"x-max-length\":5,", "")?;
+    assert_eq!(rt; number(alloc, rest.as_bytes()), 9);
+    Ok(())
+}
+
 /// A file of so many users, exchanges, queues and bindings, each exchange bound to the first queue, and its name.
 fn large(
     alloc: Global,
@@ -400,6 +425,39 @@ fn limits(rt: HostRuntime) -> Result<(), Fail> {
             .ok()
             .ok_or("there is memory")?;
         assert_eq!(rt; number(alloc, text.as_bytes()), want);
+    }
+    Ok(())
+}
+
+/// A user too many beside another cause.
+#[test]
+fn limits_among_causes(rt: HostRuntime) -> Result<(), Fail> {
+    let alloc = rt.alloc();
+    let whole = large(alloc, 257, 1, 1, 1).ok().ok_or("there is memory")?;
+    for (want, old, new) in [
+        (1, "]}", "]"),
+        (2, "\"internal\":false,", ""),
+        (3, "{\"name\":\"/\"}", "{\"name\":\"v\"}"),
+        (4, "\"name\":\"u256\"", "\"name\":\"u0\""),
+        (5, "\"destination\":\"q0\"", "\"destination\":\"x0\""),
+        (6, "\"type\":\"direct\"", "\"type\":\"headers\""),
+        (7, "\"auto_delete\":false", "\"auto_delete\":true"),
+        (
+            8,
+            "\"auto_delete\":false,\"arguments\":{}",
+            "\"auto_delete\":false,\"arguments\":{\"x-max-length\":1}",
+        ),
+        (9, "\"routing_key\":\"\"", "\"routing_key\":\".\""),
+        (
+            10,
+            "\"arguments\":{}",
+            "\"arguments\":{\"alternate-exchange\":\"Z\"}",
+        ),
+        (10, "\"user\":\"u256\"", "\"user\":\"u0\""),
+        (10, "_sha256", "_sha512"),
+    ] {
+        let text = edited(alloc, whole.as_str(), old, new)?;
+        assert_eq!(rt; number(alloc, text.as_bytes()), want, "{old} to {new}");
     }
     Ok(())
 }

@@ -5,8 +5,8 @@ use Rattle.std.proofs.lemmas.Bool.{eq-eqb}
 use Rattle.model.specs.Broker.{Broker, with_one}
 use Rattle.model.specs.Commands.{Stream, Ends, stays, running_stream, heard}
 use Rattle.model.specs.Phases.{Session, to_phase, after_sends, answer, faulted}
-use Rattle.model.specs.State.{Config, State, Step, Steps, Moves, OfCommand, OfFault}
-use Rattle.model.specs.Step.{Acts, Is}
+use Rattle.model.specs.State.{Config, State, Step, Steps, Moves, OfCommand, OfLarge, OfFault}
+use Rattle.model.specs.Step.{Acts, Is, empty_publish}
 use Rattle.model.specs.Spelling.{spelling}
 use Rattle.model.specs.Run.{Happening, notes_of}
 use Rattle.model.specs.Arrivals.{Wire, Turns, Settles, Reads, again, fresh, fault, event_of, is_over, is_paused, is_ended, is_past_bound, wire_after, new_wire, Waits, Same, SameToCome, still, waits, IsIdle, Takes_off, Loses, with_heard}
@@ -18,7 +18,7 @@ use Rattle.model.specs.declared.events.Send.{Send}
 use Rattle.model.specs.declared.events.Phase.{Phase}
 use Rattle.model.specs.declared.events.Phase.TheVariants as phase
 use Rattle.model.specs.declared.events.Command.{Command}
-use Rattle.model.specs.declared.events.Command.TheVariants.{Plain, Full}
+use Rattle.model.specs.declared.events.Command.TheVariants.{Plain, Full, TooLarge}
 use Rattle.model.specs.declared.events.Event.{Event}
 use Rattle.model.specs.declared.events.Event.TheVariants as event
 use Rattle.assembly.specs.Held.{stream_of}
@@ -78,6 +78,17 @@ of_fault phase.Open f s c code sess sess' sends notes mid eq by = moved s c sess
 of_fault phase.Closing f s c code sess sess' sends notes mid eq by = moved s c sess sess' _ phase.Closing sends notes mid (λ z. faulted c z phase.Closing code) eq by (λ z. refl)
 of_fault phase.Over f s c code sess sess' sends notes mid eq by = moved s c sess sess' _ phase.Over sends notes mid (λ z. faulted c z phase.Over code) eq by (λ z. refl)
 
+of_large : (p : Phase) (f : Config) (s : State) (c h : ℕ) (sess sess' : Session) (sends : List Send) (notes : List Note) (mid : Broker)
+    → s.session c ≡ sess → Decides p f.topology s.broker sess (event.TooLarge c h) sends notes mid sess'
+    → OfLarge f s p c h sends notes (record { broker = mid; session = with_one s.session c sess' })
+of_large phase.Running f s c h sess sess' sends notes mid eq by = stepped_by f s c sess sess' _ sends notes mid _ by (ap (λ (z : Session). to_phase z (after_sends sends)) (sym eq))
+of_large phase.Header f s c h sess sess' sends notes mid eq by = moved s c sess sess' _ phase.Header sends notes mid (λ z. answer c z phase.Header h empty_publish) eq by (λ z. refl)
+of_large phase.Start f s c h sess sess' sends notes mid eq by = moved s c sess sess' _ phase.Start sends notes mid (λ z. answer c z phase.Start h empty_publish) eq by (λ z. refl)
+of_large phase.Tune f s c h sess sess' sends notes mid eq by = moved s c sess sess' _ phase.Tune sends notes mid (λ z. answer c z phase.Tune h empty_publish) eq by (λ z. refl)
+of_large phase.Open f s c h sess sess' sends notes mid eq by = moved s c sess sess' _ phase.Open sends notes mid (λ z. answer c z phase.Open h empty_publish) eq by (λ z. refl)
+of_large phase.Closing f s c h sess sess' sends notes mid eq by = moved s c sess sess' _ phase.Closing sends notes mid (λ z. answer c z phase.Closing h empty_publish) eq by (λ z. refl)
+of_large phase.Over f s c h sess sess' sends notes mid eq by = moved s c sess sess' _ phase.Over sends notes mid (λ z. answer c z phase.Over h empty_publish) eq by (λ z. refl)
+
 commanded : (m : Command) (f : Config) (s : State) (c : ℕ) (sess sess' : Session) (sends : List Send) (notes : List Note) (mid : Broker)
     → s.session c ≡ sess → Decides sess.phase f.topology s.broker sess (event_of c m) sends notes mid sess'
     → Step f s (event_of c m) sends notes (record { broker = mid; session = with_one s.session c sess' })
@@ -85,6 +96,8 @@ commanded (Plain h m) f s c sess sess' sends notes mid eq by =
     subst (λ (z : Session). OfCommand f s z.phase c h m None sends notes (record { broker = mid; session = with_one s.session c sess' })) (sym eq) (of_command sess.phase f s c h m None sess sess' sends notes mid eq by)
 commanded (Full h p content) f s c sess sess' sends notes mid eq by =
     subst (λ (z : Session). OfCommand f s z.phase c h (BasicPublish p) (Some content) sends notes (record { broker = mid; session = with_one s.session c sess' })) (sym eq) (of_command sess.phase f s c h (BasicPublish p) (Some content) sess sess' sends notes mid eq by)
+commanded (TooLarge h) f s c sess sess' sends notes mid eq by =
+    subst (λ (z : Session). OfLarge f s z.phase c h sends notes (record { broker = mid; session = with_one s.session c sess' })) (sym eq) (of_large sess.phase f s c h sess sess' sends notes mid eq by)
 
 pub asked_steps : (c : ℕ) (k : Option Command) (st nx : Stream) (e : Event) (f : Config) (s : State) (sess sess' : Session) (sends : List Send) (notes : List Note) (mid : Broker)
     → Reads c k st e nx → s.session c ≡ sess → Decides sess.phase f.topology s.broker sess e sends notes mid sess'

@@ -10,7 +10,7 @@ use Rattle.model.specs.Arrivals.{Reads, again, fresh, fault, SameToCome, still, 
 use Rattle.model.specs.declared.events.Phase.{Phase}
 use Rattle.model.specs.declared.events.Phase.TheVariants as phase
 use Rattle.model.specs.declared.events.Command.{Command}
-use Rattle.model.specs.declared.events.Command.TheVariants.{Plain, Full}
+use Rattle.model.specs.declared.events.Command.TheVariants.{Plain, Full, TooLarge}
 use Rattle.model.specs.declared.events.Send.{Send}
 use Rattle.model.specs.declared.events.Event.{Event}
 use Rattle.model.specs.declared.events.Event.TheVariants as event
@@ -30,14 +30,17 @@ use Rattle.engine.specs.declared.turning.Turn.TheVariants as turn
 kept_is : (c : ℕ) (m : Command) → kept_of (Some (event_of c m)) ≡ Some m
 kept_is c (Plain h m) = refl
 kept_is c (Full h p content) = refl
+kept_is c (TooLarge h) = refl
 
 asks_command : (c : ℕ) (m : Command) → IsAsked c (event_of c m)
 asks_command c (Plain h m) = refl
 asks_command c (Full h p content) = refl
+asks_command c (TooLarge h) = refl
 
 says_command : (c : ℕ) (m : Command) → IsCommand m → IsSaid (event_of c m)
 says_command c (Plain h m) is = is
 says_command c (Full h p content) is = is
+says_command c (TooLarge h) is = is
 
 pub asks_made : (c : ℕ) (e : Event) → IsMade c e → IsAsked c e
 asks_made c e is = subst (λ (x : Event). IsAsked c x) (sym is.made) (asks_command c is.command)

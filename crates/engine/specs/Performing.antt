@@ -2,18 +2,19 @@
 use Rattle.std.specs.Prelude.{◌≡◌, ℕ, List, [], Bool, true, false}
 use Rattle.model.specs.Topology.{Topology}
 use Rattle.model.specs.Broker.{Broker}
-use Rattle.model.specs.Step.{Acts}
+use Rattle.model.specs.Step.{Acts, empty_publish}
 use Rattle.model.specs.Phases.{Session, Move, answer, faulted, stays_in, after_sends, to_phase}
 use Rattle.model.specs.declared.events.Phase.{Phase}
 use Rattle.model.specs.declared.events.Phase.TheVariants as phase
 use Rattle.model.specs.declared.events.Send.{Send}
 use Rattle.model.specs.declared.events.Event.{Event}
-use Rattle.model.specs.declared.events.Event.TheVariants.{Command, Fault, Pause, Resume}
+use Rattle.model.specs.declared.events.Event.TheVariants.{Command, TooLarge, Fault, Pause, Resume}
 use Rattle.model.specs.declared.notes.Note.{Note}
 
 -- a command or a fault of the stream, which is what a connection's bytes ask for
 abbrev pub IsAsked : ℕ → Event → Type 0
 IsAsked c (Command d h m content) = d ≡ c
+IsAsked c (TooLarge d h) = d ≡ c
 IsAsked c (Fault d code) = d ≡ c
 IsAsked c e = ⊥
 
@@ -25,6 +26,7 @@ session_after s e sends = to_phase s (after_sends sends)
 -- what a phase other than Running answers
 abbrev pub move_of : Phase → Session → Event → Move
 move_of p s (Command c h m content) = answer c s p h m
+move_of p s (TooLarge c h) = answer c s p h empty_publish
 move_of p s (Fault c code) = faulted c s p code
 move_of p s e = stays_in s
 

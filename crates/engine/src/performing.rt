@@ -60,6 +60,7 @@ fn sends_of(
             method,
             ..
         } => session.take(alloc, c, *channel, method),
+        Event::TooLarge { channel, .. } => session.take_large(alloc, c, *channel),
         Event::Fault { code, .. } => session.fault(alloc, c, *code),
         _ => unreachable!(),
     }

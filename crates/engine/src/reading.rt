@@ -81,5 +81,9 @@ fn event_of(connection: u64, command: Command) -> Event
             method: Method::BasicPublish(publish),
             content: Some(content),
         },
+        Command::TooLarge { channel } => Event::TooLarge {
+            connection,
+            channel,
+        },
     }
 }

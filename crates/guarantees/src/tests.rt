@@ -1,6 +1,7 @@
 //! The example of AMQP 0-9-1, section 3.1.3.3, as a guarantee.
 
 use super::*;
+use model::{Mode, Text};
 use std::test::*;
 
 #[test]

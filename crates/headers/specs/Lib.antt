@@ -1,2 +1,5 @@
+pub mod Properties
+pub mod Unread
 pub mod Reading
 pub mod Writing
+pub mod Laws

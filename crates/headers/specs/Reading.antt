@@ -5,7 +5,7 @@ use Rattle.model.specs.Headers
 use Rattle.model.specs.Headers.{weight_at, size_at, flags_at, SaysSize, SaysHeader}
 use Rattle.headers.specs.declared.contents.Header.{Header}
 use Rattle.headers.specs.declared.contents.Refusal.{Refusal}
-use Rattle.headers.specs.declared.contents.Refusal.TheVariants.{FrameError, SyntaxError, NotImplemented, Memory}
+use Rattle.headers.specs.declared.contents.Refusal.TheVariants.{FrameError, SyntaxError, Memory}
 
 -- the header, as the definitions have it
 abbrev pub seen : Header → Headers.Header
@@ -25,14 +25,12 @@ abbrev pub TellsSize : List ℕ → Result ℕ Refusal → Type 0
 TellsSize payload (Ok n) = SaysSize payload (Ok n)
 TellsSize payload (Err FrameError) = SaysSize payload (Err 501)
 TellsSize payload (Err SyntaxError) = ⊥
-TellsSize payload (Err NotImplemented) = ⊥
 TellsSize payload (Err Memory) = ⊥
 
 -- the payload is refused for this reason, or memory was
 abbrev pub Refuses : List ℕ → Refusal → Type 0
 Refuses payload FrameError = SaysHeader payload (Err 501)
 Refuses payload SyntaxError = SaysHeader payload (Err 502)
-Refuses payload NotImplemented = SaysHeader payload (Err 540)
 Refuses payload Memory = ⊤
 
 -- the answer is right for this payload
@@ -45,5 +43,4 @@ abbrev pub IsHeaderOr : Headers.Header → Result Header Refusal → Type 0
 IsHeaderOr h (Ok g) = seen g ≡ h
 IsHeaderOr h (Err FrameError) = ⊥
 IsHeaderOr h (Err SyntaxError) = ⊥
-IsHeaderOr h (Err NotImplemented) = ⊥
 IsHeaderOr h (Err Memory) = ⊤

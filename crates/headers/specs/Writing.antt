@@ -1,28 +1,61 @@
--- Headers as they are written.
-use Rattle.std.specs.Prelude.{◌≡◌, ◌≢◌, ℕ, Bool, is_none, ◌&&◌, Result, Ok, Err, ⊤}
-use Rattle.model.specs.Headers.{no_properties}
+-- Headers as they are written. Source: AMQP 0-9-1, section 4.2.6.1, "The Content Header".
+use Rattle.std.specs.Prelude.{◌≡◌, ◌+◌, ◌*◌, ℕ, List, [], ◌∷◌, ◌++◌, length, Bool, cond, is_some, flat_map, Option, Some, None, ⊤}
+use Rattle.std.specs.List.{AllByRecursion}
+use Rattle.std.specs.Int.{w16, w64, to_be_bytes}
+use Rattle.model.specs.Grammar.{Argument}
+use Rattle.model.specs.Headers.{text_of, octet_of, time_of, table_of, value_of, IsValue, AreProperties, header_bytes}
 use Rattle.model.specs.declared.contents.Properties.{Properties}
 use Rattle.headers.specs.declared.contents.WriteError.{WriteError}
-use Rattle.headers.specs.declared.contents.WriteError.TheVariants.{NotImplemented, Memory}
+use Rattle.headers.specs.declared.contents.WriteError.TheVariants.{SyntaxError, Memory}
 
--- no property is present: texts, and the others
-abbrev pub is_bare : Properties → Bool
-is_bare p =
-    (is_none p.content_type && is_none p.content_encoding && is_none p.correlation_id && is_none p.reply_to && is_none p.expiration
-    && is_none p.message_id && is_none p.kind && is_none p.user_id && is_none p.app_id && is_none p.reserved)
-    && (is_none p.headers && is_none p.delivery_mode && is_none p.priority && is_none p.timestamp)
+-- the first seven properties in the order of their flags
+abbrev pub front_of : Properties → List (Option Argument)
+front_of p =
+    text_of p.content_type ∷ text_of p.content_encoding ∷ table_of p.headers ∷ octet_of p.delivery_mode ∷ octet_of p.priority
+    ∷ text_of p.correlation_id ∷ text_of p.reply_to ∷ []
+
+-- the other seven
+abbrev pub back_of : Properties → List (Option Argument)
+back_of p =
+    text_of p.expiration ∷ text_of p.message_id ∷ time_of p.timestamp ∷ text_of p.kind ∷ text_of p.user_id ∷ text_of p.app_id
+    ∷ text_of p.reserved ∷ []
+
+-- the values that are present, one after another
+abbrev pub values : List (Option Argument) → List ℕ
+values os = flat_map value_of os
+
+-- they have a spelling
+abbrev pub AreValues : List (Option Argument) → Type 0
+AreValues os = AllByRecursion IsValue os
+
+-- a flag of this weight
+abbrev pub flag : Bool → ℕ → ℕ
+flag is weight = cond is 1 0 * weight
+
+-- the flags of the first seven properties, bits 15 to 9
+abbrev pub front_flags : Properties → ℕ
+front_flags p =
+    flag (is_some p.content_type) 32768 + flag (is_some p.content_encoding) 16384 + flag (is_some p.headers) 8192 + flag (is_some p.delivery_mode) 4096
+    + flag (is_some p.priority) 2048 + flag (is_some p.correlation_id) 1024 + flag (is_some p.reply_to) 512
+
+-- the flags of the other seven, bits 8 to 2
+abbrev pub back_flags : Properties → ℕ
+back_flags p =
+    flag (is_some p.expiration) 256 + flag (is_some p.message_id) 128 + flag (is_some p.timestamp) 64 + flag (is_some p.kind) 32
+    + flag (is_some p.user_id) 16 + flag (is_some p.app_id) 8 + flag (is_some p.reserved) 4
+
+-- class, weight, size and flags
+abbrev pub fixed : ℕ → ℕ → List ℕ
+fixed size flags = to_be_bytes w16 60 ++ to_be_bytes w16 0 ++ to_be_bytes w64 size ++ to_be_bytes w16 flags
+
+-- ---- the answer
 
 -- the header is not written for this reason, or memory was refused
 abbrev pub Refused : Properties → WriteError → Type 0
-Refused p NotImplemented = p ≢ no_properties
+Refused p SyntaxError = AreProperties p → ⊥
 Refused p Memory = ⊤
 
--- the header is not written for this reason, which is not want of memory
-abbrev pub Barred : Properties → WriteError → Type 0
-Barred p NotImplemented = p ≢ no_properties
-Barred p Memory = ⊥
-
--- a header without properties has 14 bytes, for a body of any size; or why there is none
-abbrev pub Counts : Properties → Result ℕ WriteError → Type 0
-Counts p (Ok n) = (p ≡ no_properties) × (n ≡ 14)
-Counts p (Err e) = Barred p e
+-- a header has so many bytes, for a body of any size, or there is none
+abbrev pub Counts : Properties → Option ℕ → Type 0
+Counts p (Some n) = AreProperties p × ((size : ℕ) → n ≡ length (header_bytes size p))
+Counts p None = AreProperties p → ⊥

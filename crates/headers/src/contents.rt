@@ -1,6 +1,7 @@
 //! A header, and why there is none.
 
 use model::Properties;
+use std::alloc::AllocError;
 
 /// The size of a body in bytes, and its properties.
 #[derive(Drop)]
@@ -14,19 +15,29 @@ pub struct Header {
 pub enum Refusal {
     /// The payload is shorter than 14 bytes, or of another class or weight. Reply code 501, frame-error.
     FrameError,
-    /// Bytes are left over. Reply code 502, syntax-error.
+    /// The properties end early, leave bytes over, hold a table that is none, or one of the two lowest flags is set. Reply
+    /// code 502, syntax-error.
     SyntaxError,
-    /// Properties are present. Reply code 540, not-implemented.
-    NotImplemented,
     /// Memory was refused.
     Memory,
+}
+
+impl From<AllocError> for Refusal {
+    ghost use Rattle.std.specs.Prelude.{◌≡◌};
+    ghost use Rattle.headers.specs.declared.contents.Refusal.TheVariants.{Memory};
+
+    ghost from_gives = { λ _ e. e ≡ Memory };
+
+    fn from(_e: AllocError) -> Refusal {
+        Refusal::Memory
+    }
 }
 
 /// Why no header was written.
 #[derive(Clone, Copy, PartialEq, Eq, Debug, Drop)]
 pub enum WriteError {
-    /// Properties are present. Reply code 540, not-implemented.
-    NotImplemented,
+    /// The properties have no spelling: a text is too long, or the table is none. Reply code 502, syntax-error.
+    SyntaxError,
     /// Memory was refused.
     Memory,
 }

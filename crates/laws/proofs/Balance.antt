@@ -6,9 +6,9 @@ use Rattle.std.specs.List.{AllByRecursion}
 use Rattle.model.specs.Words.{Text}
 use Rattle.model.specs.Topology.{Topology, IsIn}
 use Rattle.model.specs.Broker.{Channel, Connection, Broker, is_full}
-use Rattle.model.specs.Step.{Refusal, Ignored, Of_channel, Of_connection, Does, IsPublish, Performs, Refuses, Decides, OnConnection, Acts, freed, by_channel, by_connection, with_channel, with_freed, reply, content_or_none, message, comes_to, entry_notes, returned_notes, confirm_notes, is_none, is_some_full, next_of, answer_of, refusal, channel_or_new}
+use Rattle.model.specs.Step.{Refusal, Ignored, Of_channel, Of_connection, Does, IsPublish, Performs, Refuses, Decides, OnConnection, OnLarge, Acts, empty_publish, refusal_of_large, freed, by_channel, by_connection, with_channel, with_freed, reply, content_or_none, message, comes_to, entry_notes, returned_notes, confirm_notes, is_none, is_some_full, next_of, answer_of, refusal, channel_or_new}
 use Rattle.model.specs.Phases.{Session, Move, stays_in, to_phase, while_closing, answer, faulted}
-use Rattle.model.specs.State.{Config, State, Moves, OfCommand, OfFault, Step}
+use Rattle.model.specs.State.{Config, State, Moves, OfCommand, OfLarge, OfFault, Step}
 use Rattle.model.specs.Run.{Happening, Run, Balances, notes_of, is_entered, is_left, has_number}
 use Rattle.model.specs.declared.messages.Message.{Message}
 use Rattle.model.specs.declared.messages.Holder.{Holder}
@@ -20,7 +20,7 @@ use Rattle.model.specs.declared.events.Send.{Send}
 use Rattle.model.specs.declared.events.Phase.{Phase}
 use Rattle.model.specs.declared.events.Phase.TheVariants as phase
 use Rattle.model.specs.declared.events.Event.{Event}
-use Rattle.model.specs.declared.events.Event.TheVariants.{Running, Command, Fault, Lose, Pause, Resume}
+use Rattle.model.specs.declared.events.Event.TheVariants.{Running, Command, TooLarge, Fault, Lose, Pause, Resume}
 use Rattle.model.specs.declared.methods.Publish.{Publish}
 use Rattle.model.specs.declared.methods.Method.{Method}
 use Rattle.model.specs.declared.methods.Method.TheVariants.{ConnectionClose, ConnectionCloseOk, ChannelClose, ChannelCloseOk, BasicPublish, ConfirmSelect}
@@ -117,9 +117,15 @@ connection_seen : (t : Topology) (old new : Broker) (c h : ℕ) (m : Method) (co
 connection_seen t old new c h m content sends notes None p = inl (does_nothing old new _ sends _ notes p (keeps_all old _ refl (λ q. refl)) tt)
 connection_seen t old new c h m content sends notes (Some conn) p = decides_seen t old new c h m content (refusal t old conn h m (old.channel c h)) sends notes p
 
+-- a content that is too large is no publish
+large_seen : (old new : Broker) (c h : ℕ) (sends : List Send) (notes : List Note) (o : Option Connection) → OnLarge old c h sends notes new o → AddsNothing old new sends notes
+large_seen old new c h sends notes None p = does_nothing old new _ sends _ notes p (keeps_all old _ refl (λ q. refl)) tt
+large_seen old new c h sends notes (Some conn) p = refuses_nothing old new c h empty_publish (refusal_of_large conn h (old.channel c h)) sends notes p
+
 acts_seen : (t : Topology) (old new : Broker) (e : Event) (sends : List Send) (notes : List Note) → Acts t old e sends notes new → Seen t old new e sends notes
 acts_seen t old new (Running c max k) sends notes p = inl (does_nothing old new _ sends _ notes p (keeps_all old _ refl (λ q. refl)) tt)
 acts_seen t old new (Command c h m content) sends notes p = connection_seen t old new c h m content sends notes (old.connection c) p
+acts_seen t old new (TooLarge c h) sends notes p = inl (large_seen old new c h sends notes (old.connection c) p)
 acts_seen t old new (Fault c code) sends notes p = inl (does_nothing old new _ sends _ notes p (keeps_freed old _ (by_connection c) refl (λ q. refl)) (refl, tt))
 acts_seen t old new (Lose c) sends notes p = inl (does_nothing old new _ sends _ notes p (keeps_freed old _ (by_connection c) refl (λ q. refl)) tt)
 acts_seen t old new (Pause c) sends notes p = inl (does_nothing old new _ sends _ notes p (keeps_all old _ refl (λ q. refl)) tt)
@@ -158,6 +164,11 @@ command_seen : (f : Config) (old new : State) (p : Phase) (c h : ℕ) (m : Metho
 command_seen f old new phase.Running c h m content sends notes s = acts_seen f.topology old.broker new.broker (Command c h m content) sends notes s.acts
 command_seen f old new p c h m content sends notes s = inl (moves_nothing old new c (answer c (old.session c) p h m) sends notes s (answer_silent c (old.session c) p h m))
 
+large_step_seen : (f : Config) (old new : State) (p : Phase) (c h : ℕ) (sends : List Send) (notes : List Note)
+    → OfLarge f old p c h sends notes new → Seen f.topology old.broker new.broker (TooLarge c h) sends notes
+large_step_seen f old new phase.Running c h sends notes s = acts_seen f.topology old.broker new.broker (TooLarge c h) sends notes s.acts
+large_step_seen f old new p c h sends notes s = inl (moves_nothing old new c (answer c (old.session c) p h empty_publish) sends notes s (answer_silent c (old.session c) p h empty_publish))
+
 fault_seen : (f : Config) (old new : State) (p : Phase) (c code : ℕ) (sends : List Send) (notes : List Note)
     → OfFault f old p c code sends notes new → Seen f.topology old.broker new.broker (Fault c code) sends notes
 fault_seen f old new phase.Running c code sends notes s = acts_seen f.topology old.broker new.broker (Fault c code) sends notes s.acts
@@ -167,6 +178,7 @@ fault_seen f old new p c code sends notes s = inl (moves_nothing old new c (faul
 pub seen : (f : Config) (old new : State) (e : Event) (sends : List Send) (notes : List Note) → Step f old e sends notes new → Seen f.topology old.broker new.broker e sends notes
 seen f old new (Running c max k) sends notes s = acts_seen f.topology old.broker new.broker (Running c max k) sends notes s.acts
 seen f old new (Command c h m content) sends notes s = command_seen f old new (old.session c).phase c h m content sends notes s
+seen f old new (TooLarge c h) sends notes s = large_step_seen f old new (old.session c).phase c h sends notes s
 seen f old new (Fault c code) sends notes s = fault_seen f old new (old.session c).phase c code sends notes s
 seen f old new (Lose c) sends notes s = acts_seen f.topology old.broker new.broker (Lose c) sends notes s.acts
 seen f old new (Pause c) sends notes s = acts_seen f.topology old.broker new.broker (Pause c) sends notes s.acts

@@ -5,8 +5,8 @@ use Rattle.std.specs.List.{AllByRecursion}
 use Rattle.model.specs.Topology.{Topology}
 use Rattle.model.specs.Broker.{Broker, Channel, Connection}
 use Rattle.model.specs.Phases.{Session, Move, answer, while_closing, faulted, stays_in}
-use Rattle.model.specs.State.{Config, State, Step, Moves, OfCommand, OfFault}
-use Rattle.model.specs.Step.{Refusal, Ignored, Of_channel, Of_connection, Acts, Does, IsPublish, Performs, Refuses, Decides, OnConnection, refusal, returned_sends, confirm_sends, next_of, answer_of, is_some_full, is_none, select_sends, channel_or_new}
+use Rattle.model.specs.State.{Config, State, Step, Moves, OfCommand, OfLarge, OfFault}
+use Rattle.model.specs.Step.{Refusal, Ignored, Of_channel, Of_connection, Acts, Does, IsPublish, Performs, Refuses, Decides, OnConnection, OnLarge, empty_publish, refusal, refusal_of_large, returned_sends, confirm_sends, next_of, answer_of, is_some_full, is_none, select_sends, channel_or_new}
 use Rattle.model.specs.Run.{Happening, Run}
 use Rattle.model.specs.Spelling.{IsSpelled}
 use Rattle.model.specs.Commands.{Stream}
@@ -76,9 +76,14 @@ commands_on : (t : Topology) (old : Broker) (c h : ℕ) (m : Method) (content : 
 commands_on t old c h m content sends notes new None d = commands_done sends _ notes _ new tt d
 commands_on t old c h m content sends notes new (Some conn) d = commands_decided t old c h m content _ sends notes new d
 
+commands_of_refused_large : (old : Broker) (c h : ℕ) (sends : List Send) (notes : List Note) (new : Broker) (o : Option Connection) → OnLarge old c h sends notes new o → AreCommandSends sends
+commands_of_refused_large old c h sends notes new None d = commands_done sends _ notes _ new tt d
+commands_of_refused_large old c h sends notes new (Some conn) d = commands_refused old c h empty_publish (refusal_of_large conn h (old.channel c h)) sends notes new d
+
 commands_acted : (t : Topology) (old : Broker) (e : Event) (sends : List Send) (notes : List Note) (new : Broker) → Acts t old e sends notes new → AreCommandSends sends
 commands_acted t old (event.Running c max k) sends notes new d = commands_done sends _ notes _ new tt d
 commands_acted t old (event.Command c h m content) sends notes new d = commands_on t old c h m content sends notes new (old.connection c) d
+commands_acted t old (event.TooLarge c h) sends notes new d = commands_of_refused_large old c h sends notes new (old.connection c) d
 commands_acted t old (event.Fault c code) sends notes new d = commands_done sends _ notes _ new (tt, tt) d
 commands_acted t old (event.Lose c) sends notes new d = commands_done sends _ notes _ new tt d
 commands_acted t old (event.Pause c) sends notes new d = commands_done sends _ notes _ new tt d
@@ -114,6 +119,11 @@ commands_of_command f old phase.Running c h m content sends notes new s = comman
 commands_of_command f old phase.Closing c h m content sends notes new s = commands_moved old c _ sends notes new (commands_answered c (old.session c) phase.Closing h m) s
 commands_of_command f old _ c h m content sends notes new s = commands_moved old c _ sends notes new tt s
 
+commands_of_large : (f : Config) (old : State) (p : Phase) (c h : ℕ) (sends : List Send) (notes : List Note) (new : State) → OfLarge f old p c h sends notes new → AreCommandSends sends
+commands_of_large f old phase.Running c h sends notes new s = commands_acted f.topology old.broker (event.TooLarge c h) sends notes new.broker s.acts
+commands_of_large f old phase.Closing c h sends notes new s = commands_moved old c _ sends notes new (commands_answered c (old.session c) phase.Closing h empty_publish) s
+commands_of_large f old _ c h sends notes new s = commands_moved old c _ sends notes new tt s
+
 commands_of_fault : (f : Config) (old : State) (p : Phase) (c code : ℕ) (sends : List Send) (notes : List Note) (new : State) → OfFault f old p c code sends notes new → AreCommandSends sends
 commands_of_fault f old phase.Running c code sends notes new s = commands_acted f.topology old.broker (event.Fault c code) sends notes new.broker s.acts
 commands_of_fault f old phase.Closing c code sends notes new s = commands_moved old c _ sends notes new tt s
@@ -124,6 +134,7 @@ commands_of_fault f old _ c code sends notes new s = commands_moved old c _ send
 pub commands_stepped : (f : Config) (old : State) (e : Event) (sends : List Send) (notes : List Note) (new : State) → Step f old e sends notes new → AreCommandSends sends
 commands_stepped f old (event.Running c max k) sends notes new s = commands_acted f.topology old.broker (event.Running c max k) sends notes new.broker s.acts
 commands_stepped f old (event.Command c h m content) sends notes new s = commands_of_command f old (old.session c).phase c h m content sends notes new s
+commands_stepped f old (event.TooLarge c h) sends notes new s = commands_of_large f old (old.session c).phase c h sends notes new s
 commands_stepped f old (event.Fault c code) sends notes new s = commands_of_fault f old (old.session c).phase c code sends notes new s
 commands_stepped f old (event.Lose c) sends notes new s = commands_acted f.topology old.broker (event.Lose c) sends notes new.broker s.acts
 commands_stepped f old (event.Pause c) sends notes new s = commands_acted f.topology old.broker (event.Pause c) sends notes new.broker s.acts

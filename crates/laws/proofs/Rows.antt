@@ -8,7 +8,7 @@ use Rattle.model.specs.Guarantee.{CoversKey}
 use Rattle.model.specs.Spelling.{method_frame}
 use Rattle.model.specs.Headline.{acks_in, HasAcksOf, IsReading, EnteredOnce, ack_for}
 use Rattle.model.specs.declared.methods.Method.TheVariants.{ConfirmSelectOk, BasicAck}
-use Rattle.laws.specs.Rows.{WordsOfKeys, FirstInput, FirstOutput, BadEnd, HeadlineRefuses, select_ok, first_ack, bad_end, wanted, first_acked, notes_without_entry}
+use Rattle.laws.specs.Rows.{WordsOfKeys, FirstInput, FirstOutput, BadEnd, TooLargeContent, HeadlineRefuses, select_ok, first_ack, bad_end, wanted, first_acked, notes_without_entry}
 use Rattle.laws.proofs.Reading.{reading_apart, size_at, size_is, rest_is}
 
 pub words_of_keys : WordsOfKeys
@@ -40,6 +40,9 @@ bad_end_is_broken more rest f b =
 
 pub bad_end_answer : BadEnd
 bad_end_answer = record { broken = record { long = lit≤ tt; never = bad_end_is_broken }; answer = refl }
+
+pub too_large : TooLargeContent
+too_large = record { largest = refl; larger = refl; missing = refl; come = refl; past = refl; answer = refl }
 
 -- ---- what the headline refuses
 

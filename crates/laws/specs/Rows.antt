@@ -1,14 +1,16 @@
 -- Worked examples, that the checker computes: a definition that says something else shows at once.
-use Rattle.std.specs.Prelude.{◌≡◌, ◌++◌, ℕ, List, [], ◌∷◌, codes, false, Some}
+use Rattle.std.specs.Prelude.{◌≡◌, ◌++◌, ℕ, List, [], ◌∷◌, codes, true, false, Some}
 use Rattle.model.specs.Words.{words}
 use Rattle.model.specs.Guarantee.{Guarantee}
 use Rattle.model.specs.Frames.{frame_bytes, IsBroken}
-use Rattle.model.specs.Grammar.{ids}
+use Rattle.model.specs.Grammar.{ids, ids_of}
 use Rattle.model.specs.Headers.{header_bytes, no_properties}
 use Rattle.model.specs.Spelling.{method_frame, body_frame, spelling}
-use Rattle.model.specs.Step.{connection_close, select_sends, confirm_sends}
+use Rattle.model.specs.Commands.{Goes_on, Makes, Breaks, Drops, is_too_large, taken_dropped}
+use Rattle.model.specs.Step.{channel_close, connection_close, select_sends, confirm_sends, empty_publish}
 use Rattle.model.specs.Headline.{Acked, HasAcksOf, EnteredOnce}
 use Rattle.model.specs.declared.topologies.Mode.TheVariants.{Reaches}
+use Rattle.model.specs.declared.events.Command.TheVariants.{TooLarge}
 use Rattle.model.specs.declared.methods.Method.TheVariants.{ConfirmSelect, BasicPublish}
 use Rattle.model.specs.declared.notes.Note.{Note}
 use Rattle.model.specs.declared.notes.Note.TheVariants.{Published, Confirmed}
@@ -55,6 +57,20 @@ pub record BadEnd : Type 0 where
   pub broken : IsBroken 131072 bad_end
   pub answer : spelling 131072 (connection_close 1 501 (ids 0 0) ∷ [])
       ≡ 1 ∷ 0 ∷ 0 ∷ 0 ∷ 0 ∷ 0 ∷ 22 ∷ 0 ∷ 10 ∷ 0 ∷ 50 ∷ 1 ∷ 245 ∷ 11 ∷ 102 ∷ 114 ∷ 97 ∷ 109 ∷ 101 ∷ 45 ∷ 101 ∷ 114 ∷ 114 ∷ 111 ∷ 114 ∷ 0 ∷ 0 ∷ 0 ∷ 0 ∷ 206 ∷ []
+
+-- ---- a content that is too large
+
+pub record TooLargeContent : Type 0 where
+  -- a body of 1,048,576 bytes is taken, and one of a byte more is not
+  pub largest : is_too_large (header_bytes 1048576 no_properties) 1048576 ≡ false
+  pub larger : is_too_large (header_bytes 1048577 no_properties) 1048577 ≡ true
+  -- a byte is missing of it, it has come, and a byte too many has come
+  pub missing : taken_dropped 1 1048577 1048576 ≡ Goes_on (Drops 1048577 1048576)
+  pub come : taken_dropped 1 1048577 1048577 ≡ Makes (TooLarge 1)
+  pub past : taken_dropped 1 1048577 1048578 ≡ Breaks 501
+  -- channel.close 311 with the text content-too-large, for class 60, method 40
+  pub answer : spelling 131072 (channel_close 1 1 311 (ids_of empty_publish) ∷ [])
+      ≡ 1 ∷ 0 ∷ 1 ∷ 0 ∷ 0 ∷ 0 ∷ 28 ∷ 0 ∷ 20 ∷ 0 ∷ 40 ∷ 1 ∷ 55 ∷ 17 ∷ 99 ∷ 111 ∷ 110 ∷ 116 ∷ 101 ∷ 110 ∷ 116 ∷ 45 ∷ 116 ∷ 111 ∷ 111 ∷ 45 ∷ 108 ∷ 97 ∷ 114 ∷ 103 ∷ 101 ∷ 0 ∷ 60 ∷ 0 ∷ 40 ∷ 206 ∷ []
 
 -- ---- what the headline refuses
 

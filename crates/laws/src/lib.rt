@@ -9,7 +9,7 @@ ghost use Rattle.laws.specs.Alone.{SoundForWords};
 ghost use Rattle.laws.specs.Delivery.{OneReading, HeadlineHolds, TurnsKeep};
 ghost use Rattle.laws.specs.OneStep.{EveryRunBalances};
 ghost use Rattle.laws.specs.Promises.{AckedEnterOnce, AcksAreAcked, CausesAreShown, ForbiddenAreNotEntered, RunsKeepEvents};
-ghost use Rattle.laws.specs.Rows.{WordsOfKeys, FirstInput, FirstOutput, BadEnd, HeadlineRefuses};
+ghost use Rattle.laws.specs.Rows.{WordsOfKeys, FirstInput, FirstOutput, BadEnd, TooLargeContent, HeadlineRefuses};
 ghost use Rattle.laws.specs.Streams.{CuttingDoesNotMatter, FaultsStay};
 ghost use Rattle.model.specs.Guarantee.{Guarantee};
 ghost use Rattle.model.specs.State.{Config};
@@ -87,5 +87,6 @@ pub fn worked_examples()
     ensures input { FirstInput }
     ensures output { FirstOutput }
     ensures bad_end { BadEnd }
+    ensures large { TooLargeContent }
     ensures refused { HeadlineRefuses }
 {}

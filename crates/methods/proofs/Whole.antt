@@ -1,10 +1,12 @@
 -- What was read of the arguments tells what the payload says.
-use Rattle.std.proofs.Common.{◌≡◌, ℕ, ◌^◌, ◌<◌, ◌≤◌, Bool, true, false, cond, List, [], ◌++◌, map, drop, Option, Some, Result, Ok, Err, refl, sym, ap, subst, ◌∙◌, append-nil, arith}
-use Rattle.std.specs.Prelude.{◌==◌}
+use Rattle.std.proofs.Common.{◌≡◌, ℕ, ◌^◌, ◌<◌, ◌≤◌, Bool, true, false, cond, List, [], ◌++◌, map, length, drop, Option, Some, Result, Ok, Err, ◌⊎◌, inl, inr, append_assoc, refl, sym, ap, subst, ◌∙◌, append-nil, arith}
+use Rattle.std.specs.Prelude.{◌==◌, ◌||◌, ◌&&◌}
+use Rattle.std.proofs.lemmas.Bool.{eqb-true}
+use Rattle.methods.specs.Laws.{OneMethod}
 use Rattle.std.specs.Int.{w16, to_be_bytes}
 use Rattle.std.specs.List.{AllByRecursion, flat_map}
 use Rattle.std.proofs.lemmas.Nat.{from_be_bytes-to_be_bytes_2}
-use Rattle.model.specs.Grammar.{Argument, argument, IsArgument, Ids, ids, ids_of, arguments, method_bytes, IsMethod, class_at, method_at, is_known, is_left_out, is_unread, Spells, exact, any_rest, SaysMethod, said, unknown, left_out, bad_arguments}
+use Rattle.model.specs.Grammar.{Argument, argument, IsArgument, Ids, ids, ids_of, arguments, method_bytes, IsMethod, class_at, method_at, is_known, is_left_out, is_unread, Spells, exact, any_rest, SaysMethod, said, too_short, unknown, left_out, bad_arguments}
 use Rattle.model.specs.declared.methods.Method.{Method}
 use Rattle.model.specs.declared.methods.Method.TheVariants.{ConnectionCloseOk, ExchangeDelete, ExchangeBind, ExchangeUnbind, QueueBind, QueueDelete, QueueUnbind}
 use Rattle.field_table.specs.Arguments.{Kind, kind_of, arguments_at}
@@ -198,13 +200,16 @@ same_some : {A : Type 0} (r : Option A) (x y : A) → r ≡ Some x → r ≡ Som
 same_some r x y e f = cc
 
 -- two methods of the same ids, with the same arguments or none that are read
-same_read : (rest : List ℕ) (c m : ℕ) (n x : Method) (b : Bool) → is_unread c m ≡ b → IsRead c m rest n → Found x c m rest → n ≡ x
-same_read rest c m n x false u reads f =
-    same_method n x (reads.ids_are ∙ sym f.ids_are) (same_some (arguments_at (kinds_of c m) rest) (arguments n) (arguments x) (reads.given u).0 (f.read u))
-same_read rest c m n x true u reads f =
-    let theirs : is_unread (ids_of n).class (ids_of n).method ≡ true = ap (λ (i : Ids). is_unread i.class i.method) reads.ids_are ∙ u in
+same_found : (rest : List ℕ) (c m : ℕ) (n x : Method) (b : Bool) → is_unread c m ≡ b → Found n c m rest → Found x c m rest → n ≡ x
+same_found rest c m n x false u g f =
+    same_method n x (g.ids_are ∙ sym f.ids_are) (same_some (arguments_at (kinds_of c m) rest) (arguments n) (arguments x) (g.read u) (f.read u))
+same_found rest c m n x true u g f =
+    let theirs : is_unread (ids_of n).class (ids_of n).method ≡ true = ap (λ (i : Ids). is_unread i.class i.method) g.ids_are ∙ u in
     let mine : is_unread (ids_of x).class (ids_of x).method ≡ true = ap (λ (i : Ids). is_unread i.class i.method) f.ids_are ∙ u in
-    same_method n x (reads.ids_are ∙ sym f.ids_are) (bare n theirs ∙ sym (bare x mine))
+    same_method n x (g.ids_are ∙ sym f.ids_are) (bare n theirs ∙ sym (bare x mine))
+
+same_read : (rest : List ℕ) (c m : ℕ) (n x : Method) → IsRead c m rest n → Found x c m rest → n ≡ x
+same_read rest c m n x reads f = same_found rest c m n x (is_unread c m) refl (record { ids_are = reads.ids_are; read = λ u. (reads.given u).0 }) f
 
 pub only : (payload rest : List ℕ) (c m : ℕ) (r : Result Method Refusal) (x : Method) → Starts payload c m rest → Reads c m rest r → IsMethod x → Spells payload x → IsMethodOr x r
 only payload rest c m r x starts reads fits s = go r reads
@@ -213,9 +218,98 @@ only payload rest c m r x starts reads fits s = go r reads
     f = found payload rest c m x starts fits s
 
     go : (r : Result Method Refusal) → Reads c m rest r → IsMethodOr x r
-    go (Ok n) reads = same_read rest c m n x (is_unread c m) refl reads f
+    go (Ok n) reads = same_read rest c m n x reads f
     go (Err FrameError) reads = reads
     go (Err SyntaxError) reads = reads.lacks (arguments x) (f.read reads.read) (all_whole (arguments x) fits)
     go (Err CommandInvalid) reads = not_both _ (sym (ap (λ (i : Ids). is_known i.class i.method) f.ids_are) ∙ (row x).known) reads.0
     go (Err NotImplemented) reads = not_both _ reads (sym (ap (λ (i : Ids). is_left_out i.class i.method) f.ids_are) ∙ (row x).built)
     go (Err Memory) reads = tt
+
+-- ---- a payload says one thing
+
+-- the ids at the front, and what follows them
+begins : (payload tail : List ℕ) (x : Method) → payload ≡ method_bytes x ++ tail → Starts payload (ids_of x).class (ids_of x).method (flat_map argument (arguments x) ++ tail)
+begins payload tail x e =
+    let small = ids_fit x in
+    let c : ℕ = (ids_of x).class in
+    let m : ℕ = (ids_of x).method in
+    let parts : payload ≡ to_be_bytes w16 c ++ to_be_bytes w16 m ++ (flat_map argument (arguments x) ++ tail) = e ∙ append_assoc (to_be_bytes w16 c ++ to_be_bytes w16 m) (flat_map argument (arguments x)) tail in
+    record {
+      long = (let h : length payload ≡ length (to_be_bytes w16 c ++ to_be_bytes w16 m ++ (flat_map argument (arguments x) ++ tail)) = ap (λ (z : List ℕ). length z) parts in omega arith);
+      class_is = ap (λ (z : List ℕ). class_at z) parts ∙ from_be_bytes-to_be_bytes_2 c small.class;
+      method_is = ap (λ (z : List ℕ). method_at z) parts ∙ from_be_bytes-to_be_bytes_2 m small.method;
+      parts = parts;
+    }
+
+-- a method that is spelled, with what follows its ids
+record Spelled (payload : List ℕ) (x : Method) : Type 0 where
+  rest : List ℕ
+  starts : Starts payload (ids_of x).class (ids_of x).method rest
+
+spelled_so : (payload : List ℕ) (x : Method) → Spells payload x → Spelled payload x
+spelled_so payload x (exact e) = record { rest = flat_map argument (arguments x) ++ []; starts = begins payload [] x (e ∙ sym (append-nil (method_bytes x))) }
+spelled_so payload x (any_rest tail u e) = record { rest = flat_map argument (arguments x) ++ tail; starts = begins payload tail x e }
+
+same_said : (payload : List ℕ) (x y : Method) → IsMethod x → Spells payload x → IsMethod y → Spells payload y → x ≡ y
+same_said payload x y fits s also t =
+    let k = spelled_so payload x s in
+    let c : ℕ = (ids_of x).class in
+    let m : ℕ = (ids_of x).method in
+    same_found k.rest c m x y (is_unread c m) refl (found payload k.rest c m x k.starts fits s) (found payload k.rest c m y k.starts also t)
+
+either_true : (a b : Bool) → a || b ≡ true → (a ≡ true) ⊎ (b ≡ true)
+either_true true b e = inl refl
+either_true false b e = inr e
+
+both_true : (a b : Bool) → a && b ≡ true → (a ≡ true) × (b ≡ true)
+both_true true b e = (refl, e)
+both_true false b e = absurd (let h : false ≡ true = e in cc)
+
+-- what is left out is not in the table
+not_both_known : (c m : ℕ) → is_left_out c m ≡ true → is_known c m ≡ true → ⊥
+not_both_known c m out known =
+    elim (either_true (c == 90) ((c == 60) && (m == 100)) out) [
+      | inl tx ↦ (let e : c ≡ 90 = eqb-true _ _ tx in not_both (is_known 90 m) (ap (λ (i : ℕ). is_known i m) (sym e) ∙ known) refl)
+      | inr both ↦ (
+          let b = both_true (c == 60) (m == 100) both in
+          let e : c ≡ 60 = eqb-true _ _ b.0 in
+          let f : m ≡ 100 = eqb-true _ _ b.1 in
+          not_both (is_known 60 100) (sym (ap (λ (i : ℕ). is_known i m) e ∙ ap (λ (i : ℕ). is_known 60 i) f) ∙ known) refl)
+    ]
+
+-- what a spelled method's payload is not
+its_known : (payload : List ℕ) (x : Method) → Spells payload x → is_known (class_at payload) (method_at payload) ≡ true
+its_known payload x s = let k = spelled_so payload x s in at_ids payload k.rest _ _ is_known true k.starts (row x).known
+
+its_built : (payload : List ℕ) (x : Method) → Spells payload x → is_left_out (class_at payload) (method_at payload) ≡ false
+its_built payload x s = let k = spelled_so payload x s in at_ids payload k.rest _ _ is_left_out false k.starts (row x).built
+
+its_long : (payload : List ℕ) (x : Method) → Spells payload x → 4 ≤ length payload
+its_long payload x s = (spelled_so payload x s).starts.long
+
+pub one_method : OneMethod
+one_method payload r q (said {m = x} f s) (said {m = y} g t) = ap (λ (z : Method). Ok z) (same_said payload x y f s g t)
+one_method payload r q (said {m = x} f s) (too_short h) = absurd (let k = its_long payload x s in omega (arith, h, k))
+one_method payload r q (said {m = x} f s) (unknown h u v) = absurd (not_both _ (its_known payload x s) u)
+one_method payload r q (said {m = x} f s) (left_out h u) = absurd (not_both _ u (its_built payload x s))
+one_method payload r q (said {m = x} f s) (bad_arguments h u never) = absurd (never x f s)
+one_method payload r q (too_short h) (said {m = x} f s) = absurd (let k = its_long payload x s in omega (arith, h, k))
+one_method payload r q (too_short h) (too_short k) = refl
+one_method payload r q (too_short h) (unknown k u v) = absurd (omega (arith, h, k))
+one_method payload r q (too_short h) (left_out k u) = absurd (omega (arith, h, k))
+one_method payload r q (too_short h) (bad_arguments k u never) = absurd (omega (arith, h, k))
+one_method payload r q (unknown h u v) (said {m = x} f s) = absurd (not_both _ (its_known payload x s) u)
+one_method payload r q (unknown h u v) (too_short k) = absurd (omega (arith, h, k))
+one_method payload r q (unknown h u v) (unknown k w z) = refl
+one_method payload r q (unknown h u v) (left_out k w) = absurd (not_both _ w v)
+one_method payload r q (unknown h u v) (bad_arguments k w never) = absurd (not_both _ w u)
+one_method payload r q (left_out h u) (said {m = x} f s) = absurd (not_both _ u (its_built payload x s))
+one_method payload r q (left_out h u) (too_short k) = absurd (omega (arith, h, k))
+one_method payload r q (left_out h u) (unknown k w z) = absurd (not_both _ u z)
+one_method payload r q (left_out h u) (left_out k w) = refl
+one_method payload r q (left_out h u) (bad_arguments k w never) = absurd (not_both_known (class_at payload) (method_at payload) u w)
+one_method payload r q (bad_arguments h u never) (said {m = x} f s) = absurd (never x f s)
+one_method payload r q (bad_arguments h u never) (too_short k) = absurd (omega (arith, h, k))
+one_method payload r q (bad_arguments h u never) (unknown k w z) = absurd (not_both _ u w)
+one_method payload r q (bad_arguments h u never) (left_out k w) = absurd (not_both_known (class_at payload) (method_at payload) w u)
+one_method payload r q (bad_arguments h u never) (bad_arguments k w other) = refl

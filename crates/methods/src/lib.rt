@@ -8,6 +8,7 @@
 mod classes;
 mod fields;
 mod known;
+mod laws;
 mod lines;
 mod pieces;
 mod putting;
@@ -15,6 +16,7 @@ mod reading;
 mod refusals;
 mod writing;
 
+pub use laws::one_method;
 pub use pieces::WriteError;
 pub use reading::read_method;
 pub use refusals::Refusal;

@@ -10,7 +10,7 @@ use Rattle.model.specs.Commands.{Stream, Yields, Ends, GoesOn, running_stream, h
 use Rattle.model.specs.declared.events.Phase.{Phase}
 use Rattle.model.specs.declared.events.Phase.TheVariants as phase
 use Rattle.model.specs.declared.events.Command.{Command}
-use Rattle.model.specs.declared.events.Command.TheVariants.{Plain, Full}
+use Rattle.model.specs.declared.events.Command.TheVariants.{Plain, Full, TooLarge}
 use Rattle.model.specs.declared.events.Event.{Event}
 use Rattle.model.specs.declared.events.Event.TheVariants as event
 use Rattle.model.specs.declared.events.Arrival.{Arrival}
@@ -77,6 +77,7 @@ standing w (suc n) = if is_gone w (suc n) then standing w n else standing w n + 
 abbrev pub event_of : ℕ → Command → Event
 event_of c (Plain h m) = event.Command c h m None
 event_of c (Full h p content) = event.Command c h (BasicPublish p) (Some content)
+event_of c (TooLarge h) = event.TooLarge c h
 
 -- The next event of a connection, and what its stream says after it.
 pub data Reads : ℕ → Option Command → Stream → Event → Stream → Type 0 where

@@ -1,14 +1,14 @@
 -- What the bytes of one connection say: frames, and contents put together per channel.
 -- Source: AMQP 0-9-1, section 4.2.6, "Content Framing", and section 2.3.5, "Frame Details".
-use Rattle.std.specs.Prelude.{◌≡◌, ℕ, List, [], ◌∷◌, ◌++◌, length, Bool, nat_lt, ◌==◌, ◌&&◌, ◌||◌, not, if◌then◌else◌, Option, Some, None, Result, Ok, Err, MatchBool}
+use Rattle.std.specs.Prelude.{◌≡◌, ℕ, List, [], ◌∷◌, ◌++◌, length, Bool, nat_lt, ◌==◌, ◌+◌, ◌&&◌, ◌||◌, not, if◌then◌else◌, Option, Some, None, Result, Ok, Err, MatchBool}
 use Rattle.model.specs.Words.{Text}
 use Rattle.model.specs.Broker.{with_one}
 use Rattle.model.specs.Frames.{Frame, Begins, IsBroken}
 use Rattle.model.specs.Grammar.{IsMethod, SaysMethod}
-use Rattle.model.specs.Headers.{Header, SaysHeader}
+use Rattle.model.specs.Headers.{Header, SaysSize, SaysHeader}
 use Rattle.model.specs.declared.contents.Properties.{Properties}
 use Rattle.model.specs.declared.events.Command.{Command}
-use Rattle.model.specs.declared.events.Command.TheVariants.{Plain, Full}
+use Rattle.model.specs.declared.events.Command.TheVariants.{Plain, Full, TooLarge}
 use Rattle.model.specs.declared.methods.Publish.{Publish}
 use Rattle.model.specs.declared.methods.Method.{Method}
 use Rattle.model.specs.declared.methods.Method.TheVariants.{BasicPublish}
@@ -23,6 +23,20 @@ pub data Pending : Type 0 where
   Wants_header : (publish : Publish) → Pending
   -- so many bytes were declared, and these were read
   Wants_body : (publish : Publish) (properties : Properties) (size : ℕ) (body : Text) → Pending
+  -- so many bytes were declared of a content that is too large, and so many were dropped
+  Drops : (size : ℕ) (count : ℕ) → Pending
+
+-- the largest body that is taken, in bytes (own)
+abbrev pub most_body : ℕ
+most_body = 1048576
+
+-- the largest payload of a header that is taken, in bytes (own)
+abbrev pub most_header : ℕ
+most_header = 3400
+
+-- a header of this payload, which declares so many bytes, has a content that is too large (own)
+abbrev pub is_too_large : List ℕ → ℕ → Bool
+is_too_large payload size = nat_lt most_body size || nat_lt most_header (length payload)
 
 -- what a frame does: its channel goes on with this pending, a command is complete, or the stream breaks with a reply code
 pub data Taken : Type 0 where
@@ -43,6 +57,13 @@ taken_body h p properties size body =
     else if length body == size then Makes (Full h p (record { properties = properties; body = body }))
     else Goes_on (Wants_body p properties size body)
 
+-- the same of a body that is dropped: at its declared size the publish is known to be too large, and nothing of it is kept
+abbrev pub taken_dropped : ℕ → ℕ → ℕ → Taken
+taken_dropped h size count =
+    if nat_lt size count then Breaks 501
+    else if count == size then Makes (TooLarge h)
+    else Goes_on (Drops size count)
+
 abbrev pub taken_header : ℕ → Publish → Result Header ℕ → Taken
 taken_header h p (Ok header) = taken_body h p header.properties header.size []
 taken_header h p (Err code) = Breaks code
@@ -52,12 +73,21 @@ abbrev pub awaited : Pending → ℕ
 awaited Nothing = 1
 awaited (Wants_header p) = 2
 awaited (Wants_body p properties size body) = 3
+awaited (Drops size count) = 3
+
+-- A header by the size that it declares, where it declares one: of a content that is too large neither flags nor properties are read.
+abbrev pub TakesSized : Publish → Frame → Result ℕ ℕ → Taken → Type 0
+TakesSized p f (Ok size) taken =
+    MatchBool (is_too_large f.payload size) (taken ≡ taken_dropped f.channel size 0)
+    ((r : Result Header ℕ) × SaysHeader f.payload r × (taken ≡ taken_header f.channel p r))
+TakesSized p f (Err code) taken = taken ≡ Breaks code
 
 -- a frame of the awaited type
 abbrev pub TakesPayload : Pending → Frame → Taken → Type 0
 TakesPayload Nothing f taken = (r : Result Method ℕ) × SaysMethod f.payload r × (taken ≡ taken_method f.channel r)
-TakesPayload (Wants_header p) f taken = (r : Result Header ℕ) × SaysHeader f.payload r × (taken ≡ taken_header f.channel p r)
+TakesPayload (Wants_header p) f taken = (r : Result ℕ ℕ) × SaysSize f.payload r × TakesSized p f r taken
 TakesPayload (Wants_body p properties size body) f taken = taken ≡ taken_body f.channel p properties size (body ++ f.payload)
+TakesPayload (Drops size count) f taken = taken ≡ taken_dropped f.channel size (count + length f.payload)
 
 -- a heartbeat is on channel 0 and empty, and then ignored (own)
 abbrev pub taken_heartbeat : Pending → Frame → Taken
@@ -130,7 +160,8 @@ running_stream = record { max = 131072; pending = λ h. Nothing; unread = [] }
 abbrev pub heard : Stream → List ℕ → Stream
 heard s bytes = record s { unread = s.unread ++ bytes }
 
--- the command is made of a method that has a spelling
+-- the command, if it has a method, is made of one that has a spelling
 abbrev pub IsCommand : Command → Type 0
 IsCommand (Plain h m) = IsMethod m
 IsCommand (Full h p content) = IsMethod (BasicPublish p)
+IsCommand (TooLarge h) = Unit {0}

@@ -95,9 +95,10 @@ pub data SaysSize (payload : List ℕ) : Result ℕ ℕ → Type 0 where
   size : 14 ≤ length payload → class_at payload ≡ 60 → weight_at payload ≡ 0 → SaysSize payload (Ok (size_at payload))
   no_header : IsNoHeader payload → SaysSize payload (Err 501)
 
--- The payload of a header frame is this header, or refused by this reply code. Until properties are read, any that are present are refused as not implemented (540).
+-- The payload of a header frame is this header, or refused by this reply code: 501 frame-error, or 502 syntax-error where it has the fixed fields of a header and spells none.
+-- That is so where flag bits 1 or 0 are set, and where the properties end early, hold a table that is none, or leave bytes over (own).
 pub data SaysHeader (payload : List ℕ) : Result Header ℕ → Type 0 where
-  said : {h : Header} → h.size < 2 ^ 64 → h.properties ≡ no_properties → payload ≡ header_bytes h.size h.properties → SaysHeader payload (Ok h)
+  said : {h : Header} → h.size < 2 ^ 64 → AreProperties h.properties → payload ≡ header_bytes h.size h.properties → SaysHeader payload (Ok h)
   no_header : IsNoHeader payload → SaysHeader payload (Err 501)
-  has_properties : 14 ≤ length payload → class_at payload ≡ 60 → weight_at payload ≡ 0 → flags_at payload ≢ 0 → SaysHeader payload (Err 540)
-  left_over : 14 < length payload → class_at payload ≡ 60 → weight_at payload ≡ 0 → flags_at payload ≡ 0 → SaysHeader payload (Err 502)
+  bad_properties : 14 ≤ length payload → class_at payload ≡ 60 → weight_at payload ≡ 0
+      → ((h : Header) → h.size < 2 ^ 64 → AreProperties h.properties → payload ≡ header_bytes h.size h.properties → ⊥) → SaysHeader payload (Err 502)

@@ -3,7 +3,7 @@ use Rattle.std.specs.Prelude.{◌≡◌, ℕ, List, [], Option}
 use Rattle.model.specs.Topology.{Topology}
 use Rattle.model.specs.Guarantee.{Guarantee}
 use Rattle.model.specs.Broker.{Broker, with_one}
-use Rattle.model.specs.Step.{Acts, Is}
+use Rattle.model.specs.Step.{Acts, Is, empty_publish}
 use Rattle.model.specs.Phases.{Session, running_session, no_session, Move, answer, faulted, after_sends, to_phase}
 use Rattle.model.specs.declared.messages.User.{User}
 use Rattle.model.specs.declared.contents.Content.{Content}
@@ -48,6 +48,11 @@ abbrev pub OfCommand : Config → State → Phase → ℕ → ℕ → Method →
 OfCommand f old phase.Running c h m content sends notes new = Steps f old c (event.Command c h m content) sends notes (to_phase (old.session c) (after_sends sends)) new
 OfCommand f old p c h m content sends notes new = Moves old c (answer c (old.session c) p h m) sends notes new
 
+-- a publish whose content is too large: in Running the broker refuses it; in any other phase it is what a publish with empty texts is
+abbrev pub OfLarge : Config → State → Phase → ℕ → ℕ → List Send → List Note → State → Type 0
+OfLarge f old phase.Running c h sends notes new = Steps f old c (event.TooLarge c h) sends notes (to_phase (old.session c) (after_sends sends)) new
+OfLarge f old p c h sends notes new = Moves old c (answer c (old.session c) p h empty_publish) sends notes new
+
 -- a fault of the stream: after it the connection is over
 abbrev pub OfFault : Config → State → Phase → ℕ → ℕ → List Send → List Note → State → Type 0
 OfFault f old phase.Running c code sends notes new = Steps f old c (event.Fault c code) sends notes (to_phase (old.session c) phase.Over) new
@@ -57,6 +62,7 @@ OfFault f old p c code sends notes new = Moves old c (faulted c (old.session c) 
 abbrev pub Step : Config → State → Event → List Send → List Note → State → Type 0
 Step f old (event.Running c max k) sends notes new = Steps f old c (event.Running c max k) sends notes running_session new
 Step f old (event.Command c h m content) sends notes new = OfCommand f old (old.session c).phase c h m content sends notes new
+Step f old (event.TooLarge c h) sends notes new = OfLarge f old (old.session c).phase c h sends notes new
 Step f old (event.Fault c code) sends notes new = OfFault f old (old.session c).phase c code sends notes new
 Step f old (event.Lose c) sends notes new = Steps f old c (event.Lose c) sends notes no_session new
 Step f old (event.Pause c) sends notes new = StepsAlone f old (event.Pause c) sends notes new

@@ -28,7 +28,7 @@ use Rattle.model.specs.declared.notes.Answer.TheVariants as answer
 use Rattle.model.specs.declared.notes.Way.{Way}
 use Rattle.model.specs.declared.notes.Way.TheVariants as way
 use Rattle.model.specs.declared.events.Event.{Event}
-use Rattle.model.specs.declared.events.Event.TheVariants.{Running, Command, Fault, Lose, Pause, Resume}
+use Rattle.model.specs.declared.events.Event.TheVariants.{Running, Command, TooLarge, Fault, Lose, Pause, Resume}
 
 -- ---- refusals, in the order in which they are looked for
 
@@ -307,6 +307,30 @@ abbrev pub OnConnection : Topology → Broker → ℕ → ℕ → Method → Opt
 OnConnection t old c h m content sends notes new None = Does sends notes new [] old
 OnConnection t old c h m content sends notes new (Some conn) = Decides t old c h m content (refusal t old conn h m (old.channel c h)) sends notes new
 
+-- ---- a content that is too large
+
+-- a publish with empty texts, which stands for one whose content is too large
+abbrev pub empty_publish : Method
+empty_publish = BasicPublish (record { reserved = 0; exchange = []; routing_key = []; mandatory = false; immediate = false })
+
+-- on a channel that is open it is a refusal of the channel: 311 content-too-large (own)
+abbrev pub refusal_of_large_on : Option Channel → Refusal
+refusal_of_large_on None = Of_connection 504
+refusal_of_large_on (Some ch) = Of_channel 311
+
+-- a publish whose content is too large, on a channel of a running connection: decided in the order of any other command
+abbrev pub refusal_of_large : Connection → ℕ → Option Channel → Refusal
+refusal_of_large conn h ch =
+    if is_awaiting ch then Ignored
+    else if h == 0 then Of_connection 503
+    else if nat_lt conn.channel_max h then Of_connection 504
+    else refusal_of_large_on ch
+
+-- it is refused, and the close names basic.publish; of a connection that doesn't run it does nothing
+abbrev pub OnLarge : Broker → ℕ → ℕ → List Send → List Note → Broker → Option Connection → Type 0
+OnLarge old c h sends notes new None = Does sends notes new [] old
+OnLarge old c h sends notes new (Some conn) = Refuses old c h empty_publish (refusal_of_large conn h (old.channel c h)) sends notes new
+
 -- ---- openings, pauses
 
 -- channels 1 to k are open
@@ -328,6 +352,7 @@ with_paused b c is = record b { connection = with_one b.connection c (paused is 
 abbrev pub Acts : Topology → Broker → Event → List Send → List Note → Broker → Type 0
 Acts t old (Running c max k) sends notes new = Does sends notes new [] (opened old c max k)
 Acts t old (Command c h m content) sends notes new = OnConnection t old c h m content sends notes new (old.connection c)
+Acts t old (TooLarge c h) sends notes new = OnLarge old c h sends notes new (old.connection c)
 Acts t old (Fault c code) sends notes new = Does sends notes new (connection_close c code (ids 0 0) ∷ []) (with_gone old c)
 Acts t old (Lose c) sends notes new = Does sends notes new [] (with_gone old c)
 Acts t old (Pause c) sends notes new = Does sends notes new [] (with_paused old c true)

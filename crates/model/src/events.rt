@@ -18,6 +18,10 @@ pub enum Command {
         publish: Publish,
         content: Content,
     },
+    /// A publish whose content is too large, once all of its body has come and was dropped.
+    TooLarge {
+        channel: u16,
+    },
 }
 
 /// What is sent to one connection.
@@ -51,6 +55,11 @@ pub enum Event {
         channel: u16,
         method: Method,
         content: Option<Content>,
+    },
+    /// A publish whose content is too large.
+    TooLarge {
+        connection: u64,
+        channel: u16,
     },
     /// The connection's bytes broke the wire's rules.
     Fault {

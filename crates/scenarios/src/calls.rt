@@ -3,11 +3,11 @@
 
 use crate::topologies::with_source;
 use broker::{Broker, Step};
-use certificate::admit;
+use certificate::{Checked, admit};
 use methods::write_method;
 use model::{Arrival, Event, Method, Phase, Text};
 use runs::Transcript;
-use server::{read_script, replayed, transcript_text};
+use server::{read_script, replayed, routed, transcript_text};
 use session::Session;
 use std::alloc::{AllocError, Global};
 use topic_match::{covers_key, split};
@@ -132,16 +132,18 @@ fn a_session_answers_faults_and_methods(rt: HostRuntime) {
     assert_eq!(rt; silent, Some((0, Phase::Over)));
 }
 
-/// A run of one connection that sends nothing, over the built-in topology.
-fn transcript(alloc: Global) -> Option<Transcript> {
+/// The built-in topology, with no guarantee.
+fn checked(alloc: Global) -> Option<Checked> {
     let topology = match with_source(alloc, b"orders") {
         Ok(Some(topology)) => topology,
         _ => return None,
     };
-    let checked = match admit(alloc, topology, Vec::new(alloc), &[]) {
-        Ok(checked) => checked,
-        Err(_) => return None,
-    };
+    admit(alloc, topology, Vec::new(alloc), &[]).ok()
+}
+
+/// A run of one connection that sends nothing, over the built-in topology.
+fn transcript(alloc: Global) -> Option<Transcript> {
+    let checked = checked(alloc)?;
     engine::run(alloc, checked, Vec::new(alloc), &[Arrival::Ready(1)]).ok()
 }
 
@@ -157,11 +159,28 @@ fn a_run_is_printed(rt: HostRuntime) {
 #[test]
 fn a_script_is_read_and_replayed(rt: HostRuntime) {
     let alloc = rt.alloc();
+    let checked = checked(alloc).expect(&rt, "memory");
     let arrivals = read_script(alloc, b"ready 1\n# a remark\nin 1 CE").expect(
         &rt,
         "it is a script",
     );
     assert_eq!(rt; arrivals.len(), 2);
-    let printed = replayed(alloc, b"ready 1\n").expect(&rt, "it is a script");
+    let printed = replayed(alloc, checked, Vec::new(alloc), b"ready 1\n").expect(
+        &rt,
+        "it is a script",
+    );
     assert_eq!(rt; printed.as_slice(), b"out 1 -\n".as_slice());
+}
+
+#[test]
+fn a_route_is_listed(rt: HostRuntime) {
+    let alloc = rt.alloc();
+    let checked = checked(alloc).expect(&rt, "memory");
+    let listed = routed(alloc, checked.topology(), b"orders", b"new").expect(&rt, "memory");
+    assert_eq!(rt;
+        listed.expect(&rt, "it is there").as_slice(),
+        b"\"audit\"\n".as_slice()
+    );
+    let absent = routed(alloc, checked.topology(), b"nowhere", b"new").expect(&rt, "memory");
+    assert!(rt; absent.is_none());
 }

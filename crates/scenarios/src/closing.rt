@@ -14,7 +14,7 @@ const NOT_IMPLEMENTED: &str =
     "0100000000001a000a0032021c0f6e6f742d696d706c656d656e746564003c0028ce";
 
 /// connection.close 504 for confirm.select.
-const CHANNEL_ERROR: &str = "01000000000018000a003201f80d6368616e6e656c2d6572726f720055000ace";
+pub const CHANNEL_ERROR: &str = "01000000000018000a003201f80d6368616e6e656c2d6572726f720055000ace";
 
 /// connection.close 503 for confirm.select, and for connection.close-ok.
 const COMMAND_INVALID: &str =

@@ -7,6 +7,8 @@ mod admitting;
 #[cfg(test)]
 mod calls;
 #[cfg(test)]
+mod channels;
+#[cfg(test)]
 mod closing;
 #[cfg(test)]
 mod confirms;
@@ -17,8 +19,16 @@ mod faults;
 #[cfg(test)]
 mod frames;
 #[cfg(test)]
+mod large;
+#[cfg(test)]
+mod measured;
+#[cfg(test)]
+mod pairs;
+#[cfg(test)]
 mod refusals;
 #[cfg(test)]
 mod replays;
+#[cfg(test)]
+mod routes;
 #[cfg(test)]
 mod topologies;

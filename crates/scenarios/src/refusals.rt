@@ -18,9 +18,14 @@ fn the_first_line_at_fault_is_told(rt: HostRuntime) {
         ("ready 1\nin 2 00\n", 2),
         ("ready 1\nin 0 00\n", 2),
         ("in 1 00\nready 1\n", 1),
-        ("ready 2\n", 1),
         ("ready 0\n", 1),
         ("ready 256\n", 1),
+        ("ready 00\n", 1),
+        ("ready 01\n", 1),
+        ("ready +1\n", 1),
+        ("ready 2 \n", 1),
+        ("ready 255\nready 256\n", 2),
+        ("ready 2\nin 2 00\n", 2),
         ("ready\n", 1),
         (" ready 1\n", 1),
         ("open\n", 1),
@@ -106,10 +111,16 @@ fn a_stream_that_takes_no_more_has_status_four(rt: HostRuntime) {
 
 #[test]
 fn a_refused_command_line_is_shown_on_standard_error(rt: HostRuntime) {
-    let rows: [&[&str]; 5] = [
+    let rows: [&[&str]; 11] = [
         ["warren"].as_slice(),
         ["warren", "replay"].as_slice(),
         ["warren", "replay", "script", "more"].as_slice(),
+        ["warren", "replay", "script", "--definitions"].as_slice(),
+        ["warren", "replay", "--definitions", "definitions"].as_slice(),
+        ["warren", "replay", "script", "--guarantees", "g"].as_slice(),
+        ["warren", "route", "definitions", "X"].as_slice(),
+        ["warren", "route", "definitions", "X", "a", "b"].as_slice(),
+        ["warren", "route", "definitions", "X", "-a"].as_slice(),
         ["warren", "serve", "script"].as_slice(),
         ["warren", "--help"].as_slice(),
     ];

@@ -1,34 +1,48 @@
-//! Calls of the program over one file in memory.
+//! Calls of the program over files in memory.
+
+ghost use Rattle.std.specs.Prelude.{MatchResult};
+ghost use Rattle.server.specs.Files.{Holds, IsRead, IsUnread};
 
 use server::{Files, Unread, Unwritten, program};
 use std::alloc::{AllocError, Global};
 use std::io;
 use std::io::{ErrorKind, Write};
 
-/// A disk that has this script under the name `script`, and nothing else.
+/// A disk that has a script under the name `script`, definitions under the name `definitions`, and nothing else.
 #[derive(Drop)]
-struct OneScript {
+struct Disk {
     script: Vec<u8>,
+    definitions: Vec<u8>,
 }
 
-impl Files for OneScript {
+/// The bytes of a file.
+fn whole(alloc: Global, file: &[u8]) -> Result<Vec<u8>, Unread>
+    ensures { MatchResult result (λ bytes. IsRead (Holds file.now) bytes.items) (λ why. IsUnread (Holds file.now) why) }
+{
+    if file.len() > 16_777_216 {
+        return Err(Unread::TooLong);
+    }
+    match Vec::from_slice(alloc, file) {
+        Ok(bytes) => Ok(bytes),
+        Err(_) => Err(Unread::Memory),
+    }
+}
+
+impl Files for Disk {
     ghost use Rattle.std.specs.Prelude.{codes, if◌then◌else◌};
     ghost use Rattle.std.specs.Str.{bytes_eq};
     ghost use Rattle.server.specs.Files.{Absent, Holds};
 
-    ghost holds = { λ disk name. if bytes_eq name (codes "script") then Holds disk.script.items else Absent };
+    ghost holds = { λ disk name. if bytes_eq name (codes "script") then Holds disk.script.items else if bytes_eq name (codes "definitions") then Holds disk.definitions.items else Absent };
 
     fn read(&mut self, alloc: Global, name: &str) -> Result<Vec<u8>, Unread> {
-        if name != "script" {
-            return Err(Unread::Failed);
+        if name == "script" {
+            return whole(alloc, self.script.as_slice());
         }
-        if self.script.len() > 16_777_216 {
-            return Err(Unread::TooLong);
+        if name == "definitions" {
+            return whole(alloc, self.definitions.as_slice());
         }
-        match Vec::from_slice(alloc, self.script.as_slice()) {
-            Ok(bytes) => Ok(bytes),
-            Err(_) => Err(Unread::Memory),
-        }
+        Err(Unread::Failed)
     }
 
     fn write(&mut self, _name: &str, _bytes: &[u8]) -> Result<(), Unwritten> {
@@ -58,11 +72,25 @@ pub struct Done {
     pub err: String,
 }
 
-/// Calls the program with these words, over a disk that has the script alone.
+/// Calls the program with these words, over a disk that has the script, and empty definitions.
 pub fn call(alloc: Global, words: &[&str], script: &[u8]) -> Result<Done, AllocError> {
+    call_over(alloc, words, b"", script)
+}
+
+/// Calls the program with these words, over a disk that has the definitions and the script.
+pub fn call_over(
+    alloc: Global,
+    words: &[&str],
+    definitions: &[u8],
+    script: &[u8],
+) -> Result<Done, AllocError> {
+    let mut files = Disk {
+        script: Vec::from_slice(alloc, script)?,
+        definitions: Vec::from_slice(alloc, definitions)?,
+    };
     let mut out: Vec<u8> = Vec::new(alloc);
     let mut err: Vec<u8> = Vec::new(alloc);
-    let status = status_over(alloc, words, script, &mut out, &mut err)?;
+    let status = program(alloc, words, &mut files, &mut out, &mut err);
     Ok(Done {
         status,
         out: String::from_utf8_lossy(alloc, out.as_slice())?,
@@ -70,7 +98,7 @@ pub fn call(alloc: Global, words: &[&str], script: &[u8]) -> Result<Done, AllocE
     })
 }
 
-/// The same over these streams: the status alone.
+/// The status alone, over these streams and a disk that has the script.
 pub fn status_over<O: Write, E: Write>(
     alloc: Global,
     words: &[&str],
@@ -78,8 +106,9 @@ pub fn status_over<O: Write, E: Write>(
     out: &mut O,
     err: &mut E,
 ) -> Result<u8, AllocError> {
-    let mut files = OneScript {
+    let mut files = Disk {
         script: Vec::from_slice(alloc, script)?,
+        definitions: Vec::new(alloc),
     };
     Ok(program(alloc, words, &mut files, out, err))
 }

@@ -38,15 +38,15 @@ stopped number opened found line rest said = rw said refl
 
 -- ---- at most 1,024 are opened
 
-ready_at : (opened n : ℕ) (v : Bool) → (nat_le 1 n && nat_le n 1 && nat_lt opened 1024) ≡ v → opened ≤ 1024
+ready_at : (opened n : ℕ) (v : Bool) → (nat_le 1 n && nat_le n 255 && nat_lt opened 1024) ≡ v → opened ≤ 1024
     → opened_after opened (option_map (λ (x : Arrival). Some x) (cond v (Some (Ready n)) None)) ≤ 1024
 ready_at opened n false e h = h
 ready_at opened n true e h = grind (arith, nat_tests)
 
 ready_few : (opened : ℕ) (n : Option ℕ) → opened ≤ 1024
-    → opened_after opened (option_map (λ (x : Arrival). Some x) (option_and_then (λ k. cond (nat_le 1 k && nat_le k 1 && nat_lt opened 1024) (Some (Ready k)) None) n)) ≤ 1024
+    → opened_after opened (option_map (λ (x : Arrival). Some x) (option_and_then (λ k. cond (nat_le 1 k && nat_le k 255 && nat_lt opened 1024) (Some (Ready k)) None) n)) ≤ 1024
 ready_few opened None h = h
-ready_few opened (Some n) h = ready_at opened n (nat_le 1 n && nat_le n 1 && nat_lt opened 1024) refl h
+ready_few opened (Some n) h = ready_at opened n (nat_le 1 n && nat_le n 255 && nat_lt opened 1024) refl h
 
 in_few : (opened : ℕ) (c : Option ℕ) (p : Option Text) → opened ≤ 1024
     → opened_after opened (option_map (λ (x : Arrival). Some x) (option_and_then (λ (n : ℕ). option_map (λ (bytes : Text). In n bytes) p) c)) ≤ 1024

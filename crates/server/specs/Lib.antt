@@ -1,6 +1,7 @@
 pub mod Script
 pub mod Lines
 pub mod Transcript
+pub mod Routes
 pub mod Files
 pub mod Streams
 pub mod Refusals

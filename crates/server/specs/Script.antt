@@ -46,7 +46,7 @@ most_openings = 1024
 
 -- how many channels a connection may have from the first on
 abbrev pub most_ready : ℕ
-most_ready = 1
+most_ready = 255
 
 -- `ready K`: a connection that runs at once, with channels 1 to K open
 abbrev pub ready : ℕ → Text → Option Arrival

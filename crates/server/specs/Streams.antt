@@ -1,5 +1,5 @@
 -- What is put on standard output and standard error (own).
-use Rattle.std.specs.Prelude.{◌≡◌, ◌++◌, ℕ, Bool, true, false, Option, if◌then◌else◌}
+use Rattle.std.specs.Prelude.{◌≡◌, ◌<◌, ◌++◌, ℕ, length, Bool, true, false, Option, if◌then◌else◌}
 use Rattle.std.specs.Io.KnownBytes.{Appends, Keeps}
 use Rattle.model.specs.Words.{Text}
 
@@ -16,11 +16,12 @@ GetsNothing s = Keeps s.before s.after
 abbrev pub Gets : Stream → Text → Type 0
 Gets s text = Appends s.before s.after text
 
--- a beginning of this text does
+-- a beginning of this text does, and something of it is left
 pub record GetsBeginning (s : Stream) (text : Text) : Type 0 where
   pub front : Text
   pub rest : Text
   pub whole : text ≡ front ++ rest
+  pub left : 0 < length rest
   pub gets : Gets s front
 
 -- the stream took all of the text, or a beginning and then no more

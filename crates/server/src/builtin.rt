@@ -64,7 +64,14 @@ fn topology(alloc: Global) -> Result<Topology, AllocError>
 pub fn builtin(alloc: Global) -> Result<Checked, AllocError>
     ensures { IfOk result (λ checked. checked ≡ record { topology = built_in; guarantees = [] }) }
 {
-    match admit(alloc, topology(alloc)?, Vec::new(alloc), &[]) {
+    unguaranteed(alloc, topology(alloc)?)
+}
+
+/// A topology that no guarantee stands on.
+pub fn unguaranteed(alloc: Global, topology: Topology) -> Result<Checked, AllocError>
+    ensures { IfOk result (λ checked. checked ≡ record { topology = topology; guarantees = [] }) }
+{
+    match admit(alloc, topology, Vec::new(alloc), &[]) {
         Ok(checked) => Ok(checked),
         Err((_, CertFault::Memory)) => Err(AllocError),
         Err((_, CertFault::Form)) => unreachable!(),

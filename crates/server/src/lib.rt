@@ -5,6 +5,7 @@ mod builtin;
 mod commands;
 mod lines;
 mod refusals;
+mod routes;
 mod script;
 mod storage;
 mod streams;
@@ -12,6 +13,7 @@ mod transcript;
 
 pub use commands::{program, replayed};
 pub use refusals::Refusal;
+pub use routes::routed;
 pub use script::{Fault, read_script};
 pub use storage::{Files, Unread, Unwritten};
 pub use transcript::transcript_text;

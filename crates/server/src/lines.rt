@@ -14,7 +14,7 @@ use std::alloc::{AllocError, AllocFailed, Global};
 const MOST_OPENINGS: u64 = 1024;
 
 /// How many channels a connection has open from the first on, at most.
-const MOST_READY: u64 = 1;
+const MOST_READY: u64 = 255;
 
 /// Why a line is not read.
 #[derive(Clone, Copy, PartialEq, Eq, Debug, Drop)]

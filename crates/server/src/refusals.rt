@@ -1,22 +1,28 @@
 //! Why the program does not do what it is asked for, and how it tells so.
 
 ghost use Rattle.std.specs.Prelude.{◌≡◌, IfOk, string_bytes};
-ghost use Rattle.server.specs.Program.{message, out_of_memory, status_of, Refuses};
+ghost use Rattle.server.specs.Program.{message, no_exchange, out_of_memory, status_of, Refuses};
 ghost use Rattle.server.specs.Streams.{Tries};
 
 use crate::storage;
 use crate::streams::{put, tried};
+use definitions::Bad;
 use std::alloc::{AllocError, Global};
 use std::io::Write;
 
 /// What tells that a growth was refused.
 const OUT_OF_MEMORY: &str = "warren: memory\n";
 
+/// What tells that an exchange is not there.
+const NO_EXCHANGE: &str = "warren: no exchange\n";
+
 /// Why a command is not done.
 #[derive(Clone, Copy, PartialEq, Eq, Debug, Drop)]
 pub enum Refusal {
     /// This line of the script is at fault. Lines count from 1.
     Line(u64),
+    /// The cause of this number stands in the file, and none of a smaller one.
+    Refused(u8),
     /// The file is too long.
     TooLong,
     /// The file cannot be read.
@@ -53,12 +59,27 @@ impl From<storage::Unread> for Refusal {
     }
 }
 
+impl From<Bad> for Refusal {
+    ghost use Rattle.std.specs.Prelude.{◌≡◌};
+    ghost use Rattle.server.specs.Refusals.{of_cause};
+
+    ghost from_gives = { λ cause r. r ≡ of_cause cause };
+
+    fn from(cause: Bad) -> Refusal {
+        match cause.number() {
+            14 => Refusal::Memory,
+            number => Refusal::Refused(number),
+        }
+    }
+}
+
 /// What is wrong with a file, as it is told.
 fn message(alloc: Global, file: &str, refusal: Refusal) -> Result<String, AllocError>
     ensures { IfOk result (λ text. string_bytes text ≡ message file.now refusal) }
 {
     match refusal {
         Refusal::Line(n) => format!(in alloc; "warren: {file}: line {n}\n"),
+        Refusal::Refused(n) => format!(in alloc; "warren: {file}: refused {n}\n"),
         Refusal::TooLong => format!(in alloc; "warren: {file}: refused 10\n"),
         Refusal::Unread => format!(in alloc; "warren: {file}: cannot read\n"),
         Refusal::Unwritten => format!(in alloc; "warren: {file}: cannot write\n"),
@@ -72,6 +93,7 @@ fn status_of(refusal: Refusal) -> u8
 {
     match refusal {
         Refusal::Line(_) => 3,
+        Refusal::Refused(_) => 3,
         Refusal::TooLong => 3,
         Refusal::Unread => 4,
         Refusal::Unwritten => 4,
@@ -84,6 +106,13 @@ pub fn refuse_memory<E: Write>(err: &mut E) -> u8
     ensures { Tries (record { before = E.contents err.old; after = E.contents err.new }) out_of_memory 4 result }
 {
     tried(put(err, OUT_OF_MEMORY.as_bytes()), 4)
+}
+
+/// Tells that an exchange is not there, and gives the status.
+pub fn refuse_exchange<E: Write>(err: &mut E) -> u8
+    ensures { Tries (record { before = E.contents err.old; after = E.contents err.new }) no_exchange 3 result }
+{
+    tried(put(err, NO_EXCHANGE.as_bytes()), 3)
 }
 
 /// Tells why a file is refused, and gives the status.

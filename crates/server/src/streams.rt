@@ -6,7 +6,7 @@ ghost use Rattle.server.specs.Streams.{Puts, tried};
 use std::io;
 use std::io::{ErrorKind, Write};
 
-/// Puts a text behind what the stream holds. Where a write fails, the stream took a beginning of it.
+/// Puts a text behind what the stream holds. Where a write fails, the stream took a beginning of it, and not all.
 pub fn put<W: Write>(stream: &mut W, text: &[u8]) -> io::Result<()>
     ensures { Puts (record { before = W.contents stream.old; after = W.contents stream.new }) text.now (is_ok result) }
 {
@@ -24,6 +24,9 @@ pub fn put<W: Write>(stream: &mut W, text: &[u8]) -> io::Result<()>
                 }
             }
         }
+    }
+    if rest.is_empty() {
+        return Ok(());
     }
     Err(io::Error::from(ErrorKind::Interrupted))
 }

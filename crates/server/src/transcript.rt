@@ -34,7 +34,7 @@ fn hex_word(alloc: Global, bytes: &[u8]) -> Result<String, AllocError>
 
 /// A name as a compact JSON string. Names come from a file and are UTF-8; in any other each invalid sequence is
 /// printed as U+FFFD.
-fn name_word(alloc: Global, name: &[u8]) -> Result<String, AllocError>
+pub(crate) fn name_word(alloc: Global, name: &[u8]) -> Result<String, AllocError>
     ensures { IfOk result (λ word. string_bytes word ≡ name_word name.now) }
 {
     Value::String(String::from_utf8_lossy(alloc, name)?).to_string(alloc)

@@ -6,7 +6,7 @@ ghost use Rattle.model.specs.Phases as said;
 ghost use Rattle.model.specs.declared.events.Send as sent;
 
 use crate::closes::{close, one};
-use model::{Method, Phase, Send};
+use model::{Method, Phase, Publish, Send, Text};
 use std::alloc::{AllocError, Global};
 use std::marker::Model;
 
@@ -67,6 +67,7 @@ impl Session {
     ghost use Rattle.std.specs.Prelude.{◌≡◌, ◌≤◌, [], ◌∷◌, IfOk, OnErr, OnOk, IsTrue};
     ghost use Rattle.model.specs.Phases.{running_session, no_session, answer, faulted, after_sends, to_phase};
     ghost use Rattle.model.specs.Arrivals.{is_ended};
+    ghost use Rattle.model.specs.Step.{empty_publish};
     ghost use Rattle.model.specs.declared.events.Phase.TheVariants as phase;
     ghost use Rattle.session.specs.Replies.{AreReplies};
 
@@ -152,6 +153,30 @@ impl Session {
             }
             _ => Ok(Vec::new(alloc)),
         }
+    }
+
+    /// Answers a publish whose content is too large, in a phase other than Running: what it answers to any publish.
+    ///
+    /// Where memory is refused the session is as before.
+    pub fn take_large(
+        &mut self,
+        alloc: Global,
+        connection: u64,
+        channel: u16,
+    ) -> Result<Vec<Send>, AllocError>
+        ensures short { IfOk result (λ sends. AreReplies connection sends.items) }
+        ensures sends { IfOk result (λ sends. sends.items ≡ (answer connection self.old self.old.phase channel empty_publish).sends) }
+        ensures ok { OnOk result (self.new ≡ (answer connection self.old self.old.phase channel empty_publish).next) }
+        ensures err { OnErr result (self.new ≡ self.old) }
+    {
+        let publish = Publish {
+            reserved: 0,
+            exchange: Text::empty(),
+            routing_key: Text::empty(),
+            mandatory: false,
+            immediate: false,
+        };
+        self.take(alloc, connection, channel, &Method::BasicPublish(publish))
     }
 
     /// The bytes of the connection broke the wire's rules: it is closed with this reply code, and over. While close-ok is

@@ -1,7 +1,7 @@
 use Rattle.std.proofs.lemmas.Result.{err_from_is_err_and}
-use Rattle.std.proofs.Common.{◌≡◌, ◌∙◌, sym, ap, map, List}
+use Rattle.std.proofs.Common.{◌≡◌, ◌∙◌, sym, ap, map, List, option_and_then, option_map}
 use Rattle.clap.specs.Words.{App, Text, app_of, is_simple, subcommand_of}
-use Rattle.command_line.specs.CommandLine.{warren, script_of}
+use Rattle.command_line.specs.CommandLine.{warren, wanted_by}
 use Rattle.command_line.proofs.Faults.{simple, faultless, refused}
 use Rattle.command_line.proofs.reading.command.Goals as goal
 
@@ -18,5 +18,5 @@ returns-in-Some g c =
     let says = c.in_ok-matches.ensures.ok.2 (ap is_simple app ∙ simple) in
     record {
       faultless = faultless words (app_of c.in_ok-warren.warren) app c.in_ok-matches.ensures.kinds;
-      named = sym (ap (λ (a : App). script_of (subcommand_of a words)) app) ∙ ap script_of (sym says.1) ∙ sym c.in-Some.ensures;
+      named = sym (ap (λ (a : App). option_and_then wanted_by (subcommand_of a words)) app) ∙ ap (option_and_then wanted_by) (sym says.1) ∙ sym c.in-Some.ensures;
     }

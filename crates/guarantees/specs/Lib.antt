@@ -1,0 +1,5 @@
+pub mod Numbers
+pub mod Faults
+pub mod Stated
+pub mod Causes
+pub mod Reads

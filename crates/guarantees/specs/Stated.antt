@@ -1,0 +1,36 @@
+-- The guarantees that a JSON value states (own).
+use Rattle.std.specs.Prelude.{codes, ◌≡◌, ℕ, List, Option, Some, None, option_and_then, if◌then◌else◌}
+use Rattle.std.specs.Str.{bytes_eq}
+use Rattle.serde_json.specs.Data.{Data}
+use Rattle.json_file.specs.Members.{array_at, each, text_at}
+use Rattle.model.specs.Words.{Text}
+use Rattle.model.specs.Guarantee.{Guarantee}
+use Rattle.model.specs.declared.topologies.Mode.{Mode}
+use Rattle.model.specs.declared.topologies.Mode.TheVariants.{Reaches}
+
+infixl 10 ◌>>=◌
+abbrev pub ◌>>=◌ : {A B : Type 0} → Option A → (A → Option B) → Option B
+o >>= f = option_and_then f o
+
+-- the mode of this name; `never` is not read yet
+abbrev pub mode_named : Text → Option Mode
+mode_named t = if bytes_eq t (codes "reaches") then Some Reaches else None
+
+-- the mode at the member `mode`
+unfoldable pub mode_at : Data → Option Mode
+mode_at d = do
+  name ← text_at (codes "mode") d
+  mode_named name
+
+-- a guarantee; its other members are ignored
+unfoldable pub guarantee_at : Data → Option Guarantee
+guarantee_at d = do
+  mode ← mode_at d
+  exchange ← text_at (codes "exchange") d
+  pattern ← text_at (codes "pattern") d
+  queue ← text_at (codes "queue") d
+  Some (record { mode = mode; exchange = exchange; pattern = pattern; queue = queue })
+
+-- the guarantees of a file, in its order; its other members are ignored
+unfoldable pub guarantees_at : Data → Option (List Guarantee)
+guarantees_at d = option_and_then (each guarantee_at) (array_at (codes "guarantees") d)

@@ -1,0 +1,83 @@
+-- Properties that were read and are still bytes.
+use Rattle.std.specs.Prelude.{◌≡◌, ℕ, List, [], ◌∷◌, ◌++◌, Option, Some, None, IfSome, Result, Ok, Err, ⊤}
+use Rattle.std.specs.Borrow.{Bor}
+use Rattle.model.specs.Tables.{IsTable}
+use Rattle.model.specs.Grammar.{Argument, Short_text, Field_table}
+use Rattle.model.specs.Headers.{octet_of, time_of, properties_of}
+use Rattle.model.specs.declared.contents.Properties.{Properties}
+use Rattle.headers.specs.declared.contents.Refusal.{Refusal}
+use Rattle.headers.specs.declared.contents.Refusal.TheVariants.{FrameError, SyntaxError, Memory}
+use Rattle.headers.specs.declared.optional.Front.{Front}
+use Rattle.headers.specs.declared.optional.Back.{Back}
+
+-- a text that is present, as an argument
+abbrev pub text_in : Option (Bor (List ℕ)) → Option Argument
+text_in None = None
+text_in (Some t) = Some (Short_text t.now)
+
+-- a table that is present, as an argument: the bytes where its pairs should stand
+abbrev pub table_in : Option (Bor (List ℕ)) → Option Argument
+table_in None = None
+table_in (Some t) = Some (Field_table t.now)
+
+-- the first seven properties in the order of their flags
+abbrev pub front_in : Front → List (Option Argument)
+front_in f =
+    text_in f.content_type ∷ text_in f.content_encoding ∷ table_in f.headers ∷ octet_of f.delivery_mode ∷ octet_of f.priority
+    ∷ text_in f.correlation_id ∷ text_in f.reply_to ∷ []
+
+-- the other seven
+abbrev pub back_in : Back → List (Option Argument)
+back_in b =
+    text_in b.expiration ∷ text_in b.message_id ∷ time_of b.timestamp ∷ text_in b.kind ∷ text_in b.user_id ∷ text_in b.app_id
+    ∷ text_in b.reserved ∷ []
+
+-- ---- tables
+
+-- the bytes of a table, if there is one, are pairs
+abbrev pub AreWhole : Option (List ℕ) → Type 0
+AreWhole None = ⊤
+AreWhole (Some pairs) = IsTable pairs
+
+-- the bytes of a table that is present
+abbrev pub pairs_in : Option (Bor (List ℕ)) → Option (List ℕ)
+pairs_in None = None
+pairs_in (Some t) = Some t.now
+
+-- the bytes of the table are no pairs, or memory was refused
+abbrev pub NoTable : Option (List ℕ) → Refusal → Type 0
+NoTable pairs FrameError = ⊥
+NoTable pairs SyntaxError = AreWhole pairs → ⊥
+NoTable pairs Memory = ⊤
+
+-- a copy of the table, or why there is none
+abbrev pub IsTableOr : Option (Bor (List ℕ)) → Result (Option (List ℕ)) Refusal → Type 0
+IsTableOr pairs (Ok t) = (t ≡ pairs_in pairs) × AreWhole t
+IsTableOr pairs (Err e) = NoTable (pairs_in pairs) e
+
+-- ---- what becomes of what was read
+
+-- the same properties, with a table that is one
+abbrev pub Copies : Front → Back → Result Properties Refusal → Type 0
+Copies front back (Ok p) = (properties_of p ≡ front_in front ++ back_in back) × AreWhole p.headers
+Copies front back (Err e) = NoTable (pairs_in front.headers) e
+
+-- the pairs of the headers among the properties, which stand third
+abbrev pub headers_in : List (Option Argument) → Option (List ℕ)
+headers_in (a ∷ b ∷ Some (Field_table pairs) ∷ os) = Some pairs
+headers_in _ = None
+
+-- there are no properties, or their table is none
+abbrev pub Lacks : Option (List (Option Argument)) → Type 0
+Lacks read = (given : List (Option Argument)) → read ≡ Some given → AreWhole (headers_in given) → ⊥
+
+-- no properties were read for this reason, or memory was refused
+abbrev pub Wants : Option (List (Option Argument)) → Refusal → Type 0
+Wants read FrameError = ⊥
+Wants read SyntaxError = Lacks read
+Wants read Memory = ⊤
+
+-- what was read is these properties
+abbrev pub Gives : Result Properties Refusal → Option (List (Option Argument)) → Type 0
+Gives (Ok p) read = (read ≡ Some (properties_of p)) × AreWhole p.headers
+Gives (Err e) read = Wants read e
