@@ -7,8 +7,6 @@
 
 mod bodies;
 mod buffers;
-#[cfg(test)]
-mod client_tests;
 mod contents;
 mod dropping;
 mod faults;
@@ -17,8 +15,6 @@ mod laws;
 mod reading;
 mod streams;
 mod taking;
-#[cfg(test)]
-mod tests;
 
 pub use faults::Fault;
 pub use laws::{commands_stay, faults_stay, going_on_stays, one_next};

@@ -4,8 +4,6 @@
 mod admitted;
 mod faults;
 mod plain;
-#[cfg(test)]
-mod tests;
 
 pub use admitted::{Certificate, Checked, admit};
 pub use faults::CertFault;

@@ -6,8 +6,6 @@
 
 mod depots;
 mod publishing;
-#[cfg(test)]
-mod tests;
 mod turns;
 
 pub use depots::{Depot, Routed};

@@ -9,8 +9,6 @@ mod fans;
 mod marks;
 mod places;
 mod reach;
-#[cfg(test)]
-mod tests;
 mod topologies;
 
 pub use bad::Bad;

@@ -24,5 +24,3 @@ pub use takes::{
 };
 pub use writing::{put_bytes, write_table};
 
-#[cfg(test)]
-mod tests;

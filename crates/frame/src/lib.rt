@@ -14,5 +14,3 @@ pub use laws::one_frame;
 pub use reading::read_frame;
 pub use writing::{put_frame, write_frame};
 
-#[cfg(test)]
-mod tests;

@@ -4,10 +4,6 @@
 mod bad;
 mod promises;
 mod reading;
-#[cfg(test)]
-mod reading_tests;
-#[cfg(test)]
-mod tests;
 
 pub use bad::Bad;
 pub use promises::Guarantee;

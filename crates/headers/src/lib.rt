@@ -19,5 +19,3 @@ pub use laws::{one_header, syntax_errors};
 pub use reading::{read_header, read_size};
 pub use writing::{put_header, spelled_len, write_header};
 
-#[cfg(test)]
-mod tests;

@@ -22,5 +22,3 @@ pub use reading::read_method;
 pub use refusals::Refusal;
 pub use writing::{put_method, spelled_len, write_method};
 
-#[cfg(test)]
-mod tests;

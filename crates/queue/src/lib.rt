@@ -7,7 +7,5 @@
 
 mod entries;
 mod listed;
-#[cfg(test)]
-mod tests;
 
 pub use listed::Queue;

@@ -7,7 +7,5 @@
 
 mod closes;
 mod sessions;
-#[cfg(test)]
-mod tests;
 
 pub use sessions::Session;

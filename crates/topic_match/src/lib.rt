@@ -6,8 +6,6 @@ mod patterns;
 mod pieces;
 mod plain;
 mod rows;
-#[cfg(test)]
-mod tests;
 
 pub use matchers::Matcher;
 pub use patterns::{Bad, Pattern, is_pattern};

@@ -1,6 +1,6 @@
 //! A topic exchange with an alternate exchange, and where keys lead from it; circles, repeated bindings, long keys.
 
-use super::*;
+use exchange_graph::*;
 use model::{Binding, DeclaredQueue, Exchange, ExchangeKind, Place, Text};
 use std::alloc::Global;
 use std::test::*;

@@ -1,7 +1,7 @@
 //! The life of a session from Running on.
 
-use crate::sessions::Session;
 use model::Phase;
+use session::Session;
 
 #[test]
 fn a_running_session_has_the_limits_of_one_that_is_opened_as_running(rt: HostRuntime) {

@@ -1,6 +1,6 @@
 //! Streams of bytes that were spelled by hand.
 
-use crate::{Fault, Stream};
+use assembly::{Fault, Stream};
 use model::{Command, Content, Method, Publish};
 use std::alloc::{AllocError, Global};
 use std::test::Fail;

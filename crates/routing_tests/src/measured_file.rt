@@ -1,6 +1,6 @@
 //! A definitions file that RabbitMQ 3.10.8 took, as a stock client met it in a session.
 
-use super::*;
+use definitions::*;
 use std::test::*;
 
 /// Seven exchanges of all types, with an alternate and an internal one; seven queues, two of them with a limit; and two

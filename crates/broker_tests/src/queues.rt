@@ -1,7 +1,7 @@
 //! A queue that takes two messages.
 
-use crate::Queue;
 use model::{Content, Message, Properties, Text};
+use queue::Queue;
 use std::alloc::{AllocError, Global};
 use std::test::Fail;
 

@@ -1,6 +1,6 @@
 ghost use Rattle.std.specs.Prelude.{◌<◌};
 
-use super::*;
+use field_table::*;
 use std::alloc::{AllocError, Global};
 use std::test::*;
 

@@ -1,7 +1,7 @@
 //! The example of AMQP 0-9-1, section 3.1.3.3.
 
-use super::*;
 use std::test::*;
+use topic_match::*;
 
 #[test]
 fn matches(rt: HostRuntime) -> Result<(), Fail> {

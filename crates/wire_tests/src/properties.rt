@@ -1,6 +1,6 @@
 ghost use Rattle.std.specs.Prelude.{◌<◌};
 
-use super::*;
+use headers::*;
 use model::{Properties, Table, Text};
 use std::alloc::{AllocError, Global};
 use std::test::*;

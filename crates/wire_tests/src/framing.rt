@@ -1,4 +1,6 @@
-use super::*;
+//! Frames.
+
+use frame::{Frame, Read, read_frame, write_frame};
 use std::test::*;
 
 // A heartbeat, as AMQP 0-9-1 gives it: type 8, channel 0, no payload, CE.

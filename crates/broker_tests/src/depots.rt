@@ -1,6 +1,6 @@
 //! Two queues on one key, one of them for a single message.
 
-use crate::{Depot, Routed};
+use depot::{Depot, Routed};
 use exchange_graph::Topology;
 use model::{
     Binding, Content, DeclaredQueue, Exchange, ExchangeKind, Note, Place, Properties, Publish, Text,

@@ -1,6 +1,6 @@
 //! The example of AMQP 0-9-1, section 3.1.3.3, as a guarantee.
 
-use super::*;
+use guarantees::*;
 use model::{Mode, Text};
 use std::test::*;
 

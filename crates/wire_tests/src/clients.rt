@@ -1,6 +1,6 @@
 //! Streams as a client sends them: what is read of them is spelled again, and compared with what was sent.
 
-use crate::{Fault, Stream};
+use assembly::{Fault, Stream};
 use frame::{Frame, write_frame};
 use headers::write_header;
 use methods::write_method;

@@ -1,7 +1,7 @@
 //! Guarantees files over a topology with the exchange `X` and the queue `A`.
 
-use super::*;
 use exchange_graph::Topology;
+use guarantees::*;
 use model::{Binding, DeclaredQueue, Exchange, ExchangeKind, Text};
 use std::alloc::Global;
 use std::test::*;

@@ -1,6 +1,6 @@
 //! One topic exchange and one queue, handed in, admitted and cloned.
 
-use super::*;
+use certificate::admit;
 use exchange_graph::Topology;
 use guarantees::Guarantee;
 use model::{Binding, DeclaredQueue, Exchange, ExchangeKind, Mode, Place, Text};

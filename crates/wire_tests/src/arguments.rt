@@ -1,4 +1,6 @@
-use super::*;
+//! Methods as they are spelled.
+
+use methods::*;
 use model::Method;
 use std::alloc::Global;
 use std::test::*;

@@ -1,6 +1,6 @@
 //! Files with one cause or two, each made from a whole file by edits.
 
-use super::*;
+use definitions::*;
 use std::alloc::{AllocError, Global};
 use std::test::*;
 
