@@ -14,12 +14,23 @@ use std::alloc::{AllocError, Global};
 use std::marker::Model;
 
 /// What one connection's bytes have still to say.
-#[derive(Drop)]
 pub struct Stream {
     alloc: Global,
     max: u32,
     contents: Vec<Pending>,
     unread: Unread,
+}
+
+/// Written out, so that a drop is one call.
+impl Drop for Stream {
+    fn drop(self) {
+        let Stream {
+            alloc: _,
+            max: _,
+            contents: _,
+            unread: _,
+        } = self;
+    }
 }
 
 impl Model for Stream {

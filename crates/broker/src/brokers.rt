@@ -19,10 +19,16 @@ use std::alloc::{AllocError, Global};
 use std::marker::Model;
 
 /// Queues, and the connections that run with their channels.
-#[derive(Drop)]
 pub struct Broker {
     depot: Depot,
     links: Links,
+}
+
+/// Written out, so that a drop is one call.
+impl Drop for Broker {
+    fn drop(self) {
+        let Broker { depot: _, links: _ } = self;
+    }
 }
 
 impl Model for Broker {

@@ -17,10 +17,19 @@ use std::marker::Model;
 pub struct Certificate {}
 
 /// A topology and guarantees that hold of it. Only `admit` makes one.
-#[derive(Drop)]
 pub struct Checked {
     topology: Topology,
     guarantees: Vec<Guarantee>,
+}
+
+/// Written out, so that a drop is one call.
+impl Drop for Checked {
+    fn drop(self) {
+        let Checked {
+            topology: _,
+            guarantees: _,
+        } = self;
+    }
 }
 
 impl Model for Checked {
@@ -109,6 +118,10 @@ impl Checked {
         ensures well_formed { IsWellFormed result.0 }
     {
         self.topology.is_well_formed();
-        (self.topology, self.guarantees)
+        let Checked {
+            topology,
+            guarantees,
+        } = self;
+        (topology, guarantees)
     }
 }

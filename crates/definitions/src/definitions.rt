@@ -18,10 +18,19 @@ use std::alloc::Global;
 use std::marker::Model;
 
 /// What a file sets up.
-#[derive(Drop)]
 pub struct Definitions {
     topology: Topology,
     users: Vec<User>,
+}
+
+/// Written out, so that a drop is one call.
+impl Drop for Definitions {
+    fn drop(self) {
+        let Definitions {
+            topology: _,
+            users: _,
+        } = self;
+    }
 }
 
 impl Model for Definitions {

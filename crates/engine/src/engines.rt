@@ -48,7 +48,6 @@ impl From<AllocError> for Refused {
 ///
 /// Connections are numbered from 1 in the order of their openings, and no number is given twice. A connection is gone
 /// when it is lost, or over with no output left.
-#[derive(Drop)]
 pub struct Engine {
     broker: Broker,
     guarantees: Vec<Guarantee>,
@@ -57,6 +56,20 @@ pub struct Engine {
     /// Those that are not gone, in the order of their numbers.
     links: Vec<Link>,
     scratch: Scratch,
+}
+
+/// Written out, so that a drop is one call.
+impl Drop for Engine {
+    fn drop(self) {
+        let Engine {
+            broker: _,
+            guarantees: _,
+            users: _,
+            given: _,
+            links: _,
+            scratch: _,
+        } = self;
+    }
 }
 
 impl Model for Engine {

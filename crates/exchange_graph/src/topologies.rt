@@ -33,12 +33,23 @@ use std::alloc::{AllocError, Global};
 use std::marker::Model;
 
 /// Exchanges, queues and bindings, each in the order of the file.
-#[derive(Drop)]
 pub struct Topology {
     exchanges: Vec<Exchange>,
     queues: Vec<DeclaredQueue>,
     bindings: Vec<Binding>,
     fans: Vec<Fan>,
+}
+
+/// Written out, so that a drop is one call.
+impl Drop for Topology {
+    fn drop(self) {
+        let Topology {
+            exchanges: _,
+            queues: _,
+            bindings: _,
+            fans: _,
+        } = self;
+    }
 }
 
 impl Model for Topology {

@@ -10,7 +10,6 @@ use std::alloc::AllocError;
 /// The properties of a content. The broker passes all of them on, and changes only `headers`.
 ///
 /// Source: AMQP 0-9-1, section 4.2.6.1, "The Content Header", and the `basic` class of its XML.
-#[derive(Drop)]
 pub struct Properties {
     pub content_type: Option<Text>,
     pub content_encoding: Option<Text>,
@@ -26,6 +25,28 @@ pub struct Properties {
     pub user_id: Option<Text>,
     pub app_id: Option<Text>,
     pub reserved: Option<Text>,
+}
+
+/// Written out, so that a drop is one call.
+impl Drop for Properties {
+    fn drop(self) {
+        let Properties {
+            content_type: _,
+            content_encoding: _,
+            headers: _,
+            delivery_mode: _,
+            priority: _,
+            correlation_id: _,
+            reply_to: _,
+            expiration: _,
+            message_id: _,
+            timestamp: _,
+            kind: _,
+            user_id: _,
+            app_id: _,
+            reserved: _,
+        } = self;
+    }
 }
 
 /// Properties and a body.

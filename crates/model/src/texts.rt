@@ -11,7 +11,7 @@ pub struct Text {
     bytes: Bytes,
 }
 
-/// Written out, so that where a value with many texts is dropped each of them is one call.
+/// Written out, so that a drop is one call.
 impl Drop for Text {
     fn drop(self) {
         let Text { bytes: _ } = self;

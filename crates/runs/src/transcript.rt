@@ -66,10 +66,19 @@ impl Shown {
 }
 
 /// All bytes put out for each connection, taken ones too, and whether it is over or lost; and all notes in order.
-#[derive(Drop)]
 pub struct Transcript {
     connections: Vec<Shown>,
     notes: Vec<Note>,
+}
+
+/// Written out, so that a drop is one call.
+impl Drop for Transcript {
+    fn drop(self) {
+        let Transcript {
+            connections: _,
+            notes: _,
+        } = self;
+    }
 }
 
 impl Model for Transcript {
