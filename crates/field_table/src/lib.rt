@@ -23,4 +23,3 @@ pub use takes::{
     pairs_at, short_at, short_text_at, two_bits_at,
 };
 pub use writing::{put_bytes, write_table};
-

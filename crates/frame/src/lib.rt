@@ -13,4 +13,3 @@ pub use frames::{Frame, Read};
 pub use laws::one_frame;
 pub use reading::read_frame;
 pub use writing::{put_frame, write_frame};
-

@@ -18,4 +18,3 @@ pub use contents::{Header, Refusal, WriteError};
 pub use laws::{one_header, syntax_errors};
 pub use reading::{read_header, read_size};
 pub use writing::{put_header, spelled_len, write_header};
-

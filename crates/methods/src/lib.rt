@@ -21,4 +21,3 @@ pub use pieces::WriteError;
 pub use reading::read_method;
 pub use refusals::Refusal;
 pub use writing::{put_method, spelled_len, write_method};
-
