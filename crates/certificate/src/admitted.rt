@@ -120,8 +120,8 @@ impl Checked {
         self.topology.is_well_formed();
         let Checked {
             topology,
-            guarantees,
+            guarantees: held,
         } = self;
-        (topology, guarantees)
+        (topology, held)
     }
 }
