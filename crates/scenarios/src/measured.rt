@@ -6,17 +6,27 @@ use model::{Binding, DeclaredQueue, Exchange, ExchangeKind, Place, Text};
 use std::alloc::{AllocError, Global};
 use topic_match::{Matcher, Pattern, Plain};
 
+/// A matcher of all patterns.
+fn matcher(alloc: Global) -> Option<Plain> {
+    let mut patterns = Vec::new(alloc);
+    for pattern in PATTERNS {
+        let read = Pattern::read(alloc, pattern.as_bytes()).ok()?;
+        patterns.push(read).ok()?;
+    }
+    Plain::new(alloc, patterns).ok()
+}
+
+/// The places of the patterns that match this key.
+fn places_of(alloc: Global, matcher: &Plain, key: &str) -> Option<Vec<usize>> {
+    matcher.matches(alloc, key.as_bytes()).ok()
+}
+
 #[test]
 fn a_matcher_agrees(rt: HostRuntime) {
     let alloc = rt.alloc();
-    let mut patterns = Vec::new(alloc);
-    for pattern in PATTERNS {
-        let read = Pattern::read(alloc, pattern.as_bytes()).expect(&rt, "it is a pattern");
-        patterns.push(read).expect(&rt, "memory");
-    }
-    let plain = Plain::new(alloc, patterns).expect(&rt, "memory");
+    let matcher = matcher(alloc).expect(&rt, "memory");
     for (key, places) in ROWS {
-        let found = plain.matches(alloc, key.as_bytes()).expect(&rt, "memory");
+        let found = places_of(alloc, &matcher, key).expect(&rt, "memory");
         assert_eq!(rt; found.as_slice(), places, "{key}");
     }
 }
