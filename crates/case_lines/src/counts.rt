@@ -1,0 +1,39 @@
+//! How many lines there were.
+
+/// How many lines there were, and how many of them were answered otherwise than they want.
+#[derive(Clone, Copy, Drop)]
+pub struct Count {
+    pub lines: u64,
+    pub differing: u64,
+}
+
+impl Count {
+    pub fn none() -> Count {
+        Count {
+            lines: 0,
+            differing: 0,
+        }
+    }
+
+    /// One line more.
+    pub fn add_line(&mut self, is_answered: bool) {
+        self.lines = self.lines.saturating_add(1);
+        if !is_answered {
+            self.differing = self.differing.saturating_add(1);
+        }
+    }
+
+    /// The lines of one more file. A file without a line counts as one that differs.
+    pub fn add_file(&mut self, file: Count) {
+        self.lines = self.lines.saturating_add(file.lines);
+        self.differing = self.differing.saturating_add(file.differing);
+        if file.lines == 0 {
+            self.differing = self.differing.saturating_add(1);
+        }
+    }
+
+    /// Whether there were lines, and none of them differs.
+    pub fn is_passed(&self) -> bool {
+        self.lines != 0 && self.differing == 0
+    }
+}
