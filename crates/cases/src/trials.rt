@@ -9,7 +9,7 @@ use crate::rows::{Row, rows_of, text_at};
 use std::alloc::Global;
 use std::io;
 
-/// The bytes of the longest piece that is cut in every place. A longer one is cut near its ends.
+/// The most bytes of a piece that is cut into single bytes and in every place. A longer one is cut near its ends.
 const CUT_EVERYWHERE: usize = 4_096;
 
 /// How many places are near an end.
@@ -18,8 +18,8 @@ const NEAR: usize = 12;
 /// A row of a case.
 #[derive(Drop)]
 struct Trial<'a> {
-    words: &'a [String],
-    script: Option<&'a str>,
+    words: Vec<String>,
+    script: Option<String>,
     expected: &'a str,
 }
 
@@ -34,15 +34,15 @@ struct Failure {
 /// Runs the words over the script that is cut so.
 fn failure_at(folder: Folder<'_>, trial: &Trial<'_>, cut: Cut) -> io::Result<Option<Failure>> {
     let alloc = folder.rt.alloc();
-    let script = match trial.script {
-        Some(script) => Some(cut_script(alloc, script, cut)?),
+    let script = match &trial.script {
+        Some(script) => Some(cut_script(alloc, script.as_str(), cut)?),
         None => None,
     };
     let mut files = Disk {
         folder,
         script: script.as_ref().map(|script| script.as_slice()),
     };
-    let made = printed(alloc, trial.words, &mut files, trial.expected)?;
+    let made = printed(alloc, trial.words.as_slice(), &mut files, trial.expected)?;
     match compared(trial.expected.as_bytes(), made.as_slice()) {
         Difference::None => Ok(None),
         Difference::At(line) => Ok(Some(Failure { cut, line })),
@@ -75,17 +75,16 @@ fn failure_of(folder: Folder<'_>, trial: &Trial<'_>) -> io::Result<Option<Failur
     if let Some(failure) = failure_at(folder, trial, Cut::Whole)? {
         return Ok(Some(failure));
     }
-    let longest = match trial.script {
-        Some(script) => longest(script),
+    let longest = match &trial.script {
+        Some(script) => longest(script.as_str()),
         None => return Ok(None),
     };
-    if longest < 2 {
-        return Ok(None);
+    if longest >= 2 && longest <= CUT_EVERYWHERE {
+        if let Some(failure) = failure_at(folder, trial, Cut::Bytes)? {
+            return Ok(Some(failure));
+        }
     }
-    match failure_at(folder, trial, Cut::Bytes)? {
-        Some(failure) => Ok(Some(failure)),
-        None => failure_in_two(folder, trial, longest),
-    }
+    failure_in_two(folder, trial, longest)
 }
 
 /// The longer of two lists of rows, the first where they are of one length.
@@ -143,14 +142,19 @@ fn failure_at_row(
     row: &str,
 ) -> io::Result<Option<Failure>> {
     let alloc = folder.rt.alloc();
-    let words = words_of(alloc, text_at(table.words.as_slice(), place, row)?)?;
-    let script = table.script(alloc, place, row)?;
     let trial = Trial {
-        words: words.as_slice(),
-        script: script.as_ref().map(|script| script.as_str()),
+        words: words_of(alloc, text_at(table.words.as_slice(), place, row)?)?,
+        script: table.script(alloc, place, row)?,
         expected: text_at(table.expected.as_slice(), place, row)?,
     };
     failure_of(folder, &trial)
+}
+
+/// Tells where a row prints something else than expected.
+fn tell(folder: Folder<'_>, row: &str, failure: Failure) -> io::Result<()> {
+    let cut = failure.cut;
+    let line = failure.line;
+    println!(folder.rt; "  differs at line {line}, {cut}: {row}")
 }
 
 /// Runs the rows of a case, tells which print something else than expected, and gives their number, or none where
@@ -165,10 +169,7 @@ pub fn tried(folder: Folder<'_>, name: &str) -> io::Result<Option<u64>> {
         count = count.saturating_add(1);
         if let Some(failure) = failure_at_row(folder, &table, place, row.name)? {
             failed = failed.saturating_add(1);
-            let row = row.name;
-            let cut = failure.cut;
-            let line = failure.line;
-            println!(folder.rt; "{name}: {row}: {cut}: differs at line {line}")?;
+            tell(folder, row.name, failure)?;
         }
     }
     if failed == 0 {

@@ -5,6 +5,9 @@ use std::alloc::Global;
 use std::io;
 use std::io::{ErrorKind, Write};
 
+/// The greatest file that is read, in bytes.
+const LIMIT: usize = 16_777_216;
+
 /// A disk on which each file has this text.
 #[derive(Drop)]
 struct Disk<'a> {
@@ -18,7 +21,8 @@ impl Files for Disk<'_> {
 
     fn read(&mut self, alloc: Global, _name: &str) -> Result<Vec<u8>, Unread> {
         match Vec::from_slice(alloc, self.text) {
-            Ok(bytes) => Ok(bytes),
+            Ok(bytes) if bytes.len() <= LIMIT => Ok(bytes),
+            Ok(_) => Err(Unread::TooLong),
             Err(_) => Err(Unread::Memory),
         }
     }
