@@ -1,0 +1,65 @@
+//! The files that cases have and name.
+
+use server::{Files, Unread, Unwritten};
+use std::alloc::Global;
+use std::{fs, io};
+
+/// The greatest file that is read, in bytes.
+const LIMIT: usize = 16_777_216;
+
+/// The folder in which the files of the cases lie.
+#[derive(Clone, Copy, Drop)]
+pub struct Folder<'a> {
+    pub rt: &'a HostRuntime,
+    pub path: &'a str,
+}
+
+impl Folder<'_> {
+    /// The bytes of a file.
+    fn bytes(&self, name: &str) -> io::Result<Vec<u8>> {
+        let folder = self.path;
+        let path = format!(in self.rt.alloc(); "{folder}/{name}")?;
+        fs::read(self.rt, path)
+    }
+
+    /// The text of a file.
+    pub fn text(&self, name: &str) -> io::Result<String> {
+        let folder = self.path;
+        let path = format!(in self.rt.alloc(); "{folder}/{name}")?;
+        fs::read_to_string(self.rt, path)
+    }
+}
+
+/// What the program reads: the file `script`, where the case has one, and the files of the folder.
+#[derive(Drop)]
+pub struct Disk<'a> {
+    pub folder: Folder<'a>,
+    pub script: Option<&'a [u8]>,
+}
+
+impl Disk<'_> {
+    fn bytes(&self, alloc: Global, name: &str) -> io::Result<Vec<u8>> {
+        match self.script {
+            Some(script) if name == "script" => Ok(Vec::from_slice(alloc, script)?),
+            _ => self.folder.bytes(name),
+        }
+    }
+}
+
+impl Files for Disk<'_> {
+    ghost use Rattle.server.specs.Files.{Unknown};
+
+    ghost holds = { λ _ _. Unknown };
+
+    fn read(&mut self, alloc: Global, name: &str) -> Result<Vec<u8>, Unread> {
+        match self.bytes(alloc, name) {
+            Ok(bytes) if bytes.len() > LIMIT => Err(Unread::TooLong),
+            Ok(bytes) => Ok(bytes),
+            Err(_) => Err(Unread::Failed),
+        }
+    }
+
+    fn write(&mut self, _name: &str, _bytes: &[u8]) -> Result<(), Unwritten> {
+        Err(Unwritten)
+    }
+}

@@ -1,0 +1,61 @@
+//! Files of a case, by rows.
+//!
+//! A line `==== NAME` begins a row, whose text is what stands up to the next such line. Only remarks, lines that begin
+//! with `#`, may stand before the first. A file without rows is a single text, which stands for each row of the others.
+
+use std::alloc::Global;
+use std::io;
+use std::io::ErrorKind;
+
+/// What stands before the name of a row.
+const MARK: &str = "==== ";
+
+/// A text under its name. The only text of a file without rows has the empty name.
+#[derive(Clone, Copy, Drop)]
+pub struct Row<'a> {
+    pub name: &'a str,
+    pub text: &'a str,
+}
+
+/// That the files of a case have another form.
+pub fn malformed() -> io::Error {
+    io::Error::from(ErrorKind::InvalidData)
+}
+
+/// The rows of a file, behind the first mark.
+fn marked(alloc: Global, text: &str) -> io::Result<Vec<Row<'_>>> {
+    let mut rows = Vec::new(alloc);
+    for part in text.split(MARK) {
+        match part.split_once('\n') {
+            Some((name, text)) => rows.push(Row { name, text })?,
+            None => return Err(malformed()),
+        }
+    }
+    Ok(rows)
+}
+
+/// The rows of a file.
+pub fn rows_of(alloc: Global, text: &str) -> io::Result<Vec<Row<'_>>> {
+    match text.split_once(MARK) {
+        Some((head, rest)) if head.lines().all(|line| line.starts_with('#')) => marked(alloc, rest),
+        Some(_) => Err(malformed()),
+        None => {
+            let mut rows = Vec::new(alloc);
+            rows.push(Row { name: "", text })?;
+            Ok(rows)
+        }
+    }
+}
+
+/// The text of the row that has this place and this name.
+pub fn text_at<'a>(rows: &[Row<'a>], place: usize, name: &str) -> io::Result<&'a str> {
+    if let Some(only) = rows.first() {
+        if rows.len() == 1 && only.name.is_empty() {
+            return Ok(only.text);
+        }
+    }
+    match rows.get(place) {
+        Some(row) if row.name == name => Ok(row.text),
+        _ => Err(malformed()),
+    }
+}

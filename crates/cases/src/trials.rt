@@ -1,0 +1,180 @@
+//! Runs of a case.
+
+use crate::comparing::{Difference, compared};
+use crate::cutting::{Cut, cut_script, longest};
+use crate::disk::{Disk, Folder};
+use crate::files::{Case, case_of, words_of, written_out};
+use crate::printing::printed;
+use crate::rows::{Row, rows_of, text_at};
+use std::alloc::Global;
+use std::io;
+
+/// The most bytes of a piece that is cut into single bytes and in every place. A longer one is cut near its ends.
+const CUT_EVERYWHERE: usize = 4_096;
+
+/// How many places are near an end.
+const NEAR: usize = 12;
+
+/// A row of a case.
+#[derive(Drop)]
+struct Trial<'a> {
+    words: Vec<String>,
+    script: Option<String>,
+    expected: &'a str,
+}
+
+/// Where a row prints something else than expected.
+#[derive(Clone, Copy, Drop)]
+struct Failure {
+    cut: Cut,
+    /// The first line that differs, counted from 1.
+    line: u64,
+}
+
+/// Runs the words over the script that is cut so.
+fn failure_at(folder: Folder<'_>, trial: &Trial<'_>, cut: Cut) -> io::Result<Option<Failure>> {
+    let alloc = folder.rt.alloc();
+    let script = match &trial.script {
+        Some(script) => Some(cut_script(alloc, script.as_str(), cut)?),
+        None => None,
+    };
+    let mut files = Disk {
+        folder,
+        script: script.as_ref().map(|script| script.as_slice()),
+    };
+    let made = printed(alloc, trial.words.as_slice(), &mut files, trial.expected)?;
+    match compared(trial.expected.as_bytes(), made.as_slice()) {
+        Difference::None => Ok(None),
+        Difference::At(line) => Ok(Some(Failure { cut, line })),
+    }
+}
+
+/// Whether pieces are cut behind so many bytes, where the longest has `longest`.
+fn is_cut_at(place: usize, longest: usize) -> bool {
+    longest <= CUT_EVERYWHERE || place <= NEAR || longest.saturating_sub(place) <= NEAR
+}
+
+/// Runs a row over its script with its pieces cut in two.
+fn failure_in_two(
+    folder: Folder<'_>,
+    trial: &Trial<'_>,
+    longest: usize,
+) -> io::Result<Option<Failure>> {
+    for place in 1..longest {
+        if is_cut_at(place, longest) {
+            if let Some(failure) = failure_at(folder, trial, Cut::At(place))? {
+                return Ok(Some(failure));
+            }
+        }
+    }
+    Ok(None)
+}
+
+/// Runs a row over its script in every cutting.
+fn failure_of(folder: Folder<'_>, trial: &Trial<'_>) -> io::Result<Option<Failure>> {
+    if let Some(failure) = failure_at(folder, trial, Cut::Whole)? {
+        return Ok(Some(failure));
+    }
+    let longest = match &trial.script {
+        Some(script) => longest(script.as_str()),
+        None => return Ok(None),
+    };
+    if longest >= 2 && longest <= CUT_EVERYWHERE {
+        if let Some(failure) = failure_at(folder, trial, Cut::Bytes)? {
+            return Ok(Some(failure));
+        }
+    }
+    failure_in_two(folder, trial, longest)
+}
+
+/// The longer of two lists of rows, the first where they are of one length.
+fn longer<'x, 'a>(first: &'x [Row<'a>], second: &'x [Row<'a>]) -> &'x [Row<'a>] {
+    if second.len() > first.len() {
+        second
+    } else {
+        first
+    }
+}
+
+/// The rows of the files of a case. One that has no script has no row of a script.
+#[derive(Drop)]
+struct Table<'a> {
+    words: Vec<Row<'a>>,
+    scripts: Vec<Row<'a>>,
+    expected: Vec<Row<'a>>,
+}
+
+impl<'a> Table<'a> {
+    fn read(alloc: Global, case: &'a Case) -> io::Result<Table<'a>> {
+        Ok(Table {
+            words: rows_of(alloc, case.words.as_str())?,
+            scripts: match &case.script {
+                Some(script) => rows_of(alloc, script.as_str())?,
+                None => Vec::new(alloc),
+            },
+            expected: rows_of(alloc, case.expected.as_str())?,
+        })
+    }
+
+    /// The rows of the file that has the most.
+    fn rows(&self) -> &[Row<'a>] {
+        longer(
+            longer(self.words.as_slice(), self.scripts.as_slice()),
+            self.expected.as_slice(),
+        )
+    }
+
+    /// The script of a row, with its repetitions written out.
+    fn script(&self, alloc: Global, place: usize, row: &str) -> io::Result<Option<String>> {
+        if self.scripts.is_empty() {
+            return Ok(None);
+        }
+        let text = text_at(self.scripts.as_slice(), place, row)?;
+        Ok(Some(written_out(alloc, text)?))
+    }
+}
+
+/// Runs the row at this place.
+fn failure_at_row(
+    folder: Folder<'_>,
+    table: &Table<'_>,
+    place: usize,
+    row: &str,
+) -> io::Result<Option<Failure>> {
+    let alloc = folder.rt.alloc();
+    let trial = Trial {
+        words: words_of(alloc, text_at(table.words.as_slice(), place, row)?)?,
+        script: table.script(alloc, place, row)?,
+        expected: text_at(table.expected.as_slice(), place, row)?,
+    };
+    failure_of(folder, &trial)
+}
+
+/// Tells where a row prints something else than expected.
+fn tell(folder: Folder<'_>, row: &str, failure: Failure) -> io::Result<()> {
+    let cut = failure.cut;
+    let line = failure.line;
+    println!(folder.rt; "  differs at line {line}, {cut}: {row}")
+}
+
+/// Runs the rows of a case, tells which print something else than expected, and gives their number, or none where
+/// there is such a row.
+pub fn tried(folder: Folder<'_>, name: &str) -> io::Result<Option<u64>> {
+    let alloc = folder.rt.alloc();
+    let case = case_of(folder, name)?;
+    let table = Table::read(alloc, &case)?;
+    let mut count = 0u64;
+    let mut failed = 0u64;
+    for (place, row) in table.rows().iter().enumerate() {
+        count = count.saturating_add(1);
+        if let Some(failure) = failure_at_row(folder, &table, place, row.name)? {
+            failed = failed.saturating_add(1);
+            tell(folder, row.name, failure)?;
+        }
+    }
+    if failed == 0 {
+        Ok(Some(count))
+    } else {
+        Ok(None)
+    }
+}
