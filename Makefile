@@ -1,14 +1,27 @@
 # `make` alone lists the targets.
-.PHONY: help run shop cases examples test
+.PHONY: help try run shop cases examples bench install test
+
+# how many crates are proved at a time
+JOBS ?= $(shell nproc)
+# where `make install` puts the program
+PREFIX ?= /usr/local
 
 help:
-	@echo "make run       builds warren and replays examples/first_publish"
+	@echo "make try       replays examples/first_publish by a build that proves nothing, to look at"
+	@echo "make run       proves and builds warren, and replays examples/first_publish"
 	@echo "make shop      replays examples/shop over its definitions file"
 	@echo "make cases     runs the cases of crates/cases, and tells of one that its list lacks"
 	@echo "make examples  replays the examples, and compares them with their outputs and with the cases"
+	@echo "make bench     prints what publishes, routes and large files cost"
+	@echo "make install   puts the proved program into $(PREFIX)/bin"
 	@echo "make test      proves every crate, tries the must-fail edits, runs the tests and the program (rt ci)"
 
+try:
+	@cd crates/warren && rt try -- replay /dev/stdin < ../../examples/first_publish/script
+	@echo "Nothing was proved. \`make run\` proves all of it first."
+
 run:
+	@rt all check --jobs $(JOBS) | grep --line-buffered -a -E '^==|crates ok'
 	@cd crates/warren && rt run -- replay /dev/stdin < ../../examples/first_publish/script
 
 shop:
@@ -29,6 +42,13 @@ examples:
 	@cmp examples/shop/definitions.json $(CASES)/shop.json
 	@cd crates/warren && rt run -- replay $(EXAMPLES)/first_publish/script | diff $(EXAMPLES)/first_publish/output -
 	@cd crates/warren && rt run -- replay $(EXAMPLES)/shop/script --definitions $(EXAMPLES)/shop/definitions.json | diff $(EXAMPLES)/shop/output -
+
+bench:
+	@cd crates/publish_benchmarks && rt run -- all
+	@cd crates/benchmarks && rt run -- all
+
+install: run
+	@install -D crates/warren/out/warren $(PREFIX)/bin/warren
 
 test:
 	@rt ci
