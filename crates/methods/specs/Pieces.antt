@@ -65,10 +65,12 @@ kind_in (pieces.FiveBits a b c d e) = Some (arguments.some_bits 5)
 abbrev pub IsOf : arguments.Kind → Piece → Type 0
 IsOf k p = kind_in p ≡ Some k
 
+-- the first kind, if there is one
 abbrev pub first_of : List Kind → Option arguments.Kind
 first_of [] = None
 first_of (k ∷ ks) = Some (kind k)
 
+-- the kinds after it
 abbrev pub others_of : List Kind → List Kind
 others_of [] = []
 others_of (k ∷ ks) = ks

@@ -7,6 +7,7 @@ ghost use Rattle.methods.specs.Reading.{Fails, Tells, IsMethodOr, Starts, Reads}
 
 use crate::classes::{basic, channel, confirm, connection, exchange, queue};
 use crate::refusals::Refusal;
+use byteorder::{BigEndian, ByteOrder};
 use model::Method;
 use std::alloc::Global;
 
@@ -30,8 +31,8 @@ fn ids_at(payload: &[u8]) -> Option<(u16, u16, &[u8])>
         return None;
     }
     let (front, rest) = payload.split_at(4);
-    let class = u16::from_be_bytes([front[0], front[1]]);
-    let method = u16::from_be_bytes([front[2], front[3]]);
+    let class = BigEndian::read_u16(front);
+    let method = BigEndian::read_u16(&front[2..]);
     Some((class, method, rest))
 }
 
