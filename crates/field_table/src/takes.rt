@@ -4,6 +4,8 @@ ghost use Rattle.std.specs.Prelude.{◌≡◌, ℕ, List, [], ◌∷◌, option_
 ghost use Rattle.model.specs.Grammar.{Argument, Octet, Short, Long, Long_long, Short_text, Long_text, Field_table, Bits};
 ghost use Rattle.field_table.specs.Arguments.{long_text_at as read_long_text, argument_at, an_octet, a_short, a_long, a_long_long, a_short_text, a_long_text, a_field_table, some_bits};
 
+use byteorder::{BigEndian, ByteOrder};
+
 /// A number of 1 byte.
 pub fn octet_at(bytes: &[u8]) -> Option<(u8, &[u8])>
     ensures { option_map (λ x. (Octet x.0, x.1.now)) result ≡ argument_at an_octet bytes.now }
@@ -23,7 +25,7 @@ pub fn short_at(bytes: &[u8]) -> Option<(u16, &[u8])>
         return None;
     }
     let (front, rest) = bytes.split_at(2);
-    Some((u16::from_be_bytes([front[0], front[1]]), rest))
+    Some((BigEndian::read_u16(front), rest))
 }
 
 /// A number of 4 bytes.
@@ -34,8 +36,7 @@ pub fn long_at(bytes: &[u8]) -> Option<(u32, &[u8])>
         return None;
     }
     let (front, rest) = bytes.split_at(4);
-    let number = u32::from_be_bytes([front[0], front[1], front[2], front[3]]);
-    Some((number, rest))
+    Some((BigEndian::read_u32(front), rest))
 }
 
 /// A number of 8 bytes.
@@ -46,10 +47,7 @@ pub fn long_long_at(bytes: &[u8]) -> Option<(u64, &[u8])>
         return None;
     }
     let (front, rest) = bytes.split_at(8);
-    let number = u64::from_be_bytes([
-        front[0], front[1], front[2], front[3], front[4], front[5], front[6], front[7],
-    ]);
-    Some((number, rest))
+    Some((BigEndian::read_u64(front), rest))
 }
 
 /// A text of fewer than 256 bytes.
@@ -89,7 +87,7 @@ fn sized_at(bytes: &[u8]) -> Option<(&[u8], &[u8])>
         return None;
     }
     let (front, rest) = bytes.split_at(4);
-    let len = u32::from_be_bytes([front[0], front[1], front[2], front[3]]) as usize;
+    let len = BigEndian::read_u32(front) as usize;
     if rest.len() < len {
         return None;
     }

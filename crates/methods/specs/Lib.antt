@@ -1,4 +1,5 @@
 pub mod Kinds
+pub mod Pieces
 pub mod Reading
 pub mod Writing
 pub mod Laws

@@ -1,8 +1,7 @@
-//! The methods of each class are read.
+//! The methods of each class are read: which there are, and with which arguments.
 
-ghost use Rattle.std.specs.Prelude.{◌≡◌, true, ◌==◌, [], ◌∷◌};
-ghost use Rattle.std.specs.List.{list_any};
-ghost use Rattle.model.specs.Grammar;
+ghost use Rattle.std.specs.Prelude.{◌≡◌, ◌<◌, ◌≤◌, false};
+ghost use Rattle.model.specs.Grammar.{is_left_out};
 ghost use Rattle.methods.specs.Reading.{Reads};
 
 use crate::fields::*;
@@ -11,7 +10,6 @@ use model::Method;
 use std::alloc::Global;
 
 pub(crate) fn connection(alloc: Global, method: u16, arguments: &[u8]) -> Result<Method, Refusal>
-    requires { Grammar.is_known 10 method ≡ true }
     ensures { Reads 10 method arguments.now result }
 {
     match method {
@@ -29,12 +27,11 @@ pub(crate) fn connection(alloc: Global, method: u16, arguments: &[u8]) -> Result
             nothing_in(arguments)?;
             Ok(Method::ConnectionCloseOk)
         }
-        _ => unreachable!(),
+        _ => Err(Refusal::CommandInvalid),
     }
 }
 
 pub(crate) fn channel(alloc: Global, method: u16, arguments: &[u8]) -> Result<Method, Refusal>
-    requires { Grammar.is_known 20 method ≡ true }
     ensures { Reads 20 method arguments.now result }
 {
     match method {
@@ -59,12 +56,11 @@ pub(crate) fn channel(alloc: Global, method: u16, arguments: &[u8]) -> Result<Me
             nothing_in(arguments)?;
             Ok(Method::ChannelCloseOk)
         }
-        _ => unreachable!(),
+        _ => Err(Refusal::CommandInvalid),
     }
 }
 
 pub(crate) fn exchange(alloc: Global, method: u16, arguments: &[u8]) -> Result<Method, Refusal>
-    requires { Grammar.is_known 40 method ≡ true }
     ensures { Reads 40 method arguments.now result }
 {
     match method {
@@ -76,12 +72,11 @@ pub(crate) fn exchange(alloc: Global, method: u16, arguments: &[u8]) -> Result<M
         20 => Ok(Method::ExchangeDelete),
         30 => Ok(Method::ExchangeBind),
         40 => Ok(Method::ExchangeUnbind),
-        _ => unreachable!(),
+        _ => Err(Refusal::CommandInvalid),
     }
 }
 
 pub(crate) fn queue(alloc: Global, method: u16, arguments: &[u8]) -> Result<Method, Refusal>
-    requires { Grammar.is_known 50 method ≡ true }
     ensures { Reads 50 method arguments.now result }
 {
     match method {
@@ -95,23 +90,23 @@ pub(crate) fn queue(alloc: Global, method: u16, arguments: &[u8]) -> Result<Meth
         }
         40 => Ok(Method::QueueDelete),
         50 => Ok(Method::QueueUnbind),
-        _ => unreachable!(),
+        _ => Err(Refusal::CommandInvalid),
     }
 }
 
 pub(crate) fn basic(alloc: Global, method: u16, arguments: &[u8]) -> Result<Method, Refusal>
-    requires { Grammar.is_known 60 method ≡ true }
+    requires { is_left_out 60 method ≡ false }
     ensures { Reads 60 method arguments.now result }
 {
     match method {
-        10 | 11 | 20 | 21 | 30 | 31 => basic_consuming(alloc, method, arguments),
-        40 | 50 | 60 | 70 | 71 | 72 => basic_contents(alloc, method, arguments),
+        0..40 => basic_consuming(alloc, method, arguments),
+        40..80 => basic_contents(alloc, method, arguments),
         _ => basic_settling(method, arguments),
     }
 }
 
 fn basic_consuming(alloc: Global, method: u16, arguments: &[u8]) -> Result<Method, Refusal>
-    requires { list_any (λ n. method == n) (10 ∷ 11 ∷ 20 ∷ 21 ∷ 30 ∷ 31 ∷ []) ≡ true }
+    requires { method < 40 }
     ensures { Reads 60 method arguments.now result }
 {
     match method {
@@ -130,12 +125,13 @@ fn basic_consuming(alloc: Global, method: u16, arguments: &[u8]) -> Result<Metho
             let consumer_tag = short_text_in(alloc, arguments)?;
             Ok(Method::BasicCancelOk { consumer_tag })
         }
-        _ => unreachable!(),
+        _ => Err(Refusal::CommandInvalid),
     }
 }
 
 fn basic_contents(alloc: Global, method: u16, arguments: &[u8]) -> Result<Method, Refusal>
-    requires { list_any (λ n. method == n) (40 ∷ 50 ∷ 60 ∷ 70 ∷ 71 ∷ 72 ∷ []) ≡ true }
+    requires before { 40 ≤ method }
+    requires behind { method < 80 }
     ensures { Reads 60 method arguments.now result }
 {
     match method {
@@ -148,12 +144,13 @@ fn basic_contents(alloc: Global, method: u16, arguments: &[u8]) -> Result<Method
             let reserved = short_text_in(alloc, arguments)?;
             Ok(Method::BasicGetEmpty { reserved })
         }
-        _ => unreachable!(),
+        _ => Err(Refusal::CommandInvalid),
     }
 }
 
 fn basic_settling(method: u16, arguments: &[u8]) -> Result<Method, Refusal>
-    requires { list_any (λ n. method == n) (80 ∷ 90 ∷ 110 ∷ 111 ∷ 120 ∷ []) ≡ true }
+    requires high { 80 ≤ method }
+    requires not_left_out { is_left_out 60 method ≡ false }
     ensures { Reads 60 method arguments.now result }
 {
     match method {
@@ -168,12 +165,11 @@ fn basic_settling(method: u16, arguments: &[u8]) -> Result<Method, Refusal>
             Ok(Method::BasicRecoverOk)
         }
         120 => Ok(Method::BasicNack(nack_in(arguments)?)),
-        _ => unreachable!(),
+        _ => Err(Refusal::CommandInvalid),
     }
 }
 
 pub(crate) fn confirm(method: u16, arguments: &[u8]) -> Result<Method, Refusal>
-    requires { Grammar.is_known 85 method ≡ true }
     ensures { Reads 85 method arguments.now result }
 {
     match method {
@@ -185,6 +181,6 @@ pub(crate) fn confirm(method: u16, arguments: &[u8]) -> Result<Method, Refusal>
             nothing_in(arguments)?;
             Ok(Method::ConfirmSelectOk)
         }
-        _ => unreachable!(),
+        _ => Err(Refusal::CommandInvalid),
     }
 }

@@ -7,17 +7,17 @@
 
 mod classes;
 mod fields;
-mod known;
 mod laws;
 mod lines;
 mod pieces;
 mod putting;
 mod reading;
 mod refusals;
+mod tables;
+mod taking;
 mod writing;
 
 pub use laws::one_method;
-pub use pieces::WriteError;
 pub use reading::read_method;
-pub use refusals::Refusal;
+pub use refusals::{Refusal, WriteError};
 pub use writing::{put_method, spelled_len, write_method};

@@ -1,310 +1,288 @@
-//! Each method as it is written.
+//! The arguments of each method, as they are written.
 
 ghost use Rattle.std.specs.Prelude.{◌≡◌};
+ghost use Rattle.model.specs.Grammar.{arguments};
+ghost use Rattle.model.specs.declared.methods.Method.TheVariants.{ConnectionStart, ConnectionStartOk, ConnectionTune, ConnectionOpen, ConnectionClose, ExchangeDeclare, QueueDeclare, QueueDeclareOk, QueuePurge, BasicQos, BasicConsume, BasicCancel, BasicPublish, BasicReturn, BasicDeliver, BasicGet, BasicGetOk, BasicAck, BasicReject, BasicNack};
 ghost use Rattle.methods.specs.declared.pieces.Piece.TheVariants.{Nothing};
-ghost use Rattle.methods.specs.Writing.{row_in, row_of};
+ghost use Rattle.methods.specs.Pieces.{given};
 
-use crate::pieces::{Line, Piece};
-use model::Method;
+use crate::pieces::{NOTHING, Piece, Pieces};
+use model::{
+    Ack, Cancel, Close, Consume, Deliver, Get, GetOk, Method, Nack, Open, Publish, Purge, Qos,
+    QueueDeclared, Reject, Return, Start, StartOk, Tuning,
+};
 
-/// The method's ids and arguments.
-pub fn line_of(m: &Method) -> Line<'_>
-    ensures { row_in result ≡ row_of m.now }
+/// The method's arguments.
+pub(crate) fn arguments_of(method: &Method) -> Pieces<'_>
+    ensures { given result ≡ arguments method.now }
 {
-    match m {
-        Method::ConnectionStart(s) => five(
-            10,
-            10,
-            Piece::Octet(s.version_major),
-            Piece::Octet(s.version_minor),
-            Piece::Pairs(&s.server_properties),
-            Piece::LongText(&s.mechanisms),
-            Piece::LongText(&s.locales),
-        ),
-        Method::ConnectionStartOk(s) => four(
-            10,
-            11,
-            Piece::Pairs(&s.client_properties),
-            Piece::ShortText(&s.mechanism),
-            Piece::LongText(&s.response),
-            Piece::ShortText(&s.locale),
-        ),
-        Method::ConnectionTune(t) => three(
-            10,
-            30,
-            Piece::Short(t.channel_max),
-            Piece::Long(t.frame_max),
-            Piece::Short(t.heartbeat),
-        ),
-        Method::ConnectionTuneOk(t) => three(
-            10,
-            31,
-            Piece::Short(t.channel_max),
-            Piece::Long(t.frame_max),
-            Piece::Short(t.heartbeat),
-        ),
-        Method::ConnectionOpen(o) => three(
-            10,
-            40,
-            Piece::ShortText(&o.virtual_host),
-            Piece::ShortText(&o.reserved_text),
-            Piece::Bit(o.reserved_bit),
-        ),
-        Method::ConnectionOpenOk { reserved } => one(10, 41, Piece::ShortText(reserved)),
-        Method::ConnectionClose(c) => four(
-            10,
-            50,
-            Piece::Short(c.reply_code),
-            Piece::ShortText(&c.reply_text),
-            Piece::Short(c.class_id),
-            Piece::Short(c.method_id),
-        ),
-        Method::ConnectionCloseOk => bare(10, 51),
-        Method::ChannelOpen { reserved } => one(20, 10, Piece::ShortText(reserved)),
-        Method::ChannelOpenOk { reserved } => one(20, 11, Piece::LongText(reserved)),
-        Method::ChannelFlow { active } => one(20, 20, Piece::Bit(*active)),
-        Method::ChannelFlowOk { active } => one(20, 21, Piece::Bit(*active)),
-        Method::ChannelClose(c) => four(
-            20,
-            40,
-            Piece::Short(c.reply_code),
-            Piece::ShortText(&c.reply_text),
-            Piece::Short(c.class_id),
-            Piece::Short(c.method_id),
-        ),
-        Method::ChannelCloseOk => bare(20, 41),
-        Method::ExchangeDeclare(d) => five(
-            40,
-            10,
-            Piece::Short(d.reserved),
-            Piece::ShortText(&d.exchange),
-            Piece::ShortText(&d.kind),
-            Piece::FiveBits(d.passive, d.durable, d.auto_delete, d.internal, d.no_wait),
-            Piece::Pairs(&d.arguments),
-        ),
-        Method::ExchangeDeclareOk => bare(40, 11),
-        Method::ExchangeDelete => bare(40, 20),
-        Method::ExchangeBind => bare(40, 30),
-        Method::ExchangeUnbind => bare(40, 40),
-        Method::QueueDeclare(d) => four(
-            50,
-            10,
-            Piece::Short(d.reserved),
-            Piece::ShortText(&d.queue),
-            Piece::FiveBits(d.passive, d.durable, d.exclusive, d.auto_delete, d.no_wait),
-            Piece::Pairs(&d.arguments),
-        ),
-        Method::QueueDeclareOk(d) => three(
-            50,
-            11,
-            Piece::ShortText(&d.queue),
-            Piece::Long(d.message_count),
-            Piece::Long(d.consumer_count),
-        ),
-        Method::QueueBind => bare(50, 20),
-        Method::QueuePurge(p) => three(
-            50,
-            30,
-            Piece::Short(p.reserved),
-            Piece::ShortText(&p.queue),
-            Piece::Bit(p.no_wait),
-        ),
-        Method::QueuePurgeOk { message_count } => one(50, 31, Piece::Long(*message_count)),
-        Method::QueueDelete => bare(50, 40),
-        Method::QueueUnbind => bare(50, 50),
-        Method::BasicQos(q) => three(
-            60,
-            10,
-            Piece::Long(q.prefetch_size),
-            Piece::Short(q.prefetch_count),
-            Piece::Bit(q.global),
-        ),
-        Method::BasicQosOk => bare(60, 11),
-        Method::BasicConsume(c) => five(
-            60,
-            20,
-            Piece::Short(c.reserved),
-            Piece::ShortText(&c.queue),
-            Piece::ShortText(&c.consumer_tag),
-            Piece::FourBits(c.no_local, c.no_ack, c.exclusive, c.no_wait),
-            Piece::Pairs(&c.arguments),
-        ),
-        Method::BasicConsumeOk { consumer_tag } => one(60, 21, Piece::ShortText(consumer_tag)),
-        Method::BasicCancel(c) => two(
-            60,
-            30,
-            Piece::ShortText(&c.consumer_tag),
-            Piece::Bit(c.no_wait),
-        ),
-        Method::BasicCancelOk { consumer_tag } => one(60, 31, Piece::ShortText(consumer_tag)),
-        Method::BasicPublish(p) => four(
-            60,
-            40,
-            Piece::Short(p.reserved),
-            Piece::ShortText(&p.exchange),
-            Piece::ShortText(&p.routing_key),
-            Piece::TwoBits(p.mandatory, p.immediate),
-        ),
-        Method::BasicReturn(r) => four(
-            60,
-            50,
-            Piece::Short(r.reply_code),
-            Piece::ShortText(&r.reply_text),
-            Piece::ShortText(&r.exchange),
-            Piece::ShortText(&r.routing_key),
-        ),
-        Method::BasicDeliver(d) => five(
-            60,
-            60,
-            Piece::ShortText(&d.consumer_tag),
-            Piece::LongLong(d.delivery_tag),
-            Piece::Bit(d.redelivered),
-            Piece::ShortText(&d.exchange),
-            Piece::ShortText(&d.routing_key),
-        ),
-        Method::BasicGet(g) => three(
-            60,
-            70,
-            Piece::Short(g.reserved),
-            Piece::ShortText(&g.queue),
-            Piece::Bit(g.no_ack),
-        ),
-        Method::BasicGetOk(g) => five(
-            60,
-            71,
-            Piece::LongLong(g.delivery_tag),
-            Piece::Bit(g.redelivered),
-            Piece::ShortText(&g.exchange),
-            Piece::ShortText(&g.routing_key),
-            Piece::Long(g.message_count),
-        ),
-        Method::BasicGetEmpty { reserved } => one(60, 72, Piece::ShortText(reserved)),
-        Method::BasicAck(a) => two(
-            60,
-            80,
-            Piece::LongLong(a.delivery_tag),
-            Piece::Bit(a.multiple),
-        ),
-        Method::BasicReject(r) => two(
-            60,
-            90,
-            Piece::LongLong(r.delivery_tag),
-            Piece::Bit(r.requeue),
-        ),
-        Method::BasicRecover { requeue } => one(60, 110, Piece::Bit(*requeue)),
-        Method::BasicRecoverOk => bare(60, 111),
-        Method::BasicNack(n) => two(
-            60,
-            120,
-            Piece::LongLong(n.delivery_tag),
-            Piece::TwoBits(n.multiple, n.requeue),
-        ),
-        Method::ConfirmSelect { no_wait } => one(85, 10, Piece::Bit(*no_wait)),
-        Method::ConfirmSelectOk => bare(85, 11),
+    match method {
+        Method::ConnectionStart(s) => of_start(s),
+        Method::ConnectionStartOk(s) => of_start_ok(s),
+        Method::ConnectionTune(t) => of_tuning(t),
+        Method::ConnectionTuneOk(t) => of_tuning(t),
+        Method::ConnectionOpen(o) => of_open(o),
+        Method::ConnectionOpenOk { reserved } => one(Piece::ShortText(reserved.as_bytes())),
+        Method::ConnectionClose(c) => of_close(c),
+        Method::ChannelOpen { reserved } => one(Piece::ShortText(reserved.as_bytes())),
+        Method::ChannelOpenOk { reserved } => one(Piece::LongText(reserved.as_bytes())),
+        Method::ChannelFlow { active } => one(Piece::Bit(*active)),
+        Method::ChannelFlowOk { active } => one(Piece::Bit(*active)),
+        Method::ChannelClose(c) => of_close(c),
+        Method::ExchangeDeclare(d) => of_exchange_declare(d),
+        Method::QueueDeclare(d) => of_queue_declare(d),
+        Method::QueueDeclareOk(d) => of_queue_declared(d),
+        Method::QueuePurge(p) => of_purge(p),
+        Method::QueuePurgeOk { message_count } => one(Piece::Long(*message_count)),
+        Method::BasicQos(q) => of_qos(q),
+        Method::BasicConsume(c) => of_consume(c),
+        Method::BasicConsumeOk { consumer_tag } => one(Piece::ShortText(consumer_tag.as_bytes())),
+        Method::BasicCancel(c) => of_cancel(c),
+        Method::BasicCancelOk { consumer_tag } => one(Piece::ShortText(consumer_tag.as_bytes())),
+        Method::BasicPublish(p) => of_publish(p),
+        Method::BasicReturn(r) => of_return(r),
+        Method::BasicDeliver(d) => of_deliver(d),
+        Method::BasicGet(g) => of_get(g),
+        Method::BasicGetOk(g) => of_get_ok(g),
+        Method::BasicGetEmpty { reserved } => one(Piece::ShortText(reserved.as_bytes())),
+        Method::BasicAck(a) => of_ack(a),
+        Method::BasicReject(r) => of_reject(r),
+        Method::BasicRecover { requeue } => one(Piece::Bit(*requeue)),
+        Method::BasicNack(n) => of_nack(n),
+        Method::ConfirmSelect { no_wait } => one(Piece::Bit(*no_wait)),
+        _ => NOTHING,
     }
 }
 
-fn bare<'a>(class: u16, method: u16) -> Line<'a>
-    ensures { result ≡ record { class = class; method = method; first = Nothing; second = Nothing; third = Nothing; fourth = Nothing; fifth = Nothing } }
+/// One argument alone.
+fn one(first: Piece<'_>) -> Pieces<'_>
+    ensures { result ≡ record { first = first.entry; second = Nothing; third = Nothing; fourth = Nothing; fifth = Nothing } }
 {
-    Line {
-        class,
-        method,
-        first: Piece::Nothing,
-        second: Piece::Nothing,
-        third: Piece::Nothing,
-        fourth: Piece::Nothing,
-        fifth: Piece::Nothing,
+    Pieces { first, ..NOTHING }
+}
+
+fn of_start(s: &Start) -> Pieces<'_>
+    ensures { given result ≡ arguments (ConnectionStart s.now) }
+{
+    Pieces {
+        first: Piece::Octet(s.version_major),
+        second: Piece::Octet(s.version_minor),
+        third: Piece::Table(s.server_properties.as_bytes()),
+        fourth: Piece::LongText(s.mechanisms.as_bytes()),
+        fifth: Piece::LongText(s.locales.as_bytes()),
     }
 }
 
-fn one<'a>(class: u16, method: u16, first: Piece<'a>) -> Line<'a>
-    ensures { result ≡ record { class = class; method = method; first = first.entry; second = Nothing; third = Nothing; fourth = Nothing; fifth = Nothing } }
+fn of_start_ok(s: &StartOk) -> Pieces<'_>
+    ensures { given result ≡ arguments (ConnectionStartOk s.now) }
 {
-    Line {
-        class,
-        method,
-        first,
-        second: Piece::Nothing,
-        third: Piece::Nothing,
-        fourth: Piece::Nothing,
-        fifth: Piece::Nothing,
+    Pieces {
+        first: Piece::Table(s.client_properties.as_bytes()),
+        second: Piece::ShortText(s.mechanism.as_bytes()),
+        third: Piece::LongText(s.response.as_bytes()),
+        fourth: Piece::ShortText(s.locale.as_bytes()),
+        ..NOTHING
     }
 }
 
-fn two<'a>(class: u16, method: u16, first: Piece<'a>, second: Piece<'a>) -> Line<'a>
-    ensures { result ≡ record { class = class; method = method; first = first.entry; second = second.entry; third = Nothing; fourth = Nothing; fifth = Nothing } }
+fn of_tuning(t: &Tuning) -> Pieces<'_>
+    ensures { given result ≡ arguments (ConnectionTune t.now) }
 {
-    Line {
-        class,
-        method,
-        first,
-        second,
-        third: Piece::Nothing,
-        fourth: Piece::Nothing,
-        fifth: Piece::Nothing,
+    Pieces {
+        first: Piece::Short(t.channel_max),
+        second: Piece::Long(t.frame_max),
+        third: Piece::Short(t.heartbeat),
+        ..NOTHING
     }
 }
 
-fn three<'a>(
-    class: u16,
-    method: u16,
-    first: Piece<'a>,
-    second: Piece<'a>,
-    third: Piece<'a>,
-) -> Line<'a>
-    ensures { result ≡ record { class = class; method = method; first = first.entry; second = second.entry; third = third.entry; fourth = Nothing; fifth = Nothing } }
+fn of_open(o: &Open) -> Pieces<'_>
+    ensures { given result ≡ arguments (ConnectionOpen o.now) }
 {
-    Line {
-        class,
-        method,
-        first,
-        second,
-        third,
-        fourth: Piece::Nothing,
-        fifth: Piece::Nothing,
+    Pieces {
+        first: Piece::ShortText(o.virtual_host.as_bytes()),
+        second: Piece::ShortText(o.reserved_text.as_bytes()),
+        third: Piece::Bit(o.reserved_bit),
+        ..NOTHING
     }
 }
 
-fn four<'a>(
-    class: u16,
-    method: u16,
-    first: Piece<'a>,
-    second: Piece<'a>,
-    third: Piece<'a>,
-    fourth: Piece<'a>,
-) -> Line<'a>
-    ensures { result ≡ record { class = class; method = method; first = first.entry; second = second.entry; third = third.entry; fourth = fourth.entry; fifth = Nothing } }
+fn of_close(c: &Close) -> Pieces<'_>
+    ensures { given result ≡ arguments (ConnectionClose c.now) }
 {
-    Line {
-        class,
-        method,
-        first,
-        second,
-        third,
-        fourth,
-        fifth: Piece::Nothing,
+    Pieces {
+        first: Piece::Short(c.reply_code),
+        second: Piece::ShortText(c.reply_text.as_bytes()),
+        third: Piece::Short(c.class_id),
+        fourth: Piece::Short(c.method_id),
+        ..NOTHING
     }
 }
 
-fn five<'a>(
-    class: u16,
-    method: u16,
-    first: Piece<'a>,
-    second: Piece<'a>,
-    third: Piece<'a>,
-    fourth: Piece<'a>,
-    fifth: Piece<'a>,
-) -> Line<'a>
-    ensures { result ≡ record { class = class; method = method; first = first.entry; second = second.entry; third = third.entry; fourth = fourth.entry; fifth = fifth.entry } }
+fn of_exchange_declare(e: &model::ExchangeDeclare) -> Pieces<'_>
+    ensures { given result ≡ arguments (ExchangeDeclare e.now) }
 {
-    Line {
-        class,
-        method,
-        first,
-        second,
-        third,
-        fourth,
-        fifth,
+    Pieces {
+        first: Piece::Short(e.reserved),
+        second: Piece::ShortText(e.exchange.as_bytes()),
+        third: Piece::ShortText(e.kind.as_bytes()),
+        fourth: Piece::FiveBits(e.passive, e.durable, e.auto_delete, e.internal, e.no_wait),
+        fifth: Piece::Table(e.arguments.as_bytes()),
+    }
+}
+
+fn of_queue_declare(q: &model::QueueDeclare) -> Pieces<'_>
+    ensures { given result ≡ arguments (QueueDeclare q.now) }
+{
+    Pieces {
+        first: Piece::Short(q.reserved),
+        second: Piece::ShortText(q.queue.as_bytes()),
+        third: Piece::FiveBits(q.passive, q.durable, q.exclusive, q.auto_delete, q.no_wait),
+        fourth: Piece::Table(q.arguments.as_bytes()),
+        ..NOTHING
+    }
+}
+
+fn of_queue_declared(q: &QueueDeclared) -> Pieces<'_>
+    ensures { given result ≡ arguments (QueueDeclareOk q.now) }
+{
+    Pieces {
+        first: Piece::ShortText(q.queue.as_bytes()),
+        second: Piece::Long(q.message_count),
+        third: Piece::Long(q.consumer_count),
+        ..NOTHING
+    }
+}
+
+fn of_purge(p: &Purge) -> Pieces<'_>
+    ensures { given result ≡ arguments (QueuePurge p.now) }
+{
+    Pieces {
+        first: Piece::Short(p.reserved),
+        second: Piece::ShortText(p.queue.as_bytes()),
+        third: Piece::Bit(p.no_wait),
+        ..NOTHING
+    }
+}
+
+fn of_qos(q: &Qos) -> Pieces<'_>
+    ensures { given result ≡ arguments (BasicQos q.now) }
+{
+    Pieces {
+        first: Piece::Long(q.prefetch_size),
+        second: Piece::Short(q.prefetch_count),
+        third: Piece::Bit(q.global),
+        ..NOTHING
+    }
+}
+
+fn of_consume(c: &Consume) -> Pieces<'_>
+    ensures { given result ≡ arguments (BasicConsume c.now) }
+{
+    Pieces {
+        first: Piece::Short(c.reserved),
+        second: Piece::ShortText(c.queue.as_bytes()),
+        third: Piece::ShortText(c.consumer_tag.as_bytes()),
+        fourth: Piece::FourBits(c.no_local, c.no_ack, c.exclusive, c.no_wait),
+        fifth: Piece::Table(c.arguments.as_bytes()),
+    }
+}
+
+fn of_cancel(c: &Cancel) -> Pieces<'_>
+    ensures { given result ≡ arguments (BasicCancel c.now) }
+{
+    Pieces {
+        first: Piece::ShortText(c.consumer_tag.as_bytes()),
+        second: Piece::Bit(c.no_wait),
+        ..NOTHING
+    }
+}
+
+fn of_publish(p: &Publish) -> Pieces<'_>
+    ensures { given result ≡ arguments (BasicPublish p.now) }
+{
+    Pieces {
+        first: Piece::Short(p.reserved),
+        second: Piece::ShortText(p.exchange.as_bytes()),
+        third: Piece::ShortText(p.routing_key.as_bytes()),
+        fourth: Piece::TwoBits(p.mandatory, p.immediate),
+        ..NOTHING
+    }
+}
+
+fn of_return(r: &Return) -> Pieces<'_>
+    ensures { given result ≡ arguments (BasicReturn r.now) }
+{
+    Pieces {
+        first: Piece::Short(r.reply_code),
+        second: Piece::ShortText(r.reply_text.as_bytes()),
+        third: Piece::ShortText(r.exchange.as_bytes()),
+        fourth: Piece::ShortText(r.routing_key.as_bytes()),
+        ..NOTHING
+    }
+}
+
+fn of_deliver(d: &Deliver) -> Pieces<'_>
+    ensures { given result ≡ arguments (BasicDeliver d.now) }
+{
+    Pieces {
+        first: Piece::ShortText(d.consumer_tag.as_bytes()),
+        second: Piece::LongLong(d.delivery_tag),
+        third: Piece::Bit(d.redelivered),
+        fourth: Piece::ShortText(d.exchange.as_bytes()),
+        fifth: Piece::ShortText(d.routing_key.as_bytes()),
+    }
+}
+
+fn of_get(g: &Get) -> Pieces<'_>
+    ensures { given result ≡ arguments (BasicGet g.now) }
+{
+    Pieces {
+        first: Piece::Short(g.reserved),
+        second: Piece::ShortText(g.queue.as_bytes()),
+        third: Piece::Bit(g.no_ack),
+        ..NOTHING
+    }
+}
+
+fn of_get_ok(g: &GetOk) -> Pieces<'_>
+    ensures { given result ≡ arguments (BasicGetOk g.now) }
+{
+    Pieces {
+        first: Piece::LongLong(g.delivery_tag),
+        second: Piece::Bit(g.redelivered),
+        third: Piece::ShortText(g.exchange.as_bytes()),
+        fourth: Piece::ShortText(g.routing_key.as_bytes()),
+        fifth: Piece::Long(g.message_count),
+    }
+}
+
+fn of_ack(a: &Ack) -> Pieces<'_>
+    ensures { given result ≡ arguments (BasicAck a.now) }
+{
+    Pieces {
+        first: Piece::LongLong(a.delivery_tag),
+        second: Piece::Bit(a.multiple),
+        ..NOTHING
+    }
+}
+
+fn of_reject(r: &Reject) -> Pieces<'_>
+    ensures { given result ≡ arguments (BasicReject r.now) }
+{
+    Pieces {
+        first: Piece::LongLong(r.delivery_tag),
+        second: Piece::Bit(r.requeue),
+        ..NOTHING
+    }
+}
+
+fn of_nack(n: &Nack) -> Pieces<'_>
+    ensures { given result ≡ arguments (BasicNack n.now) }
+{
+    Pieces {
+        first: Piece::LongLong(n.delivery_tag),
+        second: Piece::TwoBits(n.multiple, n.requeue),
+        ..NOTHING
     }
 }

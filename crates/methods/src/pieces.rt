@@ -1,29 +1,50 @@
-//! Arguments as they are written.
+//! Arguments, between the bytes of a payload and a method.
 
+ghost use Rattle.std.specs.Prelude.{◌≡◌, [], ◌∷◌, Some, IfOk};
+ghost use Rattle.model.specs.Grammar as said;
+ghost use Rattle.field_table.specs.Arguments.{an_octet, a_short, a_long, a_long_long, a_short_text, a_long_text, a_field_table, some_bits};
+
+use crate::refusals::Refusal;
+use crate::tables::table_of;
 use model::{Table, Text};
+use std::alloc::{AllocError, Global};
 
-/// An argument, or none.
+/// What an argument is; of bits that share an octet, how many.
 #[derive(Clone, Copy, Drop)]
-pub enum Piece<'a> {
+pub(crate) enum Kind {
+    Octet,
+    Short,
+    Long,
+    LongLong,
+    ShortText,
+    LongText,
+    Table,
+    Bit,
+    TwoBits,
+    FourBits,
+    FiveBits,
+}
+
+/// An argument, or none. Texts and tables are still someone else's bytes.
+#[derive(Clone, Copy, Drop)]
+pub(crate) enum Piece<'a> {
     Nothing,
     Octet(u8),
     Short(u16),
     Long(u32),
     LongLong(u64),
-    ShortText(&'a Text),
-    LongText(&'a Text),
-    Pairs(&'a Table),
+    ShortText(&'a [u8]),
+    LongText(&'a [u8]),
+    Table(&'a [u8]),
     Bit(bool),
     TwoBits(bool, bool),
     FourBits(bool, bool, bool, bool),
     FiveBits(bool, bool, bool, bool, bool),
 }
 
-/// A method as it is written: class, method, and at most five arguments.
+/// The arguments of a method, at most five, in the order of the wire.
 #[derive(Clone, Copy, Drop)]
-pub struct Line<'a> {
-    pub class: u16,
-    pub method: u16,
+pub(crate) struct Pieces<'a> {
     pub first: Piece<'a>,
     pub second: Piece<'a>,
     pub third: Piece<'a>,
@@ -31,11 +52,127 @@ pub struct Line<'a> {
     pub fifth: Piece<'a>,
 }
 
-/// Why no method was written.
-#[derive(Clone, Copy, PartialEq, Eq, Debug, Drop)]
-pub enum WriteError {
-    /// The method has no spelling: a text is too long, or a table is none. Reply code 502, syntax-error.
-    SyntaxError,
-    /// Memory was refused.
-    Memory,
+/// No arguments.
+pub(crate) const NOTHING: Pieces<'static> = Pieces {
+    first: Piece::Nothing,
+    second: Piece::Nothing,
+    third: Piece::Nothing,
+    fourth: Piece::Nothing,
+    fifth: Piece::Nothing,
+};
+
+impl<'a> Piece<'a> {
+    ghost use Rattle.methods.specs.Pieces.{seen, IsOf};
+    ghost use Rattle.methods.specs.Reading.{IsTableOr};
+
+    pub(crate) fn octet(&self) -> u8
+        requires { IsOf an_octet self.now }
+        ensures { seen self.now ≡ Some (said.Octet result) }
+    {
+        match self {
+            Piece::Octet(number) => *number,
+            _ => unreachable!(),
+        }
+    }
+
+    pub(crate) fn short(&self) -> u16
+        requires { IsOf a_short self.now }
+        ensures { seen self.now ≡ Some (said.Short result) }
+    {
+        match self {
+            Piece::Short(number) => *number,
+            _ => unreachable!(),
+        }
+    }
+
+    pub(crate) fn long(&self) -> u32
+        requires { IsOf a_long self.now }
+        ensures { seen self.now ≡ Some (said.Long result) }
+    {
+        match self {
+            Piece::Long(number) => *number,
+            _ => unreachable!(),
+        }
+    }
+
+    pub(crate) fn long_long(&self) -> u64
+        requires { IsOf a_long_long self.now }
+        ensures { seen self.now ≡ Some (said.Long_long result) }
+    {
+        match self {
+            Piece::LongLong(number) => *number,
+            _ => unreachable!(),
+        }
+    }
+
+    pub(crate) fn short_text(&self, alloc: Global) -> Result<Text, AllocError>
+        requires { IsOf a_short_text self.now }
+        ensures { IfOk result (λ text. seen self.now ≡ Some (said.Short_text text)) }
+    {
+        match self {
+            Piece::ShortText(text) => Text::from_slice(alloc, text),
+            _ => unreachable!(),
+        }
+    }
+
+    pub(crate) fn long_text(&self, alloc: Global) -> Result<Text, AllocError>
+        requires { IsOf a_long_text self.now }
+        ensures { IfOk result (λ text. seen self.now ≡ Some (said.Long_text text)) }
+    {
+        match self {
+            Piece::LongText(text) => Text::from_slice(alloc, text),
+            _ => unreachable!(),
+        }
+    }
+
+    /// The table of these pairs, if they are pairs.
+    pub(crate) fn table(&self, alloc: Global) -> Result<Table, Refusal>
+        requires { IsOf a_field_table self.now }
+        ensures { IsTableOr (seen self.now) result }
+    {
+        match self {
+            Piece::Table(pairs) => table_of(alloc, pairs),
+            _ => unreachable!(),
+        }
+    }
+
+    pub(crate) fn bit(&self) -> bool
+        requires { IsOf (some_bits 1) self.now }
+        ensures { seen self.now ≡ Some (said.Bits (result ∷ [])) }
+    {
+        match self {
+            Piece::Bit(bit) => *bit,
+            _ => unreachable!(),
+        }
+    }
+
+    pub(crate) fn two_bits(&self) -> (bool, bool)
+        requires { IsOf (some_bits 2) self.now }
+        ensures { seen self.now ≡ Some (said.Bits (result.0 ∷ result.1 ∷ [])) }
+    {
+        match self {
+            Piece::TwoBits(a, b) => (*a, *b),
+            _ => unreachable!(),
+        }
+    }
+
+    pub(crate) fn four_bits(&self) -> [bool; 4]
+        requires { IsOf (some_bits 4) self.now }
+        ensures { seen self.now ≡ Some (said.Bits result) }
+    {
+        match self {
+            Piece::FourBits(a, b, c, d) => [*a, *b, *c, *d],
+            _ => unreachable!(),
+        }
+    }
+
+    pub(crate) fn five_bits(&self) -> [bool; 5]
+        requires { IsOf (some_bits 5) self.now }
+        ensures { seen self.now ≡ Some (said.Bits result) }
+    {
+        match self {
+            Piece::FiveBits(a, b, c, d, e) => [*a, *b, *c, *d, *e],
+            _ => unreachable!(),
+        }
+    }
 }

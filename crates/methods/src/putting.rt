@@ -1,27 +1,30 @@
-//! Lines are measured and put behind bytes.
+//! Arguments are measured and put behind bytes.
 
 ghost use Rattle.std.specs.Prelude.{◌≡◌, ◌+◌, ◌≤◌, ◌<◌, ◌^◌, [], ◌∷◌, ◌++◌, length, vec_len, vec_capacity, MatchOption, IfSome};
 ghost use Rattle.model.specs.Grammar.{octet as octet_of};
-ghost use Rattle.methods.specs.Writing.{piece_bytes, IsPiece, IsLine, spelled};
+ghost use Rattle.model.specs.Headers.{value_of, IsValue};
+ghost use Rattle.methods.specs.Pieces.{seen};
+ghost use Rattle.methods.specs.Writing.{pieces_bytes, AreSpelled};
 
-use crate::pieces::{Line, Piece};
+use crate::pieces::{Piece, Pieces};
 use field_table::{is_table, put_bytes};
 
-/// How many bytes a line has, with its ids, if its texts are not too long.
-pub fn line_len(line: &Line<'_>) -> Option<usize>
-    ensures { MatchOption result (IsLine line.now → ⊥) (λ n. IsLine line.now × (n ≡ length (spelled line.now))) }
+/// How many bytes arguments have, if their texts are not too long and their tables are tables.
+pub(crate) fn pieces_len(pieces: &Pieces<'_>) -> Option<usize>
+    ensures cases { MatchOption result (AreSpelled pieces.now → ⊥) (λ n. AreSpelled pieces.now × (n ≡ length (pieces_bytes pieces.now))) }
+    ensures bound { IfSome result (λ n. n < 2 ^ 36) }
 {
-    let first = piece_len(&line.first)?;
-    let second = piece_len(&line.second)?;
-    let third = piece_len(&line.third)?;
-    let fourth = piece_len(&line.fourth)?;
-    let fifth = piece_len(&line.fifth)?;
-    Some(4 + first + second + third + fourth + fifth)
+    let first = piece_len(&pieces.first)?;
+    let second = piece_len(&pieces.second)?;
+    let third = piece_len(&pieces.third)?;
+    let fourth = piece_len(&pieces.fourth)?;
+    let fifth = piece_len(&pieces.fifth)?;
+    Some(first + second + third + fourth + fifth)
 }
 
 // How many bytes a piece has, if its text is not too long.
 fn piece_len(piece: &Piece<'_>) -> Option<usize>
-    ensures cases { MatchOption result (IsPiece piece.now → ⊥) (λ n. IsPiece piece.now × (n ≡ length (piece_bytes piece.now))) }
+    ensures cases { MatchOption result (IsValue (seen piece.now) → ⊥) (λ n. IsValue (seen piece.now) × (n ≡ length (value_of (seen piece.now)))) }
     ensures bound { IfSome result (λ n. n < 2 ^ 33) }
 {
     match piece {
@@ -56,42 +59,34 @@ fn piece_len(piece: &Piece<'_>) -> Option<usize>
                 None
             }
         }
-        Piece::Pairs(t) => {
-            if is_table(t.as_bytes()) {
-                Some(4 + t.len())
-            } else {
-                None
-            }
-        }
+        Piece::Table(t) => { if is_table(t) { Some(4 + t.len()) } else { None } }
         Piece::Bit(_) => Some(1),
-        Piece::TwoBits(_, _) => Some(1),
-        Piece::FourBits(_, _, _, _) => Some(1),
-        Piece::FiveBits(_, _, _, _, _) => Some(1),
+        Piece::TwoBits(..) => Some(1),
+        Piece::FourBits(..) => Some(1),
+        Piece::FiveBits(..) => Some(1),
     }
 }
 
-/// Appends a line for which there is room.
-pub fn put_line(out: &mut Vec<u8>, line: &Line<'_>)
-    requires fits { IsLine line.now }
-    requires room { vec_len out.old + length (spelled line.now) ≤ vec_capacity out.old }
-    ensures items { out.new.items ≡ out.old.items ++ spelled line.now }
-    ensures len { vec_len out.new ≡ vec_len out.old + length (spelled line.now) }
+/// Appends arguments for which there is room.
+pub(crate) fn put_pieces(out: &mut Vec<u8>, pieces: &Pieces<'_>)
+    requires fits { AreSpelled pieces.now }
+    requires room { vec_len out.old + length (pieces_bytes pieces.now) ≤ vec_capacity out.old }
+    ensures items { out.new.items ≡ out.old.items ++ pieces_bytes pieces.now }
+    ensures len { vec_len out.new ≡ vec_len out.old + length (pieces_bytes pieces.now) }
     ensures capacity { vec_capacity out.old ≤ vec_capacity out.new }
 {
-    put_bytes(out, &line.class.to_be_bytes());
-    put_bytes(out, &line.method.to_be_bytes());
-    put_piece(out, &line.first);
-    put_piece(out, &line.second);
-    put_piece(out, &line.third);
-    put_piece(out, &line.fourth);
-    put_piece(out, &line.fifth);
+    put_piece(out, &pieces.first);
+    put_piece(out, &pieces.second);
+    put_piece(out, &pieces.third);
+    put_piece(out, &pieces.fourth);
+    put_piece(out, &pieces.fifth);
 }
 
 fn put_piece(out: &mut Vec<u8>, piece: &Piece<'_>)
-    requires fits { IsPiece piece.now }
-    requires room { vec_len out.old + length (piece_bytes piece.now) ≤ vec_capacity out.old }
-    ensures items { out.new.items ≡ out.old.items ++ piece_bytes piece.now }
-    ensures len { vec_len out.new ≡ vec_len out.old + length (piece_bytes piece.now) }
+    requires fits { IsValue (seen piece.now) }
+    requires room { vec_len out.old + length (value_of (seen piece.now)) ≤ vec_capacity out.old }
+    ensures items { out.new.items ≡ out.old.items ++ value_of (seen piece.now) }
+    ensures len { vec_len out.new ≡ vec_len out.old + length (value_of (seen piece.now)) }
     ensures capacity { vec_capacity out.old ≤ vec_capacity out.new }
 {
     match piece {
@@ -102,15 +97,15 @@ fn put_piece(out: &mut Vec<u8>, piece: &Piece<'_>)
         Piece::LongLong(n) => put_bytes(out, &n.to_be_bytes()),
         Piece::ShortText(t) => {
             put_bytes(out, &[t.len() as u8]);
-            put_bytes(out, t.as_bytes());
+            put_bytes(out, t);
         }
         Piece::LongText(t) => {
             put_bytes(out, &(t.len() as u32).to_be_bytes());
-            put_bytes(out, t.as_bytes());
+            put_bytes(out, t);
         }
-        Piece::Pairs(t) => {
+        Piece::Table(t) => {
             put_bytes(out, &(t.len() as u32).to_be_bytes());
-            put_bytes(out, t.as_bytes());
+            put_bytes(out, t);
         }
         Piece::Bit(b) => put_bytes(out, &[*b as u8]),
         Piece::TwoBits(a, b) => put_bytes(out, &[octet(*a, *b, false, false, false)]),

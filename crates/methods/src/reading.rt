@@ -1,13 +1,13 @@
 //! Methods are read.
 
-ghost use Rattle.std.specs.Prelude.{◌≡◌, ◌<◌, ℕ, List, true, false, length, MatchOption};
+ghost use Rattle.std.specs.Prelude.{◌≡◌, ◌<◌, ℕ, List, false, length, MatchOption};
 ghost use Rattle.model.specs.Grammar;
 ghost use Rattle.model.specs.Grammar.{IsMethod, Spells};
 ghost use Rattle.methods.specs.Reading.{Fails, Tells, IsMethodOr, Starts, Reads};
 
 use crate::classes::{basic, channel, confirm, connection, exchange, queue};
-use crate::known::{is_known, is_left_out};
 use crate::refusals::Refusal;
+use byteorder::{BigEndian, ByteOrder};
 use model::Method;
 use std::alloc::Global;
 
@@ -31,8 +31,8 @@ fn ids_at(payload: &[u8]) -> Option<(u16, u16, &[u8])>
         return None;
     }
     let (front, rest) = payload.split_at(4);
-    let class = u16::from_be_bytes([front[0], front[1]]);
-    let method = u16::from_be_bytes([front[2], front[3]]);
+    let class = BigEndian::read_u16(front);
+    let method = BigEndian::read_u16(&front[2..]);
     Some((class, method, rest))
 }
 
@@ -42,14 +42,18 @@ fn with_ids(alloc: Global, class: u16, method: u16, arguments: &[u8]) -> Result<
     if is_left_out(class, method) {
         return Err(Refusal::NotImplemented);
     }
-    if !is_known(class, method) {
-        return Err(Refusal::CommandInvalid);
-    }
     of_class(alloc, class, method, arguments)
 }
 
+/// The method is one that is never built: class tx, and basic.recover-async.
+fn is_left_out(class: u16, method: u16) -> bool
+    ensures { result ≡ Grammar.is_left_out class method }
+{
+    class == 90 || class == 60 && method == 100
+}
+
 fn of_class(alloc: Global, class: u16, method: u16, arguments: &[u8]) -> Result<Method, Refusal>
-    requires { Grammar.is_known class method ≡ true }
+    requires { Grammar.is_left_out class method ≡ false }
     ensures { Reads class method arguments.now result }
 {
     match class {
@@ -59,6 +63,6 @@ fn of_class(alloc: Global, class: u16, method: u16, arguments: &[u8]) -> Result<
         50 => queue(alloc, method, arguments),
         60 => basic(alloc, method, arguments),
         85 => confirm(method, arguments),
-        _ => unreachable!(),
+        _ => Err(Refusal::CommandInvalid),
     }
 }

@@ -1,4 +1,4 @@
-//! Why a payload is refused.
+//! Why a payload is refused, and why a method is not written.
 
 ghost use Rattle.std.specs.Prelude.{◌≡◌};
 ghost use Rattle.methods.specs.declared.refusals.Refusal.TheVariants.{Memory};
@@ -27,4 +27,13 @@ impl From<AllocError> for Refusal {
     fn from(_e: AllocError) -> Refusal {
         Refusal::Memory
     }
+}
+
+/// Why no method was written.
+#[derive(Clone, Copy, PartialEq, Eq, Debug, Drop)]
+pub enum WriteError {
+    /// The method has no spelling: a text is too long, or a table is none. Reply code 502, syntax-error.
+    SyntaxError,
+    /// Memory was refused.
+    Memory,
 }

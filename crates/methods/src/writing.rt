@@ -2,12 +2,13 @@
 
 ghost use Rattle.std.specs.Prelude.{◌≡◌, ◌+◌, ◌<◌, ◌≤◌, ◌++◌, length, vec_len, vec_capacity, OnOk, IfErr, Err};
 ghost use Rattle.model.specs.Grammar.{method_bytes, IsMethod};
-ghost use Rattle.methods.specs.declared.pieces.WriteError.TheVariants.{Memory};
+ghost use Rattle.methods.specs.declared.refusals.WriteError.TheVariants.{Memory};
 ghost use Rattle.methods.specs.Writing.{Counts, Refused};
 
-use crate::lines::line_of;
-use crate::pieces::WriteError;
-use crate::putting::{line_len, put_line};
+use crate::lines::arguments_of;
+use crate::putting::{pieces_len, put_pieces};
+use crate::refusals::WriteError;
+use field_table::put_bytes;
 use model::Method;
 
 /// Appends the payload of a method frame that spells `m` to `out`. On an error `out` is as it was.
@@ -34,7 +35,8 @@ pub fn write_method(out: &mut Vec<u8>, m: &Method) -> Result<(), WriteError>
 pub fn spelled_len(m: &Method) -> Option<usize>
     ensures { Counts m.now result }
 {
-    line_len(&line_of(m))
+    let len = pieces_len(&arguments_of(m))?;
+    Some(4 + len)
 }
 
 /// Appends the spelling of `m` to `out`, which has room for it. It takes no memory.
@@ -45,5 +47,8 @@ pub fn put_method(out: &mut Vec<u8>, m: &Method)
     ensures len { vec_len out.new ≡ vec_len out.old + length (method_bytes m.now) }
     ensures capacity { vec_capacity out.old ≤ vec_capacity out.new }
 {
-    put_line(out, &line_of(m));
+    let ids = m.ids();
+    put_bytes(out, &ids.class.to_be_bytes());
+    put_bytes(out, &ids.method.to_be_bytes());
+    put_pieces(out, &arguments_of(m));
 }

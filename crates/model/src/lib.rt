@@ -9,6 +9,7 @@ mod events;
 mod messages;
 mod methods;
 mod notes;
+mod numbers;
 mod tables;
 mod texts;
 mod topologies;
@@ -21,6 +22,7 @@ pub use methods::{
     Purge, Qos, QueueDeclare, QueueDeclared, Reject, Return, Start, StartOk, Tuning,
 };
 pub use notes::{Answer, Cause, Note, Way};
+pub use numbers::{Ids, reply_text};
 pub use tables::Table;
 pub use texts::{Text, Token};
 pub use topologies::{Binding, DeclaredQueue, Exchange, ExchangeKind, Mode, Place};

@@ -1,17 +1,14 @@
--- A line's length is its method's.
-use Rattle.std.proofs.Common.{◌≡◌, ◌∙◌, ℕ, List, length, Option, Some, None, ap}
-use Rattle.std.specs.Prelude.{MatchOption}
-use Rattle.model.specs.declared.methods.Method.{Method}
-use Rattle.methods.specs.declared.pieces.Line.{Line}
-use Rattle.methods.specs.Writing.{Counts, IsLine, spelled, row_in, row_of}
-use Rattle.methods.proofs.Rows.{is_line}
+-- A method is as long as its ids and its arguments.
+use Rattle.std.proofs.Common.{ℕ, List, length, ap, arith}
+use Rattle.methods.proofs.Rows.{are}
 use Rattle.methods.proofs.writing.spelled_len.Goals as goal
 
-counts : (m : Method) (l : Line) (r : Option ℕ) → row_in l ≡ row_of m → MatchOption r (IsLine l → ⊥) (λ n. IsLine l × (n ≡ length (spelled l))) → Counts m r
-counts m l None row no_line = λ fits. no_line ((is_line l m row).back fits)
-counts m l (Some n) row line =
-    let is = is_line l m row in
-    (is.fits line.0, line.1 ∙ ap (λ (z : List ℕ). length z) is.bytes)
+pub returns-in_err-len : goal.returns-in_err-len
+returns-in_err-len c = rw c.from_residual.ensures (λ fits. c.in_err-len.ensures.cases ((are c.arguments_of.result c.args.m.now c.arguments_of.ensures).back fits))
 
 pub returns : goal.returns
-returns c = counts c.args.m.now c.line_of.result c.line_len.result c.line_of.ensures c.line_len.ensures
+returns c =
+    let a = are c.arguments_of.result c.args.m.now c.arguments_of.ensures in
+    let len = ap (λ (z : List ℕ). length z) a.bytes in
+    let n = c.in_ok-len.ensures.cases.1 in
+    (a.fits c.in_ok-len.ensures.cases.0, omega (arith, len, n))

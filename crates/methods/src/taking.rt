@@ -1,0 +1,109 @@
+//! Arguments are taken from the front of bytes, by their kinds.
+
+ghost use Rattle.std.specs.Prelude.{◌≡◌, ◌≤◌, length, option_map, None, Some, IfSome, MatchOption};
+ghost use Rattle.field_table.specs.Arguments.{argument_at, arguments_at};
+ghost use Rattle.methods.specs.Pieces.{kind as as_kind, kind_in, kinds_in, seen};
+ghost use Rattle.methods.specs.Reading.{Takes, AreRead, GivesPieces, found};
+
+use crate::pieces::{Kind, Piece, Pieces};
+use crate::refusals::Refusal;
+use field_table::{
+    five_bits_at, four_bits_at, long_at, long_long_at, long_text_at, octet_at, one_bit_at,
+    pairs_at, short_at, short_text_at, two_bits_at,
+};
+
+/// All of the bytes, as arguments of these kinds, at most five.
+pub(crate) fn read<'a>(kinds: &[Kind], bytes: &'a [u8]) -> Result<Pieces<'a>, Refusal>
+    requires { length kinds.now ≤ 5 }
+    ensures { GivesPieces kinds.now result (arguments_at (kinds_in kinds.now) bytes.now) }
+{
+    pieces_at(kinds, bytes).ok_or(Refusal::SyntaxError)
+}
+
+/// All of the bytes, as arguments of these kinds.
+fn pieces_at<'a>(kinds: &[Kind], bytes: &'a [u8]) -> Option<Pieces<'a>>
+    requires { length kinds.now ≤ 5 }
+    ensures { MatchOption result (arguments_at (kinds_in kinds.now) bytes.now ≡ None) (λ p. AreRead kinds.now p (arguments_at (kinds_in kinds.now) bytes.now)) }
+{
+    let (first, kinds, rest) = take(kinds, bytes)?;
+    let (second, kinds, rest) = take(kinds, rest)?;
+    let (third, kinds, rest) = take(kinds, rest)?;
+    let (fourth, kinds, rest) = take(kinds, rest)?;
+    let (fifth, _, rest) = take(kinds, rest)?;
+    if !rest.is_empty() {
+        return None;
+    }
+    Some(Pieces {
+        first,
+        second,
+        third,
+        fourth,
+        fifth,
+    })
+}
+
+/// The first argument, the kinds of the others, and the bytes after it.
+fn take<'k, 'a>(kinds: &'k [Kind], bytes: &'a [u8]) -> Option<(Piece<'a>, &'k [Kind], &'a [u8])>
+    ensures { Takes kinds.now bytes.now result }
+{
+    match kinds.split_first() {
+        None => Some((Piece::Nothing, kinds, bytes)),
+        Some((kind, others)) => {
+            let (piece, rest) = piece_at(*kind, bytes)?;
+            Some((piece, others, rest))
+        }
+    }
+}
+
+/// The argument of this kind, and the bytes after it.
+fn piece_at(kind: Kind, bytes: &[u8]) -> Option<(Piece<'_>, &[u8])>
+    ensures read { option_map (λ x. (seen x.0, x.1.now)) result ≡ found (argument_at (as_kind kind) bytes.now) }
+    ensures kind { IfSome result (λ x. kind_in x.0 ≡ Some (as_kind kind)) }
+{
+    match kind {
+        Kind::Octet => {
+            let (number, rest) = octet_at(bytes)?;
+            Some((Piece::Octet(number), rest))
+        }
+        Kind::Short => {
+            let (number, rest) = short_at(bytes)?;
+            Some((Piece::Short(number), rest))
+        }
+        Kind::Long => {
+            let (number, rest) = long_at(bytes)?;
+            Some((Piece::Long(number), rest))
+        }
+        Kind::LongLong => {
+            let (number, rest) = long_long_at(bytes)?;
+            Some((Piece::LongLong(number), rest))
+        }
+        Kind::ShortText => {
+            let (text, rest) = short_text_at(bytes)?;
+            Some((Piece::ShortText(text), rest))
+        }
+        Kind::LongText => {
+            let (text, rest) = long_text_at(bytes)?;
+            Some((Piece::LongText(text), rest))
+        }
+        Kind::Table => {
+            let (pairs, rest) = pairs_at(bytes)?;
+            Some((Piece::Table(pairs), rest))
+        }
+        Kind::Bit => {
+            let (bit, rest) = one_bit_at(bytes)?;
+            Some((Piece::Bit(bit), rest))
+        }
+        Kind::TwoBits => {
+            let (first, second, rest) = two_bits_at(bytes)?;
+            Some((Piece::TwoBits(first, second), rest))
+        }
+        Kind::FourBits => {
+            let ([a, b, c, d], rest) = four_bits_at(bytes)?;
+            Some((Piece::FourBits(a, b, c, d), rest))
+        }
+        Kind::FiveBits => {
+            let ([a, b, c, d, e], rest) = five_bits_at(bytes)?;
+            Some((Piece::FiveBits(a, b, c, d, e), rest))
+        }
+    }
+}
