@@ -1,11 +1,11 @@
 -- What the parts of a step leave, as the model's state.
-use Rattle.std.proofs.Common.{◌≡◌, ◌+◌, ◌++◌, ◌∷◌, [], ℕ, zero, suc, List, Bool, true, false, ◌&&◌, ◌||◌, IsSome, Result, Option, Some, None, map, length, replicate, refl, sym, ap, subst, ◌∙◌, if◌then◌else◌}
+use Rattle.std.proofs.Common.{◌≡◌, ◌+◌, ◌++◌, ◌∷◌, [], ℕ, zero, suc, List, Bool, true, false, ◌&&◌, ◌||◌, IsSome, Result, Ok, Err, Option, Some, None, map, length, replicate, refl, sym, ap, subst, ◌∙◌, if◌then◌else◌}
 use Rattle.std.proofs.lemmas.List.{append-nil}
 use Rattle.std.specs.Str.{bytes_eq}
 use Rattle.model.specs.Words.{Text}
 use Rattle.model.specs.Topology.{Topology, queue_names}
 use Rattle.model.specs.Broker.{Broker, Channel, Connection, listed, with_one, with_row}
-use Rattle.model.specs.Step.{Performs, Decides, OnConnection, Refusal, Of_connection, Is, channel_or_new, refusal_of_publish, refusal_to, refusal_of_count, or_else, IsPublish, with_gone, with_freed, with_channel, freed, by_channel, by_connection, refusal, refusal_of_large, next_of, confirm_sends, confirm_notes, answer_of, returned_sends, returned_notes, entry_notes, is_none, is_some_full}
+use Rattle.model.specs.Step.{Performs, Decides, OnConnection, Refusal, Ignored, Of_connection, Is, channel_or_new, refusal_of_publish, refusal_to, refusal_of_count, or_else, IsPublish, with_gone, with_freed, with_channel, freed, by_channel, by_connection, refusal, refusal_of_large, next_of, confirm_sends, confirm_notes, answer_of, returned_sends, returned_notes, entry_notes, is_none, is_some_full}
 use Rattle.model.specs.declared.messages.Entry.{Entry}
 use Rattle.model.specs.declared.messages.Holder.{Holder}
 use Rattle.model.specs.declared.contents.Content.{Content}
@@ -20,7 +20,7 @@ use Rattle.depot.specs.Publishing.{Publishes}
 use Rattle.depot.specs.declared.depots.Routed.{Routed}
 use Rattle.broker.specs.Links.{Linked, link_in, channel_in, limits_of, connection_at, channel_at, connection_of, channel_of, AreLinks, Puts}
 use Rattle.broker.specs.State.{Kept, broker_of, topology_of}
-use Rattle.broker.specs.Judged.{seen, HasChannel, Judges, JudgesOn, JudgesLarge}
+use Rattle.broker.specs.Judged.{seen, HasChannel, IsIgnored, IsLargeIgnored, Judges, JudgesOn, JudgesLarge}
 use Rattle.broker.specs.declared.refusals.Refusal as declared
 use Rattle.broker.specs.declared.refusals.Act as wanted
 
@@ -96,6 +96,25 @@ large_judged kept c h r l e is has = (
   subst (λ (x : Option Linked). seen r ≡ refusal_of_large (limits_of l) h (channel_at x h)) (sym e) is,
   subst (λ (x : Option Linked). HasChannel r (channel_at x h)) (sym e) has,
 )
+
+some_same : {A : Type 0} (x y : A) → Some x ≡ Some y → x ≡ y
+some_same x y e = cc
+
+-- what is refused where the command is ignored is only ignored
+pub ignored_by : (t : Topology) (b : Broker) (c h : ℕ) (m : Method) (e : declared.Refusal) → JudgesOn t b c h m (Some (Err e)) → IsIgnored t b c h m (b.connection c) → seen e ≡ Ignored
+ignored_by t b c h m e (conn, at, judged) is =
+    let ignored : refusal t b conn h m (b.channel c h) ≡ Some Ignored = subst (λ (o : Option Connection). IsIgnored t b c h m o) at is in
+    some_same (seen e) Ignored (sym judged.0 ∙ ignored)
+
+-- and nothing that is ignored is performed
+pub performed_not : (t : Topology) (b : Broker) (c h : ℕ) (m : Method) (a : wanted.Act) → JudgesOn t b c h m (Some (Ok a)) → IsIgnored t b c h m (b.connection c) → ⊥
+performed_not t b c h m a (conn, at, judged) is =
+    let ignored : refusal t b conn h m (b.channel c h) ≡ Some Ignored = subst (λ (o : Option Connection). IsIgnored t b c h m o) at is in
+    let none_is_some : None ≡ Some Ignored = sym judged.0 ∙ ignored in
+    cc
+
+pub large_ignored_by : (b : Broker) (c h : ℕ) (e : declared.Refusal) → JudgesLarge b c h (Some e) → IsLargeIgnored b c h (b.connection c) → seen e ≡ Ignored
+large_ignored_by b c h e (conn, at, judged, has) is = judged ∙ subst (λ (o : Option Connection). IsLargeIgnored b c h o) at is
 
 -- a publish of the depot, counted on the channel and confirmed, is one of the broker
 pub published_is : (old new : Kept) (c h : ℕ) (ch : Channel) (p : Publish) (content : Content) (noted : List Note) (routed : Routed)

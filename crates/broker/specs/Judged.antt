@@ -7,6 +7,8 @@ use Rattle.model.specs.Step.{Of_channel, Of_connection, refusal, refusal_of_larg
 use Rattle.model.specs.declared.methods.Close.{Close}
 use Rattle.model.specs.declared.methods.Method.{Method}
 use Rattle.model.specs.declared.methods.Method.TheVariants as method
+use Rattle.model.specs.declared.events.Event.{Event}
+use Rattle.model.specs.declared.events.Event.TheVariants as event
 use Rattle.broker.specs.declared.refusals.Refusal.{Refusal}
 use Rattle.broker.specs.declared.refusals.Refusal.TheVariants as refused
 use Rattle.broker.specs.declared.refusals.Act.{Act}
@@ -28,6 +30,26 @@ abbrev pub HasChannel : Refusal → Option Channel → Type 0
 HasChannel refused.Ignored ch = Unit {0}
 HasChannel (refused.Channel code) ch = IsSome ch
 HasChannel (refused.Connection code) ch = Unit {0}
+
+-- nothing is done for this command: its connection doesn't run, or its channel awaits close-ok
+abbrev pub IsIgnored : Topology → Broker → ℕ → ℕ → Method → Option Connection → Type 0
+IsIgnored t b c h m None = Unit {0}
+IsIgnored t b c h m (Some conn) = refusal t b conn h m (b.channel c h) ≡ Some step.Ignored
+
+-- the same of a publish whose content is too large
+abbrev pub IsLargeIgnored : Broker → ℕ → ℕ → Option Connection → Type 0
+IsLargeIgnored b c h None = Unit {0}
+IsLargeIgnored b c h (Some conn) = refusal_of_large conn h (b.channel c h) ≡ step.Ignored
+
+-- an event that wants no memory: a loss, a pause and its end, and what is ignored
+abbrev pub WantsNoMemory : Topology → Broker → Event → Type 0
+WantsNoMemory t b (event.Running c max k) = ⊥
+WantsNoMemory t b (event.Command c h m content) = IsIgnored t b c h m (b.connection c)
+WantsNoMemory t b (event.TooLarge c h) = IsLargeIgnored b c h (b.connection c)
+WantsNoMemory t b (event.Fault c code) = ⊥
+WantsNoMemory t b (event.Lose c) = Unit {0}
+WantsNoMemory t b (event.Pause c) = Unit {0}
+WantsNoMemory t b (event.Resume c) = Unit {0}
 
 -- the method asks for this act on the channel, which is there where it needs to be
 abbrev pub Asks : Topology → Broker → Option Channel → Method → Act → Type 0

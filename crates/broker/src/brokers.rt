@@ -87,7 +87,7 @@ impl Broker {
     ghost use Rattle.model.specs.declared.events.Event.TheVariants as event_is;
     ghost use Rattle.model.specs.declared.methods.Method.TheVariants.{ChannelCloseOk};
     ghost use Rattle.broker.specs.State.{broker_of, topology_of, nothing};
-    ghost use Rattle.broker.specs.Judged.{seen as said_of, HasChannel, JudgesOn, JudgesLarge, Asks, CanAct};
+    ghost use Rattle.broker.specs.Judged.{seen as said_of, HasChannel, IsIgnored, IsLargeIgnored, WantsNoMemory, JudgesOn, JudgesLarge, Asks, CanAct};
     ghost use Rattle.model.specs.declared.methods.Method.{Method as Seen};
     ghost use Rattle.broker.specs.Sent.{IsOwn, AreOwn, connection_of_event};
 
@@ -307,6 +307,7 @@ impl Broker {
     ) -> Result<Step, AllocError>
         requires { HasChannel refusal ((broker_of self.old).channel connection channel) }
         ensures ok { IfOk result (λ s. Refuses (broker_of self.old) connection channel method.now (said_of refusal) s.sends.items s.notes.items (broker_of self.new)) }
+        ensures ignored { said_of refusal ≡ said.Ignored → IsOk result }
         ensures own { IfOk result (λ s. AreOwn connection s.sends.items) }
         ensures topology { topology_of self.new ≡ topology_of self.old }
         ensures err { OnErr result (self.new ≡ self.old) }
@@ -334,6 +335,7 @@ impl Broker {
     ) -> Result<Step, AllocError>
         requires { HasChannel refusal ((broker_of self.old).channel connection channel) }
         ensures ok { IfOk result (λ s. Refuses (broker_of self.old) connection channel empty_publish (said_of refusal) s.sends.items s.notes.items (broker_of self.new)) }
+        ensures ignored { said_of refusal ≡ said.Ignored → IsOk result }
         ensures own { IfOk result (λ s. AreOwn connection s.sends.items) }
         ensures topology { topology_of self.new ≡ topology_of self.old }
         ensures err { OnErr result (self.new ≡ self.old) }
@@ -423,6 +425,7 @@ impl Broker {
         content: &Option<Content>,
     ) -> Result<Step, AllocError>
         ensures ok { IfOk result (λ s. OnConnection (topology_of self.old) (broker_of self.old) connection channel method.now content.now s.sends.items s.notes.items (broker_of self.new) ((broker_of self.old).connection connection)) }
+        ensures ignored { IsIgnored (topology_of self.old) (broker_of self.old) connection channel method.now ((broker_of self.old).connection connection) → IsOk result }
         ensures own { IfOk result (λ s. AreOwn connection s.sends.items) }
         ensures topology { topology_of self.new ≡ topology_of self.old }
         ensures err { OnErr result (self.new ≡ self.old) }
@@ -442,6 +445,7 @@ impl Broker {
         channel: u16,
     ) -> Result<Step, AllocError>
         ensures ok { IfOk result (λ s. OnLarge (broker_of self.old) connection channel s.sends.items s.notes.items (broker_of self.new) ((broker_of self.old).connection connection)) }
+        ensures ignored { IsLargeIgnored (broker_of self.old) connection channel ((broker_of self.old).connection connection) → IsOk result }
         ensures own { IfOk result (λ s. AreOwn connection s.sends.items) }
         ensures topology { topology_of self.new ≡ topology_of self.old }
         ensures err { OnErr result (self.new ≡ self.old) }
@@ -477,14 +481,13 @@ impl Broker {
     }
 
     /// One event: what it sends, all to its own connection, what it notes, and the state after it. Where memory is
-    /// wanting, nothing has changed; a pause and its end want none.
+    /// wanting, nothing has changed; a loss, a pause and its end, and a command that is ignored want none.
     pub fn step(&mut self, alloc: Global, event: &Event) -> Result<Step, AllocError>
         ensures ok { IfOk result (λ s. Acts (topology_of self.old) (broker_of self.old) event.now s.sends.items s.notes.items (broker_of self.new)) }
         ensures own { IfOk result (λ s. AreOwn (connection_of_event event.now) s.sends.items) }
         ensures topology { topology_of self.new ≡ topology_of self.old }
         ensures err { OnErr result (self.new ≡ self.old) }
-        ensures pause { (c : ℕ) → event.now ≡ event_is.Pause c → IsOk result }
-        ensures resume { (c : ℕ) → event.now ≡ event_is.Resume c → IsOk result }
+        ensures quiet { WantsNoMemory (topology_of self.old) (broker_of self.old) event.now → IsOk result }
     {
         match event {
             Event::Running {

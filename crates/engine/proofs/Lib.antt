@@ -5,6 +5,7 @@ pub mod Numbered
 pub mod Found
 pub mod Standing
 pub mod Changed
+pub mod Agreeing
 pub mod Lifted
 pub mod Openings
 pub mod Tooks

@@ -4,15 +4,15 @@ use Rattle.std.specs.Prelude.{◌==◌, ◌&&◌, not, if◌then◌else◌, Matc
 use Rattle.std.proofs.lemmas.Bool.{eq-eqb}
 use Rattle.model.specs.Broker.{Broker, with_one}
 use Rattle.model.specs.Commands.{Stream, Ends, stays, running_stream, heard}
-use Rattle.model.specs.Phases.{Session, to_phase, after_sends, answer, faulted}
-use Rattle.model.specs.State.{Config, State, Step, Steps, Moves, OfCommand, OfLarge, OfFault}
-use Rattle.model.specs.Step.{Acts, Is, empty_publish}
+use Rattle.model.specs.Phases.{Session, Move, stays_in, is_running, while_closing, to_phase, after_sends, answer, faulted}
+use Rattle.model.specs.State.{Config, State, after_move, Step, Steps, Moves, OfCommand, OfLarge, OfFault}
+use Rattle.model.specs.Step.{Acts, Is, empty_publish, opened, reply}
 use Rattle.model.specs.Spelling.{spelling}
 use Rattle.model.specs.Run.{Happening, notes_of}
 use Rattle.model.specs.Arrivals.{Wire, Turns, Settles, Reads, again, fresh, fault, event_of, is_over, is_paused, is_ended, is_past_bound, wire_after, new_wire, Waits, Same, SameToCome, still, waits, IsIdle, Takes_off, Loses, with_heard}
 use Rattle.model.specs.declared.contents.Content.{Content}
 use Rattle.model.specs.declared.methods.Method.{Method}
-use Rattle.model.specs.declared.methods.Method.TheVariants.{BasicPublish}
+use Rattle.model.specs.declared.methods.Method.TheVariants.{BasicPublish, ConnectionClose, ConnectionCloseOk}
 use Rattle.model.specs.declared.notes.Note.{Note}
 use Rattle.model.specs.declared.events.Send.{Send}
 use Rattle.model.specs.declared.events.Phase.{Phase}
@@ -37,18 +37,45 @@ use Rattle.engine.specs.declared.links.Link.{Link}
 is_same : (b new : Broker) → new ≡ b → Is b new
 is_same b new e = subst (λ (z : Broker). Is b z) (sym e) (record { counted = refl; queues = λ q. refl; connections = λ c. refl; channels = λ c h. refl })
 
+-- by a move that leads elsewhere than to Running, nothing changes in the broker
+unmoved : (b new : Broker) (c : ℕ) (next : Session) → is_running next.phase ≡ false → new ≡ b → Is (after_move b c next) new
+unmoved b new c next idle e = subst (λ (v : Bool). Is (if v then opened b c next.channel_max 0 else b) new) (sym idle) (is_same b new e)
+
+-- no phase but Running answers so that the connection runs
+idle_closing : (c : ℕ) (s : Session) (h : ℕ) (m : Method) → is_running s.phase ≡ false → is_running (while_closing c s h m).next.phase ≡ false
+idle_closing c s h (ConnectionClose m) idle = go (h == 0)
+  where
+    go : (v : Bool) → is_running (if v then record { sends = reply c 0 ConnectionCloseOk ∷ []; next = s } else stays_in s).next.phase ≡ false
+    go true = idle
+    go false = idle
+idle_closing c s h ConnectionCloseOk idle = go (h == 0)
+  where
+    go : (v : Bool) → is_running (if v then record { sends = []; next = to_phase s phase.Over } else stays_in s).next.phase ≡ false
+    go true = refl
+    go false = idle
+idle_closing c s h _ idle = idle
+
+idle_answer : (c : ℕ) (s : Session) (p : Phase) (h : ℕ) (m : Method) → is_running s.phase ≡ false → is_running (answer c s p h m).next.phase ≡ false
+idle_answer c s phase.Closing h m idle = idle_closing c s h m idle
+idle_answer c s _ h m idle = idle
+
+idle_fault : (c : ℕ) (s : Session) (p : Phase) (code : ℕ) → is_running s.phase ≡ false → is_running (faulted c s p code).next.phase ≡ false
+idle_fault c s phase.Closing code idle = refl
+idle_fault c s phase.Over code idle = idle
+idle_fault c s _ code idle = refl
+
 -- ---- what one connection does is a step
 
-moved : (s : State) (c : ℕ) (sess sess' : Session) (e : Event) (p : Phase) (sends : List Send) (notes : List Note) (mid : Broker) (move : Session → _)
-    → s.session c ≡ sess → ByPhase p s.broker sess e sends notes mid sess' → ((z : Session) → move_of p z e ≡ move z)
+moved : (s : State) (c : ℕ) (sess sess' : Session) (e : Event) (p : Phase) (sends : List Send) (notes : List Note) (mid : Broker) (move : Session → Move)
+    → s.session c ≡ sess → is_running (move (s.session c)).next.phase ≡ false → ByPhase p s.broker sess e sends notes mid sess' → ((z : Session) → move_of p z e ≡ move z)
     → Moves s c (move (s.session c)) sends notes (record { broker = mid; session = with_one s.session c sess' })
-moved s c sess sess' e p sends notes mid move eq by is =
+moved s c sess sess' e p sends notes mid move eq idle by is =
     let same : move_of p sess e ≡ move (s.session c) = is sess ∙ ap move (sym eq) in
     record {
       sent = by.sent ∙ ap (λ z. z.sends) same;
       noted = by.noted;
       session = λ k. ap (λ (z : Session). with_one s.session c z k) (by.session ∙ ap (λ z. z.next) same);
-      broker = is_same s.broker mid by.broker;
+      broker = unmoved s.broker mid c (move (s.session c)).next idle by.broker;
     }
 
 stepped_by : (f : Config) (s : State) (c : ℕ) (sess sess' : Session) (e : Event) (sends : List Send) (notes : List Note) (mid : Broker) (after : Session)
@@ -57,47 +84,47 @@ stepped_by : (f : Config) (s : State) (c : ℕ) (sess sess' : Session) (e : Even
 stepped_by f s c sess sess' e sends notes mid after by is = record { acts = by.acts; session = λ k. ap (λ (z : Session). with_one s.session c z k) (by.session ∙ is) }
 
 of_command : (p : Phase) (f : Config) (s : State) (c h : ℕ) (m : Method) (content : Option Content) (sess sess' : Session) (sends : List Send) (notes : List Note) (mid : Broker)
-    → s.session c ≡ sess → Decides p f.topology s.broker sess (event.Command c h m content) sends notes mid sess'
+    → s.session c ≡ sess → sess.phase ≡ p → Decides p f.topology s.broker sess (event.Command c h m content) sends notes mid sess'
     → OfCommand f s p c h m content sends notes (record { broker = mid; session = with_one s.session c sess' })
-of_command phase.Running f s c h m content sess sess' sends notes mid eq by = stepped_by f s c sess sess' _ sends notes mid _ by (ap (λ (z : Session). to_phase z (after_sends sends)) (sym eq))
-of_command phase.Header f s c h m content sess sess' sends notes mid eq by = moved s c sess sess' _ phase.Header sends notes mid (λ z. answer c z phase.Header h m) eq by (λ z. refl)
-of_command phase.Start f s c h m content sess sess' sends notes mid eq by = moved s c sess sess' _ phase.Start sends notes mid (λ z. answer c z phase.Start h m) eq by (λ z. refl)
-of_command phase.Tune f s c h m content sess sess' sends notes mid eq by = moved s c sess sess' _ phase.Tune sends notes mid (λ z. answer c z phase.Tune h m) eq by (λ z. refl)
-of_command phase.Open f s c h m content sess sess' sends notes mid eq by = moved s c sess sess' _ phase.Open sends notes mid (λ z. answer c z phase.Open h m) eq by (λ z. refl)
-of_command phase.Closing f s c h m content sess sess' sends notes mid eq by = moved s c sess sess' _ phase.Closing sends notes mid (λ z. answer c z phase.Closing h m) eq by (λ z. refl)
-of_command phase.Over f s c h m content sess sess' sends notes mid eq by = moved s c sess sess' _ phase.Over sends notes mid (λ z. answer c z phase.Over h m) eq by (λ z. refl)
+of_command phase.Running f s c h m content sess sess' sends notes mid eq at by = stepped_by f s c sess sess' _ sends notes mid _ by (ap (λ (z : Session). to_phase z (after_sends sends)) (sym eq))
+of_command phase.Header f s c h m content sess sess' sends notes mid eq at by = moved s c sess sess' _ phase.Header sends notes mid (λ z. answer c z phase.Header h m) eq (idle_answer c (s.session c) phase.Header h m (ap (λ (z : Session). is_running z.phase) eq ∙ ap is_running at)) by (λ z. refl)
+of_command phase.Start f s c h m content sess sess' sends notes mid eq at by = moved s c sess sess' _ phase.Start sends notes mid (λ z. answer c z phase.Start h m) eq (idle_answer c (s.session c) phase.Start h m (ap (λ (z : Session). is_running z.phase) eq ∙ ap is_running at)) by (λ z. refl)
+of_command phase.Tune f s c h m content sess sess' sends notes mid eq at by = moved s c sess sess' _ phase.Tune sends notes mid (λ z. answer c z phase.Tune h m) eq (idle_answer c (s.session c) phase.Tune h m (ap (λ (z : Session). is_running z.phase) eq ∙ ap is_running at)) by (λ z. refl)
+of_command phase.Open f s c h m content sess sess' sends notes mid eq at by = moved s c sess sess' _ phase.Open sends notes mid (λ z. answer c z phase.Open h m) eq (idle_answer c (s.session c) phase.Open h m (ap (λ (z : Session). is_running z.phase) eq ∙ ap is_running at)) by (λ z. refl)
+of_command phase.Closing f s c h m content sess sess' sends notes mid eq at by = moved s c sess sess' _ phase.Closing sends notes mid (λ z. answer c z phase.Closing h m) eq (idle_answer c (s.session c) phase.Closing h m (ap (λ (z : Session). is_running z.phase) eq ∙ ap is_running at)) by (λ z. refl)
+of_command phase.Over f s c h m content sess sess' sends notes mid eq at by = moved s c sess sess' _ phase.Over sends notes mid (λ z. answer c z phase.Over h m) eq (idle_answer c (s.session c) phase.Over h m (ap (λ (z : Session). is_running z.phase) eq ∙ ap is_running at)) by (λ z. refl)
 
 of_fault : (p : Phase) (f : Config) (s : State) (c code : ℕ) (sess sess' : Session) (sends : List Send) (notes : List Note) (mid : Broker)
-    → s.session c ≡ sess → Decides p f.topology s.broker sess (event.Fault c code) sends notes mid sess'
+    → s.session c ≡ sess → sess.phase ≡ p → Decides p f.topology s.broker sess (event.Fault c code) sends notes mid sess'
     → OfFault f s p c code sends notes (record { broker = mid; session = with_one s.session c sess' })
-of_fault phase.Running f s c code sess sess' sends notes mid eq by = stepped_by f s c sess sess' _ sends notes mid _ by (ap (λ (z : Session). to_phase z phase.Over) (sym eq))
-of_fault phase.Header f s c code sess sess' sends notes mid eq by = moved s c sess sess' _ phase.Header sends notes mid (λ z. faulted c z phase.Header code) eq by (λ z. refl)
-of_fault phase.Start f s c code sess sess' sends notes mid eq by = moved s c sess sess' _ phase.Start sends notes mid (λ z. faulted c z phase.Start code) eq by (λ z. refl)
-of_fault phase.Tune f s c code sess sess' sends notes mid eq by = moved s c sess sess' _ phase.Tune sends notes mid (λ z. faulted c z phase.Tune code) eq by (λ z. refl)
-of_fault phase.Open f s c code sess sess' sends notes mid eq by = moved s c sess sess' _ phase.Open sends notes mid (λ z. faulted c z phase.Open code) eq by (λ z. refl)
-of_fault phase.Closing f s c code sess sess' sends notes mid eq by = moved s c sess sess' _ phase.Closing sends notes mid (λ z. faulted c z phase.Closing code) eq by (λ z. refl)
-of_fault phase.Over f s c code sess sess' sends notes mid eq by = moved s c sess sess' _ phase.Over sends notes mid (λ z. faulted c z phase.Over code) eq by (λ z. refl)
+of_fault phase.Running f s c code sess sess' sends notes mid eq at by = stepped_by f s c sess sess' _ sends notes mid _ by (ap (λ (z : Session). to_phase z phase.Over) (sym eq))
+of_fault phase.Header f s c code sess sess' sends notes mid eq at by = moved s c sess sess' _ phase.Header sends notes mid (λ z. faulted c z phase.Header code) eq (idle_fault c (s.session c) phase.Header code (ap (λ (z : Session). is_running z.phase) eq ∙ ap is_running at)) by (λ z. refl)
+of_fault phase.Start f s c code sess sess' sends notes mid eq at by = moved s c sess sess' _ phase.Start sends notes mid (λ z. faulted c z phase.Start code) eq (idle_fault c (s.session c) phase.Start code (ap (λ (z : Session). is_running z.phase) eq ∙ ap is_running at)) by (λ z. refl)
+of_fault phase.Tune f s c code sess sess' sends notes mid eq at by = moved s c sess sess' _ phase.Tune sends notes mid (λ z. faulted c z phase.Tune code) eq (idle_fault c (s.session c) phase.Tune code (ap (λ (z : Session). is_running z.phase) eq ∙ ap is_running at)) by (λ z. refl)
+of_fault phase.Open f s c code sess sess' sends notes mid eq at by = moved s c sess sess' _ phase.Open sends notes mid (λ z. faulted c z phase.Open code) eq (idle_fault c (s.session c) phase.Open code (ap (λ (z : Session). is_running z.phase) eq ∙ ap is_running at)) by (λ z. refl)
+of_fault phase.Closing f s c code sess sess' sends notes mid eq at by = moved s c sess sess' _ phase.Closing sends notes mid (λ z. faulted c z phase.Closing code) eq (idle_fault c (s.session c) phase.Closing code (ap (λ (z : Session). is_running z.phase) eq ∙ ap is_running at)) by (λ z. refl)
+of_fault phase.Over f s c code sess sess' sends notes mid eq at by = moved s c sess sess' _ phase.Over sends notes mid (λ z. faulted c z phase.Over code) eq (idle_fault c (s.session c) phase.Over code (ap (λ (z : Session). is_running z.phase) eq ∙ ap is_running at)) by (λ z. refl)
 
 of_large : (p : Phase) (f : Config) (s : State) (c h : ℕ) (sess sess' : Session) (sends : List Send) (notes : List Note) (mid : Broker)
-    → s.session c ≡ sess → Decides p f.topology s.broker sess (event.TooLarge c h) sends notes mid sess'
+    → s.session c ≡ sess → sess.phase ≡ p → Decides p f.topology s.broker sess (event.TooLarge c h) sends notes mid sess'
     → OfLarge f s p c h sends notes (record { broker = mid; session = with_one s.session c sess' })
-of_large phase.Running f s c h sess sess' sends notes mid eq by = stepped_by f s c sess sess' _ sends notes mid _ by (ap (λ (z : Session). to_phase z (after_sends sends)) (sym eq))
-of_large phase.Header f s c h sess sess' sends notes mid eq by = moved s c sess sess' _ phase.Header sends notes mid (λ z. answer c z phase.Header h empty_publish) eq by (λ z. refl)
-of_large phase.Start f s c h sess sess' sends notes mid eq by = moved s c sess sess' _ phase.Start sends notes mid (λ z. answer c z phase.Start h empty_publish) eq by (λ z. refl)
-of_large phase.Tune f s c h sess sess' sends notes mid eq by = moved s c sess sess' _ phase.Tune sends notes mid (λ z. answer c z phase.Tune h empty_publish) eq by (λ z. refl)
-of_large phase.Open f s c h sess sess' sends notes mid eq by = moved s c sess sess' _ phase.Open sends notes mid (λ z. answer c z phase.Open h empty_publish) eq by (λ z. refl)
-of_large phase.Closing f s c h sess sess' sends notes mid eq by = moved s c sess sess' _ phase.Closing sends notes mid (λ z. answer c z phase.Closing h empty_publish) eq by (λ z. refl)
-of_large phase.Over f s c h sess sess' sends notes mid eq by = moved s c sess sess' _ phase.Over sends notes mid (λ z. answer c z phase.Over h empty_publish) eq by (λ z. refl)
+of_large phase.Running f s c h sess sess' sends notes mid eq at by = stepped_by f s c sess sess' _ sends notes mid _ by (ap (λ (z : Session). to_phase z (after_sends sends)) (sym eq))
+of_large phase.Header f s c h sess sess' sends notes mid eq at by = moved s c sess sess' _ phase.Header sends notes mid (λ z. answer c z phase.Header h empty_publish) eq (idle_answer c (s.session c) phase.Header h empty_publish (ap (λ (z : Session). is_running z.phase) eq ∙ ap is_running at)) by (λ z. refl)
+of_large phase.Start f s c h sess sess' sends notes mid eq at by = moved s c sess sess' _ phase.Start sends notes mid (λ z. answer c z phase.Start h empty_publish) eq (idle_answer c (s.session c) phase.Start h empty_publish (ap (λ (z : Session). is_running z.phase) eq ∙ ap is_running at)) by (λ z. refl)
+of_large phase.Tune f s c h sess sess' sends notes mid eq at by = moved s c sess sess' _ phase.Tune sends notes mid (λ z. answer c z phase.Tune h empty_publish) eq (idle_answer c (s.session c) phase.Tune h empty_publish (ap (λ (z : Session). is_running z.phase) eq ∙ ap is_running at)) by (λ z. refl)
+of_large phase.Open f s c h sess sess' sends notes mid eq at by = moved s c sess sess' _ phase.Open sends notes mid (λ z. answer c z phase.Open h empty_publish) eq (idle_answer c (s.session c) phase.Open h empty_publish (ap (λ (z : Session). is_running z.phase) eq ∙ ap is_running at)) by (λ z. refl)
+of_large phase.Closing f s c h sess sess' sends notes mid eq at by = moved s c sess sess' _ phase.Closing sends notes mid (λ z. answer c z phase.Closing h empty_publish) eq (idle_answer c (s.session c) phase.Closing h empty_publish (ap (λ (z : Session). is_running z.phase) eq ∙ ap is_running at)) by (λ z. refl)
+of_large phase.Over f s c h sess sess' sends notes mid eq at by = moved s c sess sess' _ phase.Over sends notes mid (λ z. answer c z phase.Over h empty_publish) eq (idle_answer c (s.session c) phase.Over h empty_publish (ap (λ (z : Session). is_running z.phase) eq ∙ ap is_running at)) by (λ z. refl)
 
 commanded : (m : Command) (f : Config) (s : State) (c : ℕ) (sess sess' : Session) (sends : List Send) (notes : List Note) (mid : Broker)
     → s.session c ≡ sess → Decides sess.phase f.topology s.broker sess (event_of c m) sends notes mid sess'
     → Step f s (event_of c m) sends notes (record { broker = mid; session = with_one s.session c sess' })
 commanded (Plain h m) f s c sess sess' sends notes mid eq by =
-    subst (λ (z : Session). OfCommand f s z.phase c h m None sends notes (record { broker = mid; session = with_one s.session c sess' })) (sym eq) (of_command sess.phase f s c h m None sess sess' sends notes mid eq by)
+    subst (λ (z : Session). OfCommand f s z.phase c h m None sends notes (record { broker = mid; session = with_one s.session c sess' })) (sym eq) (of_command sess.phase f s c h m None sess sess' sends notes mid eq refl by)
 commanded (Full h p content) f s c sess sess' sends notes mid eq by =
-    subst (λ (z : Session). OfCommand f s z.phase c h (BasicPublish p) (Some content) sends notes (record { broker = mid; session = with_one s.session c sess' })) (sym eq) (of_command sess.phase f s c h (BasicPublish p) (Some content) sess sess' sends notes mid eq by)
+    subst (λ (z : Session). OfCommand f s z.phase c h (BasicPublish p) (Some content) sends notes (record { broker = mid; session = with_one s.session c sess' })) (sym eq) (of_command sess.phase f s c h (BasicPublish p) (Some content) sess sess' sends notes mid eq refl by)
 commanded (TooLarge h) f s c sess sess' sends notes mid eq by =
-    subst (λ (z : Session). OfLarge f s z.phase c h sends notes (record { broker = mid; session = with_one s.session c sess' })) (sym eq) (of_large sess.phase f s c h sess sess' sends notes mid eq by)
+    subst (λ (z : Session). OfLarge f s z.phase c h sends notes (record { broker = mid; session = with_one s.session c sess' })) (sym eq) (of_large sess.phase f s c h sess sess' sends notes mid eq refl by)
 
 pub asked_steps : (c : ℕ) (k : Option Command) (st nx : Stream) (e : Event) (f : Config) (s : State) (sess sess' : Session) (sends : List Send) (notes : List Note) (mid : Broker)
     → Reads c k st e nx → s.session c ≡ sess → Decides sess.phase f.topology s.broker sess e sends notes mid sess'
@@ -105,7 +132,7 @@ pub asked_steps : (c : ℕ) (k : Option Command) (st nx : Stream) (e : Event) (f
 asked_steps c k st nx e f s sess sess' sends notes mid (again {m = m}) eq by = commanded m f s c sess sess' sends notes mid eq by
 asked_steps c k st nx e f s sess sess' sends notes mid (fresh {m = m} y) eq by = commanded m f s c sess sess' sends notes mid eq by
 asked_steps c k st nx e f s sess sess' sends notes mid (fault {code = code} y) eq by =
-    subst (λ (z : Session). OfFault f s z.phase c code sends notes (record { broker = mid; session = with_one s.session c sess' })) (sym eq) (of_fault sess.phase f s c code sess sess' sends notes mid eq by)
+    subst (λ (z : Session). OfFault f s z.phase c code sends notes (record { broker = mid; session = with_one s.session c sess' })) (sym eq) (of_fault sess.phase f s c code sess sess' sends notes mid eq refl by)
 
 -- ---- the pause that it brings
 
@@ -117,11 +144,11 @@ pub record Ended (f : Config) (mid : State) (c : ℕ) (was is : Bool) (new : Sta
 
 pub ended : (f : Config) (mid new : State) (c : ℕ) (was is : Bool) → PausesOr f.topology c was is mid.broker new.broker → ((d : ℕ) → new.session d ≡ mid.session d) → Ended f mid c was is new
 ended f mid new c false true p s =
-    let h : Happening = record { config = f; event = event.Pause c; sends = []; notes = []; frame_max = 0 } in
-    record { hs = h ∷ []; settled = (h, refl, record { under = refl; event = refl; stepped = record { acts = p.acts; session = s } }); quiet = refl }
+    let h : Happening = record { config = f; event = event.Pause c; before = mid; sends = []; notes = []; frame_max = 0; after = new } in
+    record { hs = h ∷ []; settled = (h, refl, record { under = refl; event = refl; before = refl; after = refl; stepped = record { acts = p.acts; session = s } }); quiet = refl }
 ended f mid new c true false p s =
-    let h : Happening = record { config = f; event = event.Resume c; sends = []; notes = []; frame_max = 0 } in
-    record { hs = h ∷ []; settled = (h, refl, record { under = refl; event = refl; stepped = record { acts = p.acts; session = s } }); quiet = refl }
+    let h : Happening = record { config = f; event = event.Resume c; before = mid; sends = []; notes = []; frame_max = 0; after = new } in
+    record { hs = h ∷ []; settled = (h, refl, record { under = refl; event = refl; before = refl; after = refl; stepped = record { acts = p.acts; session = s } }); quiet = refl }
 ended f mid new c true true p s = record { hs = []; settled = (refl, λ i. record { broker = p i; session = λ d. s d i }); quiet = refl }
 ended f mid new c false false p s = record { hs = []; settled = (refl, λ i. record { broker = p i; session = λ d. s d i }); quiet = refl }
 
@@ -166,7 +193,7 @@ turned old new l l' notes b found open_still below did =
     let output_was : (wire_of (link_in old.links c)).output ≡ l.output.bytes = ap (λ (w : Wire). w.output) wire_was in
     let over_is : is_over (world_of new) c ≡ is_ended l'.session.phase = ap (λ (s : Session). is_ended s.phase) session_is in
     let mid : State = record { broker = p.mid; session = with_one (λ d. session_of (link_in old.links d)) c l'.session } in
-    let h : Happening = record { config = config_of old; event = did.event; sends = p.sends; notes = notes; frame_max = l'.session.frame_max } in
+    let h : Happening = record { config = config_of old; event = did.event; before = state_of old; sends = p.sends; notes = notes; frame_max = l.session.frame_max; after = mid } in
     let past_was : is_paused (world_of old) c ≡ false = ap is_past_bound output_was ∙ below in
     let past_is : is_paused (world_of new) c ≡ is_past_bound l'.output.bytes = ap is_past_bound output_is in
     let rest : Ended (config_of old) mid c false (is_past_bound l'.output.bytes) (state_of new) = ended (config_of old) mid (state_of new) c false (is_past_bound l'.output.bytes) p.pauses b.sessions in (
@@ -183,12 +210,12 @@ turned old new l l' notes b found open_still below did =
           rest = rest.hs;
           all = refl;
           mid = mid;
-          happens = record { under = refl; event = refl; stepped = asked_steps c (kept_of l.kept) (stream_of l.stream) did.next did.event (config_of old) (state_of old) l.session l'.session p.sends notes p.mid did.read session_was p.decides };
+          happens = record { under = refl; event = refl; before = refl; after = refl; stepped = asked_steps c (kept_of l.kept) (stream_of l.stream) did.next did.event (config_of old) (state_of old) l.session l'.session p.sends notes p.mid did.read session_was p.decides };
           own = p.own;
-          limit = sym (ap (λ (s : Session). s.frame_max) (at_own (λ d. session_of (link_in old.links d)) c l'.session));
+          limit = sym (ap (λ (s : Session). s.frame_max) session_was);
           bounded = p.bounded;
           spelled = p.spelled;
-          output = output_is ∙ p.put ∙ ap (λ (z : List ℕ). z ++ spelling l'.session.frame_max p.sends) (sym output_was);
+          output = output_is ∙ p.put ∙ ap (λ (z : List ℕ). z ++ spelling l.session.frame_max p.sends) (sym output_was);
           settled = subst (λ (v : Bool). Settles (config_of old) mid c v (is_paused (world_of new) c) rest.hs (state_of new)) (sym past_was)
               (subst (λ (v : Bool). Settles (config_of old) mid c false v rest.hs (state_of new)) (sym past_is) rest.settled);
           config = same_config old new l l' b;
@@ -325,12 +352,12 @@ pub lost : (old new : Parts) (c : ℕ) → topology_of new.broker ≡ topology_o
     → ((d : ℕ) → link_in new.links d ≡ (if c == d then None else link_in old.links d))
     → (hs : List Happening) × Loses (world_of old) c hs (world_of new)
 lost old new c t g u n acts links =
-    let h : Happening = record { config = config_of old; event = event.Lose c; sends = []; notes = []; frame_max = 0 } in (
+    let h : Happening = record { config = config_of old; event = event.Lose c; before = state_of old; sends = []; notes = []; frame_max = 0; after = state_of new } in (
       h ∷ [],
       record {
         h = h;
         all = refl;
-        happens = record { under = refl; event = refl; stepped = record { acts = acts; session = λ d. at_or session_of d (links d) } };
+        happens = record { under = refl; event = refl; before = refl; after = refl; stepped = record { acts = acts; session = λ d. at_or session_of d (links d) } };
         silent = refl;
         config = λ i. record { topology = t i; guarantees = g i; users = u i };
         given = n;

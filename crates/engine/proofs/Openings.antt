@@ -1,5 +1,5 @@
 -- An engine with no connection, and one more connection.
-use Rattle.std.proofs.Common.{◌≡◌, ◌<◌, ◌≤◌, ◌+◌, ℕ, List, [], ◌∷◌, ◌++◌, true, false, cond, Option, Some, length, refl, sym, ap, subst, ◌∙◌, arith}
+use Rattle.std.proofs.Common.{◌≡◌, ◌<◌, ◌≤◌, ◌+◌, ℕ, List, [], ◌∷◌, ◌++◌, true, false, cond, Option, Some, Result, Err, length, refl, sym, ap, subst, ◌∙◌, arith}
 use Rattle.std.specs.Prelude.{◌==◌, ◌&&◌, nat_lt, nat_le, if◌then◌else◌}
 use Rattle.std.specs.List.{AllByRecursion}
 use Rattle.std.proofs.lemmas.Bool.Decides.{nat_tests}
@@ -10,7 +10,8 @@ use Rattle.model.specs.Step.{Acts, Is}
 use Rattle.model.specs.Run.{Happening}
 use Rattle.model.specs.Topology.{Topology}
 use Rattle.model.specs.Guarantee.{Guarantee}
-use Rattle.model.specs.Arrivals.{World, Wire, new_wire, new_world, can_open, standing, Opens}
+use Rattle.model.specs.Consistent.{IsConsistent}
+use Rattle.model.specs.Arrivals.{World, Wire, new_wire, new_world, can_open, standing, Opens, Same}
 use Rattle.model.specs.declared.events.Send.{Send}
 use Rattle.model.specs.declared.events.Event.{Event}
 use Rattle.model.specs.declared.events.Event.TheVariants as event
@@ -18,6 +19,9 @@ use Rattle.model.specs.declared.notes.Note.{Note}
 use Rattle.broker.specs.State.{topology_of, broker_of, nothing}
 use Rattle.runs.specs.Opened.{OpensReady}
 use Rattle.engine.specs.World.{Parts, link_in, session_of, wire_of, config_of, state_of, world_of, AreLinks, IsLink, AreRising, IsNew, IsEngine}
+use Rattle.engine.specs.Opening.{Opened}
+use Rattle.engine.specs.declared.engines.Refused.{Refused}
+use Rattle.engine.specs.declared.engines.Refused.TheVariants.{Memory}
 use Rattle.engine.specs.declared.links.Link.{Link}
 use Rattle.engine.proofs.Numbered.{link_in-push, rising-push}
 use Rattle.engine.proofs.Standing.{standing_is}
@@ -70,7 +74,7 @@ pub opened : (old new : Parts) (l : Link) (k : ℕ) (sends : List Send) (notes :
     → Acts (topology_of old.broker) (broker_of old.broker) (event.Running (old.given + 1) 255 k) sends notes (broker_of new.broker)
     → OpensReady (world_of old) k (Some (old.given + 1)) (world_of new)
 opened old new l k sends notes a few left t g u n ls is acts =
-    let h : Happening = record { config = config_of old; event = event.Running (old.given + 1) 255 k; sends = []; notes = []; frame_max = 0 } in
+    let h : Happening = record { config = config_of old; event = event.Running (old.given + 1) 255 k; before = state_of old; sends = []; notes = []; frame_max = 0; after = state_of new } in
     let same : (d : ℕ) → link_in new.links d ≡ cond (l.number == d) (Some l) (link_in old.links d) =
     λ d. ap (λ (z : List Link). link_in z d) ls ∙ link_in-push old.links l d (below old.given l.number old.links (let e = is.number_is in omega (arith, e)) a.each) in (
       can_open_is old a few left,
@@ -83,6 +87,8 @@ opened old new l k sends notes a few left t g u n ls is acts =
           happens = record {
             under = refl;
             event = refl;
+            before = refl;
+            after = refl;
             stepped = record {
               acts = record { sent = refl; noted = refl; left = acts.left };
               session = λ d. either session_of old.links new.links l.number d (Some l) (same d)
@@ -106,13 +112,18 @@ full_is p a many = let same = standing_is p a in grind (arith, nat_tests, same, 
 pub room_is : (p : Parts) → AreLinks p.given p.links → length p.links < 1024 → nat_lt (standing (world_of p) p.given) 1024 ≡ true
 room_is p a few = let same = standing_is p a in grind (arith, nat_tests, same, few)
 
-pub engine_opened : (old new : Parts) (l : Link) → IsEngine old → topology_of new.broker ≡ topology_of old.broker → new.guarantees ≡ old.guarantees → new.given ≡ old.given + 1 → new.links ≡ old.links ++ l ∷ [] → IsNew l (old.given + 1) → IsEngine new
-engine_opened old new l e t g n ls is = record {
+pub engine_opened : (old new : Parts) (l : Link) → IsEngine old → topology_of new.broker ≡ topology_of old.broker → new.guarantees ≡ old.guarantees → new.given ≡ old.given + 1 → new.links ≡ old.links ++ l ∷ [] → IsNew l (old.given + 1) → IsConsistent (world_of new) → IsEngine new
+engine_opened old new l e t g n ls is agreed = record {
   hold = subst (λ (gs : List Guarantee). Rattle.model.specs.Guarantee.AllHold (topology_of new.broker) gs) (sym g)
       (subst (λ (x : Topology). Rattle.model.specs.Guarantee.AllHold x old.guarantees) (sym t) e.hold);
   formed = subst (λ (x : Topology). Rattle.model.specs.Topology.IsWellFormed x) (sym t) e.formed;
   links = subst (λ (k : ℕ). AreLinks k new.links) (sym n) (subst (λ (z : List Link). AreLinks (old.given + 1) z) (sym ls) (links_opened old.given old.links l e.links is));
+  consistent = agreed;
 }
+
+-- for memory it is refused only where one could be opened
+pub memory_refuses : (old new : World) (k : ℕ) (r : Result ℕ Refused) (y : Refused) → r ≡ Err y → y ≡ Memory → can_open old ≡ true → Same old new → Opened old k r new
+memory_refuses old new k r y is memory can same = subst (λ (x : Result ℕ Refused). Opened old k x new) (sym is) (subst (λ (z : Refused). Opened old k (Err z) new) (sym memory) (can, same))
 
 pub spent_is : (given : ℕ) → 18446744073709551616 ≤ given + 1 → nat_lt given 18446744073709551615 ≡ false
 spent_is given most = grind (arith, nat_tests, most)

@@ -1,17 +1,19 @@
 -- From the connection at a place to the world.
 use Rattle.std.proofs.Common.{◌≡◌, ◌⊎◌, inl, inr, ◌<◌, ◌+◌, ℕ, List, [], Bool, true, false, cond, Option, Some, None, Result, Ok, Err, get_or, set, remove, length, refl, sym, ap, subst, ◌∙◌, arith}
-use Rattle.std.specs.Prelude.{IfOk, OnOk, OnErr, MatchBool, ◌==◌}
+use Rattle.std.specs.Prelude.{IsOk, IfOk, OnOk, OnErr, MatchBool, ◌==◌}
 use Rattle.std.proofs.lemmas.Bool.{false≢true}
 use Rattle.model.specs.Broker.{Broker}
 use Rattle.model.specs.Topology.{Topology}
 use Rattle.model.specs.Step.{Acts}
 use Rattle.model.specs.Run.{Happening}
 use Rattle.model.specs.Headline.{IsSound}
+use Rattle.model.specs.Consistent.{IsConsistent}
 use Rattle.model.specs.Arrivals.{Same, Waits, is_ended, is_over, is_gone, is_past_bound, Takes_off, Loses, with_heard}
 use Rattle.model.specs.declared.events.Event.{Event}
 use Rattle.model.specs.declared.events.Event.TheVariants as event
 use Rattle.model.specs.declared.notes.Note.{Note}
 use Rattle.laws.proofs.Whole.{turn_keeps}
+use Rattle.laws.proofs.Consistency.{takes_consistent}
 use Rattle.runs.specs.Opened.{Hears, Takes, IsLost}
 use Rattle.runs.proofs.Worlds.{waits_not}
 use Rattle.assembly.specs.Held.{stream_of}
@@ -27,6 +29,7 @@ use Rattle.engine.proofs.Numbered.{link_in-place, link_in-remove, rising-remove,
 use Rattle.engine.proofs.Standing.{gone_none, gone_some}
 use Rattle.engine.proofs.Changed.{sessions_change, wires_change, links_change, left_change}
 use Rattle.engine.proofs.Turned.{same_coming}
+use Rattle.engine.proofs.Agreeing.{same_agrees, hears_agrees, loses_agrees, turn_agrees}
 use Rattle.engine.proofs.Lifted.{turned, waited, idle, taken, hears, lost}
 
 -- all but the broker and the connections is as before
@@ -49,17 +52,27 @@ becomes old new i l l' st r ch = record {
 pub sound : (p : Parts) → IsEngine p → IsSound (config_of p)
 sound p e = record { wf = e.formed; hold = e.hold }
 
-pub engine_with : (old new : Parts) → IsEngine old → Stays old new → AreLinks old.given new.links → IsEngine new
-engine_with old new e st a = record {
+pub engine_with : (old new : Parts) → IsEngine old → Stays old new → AreLinks old.given new.links → IsConsistent (world_of new) → IsEngine new
+engine_with old new e st a agreed = record {
   hold = subst (λ (g : List _). Rattle.model.specs.Guarantee.AllHold (topology_of new.broker) g) (sym st.guarantees)
       (subst (λ (t : Topology). Rattle.model.specs.Guarantee.AllHold t old.guarantees) (sym st.topology) e.hold);
   formed = subst (λ (t : Topology). Rattle.model.specs.Topology.IsWellFormed t) (sym st.topology) e.formed;
   links = subst (λ (n : ℕ). AreLinks n new.links) (sym st.given) a;
+  consistent = agreed;
+}
+
+-- where the broker and the connections are as before, so is the world
+pub world_stays : (old new : Parts) → Stays old new → broker_of new.broker ≡ broker_of old.broker → new.links ≡ old.links → Same (world_of old) (world_of new)
+world_stays old new st broker links = record {
+  config = λ i. record { topology = st.topology i; guarantees = st.guarantees i; users = st.users i };
+  state = λ i. record { broker = broker i; session = λ c. session_of (link_in (links i) c) };
+  given = st.given;
+  wires = λ d. ap (λ (z : List Link). wire_of (link_in z d)) links;
 }
 
 -- every engine stays one
-pub engine_change : (old new : Parts) (i : ℕ) (l l' : Link) → IsEngine old → Stays old new → Changes old.links i l l' new.links → IsEngine new
-engine_change old new i l l' e st ch = engine_with old new e st (links_change old.given old.links i l l' new.links e.links ch)
+pub engine_change : (old new : Parts) (i : ℕ) (l l' : Link) → IsEngine old → Stays old new → Changes old.links i l l' new.links → IsConsistent (world_of new) → IsEngine new
+engine_change old new i l l' e st ch agreed = engine_with old new e st (links_change old.given old.links i l l' new.links e.links ch) agreed
 
 -- ---- turns
 
@@ -86,6 +99,9 @@ pub record Outcome {E : Type 0} (old new : Parts) (c : ℕ) (what : Result Turn 
   pub fewer : IfOk what (λ t. OnDid t (left_in new.links < left_in old.links))
   pub err : OnErr what (Waits (world_of old) c (world_of new))
 
+over_is : (p : Parts) (l : Link) → link_in p.links l.number ≡ Some l → is_over (world_of p) l.number ≡ is_ended l.session.phase
+over_is p l found = ap (λ (o : Option Link). is_ended (session_of o).phase) found
+
 outcome : {E : Type 0} (old new : Parts) (i : ℕ) (l l' : Link) (what : Result Turn E) → IsEngine old → Stays old new → Changes old.links i l l' new.links
     → LinkTookOr (topology_of old.broker) (broker_of old.broker) l what (broker_of new.broker) l' → Outcome old new l.number what
 outcome old new i l l' (Ok (turn.Did notes)) e st ch t =
@@ -93,22 +109,22 @@ outcome old new i l l' (Ok (turn.Did notes)) e st ch t =
     let found = link_in-place 0 old.links i l e.links.rising ch.within ch.here in
     let done = turned old new l l' notes.items b found t.0 t.1 t.2 in
     record {
-      ok = record { happenings = done.0; noted = done.1; turns = done.2; promises = turn_keeps (world_of old) (world_of new) l.number done.0 (sound old e) done.2 };
+      ok = record { happenings = done.0; noted = done.1; turns = done.2; promises = turn_keeps (world_of old) (world_of new) l.number done.0 (sound old e) e.consistent done.2 };
       fewer = left_change old.links i l l' new.links ch (did_less (topology_of old.broker) (broker_of old.broker) (broker_of new.broker) l l' notes.items t.0 t.2);
       err = tt;
     }
 outcome old new i l l' (Ok turn.Idle) e st ch t =
     let b = becomes old new i l l' st e.links.rising ch in
     let found = link_in-place 0 old.links i l e.links.rising ch.within ch.here in
-    record { ok = (idle old l found t.1.none_kept t.1.ends t.0, waited old new l l' b found t.1.waits); fewer = tt; err = tt }
+    record { ok = (over_is old l found ∙ t.0, idle old l found t.1.none_kept t.1.ends t.0, waited old new l l' b found t.1.waits); fewer = tt; err = tt }
 outcome old new i l l' (Ok turn.Paused) e st ch t =
     let b = becomes old new i l l' st e.links.rising ch in
     let found = link_in-place 0 old.links i l e.links.rising ch.within ch.here in
-    record { ok = (ap is_past_bound (ap (λ (o : Option Link). (wire_of o).output) found ∙ Rattle.engine.proofs.Standing.output_in (is_ended l.session.phase) l) ∙ t.0, waited old new l l' b found (same_waits (broker_of old.broker) (broker_of new.broker) l l' t.1)); fewer = tt; err = tt }
+    record { ok = (over_is old l found ∙ t.0, ap is_past_bound (ap (λ (o : Option Link). (wire_of o).output) found ∙ Rattle.engine.proofs.Standing.output_in (is_ended l.session.phase) l) ∙ t.1, waited old new l l' b found (same_waits (broker_of old.broker) (broker_of new.broker) l l' t.2)); fewer = tt; err = tt }
 outcome old new i l l' (Ok turn.Over) e st ch t =
     let b = becomes old new i l l' st e.links.rising ch in
     let found = link_in-place 0 old.links i l e.links.rising ch.within ch.here in
-    record { ok = (ap (λ (o : Option Link). is_ended (session_of o).phase) found ∙ t.0, waited old new l l' b found (same_waits (broker_of old.broker) (broker_of new.broker) l l' t.1)); fewer = tt; err = tt }
+    record { ok = (over_is old l found ∙ t.0, waited old new l l' b found (same_waits (broker_of old.broker) (broker_of new.broker) l l' t.1)); fewer = tt; err = tt }
 outcome old new i l l' (Err x) e st ch t =
     let b = becomes old new i l l' st e.links.rising ch in
     let found = link_in-place 0 old.links i l e.links.rising ch.within ch.here in
@@ -124,7 +140,9 @@ took old new c i what e st place t =
 
 pub took_engine : {E : Type 0} (old new : Parts) (i : ℕ) (what : Result Turn E) → IsEngine old → Stays old new
     → LinksTook (topology_of old.broker) (broker_of old.broker) old.links i what (broker_of new.broker) new.links → IsEngine new
-took_engine old new i what e st t = engine_change old new i t.old t.new e st t.changes
+took_engine old new i what e st t =
+    let out = outcome old new i t.old t.new what e st t.changes t.took in
+    engine_change old new i t.old t.new e st t.changes (turn_agrees what (world_of old) (world_of new) t.old.number e.consistent out.ok out.err)
 
 -- of a connection that is not there nothing is performed
 pub not_there : (p : Parts) (c : ℕ) → link_in p.links c ≡ None → (is_over (world_of p) c ≡ true) × Waits (world_of p) c (world_of p)
@@ -157,7 +175,11 @@ sends old new c i n e st place s =
 
 pub sends_engine : (old new : Parts) (i n : ℕ) → IsEngine old → Stays old new
     → LinksSent (topology_of old.broker) (broker_of old.broker) old.links i n (broker_of new.broker) new.links → IsEngine new
-sends_engine old new i n e st s = engine_change old new i s.old s.new e st s.changes
+sends_engine old new i n e st s =
+    let found = link_in-place 0 old.links i s.old e.links.rising s.changes.within s.changes.here in
+    let b = becomes old new i s.old s.new st e.links.rising s.changes in
+    let off = taken old new s.old s.new n b found s.sent in
+    engine_change old new i s.old s.new e st s.changes (takes_consistent (world_of old) (world_of new) s.old.number n off.0 e.consistent off.1)
 
 -- ---- bytes that are heard
 
@@ -185,8 +207,12 @@ feeds old new c i bytes e st same place f =
     let b = becomes old new i f.old f.new st e.links.rising ch in
     subst (λ (k : ℕ). Hears (world_of old) k bytes (world_of new)) (number_is old.links c i f.old place f.here) (hears old new f.old f.new bytes b found same f.fed)
 
-pub feeds_engine : (old new : Parts) (i : ℕ) (bytes : List ℕ) → IsEngine old → Stays old new → LinksFed old.links i bytes new.links → IsEngine new
-feeds_engine old new i bytes e st f = engine_change old new i f.old f.new e st (fed_changes old.given old.links new.links i bytes e.links f)
+pub feeds_engine : (old new : Parts) (i : ℕ) (bytes : List ℕ) → IsEngine old → Stays old new → broker_of new.broker ≡ broker_of old.broker → LinksFed old.links i bytes new.links → IsEngine new
+feeds_engine old new i bytes e st same f =
+    let ch = fed_changes old.given old.links new.links i bytes e.links f in
+    let found = link_in-place 0 old.links i f.old e.links.rising f.within f.here in
+    let b = becomes old new i f.old f.new st e.links.rising ch in
+    engine_change old new i f.old f.new e st ch (hears_agrees (world_of old) (world_of new) f.old.number bytes e.consistent (hears old new f.old f.new bytes b found same f.fed))
 
 pub hears_none : (p : Parts) (c : ℕ) (bytes : List ℕ) → link_in p.links c ≡ None → Hears (world_of p) c bytes (world_of p)
 hears_none p c bytes none = on_true (Same (world_of p) (world_of p)) (world_of p ≡ with_heard (world_of p) c bytes) (is_over (world_of p) c) (not_there p c none).0 (nothing_changes p)
@@ -208,15 +234,18 @@ loses old new c i e st place left acts =
     (lost old new c st.topology st.guarantees st.users st.given acts
     (λ d. ap (λ (z : List Link). link_in z d) left ∙ link_in-remove 0 old.links i l d e.links.rising place.0 at.1 ∙ ap (λ (k : ℕ). cond (k == d) None (link_in old.links d)) is))
 
-pub loses_engine : (old new : Parts) (i : ℕ) → IsEngine old → Stays old new → new.links ≡ remove old.links i → IsEngine new
-loses_engine old new i e st left = engine_with old new e st
+pub loses_engine : (old new : Parts) (c i : ℕ) → IsEngine old → Stays old new → IsPlaceOf old.links c (Some i) → new.links ≡ remove old.links i
+    → Acts (topology_of old.broker) (broker_of old.broker) (event.Lose c) [] [] (broker_of new.broker) → IsEngine new
+loses_engine old new c i e st place left acts = engine_with old new e st
     (subst (λ (z : List Link). AreLinks old.given z) (sym left) (record { rising = rising-remove 0 old.links i e.links.rising; each = all-remove (Rattle.engine.specs.World.IsLink old.given) old.links i e.links.each }))
+    (loses_agrees (world_of old) (world_of new) c e.consistent (loses old new c i e st place left acts))
 
 -- ---- bytes that are heard, or memory was wanting
 
-pub fed_engine : {T E : Type 0} (r : Result T E) (old new : Parts) (i : ℕ) (bytes : List ℕ) → IsEngine old → Stays old new → OnOk r (LinksFed old.links i bytes new.links) → OnErr r (new.links ≡ old.links) → IsEngine new
-fed_engine (Ok x) old new i bytes e st ok err = feeds_engine old new i bytes e st ok
-fed_engine (Err x) old new i bytes e st ok err = engine_with old new e st (subst (λ (z : List Link). AreLinks old.given z) (sym err) e.links)
+pub fed_engine : {T E : Type 0} (r : Result T E) (old new : Parts) (i : ℕ) (bytes : List ℕ) → IsEngine old → Stays old new → broker_of new.broker ≡ broker_of old.broker → OnOk r (LinksFed old.links i bytes new.links) → OnErr r (new.links ≡ old.links) → IsEngine new
+fed_engine (Ok x) old new i bytes e st same ok err = feeds_engine old new i bytes e st same ok
+fed_engine (Err x) old new i bytes e st same ok err =
+    engine_with old new e st (subst (λ (z : List Link). AreLinks old.given z) (sym err) e.links) (same_agrees (world_of old) (world_of new) e.consistent (world_stays old new st same err))
 
 pub fed_ok : {T E : Type 0} (r : Result T E) (old new : Parts) (c i : ℕ) (bytes : List ℕ) → IsEngine old → Stays old new → broker_of new.broker ≡ broker_of old.broker → IsPlaceOf old.links c (Some i)
     → OnOk r (LinksFed old.links i bytes new.links) → OnOk r (Hears (world_of old) c bytes (world_of new))
@@ -237,3 +266,15 @@ output_at p c i l e place here = ap (λ (o : Option Link). (wire_of o).output) (
 
 pub over_at : (p : Parts) (c i : ℕ) (l : Link) → IsEngine p → IsPlaceOf p.links c (Some i) → get_or p.links i l ≡ l → is_over (world_of p) c ≡ is_ended l.session.phase
 over_at p c i l e place here = ap (λ (o : Option Link). is_ended (session_of o).phase) (found_at p.links c i l e.links.rising place here)
+
+-- ---- of one that is over nothing is heard
+
+fed_nothing : {T E : Type 0} (r : Result T E) (p : Parts) (ls : List Link) → IsOk r × (ls ≡ p.links) → IsOk r × (record p { links = ls } ≡ p)
+fed_nothing r p ls both = (both.0, λ i. record p { links = both.1 i })
+
+-- the connection at this place is over, and so nothing was kept
+pub fed_over : {T E : Type 0} (r : Result T E) (p : Parts) (ls : List Link) (c i : ℕ) → IsEngine p → IsPlaceOf p.links c (Some i)
+    → ((l : Link) → get_or p.links i l ≡ l → is_ended l.session.phase ≡ true → IsOk r × (ls ≡ p.links)) → is_over (world_of p) c ≡ true → IsOk r × (record p { links = ls } ≡ p)
+fed_over r p ls c i e place over is =
+    let at = Rattle.engine.proofs.Found.element p.links i place.0 in
+    fed_nothing r p ls (over at.0 at.1 (sym (over_at p c i at.0 e place at.1) ∙ is))

@@ -51,6 +51,8 @@ pub record LinkFed (old : Link) (bytes : List ℕ) (new : Link) : Type 0 where
   pub kept : new.kept ≡ old.kept
   pub output : new.output ≡ old.output
   pub stream : is_ended old.session.phase ≡ false → stream_of new.stream ≡ heard (stream_of old.stream) bytes
+  -- of one that is over nothing is kept
+  pub over : is_ended old.session.phase ≡ true → new ≡ old
 
 -- ---- the connections
 
@@ -121,8 +123,8 @@ pub record IsTurn (old : World) (c : ℕ) (notes : List Note) (new : World) : Ty
 -- The turn is right: what was performed, or why nothing was.
 abbrev pub Turned : World → ℕ → Turn → World → Type 0
 Turned old c (turn.Did notes) new = IsTurn old c notes.items new
-Turned old c turn.Idle new = IsIdle old c × Waits old c new
-Turned old c turn.Paused new = (is_paused old c ≡ true) × Waits old c new
+Turned old c turn.Idle new = (is_over old c ≡ false) × IsIdle old c × Waits old c new
+Turned old c turn.Paused new = (is_over old c ≡ false) × (is_paused old c ≡ true) × Waits old c new
 Turned old c turn.Over new = (is_over old c ≡ true) × Waits old c new
 
 -- this holds where something was performed

@@ -23,9 +23,9 @@ pub record Performed (t : Topology) (b : Broker) (c : ℕ) (s : Session) (output
   pub mid : Broker
   pub decides : Decides s.phase t b s event sends notes mid new_s
   pub own : AllByRecursion (λ s. receiver s ≡ c) sends
-  pub bounded : new_s.frame_max ≤ 131072
-  pub spelled : AllByRecursion (IsSpelled new_s.frame_max) sends
-  pub put : new_output ≡ output ++ spelling new_s.frame_max sends
+  pub bounded : s.frame_max ≤ 131072
+  pub spelled : AllByRecursion (IsSpelled s.frame_max) sends
+  pub put : new_output ≡ output ++ spelling s.frame_max sends
   pub pauses : PausesOr t c false (is_past_bound new_output) mid new_b
 
 -- The event was performed, nothing is kept, and nothing more is read.
@@ -77,5 +77,5 @@ pub record LinkSame (b : Broker) (old : Link) (new_b : Broker) (new : Link) : Ty
 abbrev pub LinkTook : Topology → Broker → Link → Turn → Broker → Link → Type 0
 LinkTook t b old (turn.Did notes) new_b new = (is_ended old.session.phase ≡ false) × (is_past_bound old.output.bytes ≡ false) × LinkDid t b old notes.items new_b new
 LinkTook t b old turn.Idle new_b new = (is_ended old.session.phase ≡ false) × LinkIdle b old new_b new
-LinkTook t b old turn.Paused new_b new = (is_past_bound old.output.bytes ≡ true) × LinkSame b old new_b new
+LinkTook t b old turn.Paused new_b new = (is_ended old.session.phase ≡ false) × (is_past_bound old.output.bytes ≡ true) × LinkSame b old new_b new
 LinkTook t b old turn.Over new_b new = (is_ended old.session.phase ≡ true) × LinkSame b old new_b new

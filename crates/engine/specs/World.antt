@@ -7,6 +7,7 @@ use Rattle.model.specs.Commands.{running_stream}
 use Rattle.model.specs.Phases.{Session, no_session, running_session}
 use Rattle.model.specs.State.{Config, State}
 use Rattle.model.specs.Arrivals.{Wire, World, new_wire, is_ended}
+use Rattle.model.specs.Consistent.{IsConsistent}
 use Rattle.model.specs.declared.messages.User.{User}
 use Rattle.assembly.specs.Held.{stream_of}
 use Rattle.broker.specs.State as broker
@@ -80,7 +81,9 @@ pub record AreLinks (given : ℕ) (ls : List Link) : Type 0 where
   pub rising : AreRising 0 ls
   pub each : AllByRecursion (IsLink given) ls
 
+-- The guarantees hold of the topology, the connections stand in the order of their numbers, and the broker agrees with them.
 pub record IsEngine (p : Parts) : Type 0 where
   pub hold : AllHold (topology_of p.broker) p.guarantees
   pub formed : IsWellFormed (topology_of p.broker)
   pub links : AreLinks p.given p.links
+  pub consistent : IsConsistent (world_of p)

@@ -7,11 +7,14 @@ ghost use Rattle.std.specs.Prelude.{
   ℕ,
   length,
   get_or,
+  true,
   IfSome,
+  IsOk,
   OnOk,
   OnErr,
   IfOk,
 };
+ghost use Rattle.model.specs.Arrivals.{is_ended};
 ghost use Rattle.broker.specs.State.{topology_of, broker_of};
 ghost use Rattle.engine.specs.Reading.{IsKept};
 ghost use Rattle.engine.specs.Turning.{LinkTook, LinkWaits};
@@ -128,6 +131,7 @@ pub(crate) fn take_at(broker: &mut Broker, links: &mut Vec<Link>, place: usize, 
 /// Puts bytes behind those that the connection has still to read, unless it is over.
 fn feed_link(link: &mut Link, bytes: &[u8]) -> Result<(), AllocError>
     ensures ok { OnOk result (LinkFed link.old bytes.now link.new) }
+    ensures over { is_ended link.old.session.phase ≡ true → IsOk result × (link.new ≡ link.old) }
     ensures err { OnErr result (link.new ≡ link.old) }
 {
     if link.session.is_over() {
@@ -140,6 +144,7 @@ fn feed_link(link: &mut Link, bytes: &[u8]) -> Result<(), AllocError>
 pub(crate) fn feed_at(links: &mut Vec<Link>, place: usize, bytes: &[u8]) -> Result<(), AllocError>
     requires { place < length links.old.items }
     ensures ok { OnOk result (LinksFed links.old.items place bytes.now links.new.items) }
+    ensures over { (l : seen_link.Link) → get_or links.old.items place l ≡ l → is_ended l.session.phase ≡ true → IsOk result × (links.new.items ≡ links.old.items) }
     ensures err { OnErr result (links.new.items ≡ links.old.items) }
 {
     feed_link(&mut links[place], bytes)

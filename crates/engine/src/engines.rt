@@ -1,6 +1,6 @@
 //! The engine.
 
-ghost use Rattle.std.specs.Prelude.{◌≡◌, ◌<◌, nat_le, length, IfOk, OnErr, OnOk};
+ghost use Rattle.std.specs.Prelude.{◌≡◌, ◌<◌, nat_le, length, true, IfOk, IsOk, OnErr, OnOk};
 ghost use Rattle.model.specs.Arrivals.{Same, Waits, new_world, is_over};
 ghost use Rattle.runs.specs.Opened.{Hears, Takes, IsLost};
 ghost use Rattle.engine.specs.World.{world_of};
@@ -100,8 +100,8 @@ impl Engine {
 
     /// Opens a connection that runs at once, with channels 1 to `channels` open: its number.
     ///
-    /// Refused `Full` where 1,024 connections are not gone, `Spent` where the last number was given. A refusal changes
-    /// nothing.
+    /// Refused `Full` where 1,024 connections are not gone, `Spent` where the last number was given, and for memory only
+    /// where neither is so. A refusal changes nothing.
     pub fn open_ready(&mut self, alloc: Global, channels: u8) -> Result<u64, Refused>
         ensures { Opened (world_of self.old) channels result (world_of self.new) }
     {
@@ -119,9 +119,11 @@ impl Engine {
         Ok(number)
     }
 
-    /// Takes in bytes of the connection `c`. Of one that is over or gone nothing more is read.
+    /// Takes in bytes of the connection `c`. Of one that is over or gone nothing more is read or kept, and no memory is
+    /// wanted.
     pub fn feed(&mut self, c: u64, bytes: &[u8]) -> Result<(), AllocError>
         ensures ok { OnOk result (Hears (world_of self.old) c bytes.now (world_of self.new)) }
+        ensures over { is_over (world_of self.old) c ≡ true → IsOk result × (self.new ≡ self.old) }
         ensures err { OnErr result (self.new ≡ self.old) }
     {
         match place_of(&self.links, c) {

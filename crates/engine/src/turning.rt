@@ -51,8 +51,8 @@ fn do_event(
     ensures output_kept { OnErr result (output.new ≡ output.old) }
     ensures topology { topology_of broker.new ≡ topology_of broker.old }
 {
-    let step = perform(c, alloc, broker, session, event)?;
     let max = session.frame_max();
+    let step = perform(c, alloc, broker, session, event)?;
     put_sends(c, output, scratch, max, &step.sends);
     let is_past = output.bytes().len() >= 1_048_576;
     pause_if(broker, c, is_past);

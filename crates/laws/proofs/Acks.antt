@@ -21,7 +21,7 @@ use Rattle.model.specs.declared.notes.Note.{Note}
 use Rattle.model.specs.declared.notes.Answer.TheVariants as answer
 use Rattle.laws.specs.Promises.{ack_sent}
 use Rattle.laws.proofs.Counts.{filter_map_none}
-use Rattle.laws.proofs.Balance.{IsNoAck, Publishes, Seen, seen, number, content, confirm, some_full, is_returned}
+use Rattle.laws.proofs.Balance.{IsNoAck, Publishes, Seen, seen_at, number, content, confirm, some_full, is_returned}
 use Rattle.laws.proofs.Once.{acked_if, nothing_acked, publish_acked, acked_by_answer}
 
 -- the acks among these sends to a connection
@@ -77,9 +77,8 @@ step_acks t old new e sends notes (inr p) gs c =
 -- In every run the acks sent to a connection are those of its publishes confirmed by ack, one by one.
 pub run_acks : (hs : List Happening) (old new : State) → Run old hs new → (c : ℕ) → filter_map ack_sent (sends_to c (sends_of hs)) ≡ map ack_for (acked c hs)
 run_acks [] old new r c = refl
-run_acks (h ∷ hs) old new (mid, s, r) c =
-    let v = seen h.config old mid h.event h.sends h.notes s in
+run_acks (h ∷ hs) old new (e, s, r) c =
     acks_to-append c h.sends (sends_of hs)
-    ∙ ap (λ (xs : List Ack). acks_to c h.sends ++ xs) (run_acks hs mid new r c)
-    ∙ ap (λ (xs : List Ack). xs ++ map ack_for (acked c hs)) (step_acks h.config.topology old.broker mid.broker h.event h.sends h.notes v h.config.guarantees c)
+    ∙ ap (λ (xs : List Ack). acks_to c h.sends ++ xs) (run_acks hs h.after new r c)
+    ∙ ap (λ (xs : List Ack). xs ++ map ack_for (acked c hs)) (step_acks h.config.topology h.before.broker h.after.broker h.event h.sends h.notes (seen_at h s) h.config.guarantees c)
     ∙ sym (map-append ack_for (acked_at c h) (acked c hs))

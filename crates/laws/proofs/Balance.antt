@@ -1,15 +1,15 @@
 -- What one event does: it adds nothing, or it is a publish. And so each queue has what entered it and didn't leave it.
-use Rattle.std.proofs.Common.{◌≡◌, ℕ, ◌+◌, ◌⊎◌, List, [], ◌∷◌, ◌++◌, Bool, true, false, cond, eqb, length, refl, sym, ap, subst, ◌∙◌, arith, append_assoc, map, Option, Some, None, inl, inr}
+use Rattle.std.proofs.Common.{◌≡◌, ◌<◌, ℕ, ◌+◌, ◌⊎◌, List, [], ◌∷◌, ◌++◌, Bool, true, false, cond, eqb, length, refl, sym, ap, subst, ◌∙◌, arith, append_assoc, map, Option, Some, None, inl, inr}
 use Rattle.std.specs.Prelude.{count_by, ◌&&◌, ◌==◌, not, if◌then◌else◌}
 use Rattle.std.specs.Str.{bytes_eq}
 use Rattle.std.specs.List.{AllByRecursion}
 use Rattle.model.specs.Words.{Text}
 use Rattle.model.specs.Topology.{Topology, IsIn}
 use Rattle.model.specs.Broker.{Channel, Connection, Broker, is_full}
-use Rattle.model.specs.Step.{Refusal, Ignored, Of_channel, Of_connection, Does, IsPublish, Performs, Refuses, Decides, OnConnection, OnLarge, Acts, empty_publish, refusal_of_large, freed, by_channel, by_connection, with_channel, with_freed, reply, content_or_none, message, comes_to, entry_notes, returned_notes, confirm_notes, is_none, is_some_full, next_of, answer_of, refusal, channel_or_new}
-use Rattle.model.specs.Phases.{Session, Move, stays_in, to_phase, while_closing, answer, faulted}
-use Rattle.model.specs.State.{Config, State, Moves, OfCommand, OfLarge, OfFault, Step}
-use Rattle.model.specs.Run.{Happening, Run, Balances, notes_of, is_entered, is_left, has_number}
+use Rattle.model.specs.Step.{Refusal, Ignored, Of_channel, Of_connection, Does, IsPublish, Performs, Refuses, Decides, OnConnection, OnLarge, Acts, empty_publish, refusal_of_large, freed, by_channel, by_connection, with_channel, with_freed, reply, content_or_none, message, comes_to, entry_notes, returned_notes, confirm_notes, is_none, is_some_full, next_of, answer_of, refusal, channel_or_new, opened}
+use Rattle.model.specs.Phases.{Session, Move, is_running, stays_in, to_phase, while_closing, answer, faulted}
+use Rattle.model.specs.State.{Config, State, after_move, Moves, OfCommand, OfLarge, OfFault, Step}
+use Rattle.model.specs.Run.{Happening, Run, Balances, Stays, AreCounted, notes_of, is_entered, is_left, has_number}
 use Rattle.model.specs.declared.messages.Message.{Message}
 use Rattle.model.specs.declared.messages.Holder.{Holder}
 use Rattle.model.specs.declared.messages.Mark.{Mark}
@@ -29,7 +29,7 @@ use Rattle.model.specs.declared.notes.Note.TheVariants.{Published, Entered, Refu
 use Rattle.model.specs.declared.notes.Answer.{Answer}
 use Rattle.model.specs.declared.notes.Way.TheVariants as way
 use Rattle.laws.specs.Promises.{ack_sent}
-use Rattle.laws.proofs.Counts.{count-append, count-cons, count-cons_no, count-map, count_none, all-append, and_true, and_false}
+use Rattle.laws.proofs.Counts.{count-append, count-cons, count-cons_no, count-map, count_none, all-append, and_true, and_false, other_number}
 
 -- ---- what one event does
 
@@ -133,11 +133,26 @@ acts_seen t old new (Resume c) sends notes p = inl (does_nothing old new _ sends
 
 -- ---- a phase alone sends no ack
 
+-- a move to Running leaves the queues as they are, as any other
+moved_count : (b : Broker) (c : ℕ) (next : Session) → (after_move b c next).published ≡ b.published
+moved_count b c next = go (is_running next.phase)
+  where
+    go : (v : Bool) → (if v then opened b c next.channel_max 0 else b).published ≡ b.published
+    go true = refl
+    go false = refl
+
+moved_queue : (b : Broker) (c : ℕ) (next : Session) (q : Text) → (after_move b c next).queue q ≡ b.queue q
+moved_queue b c next q = go (is_running next.phase)
+  where
+    go : (v : Bool) → (if v then opened b c next.channel_max 0 else b).queue q ≡ b.queue q
+    go true = refl
+    go false = refl
+
 moves_nothing : (old new : State) (c : ℕ) (move : Move) (sends : List Send) (notes : List Note) → Moves old c move sends notes new → AllByRecursion IsNoAck move.sends → AddsNothing old.broker new.broker sends notes
 moves_nothing old new c move sends notes m silent = record {
-  same = m.broker.counted;
+  same = m.broker.counted ∙ moved_count old.broker c move.next;
   noted = m.noted;
-  kept = λ n q. ap (count_by (has_number n)) (m.broker.queues q);
+  kept = λ n q. ap (count_by (has_number n)) (m.broker.queues q ∙ moved_queue old.broker c move.next q);
   no_acks = subst (AllByRecursion IsNoAck) (sym m.sent) silent;
 }
 
@@ -281,12 +296,55 @@ step_balances : (t : Topology) (old new : Broker) (e : Event) (sends : List Send
 step_balances t old new e sends notes (inl a) n q = rw (a.noted, a.kept n q) (omega arith)
 step_balances t old new e sends notes (inr p) n q = publish_balances t old new e sends notes p n q
 
--- In every run, what stood in a queue and what entered it is what left it and what stands there.
-pub run_balances : (hs : List Happening) (old new : State) → Run old hs new → Balances old.broker (notes_of hs) new.broker
-run_balances [] old new r n q = rw r (omega arith)
-run_balances (h ∷ hs) old new (mid, s, r) n q =
-    let one = step_balances h.config.topology old.broker mid.broker h.event h.sends h.notes (seen h.config old mid h.event h.sends h.notes s) n q in
-    let rest = run_balances hs mid new r n q in
+-- an event of a run, as it stands in it
+pub seen_at : (h : Happening) → Step h.config h.before h.event h.sends h.notes h.after → Seen h.config.topology h.before.broker h.after.broker h.event h.sends h.notes
+seen_at h s = seen h.config h.before h.after h.event h.sends h.notes s
+
+-- In every run each event balances by its own notes.
+pub run_stays : (hs : List Happening) (old new : State) → Run old hs new → Stays old.broker hs new.broker
+run_stays [] old new r = ap (λ (z : State). z.broker) r
+run_stays (h ∷ hs) old new (e, s, r) = (
+  ap (λ (z : State). z.broker) e,
+  step_balances h.config.topology h.before.broker h.after.broker h.event h.sends h.notes (seen_at h s),
+  run_stays hs h.after new r,
+)
+
+-- What balances event by event balances as a whole.
+pub stays_balances : (hs : List Happening) (old new : Broker) → Stays old hs new → Balances old (notes_of hs) new
+stays_balances [] old new e n q = rw e (omega arith)
+stays_balances (h ∷ hs) old new (e, one, rest) n q =
+    let first = one n q in
+    let after = stays_balances hs h.after.broker new rest n q in
+    let from : count_by (has_number n) (h.before.broker.queue q) ≡ count_by (has_number n) (old.queue q) = ap (λ (b : Broker). count_by (has_number n) (b.queue q)) e in
     let entered = count-append (is_entered n q) h.notes (notes_of hs) in
     let left = count-append (is_left n q) h.notes (notes_of hs) in
-    omega (arith, one, rest, entered, left)
+    omega (arith, from, first, after, entered, left)
+
+-- In every run, what stood in a queue and what entered it is what left it and what stands there.
+pub run_balances : (hs : List Happening) (old new : State) → Run old hs new → Balances old.broker (notes_of hs) new.broker
+run_balances hs old new r = stays_balances hs old.broker new.broker (run_stays hs old new r)
+
+-- ---- no message stands in a queue that was not counted
+
+counted_by_publish : (t : Topology) (old new : Broker) (e : Event) (sends : List Send) (notes : List Note) → Publishes t old new e sends notes → AreCounted old → AreCounted new
+counted_by_publish t old new e sends notes p counted n q lt =
+    let made : new.published ≡ old.published + 1 = p.is.left.counted in
+    let ne : eqb (old.published + 1) n ≡ false = other_number n (old.published + 1) (λ e. omega (arith, e, lt, made)) in
+    let entered : count_by (is_entered n q) notes ≡ 0 =
+    ap (count_by (is_entered n q)) (noted p)
+    ∙ count_none (is_entered n q) (first_note p ∷ (entry_part p ++ answer_part p)) (refl, others_all p _ (λ r. refl) (λ r i. ap (λ b. b && bytes_eq r q) ne) refl (λ a. refl)) in
+    let balance = publish_balances t old new e sends notes p n q in
+    let none = counted n q (omega (arith, lt, made)) in
+    omega (arith, entered, balance, none)
+
+counted_step : (t : Topology) (old new : Broker) (e : Event) (sends : List Send) (notes : List Note) → Seen t old new e sends notes → AreCounted old → AreCounted new
+counted_step t old new e sends notes (inl a) counted = λ n q lt. a.kept n q ∙ counted n q (subst (λ (k : ℕ). k < n) a.same lt)
+counted_step t old new e sends notes (inr p) counted = counted_by_publish t old new e sends notes p counted
+
+pub counted_at : (h : Happening) → Step h.config h.before h.event h.sends h.notes h.after → AreCounted h.before.broker → AreCounted h.after.broker
+counted_at h s = counted_step h.config.topology h.before.broker h.after.broker h.event h.sends h.notes (seen_at h s)
+
+-- Every run keeps that.
+pub run_counts : (hs : List Happening) (old new : State) → Run old hs new → AreCounted old.broker → AreCounted new.broker
+run_counts [] old new r counted = subst (λ (z : State). AreCounted z.broker) (sym r) counted
+run_counts (h ∷ hs) old new (e, s, r) counted = run_counts hs h.after new r (counted_at h s (subst (λ (z : State). AreCounted z.broker) (sym e) counted))

@@ -7,5 +7,7 @@ pub mod Never
 pub mod Streams
 pub mod Reading
 pub mod Plays
+pub mod Linked
+pub mod Consistency
 pub mod Whole
 pub mod Rows

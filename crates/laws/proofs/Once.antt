@@ -30,7 +30,7 @@ use Rattle.model.specs.declared.notes.Note.TheVariants.{Published, Entered}
 use Rattle.model.specs.declared.notes.Way.TheVariants as way
 use Rattle.laws.specs.Promises.{AreSound, AreSaid}
 use Rattle.laws.proofs.Counts.{count-append, count-cons, count-cons_yes, count-cons_no, count_none, any_none, filter_map_none, all-append, all_each, in_from_contains, in-map, other_number}
-use Rattle.laws.proofs.Balance.{Publishes, Seen, seen, number, content, confirm, some_full, is_returned, first_note, entry_part, answer_part, noted, returned_all, entry_all, answers_all, others_all}
+use Rattle.laws.proofs.Balance.{Publishes, Seen, seen_at, number, content, confirm, some_full, is_returned, first_note, entry_part, answer_part, noted, returned_all, entry_all, answers_all, others_all}
 
 -- ---- numbers tell publishes apart
 
@@ -58,31 +58,32 @@ step_grows t old new e sends notes (inr p) = let e = p.is.left.counted in omega 
 
 run_of_others : (hs : List Happening) (old new : State) → Run old hs new → (n : ℕ) → n ≤ old.broker.published → AreOfOthers n (notes_of hs)
 run_of_others [] old new r n le = tt
-run_of_others (h ∷ hs) old new (mid, s, r) n le =
-    let v = seen h.config old mid h.event h.sends h.notes s in
-    let grows = step_grows h.config.topology old.broker mid.broker h.event h.sends h.notes v in
-    all-append _ h.notes (notes_of hs) (step_of_others h.config.topology old.broker mid.broker h.event h.sends h.notes v n (inl le)) (run_of_others hs mid new r n (omega arith))
+run_of_others (h ∷ hs) old new (e, s, r) n le =
+    let v = seen_at h s in
+    let t = h.config.topology in
+    let from : n ≤ h.before.broker.published = subst (λ (z : State). n ≤ z.broker.published) (sym e) le in
+    let grows = step_grows t h.before.broker h.after.broker h.event h.sends h.notes v in
+    all-append _ h.notes (notes_of hs) (step_of_others t h.before.broker h.after.broker h.event h.sends h.notes v n (inl from)) (run_of_others hs h.after new r n (omega (arith, from, grows)))
 
 -- where an event stands among the notes of its run: what is noted before and after it is of other publishes
 pub record Placed (all : List Note) (h : Happening) : Type 0 where
-  pub old : Broker
-  pub new : Broker
-  pub step : Seen h.config.topology old new h.event h.sends h.notes
+  pub step : Seen h.config.topology h.before.broker h.after.broker h.event h.sends h.notes
   pub before : List Note
   pub after : List Note
   pub split : all ≡ before ++ (h.notes ++ after)
-  pub earlier : (n : ℕ) → old.published < n → AreOfOthers n before
-  pub later : (n : ℕ) → n ≤ new.published → AreOfOthers n after
+  pub earlier : (n : ℕ) → h.before.broker.published < n → AreOfOthers n before
+  pub later : (n : ℕ) → n ≤ h.after.broker.published → AreOfOthers n after
 
 places_from : (all : List Note) (hs : List Happening) (old new : State) (before : List Note) → Run old hs new → all ≡ before ++ notes_of hs → ((n : ℕ) → old.broker.published < n → AreOfOthers n before) → AllByRecursion (Placed all) hs
 places_from all [] old new before r e earlier = tt
-places_from all (h ∷ hs) old new before (mid, s, r) e earlier =
+places_from all (h ∷ hs) old new before (from, s, r) e earlier =
     let t = h.config.topology in
-    let v = seen h.config old mid h.event h.sends h.notes s in
-    let grows = step_grows t old.broker mid.broker h.event h.sends h.notes v in (
-      record { old = old.broker; new = mid.broker; step = v; before = before; after = notes_of hs; split = e; earlier = earlier; later = run_of_others hs mid new r },
-      places_from all hs mid new (before ++ h.notes) r (e ∙ sym (append_assoc before h.notes (notes_of hs)))
-          (λ n lt. all-append _ before h.notes (earlier n (omega (arith, grows, lt))) (step_of_others t old.broker mid.broker h.event h.sends h.notes v n (inr lt))),
+    let v = seen_at h s in
+    let grows = step_grows t h.before.broker h.after.broker h.event h.sends h.notes v in
+    let start : h.before.broker.published ≡ old.broker.published = ap (λ (z : State). z.broker.published) from in (
+      record { step = v; before = before; after = notes_of hs; split = e; earlier = λ n lt. earlier n (omega (arith, lt, start)); later = run_of_others hs h.after new r },
+      places_from all hs h.after new (before ++ h.notes) r (e ∙ sym (append_assoc before h.notes (notes_of hs)))
+          (λ n lt. all-append _ before h.notes (earlier n (omega (arith, grows, lt, start))) (step_of_others t h.before.broker h.after.broker h.event h.sends h.notes v n (inr lt))),
     )
 
 pub places : (hs : List Happening) (old new : State) → Run old hs new → AllByRecursion (Placed (notes_of hs)) hs
@@ -210,12 +211,12 @@ into_is_of_publish n q (Entered m r way.Dead) e = refl
 into_is_of_publish n q _ e = refl
 
 -- among all notes too: those of the other events are of other publishes
-once_of_all : (all : List Note) (h : Happening) (at : Placed all h) (p : Publishes h.config.topology at.old at.new h.event h.sends h.notes) (q : Text)
+once_of_all : (all : List Note) (h : Happening) (at : Placed all h) (p : Publishes h.config.topology h.before.broker h.after.broker h.event h.sends h.notes) (q : Text)
     → count_by (is_publish_into (number p) q) h.notes ≡ 1 → count_by (is_publish_into (number p) q) all ≡ 1
 once_of_all all h at p q own =
     let n = number p in
     let test = is_publish_into n q in
-    let made : at.new.published ≡ at.old.published + 1 = p.is.left.counted in
+    let made : h.after.broker.published ≡ h.before.broker.published + 1 = p.is.left.counted in
     let before = count_none test at.before (all_each _ _ (into_is_of_publish n q) at.before (at.earlier n (omega arith))) in
     let after = count_none test at.after (all_each _ _ (into_is_of_publish n q) at.after (at.later n (omega arith))) in
     let split = count-append test at.before (h.notes ++ at.after) in
@@ -233,7 +234,7 @@ keeps_reaches t g x key holds m covers short =
 each_entered_once : (all : List Note) (h : Happening) → Placed all h → IsSound h.config → IsSaid h.event → (c : ℕ) → AllByRecursion (EnteredOnce all) (acked_at c h)
 each_entered_once all h at sound said c = by at.step
   where
-    by : Seen h.config.topology at.old at.new h.event h.sends h.notes → AllByRecursion (EnteredOnce all) (acked_at c h)
+    by : Seen h.config.topology h.before.broker h.after.broker h.event h.sends h.notes → AllByRecursion (EnteredOnce all) (acked_at c h)
     by (inl quiet) = subst (AllByRecursion (EnteredOnce all)) (sym (nothing_acked h.config.guarantees c h.notes h.notes quiet.noted)) tt
     by (inr p) = subst (AllByRecursion (EnteredOnce all)) (sym (publish_acked p h.config.guarantees c h.notes)) (one (confirm p) (p.c == c) (list_any (is_ack_of (number p)) h.notes) refl)
       where

@@ -161,10 +161,18 @@ pub record Told (old : World) (hs : List Happening) (new : World) : Type 0 where
 
 pub run-append : (hs ks : List Happening) (old mid new : State) → Run old hs mid → Run mid ks new → Run old (hs ++ ks) new
 run-append [] ks old mid new r s = subst (λ (b : State). Run b ks new) r s
-run-append (h ∷ hs) ks old mid new (b, step, r) s = (b, step, run-append hs ks b mid new r s)
+run-append (h ∷ hs) ks old mid new (e, step, r) s = (e, step, run-append hs ks h.after mid new r s)
+
+-- what it does, from the state before it to the one after it
+pub step_of : (f : Config) (old new : State) (e : Event) (h : Happening) → Happens f old e h new → Step h.config h.before h.event h.sends h.notes h.after
+step_of f old new e h p =
+    subst (λ (g : Config). Step g h.before h.event h.sends h.notes h.after) (sym p.under)
+    (subst (λ (x : Event). Step f h.before x h.sends h.notes h.after) (sym p.event)
+    (subst (λ (z : State). Step f z e h.sends h.notes h.after) (sym p.before)
+    (subst (λ (z : State). Step f old e h.sends h.notes z) (sym p.after) p.stepped)))
 
 run_one : (f : Config) (old new : State) (e : Event) (h : Happening) → Happens f old e h new → Run old (h ∷ []) new
-run_one f old new e h p = (new, subst (λ (g : Config). Step g old h.event h.sends h.notes new) (sym p.under) (subst (λ (e' : Event). Step f old e' h.sends h.notes new) (sym p.event) p.stepped), refl)
+run_one f old new e h p = (p.before, step_of f old new e h p, sym p.after)
 
 told-append : (old mid new : World) (hs ks : List Happening) → Told old hs mid → Told mid ks new → Told old (hs ++ ks) new
 told-append old mid new hs ks a b = record {
@@ -252,7 +260,7 @@ told_works_off c a b hs w = told_waits c a w.mid b hs (told_works c a w.mid hs w
 told_heard : (a b : World) (c : ℕ) (bytes : List ℕ) (hs : List Happening) → Told (with_heard a c bytes) hs b → Told a hs b
 told_heard a b c bytes hs t = record { run = t.run; each = t.each; config = t.config }
 
-told_taken : (c n : ℕ) (a b : World) (hs : List Happening) → Takes_off a c n hs b → Told a hs b
+pub told_taken : (c n : ℕ) (a b : World) (hs : List Happening) → Takes_off a c n hs b → Told a hs b
 told_taken c n a b hs t =
     let s = settled_is a.config a.state b.state c _ _ hs t.settled in
     record { run = s.run; each = s.each; config = t.config }
@@ -260,14 +268,14 @@ told_taken c n a b hs t =
 told_taken_and_works : (c n : ℕ) (a b : World) (hs : List Happening) → TakesAndWorks a c n hs b → Told a hs b
 told_taken_and_works c n a b hs t = told_at a b hs (t.first ++ t.rest) t.all (told-append a t.mid b t.first t.rest (told_taken c n a t.mid t.first t.takes) (told_works_off c t.mid b t.rest t.works))
 
-told_opens : (a b : World) (n k : ℕ) (s : Stream) (hs : List Happening) → Opens a (event.Running n 255 k) s hs b → Told a hs b
+pub told_opens : (a b : World) (n k : ℕ) (s : Stream) (hs : List Happening) → Opens a (event.Running n 255 k) s hs b → Told a hs b
 told_opens a b n k s hs o = told_at a b hs (o.h ∷ []) o.all (record {
   run = run_one a.config a.state b.state _ o.h o.happens;
   each = (silent_told a.config a.state b.state _ o.h tt o.silent o.happens, tt);
   config = o.config;
 })
 
-told_loses : (a b : World) (c : ℕ) (hs : List Happening) → Loses a c hs b → Told a hs b
+pub told_loses : (a b : World) (c : ℕ) (hs : List Happening) → Loses a c hs b → Told a hs b
 told_loses a b c hs o = told_at a b hs (o.h ∷ []) o.all (record {
   run = run_one a.config a.state b.state _ o.h o.happens;
   each = (silent_told a.config a.state b.state _ o.h tt o.silent o.happens, tt);

@@ -1,15 +1,15 @@
 -- An output is read back as the frames that it was made of, and so the acks in it are those that were sent.
-use Rattle.std.proofs.Common.{◌≡◌, ℕ, ◌-◌, ◌<◌, ◌≤◌, ◌^◌, List, [], ◌∷◌, ◌++◌, length, get_or, take, drop, refl, sym, ap, ◌∙◌, arith, append_assoc, map, Option, Some, None, lit≤, ◌⊎◌, inl, inr}
-use Rattle.std.specs.Prelude.{filter_map, flat_map}
+use Rattle.std.proofs.Common.{◌≡◌, Bool, true, false, ◌%◌, ℕ, ◌-◌, ◌<◌, ◌≤◌, ◌^◌, List, [], ◌∷◌, ◌++◌, length, get_or, take, drop, refl, sym, ap, ◌∙◌, arith, append_assoc, map, Option, Some, None, lit≤, ◌⊎◌, inl, inr}
+use Rattle.std.specs.Prelude.{filter_map, flat_map, ◌==◌}
 use Rattle.std.specs.List.{AllByRecursion, cons_option}
 use Rattle.std.specs.Int.{w16, w32, from_be_bytes}
 use Rattle.std.proofs.lemmas.List.{take_at, drop_at}
 use Rattle.std.proofs.lemmas.List.Elements.{filter_map-append}
 use Rattle.std.proofs.lemmas.Nat.{from_be_bytes-to_be_bytes_2, from_be_bytes-to_be_bytes_4, from_be_bytes-to_be_bytes_8}
 use Rattle.model.specs.Frames.{Frame, frame_bytes, IsFrame}
-use Rattle.model.specs.Grammar.{IsMethod}
+use Rattle.model.specs.Grammar.{IsMethod, method_bytes, octet}
 use Rattle.model.specs.Spelling.{pieces_of, content_frames, frames_of, method_frame, body_frame, IsSpelled, eight_bytes}
-use Rattle.model.specs.Headline.{Ack, ack_in, acks_in, IsReading}
+use Rattle.model.specs.Headline.{Ack, first_bit, ack_in, acks_in, IsReading}
 use Rattle.model.specs.declared.contents.Content.{Content}
 use Rattle.model.specs.declared.events.Send.{Send}
 use Rattle.model.specs.declared.events.Send.TheVariants as send
@@ -98,7 +98,13 @@ content_acks max h (Some c) = bodies (pieces_of (max - 8) (length c.body) c.body
 
 -- the ack that a method frame is
 method_ack : (h : ℕ) (m : Method) → IsMethod m → ack_in (method_frame h m) ≡ ack_of h m
-method_ack h (BasicAck m) fits = ap (λ (n : ℕ). Some (record { channel = h; number = n })) (from_be_bytes-to_be_bytes_8 m.delivery_tag fits.0)
+method_ack h (BasicAck m) fits =
+    ap (λ (n : ℕ). Some (record { channel = h; number = n; multiple = first_bit (method_bytes (BasicAck m)) 12 })) (from_be_bytes-to_be_bytes_8 m.delivery_tag fits.0)
+    ∙ ap (λ (b : Bool). Some (record { channel = h; number = m.delivery_tag; multiple = b })) (bit m.multiple)
+  where
+    bit : (b : Bool) → (octet (b ∷ []) % 2 == 1) ≡ b
+    bit true = refl
+    bit false = refl
 method_ack h _ fits = refl
 
 cons_append : {A : Type 0} (o : Option A) (xs : List A) → cons_option o [] ++ xs ≡ cons_option o xs
@@ -108,7 +114,7 @@ cons_append (Some x) xs = refl
 send_acks : (max : ℕ) (s : Send) → IsSpelled max s → acks_in (frames_of max s) ≡ cons_option (ack_sent s) []
 send_acks max (send.Greeting c) fits = refl
 send_acks max (send.Command c h m content) fits =
-    ap (λ (o : Option Ack). cons_option o (acks_in (content_frames max h content))) (method_ack h m fits.method) ∙ ap (λ (xs : List Ack). cons_option (ack_of h m) xs) (content_acks max h content)
+    ap (λ (o : Option Ack). cons_option o (acks_in (content_frames max h content))) (method_ack h m fits.spelled.0) ∙ ap (λ (xs : List Ack). cons_option (ack_of h m) xs) (content_acks max h content)
 
 pub sent_acks : (max : ℕ) (sends : List Send) → AllByRecursion (IsSpelled max) sends → acks_in (flat_map (frames_of max) sends) ≡ filter_map ack_sent sends
 sent_acks max [] fits = refl

@@ -1,14 +1,22 @@
 -- The worked examples.
-use Rattle.std.proofs.Common.{◌≡◌, ℕ, List, [], ◌∷◌, ◌++◌, refl, sym, ap, ◌∙◌, arith, get_or, drop, lit≤, inl, length}
+use Rattle.std.proofs.Common.{◌≡◌, ℕ, List, [], ◌∷◌, ◌++◌, refl, sym, ap, ◌∙◌, arith, get_or, drop, lit≤, inl, inr, length}
 use Rattle.std.specs.Prelude.{codes}
 use Rattle.std.specs.List.{AllByRecursion}
+use Rattle.std.proofs.lemmas.Bool.{false≢true}
 use Rattle.model.specs.Words.{none, word}
 use Rattle.model.specs.Frames.{Frame, frame_bytes, IsFrame, Begins}
 use Rattle.model.specs.Guarantee.{CoversKey}
 use Rattle.model.specs.Spelling.{method_frame}
-use Rattle.model.specs.Headline.{acks_in, HasAcksOf, IsReading, EnteredOnce, ack_for}
+use Rattle.model.specs.Broker.{Broker}
+use Rattle.model.specs.State.{State}
+use Rattle.model.specs.Run.{Stays}
+use Rattle.model.specs.Headline.{Ack, acks_in, HasAcksOf, IsReading, EnteredOnce, AreAllowed, ack_for}
+use Rattle.model.specs.declared.notes.Note.{Note}
+use Rattle.model.specs.declared.notes.Note.TheVariants.{Entered, Left}
+use Rattle.model.specs.declared.notes.Way.TheVariants.{Dead}
+use Rattle.model.specs.declared.notes.Cause.TheVariants.{Acked}
 use Rattle.model.specs.declared.methods.Method.TheVariants.{ConfirmSelectOk, BasicAck}
-use Rattle.laws.specs.Rows.{WordsOfKeys, FirstInput, FirstOutput, BadEnd, TooLargeContent, HeadlineRefuses, select_ok, first_ack, bad_end, wanted, first_acked, notes_without_entry}
+use Rattle.laws.specs.Rows.{WordsOfKeys, FirstInput, FirstOutput, BadEnd, TooLargeContent, HeadlineRefuses, select_ok, first_ack, multiple_ack, first_entry, with_entries, forbids, event_of_notes, vanishing, bad_end, wanted, first_acked, notes_without_entry}
 use Rattle.laws.proofs.Reading.{reading_apart, size_at, size_is, rest_is}
 
 pub words_of_keys : WordsOfKeys
@@ -75,5 +83,39 @@ nothing_entered : EnteredOnce notes_without_entry first_acked → ⊥
 nothing_entered once =
     zero_is_not_one (once wanted (0, lit≤ tt, refl) refl (refl, covers_new))
 
+is_multiple_ack : IsFrame 131072 (method_frame 1 (BasicAck (record { delivery_tag = 1; multiple = Rattle.std.specs.Prelude.true })))
+is_multiple_ack = record { kind = inl refl; channel = lit≤ tt; size = lit≤ tt }
+
+multiple_reading : IsReading (select_ok ++ multiple_ack) (method_frame 1 ConfirmSelectOk ∷ method_frame 1 (BasicAck (record { delivery_tag = 1; multiple = Rattle.std.specs.Prelude.true })) ∷ [])
+multiple_reading = inl (record { parts = refl; each = (is_select_ok, (is_multiple_ack, tt)) })
+
+more_acked : HasAcksOf (first_acked ∷ []) (select_ok ++ multiple_ack) → ⊥
+more_acked has =
+    let e : record { channel = 1; number = 1; multiple = Rattle.std.specs.Prelude.true } ∷ [] ≡ ack_for first_acked ∷ [] = ap acks_in (reading_apart (select_ok ++ multiple_ack) _ has.frames multiple_reading has.reading) ∙ has.acks in
+    false≢true (sym (ap last_bit e))
+  where
+    last_bit : List Ack → Rattle.std.specs.Prelude.Bool
+    last_bit [] = Rattle.std.specs.Prelude.false
+    last_bit (a ∷ as') = a.multiple
+
+-- the first event takes the entry away, and its notes say nothing of it
+one_is_gone : (notes : List Note) (last : State) (new : Broker) → Stays (with_entries (first_entry ∷ [])).broker (vanishing [] notes last) new → ⊥
+one_is_gone notes last new stays =
+    let one : 1 ≡ 0 = stays.1 1 (codes "audit") in
+    zero_is_not_one (sym one)
+
+forbidden : AreAllowed (event_of_notes (forbids ∷ []) (with_entries (first_entry ∷ [])) (Entered 1 (codes "bin") Dead ∷ []) (with_entries (first_entry ∷ []))) → ⊥
+forbidden allowed =
+    allowed.0 (codes "orders") (codes "new") (inr (record { queue = codes "audit"; entry = first_entry; there = inl refl; number = refl; exchange = refl; first_key = refl })) forbids (0, lit≤ tt, refl) refl (refl, word none) refl
+
 pub headline_refuses : HeadlineRefuses
-headline_refuses = record { output_without_ack = no_ack_there; unearned_ack = unearned; ack_without_entry = nothing_entered }
+headline_refuses = record {
+  output_without_ack = no_ack_there;
+  unearned_ack = unearned;
+  ack_without_entry = nothing_entered;
+  ack_of_more = more_acked;
+  message_comes_back = one_is_gone [] (with_entries (first_entry ∷ [])) (with_entries (first_entry ∷ [])).broker;
+  late_note = one_is_gone (Left 1 (codes "audit") Acked ∷ []) (with_entries []) (with_entries []).broker;
+  forbidden_entry = forbidden;
+  left_by_no_cause = λ has. has.0;
+}

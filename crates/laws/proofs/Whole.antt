@@ -5,6 +5,7 @@ use Rattle.std.specs.List.{AllByRecursion}
 use Rattle.std.proofs.lemmas.List.Elements.{filter_map-append}
 use Rattle.std.proofs.lemmas.Option.{slice_get_within}
 use Rattle.model.specs.Frames.{Frame, frame_bytes, IsFrame}
+use Rattle.model.specs.Consistent.{IsConsistent}
 use Rattle.model.specs.State.{Config, State}
 use Rattle.model.specs.Run.{Happening, Run, sends_of, put_out, empty_state}
 use Rattle.model.specs.Spelling.{frames_of, send_bytes, spelling, receiver, sends_to}
@@ -105,10 +106,10 @@ has_acks f old new c hs a run = record {
 
 -- ---- the promises
 
-pub turn_keeps : (old new : World) (c : ℕ) (hs : List Happening) → IsSound old.config → Turns old c hs new → KeepsEvents old.state.broker hs new.state.broker
-turn_keeps old new c hs sound turns =
+pub turn_keeps : (old new : World) (c : ℕ) (hs : List Happening) → IsSound old.config → IsConsistent old → Turns old c hs new → KeepsEvents old.state.broker hs new.state.broker
+turn_keeps old new c hs sound consistent turns =
     let told = told_turns old new c hs turns in
-    run_keeps hs old.state new.state (sound_each old.config hs sound told.each) (said_each old.config hs told.each) told.run
+    run_keeps hs old.state new.state (sound_each old.config hs sound told.each) (said_each old.config hs told.each) consistent.counted told.run
 
 some_same : {A : Type 0} (x y : A) → Some x ≡ Some y → x ≡ y
 some_same x y e = cc
@@ -118,7 +119,7 @@ pub headline_holds : (f : Config) (arrivals : List Arrival) (hs : List Happening
 headline_holds f arrivals hs w seen sound plays shows =
     let told = told_plays (new_world f) w arrivals hs plays in
     record {
-      events = run_keeps hs empty_state w.state (sound_each f hs sound told.each) (said_each f hs told.each) told.run;
+      events = run_keeps hs empty_state w.state (sound_each f hs sound told.each) (said_each f hs told.each) (λ n q lt. refl) told.run;
       acks = λ i one e.
           let within : i < w.given = subst (λ (n : ℕ). i < n) shows.counted (slice_get_within seen.connections i one e) in
           let is : one ≡ shown hs w (i + 1) = some_same one (shown hs w (i + 1)) (sym e ∙ shows.each i within) in

@@ -3,6 +3,7 @@ use Rattle.std.specs.Prelude.{◌≡◌, ℕ, List}
 use Rattle.model.specs.Frames.{Frame}
 use Rattle.model.specs.State.{Config}
 use Rattle.model.specs.Run.{Happening}
+use Rattle.model.specs.Consistent.{IsConsistent}
 use Rattle.model.specs.Arrivals.{World, new_world, Turns, Plays, Shows, Seen}
 use Rattle.model.specs.Headline.{IsReading, IsSound, KeepsEvents, KeepsPromises}
 use Rattle.model.specs.declared.events.Arrival.{Arrival}
@@ -11,9 +12,9 @@ use Rattle.model.specs.declared.events.Arrival.{Arrival}
 abbrev pub OneReading : Type 0
 OneReading = (output : List ℕ) (fs gs : List Frame) → IsReading output fs → IsReading output gs → fs ≡ gs
 
--- one command and the pause that it brings keep the promises of their events
+-- in a world that a run reaches, one command and the pause that it brings keep the promises of their events
 abbrev pub TurnsKeep : Type 0
-TurnsKeep = (old new : World) (c : ℕ) (hs : List Happening) → IsSound old.config → Turns old c hs new → KeepsEvents old.state.broker hs new.state.broker
+TurnsKeep = (old new : World) (c : ℕ) (hs : List Happening) → IsSound old.config → IsConsistent old → Turns old c hs new → KeepsEvents old.state.broker hs new.state.broker
 
 -- Whatever arrives, the headline holds of what happened and of what was seen.
 abbrev pub HeadlineHolds : Config → Type 0

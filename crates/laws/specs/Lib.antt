@@ -4,3 +4,4 @@ pub mod Promises
 pub mod Streams
 pub mod Delivery
 pub mod Rows
+pub mod Consistency

@@ -2,10 +2,10 @@
 use Rattle.std.specs.Prelude.{◌≡◌, ℕ, List, map, filter_map, Option, Some, None}
 use Rattle.std.specs.List.{AllByRecursion}
 use Rattle.model.specs.State.{State}
-use Rattle.model.specs.Run.{Happening, Run, notes_of, sends_of}
+use Rattle.model.specs.Run.{Happening, Run, AreCounted, notes_of, sends_of}
 use Rattle.model.specs.Spelling.{sends_to}
 use Rattle.model.specs.Arrivals.{IsSaid}
-use Rattle.model.specs.Headline.{Ack, IsSound, EnteredOnce, acked, ack_for, AreAllowed, HaveCauses, KeepsEvents}
+use Rattle.model.specs.Headline.{Ack, IsSound, EnteredOnce, acked, ack_for, AreAllowed, AreAllowedIn, HaveCauses, KeepsEvents}
 use Rattle.model.specs.declared.events.Send.{Send}
 use Rattle.model.specs.declared.events.Send.TheVariants as send
 use Rattle.model.specs.declared.methods.Method.{Method}
@@ -15,7 +15,7 @@ use Rattle.model.specs.declared.methods.Method.TheVariants.{BasicAck}
 
 -- a basic.ack on this channel
 abbrev pub ack_of : ℕ → Method → Option Ack
-ack_of h (BasicAck m) = Some (record { channel = h; number = m.delivery_tag })
+ack_of h (BasicAck m) = Some (record { channel = h; number = m.delivery_tag; multiple = m.multiple })
 ack_of h m = None
 
 -- the ack that a send is, if it is one
@@ -45,7 +45,11 @@ AcksAreAcked = (hs : List Happening) (old new : State) → Run old hs new → (c
 
 -- No message of a publish entered a queue that was forbidden to it then.
 abbrev pub ForbiddenAreNotEntered : Type 0
-ForbiddenAreNotEntered = (hs : List Happening) (old new : State) → AreSound hs → AreSaid hs → Run old hs new → AllByRecursion (AreAllowed (notes_of hs)) hs
+ForbiddenAreNotEntered = (hs : List Happening) (old new : State) → AreSound hs → AreSaid hs → Run old hs new → AllByRecursion (AreAllowedIn (notes_of hs)) hs
+
+-- Nor, as each event by itself tells, one that was forbidden to what stood in a queue before it.
+abbrev pub ForbiddenAreNotEnteredAtEvents : Type 0
+ForbiddenAreNotEnteredAtEvents = (hs : List Happening) (old new : State) → AreSound hs → AreSaid hs → AreCounted old.broker → Run old hs new → AllByRecursion AreAllowed hs
 
 -- What left a queue left it by an event that takes it out.
 abbrev pub CausesAreShown : Type 0
@@ -53,4 +57,4 @@ CausesAreShown = (hs : List Happening) (old new : State) → Run old hs new → 
 
 -- All of these, and the balance of every queue.
 abbrev pub RunsKeepEvents : Type 0
-RunsKeepEvents = (hs : List Happening) (old new : State) → AreSound hs → AreSaid hs → Run old hs new → KeepsEvents old.broker hs new.broker
+RunsKeepEvents = (hs : List Happening) (old new : State) → AreSound hs → AreSaid hs → AreCounted old.broker → Run old hs new → KeepsEvents old.broker hs new.broker

@@ -1,6 +1,7 @@
 -- Worked examples, that the checker computes: a definition that says something else shows at once.
-use Rattle.std.specs.Prelude.{◌≡◌, ◌++◌, ℕ, List, [], ◌∷◌, codes, true, false, Some}
-use Rattle.model.specs.Words.{words}
+use Rattle.std.specs.Prelude.{◌≡◌, ◌++◌, ℕ, List, [], ◌∷◌, codes, true, false, Some, if◌then◌else◌}
+use Rattle.std.specs.Str.{bytes_eq}
+use Rattle.model.specs.Words.{Text, words}
 use Rattle.model.specs.Guarantee.{Guarantee}
 use Rattle.model.specs.Frames.{frame_bytes, IsBroken}
 use Rattle.model.specs.Grammar.{ids, ids_of}
@@ -8,12 +9,22 @@ use Rattle.model.specs.Headers.{header_bytes, no_properties}
 use Rattle.model.specs.Spelling.{method_frame, body_frame, spelling}
 use Rattle.model.specs.Commands.{Goes_on, Makes, Breaks, Drops, is_too_large, taken_dropped}
 use Rattle.model.specs.Step.{channel_close, connection_close, select_sends, confirm_sends, empty_publish}
-use Rattle.model.specs.Headline.{Acked, HasAcksOf, EnteredOnce}
-use Rattle.model.specs.declared.topologies.Mode.TheVariants.{Reaches}
+use Rattle.model.specs.Topology.{Topology}
+use Rattle.model.specs.Phases.{no_session}
+use Rattle.model.specs.State.{Config, State}
+use Rattle.model.specs.Run.{Happening, Stays, empty_broker}
+use Rattle.model.specs.Headline.{Acked as AckedPublish, HasAcksOf, EnteredOnce, AreAllowed, HaveCauses}
+use Rattle.model.specs.declared.contents.Content.{Content}
+use Rattle.model.specs.declared.messages.Entry.{Entry}
+use Rattle.model.specs.declared.messages.Mark.TheVariants.{Ready}
+use Rattle.model.specs.declared.events.Event.TheVariants.{Resume}
+use Rattle.model.specs.declared.notes.Cause.TheVariants.{Acked}
+use Rattle.model.specs.declared.notes.Way.TheVariants.{Dead}
+use Rattle.model.specs.declared.topologies.Mode.TheVariants.{Reaches, Never}
 use Rattle.model.specs.declared.events.Command.TheVariants.{TooLarge}
 use Rattle.model.specs.declared.methods.Method.TheVariants.{ConfirmSelect, BasicPublish}
 use Rattle.model.specs.declared.notes.Note.{Note}
-use Rattle.model.specs.declared.notes.Note.TheVariants.{Published, Confirmed}
+use Rattle.model.specs.declared.notes.Note.TheVariants.{Published, Entered, Confirmed, Left}
 use Rattle.model.specs.declared.notes.Answer.TheVariants.{Ack}
 
 -- ---- words of keys
@@ -78,12 +89,46 @@ abbrev pub wanted : Guarantee
 wanted = record { mode = Reaches; exchange = codes "orders"; pattern = codes "new"; queue = codes "audit" }
 
 -- the first publish, confirmed by ack
-abbrev pub first_acked : Acked
+abbrev pub first_acked : AckedPublish
 first_acked = record { number = 1; channel = 1; exchange = codes "orders"; key = codes "new"; confirm = 1; guarantees = wanted ∷ [] }
 
 -- its notes, with nothing entered
 abbrev pub notes_without_entry : List Note
 notes_without_entry = Published 1 1 1 (codes "orders") (codes "new") (Some 1) ∷ Confirmed 1 Ack ∷ []
+
+-- the same ack with `multiple` set: it acknowledges all up to its number
+abbrev pub multiple_ack : List ℕ
+multiple_ack = 1 ∷ 0 ∷ 1 ∷ 0 ∷ 0 ∷ 0 ∷ 13 ∷ 0 ∷ 60 ∷ 0 ∷ 80 ∷ 0 ∷ 0 ∷ 0 ∷ 0 ∷ 0 ∷ 0 ∷ 0 ∷ 1 ∷ 1 ∷ 206 ∷ []
+
+-- ---- what happens at single events
+
+abbrev pub no_content : Content
+no_content = record { properties = no_properties; body = [] }
+
+-- the first publish as it stands in a queue
+abbrev pub first_entry : Entry
+first_entry = record { message = record { number = 1; first_exchange = codes "orders"; first_key = codes "new"; exchange = codes "orders"; key = codes "new"; content = no_content; redelivered = false }; mark = Ready }
+
+abbrev pub one_queue : Text → List Entry → Text → List Entry
+one_queue name entries q = if bytes_eq q name then entries else []
+
+-- a broker with one publish counted, and with these entries in the queue `audit`
+abbrev pub with_entries : List Entry → State
+with_entries entries = record { broker = record empty_broker { published = 1; queue = one_queue (codes "audit") entries }; session = λ c. no_session }
+
+abbrev pub forbids : Guarantee
+forbids = record { mode = Never; exchange = codes "orders"; pattern = codes "new"; queue = codes "bin" }
+
+abbrev pub under : List Guarantee → Config
+under guarantees = record { topology = record { exchanges = []; queues = []; bindings = [] }; guarantees = guarantees; users = [] }
+
+-- an event between two states with these notes, under what is in force
+abbrev pub event_of_notes : List Guarantee → State → List Note → State → Happening
+event_of_notes guarantees old notes new = record { config = under guarantees; event = Resume 1; before = old; sends = []; notes = notes; frame_max = 131072; after = new }
+
+-- two events: by the first the entry vanishes, and these are the notes of both
+abbrev pub vanishing : List Note → List Note → State → List Happening
+vanishing first second last = event_of_notes [] (with_entries (first_entry ∷ [])) first (with_entries []) ∷ event_of_notes [] (with_entries []) second last ∷ []
 
 pub record HeadlineRefuses : Type 0 where
   -- an output from which the ack of an acked publish is missing
@@ -92,3 +137,13 @@ pub record HeadlineRefuses : Type 0 where
   pub unearned_ack : HasAcksOf [] (select_ok ++ first_ack) → ⊥
   -- an ack beside which the promised queue was not entered
   pub ack_without_entry : EnteredOnce notes_without_entry first_acked → ⊥
+  -- an output whose ack acknowledges more than its publish
+  pub ack_of_more : HasAcksOf (first_acked ∷ []) (select_ok ++ multiple_ack) → ⊥
+  -- a message that comes back by the next event
+  pub message_comes_back : Stays (with_entries (first_entry ∷ [])).broker (vanishing [] [] (with_entries (first_entry ∷ []))) (with_entries (first_entry ∷ [])).broker → ⊥
+  -- one that is noted as gone an event late
+  pub late_note : Stays (with_entries (first_entry ∷ [])).broker (vanishing [] (Left 1 (codes "audit") Acked ∷ []) (with_entries [])) (with_entries []).broker → ⊥
+  -- a dead letter that enters a queue forbidden to its publish, which is known by the queue that it stood in
+  pub forbidden_entry : AreAllowed (event_of_notes (forbids ∷ []) (with_entries (first_entry ∷ [])) (Entered 1 (codes "bin") Dead ∷ []) (with_entries (first_entry ∷ []))) → ⊥
+  -- a message that leaves by an event that takes none out
+  pub left_by_no_cause : HaveCauses (event_of_notes [] (with_entries (first_entry ∷ [])) (Left 1 (codes "audit") Acked ∷ []) (with_entries [])) → ⊥

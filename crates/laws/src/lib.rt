@@ -6,9 +6,10 @@
 
 ghost use Rattle.std.specs.Prelude.{◌≡◌};
 ghost use Rattle.laws.specs.Alone.{SoundForWords};
+ghost use Rattle.laws.specs.Consistency.{PlaysStayConsistent, WorldsStayConsistent};
 ghost use Rattle.laws.specs.Delivery.{OneReading, HeadlineHolds, TurnsKeep};
-ghost use Rattle.laws.specs.OneStep.{EveryRunBalances};
-ghost use Rattle.laws.specs.Promises.{AckedEnterOnce, AcksAreAcked, CausesAreShown, ForbiddenAreNotEntered, RunsKeepEvents};
+ghost use Rattle.laws.specs.OneStep.{EveryRunBalances, EveryRunCounts, EveryRunStays};
+ghost use Rattle.laws.specs.Promises.{AckedEnterOnce, AcksAreAcked, CausesAreShown, ForbiddenAreNotEntered, ForbiddenAreNotEnteredAtEvents, RunsKeepEvents};
 ghost use Rattle.laws.specs.Rows.{WordsOfKeys, FirstInput, FirstOutput, BadEnd, TooLargeContent, HeadlineRefuses};
 ghost use Rattle.laws.specs.Streams.{CuttingDoesNotMatter, FaultsStay};
 ghost use Rattle.model.specs.Guarantee.{Guarantee};
@@ -24,6 +25,16 @@ pub fn words_tell_keys_apart()
 /// A guarantee whose pattern is words alone holds where it keeps its promise for the pattern as a key.
 pub fn word_patterns_are_sound()
     ensures { (t : Topology) (g : Guarantee) → SoundForWords t g }
+{}
+
+/// In every run each event balances by its own notes, and the next one begins where it ended.
+pub fn runs_balance_event_by_event()
+    ensures { EveryRunStays }
+{}
+
+/// In every run only messages of publishes that were counted stand in the queues.
+pub fn runs_count_their_messages()
+    ensures { EveryRunCounts }
 {}
 
 /// In every run, what stood in a queue and what entered it is what left it and what stands there.
@@ -46,6 +57,11 @@ pub fn forbidden_queues_are_not_entered()
     ensures { ForbiddenAreNotEntered }
 {}
 
+/// In every run each event by itself tells that what entered a queue was not forbidden there.
+pub fn no_event_enters_a_forbidden_queue()
+    ensures { ForbiddenAreNotEnteredAtEvents }
+{}
+
 /// In every run a message left a queue only by an event that takes it out.
 pub fn what_leaves_has_a_cause()
     ensures { CausesAreShown }
@@ -64,6 +80,13 @@ pub fn cutting_does_not_matter()
 /// A fault of a stream stays, whatever bytes come behind it.
 pub fn faults_stay()
     ensures { FaultsStay }
+{}
+
+/// Whatever is done, the broker has the connections that run, knows those as paused whose output is past the bound, and
+/// holds messages of publishes alone that it counted.
+pub fn worlds_stay_consistent()
+    ensures worlds { WorldsStayConsistent }
+    ensures plays { PlaysStayConsistent }
 {}
 
 /// A client reads an output in one way.

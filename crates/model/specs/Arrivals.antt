@@ -101,6 +101,8 @@ IsSaid e = Unit {0}
 pub record Happens (f : Config) (old : State) (e : Event) (h : Happening) (new : State) : Type 0 where
   pub under : h.config ≡ f
   pub event : h.event ≡ e
+  pub before : h.before ≡ old
+  pub after : h.after ≡ new
   pub stepped : Step f old e h.sends h.notes new
 
 -- an output that passes the bound pauses its connection, and one that falls below it resumes it
@@ -117,7 +119,7 @@ pub record Puts (old : World) (e : Event) (c : ℕ) (hs : List Happening) (new :
   pub mid : State
   pub happens : Happens old.config old.state e h mid
   pub own : AllByRecursion (λ s. receiver s ≡ c) h.sends
-  pub limit : h.frame_max ≡ (mid.session c).frame_max
+  pub limit : h.frame_max ≡ (old.state.session c).frame_max
   pub bounded : h.frame_max ≤ 131072
   pub spelled : AllByRecursion (IsSpelled h.frame_max) h.sends
   pub output : (new.wire c).output ≡ (old.wire c).output ++ spelling h.frame_max h.sends

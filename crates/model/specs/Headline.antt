@@ -1,5 +1,5 @@
 -- Certified delivery: what is promised of a whole run, in the words of a client and of the topology's owner (own).
-use Rattle.std.specs.Prelude.{◌≡◌, ◌+◌, ◌⊎◌, ℕ, List, [], ◌∷◌, take, drop, map, filter_map, flat_map, ◌≢◌, count_by, Bool, false, Option, Some, None, ◌==◌, ◌&&◌, if◌then◌else◌, Contains, slice_get}
+use Rattle.std.specs.Prelude.{◌≡◌, ◌+◌, ◌%◌, ◌⊎◌, ℕ, List, [], ◌∷◌, take, drop, map, filter_map, flat_map, ◌≢◌, count_by, Bool, false, Option, Some, None, ◌==◌, ◌&&◌, if◌then◌else◌, Contains, slice_get, slice_index_or}
 use Rattle.std.specs.Int.{w64, from_be_bytes}
 use Rattle.std.specs.List.{list_any, AllByRecursion}
 use Rattle.std.specs.Str.{bytes_eq}
@@ -10,10 +10,11 @@ use Rattle.model.specs.Frames.{Frame, AreFrames}
 use Rattle.model.specs.Spelling.{eight_bytes}
 use Rattle.model.specs.Broker.{Broker}
 use Rattle.model.specs.State.{Config}
-use Rattle.model.specs.Run.{Happening, notes_of, Balances, empty_broker}
-use Rattle.model.specs.Arrivals.{Shown}
+use Rattle.model.specs.Run.{Happening, notes_of, Stays, empty_broker}
+use Rattle.model.specs.Arrivals.{World, new_world, Plays, Shows, Seen, Shown}
 use Rattle.model.specs.declared.topologies.Mode.TheVariants.{Reaches, Never}
-use Rattle.model.specs.declared.events.Event.{Event}
+use Rattle.model.specs.declared.events.Arrival.{Arrival}
+use Rattle.model.specs.declared.messages.Entry.{Entry}
 use Rattle.model.specs.declared.notes.Cause.{Cause}
 use Rattle.model.specs.declared.notes.Note.{Note}
 use Rattle.model.specs.declared.notes.Note.TheVariants.{Published, Entered, Confirmed, Left}
@@ -22,14 +23,22 @@ use Rattle.model.specs.declared.notes.Way.TheVariants as way
 
 -- ---- what a client reads
 
--- an ack as a client reads it: its channel and its number
+-- an ack as a client reads it: its channel, its number, and whether it acknowledges all up to this number
 pub record Ack : Type 0 where
   pub channel : ℕ
   pub number : ℕ
+  pub multiple : Bool
 
--- a method frame whose payload begins with class 60, method 80
+-- the lowest bit of the octet at this place
+abbrev pub first_bit : List ℕ → ℕ → Bool
+first_bit bytes at = slice_index_or bytes at 0 % 2 == 1
+
+-- a method frame whose payload begins with class 60, method 80 (AMQP 0-9-1, basic.ack: delivery-tag, multiple)
 abbrev pub ack_in : Frame → Option Ack
-ack_in f = if f.kind == 1 && bytes_eq (take 4 f.payload) (0 ∷ 60 ∷ 0 ∷ 80 ∷ []) then Some (record { channel = f.channel; number = from_be_bytes w64 (take 8 (drop 4 f.payload)) }) else None
+ack_in f =
+    if f.kind == 1 && bytes_eq (take 4 f.payload) (0 ∷ 60 ∷ 0 ∷ 80 ∷ [])
+    then Some (record { channel = f.channel; number = from_be_bytes w64 (take 8 (drop 4 f.payload)); multiple = first_bit f.payload 12 })
+    else None
 
 abbrev pub acks_in : List Frame → List Ack
 acks_in fs = filter_map ack_in fs
@@ -67,8 +76,9 @@ acked_at c h = filter_map (acked_as h.config.guarantees c h.notes) h.notes
 abbrev pub acked : ℕ → List Happening → List Acked
 acked c hs = flat_map (acked_at c) hs
 
+-- its own ack: of this publish alone
 abbrev pub ack_for : Acked → Ack
-ack_for p = record { channel = p.channel; number = p.confirm }
+ack_for p = record { channel = p.channel; number = p.confirm; multiple = false }
 
 -- The acks in an output are those of these publishes, one by one.
 pub record HasAcksOf (ps : List Acked) (output : List ℕ) : Type 0 where
@@ -84,24 +94,50 @@ is_publish_into n q note = false
 abbrev pub EnteredOnce : List Note → Acked → Type 0
 EnteredOnce notes p = (g : Guarantee) → Contains p.guarantees g → g.mode ≡ Reaches → Covers g p.exchange p.key → count_by (is_publish_into p.number g.queue) notes ≡ 1
 
--- no guarantee in force forbids what the note says, for the publish that it is of
-abbrev pub IsAllowed : List Guarantee → List Note → Note → Type 0
-IsAllowed gs notes (Entered n q w) = (c h : ℕ) (x key : Text) (o : Option ℕ) → IsIn (Published n c h x key o) notes → (g : Guarantee) → Contains gs g → g.mode ≡ Never → Covers g x key → q ≢ g.queue
-IsAllowed gs notes note = Unit {0}
+-- ---- where a message was published
 
-abbrev pub AreAllowed : List Note → Happening → Type 0
-AreAllowed notes h = AllByRecursion (IsAllowed h.config.guarantees notes) h.notes
+-- these notes say that the publish of this number was sent to this exchange under this key
+abbrev pub IsNoted : List Note → ℕ → Text → Text → Type 0
+IsNoted notes n x key = (c : ℕ) × (h : ℕ) × (o : Option ℕ) × IsIn (Published n c h x key o) notes
 
--- an event by which a message may leave a queue for this cause; so far no command takes a message out
-abbrev pub IsCause : Event → Cause → Type 0
-IsCause e cause = ⊥
+-- a message of this publish stands in a queue, and was first sent to this exchange under this key
+pub record Stands (b : Broker) (n : ℕ) (x key : Text) : Type 0 where
+  pub queue : Text
+  pub entry : Entry
+  pub there : IsIn entry (b.queue queue)
+  pub number : entry.message.number ≡ n
+  pub exchange : entry.message.first_exchange ≡ x
+  pub first_key : entry.message.first_key ≡ key
 
-abbrev pub HasCause : Event → Note → Type 0
-HasCause e (Left n q cause) = IsCause e cause
-HasCause e note = Unit {0}
+-- at this event the publish of this number is known to have been sent there: the event notes it, or a message of it stands in a queue before the event
+abbrev pub WasSentTo : Happening → ℕ → Text → Text → Type 0
+WasSentTo h n x key = IsNoted h.notes n x key ⊎ Stands h.before.broker n x key
+
+-- no guarantee in force forbids what the note says, wherever its publish is known to have been sent
+abbrev pub IsAllowed : List Guarantee → (ℕ → Text → Text → Type 0) → Note → Type 0
+IsAllowed gs Sent (Entered n q w) = (x key : Text) → Sent n x key → (g : Guarantee) → Contains gs g → g.mode ≡ Never → Covers g x key → q ≢ g.queue
+IsAllowed gs Sent note = Unit {0}
+
+-- what an event notes is allowed, by what is known at the event itself
+abbrev pub AreAllowed : Happening → Type 0
+AreAllowed h = AllByRecursion (IsAllowed h.config.guarantees (WasSentTo h)) h.notes
+
+-- and by all notes of a run
+abbrev pub AreAllowedIn : List Note → Happening → Type 0
+AreAllowedIn notes h = AllByRecursion (IsAllowed h.config.guarantees (IsNoted notes)) h.notes
+
+-- ---- causes
+
+-- By this event a message of this number may leave this queue for this cause, as the state before it says; so far no command takes a message out.
+abbrev pub IsCause : Happening → ℕ → Text → Cause → Type 0
+IsCause h n q cause = ⊥
+
+abbrev pub HasCause : Happening → Note → Type 0
+HasCause h (Left n q cause) = IsCause h n q cause
+HasCause h note = Unit {0}
 
 abbrev pub HaveCauses : Happening → Type 0
-HaveCauses h = AllByRecursion (HasCause h.event) h.notes
+HaveCauses h = AllByRecursion (HasCause h) h.notes
 
 -- ---- the promises
 
@@ -109,18 +145,28 @@ HaveCauses h = AllByRecursion (HasCause h.event) h.notes
 pub record KeepsEvents (old : Broker) (hs : List Happening) (new : Broker) : Type 0 where
   -- each publish that was confirmed by ack entered each queue that was promised at it exactly once
   pub entered : (c : ℕ) → AllByRecursion (EnteredOnce (notes_of hs)) (acked c hs)
-  -- no message of these publishes, as a publish or a dead letter, entered a queue that was forbidden to it then
-  pub never : AllByRecursion (AreAllowed (notes_of hs)) hs
-  -- each message that stood in a queue or entered it left it or stands there
-  pub stays : Balances old (notes_of hs) new
+  -- no message, as a publish or a dead letter, entered a queue that was forbidden to it then, as each event by itself tells
+  pub never : AllByRecursion AreAllowed hs
+  -- nor one that was forbidden to a publish noted at any of these events
+  pub never_in_all : AllByRecursion (AreAllowedIn (notes_of hs)) hs
+  -- at each event, what stood in a queue or entered it left it or stands there, and so it is found by the next event
+  pub stays : Stays old hs new
   -- and it left by acknowledgement, rejection or purge
   pub causes : AllByRecursion HaveCauses hs
 
--- The headline, of all that happened from the empty broker to this one, and of the outputs of the connections:
+-- Of all that happened from the empty broker to this one, and of the outputs of the connections:
 pub record KeepsPromises (hs : List Happening) (last : Broker) (connections : List Shown) : Type 0 where
   pub events : KeepsEvents empty_broker hs last
   -- the acks in a connection's output are those of its publishes confirmed by ack, one by one
   pub acks : (i : ℕ) (seen : Shown) → slice_get connections i ≡ Some seen → HasAcksOf (acked (i + 1) hs) seen.output
+
+-- The headline. These arrivals came, one by one, to a broker with no connection under this topology and these guarantees; of all that happened by them this was seen, outputs and notes; and the promises are kept.
+pub record CertifiedDelivery (f : Config) (arrivals : List Arrival) (seen : Seen) : Type 0 where
+  pub happenings : List Happening
+  pub last : World
+  pub plays : Plays (new_world f) arrivals happenings last
+  pub shows : Shows happenings last seen
+  pub promises : KeepsPromises happenings last.state.broker seen.connections
 
 -- what an accepted topology and its guarantees keep
 pub record IsSound (f : Config) : Type 0 where

@@ -16,3 +16,4 @@ pub mod State
 pub mod Run
 pub mod Arrivals
 pub mod Headline
+pub mod Consistent

@@ -1,5 +1,5 @@
 -- The phases of a connection, and what each awaits. Source: AMQP 0-9-1, section 2.2.4, "The Connection Class"; PLAIN login by RFC 4616.
-use Rattle.std.specs.Prelude.{ℕ, List, [], ◌∷◌, ◌==◌, if◌then◌else◌}
+use Rattle.std.specs.Prelude.{ℕ, List, [], ◌∷◌, Bool, true, false, ◌==◌, if◌then◌else◌}
 use Rattle.model.specs.Grammar.{ids}
 use Rattle.model.specs.Step.{reply, connection_close}
 use Rattle.model.specs.declared.events.Phase.{Phase}
@@ -26,6 +26,10 @@ no_session = record { phase = phase.Over; channel_max = 255; frame_max = 131072 
 abbrev pub to_phase : Session → Phase → Session
 to_phase s phase.Over = no_session
 to_phase s p = record s { phase = p }
+
+abbrev pub is_running : Phase → Bool
+is_running phase.Running = true
+is_running p = false
 
 -- ---- what a phase answers
 

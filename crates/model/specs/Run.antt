@@ -1,5 +1,5 @@
 -- Whole runs: what happened, one event after another.
-use Rattle.std.specs.Prelude.{◌≡◌, ◌+◌, ℕ, List, [], ◌∷◌, Bool, false, ◌==◌, ◌&&◌, None, count_by, flat_map}
+use Rattle.std.specs.Prelude.{◌≡◌, ◌<◌, ◌+◌, ℕ, List, [], ◌∷◌, Bool, false, ◌==◌, ◌&&◌, None, count_by, flat_map}
 use Rattle.std.specs.Str.{bytes_eq}
 use Rattle.model.specs.Words.{Text}
 use Rattle.model.specs.Broker.{Broker}
@@ -18,19 +18,21 @@ empty_broker = record { published = 0; queue = λ q. []; connection = λ c. None
 abbrev pub empty_state : State
 empty_state = record { broker = empty_broker; session = λ c. no_session }
 
--- one event, with what was in force at it, and what was sent and noted
+-- one event, with what was in force at it, the states before and after it, and what was sent and noted
 pub record Happening : Type 0 where
   pub config : Config
   pub event : Event
+  pub before : State
   pub sends : List Send
   pub notes : List Note
   -- the greatest frame, in bytes, of the connection that the sends are for
   pub frame_max : ℕ
+  pub after : State
 
 -- From old these may happen, one after another, and leave new.
 abbrev pub Run : State → List Happening → State → Type 0
 Run old [] new = new ≡ old
-Run old (h ∷ hs) new = (mid : State) × Step h.config old h.event h.sends h.notes mid × Run mid hs new
+Run old (h ∷ hs) new = (h.before ≡ old) × Step h.config h.before h.event h.sends h.notes h.after × Run h.after hs new
 
 abbrev pub notes_of : List Happening → List Note
 notes_of hs = flat_map (λ (h : Happening). h.notes) hs
@@ -59,3 +61,12 @@ has_number n e = e.message.number == n
 abbrev pub Balances : Broker → List Note → Broker → Type 0
 Balances old notes new = (n : ℕ) (q : Text) →
     count_by (has_number n) (old.queue q) + count_by (is_entered n q) notes ≡ count_by (is_left n q) notes + count_by (has_number n) (new.queue q)
+
+-- From old to new, event by event: each begins where the one before it ended, and every queue balances by its own notes.
+abbrev pub Stays : Broker → List Happening → Broker → Type 0
+Stays old [] new = new ≡ old
+Stays old (h ∷ hs) new = (h.before.broker ≡ old) × Balances h.before.broker h.notes h.after.broker × Stays h.after.broker hs new
+
+-- each message that stands in a queue is of a publish that was counted
+abbrev pub AreCounted : Broker → Type 0
+AreCounted b = (n : ℕ) (q : Text) → b.published < n → count_by (has_number n) (b.queue q) ≡ 0

@@ -1,9 +1,9 @@
 -- What is put out for what is sent. Source: AMQP 0-9-1, section 4.2.6, "Content Framing".
-use Rattle.std.specs.Prelude.{◌-◌, ℕ, zero, suc, List, [], ◌∷◌, length, take, drop, map, filter, flat_map, Option, Some, None, ◌==◌}
+use Rattle.std.specs.Prelude.{◌<◌, ◌-◌, ◌^◌, ℕ, zero, suc, List, [], ◌∷◌, length, take, drop, map, filter, flat_map, Option, Some, None, ◌==◌}
 use Rattle.std.specs.List.{AllByRecursion}
 use Rattle.model.specs.Frames.{Frame, frame_bytes, IsFrame}
 use Rattle.model.specs.Grammar.{method_bytes, IsMethod}
-use Rattle.model.specs.Headers.{header_bytes}
+use Rattle.model.specs.Headers.{header_bytes, AreProperties}
 use Rattle.model.specs.declared.contents.Content.{Content}
 use Rattle.model.specs.declared.methods.Method.{Method}
 use Rattle.model.specs.declared.events.Send.{Send}
@@ -51,11 +51,21 @@ receiver (Command c h m content) = c
 abbrev pub sends_to : ℕ → List Send → List Send
 sends_to c sends = filter (λ s. receiver s == c) sends
 
+-- a content whose header can be spelled: its properties have a spelling, and so has the size of its body
+pub record IsContent (c : Content) : Type 0 where
+  pub properties : AreProperties c.properties
+  pub size : length c.body < 2 ^ 64
+
+abbrev pub HasContent : Option Content → Type 0
+HasContent None = Unit {0}
+HasContent (Some c) = IsContent c
+
+-- the method has a spelling, and so has its content where there is one
 abbrev pub HasSpelling : Send → Type 0
 HasSpelling (Greeting c) = Unit {0}
-HasSpelling (Command c h m content) = IsMethod m
+HasSpelling (Command c h m content) = IsMethod m × HasContent content
 
--- what can be put out: the method has a spelling, and each frame has at most max bytes
+-- what can be put out: it has a spelling, and each of its frames, that of its header too, has at most max bytes
 pub record IsSpelled (max : ℕ) (s : Send) : Type 0 where
-  pub method : HasSpelling s
+  pub spelled : HasSpelling s
   pub frames : AllByRecursion (IsFrame max) (frames_of max s)

@@ -1,10 +1,10 @@
 -- What one event does, in whatever phase its connection is.
-use Rattle.std.specs.Prelude.{◌≡◌, ℕ, List, [], Option}
+use Rattle.std.specs.Prelude.{◌≡◌, ℕ, List, [], Option, if◌then◌else◌}
 use Rattle.model.specs.Topology.{Topology}
 use Rattle.model.specs.Guarantee.{Guarantee}
 use Rattle.model.specs.Broker.{Broker, with_one}
-use Rattle.model.specs.Step.{Acts, Is, empty_publish}
-use Rattle.model.specs.Phases.{Session, running_session, no_session, Move, answer, faulted, after_sends, to_phase}
+use Rattle.model.specs.Step.{Acts, Is, empty_publish, opened}
+use Rattle.model.specs.Phases.{Session, running_session, no_session, is_running, Move, answer, faulted, after_sends, to_phase}
 use Rattle.model.specs.declared.messages.User.{User}
 use Rattle.model.specs.declared.contents.Content.{Content}
 use Rattle.model.specs.declared.methods.Method.{Method}
@@ -26,12 +26,16 @@ pub record State : Type 0 where
   pub broker : Broker
   pub session : ℕ → Session
 
+-- a connection that moves to Running is one of the broker's from then on, with no channel open; by any other move nothing changes there
+abbrev pub after_move : Broker → ℕ → Session → Broker
+after_move b c next = if is_running next.phase then opened b c next.channel_max 0 else b
+
 -- an event that the phases alone decide
 pub record Moves (old : State) (c : ℕ) (move : Move) (sends : List Send) (notes : List Note) (new : State) : Type 0 where
   pub sent : sends ≡ move.sends
   pub noted : notes ≡ []
   pub session : (d : ℕ) → new.session d ≡ with_one old.session c move.next d
-  pub broker : Is old.broker new.broker
+  pub broker : Is (after_move old.broker c move.next) new.broker
 
 -- an event of the broker, after which its connection is in this session
 pub record Steps (f : Config) (old : State) (c : ℕ) (e : Event) (sends : List Send) (notes : List Note) (after : Session) (new : State) : Type 0 where
@@ -60,7 +64,7 @@ OfFault f old p c code sends notes new = Moves old c (faulted c (old.session c) 
 
 -- One event: what is sent and noted, and the state after it.
 abbrev pub Step : Config → State → Event → List Send → List Note → State → Type 0
-Step f old (event.Running c max k) sends notes new = Steps f old c (event.Running c max k) sends notes running_session new
+Step f old (event.Running c max k) sends notes new = Steps f old c (event.Running c max k) sends notes (record running_session { channel_max = max }) new
 Step f old (event.Command c h m content) sends notes new = OfCommand f old (old.session c).phase c h m content sends notes new
 Step f old (event.TooLarge c h) sends notes new = OfLarge f old (old.session c).phase c h sends notes new
 Step f old (event.Fault c code) sends notes new = OfFault f old (old.session c).phase c code sends notes new

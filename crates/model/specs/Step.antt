@@ -139,7 +139,7 @@ without_connection b c = record b { connection = with_one b.connection c None; c
 
 -- an entry that these held is ready again in its place, and redelivered
 abbrev pub freed : (Holder → Bool) → Entry → Entry
-freed mine e = elim e.mark [ Ready ↦ e | Held holder ↦ if mine holder then record { message = record e.message { redelivered = true }; mark = Ready } else e ]
+freed mine e = elim e.mark [ Ready ↦ e | Held holder ↦ if mine holder then record e { message = record e.message { redelivered = true }; mark = Ready } else e ]
 
 abbrev pub with_freed : Broker → (Holder → Bool) → Broker
 with_freed b mine = record b { queue = λ q. map (freed mine) (b.queue q) }

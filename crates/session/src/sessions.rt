@@ -64,7 +64,7 @@ fn phase_after(sends: &[Send]) -> Phase
 }
 
 impl Session {
-    ghost use Rattle.std.specs.Prelude.{◌≡◌, ◌≤◌, [], ◌∷◌, IfOk, OnErr, OnOk, IsTrue};
+    ghost use Rattle.std.specs.Prelude.{◌≡◌, ◌≤◌, [], ◌∷◌, IfOk, IsOk, OnErr, OnOk, IsTrue};
     ghost use Rattle.model.specs.Phases.{running_session, no_session, answer, faulted, after_sends, to_phase};
     ghost use Rattle.model.specs.Arrivals.{is_ended};
     ghost use Rattle.model.specs.Step.{empty_publish};
@@ -129,7 +129,7 @@ impl Session {
     /// Answers a method in a phase other than Running. While close-ok is awaited, a close on channel 0 is answered,
     /// close-ok on channel 0 ends the connection, and all else is ignored.
     ///
-    /// Where memory is refused the session is as before.
+    /// Where nothing is sent no memory is wanted. Where it is refused the session is as before.
     pub fn take(
         &mut self,
         alloc: Global,
@@ -138,6 +138,7 @@ impl Session {
         method: &Method,
     ) -> Result<Vec<Send>, AllocError>
         ensures short { IfOk result (λ sends. AreReplies connection sends.items) }
+        ensures quiet { (answer connection self.old self.old.phase channel method.now).sends ≡ [] → IsOk result }
         ensures sends { IfOk result (λ sends. sends.items ≡ (answer connection self.old self.old.phase channel method.now).sends) }
         ensures ok { OnOk result (self.new ≡ (answer connection self.old self.old.phase channel method.now).next) }
         ensures err { OnErr result (self.new ≡ self.old) }
@@ -155,9 +156,8 @@ impl Session {
         }
     }
 
-    /// Answers a publish whose content is too large, in a phase other than Running: what it answers to any publish.
-    ///
-    /// Where memory is refused the session is as before.
+    /// Answers a publish whose content is too large, in a phase other than Running: what it answers to any publish. Nothing
+    /// is sent, so no memory is wanted.
     pub fn take_large(
         &mut self,
         alloc: Global,
@@ -165,6 +165,7 @@ impl Session {
         channel: u16,
     ) -> Result<Vec<Send>, AllocError>
         ensures short { IfOk result (λ sends. AreReplies connection sends.items) }
+        ensures always { IsOk result }
         ensures sends { IfOk result (λ sends. sends.items ≡ (answer connection self.old self.old.phase channel empty_publish).sends) }
         ensures ok { OnOk result (self.new ≡ (answer connection self.old self.old.phase channel empty_publish).next) }
         ensures err { OnErr result (self.new ≡ self.old) }
@@ -182,7 +183,7 @@ impl Session {
     /// The bytes of the connection broke the wire's rules: it is closed with this reply code, and over. While close-ok is
     /// awaited nothing is sent.
     ///
-    /// Where memory is refused the session is as before.
+    /// Where nothing is sent no memory is wanted. Where it is refused the session is as before.
     pub fn fault(
         &mut self,
         alloc: Global,
@@ -190,6 +191,7 @@ impl Session {
         code: u16,
     ) -> Result<Vec<Send>, AllocError>
         ensures short { IfOk result (λ sends. AreReplies connection sends.items) }
+        ensures quiet { (faulted connection self.old self.old.phase code).sends ≡ [] → IsOk result }
         ensures sends { IfOk result (λ sends. sends.items ≡ (faulted connection self.old self.old.phase code).sends) }
         ensures ok { OnOk result (self.new ≡ (faulted connection self.old self.old.phase code).next) }
         ensures err { OnErr result (self.new ≡ self.old) }

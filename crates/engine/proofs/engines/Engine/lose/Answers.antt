@@ -7,8 +7,9 @@ use Rattle.engine.proofs.engines.Engine.lose.Goals as goal
 pub invariant_of-self : goal.invariant_of-self
 invariant_of-self c =
     let i = c.self.inside in
-    loses_engine (record { broker = i.broker; guarantees = i.guarantees.items; users = i.users.items; given = i.given; links = i.links.items }) _ c.in-Some.place c.self.invariant
-    (record { topology = c.lose.ensures.topology; guarantees = refl; users = refl; given = refl }) c.remove.ensures.items
+    let place : IsPlaceOf i.links.items c.args.c (Some c.in-Some.place) = rw (← c.deref.ensures.value) c.in-Some.ensures.place in
+    loses_engine (record { broker = i.broker; guarantees = i.guarantees.items; users = i.users.items; given = i.given; links = i.links.items }) _ c.args.c c.in-Some.place c.self.invariant
+    (record { topology = c.lose.ensures.topology; guarantees = refl; users = refl; given = refl }) place c.remove.ensures.items c.lose.ensures.acts
 
 pub returns-in-Some : goal.returns-in-Some
 returns-in-Some c =

@@ -1,0 +1,128 @@
+-- Whatever arrives, the world keeps what every world keeps.
+use Rattle.std.proofs.Common.{◌≡◌, ◌≢◌, ◌+◌, ℕ, List, [], ◌∷◌, ◌++◌, Bool, true, false, cond, Some, refl, sym, ap, subst, ◌∙◌}
+use Rattle.std.specs.Prelude.{◌&&◌, ◌==◌, not, MatchBool}
+use Rattle.std.proofs.lemmas.Bool.{eqb-true, eqb-false, false≢true}
+use Rattle.model.specs.Broker.{with_one}
+use Rattle.model.specs.State.{Config, State}
+use Rattle.model.specs.Run.{Happening}
+use Rattle.model.specs.Commands.{Stream}
+use Rattle.model.specs.Arrivals.{World, Wire, new_world, is_over, is_paused, is_past_bound, is_gone, can_open, Same, Turns, Waits, Works, none_more, one_more, WorksOff, Takes_off, TakesAndWorks, Opens, Loses, Answers, Plays, with_heard}
+use Rattle.model.specs.Consistent.{IsConsistent}
+use Rattle.model.specs.declared.events.Arrival.{Arrival}
+use Rattle.model.specs.declared.events.Arrival.TheVariants as arrival
+use Rattle.model.specs.declared.events.Event.TheVariants as event
+use Rattle.laws.specs.Consistency.{WorldsStayConsistent}
+use Rattle.laws.proofs.Balance.{run_counts}
+use Rattle.laws.proofs.Linked.{Agrees, with_by, read_agrees, settled_agrees, opened_agrees, lost_agrees}
+use Rattle.laws.proofs.Plays.{told_turns, told_taken, told_opens, told_loses, step_of}
+
+agreed : (w : World) → IsConsistent w → Agrees w.state.broker w.state.session (is_paused w)
+agreed w c = record { running = c.running; paused = c.paused }
+
+-- where nothing of the state changes, and no output
+pub consistent_same : (old new : World) → IsConsistent old → new.state ≡ old.state → ((d : ℕ) → (new.wire d).output ≡ (old.wire d).output) → IsConsistent new
+consistent_same old new k state outputs = record {
+  counted = subst (λ (z : State). Rattle.model.specs.Run.AreCounted z.broker) (sym state) k.counted;
+  running = subst (λ (z : State). (c : ℕ) → Rattle.std.specs.Prelude.is_some (z.broker.connection c) ≡ Rattle.model.specs.Phases.is_running (z.session c).phase) (sym state) k.running;
+  paused = λ c conn e. k.paused c conn (ap (λ (z : State). z.broker.connection c) (sym state) ∙ e) ∙ ap is_past_bound (sym (outputs c));
+}
+
+others_and_own : (old new : World) (c : ℕ) → ((d : ℕ) → d ≢ c → (new.wire d).output ≡ (old.wire d).output) → (new.wire c).output ≡ (old.wire c).output → (d : ℕ) → (new.wire d).output ≡ (old.wire d).output
+others_and_own old new c others own d = go (d == c) refl
+  where
+    go : (v : Bool) → (d == c) ≡ v → (new.wire d).output ≡ (old.wire d).output
+    go true q = subst (λ (n : ℕ). (new.wire n).output ≡ (old.wire n).output) (sym (eqb-true d c q)) own
+    go false q = others d (eqb-false d c q)
+
+is_awake_still : (over paused : Bool) → (not over && not paused) ≡ true → paused ≡ false
+is_awake_still over false e = refl
+is_awake_still true true e = absurd (false≢true e)
+is_awake_still false true e = absurd (false≢true e)
+
+pub turns_consistent : (old new : World) (c : ℕ) (hs : List Happening) → IsConsistent old → Turns old c hs new → IsConsistent new
+turns_consistent old new c hs k t =
+    let p = t.puts in
+    let mid : Agrees p.mid.broker p.mid.session (is_paused old) =
+    read_agrees c (old.wire c).kept (old.wire c).stream t.next t.event old.config old.state p.mid p.h.sends p.h.notes (is_paused old) t.read (agreed old k) (is_awake_still (is_over old c) (is_paused old c) t.awake) p.happens.stepped in
+    let after : Agrees new.state.broker new.state.session (is_paused new) =
+    settled_agrees old.config p.mid new.state c (is_paused old c) (is_paused new c) p.rest (is_paused old) (is_paused new) p.settled mid refl refl (λ d ne. ap (λ (w : Wire). is_past_bound w.output) (p.others d ne)) in
+    record { counted = run_counts hs old.state new.state (told_turns old new c hs t).run k.counted; running = after.running; paused = after.paused }
+
+pub waits_consistent : (old new : World) (c : ℕ) → IsConsistent old → Waits old c new → IsConsistent new
+waits_consistent old new c k v = consistent_same old new k v.state (others_and_own old new c (λ d ne. ap (λ (w : Wire). w.output) (v.others d ne)) v.output)
+
+wire_changed : (f : ℕ → Wire) (c d : ℕ) (w : Wire) → d ≢ c → with_one f c w d ≡ f d
+wire_changed f c d w ne = ap (λ (b : Bool). cond b w (f d)) (Rattle.laws.proofs.Counts.other_number c d ne)
+
+wire_own : (f : ℕ → Wire) (c : ℕ) (w : Wire) → with_one f c w c ≡ w
+wire_own f c w = Rattle.laws.proofs.Linked.with_here f c w
+
+pub hears_consistent : (w : World) (c : ℕ) (bytes : List ℕ) → IsConsistent w → IsConsistent (with_heard w c bytes)
+hears_consistent w c bytes k = consistent_same w (with_heard w c bytes) k refl
+    (others_and_own w (with_heard w c bytes) c (λ d ne. ap (λ (x : Wire). x.output) (wire_changed w.wire c d _ ne)) (ap (λ (x : Wire). x.output) (wire_own w.wire c _)))
+
+pub takes_consistent : (old new : World) (c n : ℕ) (hs : List Happening) → IsConsistent old → Takes_off old c n hs new → IsConsistent new
+takes_consistent old new c n hs k t =
+    let after : Agrees new.state.broker new.state.session (is_paused new) =
+    settled_agrees old.config old.state new.state c (is_paused old c) (is_paused new c) hs (is_paused old) (is_paused new) t.settled (agreed old k) refl refl
+    (λ d ne. ap (λ (w : Wire). is_past_bound w.output) (t.wires d ∙ wire_changed old.wire c d _ ne)) in
+    record { counted = run_counts hs old.state new.state (told_taken c n old new hs t).run k.counted; running = after.running; paused = after.paused }
+
+pub opens_consistent : (old new : World) (k : ℕ) (s : Stream) (hs : List Happening) → IsConsistent old → Opens old (event.Running (old.given + 1) 255 k) s hs new → IsConsistent new
+opens_consistent old new k s hs is o =
+    let c = old.given + 1 in
+    let after : Agrees new.state.broker new.state.session (is_paused new) =
+    opened_agrees old.config old.state new.state c 255 k o.h.sends o.h.notes (is_paused old) (is_paused new) (agreed old is) o.happens.stepped
+    (λ d ne. ap (λ (w : Wire). is_past_bound w.output) (o.wires d ∙ wire_changed old.wire c d _ ne)) (ap (λ (w : Wire). is_past_bound w.output) (o.wires c ∙ wire_own old.wire c _)) in
+    record { counted = run_counts hs old.state new.state (told_opens old new c k s hs o).run is.counted; running = after.running; paused = after.paused }
+
+pub loses_consistent : (old new : World) (c : ℕ) (hs : List Happening) → IsConsistent old → Loses old c hs new → IsConsistent new
+loses_consistent old new c hs k o =
+    let after : Agrees new.state.broker new.state.session (is_paused new) =
+    lost_agrees old.config old.state new.state c o.h.sends o.h.notes (is_paused old) (is_paused new) (agreed old k) o.happens.stepped
+    (λ d ne. ap (λ (w : Wire). is_past_bound w.output) (o.wires d ∙ wire_changed old.wire c d _ ne)) in
+    record { counted = run_counts hs old.state new.state (told_loses old new c hs o).run k.counted; running = after.running; paused = after.paused }
+
+pub new_is_consistent : (f : Config) → IsConsistent (new_world f)
+new_is_consistent f = record { counted = λ n q lt. refl; running = λ c. refl; paused = λ c conn e. absurd (false≢true (ap Rattle.std.specs.Prelude.is_some e)) }
+
+pub stay_consistent : WorldsStayConsistent
+stay_consistent = record {
+  new_worlds = new_is_consistent;
+  turns = turns_consistent;
+  waits = waits_consistent;
+  hears = hears_consistent;
+  takes = takes_consistent;
+  opens = opens_consistent;
+  loses = loses_consistent;
+}
+
+-- ---- arrivals
+
+works_consistent : (c : ℕ) (old new : World) (hs : List Happening) → IsConsistent old → Works c old hs new → IsConsistent new
+works_consistent c old new hs k none_more = k
+works_consistent c old new hs k (one_more {mid = m} {first = f} {rest = r} t more e) = works_consistent c m new r (turns_consistent old m c f k t) more
+
+works_off_consistent : (c : ℕ) (old new : World) (hs : List Happening) → IsConsistent old → WorksOff old c hs new → IsConsistent new
+works_off_consistent c old new hs k w = waits_consistent w.mid new c (works_consistent c old w.mid hs k w.works) w.waits
+
+pub same_consistent : (old new : World) (hs : List Happening) → IsConsistent old → (hs ≡ []) × Same old new → IsConsistent new
+same_consistent old new hs k p = consistent_same old new k p.1.state (λ d. ap (λ (w : Wire). w.output) (p.1.wires d))
+
+where_true : (old new : World) (P : Type 0) (hs : List Happening) (v : Bool) → IsConsistent old → (P → IsConsistent new) → MatchBool v P ((hs ≡ []) × Same old new) → IsConsistent new
+where_true old new P hs true k f p = f p
+where_true old new P hs false k f p = same_consistent old new hs k p
+
+where_false : (old new : World) (P : Type 0) (hs : List Happening) (v : Bool) → IsConsistent old → (P → IsConsistent new) → MatchBool v ((hs ≡ []) × Same old new) P → IsConsistent new
+where_false old new P hs true k f p = same_consistent old new hs k p
+where_false old new P hs false k f p = f p
+
+answers_consistent : (old new : World) (a : Arrival) (hs : List Happening) → IsConsistent old → Answers old a hs new → IsConsistent new
+answers_consistent old new (arrival.Ready n) hs k p = where_true old new _ hs (can_open old) k (λ o. opens_consistent old new n _ hs k o) p
+answers_consistent old new (arrival.In c bytes) hs k p = where_false old new _ hs (is_over old c) k (λ w. works_off_consistent c (with_heard old c bytes) new hs (hears_consistent old c bytes k) w) p
+answers_consistent old new (arrival.Sent c n) hs k p = where_false old new _ hs (is_gone old c) k (λ t. works_off_consistent c t.mid new t.rest (takes_consistent old t.mid c n t.first k t.takes) t.works) p
+answers_consistent old new (arrival.Lose c) hs k p = where_false old new _ hs (is_gone old c) k (λ o. loses_consistent old new c hs k o) p
+
+pub plays_consistent : (old new : World) (arrivals : List Arrival) (hs : List Happening) → IsConsistent old → Plays old arrivals hs new → IsConsistent new
+plays_consistent old new [] hs k p = same_consistent old new hs k p
+plays_consistent old new (a ∷ arrivals) hs k (mid, first, rest, e, brings, p) = plays_consistent mid new arrivals rest (answers_consistent old mid a first k brings) p

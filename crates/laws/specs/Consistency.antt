@@ -1,0 +1,23 @@
+-- Whatever arrives, the world keeps what every world keeps.
+use Rattle.std.specs.Prelude.{◌+◌, ℕ, List}
+use Rattle.model.specs.State.{Config}
+use Rattle.model.specs.Run.{Happening}
+use Rattle.model.specs.Commands.{Stream}
+use Rattle.model.specs.Arrivals.{World, new_world, Turns, Waits, Takes_off, Opens, Loses, Plays, with_heard}
+use Rattle.model.specs.Consistent.{IsConsistent}
+use Rattle.model.specs.declared.events.Arrival.{Arrival}
+use Rattle.model.specs.declared.events.Event.TheVariants as event
+
+-- So it is where no connection is, and each single thing that is done leaves it so.
+pub record WorldsStayConsistent : Type 0 where
+  pub new_worlds : (f : Config) → IsConsistent (new_world f)
+  pub turns : (old new : World) (c : ℕ) (hs : List Happening) → IsConsistent old → Turns old c hs new → IsConsistent new
+  pub waits : (old new : World) (c : ℕ) → IsConsistent old → Waits old c new → IsConsistent new
+  pub hears : (w : World) (c : ℕ) (bytes : List ℕ) → IsConsistent w → IsConsistent (with_heard w c bytes)
+  pub takes : (old new : World) (c n : ℕ) (hs : List Happening) → IsConsistent old → Takes_off old c n hs new → IsConsistent new
+  pub opens : (old new : World) (k : ℕ) (s : Stream) (hs : List Happening) → IsConsistent old → Opens old (event.Running (old.given + 1) 255 k) s hs new → IsConsistent new
+  pub loses : (old new : World) (c : ℕ) (hs : List Happening) → IsConsistent old → Loses old c hs new → IsConsistent new
+
+-- And so it is after any arrivals.
+abbrev pub PlaysStayConsistent : Type 0
+PlaysStayConsistent = (old new : World) (arrivals : List Arrival) (hs : List Happening) → IsConsistent old → Plays old arrivals hs new → IsConsistent new

@@ -1,0 +1,15 @@
+-- What every world keeps that a run from a broker with no connection reaches.
+use Rattle.std.specs.Prelude.{◌≡◌, ℕ, Some, is_some}
+use Rattle.model.specs.Broker.{Connection}
+use Rattle.model.specs.Phases.{is_running}
+use Rattle.model.specs.Run.{AreCounted}
+use Rattle.model.specs.Arrivals.{World, is_paused}
+
+-- Three truths that stand in two places each:
+pub record IsConsistent (w : World) : Type 0 where
+  -- a message in a queue is of a publish that was counted
+  pub counted : AreCounted w.state.broker
+  -- a connection is one of the broker's exactly while its phase is Running
+  pub running : (c : ℕ) → is_some (w.state.broker.connection c) ≡ is_running (w.state.session c).phase
+  -- and the broker knows it as paused exactly where its output is past the bound
+  pub paused : (c : ℕ) (conn : Connection) → w.state.broker.connection c ≡ Some conn → conn.is_paused ≡ is_paused w c
