@@ -76,7 +76,7 @@ pub record IsBuildable (t : Topology) : Type 0 where
   pub small : IsSmall t
   pub lead : NamesLead t
 
--- This stands against it, and nothing that is looked for before.
+-- This stands against it, and nothing that is looked for before. Memory is wanting only for what can be built.
 abbrev pub IsRefused : Bad → Topology → Type 0
 IsRefused Repeated t = NamesApart t → ⊥
 IsRefused Absent t = NamesApart t × (AllJoin t → ⊥)
@@ -84,7 +84,7 @@ IsRefused Argument t = NamesApart t × AllJoin t × (KeysHaveExchanges t → ⊥
 IsRefused Worded t = NamesApart t × AllJoin t × KeysHaveExchanges t × (AllWorded t → ⊥)
 IsRefused TooMany t = NamesApart t × AllJoin t × KeysHaveExchanges t × AllWorded t × (IsSmall t → ⊥)
 IsRefused NoExchange t = NamesApart t × AllJoin t × KeysHaveExchanges t × AllWorded t × IsSmall t × (NamesLead t → ⊥)
-IsRefused Memory t = Unit {0}
+IsRefused Memory t = IsBuildable t
 
 -- What is handed in is built as it is, or refused.
 abbrev pub Builds : Result Topology Bad → Topology → Type 0
