@@ -55,6 +55,15 @@ impl Definitions {
     {
         self.users.as_slice()
     }
+
+    /// Its topology and its users, each as it stands.
+    pub fn into_parts(self) -> (Topology, Vec<User>)
+        ensures topology { result.0 ≡ self.topology }
+        ensures users { result.1.items ≡ self.users }
+    {
+        let Definitions { topology, users } = self;
+        (topology, users)
+    }
 }
 
 /// The entries of a file, or why it has none.
