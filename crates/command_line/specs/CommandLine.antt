@@ -26,9 +26,9 @@ replay = with_rule (with_rule (new_app (codes "replay")) (needed (codes "SCRIPT"
 abbrev pub route : App
 route = with_rule (with_rule (with_rule (new_app (codes "route")) (needed (codes "DEFS"))) (needed (codes "EXCHANGE"))) (needed (codes "KEY"))
 
--- a program that is called with one of its subcommands
+-- a program that is called with one of its subcommands, and shows its version
 abbrev pub with_subcommands : Text → App
-with_subcommands name = record (new_app name) { top = record (new_app name).top { subcommand_required = true } }
+with_subcommands name = record (new_app name) { top = record (new_app name).top { has_version = true; subcommand_required = true } }
 
 -- the whole program
 abbrev pub warren : App

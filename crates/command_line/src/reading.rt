@@ -34,20 +34,27 @@ use clap::{Arg, ArgAction, ArgMatches, Command, Error};
 use std::alloc::{AllocError, Global};
 use std::convert::AsStr;
 
-/// A text that has to be given.
-fn needed<'a>(alloc: Global, id: &'a str) -> Arg<'a>
+/// What `--version` shows behind the name.
+const VERSION: &str = "0.1.0";
+
+/// A text that has to be given, with what help says of it.
+fn needed<'a>(alloc: Global, id: &'a str, help: &'a str) -> Arg<'a>
     ensures rule { rule_of result ≡ needed id.entry.now }
     ensures local { result.global ≡ false }
 {
-    Arg::new(alloc, id).required(true).action(ArgAction::Set)
+    Arg::new(alloc, id)
+        .help(help)
+        .required(true)
+        .action(ArgAction::Set)
 }
 
-/// A file that may be named, by `--` and the option's name.
-fn option<'a>(alloc: Global, id: &'a str) -> Arg<'a>
+/// A file that may be named, by `--` and the option's name, with what help says of it.
+fn option<'a>(alloc: Global, id: &'a str, help: &'a str) -> Arg<'a>
     ensures rule { rule_of result ≡ option id.entry.now }
     ensures local { result.global ≡ false }
 {
     Arg::new(alloc, id)
+        .help(help)
         .long(id)
         .value_name("FILE")
         .action(ArgAction::Set)
@@ -60,8 +67,12 @@ fn replay_command<'a>(alloc: Global) -> Result<Command<'a>, AllocError>
 {
     Command::new(alloc, "replay")
         .about("Runs a script and prints what it puts out")
-        .arg(needed(alloc, "SCRIPT"))?
-        .arg(option(alloc, "definitions"))
+        .arg(needed(alloc, "SCRIPT", "The script file"))?
+        .arg(option(
+            alloc,
+            "definitions",
+            "The definitions file to run over, in place of the built-in topology",
+        ))
 }
 
 /// `route DEFS EXCHANGE KEY`.
@@ -71,9 +82,13 @@ fn route_command<'a>(alloc: Global) -> Result<Command<'a>, AllocError>
 {
     Command::new(alloc, "route")
         .about("Prints the queues to which a key leads from an exchange")
-        .arg(needed(alloc, "DEFS"))?
-        .arg(needed(alloc, "EXCHANGE"))?
-        .arg(needed(alloc, "KEY"))
+        .arg(needed(alloc, "DEFS", "The definitions file"))?
+        .arg(needed(
+            alloc,
+            "EXCHANGE",
+            "The exchange that a message is sent to; \"\" is the default exchange",
+        ))?
+        .arg(needed(alloc, "KEY", "The routing key that it is sent under"))
 }
 
 /// The program with its subcommands.
@@ -81,6 +96,8 @@ fn warren_command<'a>(alloc: Global) -> Result<Command<'a>, AllocError>
     ensures { IfOk result (λ c. app_of c ≡ warren) }
 {
     Command::new(alloc, "warren")
+        .version(VERSION)
+        .about("A message broker for AMQP 0-9-1 whose routing is certified")
         .subcommand_required(true)
         .subcommand(replay_command(alloc)?)?
         .subcommand(route_command(alloc)?)

@@ -6,8 +6,7 @@ use Rattle.model.specs.Words.{Text}
 use Rattle.model.specs.declared.messages.User.{User}
 use Rattle.exchange_graph.proofs.Alls.{all_more, all_taken}
 use Rattle.definitions.specs.declared.document.UserEntry.{UserEntry}
-use Rattle.definitions.specs.Causes.{hash_of}
-use Rattle.definitions.specs.States.{user_of}
+use Rattle.definitions.specs.States.{hash_of, user_of}
 use Rattle.definitions.specs.Hashed.{AreHashed}
 
 is_hashed : (e : UserEntry) (o : Option Text) (h : Text) → o ≡ hash_of e → o ≡ Some h → IsSome (hash_of e)

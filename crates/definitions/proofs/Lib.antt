@@ -1,4 +1,3 @@
-pub mod Naming
 pub mod Deciding
 pub mod Order
 pub mod Hashing

@@ -1,14 +1,12 @@
 -- The causes one by one, in their order.
-use Rattle.std.proofs.Common.{◌≡◌, ℕ, ◌+◌, ◌<◌, ◌==◌, Option, Some, None, inl, inr, refl, sym, ap, ◌∙◌, subst, arith}
+use Rattle.std.proofs.Common.{◌≡◌, ℕ, ◌+◌, ◌<◌, ◌==◌, inl, inr, refl, sym, ap, ◌∙◌, subst, arith}
 use Rattle.std.proofs.lemmas.Bool.Decides.{eqb_tells}
-use Rattle.std.specs.Prelude.{◌⊎◌, if◌then◌else◌, MatchOption}
+use Rattle.std.specs.Prelude.{◌⊎◌, if◌then◌else◌}
 use Rattle.definitions.specs.declared.bad.Bad.{Bad}
 use Rattle.definitions.specs.declared.bad.Bad.TheVariants.{NotJson, Malformed, OtherVhost, Repeated, Absent, OtherType, Unsupported, NoOverflow, Worded, TooMany, NoExchange, OtherPermission, OtherHash, Memory}
-use Rattle.definitions.specs.declared.known.Known.{Known}
 use Rattle.definitions.specs.Numbers.{number}
 use Rattle.definitions.specs.File.{File}
-use Rattle.definitions.specs.Known.{KnowsFile}
-use Rattle.definitions.specs.Causes.{HasNamesApart, IsClear, IsClearBelow}
+use Rattle.definitions.specs.Causes.{IsClear, IsClearBelow}
 
 -- the cause of a number
 abbrev numbered : ℕ → Bad
@@ -61,11 +59,3 @@ below_next f bad below clear other h = elim (split (number other) (number bad) h
   | inl l ↦ below other l
   | inr e ↦ subst (λ (b : Bad). IsClear b f) (sym (number_same other bad e)) clear
 ]
-
-pub known_file : (f : File) (o : Option Known) (k : Known) → MatchOption o (HasNamesApart f → ⊥) (λ known. KnowsFile known.users known.queues known.exchanges f) → o ≡ Some k
-    → KnowsFile k.users k.queues k.exchanges f
-known_file f None k m e = absurd (cc)
-known_file f (Some j) k m e = let q : j ≡ k = cc in subst (λ (z : Known). KnowsFile z.users z.queues z.exchanges f) q m
-
-pub names_apart : (f : File) (k : Known) → KnowsFile k.users k.queues k.exchanges f → HasNamesApart f
-names_apart f k w = record { users = w.of_users.apart; queues = w.of_queues.apart; exchanges = w.of_exchanges.apart }

@@ -1,14 +1,8 @@
 -- What a definitions file must keep, cause by cause. Source: RabbitMQ, "Definition Export and Import"; the limits, and what is not built, are own.
-use Rattle.std.specs.Prelude.{codes, ◌≡◌, ◌<◌, ◌≤◌, ℕ, List, [], true, false, Option, Some, None, IsSome, map, length, All, Result, Ok, Err, ◌⊎◌, if◌then◌else◌, ◌==◌}
-use Rattle.std.specs.Str.{bytes_eq}
-use Rattle.base64.specs.Engines.{standard}
-use Rattle.base64.specs.GeneralPurpose.{decode_of}
-use Rattle.base64.specs.declared.decode.DecodeError.{DecodeError}
+use Rattle.std.specs.Prelude.{codes, ◌≡◌, ◌<◌, ◌≤◌, ℕ, List, true, false, Some, None, IsSome, map, length, All, ◌⊎◌}
 use Rattle.model.specs.Words.{Text}
 use Rattle.model.specs.Topology.{AreApart, IsIn}
-use Rattle.model.specs.declared.topologies.ExchangeKind.{ExchangeKind}
-use Rattle.model.specs.declared.topologies.ExchangeKind.TheVariants.{Direct, Fanout, Topic}
-use Rattle.topic_match.specs.Patterns.{IsPattern}
+use Rattle.exchange_graph.specs.Causes.{AllJoin, AllWorded, IsSmall, NamesApart, NamesLead}
 use Rattle.definitions.specs.declared.document.VhostEntry.{VhostEntry}
 use Rattle.definitions.specs.declared.document.UserEntry.{UserEntry}
 use Rattle.definitions.specs.declared.document.PermissionEntry.{PermissionEntry}
@@ -19,17 +13,12 @@ use Rattle.definitions.specs.declared.bad.Bad.{Bad}
 use Rattle.definitions.specs.declared.bad.Bad.TheVariants.{NotJson, Malformed, OtherVhost, Repeated, Absent, OtherType, Unsupported, NoOverflow, Worded, TooMany, NoExchange, OtherPermission, OtherHash, Memory}
 use Rattle.definitions.specs.Numbers.{number}
 use Rattle.definitions.specs.File.{File}
+use Rattle.definitions.specs.States.{hash_of, kind_named, topology_of}
 
 -- ---- names of a file
 
 abbrev pub user_names : File → List Text
 user_names f = map (λ (u : UserEntry). u.name) f.users
-
-abbrev pub exchange_names : File → List Text
-exchange_names f = map (λ (x : ExchangeEntry). x.name) f.exchanges
-
-abbrev pub queue_names : File → List Text
-queue_names f = map (λ (q : QueueEntry). q.name) f.queues
 
 -- the users of the permissions
 abbrev pub permission_names : File → List Text
@@ -51,35 +40,15 @@ pub record HasOneVhost (f : File) : Type 0 where
 -- no two users, no two queues and no two exchanges have one name
 pub record HasNamesApart (f : File) : Type 0 where
   pub users : AreApart (user_names f)
-  pub queues : AreApart (queue_names f)
-  pub exchanges : AreApart (exchange_names f)
+  pub topology : NamesApart (topology_of f)
 
 -- ---- 5: what a binding names is there
 
--- one of these exchanges has this name; the default exchange is none of them
-pub record IsExchange (exchanges : List Text) (name : Text) : Type 0 where
-  pub some : name ≡ [] → ⊥
-  pub there : IsIn name exchanges
-
--- a binding's destination is there, where its type is known
-pub record Leads (exchanges queues : List Text) (b : BindingEntry) : Type 0 where
-  pub queue : b.destination_type ≡ codes "queue" → IsIn b.destination queues
-  pub exchange : b.destination_type ≡ codes "exchange" → IsExchange exchanges b.destination
-
--- a binding's source and destination are there
-pub record Joins (exchanges queues : List Text) (b : BindingEntry) : Type 0 where
-  pub source : IsExchange exchanges b.source
-  pub end : Leads exchanges queues b
-
--- every binding does
+-- every binding's source and destination is, where its type is known
 abbrev pub HasAllJoin : File → Type 0
-HasAllJoin f = All (Joins (exchange_names f) (queue_names f)) f.bindings
+HasAllJoin f = AllJoin (topology_of f)
 
 -- ---- 6: exchange types
-
--- the exchange type of this name
-abbrev pub kind_named : Text → Option ExchangeKind
-kind_named t = if bytes_eq t (codes "direct") then Some Direct else if bytes_eq t (codes "fanout") then Some Fanout else if bytes_eq t (codes "topic") then Some Topic else None
 
 -- every exchange has one
 abbrev pub HasTypes : File → Type 0
@@ -129,47 +98,23 @@ HasOverflows f = All SaysOverflow f.queues
 abbrev pub IsShort : Text → Type 0
 IsShort name = length name ≤ 255
 
--- an exchange's name has from 1 to 255 bytes
-pub record IsNamed (x : ExchangeEntry) : Type 0 where
-  pub some : x.name ≡ [] → ⊥
-  pub short : IsShort x.name
-
--- a queue's name is a pattern of at least one word, and its dead-letter key a pattern
-pub record IsWorded (q : QueueEntry) : Type 0 where
-  pub some : q.name ≡ [] → ⊥
-  pub name : IsPattern q.name
-  pub key : (key : Text) → q.arguments.dead_letter_key ≡ Some key → IsPattern key
-
 -- every name and key has its form
 pub record HasAllWorded (f : File) : Type 0 where
   pub users : All (λ (u : UserEntry). IsShort u.name) f.users
-  pub exchanges : All IsNamed f.exchanges
-  pub queues : All IsWorded f.queues
-  pub bindings : All (λ (b : BindingEntry). IsPattern b.key) f.bindings
+  pub topology : AllWorded (topology_of f)
 
 -- ---- 10: limits of a file
 
 -- at most 256 exchanges, 256 queues, 4,096 bindings and 256 users
-pub record IsSmall (f : File) : Type 0 where
-  pub exchanges : length f.exchanges ≤ 256
-  pub queues : length f.queues ≤ 256
-  pub bindings : length f.bindings ≤ 4096
+pub record HasFew (f : File) : Type 0 where
+  pub topology : IsSmall (topology_of f)
   pub users : length f.users ≤ 256
 
 -- ---- 11: where exchanges and queues pass on
 
--- an alternate exchange is one of these
-abbrev pub AlternateIsThere : List Text → ExchangeEntry → Type 0
-AlternateIsThere exchanges x = (other : Text) → x.arguments.alternate ≡ Some other → IsIn other exchanges
-
--- a dead-letter exchange is one of these, or is the default one
-abbrev pub DeadLettersLead : List Text → QueueEntry → Type 0
-DeadLettersLead exchanges q = (x : Text) → q.arguments.dead_letter_exchange ≡ Some x → (x ≡ []) ⊎ IsIn x exchanges
-
--- all of these are
-pub record HasNamesLead (f : File) : Type 0 where
-  pub alternates : All (AlternateIsThere (exchange_names f)) f.exchanges
-  pub dead : All (DeadLettersLead (exchange_names f)) f.queues
+-- every alternate and dead-letter exchange is there
+abbrev pub HasNamesLead : File → Type 0
+HasNamesLead f = NamesLead (topology_of f)
 
 -- ---- 12: permissions
 
@@ -196,19 +141,6 @@ pub record HasPermissions (f : File) : Type 0 where
 
 -- ---- 13: password hashes
 
--- exactly 36 bytes
-abbrev pub of_36 : Text → Option Text
-of_36 hash = if length hash == 36 then Some hash else None
-
--- the 36 bytes of which this is the padded Base64 (RFC 4648, section 4)
-abbrev pub hash_decoded : Result Text DecodeError → Option Text
-hash_decoded (Ok hash) = of_36 hash
-hash_decoded (Err e) = None
-
--- a user's salt and hash, if it is hashed by SHA-256
-unfoldable pub hash_of : UserEntry → Option Text
-hash_of u = if bytes_eq u.hashing_algorithm (codes "rabbit_password_hashing_sha256") then hash_decoded (decode_of standard u.password_hash) else None
-
 -- every user has one
 abbrev pub HasHashes : File → Type 0
 HasHashes f = All (λ (u : UserEntry). IsSome (hash_of u)) f.users
@@ -226,7 +158,7 @@ IsClear OtherType f = HasTypes f
 IsClear Unsupported f = IsSupported f
 IsClear NoOverflow f = HasOverflows f
 IsClear Worded f = HasAllWorded f
-IsClear TooMany f = IsSmall f
+IsClear TooMany f = HasFew f
 IsClear NoExchange f = HasNamesLead f
 IsClear OtherPermission f = HasPermissions f
 IsClear OtherHash f = HasHashes f

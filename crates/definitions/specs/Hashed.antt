@@ -2,8 +2,7 @@
 use Rattle.std.specs.Prelude.{◌≡◌, List, All, IsSome, map}
 use Rattle.model.specs.declared.messages.User.{User}
 use Rattle.definitions.specs.declared.document.UserEntry.{UserEntry}
-use Rattle.definitions.specs.Causes.{hash_of}
-use Rattle.definitions.specs.States.{user_of}
+use Rattle.definitions.specs.States.{hash_of, user_of}
 
 -- each entry has a hash, and these are the users
 pub record AreHashed (entries : List UserEntry) (users : List User) : Type 0 where

@@ -1,6 +1,5 @@
 -- What is known of a file whose entries were looked at.
 use Rattle.std.specs.Prelude.{◌≡◌, ℕ, List, Result, Ok, Err, ⊤}
-use Rattle.model.specs.Topology.{Topology}
 use Rattle.definitions.specs.declared.bad.Bad.{Bad}
 use Rattle.definitions.specs.declared.bad.Bad.TheVariants.{NotJson, Malformed, OtherVhost, Repeated, Absent, OtherType, Unsupported, NoOverflow, Worded, TooMany, NoExchange, OtherPermission, OtherHash, Memory}
 use Rattle.definitions.specs.declared.document.Document.{Document}
@@ -34,11 +33,6 @@ Opens (Err bad) bytes = IsUnread bad bytes
 abbrev pub Judges : Result ⊤ Bad → File → Type 0
 Judges (Ok done) f = IsClearBelow 13 f
 Judges (Err bad) f = IsTold bad f
-
--- the topology of the entries is given, or memory is wanting
-abbrev pub Topologies : Result Topology Bad → File → Type 0
-Topologies (Ok t) f = t ≡ topology_of f
-Topologies (Err bad) f = bad ≡ Memory
 
 -- no cause stands in the entries, and they are given as what they set up
 pub record IsSettled (s : Stated) (f : File) : Type 0 where

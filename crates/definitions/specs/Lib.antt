@@ -2,10 +2,8 @@ pub mod Numbers
 pub mod Faults
 pub mod Shape
 pub mod File
-pub mod Names
-pub mod Causes
-pub mod Known
 pub mod States
+pub mod Causes
 pub mod Reads
 pub mod Judged
 pub mod Hashed

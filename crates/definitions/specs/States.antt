@@ -1,6 +1,10 @@
 -- What the entries of a file set up.
-use Rattle.std.specs.Prelude.{codes, List, [], map, unwrap_or, if◌then◌else◌}
+use Rattle.std.specs.Prelude.{codes, List, [], Option, Some, None, Result, Ok, Err, length, map, unwrap_or, if◌then◌else◌, ◌==◌}
 use Rattle.std.specs.Str.{bytes_eq}
+use Rattle.base64.specs.Engines.{standard}
+use Rattle.base64.specs.GeneralPurpose.{decode_of}
+use Rattle.base64.specs.declared.decode.DecodeError.{DecodeError}
+use Rattle.model.specs.Words.{Text}
 use Rattle.model.specs.Topology.{Topology}
 use Rattle.model.specs.declared.messages.User.{User}
 use Rattle.model.specs.declared.topologies.Exchange.{Exchange}
@@ -8,13 +12,17 @@ use Rattle.model.specs.declared.topologies.DeclaredQueue.{DeclaredQueue}
 use Rattle.model.specs.declared.topologies.Binding.{Binding}
 use Rattle.model.specs.declared.topologies.Place.{Place}
 use Rattle.model.specs.declared.topologies.Place.TheVariants as place
-use Rattle.model.specs.declared.topologies.ExchangeKind.TheVariants.{Direct}
+use Rattle.model.specs.declared.topologies.ExchangeKind.{ExchangeKind}
+use Rattle.model.specs.declared.topologies.ExchangeKind.TheVariants.{Direct, Fanout, Topic}
 use Rattle.definitions.specs.declared.document.UserEntry.{UserEntry}
 use Rattle.definitions.specs.declared.document.ExchangeEntry.{ExchangeEntry}
 use Rattle.definitions.specs.declared.document.QueueEntry.{QueueEntry}
 use Rattle.definitions.specs.declared.document.BindingEntry.{BindingEntry}
-use Rattle.definitions.specs.Causes.{hash_of, kind_named}
 use Rattle.definitions.specs.File.{File}
+
+-- the exchange type of this name
+abbrev pub kind_named : Text → Option ExchangeKind
+kind_named t = if bytes_eq t (codes "direct") then Some Direct else if bytes_eq t (codes "fanout") then Some Fanout else if bytes_eq t (codes "topic") then Some Topic else None
 
 -- an exchange of a known type
 abbrev pub exchange_of : ExchangeEntry → Exchange
@@ -29,13 +37,29 @@ queue_of q = record {
   dead_letter_key = q.arguments.dead_letter_key;
 }
 
--- where a binding of a known destination type leads
+-- where a binding leads; one of an unknown destination type is taken to lead back to its source, so that nothing else is looked for
 abbrev pub place_of : BindingEntry → Place
-place_of b = if bytes_eq b.destination_type (codes "queue") then place.Queue b.destination else place.Exchange b.destination
+place_of b =
+    if bytes_eq b.destination_type (codes "queue") then place.Queue b.destination else
+    if bytes_eq b.destination_type (codes "exchange") then place.Exchange b.destination else
+    place.Exchange b.source
 
 -- a binding
 abbrev pub binding_of : BindingEntry → Binding
 binding_of b = record { source = b.source; to = place_of b; key = b.key }
+
+-- exactly 36 bytes
+abbrev pub of_36 : Text → Option Text
+of_36 hash = if length hash == 36 then Some hash else None
+
+-- the 36 bytes of which this is the padded Base64 (RFC 4648, section 4)
+abbrev pub hash_decoded : Result Text DecodeError → Option Text
+hash_decoded (Ok hash) = of_36 hash
+hash_decoded (Err e) = None
+
+-- a user's salt and hash, if it is hashed by SHA-256
+unfoldable pub hash_of : UserEntry → Option Text
+hash_of u = if bytes_eq u.hashing_algorithm (codes "rabbit_password_hashing_sha256") then hash_decoded (decode_of standard u.password_hash) else None
 
 -- a user whose password is hashed as it is to be
 abbrev pub user_of : UserEntry → User

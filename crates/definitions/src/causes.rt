@@ -1,49 +1,37 @@
-//! What stands in a file, cause by cause.
+//! What stands in a file beside its topology, cause by cause.
 
-ghost use Rattle.std.specs.Prelude.{codes, ◌≡◌, ◌≤◌, ◌⊎◌, length, All, Decides, IfOk, IsSome, List, ℕ, [], Some, None};
-ghost use Rattle.model.specs.Topology.{IsIn};
-ghost use Rattle.topic_match.specs.Patterns.{IsPattern};
+ghost use Rattle.std.specs.Prelude.{codes, ◌≡◌, ◌⊎◌, All, Decides, List, ℕ, Some, None};
+ghost use Rattle.definitions.specs.States.{kind_named, topology_of};
 ghost use Rattle.definitions.specs.Causes.{
-  AlternateIsThere,
-  DeadLettersLead,
   HasAllJoin,
   HasAllWorded,
+  HasFew,
+  HasNamesApart,
   HasNamesLead,
   HasOneVhost,
   HasOverflows,
   HasPermissions,
   HasTypes,
-  IsExchange,
-  IsNamed,
   IsOfUser,
   IsPermitted,
   IsPlainBinding,
   IsPlainExchange,
   IsPlainQueue,
   IsShort,
-  IsSmall,
   IsSupported,
   IsWhole,
-  IsWorded,
-  Joins,
-  Leads,
   SaysOverflow,
-  kind_named,
   permission_names,
   user_names,
 };
 ghost use Rattle.definitions.specs.File.{file_of};
-ghost use Rattle.definitions.specs.Known.{KnowsFile};
-ghost use Rattle.definitions.specs.Names.{AreNames};
 
 use crate::document::{
     BindingEntry, Document, ExchangeEntry, PermissionEntry, QueueEntry, UserEntry, VhostEntry,
 };
-use crate::known::Known;
-use crate::names::Names;
+use exchange_graph::{Directory, Draft};
 use model::{ExchangeKind, Text};
-use std::alloc::{AllocError, Global};
-use topic_match::is_pattern;
+use std::alloc::Global;
 
 // ---- 3: one vhost
 
@@ -75,55 +63,31 @@ pub fn has_one_vhost(document: &Document) -> bool
             .all(|binding| is_root(&binding.vhost))
 }
 
+// ---- 4: names apart
+
+/// Whether no two users, queues or exchanges have one name.
+pub fn has_names_apart(
+    document: &Document,
+    users: &Directory<'_, UserEntry>,
+    draft: &Draft<'_>,
+) -> bool
+    requires users { users.now ≡ user_names (file_of document.now) }
+    requires draft { draft.now ≡ topology_of (file_of document.now) }
+    ensures { Decides result (HasNamesApart (file_of document.now)) }
+{
+    let _document = document;
+    users.is_apart() && draft.is_apart()
+}
+
 // ---- 5: what a binding names is there
 
-/// Whether an exchange of the file has this name.
-fn is_exchange(exchanges: &Names, name: &Text) -> bool
-    ensures { Decides result (IsExchange exchanges.now name.now) }
-{
-    name.len() != 0 && exchanges.has(name.as_bytes())
-}
-
-/// Whether a binding's destination is there, where its type is known.
-fn leads(exchanges: &Names, queues: &Names, binding: &BindingEntry) -> bool
-    ensures { Decides result (Leads exchanges.now queues.now binding.now) }
-{
-    let kind = binding.destination_type.as_bytes();
-    if kind == b"queue".as_slice() {
-        queues.has(binding.destination.as_bytes())
-    } else if kind == b"exchange".as_slice() {
-        is_exchange(exchanges, &binding.destination)
-    } else {
-        true
-    }
-}
-
-/// Whether what a binding names is there.
-fn joins(exchanges: &Names, queues: &Names, binding: &BindingEntry) -> bool
-    ensures { Decides result (Joins exchanges.now queues.now binding.now) }
-{
-    is_exchange(exchanges, &binding.source) && leads(exchanges, queues, binding)
-}
-
-/// Whether what these bindings name is there.
-fn each_joins(exchanges: &Names, queues: &Names, bindings: &[BindingEntry]) -> bool
-    ensures { Decides result (All (Joins exchanges.now queues.now) bindings.now) }
-{
-    bindings
-        .iter()
-        .all(|binding| joins(exchanges, queues, binding))
-}
-
 /// Whether what the bindings name is there.
-pub fn all_join(document: &Document, known: &Known) -> bool
-    requires { KnowsFile known.now.users known.now.queues known.now.exchanges (file_of document.now) }
+pub fn has_all_join(document: &Document, draft: &Draft<'_>) -> bool
+    requires { draft.now ≡ topology_of (file_of document.now) }
     ensures { Decides result (HasAllJoin (file_of document.now)) }
 {
-    each_joins(
-        &known.exchanges,
-        &known.queues,
-        document.bindings.as_slice(),
-    )
+    let _document = document;
+    draft.joins()
 }
 
 // ---- 6: exchange types
@@ -246,107 +210,33 @@ fn is_short(name: &Text) -> bool
     name.len() <= 255
 }
 
-/// Whether an exchange's name has its form.
-fn is_named(exchange: &ExchangeEntry) -> bool
-    ensures { Decides result (IsNamed exchange.now) }
-{
-    exchange.name.len() != 0 && is_short(&exchange.name)
-}
-
-/// Whether a dead-letter key is a pattern, if there is one.
-fn key_is_pattern(queue: &QueueEntry) -> bool
-    ensures { Decides result ((key : List ℕ) → queue.now.arguments.dead_letter_key ≡ Some key → IsPattern key) }
-{
-    match &queue.arguments.dead_letter_key {
-        Some(key) => is_pattern(key.as_bytes()),
-        None => true,
-    }
-}
-
-/// Whether a queue's name and key have their form.
-fn is_worded(queue: &QueueEntry) -> bool
-    ensures { Decides result (IsWorded queue.now) }
-{
-    queue.name.len() != 0 && is_pattern(queue.name.as_bytes()) && key_is_pattern(queue)
-}
-
-/// Whether a binding key is a pattern.
-fn is_keyed(binding: &BindingEntry) -> bool
-    ensures { Decides result (IsPattern binding.now.key) }
-{
-    is_pattern(binding.key.as_bytes())
-}
-
 /// Whether all names and keys have their form.
-pub fn has_all_worded(document: &Document) -> bool
+pub fn has_all_worded(document: &Document, draft: &Draft<'_>) -> bool
+    requires { draft.now ≡ topology_of (file_of document.now) }
     ensures { Decides result (HasAllWorded (file_of document.now)) }
 {
-    document.users.iter().all(|user| is_short(&user.name))
-        && document.exchanges.iter().all(|exchange| is_named(exchange))
-        && document.queues.iter().all(|queue| is_worded(queue))
-        && document.bindings.iter().all(|binding| is_keyed(binding))
+    document.users.iter().all(|user| is_short(&user.name)) && draft.is_worded()
 }
 
 // ---- 10: limits of a file
 
 /// Whether there are few enough entries.
-pub fn is_small(document: &Document) -> bool
-    ensures { Decides result (IsSmall (file_of document.now)) }
+pub fn has_few(document: &Document, draft: &Draft<'_>) -> bool
+    requires { draft.now ≡ topology_of (file_of document.now) }
+    ensures { Decides result (HasFew (file_of document.now)) }
 {
-    document.exchanges.len() <= 256
-        && document.queues.len() <= 256
-        && document.bindings.len() <= 4096
-        && document.users.len() <= 256
+    document.users.len() <= 256 && draft.is_small()
 }
 
 // ---- 11: where exchanges and queues pass on
 
-/// Whether an alternate exchange is there.
-fn alternate_is_there(exchanges: &Names, exchange: &ExchangeEntry) -> bool
-    ensures { Decides result (AlternateIsThere exchanges.now exchange.now) }
-{
-    match &exchange.arguments.alternate {
-        Some(name) => exchanges.has(name.as_bytes()),
-        None => true,
-    }
-}
-
-/// Whether a dead-letter exchange is there, or is the default one.
-fn dead_letters_lead(exchanges: &Names, queue: &QueueEntry) -> bool
-    ensures { Decides result (DeadLettersLead exchanges.now queue.now) }
-{
-    match &queue.arguments.dead_letter_exchange {
-        Some(name) => name.len() == 0 || exchanges.has(name.as_bytes()),
-        None => true,
-    }
-}
-
-/// Whether these alternate exchanges are there.
-fn alternates_are_there(exchanges: &Names, entries: &[ExchangeEntry]) -> bool
-    ensures { Decides result (All (AlternateIsThere exchanges.now) entries.now) }
-{
-    entries
-        .iter()
-        .all(|exchange| alternate_is_there(exchanges, exchange))
-}
-
-/// Whether these dead-letter exchanges are there.
-fn all_dead_letters_lead(exchanges: &Names, queues: &[QueueEntry]) -> bool
-    ensures { Decides result (All (DeadLettersLead exchanges.now) queues.now) }
-{
-    queues
-        .iter()
-        .all(|queue| dead_letters_lead(exchanges, queue))
-}
-
 /// Whether all alternate and dead-letter exchanges are there.
-pub fn names_lead(document: &Document, known: &Known) -> bool
-    requires { KnowsFile known.now.users known.now.queues known.now.exchanges (file_of document.now) }
+pub fn has_names_lead(document: &Document, draft: &Draft<'_>) -> bool
+    requires { draft.now ≡ topology_of (file_of document.now) }
     ensures { Decides result (HasNamesLead (file_of document.now)) }
 {
-    let alternates = alternates_are_there(&known.exchanges, document.exchanges.as_slice());
-    let dead = all_dead_letters_lead(&known.exchanges, document.queues.as_slice());
-    alternates & dead
+    let _document = document;
+    draft.leads()
 }
 
 // ---- 12: permissions
@@ -368,14 +258,14 @@ fn all_whole(permissions: &[PermissionEntry]) -> bool
 }
 
 /// Whether a user is among the permitted ones.
-fn is_permitted(permitted: &Names, user: &UserEntry) -> bool
+fn is_permitted(permitted: &Directory<'_, PermissionEntry>, user: &UserEntry) -> bool
     ensures { Decides result (IsPermitted permitted.now user.now) }
 {
     permitted.has(user.name.as_bytes())
 }
 
 /// Whether these users are among the permitted ones.
-fn are_permitted(permitted: &Names, users: &[UserEntry]) -> bool
+fn are_permitted(permitted: &Directory<'_, PermissionEntry>, users: &[UserEntry]) -> bool
     ensures { Decides result (All (IsPermitted permitted.now) users.now) }
 {
     for user in users {
@@ -387,14 +277,14 @@ fn are_permitted(permitted: &Names, users: &[UserEntry]) -> bool
 }
 
 /// Whether a permission is of a user.
-fn is_of_user(users: &Names, permission: &PermissionEntry) -> bool
+fn is_of_user(users: &Directory<'_, UserEntry>, permission: &PermissionEntry) -> bool
     ensures { Decides result (IsOfUser users.now permission.now) }
 {
     users.has(permission.user.as_bytes())
 }
 
 /// Whether these permissions are of users.
-fn are_of_users(users: &Names, permissions: &[PermissionEntry]) -> bool
+fn are_of_users(users: &Directory<'_, UserEntry>, permissions: &[PermissionEntry]) -> bool
     ensures { Decides result (All (IsOfUser users.now) permissions.now) }
 {
     for permission in permissions {
@@ -406,28 +296,27 @@ fn are_of_users(users: &Names, permissions: &[PermissionEntry]) -> bool
 }
 
 /// Whether each of the users is permitted once, and nobody else is.
-fn permissions_fit(document: &Document, users: &Names, permitted: &Names) -> bool
-    requires users { AreNames users.now (user_names (file_of document.now)) }
-    requires permitted { AreNames permitted.now (permission_names (file_of document.now)) }
+fn permissions_fit(
+    document: &Document,
+    users: &Directory<'_, UserEntry>,
+    permitted: &Directory<'_, PermissionEntry>,
+) -> bool
+    requires users { users.now ≡ user_names (file_of document.now) }
+    requires permitted { permitted.now ≡ permission_names (file_of document.now) }
     ensures { Decides result (HasPermissions (file_of document.now)) }
 {
     let whole = all_whole(document.permissions.as_slice());
+    let apart = permitted.is_apart();
     let each = are_permitted(permitted, document.users.as_slice());
     let known = are_of_users(users, document.permissions.as_slice());
-    whole & each & known
+    whole & apart & each & known
 }
 
 /// Whether each user has exactly one permission, each is of a user, and each is whole.
-pub fn has_permissions(
-    alloc: Global,
-    document: &Document,
-    known: &Known,
-) -> Result<bool, AllocError>
-    requires { KnowsFile known.now.users known.now.queues known.now.exchanges (file_of document.now) }
-    ensures { IfOk result (λ yes. Decides yes (HasPermissions (file_of document.now))) }
+pub fn has_permissions(alloc: Global, document: &Document, users: &Directory<'_, UserEntry>) -> bool
+    requires { users.now ≡ user_names (file_of document.now) }
+    ensures { Decides result (HasPermissions (file_of document.now)) }
 {
-    match Names::of(alloc, document.permissions.as_slice())? {
-        Some(permitted) => Ok(permissions_fit(document, &known.users, &permitted)),
-        None => Ok(false),
-    }
+    let permitted = Directory::of(alloc, document.permissions.as_slice());
+    permissions_fit(document, users, &permitted)
 }

@@ -1,9 +1,8 @@
 //! Definitions files.
 
 ghost use Rattle.std.specs.Prelude.{◌≡◌};
-ghost use Rattle.definitions.specs.Causes.{IsClearBelow};
 ghost use Rattle.definitions.specs.File.{file_of};
-ghost use Rattle.definitions.specs.Judged.{Opens, Settles, Topologies};
+ghost use Rattle.definitions.specs.Judged.{Opens, Settles};
 ghost use Rattle.definitions.specs.Reads.{Reads};
 
 use crate::bad::Bad;
@@ -11,7 +10,7 @@ use crate::document::Document;
 use crate::judging::judge;
 use crate::shape::document;
 use crate::stating::{bindings_of, exchanges_of, queues_of, users_of};
-use exchange_graph::{Bad as NotBuilt, Topology};
+use exchange_graph::Topology;
 use json_file::parse;
 use model::User;
 use std::alloc::Global;
@@ -55,6 +54,15 @@ impl Definitions {
     {
         self.users.as_slice()
     }
+
+    /// Its topology and its users, each as it stands.
+    pub fn into_parts(self) -> (Topology, Vec<User>)
+        ensures topology { result.0 ≡ self.topology }
+        ensures users { result.1.items ≡ self.users }
+    {
+        let Definitions { topology, users } = self;
+        (topology, users)
+    }
 }
 
 /// The entries of a file, or why it has none.
@@ -66,32 +74,24 @@ fn open(alloc: Global, bytes: &[u8]) -> Result<Document, Bad>
     Ok(document)
 }
 
-/// The topology of a file in which no cause stands that is told of its topology.
-fn build(alloc: Global, document: &Document) -> Result<Topology, Bad>
-    requires { IsClearBelow 13 (file_of document.now) }
-    ensures { Topologies result (file_of document.now) }
-{
-    let exchanges = exchanges_of(alloc, document.exchanges.as_slice())?;
-    let queues = queues_of(alloc, document.queues.as_slice())?;
-    let bindings = bindings_of(alloc, document.bindings.as_slice())?;
-    match Topology::build(alloc, exchanges, queues, bindings) {
-        Ok(topology) => Ok(topology),
-        Err(bad) => match bad {
-            NotBuilt::Memory => Err(Bad::Memory),
-            _ => unreachable!(),
-        },
-    }
-}
-
 /// What the entries of a file set up, or the least cause that stands in them.
 fn settle(alloc: Global, document: &Document) -> Result<Definitions, Bad>
     ensures { Settles result (file_of document.now) }
 {
-    judge(alloc, document)?;
+    let exchanges = exchanges_of(alloc, document.exchanges.as_slice())?;
+    let queues = queues_of(alloc, document.queues.as_slice())?;
+    let bindings = bindings_of(alloc, document.bindings.as_slice())?;
+    judge(
+        alloc,
+        document,
+        exchanges.as_slice(),
+        queues.as_slice(),
+        bindings.as_slice(),
+    )?;
     let Some(users) = users_of(alloc, document.users.as_slice())? else {
         return Err(Bad::OtherHash);
     };
-    let topology = build(alloc, document)?;
+    let topology = Topology::sound(alloc, exchanges, queues, bindings)?;
     Ok(Definitions { topology, users })
 }
 

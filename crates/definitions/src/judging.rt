@@ -1,52 +1,39 @@
 //! The least cause that stands in a file, but for the users' hashes.
 
-ghost use Rattle.std.specs.Prelude.{IfOk, MatchOption};
-ghost use Rattle.definitions.specs.Causes.{HasNamesApart};
+ghost use Rattle.std.specs.Prelude.{◌≡◌};
+ghost use Rattle.definitions.specs.Causes.{user_names};
 ghost use Rattle.definitions.specs.File.{file_of};
 ghost use Rattle.definitions.specs.Judged.{Judges};
-ghost use Rattle.definitions.specs.Known.{KnowsFile};
+ghost use Rattle.definitions.specs.States.{topology_of};
 
 use crate::bad::Bad;
 use crate::causes::{
-    all_join, has_all_worded, has_one_vhost, has_overflows, has_permissions, has_types, is_small,
-    is_supported, names_lead,
+    has_all_join, has_all_worded, has_few, has_names_apart, has_names_lead, has_one_vhost,
+    has_overflows, has_permissions, has_types, is_supported,
 };
-use crate::document::Document;
-use crate::known::Known;
-use crate::names::Names;
-use std::alloc::{AllocError, Global};
+use crate::document::{Document, UserEntry};
+use exchange_graph::{Directory, Draft};
+use model::{Binding, DeclaredQueue, Exchange};
+use std::alloc::Global;
 
-/// The names of a file, or `None` where two of one kind are the same.
-fn names_of(alloc: Global, document: &Document) -> Result<Option<Known>, AllocError>
-    ensures { IfOk result (λ o. MatchOption o (HasNamesApart (file_of document.now) → ⊥) (λ k. KnowsFile k.users k.queues k.exchanges (file_of document.now))) }
-{
-    let Some(users) = Names::of(alloc, document.users.as_slice())? else {
-        return Ok(None);
-    };
-    let Some(queues) = Names::of(alloc, document.queues.as_slice())? else {
-        return Ok(None);
-    };
-    let Some(exchanges) = Names::of(alloc, document.exchanges.as_slice())? else {
-        return Ok(None);
-    };
-    Ok(Some(Known {
-        users,
-        queues,
-        exchanges,
-    }))
-}
-
-/// Tells the least cause that stands in a file, if one below the users' hashes does.
-pub fn judge(alloc: Global, document: &Document) -> Result<(), Bad>
+/// The least cause that stands in a file, if one below the users' hashes does.
+fn least_cause(
+    alloc: Global,
+    document: &Document,
+    users: &Directory<'_, UserEntry>,
+    draft: &Draft<'_>,
+) -> Result<(), Bad>
+    requires users { users.now ≡ user_names (file_of document.now) }
+    requires draft { draft.now ≡ topology_of (file_of document.now) }
     ensures { Judges result (file_of document.now) }
 {
     if !has_one_vhost(document) {
         return Err(Bad::OtherVhost);
     }
-    let Some(known) = names_of(alloc, document)? else {
+    if !has_names_apart(document, users, draft) {
         return Err(Bad::Repeated);
-    };
-    if !all_join(document, &known) {
+    }
+    if !has_all_join(document, draft) {
         return Err(Bad::Absent);
     }
     if !has_types(document) {
@@ -58,18 +45,34 @@ pub fn judge(alloc: Global, document: &Document) -> Result<(), Bad>
     if !has_overflows(document) {
         return Err(Bad::NoOverflow);
     }
-    if !has_all_worded(document) {
+    if !has_all_worded(document, draft) {
         return Err(Bad::Worded);
     }
-    if !is_small(document) {
+    if !has_few(document, draft) {
         return Err(Bad::TooMany);
     }
-    if !names_lead(document, &known) {
+    if !has_names_lead(document, draft) {
         return Err(Bad::NoExchange);
     }
-    let permitted = has_permissions(alloc, document, &known)?;
-    if !permitted {
+    if !has_permissions(alloc, document, users) {
         return Err(Bad::OtherPermission);
     }
     Ok(())
+}
+
+/// Tells the least cause that stands in a file, if one below the users' hashes does. What the file sets up is asked of
+/// its draft.
+pub fn judge(
+    alloc: Global,
+    document: &Document,
+    exchanges: &[Exchange],
+    queues: &[DeclaredQueue],
+    bindings: &[Binding],
+) -> Result<(), Bad>
+    requires { record { exchanges = exchanges.now; queues = queues.now; bindings = bindings.now } ≡ topology_of (file_of document.now) }
+    ensures { Judges result (file_of document.now) }
+{
+    let users = Directory::of(alloc, document.users.as_slice());
+    let draft = Draft::of(alloc, exchanges, queues, bindings);
+    least_cause(alloc, document, &users, &draft)
 }

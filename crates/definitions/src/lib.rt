@@ -6,7 +6,6 @@ mod causes;
 mod definitions;
 mod document;
 mod judging;
-mod known;
 mod names;
 mod shape;
 mod stating;

@@ -1,8 +1,7 @@
 //! What the entries of a file set up.
 
 ghost use Rattle.std.specs.Prelude.{◌≡◌, All, IfOk, IsSome, MatchOption, map};
-ghost use Rattle.definitions.specs.Causes.{hash_of, of_36};
-ghost use Rattle.definitions.specs.States.{binding_of, exchange_of, place_of, queue_of, user_of};
+ghost use Rattle.definitions.specs.States.{binding_of, exchange_of, hash_of, of_36, place_of, queue_of, user_of};
 ghost use Rattle.definitions.specs.Hashed.{AreHashed};
 
 use crate::causes::kind_named;
@@ -68,14 +67,16 @@ pub fn queues_of(alloc: Global, entries: &[QueueEntry]) -> Result<Vec<DeclaredQu
     Ok(made)
 }
 
-/// Where a binding leads.
+/// Where a binding leads. One of an unknown destination type is taken to lead back to its source.
 fn place_of(entry: &BindingEntry) -> Result<Place, AllocError>
     ensures { IfOk result (λ p. p ≡ place_of entry.now) }
 {
     if entry.destination_type.as_bytes() == b"queue".as_slice() {
         Ok(Place::Queue(entry.destination.clone()?))
-    } else {
+    } else if entry.destination_type.as_bytes() == b"exchange".as_slice() {
         Ok(Place::Exchange(entry.destination.clone()?))
+    } else {
+        Ok(Place::Exchange(entry.source.clone()?))
     }
 }
 
@@ -113,7 +114,7 @@ fn of_36(alloc: Global, bytes: &[u8]) -> Result<Option<Text>, AllocError>
 }
 
 /// A user's salt and hash, if the password is hashed as it is to be.
-#[tactic(auto, unfolding(crate::specs::Causes::hash_of))]
+#[tactic(auto, unfolding(crate::specs::States::hash_of))]
 fn hash_of(alloc: Global, entry: &UserEntry) -> Result<Option<Text>, AllocError>
     ensures { IfOk result (λ o. o ≡ hash_of entry.now) }
 {

@@ -2,7 +2,8 @@ pub mod Indices
 pub mod Members
 pub mod Passing
 pub mod Marking
-pub mod Names
+pub mod Naming
+pub mod Entering
 pub mod Stepping
 pub mod Reached
 pub mod Starting

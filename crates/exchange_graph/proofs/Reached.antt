@@ -13,7 +13,7 @@ use Rattle.exchange_graph.specs.declared.ends.End.TheVariants.{Onward, Into}
 use Rattle.exchange_graph.specs.Fans.{AreSteps, EndsWithin, place_of}
 use Rattle.exchange_graph.specs.Marks.{Marks, IsMet, IsSet, IsClosed, IsPending, Arrives, HasRoom, Reaching, Expands, AreMet, exchange_name, queue_name}
 use Rattle.exchange_graph.proofs.Marking.{set_only, set_within}
-use Rattle.exchange_graph.proofs.Names.{apart_same}
+use Rattle.exchange_graph.proofs.Naming.{apart_same}
 
 pub within_room : (t : Topology) (key name : Text) (seen found : List Bool) (ends : List End) → HasRoom t seen found → AreSteps t key name ends
     → (e : End) → IsIn e ends → EndsWithin (length seen) (length found) e

@@ -17,7 +17,7 @@ use Rattle.exchange_graph.specs.Built.{IsBuilt}
 use Rattle.exchange_graph.specs.Marks.{exchange_name}
 use Rattle.exchange_graph.specs.Fans.{Fan, ArePassing, LeadOn, AreSteps, EndsWithin, ways_from, way_of, fan_of, end_of, place_of, or_alternate, exchange_place}
 use Rattle.exchange_graph.proofs.Members.{in_contains, contains_in, in_map}
-use Rattle.exchange_graph.proofs.Names.{get_map, same_exchange, place_again, ends_within, exchange_stands}
+use Rattle.exchange_graph.proofs.Naming.{get_map, same_exchange, place_again, ends_within, exchange_stands}
 
 -- ---- the ways of an exchange are its bindings
 
@@ -159,9 +159,9 @@ steps_of t key x ends w c l =
     })
 
 -- .. as they stand in their lists
-pub steps_at : (inside t : Topology) (fans : List Fan) (at : ℕ) (key : Text) (x : Exchange) (fan : Fan) (ends : List End) → inside ≡ t → IsBuilt inside fans → at < length t.exchanges
+pub steps_at : (inside t : Topology) (fans : List Fan) (xs qs : List Text) (at : ℕ) (key : Text) (x : Exchange) (fan : Fan) (ends : List End) → inside ≡ t → IsBuilt inside fans xs qs → at < length t.exchanges
     → x ≡ get_or inside.exchanges at x → fan ≡ get_or fans at fan → LeadOn x.kind key fan ends → AreSteps t key (exchange_name t at) ends
-steps_at inside t fans at key x fan ends e b h p q l =
+steps_at inside t fans xs qs at key x fan ends e b h p q l =
     let p' : x ≡ get_or t.exchanges at x = p ∙ ap (λ (z : Topology). get_or z.exchanges at x) e in
     let w : IsWellFormed t = subst (λ (z : Topology). IsWellFormed z) e b.good in
     let k : fans ≡ map (fan_of t) t.exchanges = b.known ∙ ap (λ (z : Topology). map (fan_of z) z.exchanges) e in

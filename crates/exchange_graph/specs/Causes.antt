@@ -1,10 +1,12 @@
 -- What a topology must keep to be built, and what is told where it does not. Source: RabbitMQ, "Definition Export and Import"; the limits are own.
-use Rattle.std.specs.Prelude.{◌≡◌, ◌≤◌, [], Some, None, length, All, Result, Ok, Err, ◌⊎◌}
+use Rattle.std.specs.Prelude.{◌≡◌, ◌≤◌, List, [], Some, None, length, All, Result, Ok, Err, ◌⊎◌}
 use Rattle.model.specs.Words.{Text}
-use Rattle.model.specs.Topology.{Topology, queue_names, exchange_names, IsIn, AreApart, IsThere}
+use Rattle.model.specs.Topology.{Topology, queue_names, exchange_names, IsIn, AreApart}
 use Rattle.model.specs.declared.topologies.Exchange.{Exchange}
 use Rattle.model.specs.declared.topologies.DeclaredQueue.{DeclaredQueue}
 use Rattle.model.specs.declared.topologies.Binding.{Binding}
+use Rattle.model.specs.declared.topologies.Place.{Place}
+use Rattle.model.specs.declared.topologies.Place.TheVariants as place
 use Rattle.topic_match.specs.Patterns.{IsPattern}
 use Rattle.exchange_graph.specs.declared.bad.Bad.{Bad}
 use Rattle.exchange_graph.specs.declared.bad.Bad.TheVariants.{Repeated, Absent, Argument, Worded, TooMany, NoExchange, Memory}
@@ -14,14 +16,24 @@ pub record NamesApart (t : Topology) : Type 0 where
   pub queues : AreApart (queue_names t.queues)
   pub exchanges : AreApart (exchange_names t.exchanges)
 
+-- one of these exchanges has this name; the default exchange is none of them
+pub record IsExchange (exchanges : List Text) (name : Text) : Type 0 where
+  pub some : name ≡ [] → ⊥
+  pub there : IsIn name exchanges
+
+-- a place is one of these exchanges or queues
+abbrev pub IsPlace : List Text → List Text → Place → Type 0
+IsPlace exchanges queues (place.Exchange name) = IsExchange exchanges name
+IsPlace exchanges queues (place.Queue name) = IsIn name queues
+
 -- the exchange and the place that a binding names are there
-pub record Joins (t : Topology) (b : Binding) : Type 0 where
-  pub source : IsIn b.source (exchange_names t.exchanges)
-  pub end : IsThere t b.to
+pub record Joins (exchanges queues : List Text) (b : Binding) : Type 0 where
+  pub source : IsExchange exchanges b.source
+  pub end : IsPlace exchanges queues b.to
 
 -- every binding does
 abbrev pub AllJoin : Topology → Type 0
-AllJoin t = All (Joins t) t.bindings
+AllJoin t = All (Joins (exchange_names t.exchanges) (queue_names t.queues)) t.bindings
 
 -- a queue with a dead-letter key has a dead-letter exchange
 abbrev pub KeyHasExchange : DeclaredQueue → Type 0
@@ -54,18 +66,18 @@ pub record IsSmall (t : Topology) : Type 0 where
   pub queues : length t.queues ≤ 256
   pub bindings : length t.bindings ≤ 4096
 
--- an alternate exchange is there
-abbrev pub AlternateIsThere : Topology → Exchange → Type 0
-AlternateIsThere t x = (other : Text) → x.alternate ≡ Some other → IsIn other (exchange_names t.exchanges)
+-- an alternate exchange is one of these
+abbrev pub AlternateIsThere : List Text → Exchange → Type 0
+AlternateIsThere exchanges x = (other : Text) → x.alternate ≡ Some other → IsIn other exchanges
 
--- a dead-letter exchange is there, or is the default one
-abbrev pub DeadLettersLead : Topology → DeclaredQueue → Type 0
-DeadLettersLead t q = (x : Text) → q.dead_letter_exchange ≡ Some x → (x ≡ []) ⊎ IsIn x (exchange_names t.exchanges)
+-- a dead-letter exchange is one of these, or is the default one
+abbrev pub DeadLettersLead : List Text → DeclaredQueue → Type 0
+DeadLettersLead exchanges q = (x : Text) → q.dead_letter_exchange ≡ Some x → (x ≡ []) ⊎ IsIn x exchanges
 
 -- all of these are
 pub record NamesLead (t : Topology) : Type 0 where
-  pub alternates : All (AlternateIsThere t) t.exchanges
-  pub dead : All (DeadLettersLead t) t.queues
+  pub alternates : All (AlternateIsThere (exchange_names t.exchanges)) t.exchanges
+  pub dead : All (DeadLettersLead (exchange_names t.exchanges)) t.queues
 
 -- Nothing stands against this topology.
 pub record IsBuildable (t : Topology) : Type 0 where
@@ -76,7 +88,7 @@ pub record IsBuildable (t : Topology) : Type 0 where
   pub small : IsSmall t
   pub lead : NamesLead t
 
--- This stands against it, and nothing that is looked for before.
+-- This stands against it, and nothing that is looked for before. Memory is wanting only for what can be built.
 abbrev pub IsRefused : Bad → Topology → Type 0
 IsRefused Repeated t = NamesApart t → ⊥
 IsRefused Absent t = NamesApart t × (AllJoin t → ⊥)
@@ -84,7 +96,7 @@ IsRefused Argument t = NamesApart t × AllJoin t × (KeysHaveExchanges t → ⊥
 IsRefused Worded t = NamesApart t × AllJoin t × KeysHaveExchanges t × (AllWorded t → ⊥)
 IsRefused TooMany t = NamesApart t × AllJoin t × KeysHaveExchanges t × AllWorded t × (IsSmall t → ⊥)
 IsRefused NoExchange t = NamesApart t × AllJoin t × KeysHaveExchanges t × AllWorded t × IsSmall t × (NamesLead t → ⊥)
-IsRefused Memory t = Unit {0}
+IsRefused Memory t = IsBuildable t
 
 -- What is handed in is built as it is, or refused.
 abbrev pub Builds : Result Topology Bad → Topology → Type 0

@@ -1,5 +1,7 @@
+pub mod Naming
 pub mod Targets
 pub mod Causes
 pub mod Fans
 pub mod Marks
 pub mod Built
+pub mod Drafts

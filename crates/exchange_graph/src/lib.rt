@@ -4,6 +4,8 @@
 mod bad;
 mod checks;
 mod copies;
+mod directory;
+mod drafts;
 mod ends;
 mod fans;
 mod marks;
@@ -12,4 +14,6 @@ mod reach;
 mod topologies;
 
 pub use bad::Bad;
+pub use directory::{Directory, Named, Names};
+pub use drafts::Draft;
 pub use topologies::Topology;

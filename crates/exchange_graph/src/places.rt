@@ -1,65 +1,42 @@
 //! Names are looked up once, when a topology is built.
 
-ghost use Rattle.std.specs.Prelude.{◌≡◌, ◌<◌, [], length, position, slice_index_or, IfOk, IfSome, IfNone};
+ghost use Rattle.std.specs.Prelude.{◌≡◌, position, IfOk};
 ghost use Rattle.std.specs.Str.{bytes_eq};
-ghost use Rattle.model.specs.Topology.{IsIn, exchange_names, queue_names};
 ghost use Rattle.exchange_graph.specs.Fans.{exchange_place, queue_place, end_of, ways_from};
 
 use crate::ends::{End, Way};
 use model::{Binding, DeclaredQueue, Exchange, Place};
 use std::alloc::{AllocError, Global};
 
-/// The first exchange of this name.
+/// The place of the first exchange of this name, if it is there.
 fn first_exchange(exchanges: &[Exchange], name: &[u8]) -> Option<usize>
-    ensures place { result ≡ position (λ x. bytes_eq x.name name.now) exchanges.now }
-    ensures within { IfSome result (λ i. i < length exchanges.now) }
+    ensures { result ≡ position (λ x. bytes_eq x.name name.now) exchanges.now }
 {
     exchanges.iter().position(|x| x.name.as_bytes() == name)
-}
-
-/// The place of the first exchange of this name, if it is there.
-pub fn exchange_at(exchanges: &[Exchange], name: &[u8]) -> Option<usize>
-    ensures place { result ≡ position (λ x. bytes_eq x.name name.now) exchanges.now }
-    ensures within { IfSome result (λ i. i < length exchanges.now) }
-    ensures named { IfSome result (λ i. slice_index_or (exchange_names exchanges.now) i [] ≡ name.now) }
-    ensures absent { IfNone result (IsIn name.now (exchange_names exchanges.now) → ⊥) }
-{
-    first_exchange(exchanges, name)
 }
 
 /// The place of the first exchange of this name, or how many there are.
 pub fn exchange_place(exchanges: &[Exchange], name: &[u8]) -> usize
     ensures { result ≡ exchange_place exchanges.now name.now }
 {
-    match exchange_at(exchanges, name) {
+    match first_exchange(exchanges, name) {
         Some(place) => place,
         None => exchanges.len(),
     }
 }
 
-/// The first queue of this name.
+/// The place of the first queue of this name, if it is there.
 fn first_queue(queues: &[DeclaredQueue], name: &[u8]) -> Option<usize>
-    ensures place { result ≡ position (λ q. bytes_eq q.name name.now) queues.now }
-    ensures within { IfSome result (λ i. i < length queues.now) }
+    ensures { result ≡ position (λ q. bytes_eq q.name name.now) queues.now }
 {
     queues.iter().position(|q| q.name.as_bytes() == name)
-}
-
-/// The place of the first queue of this name, if it is there.
-pub fn queue_at(queues: &[DeclaredQueue], name: &[u8]) -> Option<usize>
-    ensures place { result ≡ position (λ q. bytes_eq q.name name.now) queues.now }
-    ensures within { IfSome result (λ i. i < length queues.now) }
-    ensures named { IfSome result (λ i. slice_index_or (queue_names queues.now) i [] ≡ name.now) }
-    ensures absent { IfNone result (IsIn name.now (queue_names queues.now) → ⊥) }
-{
-    first_queue(queues, name)
 }
 
 /// The place of the first queue of this name, or how many there are.
 pub fn queue_place(queues: &[DeclaredQueue], name: &[u8]) -> usize
     ensures { result ≡ queue_place queues.now name.now }
 {
-    match queue_at(queues, name) {
+    match first_queue(queues, name) {
         Some(place) => place,
         None => queues.len(),
     }

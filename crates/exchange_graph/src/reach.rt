@@ -13,7 +13,6 @@ ghost use Rattle.exchange_graph.specs.Marks.{
 };
 
 use crate::marks::{mark_all, pending, unmarked};
-use crate::places::{exchange_at, queue_at};
 use crate::topologies::Topology;
 use std::alloc::{AllocError, Global};
 
@@ -99,7 +98,7 @@ fn found_by_name(topology: &Topology, alloc: Global, key: &[u8]) -> Result<Vec<b
 {
     topology.is_well_formed();
     let mut found = unmarked(alloc, topology.queues().len())?;
-    match queue_at(topology.queues(), key) {
+    match topology.queue_at(key) {
         Some(place) => {
             found[place] = true;
             Ok(found)
@@ -120,7 +119,7 @@ pub fn found(
     if exchange.is_empty() {
         return found_by_name(topology, alloc, key);
     }
-    match exchange_at(topology.exchanges(), exchange) {
+    match topology.exchange_at(exchange) {
         Some(place) => Ok(met_from(topology, alloc, place, exchange, key)?.found),
         None => unmarked(alloc, topology.queues().len()),
     }
@@ -135,7 +134,7 @@ pub fn seen(
 ) -> Result<Vec<bool>, AllocError>
     ensures { IfOk result (λ seen. AreSeen topology.now exchange.now key.now seen.items) }
 {
-    match exchange_at(topology.exchanges(), exchange) {
+    match topology.exchange_at(exchange) {
         Some(place) => Ok(met_from(topology, alloc, place, exchange, key)?.seen),
         None => unmarked(alloc, topology.exchanges().len()),
     }

@@ -14,19 +14,19 @@ ghost use Rattle.std.specs.Prelude.{
   Some,
 };
 ghost use Rattle.std.specs.Str.{bytes_eq};
-ghost use Rattle.model.specs.Topology.{Topology as Handed, IsIn, IsWellFormed, queue_names};
+ghost use Rattle.model.specs.Topology.{Topology as Handed, IsIn, IsWellFormed, exchange_names, queue_names};
 ghost use Rattle.exchange_graph.specs.Targets.{AreTargets, AreVisited};
-ghost use Rattle.exchange_graph.specs.Causes.{Builds};
+ghost use Rattle.exchange_graph.specs.Causes.{Builds, IsBuildable};
 ghost use Rattle.exchange_graph.specs.Fans.{AreSteps};
 ghost use Rattle.exchange_graph.specs.Marks.{exchange_name, queue_name};
 
 use crate::bad::Bad;
-use crate::checks::judge;
 use crate::copies::{copy_bindings, copy_exchanges, copy_queues};
+use crate::directory::Names;
+use crate::drafts::judge;
 use crate::ends::End;
 use crate::fans::{Fan, all_fans};
 use crate::marks::set_places;
-use crate::places::queue_at;
 use crate::reach::{found, seen};
 use model::{Binding, DeclaredQueue, Exchange};
 use std::alloc::{AllocError, Global};
@@ -38,6 +38,8 @@ pub struct Topology {
     queues: Vec<DeclaredQueue>,
     bindings: Vec<Binding>,
     fans: Vec<Fan>,
+    exchange_names: Names,
+    queue_names: Names,
 }
 
 /// Written out, so that a drop is one call.
@@ -48,6 +50,8 @@ impl Drop for Topology {
             queues: _,
             bindings: _,
             fans: _,
+            exchange_names: _,
+            queue_names: _,
         } = self;
     }
 }
@@ -60,7 +64,7 @@ impl Model for Topology {
 
     ghost view = { λ t. record { exchanges = t.exchanges.items; queues = t.queues.items; bindings = t.bindings.items } };
 
-    ghost invariant = { λ t. IsBuilt (record { exchanges = t.exchanges.items; queues = t.queues.items; bindings = t.bindings.items }) t.fans.items };
+    ghost invariant = { λ t. IsBuilt (record { exchanges = t.exchanges.items; queues = t.queues.items; bindings = t.bindings.items }) t.fans.items t.exchange_names t.queue_names };
 }
 
 impl Topology {
@@ -73,10 +77,44 @@ impl Topology {
     ) -> Result<Topology, Bad>
         ensures { Builds result (record { exchanges = exchanges.items; queues = queues.items; bindings = bindings.items }) }
     {
-        match judge(exchanges.as_slice(), queues.as_slice(), bindings.as_slice()) {
+        match judge(
+            alloc,
+            exchanges.as_slice(),
+            queues.as_slice(),
+            bindings.as_slice(),
+        ) {
             Ok(_) => {}
             Err(bad) => return Err(bad),
         }
+        let topology = Topology::sound(alloc, exchanges, queues, bindings)?;
+        Ok(topology)
+    }
+
+    /// Exactly what is handed in, against which nothing stands.
+    pub fn sound(
+        alloc: Global,
+        exchanges: Vec<Exchange>,
+        queues: Vec<DeclaredQueue>,
+        bindings: Vec<Binding>,
+    ) -> Result<Topology, AllocError>
+        requires { IsBuildable (record { exchanges = exchanges.items; queues = queues.items; bindings = bindings.items }) }
+        ensures { IfOk result (λ t. t ≡ record { exchanges = exchanges.items; queues = queues.items; bindings = bindings.items }) }
+    {
+        Topology::built(alloc, exchanges, queues, bindings)
+    }
+
+    /// Exactly what is handed in, with what is looked up in it.
+    fn built(
+        alloc: Global,
+        exchanges: Vec<Exchange>,
+        queues: Vec<DeclaredQueue>,
+        bindings: Vec<Binding>,
+    ) -> Result<Topology, AllocError>
+        requires { IsWellFormed (record { exchanges = exchanges.items; queues = queues.items; bindings = bindings.items }) }
+        ensures { IfOk result (λ t. t ≡ record { exchanges = exchanges.items; queues = queues.items; bindings = bindings.items }) }
+    {
+        let exchange_names = Names::apart(alloc, exchanges.as_slice())?;
+        let queue_names = Names::apart(alloc, queues.as_slice())?;
         let fans = all_fans(
             alloc,
             exchanges.as_slice(),
@@ -88,6 +126,8 @@ impl Topology {
             queues,
             bindings,
             fans,
+            exchange_names,
+            queue_names,
         })
     }
 
@@ -98,18 +138,7 @@ impl Topology {
         let exchanges = copy_exchanges(alloc, self.exchanges.as_slice())?;
         let queues = copy_queues(alloc, self.queues.as_slice())?;
         let bindings = copy_bindings(alloc, self.bindings.as_slice())?;
-        let fans = all_fans(
-            alloc,
-            exchanges.as_slice(),
-            queues.as_slice(),
-            bindings.as_slice(),
-        )?;
-        Ok(Topology {
-            exchanges,
-            queues,
-            bindings,
-            fans,
-        })
+        Topology::built(alloc, exchanges, queues, bindings)
     }
 
     /// What every topology keeps.
@@ -185,7 +214,20 @@ impl Topology {
     pub fn exchange(&self, name: &[u8]) -> Option<&Exchange>
         ensures { option_copied result ≡ find (λ x. bytes_eq x.name name.now) self.now.exchanges }
     {
-        self.exchanges.iter().find(|x| x.name.as_bytes() == name)
+        match self.exchange_at(name) {
+            Some(place) => Some(&self.exchanges[place]),
+            None => None,
+        }
+    }
+
+    /// The place of the exchange of this name, if it is there. The default exchange is not.
+    pub fn exchange_at(&self, name: &[u8]) -> Option<usize>
+        ensures place { result ≡ position (λ x. bytes_eq x.name name.now) self.now.exchanges }
+        ensures within { IfSome result (λ i. i < length self.now.exchanges) }
+        ensures named { IfSome result (λ i. exchange_name self.now i ≡ name.now) }
+        ensures absent { IfNone result (IsIn name.now (exchange_names self.now.exchanges) → ⊥) }
+    {
+        self.exchange_names.place(name)
     }
 
     /// The place of the queue of this name, if it is there.
@@ -195,7 +237,7 @@ impl Topology {
         ensures named { IfSome result (λ i. queue_name self.now i ≡ name.now) }
         ensures absent { IfNone result (IsIn name.now (queue_names self.now.queues) → ⊥) }
     {
-        queue_at(self.queues.as_slice(), name)
+        self.queue_names.place(name)
     }
 
     /// The queue at this place.

@@ -10,5 +10,5 @@ returns-in-None c =
     let t = c.args.topology.now in
     IfOk-weaker c.unmarked.result _ _
     (λ v e. subst (λ (bs : List Bool). AreFound t c.args.exchange.now c.args.key.now bs) (sym (e ∙ ap (λ (qs : List DeclaredQueue). replicate (length qs) false) c.queues.ensures))
-    (nothing_found t c.args.exchange.now c.args.key.now (length t.queues) refl (not_empty c.args.exchange.now c.is_empty.result c.is_empty.ensures c.if-is_empty.false) (rw c.exchanges.ensures at c.in-None.ensures.absent)))
+    (nothing_found t c.args.exchange.now c.args.key.now (length t.queues) refl (not_empty c.args.exchange.now c.is_empty.result c.is_empty.ensures c.if-is_empty.false) c.in-None.ensures.absent))
     c.unmarked.ensures

@@ -6,10 +6,10 @@ pub returns-in-Some : goal.returns-in-Some
 returns-in-Some c =
     let t = c.args.topology.now in
     rw (c.in_ok-found.ensures, c.queues.ensures)
-    (default_one t c.args.key.now (length t.queues) c.in-Some.place refl c.is_well_formed.ensures (rw c.queues-2.ensures at c.in-Some.ensures.within) (rw c.queues-2.ensures at c.in-Some.ensures.named))
+    (default_one t c.args.key.now (length t.queues) c.in-Some.place refl c.is_well_formed.ensures c.in-Some.ensures.within c.in-Some.ensures.named)
 
 pub returns-in-None : goal.returns-in-None
 returns-in-None c =
     let t = c.args.topology.now in
     rw (c.in_ok-found.ensures, c.queues.ensures)
-    (default_none t c.args.key.now (length t.queues) refl c.is_well_formed.ensures (rw c.queues-2.ensures at c.in-None.ensures.absent))
+    (default_none t c.args.key.now (length t.queues) refl c.is_well_formed.ensures c.in-None.ensures.absent)

@@ -9,6 +9,6 @@ pub returns-in-None : goal.returns-in-None
 returns-in-None c =
     let t = c.args.topology.now in
     IfOk-weaker c.unmarked.result _ _
-    (λ v e. subst (λ (bs : List Bool). AreSeen t c.args.exchange.now c.args.key.now bs) (sym (e ∙ ap (λ (xs : List Exchange). replicate (length xs) false) c.exchanges-in-None.ensures))
-    (nothing_seen t c.args.exchange.now c.args.key.now (length t.exchanges) refl (rw c.exchanges.ensures at c.in-None.ensures.absent)))
+    (λ v e. subst (λ (bs : List Bool). AreSeen t c.args.exchange.now c.args.key.now bs) (sym (e ∙ ap (λ (xs : List Exchange). replicate (length xs) false) c.exchanges.ensures))
+    (nothing_seen t c.args.exchange.now c.args.key.now (length t.exchanges) refl c.in-None.ensures.absent))
     c.unmarked.ensures

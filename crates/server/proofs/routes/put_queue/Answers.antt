@@ -1,5 +1,5 @@
 use Rattle.std.proofs.Common.{[]}
-use Rattle.exchange_graph.proofs.Names.{get_map}
+use Rattle.exchange_graph.proofs.Naming.{get_map}
 use Rattle.model.specs.declared.topologies.DeclaredQueue.{DeclaredQueue}
 use Rattle.server.proofs.routes.put_queue.Goals as goal
 

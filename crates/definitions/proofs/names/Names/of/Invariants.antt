@@ -1,6 +1,0 @@
-use Rattle.std.proofs.Common.{map, take}
-use Rattle.definitions.specs.Names.{AreNames}
-use Rattle.definitions.proofs.names.Names.of.Given as goal
-
-abbrev pub invariant-loop-entry : goal.invariant-loop-entry
-invariant-loop-entry g l = AreNames l.names (map g.N.Named.named (take l.entry-index l.entries))
