@@ -3,13 +3,13 @@ use Rattle.std.proofs.Common.{◌≡◌, ◌++◌, ℕ, Bool, true, false, List,
 use Rattle.std.specs.Io.KnownBytes.{Appends, Keeps}
 use Rattle.clap.specs.Words.{kind_of}
 use Rattle.clap.specs.declared.error.Error.{Error}
-use Rattle.command_line.specs.CommandLine.{Wanted, Replay, Route, AsksFor, IsRefused}
+use Rattle.command_line.specs.CommandLine.{Wanted, AsksFor, IsRefused}
 use Rattle.model.specs.Words.{Text}
-use Rattle.model.specs.State.{Config}
 use Rattle.server.specs.Files.{Known}
 use Rattle.server.specs.Streams.{Stream, GetsNothing, Tries, tried}
 use Rattle.server.specs.declared.refusals.Refusal.{Refusal}
-use Rattle.server.specs.Program.{Does, replayed, refused, routed, unrouted, unstated, wanting, unasked, unread, IsInForce, PrintsFile, ListsFile, IsWhy, IsWhyUnstated, Refuses, Shows, definitions_of, no_exchange, out_of_memory, status_of}
+use Rattle.server.specs.declared.refusals.Refusal.TheVariants.{Memory}
+use Rattle.server.specs.Program.{Does, printed, told_of, unasked, unread, Fails, wanting, IsPrinted, Refuses, Shows, out_of_memory, status_of}
 
 -- ---- streams
 
@@ -55,40 +55,17 @@ four : (done : Bool) → tried done 4 ≡ 4
 four true = refl
 four false = refl
 
-pub replays : (words : List Text) (holds : Text → Known) (out err : Stream) (file printed : Text) (definitions : Option Text) (force : Config) (n : ℕ)
-    → AsksFor words (Replay file definitions) → IsInForce holds definitions force → PrintsFile force (holds file) printed → GetsNothing err → Tries out printed 0 n → Does words holds out err n
-replays words holds out err file printed definitions force n asks is prints quiet put =
-    at_status words holds out err (tried put.0 0) n put.2 (replayed force put.0 asks is prints put.1 quiet)
+pub prints : (words : List Text) (holds : Text → Known) (out err : Stream) (wanted : Wanted) (text : Text) (n : ℕ)
+    → AsksFor words wanted → IsPrinted holds wanted text → GetsNothing err → Tries out text 0 n → Does words holds out err n
+prints words holds out err wanted text n asks is quiet put = at_status words holds out err (tried put.0 0) n put.2 (printed wanted text put.0 asks is put.1 quiet)
 
-pub wants : (words : List Text) (holds : Text → Known) (out err : Stream) (wanted : Wanted) (n : ℕ)
-    → AsksFor words wanted → GetsNothing out → Tries err out_of_memory 4 n → Does words holds out err n
-wants words holds out err wanted n asks quiet told = at_status words holds out err 4 n (told.2 ∙ four told.0) (wanting told.0 asks quiet told.1)
-
-pub refuses : (words : List Text) (holds : Text → Known) (out err : Stream) (file : Text) (definitions : Option Text) (force : Config) (why : Refusal) (n : ℕ)
-    → AsksFor words (Replay file definitions) → IsInForce holds definitions force → IsWhy why (holds file) → GetsNothing out → Refuses err file why n → Does words holds out err n
-refuses words holds out err file definitions force why n asks is reason quiet put =
+pub tells : (words : List Text) (holds : Text → Known) (out err : Stream) (wanted : Wanted) (file : Text) (why : Refusal) (n : ℕ)
+    → AsksFor words wanted → Fails holds wanted file why → GetsNothing out → Refuses err file why n → Does words holds out err n
+tells words holds out err wanted file why n asks fails quiet put =
     elim put [
-      | inl told ↦ at_status words holds out err (tried told.0 (status_of why)) n told.2 (refused force why told.0 asks is reason quiet told.1)
-      | inr told ↦ wants words holds out err (Replay file definitions) n asks quiet told
+      | inl told ↦ at_status words holds out err (tried told.0 (status_of why)) n told.2 (told_of why told.0 asks fails quiet told.1)
+      | inr told ↦ at_status words holds out err (tried told.0 4) n told.2 (told_of {file = file} Memory told.0 asks wanting quiet told.1)
     ]
-
-pub refuses_definitions : (words : List Text) (holds : Text → Known) (out err : Stream) (wanted : Wanted) (file : Text) (why : Refusal) (n : ℕ)
-    → AsksFor words wanted → definitions_of wanted ≡ Some file → IsWhyUnstated why (holds file) → GetsNothing out → Refuses err file why n → Does words holds out err n
-refuses_definitions words holds out err wanted file why n asks names reason quiet put =
-    elim put [
-      | inl told ↦ at_status words holds out err (tried told.0 (status_of why)) n told.2 (unstated why told.0 asks names reason quiet told.1)
-      | inr told ↦ wants words holds out err wanted n asks quiet told
-    ]
-
-pub routes : (words : List Text) (holds : Text → Known) (out err : Stream) (file exchange key listed : Text) (n : ℕ)
-    → AsksFor words (Route file exchange key) → ListsFile (holds file) exchange key (Some listed) → GetsNothing err → Tries out listed 0 n → Does words holds out err n
-routes words holds out err file exchange key listed n asks lists quiet put =
-    at_status words holds out err (tried put.0 0) n put.2 (routed put.0 asks lists put.1 quiet)
-
-pub routes_nowhere : (words : List Text) (holds : Text → Known) (out err : Stream) (file exchange key : Text) (n : ℕ)
-    → AsksFor words (Route file exchange key) → ListsFile (holds file) exchange key None → GetsNothing out → Tries err no_exchange 3 n → Does words holds out err n
-routes_nowhere words holds out err file exchange key n asks lists quiet told =
-    at_status words holds out err (tried told.0 3) n told.2 (unrouted told.0 asks lists quiet told.1)
 
 pub shows : (words : List Text) (holds : Text → Known) (out err : Stream) (e : Error) (n : ℕ)
     → IsRefused words e → GetsNothing out → Shows (kind_of e) err n → Does words holds out err n

@@ -10,6 +10,10 @@ pub data Known : Type 0 where
   Absent : Known
   Holds : (text : Text) → Known
 
+-- no file is known to have changed
+abbrev pub AreKept : (Text → Known) → (Text → Known) → Type 0
+AreKept before after = (name : Text) → after name ≡ before name
+
 -- the longest file that is read, in bytes
 abbrev pub most_bytes : ℕ
 most_bytes = 16777216

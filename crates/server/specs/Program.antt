@@ -15,7 +15,7 @@ use Rattle.definitions.specs.Reads.{Stated, Reads, IsFirst}
 use Rattle.engine.specs.Certified.{IsCertified}
 use Rattle.command_line.specs.CommandLine.{Wanted, Replay, Route, AsksFor, AsksNothing}
 use Rattle.server.specs.declared.refusals.Refusal.{Refusal}
-use Rattle.server.specs.declared.refusals.Refusal.TheVariants.{Line, Refused, TooLong, Unread, Unwritten, Memory}
+use Rattle.server.specs.declared.refusals.Refusal.TheVariants.{Line, Refused, TooLong, Unread, Unwritten, NoExchange, Memory}
 use Rattle.server.specs.Script.{script}
 use Rattle.server.specs.Transcript.{transcript_text}
 use Rattle.server.specs.Routes.{Lists}
@@ -84,15 +84,17 @@ message file (Refused n) = told file (codes "refused " ++ decimal n)
 message file TooLong = told file (codes "refused 10")
 message file Unread = told file (codes "cannot read")
 message file Unwritten = told file (codes "cannot write")
+message file NoExchange = no_exchange
 message file Memory = out_of_memory
 
--- the exit status: 3 for a file that is refused, 4 for memory, input or output
+-- the exit status: 3 for a file that is refused or an exchange that is not there, 4 for memory, input or output
 abbrev pub status_of : Refusal → ℕ
 status_of (Line n) = 3
 status_of (Refused n) = 3
 status_of TooLong = 3
 status_of Unread = 4
 status_of Unwritten = 4
+status_of NoExchange = 3
 status_of Memory = 4
 
 -- Why a script of which this is known is not replayed: its first line at fault, its length, or that it cannot be read.
@@ -102,6 +104,7 @@ IsWhy (Refused n) known = ⊥
 IsWhy TooLong known = IsTooLong known
 IsWhy Unread known = IsClosed known
 IsWhy Unwritten known = ⊥
+IsWhy NoExchange known = ⊥
 IsWhy Memory known = ⊤
 
 -- the same of a script that was read
@@ -121,7 +124,31 @@ IsWhyUnstated (Refused n) known = (text : Text) × HasText known text × HasCaus
 IsWhyUnstated TooLong known = IsTooLong known
 IsWhyUnstated Unread known = IsClosed known
 IsWhyUnstated Unwritten known = ⊥
+IsWhyUnstated NoExchange known = ⊥
 IsWhyUnstated Memory known = ⊤
+
+-- ---- what a command answers
+
+-- A command prints this: a replay what the script prints over what is in force, a route the queues to which the key leads.
+abbrev pub IsPrinted : (Text → Known) → Wanted → Text → Type 0
+IsPrinted holds (Replay script definitions) printed = (force : Config) × IsInForce holds definitions force × PrintsFile force (holds script) printed
+IsPrinted holds (Route definitions exchange key) printed = ListsFile (holds definitions) exchange key (Some printed)
+
+-- the definitions file that a command names
+abbrev pub definitions_of : Wanted → Option Text
+definitions_of (Replay script definitions) = definitions
+definitions_of (Route definitions exchange key) = Some definitions
+
+-- Why a command prints nothing, and the file of which this is told.
+pub data Fails (holds : Text → Known) : Wanted → Text → Refusal → Type 0 where
+  -- the definitions are refused
+  unstated : {wanted : Wanted} {file : Text} (why : Refusal) → definitions_of wanted ≡ Some file → IsWhyUnstated why (holds file) → Fails holds wanted file why
+  -- the script is refused, over definitions that are good
+  unplayed : {script : Text} {definitions : Option Text} (force : Config) (why : Refusal) → IsInForce holds definitions force → IsWhy why (holds script) → Fails holds (Replay script definitions) script why
+  -- the exchange is not there
+  unrouted : {file exchange key : Text} → ListsFile (holds file) exchange key None → Fails holds (Route file exchange key) file NoExchange
+  -- memory was wanting
+  wanting : {wanted : Wanted} {file : Text} → Fails holds wanted file Memory
 
 -- ---- the program
 
@@ -133,31 +160,14 @@ Refuses err file why status = Tries err (message file why) (status_of why) statu
 abbrev pub Shows : ErrorKind → Stream → ℕ → Type 0
 Shows kind err status = ((kind ≡ OutOfMemory) × Tries err out_of_memory 4 status) ⊎ ((kind ≡ OutOfMemory → ⊥) × ((done : Bool) × (status ≡ tried done 3)))
 
--- the definitions file that a command names
-abbrev pub definitions_of : Wanted → Option Text
-definitions_of (Replay script definitions) = definitions
-definitions_of (Route definitions exchange key) = Some definitions
-
 -- What a call comes to, by its words, the files as they are known, what standard output and standard error got, and the
 -- status. Where a stream took no more, `done` is false and the status 4.
 pub data Does (words : List Text) (holds : Text → Known) (out err : Stream) : ℕ → Type 0 where
-  -- the script was run over what is in force, and what it prints was put out
-  replayed : {file printed : Text} {definitions : Option Text} (force : Config) (done : Bool) → AsksFor words (Replay file definitions)
-      → IsInForce holds definitions force → PrintsFile force (holds file) printed → Puts out printed done → GetsNothing err → Does words holds out err (tried done 0)
-  -- the script was refused, over definitions that are good, which was told
-  refused : {file : Text} {definitions : Option Text} (force : Config) (why : Refusal) (done : Bool) → AsksFor words (Replay file definitions)
-      → IsInForce holds definitions force → IsWhy why (holds file) → GetsNothing out → Puts err (message file why) done → Does words holds out err (tried done (status_of why))
-  -- the queues were put out to which the key leads
-  routed : {file exchange key listed : Text} (done : Bool) → AsksFor words (Route file exchange key) → ListsFile (holds file) exchange key (Some listed)
-      → Puts out listed done → GetsNothing err → Does words holds out err (tried done 0)
-  -- the exchange is not there, which was told
-  unrouted : {file exchange key : Text} (done : Bool) → AsksFor words (Route file exchange key) → ListsFile (holds file) exchange key None
-      → GetsNothing out → Puts err no_exchange done → Does words holds out err (tried done 3)
-  -- the definitions were refused, which was told
-  unstated : {wanted : Wanted} {file : Text} (why : Refusal) (done : Bool) → AsksFor words wanted → definitions_of wanted ≡ Some file
-      → IsWhyUnstated why (holds file) → GetsNothing out → Puts err (message file why) done → Does words holds out err (tried done (status_of why))
-  -- memory was wanting for what the words ask for
-  wanting : {wanted : Wanted} (done : Bool) → AsksFor words wanted → GetsNothing out → Puts err out_of_memory done → Does words holds out err 4
+  -- what the command prints was put out
+  printed : (wanted : Wanted) (text : Text) (done : Bool) → AsksFor words wanted → IsPrinted holds wanted text → Puts out text done → GetsNothing err → Does words holds out err (tried done 0)
+  -- why it prints nothing was told
+  told_of : {wanted : Wanted} {file : Text} (why : Refusal) (done : Bool) → AsksFor words wanted → Fails holds wanted file why → GetsNothing out → Puts err (message file why) done
+      → Does words holds out err (tried done (status_of why))
   -- the words ask for nothing, and clap's own text was shown
   unasked : (done : Bool) → AsksNothing words → GetsNothing out → Does words holds out err (tried done 3)
   -- memory was wanting before the words were read

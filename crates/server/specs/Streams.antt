@@ -8,6 +8,10 @@ pub record Stream : Type 0 where
   pub before : Option Text
   pub after : Option Text
 
+-- a stream that held the first, and holds the second
+abbrev pub change : Option Text → Option Text → Stream
+change before after = record { before = before; after = after }
+
 -- it holds what it held
 abbrev pub GetsNothing : Stream → Type 0
 GetsNothing s = Keeps s.before s.after

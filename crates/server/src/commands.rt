@@ -1,26 +1,17 @@
-//! The program, but for the sockets.
+//! The program, but for the sockets: what a command answers is decided first, and printed then.
 
-ghost use Rattle.std.specs.Prelude.{
-  ◌≡◌,
-  ◌⊎◌,
-  List,
-  ℕ,
-  Option,
-  None,
-  Some,
-  map,
-  option_map,
-  IfOk,
-  MatchResult,
-};
+ghost use Rattle.std.specs.Prelude.{◌≡◌, None, Some, map, option_map, MatchResult};
 ghost use Rattle.clap.specs.Words.{kind_of};
-ghost use Rattle.command_line.specs.CommandLine.{Asks, AsksFor, Replay, Route};
+ghost use Rattle.command_line.specs.CommandLine.{Replay, Route, wanted_of};
 ghost use Rattle.engine.specs.Certified.{in_force};
-ghost use Rattle.server.specs.Files.{Known};
+ghost use Rattle.server.specs.Files.{AreKept};
+ghost use Rattle.server.specs.Streams.{change};
 ghost use Rattle.server.specs.Program.{
   Does,
+  Fails,
   IsInForce,
   IsOf,
+  IsPrinted,
   IsWhy,
   IsWhyUnstated,
   ListsFile,
@@ -31,7 +22,7 @@ ghost use Rattle.server.specs.Program.{
 };
 
 use crate::builtin::{builtin, unguaranteed};
-use crate::refusals::{Refusal, refuse, refuse_exchange, refuse_memory};
+use crate::refusals::{Refusal, Told, refuse_memory, tell};
 use crate::routes::routed;
 use crate::script::{Fault, read_script};
 use crate::storage::Files;
@@ -43,7 +34,7 @@ use clap::error::ErrorKind;
 use command_line::{Asked, command};
 use definitions::{Definitions, read_definitions};
 use model::User;
-use std::alloc::{AllocError, Global};
+use std::alloc::Global;
 use std::convert::AsStr;
 use std::io::Write;
 
@@ -74,7 +65,7 @@ fn replayed_file<F: Files>(
     files: &mut F,
 ) -> Result<Vec<u8>, Refusal>
     ensures printed { MatchResult result (λ printed. PrintsFile (in_force checked users.items) (F.holds files.old script.now) printed.items) (λ refusal. IsWhy refusal (F.holds files.old script.now)) }
-    ensures files { (name : List ℕ) → F.holds files.new name ≡ F.holds files.old name }
+    ensures files { AreKept (F.holds files.old) (F.holds files.new) }
 {
     let text = files.read(alloc, script)?;
     replayed(alloc, checked, users, text.as_slice())
@@ -87,31 +78,10 @@ fn definitions_of<F: Files>(
     files: &mut F,
 ) -> Result<Definitions, Refusal>
     ensures states { MatchResult result (λ stated. States (F.holds files.old file.now) stated) (λ why. IsWhyUnstated why (F.holds files.old file.now)) }
-    ensures files { (name : List ℕ) → F.holds files.new name ≡ F.holds files.old name }
+    ensures files { AreKept (F.holds files.old) (F.holds files.new) }
 {
     let text = files.read(alloc, file)?;
     Ok(read_definitions(alloc, text.as_slice())?)
-}
-
-/// The same user, sharing the bytes of name and hash.
-fn copy_user(user: &User) -> Result<User, AllocError>
-    ensures { IfOk result (λ made. made ≡ user.now) }
-{
-    Ok(User {
-        name: user.name.clone()?,
-        hash: user.hash.clone()?,
-    })
-}
-
-/// The same users.
-fn copy_users(alloc: Global, users: &[User]) -> Result<Vec<User>, AllocError>
-    ensures { IfOk result (λ made. made.items ≡ users.now) }
-{
-    let mut made = Vec::new(alloc);
-    for user in users {
-        made.push(copy_user(user)?)?;
-    }
-    Ok(made)
 }
 
 /// What is in force by the definitions of a file: their topology, which no guarantee stands on, and their users.
@@ -121,11 +91,9 @@ fn set_up<F: Files>(
     files: &mut F,
 ) -> Result<(Checked, Vec<User>), Refusal>
     ensures force { MatchResult result (λ setup. IsInForce (F.holds files.old) (Some file.now) (in_force setup.0 setup.1.items)) (λ why. IsWhyUnstated why (F.holds files.old file.now)) }
-    ensures files { (name : List ℕ) → F.holds files.new name ≡ F.holds files.old name }
+    ensures files { AreKept (F.holds files.old) (F.holds files.new) }
 {
-    let definitions = definitions_of(alloc, file, files)?;
-    let topology = definitions.topology().clone(alloc)?;
-    let users = copy_users(alloc, definitions.users())?;
+    let (topology, users) = definitions_of(alloc, file, files)?.into_parts();
     Ok((unguaranteed(alloc, topology)?, users))
 }
 
@@ -138,7 +106,7 @@ fn routed_file<F: Files>(
     files: &mut F,
 ) -> Result<Option<Vec<u8>>, Refusal>
     ensures lists { MatchResult result (λ listed. ListsFile (F.holds files.old file.now) exchange.now key.now (option_map (λ t. t.items) listed)) (λ why. IsWhyUnstated why (F.holds files.old file.now)) }
-    ensures files { (name : List ℕ) → F.holds files.new name ≡ F.holds files.old name }
+    ensures files { AreKept (F.holds files.old) (F.holds files.new) }
 {
     let definitions = definitions_of(alloc, file, files)?;
     let listed = routed(
@@ -150,115 +118,105 @@ fn routed_file<F: Files>(
     Ok(listed)
 }
 
-/// Shows why a command line was refused, and gives the status.
-fn refuse_words<E: Write>(err: &mut E, error: &Error) -> u8
-    ensures { Shows (kind_of error.now) (record { before = E.contents err.old; after = E.contents err.new }) result }
+/// `replay SCRIPT`: what the script prints over the built-in topology, where nobody may log in.
+fn replay<'a, F: Files>(alloc: Global, script: &'a str, files: &mut F) -> Result<Vec<u8>, Told<'a>>
+    ensures answers { MatchResult result (λ printed. IsPrinted (F.holds files.old) (Replay script.now None) printed.items) (λ told. Fails (F.holds files.old) (Replay script.now None) told.file.now told.why) }
+    ensures files { AreKept (F.holds files.old) (F.holds files.new) }
 {
-    match error.kind() {
-        ErrorKind::OutOfMemory => refuse_memory(err),
-        _ => tried(write!(err, "{error}"), 3),
+    let checked = match builtin(alloc) {
+        Ok(checked) => checked,
+        Err(_) => return Err(Told {
+            file: script,
+            why: Refusal::Memory,
+        }),
+    };
+    match replayed_file(alloc, script, checked, Vec::new(alloc), files) {
+        Ok(printed) => Ok(printed),
+        Err(why) => Err(Told { file: script, why }),
     }
 }
 
-/// Runs a script over what is in force: prints what it puts out, and gives the status.
-fn replay_over<F: Files, O: Write, E: Write>(
+/// `replay SCRIPT --definitions FILE`: what the script prints over what the file sets up. The definitions are judged
+/// first.
+fn replay_stated<'a, F: Files>(
     alloc: Global,
-    script: &str,
-    checked: Checked,
-    users: Vec<User>,
+    script: &'a str,
+    definitions: &'a str,
     files: &mut F,
-    out: &mut O,
-    err: &mut E,
-) -> u8
-    ensures does { (words : List (List ℕ)) (holds : List ℕ → Known) (definitions : Option (List ℕ)) → holds script.now ≡ F.holds files.old script.now → AsksFor words (Replay script.now definitions) → IsInForce holds definitions (in_force checked users.items) → Does words holds (record { before = O.contents out.old; after = O.contents out.new }) (record { before = E.contents err.old; after = E.contents err.new }) result }
-    ensures files { (name : List ℕ) → F.holds files.new name ≡ F.holds files.old name }
+) -> Result<Vec<u8>, Told<'a>>
+    ensures answers { MatchResult result (λ printed. IsPrinted (F.holds files.old) (Replay script.now (Some definitions.now)) printed.items) (λ told. Fails (F.holds files.old) (Replay script.now (Some definitions.now)) told.file.now told.why) }
+    ensures files { AreKept (F.holds files.old) (F.holds files.new) }
 {
+    let (checked, users) = match set_up(alloc, definitions, files) {
+        Ok(setup) => setup,
+        Err(why) => return Err(Told {
+            file: definitions,
+            why,
+        }),
+    };
     match replayed_file(alloc, script, checked, users, files) {
-        Ok(text) => tried(put(out, text.as_slice()), 0),
-        Err(refusal) => refuse(alloc, err, script, refusal),
+        Ok(printed) => Ok(printed),
+        Err(why) => Err(Told { file: script, why }),
     }
 }
 
-/// `replay SCRIPT`: runs the script over the built-in topology.
-fn replay<F: Files, O: Write, E: Write>(
+/// `route DEFS EXCHANGE KEY`: the queues to which the key leads from the exchange.
+fn route<'a, F: Files>(
     alloc: Global,
-    script: &str,
-    files: &mut F,
-    out: &mut O,
-    err: &mut E,
-) -> u8
-    ensures does { (words : List (List ℕ)) → AsksFor words (Replay script.now None) → Does words (F.holds files.old) (record { before = O.contents out.old; after = O.contents out.new }) (record { before = E.contents err.old; after = E.contents err.new }) result }
-    ensures files { (name : List ℕ) → F.holds files.new name ≡ F.holds files.old name }
-{
-    match builtin(alloc) {
-        Ok(checked) => replay_over(alloc, script, checked, Vec::new(alloc), files, out, err),
-        Err(_) => refuse_memory(err),
-    }
-}
-
-/// `replay SCRIPT --definitions FILE`: runs the script over what the file sets up. The definitions are judged first.
-fn replay_stated<F: Files, O: Write, E: Write>(
-    alloc: Global,
-    script: &str,
-    definitions: &str,
-    files: &mut F,
-    out: &mut O,
-    err: &mut E,
-) -> u8
-    ensures does { (words : List (List ℕ)) → AsksFor words (Replay script.now (Some definitions.now)) → Does words (F.holds files.old) (record { before = O.contents out.old; after = O.contents out.new }) (record { before = E.contents err.old; after = E.contents err.new }) result }
-    ensures files { (name : List ℕ) → F.holds files.new name ≡ F.holds files.old name }
-{
-    match set_up(alloc, definitions, files) {
-        Ok((checked, users)) => replay_over(alloc, script, checked, users, files, out, err),
-        Err(refusal) => refuse(alloc, err, definitions, refusal),
-    }
-}
-
-/// `route DEFS EXCHANGE KEY`: prints the queues to which the key leads, and gives the status.
-fn route<F: Files, O: Write, E: Write>(
-    alloc: Global,
-    definitions: &str,
+    definitions: &'a str,
     exchange: &str,
     key: &str,
     files: &mut F,
-    out: &mut O,
-    err: &mut E,
-) -> u8
-    ensures does { (words : List (List ℕ)) → AsksFor words (Route definitions.now exchange.now key.now) → Does words (F.holds files.old) (record { before = O.contents out.old; after = O.contents out.new }) (record { before = E.contents err.old; after = E.contents err.new }) result }
-    ensures files { (name : List ℕ) → F.holds files.new name ≡ F.holds files.old name }
+) -> Result<Vec<u8>, Told<'a>>
+    ensures answers { MatchResult result (λ listed. IsPrinted (F.holds files.old) (Route definitions.now exchange.now key.now) listed.items) (λ told. Fails (F.holds files.old) (Route definitions.now exchange.now key.now) told.file.now told.why) }
+    ensures files { AreKept (F.holds files.old) (F.holds files.new) }
 {
     match routed_file(alloc, definitions, exchange, key, files) {
-        Ok(Some(text)) => tried(put(out, text.as_slice()), 0),
-        Ok(None) => refuse_exchange(err),
-        Err(refusal) => refuse(alloc, err, definitions, refusal),
+        Ok(Some(listed)) => Ok(listed),
+        Ok(None) => Err(Told {
+            file: definitions,
+            why: Refusal::NoExchange,
+        }),
+        Err(why) => Err(Told {
+            file: definitions,
+            why,
+        }),
     }
 }
 
-/// Does what was asked for, and gives the status.
-fn perform<F: Files, O: Write, E: Write>(
+/// What a command prints, or why it prints nothing.
+pub fn answer<'a, F: Files>(
     alloc: Global,
-    asked: Asked<'_>,
+    asked: Asked<'a>,
     files: &mut F,
-    out: &mut O,
-    err: &mut E,
-) -> u8
-    ensures does { (words : List (List ℕ)) → Asks words asked.entry → Does words (F.holds files.old) (record { before = O.contents out.old; after = O.contents out.new }) (record { before = E.contents err.old; after = E.contents err.new }) result }
-    ensures files { (name : List ℕ) → F.holds files.new name ≡ F.holds files.old name }
+) -> Result<Vec<u8>, Told<'a>>
+    ensures answers { MatchResult result (λ printed. IsPrinted (F.holds files.old) (wanted_of asked.entry) printed.items) (λ told. Fails (F.holds files.old) (wanted_of asked.entry) told.file.now told.why) }
+    ensures files { AreKept (F.holds files.old) (F.holds files.new) }
 {
     match asked {
         Asked::Replay {
             script,
             definitions: None,
-        } => replay(alloc, script, files, out, err),
+        } => replay(alloc, script, files),
         Asked::Replay {
             script,
             definitions: Some(file),
-        } => replay_stated(alloc, script, file, files, out, err),
+        } => replay_stated(alloc, script, file, files),
         Asked::Route {
             definitions,
             exchange,
             key,
-        } => route(alloc, definitions, exchange, key, files, out, err),
+        } => route(alloc, definitions, exchange, key, files),
+    }
+}
+
+/// Shows why a command line was refused, and gives the status.
+fn refuse_words<E: Write>(err: &mut E, error: &Error) -> u8
+    ensures { Shows (kind_of error.now) (change (E.contents err.old) (E.contents err.new)) result }
+{
+    match error.kind() {
+        ErrorKind::OutOfMemory => refuse_memory(err),
+        _ => tried(write!(err, "{error}"), 3),
     }
 }
 
@@ -274,11 +232,15 @@ pub fn program<S: AsStr, F: Files, O: Write, E: Write>(
     out: &mut O,
     err: &mut E,
 ) -> u8
-    ensures does { Does (map S.text words.now) (F.holds files.old) (record { before = O.contents out.old; after = O.contents out.new }) (record { before = E.contents err.old; after = E.contents err.new }) result }
-    ensures files { (name : List ℕ) → F.holds files.new name ≡ F.holds files.old name }
+    ensures does { Does (map S.text words.now) (F.holds files.old) (change (O.contents out.old) (O.contents out.new)) (change (E.contents err.old) (E.contents err.new)) result }
+    ensures files { AreKept (F.holds files.old) (F.holds files.new) }
 {
-    match command(alloc, words) {
-        Ok(asked) => perform(alloc, asked, files, out, err),
-        Err(error) => refuse_words(err, &error),
+    let asked = match command(alloc, words) {
+        Ok(asked) => asked,
+        Err(error) => return refuse_words(err, &error),
+    };
+    match answer(alloc, asked, files) {
+        Ok(text) => tried(put(out, text.as_slice()), 0),
+        Err(told) => tell(alloc, err, told),
     }
 }

@@ -1,8 +1,8 @@
 //! Why the program does not do what it is asked for, and how it tells so.
 
 ghost use Rattle.std.specs.Prelude.{◌≡◌, IfOk, string_bytes};
-ghost use Rattle.server.specs.Program.{message, no_exchange, out_of_memory, status_of, Refuses};
-ghost use Rattle.server.specs.Streams.{Tries};
+ghost use Rattle.server.specs.Program.{message, out_of_memory, status_of, Refuses};
+ghost use Rattle.server.specs.Streams.{Tries, change};
 
 use crate::storage;
 use crate::streams::{put, tried};
@@ -29,8 +29,18 @@ pub enum Refusal {
     Unread,
     /// The file cannot be written.
     Unwritten,
+    /// No exchange of the file has the name.
+    NoExchange,
     /// A growth was refused.
     Memory,
+}
+
+/// Why a command prints nothing, and the file of which this is told.
+#[derive(Clone, Copy, PartialEq, Eq, Debug, Drop)]
+pub struct Told<'a> {
+    /// The name of the file.
+    pub file: &'a str,
+    pub why: Refusal,
 }
 
 impl From<AllocError> for Refusal {
@@ -83,6 +93,7 @@ fn message(alloc: Global, file: &str, refusal: Refusal) -> Result<String, AllocE
         Refusal::TooLong => format!(in alloc; "warren: {file}: refused 10\n"),
         Refusal::Unread => format!(in alloc; "warren: {file}: cannot read\n"),
         Refusal::Unwritten => format!(in alloc; "warren: {file}: cannot write\n"),
+        Refusal::NoExchange => String::from_str(alloc, NO_EXCHANGE),
         Refusal::Memory => String::from_str(alloc, OUT_OF_MEMORY),
     }
 }
@@ -97,30 +108,24 @@ fn status_of(refusal: Refusal) -> u8
         Refusal::TooLong => 3,
         Refusal::Unread => 4,
         Refusal::Unwritten => 4,
+        Refusal::NoExchange => 3,
         Refusal::Memory => 4,
     }
 }
 
 /// Tells that a growth was refused, and gives the status.
 pub fn refuse_memory<E: Write>(err: &mut E) -> u8
-    ensures { Tries (record { before = E.contents err.old; after = E.contents err.new }) out_of_memory 4 result }
+    ensures { Tries (change (E.contents err.old) (E.contents err.new)) out_of_memory 4 result }
 {
     tried(put(err, OUT_OF_MEMORY.as_bytes()), 4)
 }
 
-/// Tells that an exchange is not there, and gives the status.
-pub fn refuse_exchange<E: Write>(err: &mut E) -> u8
-    ensures { Tries (record { before = E.contents err.old; after = E.contents err.new }) no_exchange 3 result }
+/// Tells why a command prints nothing, and gives the status.
+pub fn tell<E: Write>(alloc: Global, err: &mut E, told: Told<'_>) -> u8
+    ensures { Refuses (change (E.contents err.old) (E.contents err.new)) told.entry.file.now told.entry.why result }
 {
-    tried(put(err, NO_EXCHANGE.as_bytes()), 3)
-}
-
-/// Tells why a file is refused, and gives the status.
-pub fn refuse<E: Write>(alloc: Global, err: &mut E, file: &str, refusal: Refusal) -> u8
-    ensures { Refuses (record { before = E.contents err.old; after = E.contents err.new }) file.now refusal result }
-{
-    match message(alloc, file, refusal) {
-        Ok(text) => tried(put(err, text.as_bytes()), status_of(refusal)),
+    match message(alloc, told.file, told.why) {
+        Ok(text) => tried(put(err, text.as_bytes()), status_of(told.why)),
         Err(_) => refuse_memory(err),
     }
 }

@@ -1,10 +1,12 @@
 use Rattle.std.proofs.Common.{◌≡◌, [], rules, refl}
-use Rattle.std.specs.Prelude.{None}
-use Rattle.server.proofs.Outcomes.{untouched, wants}
+use Rattle.engine.specs.Certified.{in_force}
+use Rattle.server.specs.Program.{unplayed, wanting}
 use Rattle.server.proofs.commands.replay.Goals as goal
 
-pub returns-in-Ok-clause-does : goal.returns-in-Ok-clause-does
-returns-in-Ok-clause-does g c words asks = c.replay_over.ensures.does words (g.F.Files.holds c.args.files.now) None refl asks (let nobody : c.new.result.items ≡ [] = search rules in rw (c.in-Ok.ensures, nobody) refl)
+pub returns-in-Err-clause-answers : goal.returns-in-Err-clause-answers
+returns-in-Err-clause-answers g c = wanting
 
-pub returns-in-Err-clause-does : goal.returns-in-Err-clause-does
-returns-in-Err-clause-does g c words asks = wants _ _ _ _ _ _ asks (untouched _) c.refuse_memory.ensures
+pub returns-in-Err-replayed_file-clause-answers : goal.returns-in-Err-replayed_file-clause-answers
+returns-in-Err-replayed_file-clause-answers g c =
+    let nobody : c.new.result.items ≡ [] = search rules in
+    unplayed (in_force c.in-Ok.checked c.new.result.items) c.in-Err-replayed_file.why (rw (c.in-Ok.ensures, nobody) refl) c.in-Err-replayed_file.ensures.printed

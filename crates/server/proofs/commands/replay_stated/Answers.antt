@@ -1,11 +1,10 @@
-use Rattle.std.proofs.Common.{refl, sym}
-use Rattle.std.specs.Prelude.{Some}
-use Rattle.server.proofs.Outcomes.{untouched, refuses_definitions}
+use Rattle.std.proofs.Common.{refl}
+use Rattle.server.specs.Program.{unplayed, unstated}
 use Rattle.server.proofs.commands.replay_stated.Goals as goal
 
-pub returns-in-Ok-clause-does : goal.returns-in-Ok-clause-does
-returns-in-Ok-clause-does g c words asks =
-    c.replay_over.ensures.does words (g.F.Files.holds c.args.files.now) (Some c.args.definitions.now) (sym (c.set_up.ensures.files c.args.script.now)) asks c.in-Ok.ensures.force
+pub returns-in-Err-clause-answers : goal.returns-in-Err-clause-answers
+returns-in-Err-clause-answers g c = unstated c.in-Err.why refl c.in-Err.ensures.force
 
-pub returns-in-Err-clause-does : goal.returns-in-Err-clause-does
-returns-in-Err-clause-does g c words asks = refuses_definitions _ _ _ _ _ _ _ _ asks refl c.in-Err.ensures.force (untouched _) c.refuse.ensures
+pub returns-in-Err-replayed_file-clause-answers : goal.returns-in-Err-replayed_file-clause-answers
+returns-in-Err-replayed_file-clause-answers g c =
+    unplayed _ c.in-Err-replayed_file.why c.in-Ok.ensures.force (rw (c.set_up.ensures.files c.args.script.now) at c.in-Err-replayed_file.ensures.printed)
