@@ -4,13 +4,16 @@ ghost use Rattle.std.specs.Prelude.{◌≡◌, ℕ, List};
 ghost use Rattle.assembly.specs.Faults.{IsFault, RefusesMethod, RefusesSize, RefusesHeader};
 
 use std::alloc::AllocError;
+use thiserror::Error;
 
 /// Why a stream gives no command.
-#[derive(Clone, Copy, PartialEq, Eq, Debug, Drop)]
+#[derive(Clone, Copy, PartialEq, Eq, Debug, Drop, Error)]
 pub enum Fault {
     /// The bytes break the wire's rules, by this reply code.
+    #[error("the bytes break the wire's rules: reply code {0}")]
     Broken(u16),
     /// Memory was refused. Nothing is lost: the call may be made again.
+    #[error("out of memory")]
     Memory,
 }
 

@@ -1,13 +1,16 @@
 //! Why a table is refused.
 
 use std::alloc::{AllocError, AllocFailed};
+use thiserror::Error;
 
 /// Why no table was read or written.
-#[derive(Clone, Copy, PartialEq, Eq, Debug, Drop)]
+#[derive(Clone, Copy, PartialEq, Eq, Debug, Drop, Error)]
 pub enum Refusal {
     /// The bytes are no table, or the table has no spelling. Reply code 502, syntax-error.
+    #[error("syntax-error: no field table")]
     SyntaxError,
     /// Memory was refused.
+    #[error("out of memory")]
     Memory,
 }
 

@@ -1,11 +1,13 @@
 //! Frames are read.
 
-ghost use Rattle.std.specs.Prelude.{◌≡◌, ◌≤◌, ◌⊎◌, ℕ, List, IsTrue};
+ghost use Rattle.std.specs.Prelude.{◌≡◌, ◌≤◌, ◌⊎◌, ℕ, List, [], ◌∷◌, length, slice_index, IsTrue};
+ghost use Rattle.std.specs.Int.{w16, w32, from_be_bytes};
 ghost use Rattle.model.specs.Frames;
 ghost use Rattle.model.specs.Frames.{Begins};
 ghost use Rattle.frame.specs.Reading.{Tells, IsWhole, IsKind};
 
 use crate::frames::{Frame, Read};
+use byteorder::{BigEndian, ByteOrder};
 
 /// The frame at the front of `input`, where a whole frame has at most `max` bytes.
 ///
@@ -30,7 +32,7 @@ fn front_of(input: &[u8], max: u32) -> Read<'_>
     if !is_kind(kind) {
         return Read::Fault(501);
     }
-    let size = u32::from_be_bytes([input[3], input[4], input[5], input[6]]);
+    let size = size_at(input);
     if max - 8 < size {
         return Read::Fault(501);
     }
@@ -41,7 +43,7 @@ fn front_of(input: &[u8], max: u32) -> Read<'_>
     if input[end] != 0xCE {
         return Read::Fault(501);
     }
-    let channel = u16::from_be_bytes([input[1], input[2]]);
+    let channel = channel_at(input);
     let payload = &input[7..end];
     Read::Whole(
         Frame {
@@ -51,6 +53,22 @@ fn front_of(input: &[u8], max: u32) -> Read<'_>
         },
         end + 1,
     )
+}
+
+/// The size that the header at the front says.
+fn size_at(input: &[u8]) -> u32
+    requires { 7 ≤ length input.now }
+    ensures { result ≡ from_be_bytes w32 (slice_index input.now 3 ∷ slice_index input.now 4 ∷ slice_index input.now 5 ∷ slice_index input.now 6 ∷ []) }
+{
+    BigEndian::read_u32(&input[3..])
+}
+
+/// The channel that the header at the front says.
+fn channel_at(input: &[u8]) -> u16
+    requires { 7 ≤ length input.now }
+    ensures { result ≡ from_be_bytes w16 (slice_index input.now 1 ∷ slice_index input.now 2 ∷ []) }
+{
+    BigEndian::read_u16(&input[1..])
 }
 
 // A type of frame that AMQP has.

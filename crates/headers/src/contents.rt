@@ -2,6 +2,7 @@
 
 use model::Properties;
 use std::alloc::AllocError;
+use thiserror::Error;
 
 /// The size of a body in bytes, and its properties.
 #[derive(Drop)]
@@ -11,14 +12,17 @@ pub struct Header {
 }
 
 /// Why no header was read.
-#[derive(Clone, Copy, PartialEq, Eq, Debug, Drop)]
+#[derive(Clone, Copy, PartialEq, Eq, Debug, Drop, Error)]
 pub enum Refusal {
     /// The payload is shorter than 14 bytes, or of another class or weight. Reply code 501, frame-error.
+    #[error("frame-error: no header of a content of the basic class")]
     FrameError,
     /// The properties end early, leave bytes over, hold a table that is none, or one of the two lowest flags is set. Reply
     /// code 502, syntax-error.
+    #[error("syntax-error: properties that the flags do not say")]
     SyntaxError,
     /// Memory was refused.
+    #[error("out of memory")]
     Memory,
 }
 
@@ -34,10 +38,12 @@ impl From<AllocError> for Refusal {
 }
 
 /// Why no header was written.
-#[derive(Clone, Copy, PartialEq, Eq, Debug, Drop)]
+#[derive(Clone, Copy, PartialEq, Eq, Debug, Drop, Error)]
 pub enum WriteError {
     /// The properties have no spelling: a text is too long, or the table is none. Reply code 502, syntax-error.
+    #[error("syntax-error: a text that is too long, or headers that are no table")]
     SyntaxError,
     /// Memory was refused.
+    #[error("out of memory")]
     Memory,
 }

@@ -6,7 +6,7 @@ use Rattle.frame.proofs.reading.front_of.Goals as goal
 
 pub returns-then-input-end : goal.returns-then-input-end
 returns-then-input-end c =
-    let size = c.from_be_bytes-size.ensures in
+    let size = c.size_at-size.ensures in
     let below = c.ranges.max.fits in
     let more = open_front c.args.max c.args.input.now (λ i. (c.type_inv.input i).fits) (omega arith) (c.if-not-is_kind.ensures.yes (search rules)) (omega arith) (omega arith) in
     record {
@@ -17,7 +17,7 @@ returns-then-input-end c =
 
 pub returns-then-input-end-2 : goal.returns-then-input-end-2
 returns-then-input-end-2 c =
-    let size = c.from_be_bytes-size.ensures in
+    let size = c.size_at-size.ensures in
     let below = c.ranges.max.fits in (
       refl,
       record {
@@ -28,10 +28,10 @@ returns-then-input-end-2 c =
 
 pub returns : goal.returns
 returns c =
-    let n : ℕ = c.from_be_bytes-size.result in
+    let n : ℕ = c.size_at-size.result in
     let bytes : List ℕ = c.args.input.now in
     let payload : List ℕ = take (n + 7 - 7) (drop 7 bytes) in
     let same : payload ≡ take n (drop 7 bytes) = ap (λ (i : ℕ). take i (drop 7 bytes)) (omega arith) in
-    let both = whole_at c.args.max bytes payload n c.from_be_bytes-channel.result (λ i. (c.type_inv.input i).fits) (c.if-not-is_kind.ensures.yes (search rules))
-    c.from_be_bytes-size.ensures c.from_be_bytes-channel.ensures same (omega arith) (omega arith) c.if-input-end-2.false in
+    let both = whole_at c.args.max bytes payload n c.channel_at-channel.result (λ i. (c.type_inv.input i).fits) (c.if-not-is_kind.ensures.yes (search rules))
+    c.size_at-size.ensures c.channel_at-channel.ensures same (omega arith) (omega arith) c.if-input-end-2.false in
     record { front = both.0; whole = omega (arith, both.1, length-append payload (206 ∷ [])) }
