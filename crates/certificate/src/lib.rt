@@ -4,6 +4,8 @@
 mod admitted;
 mod faults;
 mod plain;
+mod refutations;
 
 pub use admitted::{Certificate, Checked, admit};
 pub use faults::CertFault;
+pub use refutations::{Refutation, disprove, refutes};

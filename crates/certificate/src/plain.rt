@@ -52,7 +52,7 @@ fn has_place(places: &[usize], place: usize) -> bool
 }
 
 /// Whether the key leads from the exchange to the queue.
-fn is_routed(
+pub fn is_routed(
     alloc: Global,
     topology: &Topology,
     exchange: &[u8],
@@ -87,7 +87,7 @@ fn keeps(
 }
 
 /// Whether it promises that messages come.
-fn reaches(mode: Mode) -> bool
+pub fn reaches(mode: Mode) -> bool
     ensures { Decides result (mode ≡ Reaches) }
 {
     match mode {

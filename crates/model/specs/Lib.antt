@@ -3,6 +3,10 @@ pub mod Tables
 pub mod Topology
 pub mod Routing
 pub mod Guarantee
+pub mod Tracking
+pub mod Positions
+pub mod Certificates
+pub mod Refutations
 pub mod Frames
 pub mod Grammar
 pub mod Headers

@@ -1,0 +1,8 @@
+pub mod Onces
+pub mod Keys
+pub mod Bits
+pub mod Readings
+pub mod Trackings
+pub mod Certificates
+pub mod Exact
+pub mod Refutations
