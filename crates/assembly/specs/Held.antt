@@ -4,6 +4,7 @@ use Rattle.model.specs.Commands.{Stream}
 use Rattle.assembly.specs.declared.contents.Pending.{Pending}
 use Rattle.assembly.specs.Pending.{pending_at}
 
+-- what of a connection's bytes is not a command yet: contents that are begun, and bytes that were not read
 pub record Held : Type 0 where
   -- the greatest frame, in bytes
   pub max : ℕ

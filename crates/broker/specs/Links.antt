@@ -18,13 +18,16 @@ channel_in l h = slice_index_or l.channels h None
 abbrev pub link_in : List (ℕ × Linked) → ℕ → Option Linked
 link_in links c = lookup (nat_eq c) links
 
+-- the greatest channel number of a connection, and whether it is paused
 abbrev pub limits_of : Linked → Connection
 limits_of l = record { channel_max = l.channel_max; is_paused = l.is_paused }
 
+-- a connection that is there, as the model has it: with its limits alone, for its channels stand by themselves
 abbrev pub connection_at : Option Linked → Option Connection
 connection_at None = None
 connection_at (Some l) = Some (limits_of l)
 
+-- the open channel of this number, where the connection is there
 abbrev pub channel_at : Option Linked → ℕ → Option Channel
 channel_at None h = None
 channel_at (Some l) h = channel_in l h
@@ -33,6 +36,7 @@ channel_at (Some l) h = channel_in l h
 abbrev pub connection_of : List (ℕ × Linked) → ℕ → Option Connection
 connection_of links c = connection_at (link_in links c)
 
+-- and what it says of their channels
 abbrev pub channel_of : List (ℕ × Linked) → ℕ → ℕ → Option Channel
 channel_of links c h = channel_at (link_in links c) h
 

@@ -21,6 +21,7 @@ IsSpelled (send.Command c h m content) = (h < 2 ^ 16) × IsMethod m × (content 
 abbrev pub IsOwn : ℕ → Send → Type 0
 IsOwn c s = (receiver s ≡ c) × IsSpelled s
 
+-- each of them goes to this connection, and has a spelling
 abbrev pub AreOwn : ℕ → List Send → Type 0
 AreOwn c sends = AllByRecursion (IsOwn c) sends
 

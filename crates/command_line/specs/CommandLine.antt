@@ -46,6 +46,7 @@ abbrev pub wanted_of : Asked → Wanted
 wanted_of (asked.Replay script definitions) = Replay script.now (option_map (λ file. file.now) definitions)
 wanted_of (asked.Route definitions exchange key) = Route definitions.now exchange.now key.now
 
+-- what `←` means below: where one text is missing, there is no command
 infixl 10 ◌>>=◌
 abbrev pub ◌>>=◌ : {A B : Type 0} → Option A → (A → Option B) → Option B
 o >>= f = option_and_then f o

@@ -17,6 +17,7 @@ use Rattle.definitions.specs.States.{hash_of, kind_named, topology_of}
 
 -- ---- names of a file
 
+-- the names of the users, in the order of the file
 abbrev pub user_names : File → List Text
 user_names f = map (λ (u : UserEntry). u.name) f.users
 

@@ -25,6 +25,7 @@ IsUnread OtherPermission bytes = ⊥
 IsUnread OtherHash bytes = ⊥
 IsUnread Memory bytes = Unit {0}
 
+-- what the bytes of a file give: its entries, or the cause for which it is refused before there are any
 abbrev pub Opens : Result Document Bad → List ℕ → Type 0
 Opens (Ok d) bytes = IsFile bytes (file_of d)
 Opens (Err bad) bytes = IsUnread bad bytes

@@ -3,6 +3,7 @@ use Rattle.std.specs.Prelude.{ℕ}
 use Rattle.definitions.specs.declared.bad.Bad.{Bad}
 use Rattle.definitions.specs.declared.bad.Bad.TheVariants.{NotJson, Malformed, OtherVhost, Repeated, Absent, OtherType, Unsupported, NoOverflow, Worded, TooMany, NoExchange, OtherPermission, OtherHash, Memory}
 
+-- a cause's number (docs/FORMATS.md); of several causes in a file the one of the least number is told
 abbrev pub number : Bad → ℕ
 number NotJson = 1
 number Malformed = 2

@@ -11,6 +11,7 @@ use Rattle.definitions.specs.declared.document.ExchangeEntry.{ExchangeEntry}
 use Rattle.definitions.specs.declared.document.QueueEntry.{QueueEntry}
 use Rattle.definitions.specs.declared.document.BindingEntry.{BindingEntry}
 
+-- what `←` means below: where one member is missing or of another kind, there is no entry
 infixl 10 ◌>>=◌
 abbrev pub ◌>>=◌ : {A B : Type 0} → Option A → (A → Option B) → Option B
 o >>= f = option_and_then f o

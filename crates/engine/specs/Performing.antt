@@ -30,16 +30,19 @@ move_of p s (TooLarge c h) = answer c s p h empty_publish
 move_of p s (Fault c code) = faulted c s p code
 move_of p s e = stays_in s
 
+-- The broker performs the event, and the phase follows what was sent.
 pub record ByBroker (t : Topology) (b : Broker) (s : Session) (e : Event) (sends : List Send) (notes : List Note) (new_b : Broker) (new_s : Session) : Type 0 where
   pub acts : Acts t b e sends notes new_b
   pub session : new_s ≡ session_after s e sends
 
+-- The phase answers the event by itself: nothing is noted, and the broker is as it was.
 pub record ByPhase (p : Phase) (b : Broker) (s : Session) (e : Event) (sends : List Send) (notes : List Note) (new_b : Broker) (new_s : Session) : Type 0 where
   pub sent : sends ≡ (move_of p s e).sends
   pub noted : notes ≡ []
   pub session : new_s ≡ (move_of p s e).next
   pub broker : new_b ≡ b
 
+-- An event of a connection in this phase: in Running the broker performs it, in any other the phase answers.
 abbrev pub Decides : Phase → Topology → Broker → Session → Event → List Send → List Note → Broker → Session → Type 0
 Decides phase.Running t b s e sends notes new_b new_s = ByBroker t b s e sends notes new_b new_s
 Decides p t b s e sends notes new_b new_s = ByPhase p b s e sends notes new_b new_s
@@ -48,6 +51,7 @@ Decides p t b s e sends notes new_b new_s = ByPhase p b s e sends notes new_b ne
 pub record IsPause (t : Topology) (c : ℕ) (b new : Broker) : Type 0 where
   pub acts : Acts t b (Pause c) [] [] new
 
+-- the broker learns that a pause has ended
 pub record IsResume (t : Topology) (c : ℕ) (b new : Broker) : Type 0 where
   pub acts : Acts t b (Resume c) [] [] new
 

@@ -63,6 +63,7 @@ pub record LinkDid (t : Topology) (b : Broker) (old : Link) (notes : List Note) 
   pub follows : (stream_of new.stream ≡ next) ⊎ (is_ended new.session.phase ≡ true)
   pub fewer : (to_read None (stream_of new.stream) < to_read (kept_of old.kept) (stream_of old.stream)) ⊎ (is_ended new.session.phase ≡ true)
 
+-- Nothing was performed, for no whole command and no fault is left to read.
 pub record LinkIdle (b : Broker) (old : Link) (new_b : Broker) (new : Link) : Type 0 where
   pub waits : LinkWaits b old new_b new
   pub none_kept : old.kept ≡ None

@@ -1,6 +1,7 @@
 -- Bytes that wait to be taken.
 use Rattle.std.specs.Prelude.{ℕ, List}
 
+-- bytes put in at the end and taken from the front, and the room made for more
 pub record Waiting : Type 0 where
   -- put in and not yet taken
   pub bytes : List ℕ

@@ -29,6 +29,7 @@ abbrev pub link_in : List Link → ℕ → Option Link
 link_in [] c = None
 link_in (l ∷ ls) c = if l.number == c then Some l else link_in ls c
 
+-- the session of a connection; of one that was never opened, or is gone, that of one that is over
 abbrev pub session_of : Option Link → Session
 session_of None = no_session
 session_of (Some l) = l.session
@@ -38,16 +39,20 @@ abbrev pub wire_in : Bool → Link → Wire
 wire_in true l = record new_wire { output = l.output.bytes }
 wire_in false l = record { kept = kept_of l.kept; stream = stream_of l.stream; output = l.output.bytes }
 
+-- a connection's bytes, in and out; of one that was never opened, or is gone, there are none
 abbrev pub wire_of : Option Link → Wire
 wire_of None = new_wire
 wire_of (Some l) = wire_in (is_ended l.session.phase) l
 
+-- what is in force: the topology that the broker runs, the guarantees, and who may log in
 abbrev pub config_of : Parts → Config
 config_of p = record { topology = topology_of p.broker; guarantees = p.guarantees; users = p.users }
 
+-- the broker's state, and the session of each number
 abbrev pub state_of : Parts → State
 state_of p = record { broker = broker_of p.broker; session = λ c. session_of (link_in p.links c) }
 
+-- the world that these parts stand for, in which arrivals come
 abbrev pub world_of : Parts → World
 world_of p = record { config = config_of p; state = state_of p; given = p.given; wire = λ c. wire_of (link_in p.links c) }
 

@@ -9,6 +9,7 @@ abbrev pub Refused : Refusal → Type 0 → Type 0
 Refused SyntaxError why = why
 Refused Memory why = Unit {0}
 
+-- Found holds of what was read; or it was refused, and this is why
 abbrev pub Answers : {X : Type 0} → Result X Refusal → (X → Type 0) → Type 0 → Type 0
 Answers (Ok x) Found why = Found x
 Answers (Err e) Found why = Refused e why

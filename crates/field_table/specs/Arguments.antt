@@ -15,6 +15,7 @@ pub data Kind : Type 0 where
   a_field_table : Kind
   some_bits : (count : ℕ) → Kind
 
+-- the kind of an argument; of bits, how many they are
 abbrev pub kind_of : Argument → Kind
 kind_of (Octet n) = an_octet
 kind_of (Short n) = a_short
@@ -25,6 +26,7 @@ kind_of (Long_text t) = a_long_text
 kind_of (Field_table pairs) = a_field_table
 kind_of (Bits bs) = some_bits (length bs)
 
+-- what is read by f after this, where this was read
 infixl 10 ◌>>=◌
 abbrev pub ◌>>=◌ : {A B : Type 0} → Option A → (A → Option B) → Option B
 None >>= f = None
@@ -34,6 +36,7 @@ None >>= f = None
 abbrev pub Front : Type 0
 Front = Option (Argument × List ℕ)
 
+-- a number in so many bytes, the highest first; none where fewer bytes are left
 abbrev pub number_at : (ℕ → Argument) → Width → List ℕ → Front
 number_at made w bytes = if nat_lt (length bytes) (byte_len w) then None else Some (made (from_be_bytes w (take (byte_len w) bytes)), drop (byte_len w) bytes)
 
@@ -41,9 +44,11 @@ number_at made w bytes = if nat_lt (length bytes) (byte_len w) then None else So
 abbrev pub text_at : (List ℕ → Argument) → ℕ → List ℕ → Front
 text_at made n bytes = if nat_lt (length bytes) n then None else Some (made (take n bytes), drop n bytes)
 
+-- a short string: its length in one byte, and as many bytes (AMQP 0-9-1, section 4.2.5.3)
 abbrev pub short_text_at : List ℕ → Front
 short_text_at bytes = if nat_lt (length bytes) 1 then None else text_at Short_text (slice_index bytes 0) (drop 1 bytes)
 
+-- a long string, or the pairs of a table: the length in four bytes, and as many bytes (AMQP 0-9-1, section 4.2.5.3)
 abbrev pub long_text_at : (List ℕ → Argument) → List ℕ → Front
 long_text_at made bytes = if nat_lt (length bytes) 4 then None else text_at made (from_be_bytes w32 (take 4 bytes)) (drop 4 bytes)
 
@@ -57,9 +62,11 @@ abbrev pub bits_of : ℕ → ℕ → List Bool
 bits_of zero octet = []
 bits_of (suc n) octet = (octet % 2 == 1) ∷ bits_of n (octet / 2)
 
+-- an octet of so many bits, and of no other bit that is set (AMQP 0-9-1, section 4.2.5.2)
 abbrev pub bits_at : ℕ → List ℕ → Front
 bits_at n bytes = if nat_lt (length bytes) 1 then None else if nat_lt (slice_index bytes 0) (octets n) then Some (Bits (bits_of n (slice_index bytes 0)), drop 1 bytes) else None
 
+-- the argument of this kind at the front, and the bytes after it; none where there is none
 abbrev pub argument_at : Kind → List ℕ → Front
 argument_at an_octet bytes = if nat_lt (length bytes) 1 then None else Some (Octet (slice_index bytes 0), drop 1 bytes)
 argument_at a_short bytes = number_at Short w16 bytes

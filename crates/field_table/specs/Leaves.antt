@@ -10,9 +10,11 @@ pub record Unread : Type 0 where
   pub letter : ℕ
   pub contents : List Argument
 
+-- a value of this letter, with these arguments behind it
 abbrev pub unread : ℕ → List Argument → Unread
 unread letter contents = record { letter = letter; contents = contents }
 
+-- what is on the wire for a leaf: its type letter, and what stands behind it; of an array or a table, its bytes
 abbrev pub seen : Leaf → Unread
 seen (leaves.Truth b) = unread 116 (Bits (b ∷ []) ∷ [])
 seen (leaves.Byte n) = unread 98 (Octet n ∷ [])

@@ -14,6 +14,7 @@ pub record IsFirst (depth : ℕ) (bytes : List ℕ) (v : Value) (rest : List ℕ
   pub fits : IsValue depth v
   pub parts : bytes ≡ letter v ∷ content v ++ rest
 
+-- no value stands at the front
 abbrev pub HasNone : ℕ → List ℕ → Type 0
 HasNone depth bytes = (v : Value) (rest : List ℕ) → IsFirst depth bytes v rest → ⊥
 
@@ -23,6 +24,7 @@ pub record IsFirstPair (depth : ℕ) (bytes : List ℕ) (name : Text) (v : Value
   pub fits : IsValue depth v
   pub parts : bytes ≡ (length name ∷ name) ++ (letter v ∷ content v ++ rest)
 
+-- no name with a value behind it stands at the front
 abbrev pub HasNoPair : ℕ → List ℕ → Type 0
 HasNoPair depth bytes = (name : Text) (v : Value) (rest : List ℕ) → IsFirstPair depth bytes name v rest → ⊥
 
@@ -40,6 +42,7 @@ pub record SpellsPairs (depth : ℕ) (bytes : List ℕ) (ps : Pairs) : Type 0 wh
 abbrev pub HasValues : ℕ → List ℕ → Type 0
 HasValues depth bytes = (vs : Values) × SpellsValues depth bytes vs
 
+-- the bytes are the pairs of some table
 abbrev pub HasPairs : ℕ → List ℕ → Type 0
 HasPairs depth bytes = (ps : Pairs) × SpellsPairs depth bytes ps
 

@@ -22,5 +22,6 @@ contents_of (tables.Inner_table ps) = Long_text (pairs_bytes ps) ∷ []
 contents_of (tables.Byte_array t) = Long_text t ∷ []
 contents_of tables.Void = []
 
+-- a value as it is read at first: its letter, and behind it numbers, or bytes that are not read yet
 abbrev pub unread_of : Value → Unread
 unread_of v = unread (letter v) (contents_of v)

@@ -39,18 +39,23 @@ field_step (fields.Table t) = Inner_table t
 field_step (fields.Bytes t) = Byte_array t
 field_step fields.Void = Void
 
+-- a name with its value, which is already seen
 abbrev pub entry_step : fields.Entry-F Value Named Pairs → Named
 entry_step e = record { name = e.name; value = e.value }
 
+-- the pairs of a table, whose values are already seen
 abbrev pub table_step : fields.Table-F Value Named Pairs → Pairs
 table_step t = pairs_then t.entries.items no_pairs
 
+-- the value that a `Field` stands for, with all that stands inside it
 abbrev pub field_view : Field → Value
 field_view = fold-Field Value Named Pairs field_step entry_step table_step
 
+-- the name and the value that an `Entry` stands for
 abbrev pub entry_view : Entry → Named
 entry_view = fold-Entry Value Named Pairs field_step entry_step table_step
 
+-- the pairs that a `Table` stands for, in their order
 abbrev pub table_view : Table → Pairs
 table_view = fold-Table Value Named Pairs field_step entry_step table_step
 
@@ -58,11 +63,14 @@ table_view = fold-Table Value Named Pairs field_step entry_step table_step
 abbrev pub fields_view : List Field → List Value
 fields_view fs = map field_view fs
 
+-- the names and values of these entries, in their order
 abbrev pub entries_view : List Entry → List Named
 entries_view es = map entry_view es
 
+-- the values of an array of these fields
 abbrev pub array_view : List Field → Values
 array_view fs = values_then (fields_view fs) no_values
 
+-- the pairs of a table of these entries
 abbrev pub pairs_view : List Entry → Pairs
 pairs_view es = pairs_then (entries_view es) no_pairs

@@ -18,5 +18,6 @@ pub record IsEntry (depth : ℕ) (e : Named) : Type 0 where
   pub short : length e.name < 256
   pub fits : IsValue depth e.value
 
+-- the spelling of a name and its value: the name's length in one byte, the name, the letter, and what stands behind it
 abbrev pub entry_bytes : Named → List ℕ
 entry_bytes e = (length e.name ∷ e.name) ++ (letter e.value ∷ content e.value)

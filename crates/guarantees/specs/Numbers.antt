@@ -3,6 +3,7 @@ use Rattle.std.specs.Prelude.{ℕ}
 use Rattle.guarantees.specs.declared.bad.Bad.{Bad}
 use Rattle.guarantees.specs.declared.bad.Bad.TheVariants.{NotJson, Malformed, Absent, Worded, TooMany, Memory}
 
+-- a cause's number (docs/FORMATS.md); the same cause has the same number in a definitions file
 abbrev pub number : Bad → ℕ
 number NotJson = 1
 number Malformed = 2

@@ -66,6 +66,7 @@ IsUnread Worded bytes = ⊥
 IsUnread TooMany bytes = (t : Topology) → IsFirst TooMany t bytes
 IsUnread Memory bytes = Unit {0}
 
+-- what the bytes of a file give: its guarantees, or the cause for which it is refused before there are any
 abbrev pub Opens : Result (Vec Guarantee Global) Bad → List ℕ → Type 0
 Opens (Ok gs) bytes = IsFile bytes gs.items
 Opens (Err bad) bytes = IsUnread bad bytes

@@ -8,6 +8,7 @@ use Rattle.model.specs.Guarantee.{Guarantee}
 use Rattle.model.specs.declared.topologies.Mode.{Mode}
 use Rattle.model.specs.declared.topologies.Mode.TheVariants.{Reaches}
 
+-- what `←` means below: where one member is missing or of another kind, there is no guarantee
 infixl 10 ◌>>=◌
 abbrev pub ◌>>=◌ : {A B : Type 0} → Option A → (A → Option B) → Option B
 o >>= f = option_and_then f o

@@ -29,6 +29,7 @@ use Rattle.model.specs.declared.notes.Answer.TheVariants.{Ack}
 
 -- ---- words of keys
 
+-- the words of keys: a key with none, with two, and with empty ones
 pub record WordsOfKeys : Type 0 where
   pub none : words [] ≡ []
   pub two : words (codes "orders.new") ≡ codes "orders" ∷ codes "new" ∷ []
@@ -46,9 +47,11 @@ pub record FirstInput : Type 0 where
       ≡ 2 ∷ 0 ∷ 1 ∷ 0 ∷ 0 ∷ 0 ∷ 14 ∷ 0 ∷ 60 ∷ 0 ∷ 0 ∷ 0 ∷ 0 ∷ 0 ∷ 0 ∷ 0 ∷ 0 ∷ 0 ∷ 2 ∷ 0 ∷ 0 ∷ 206 ∷ []
   pub body : frame_bytes (body_frame 1 (codes "hi")) ≡ 3 ∷ 0 ∷ 1 ∷ 0 ∷ 0 ∷ 0 ∷ 2 ∷ 104 ∷ 105 ∷ 206 ∷ []
 
+-- the frame of confirm.select-ok on channel 1
 abbrev pub select_ok : List ℕ
 select_ok = 1 ∷ 0 ∷ 1 ∷ 0 ∷ 0 ∷ 0 ∷ 4 ∷ 0 ∷ 85 ∷ 0 ∷ 11 ∷ 206 ∷ []
 
+-- the frame of basic.ack on channel 1 for number 1 alone
 abbrev pub first_ack : List ℕ
 first_ack = 1 ∷ 0 ∷ 1 ∷ 0 ∷ 0 ∷ 0 ∷ 13 ∷ 0 ∷ 60 ∷ 0 ∷ 80 ∷ 0 ∷ 0 ∷ 0 ∷ 0 ∷ 0 ∷ 0 ∷ 0 ∷ 1 ∷ 0 ∷ 206 ∷ []
 
@@ -71,6 +74,7 @@ pub record BadEnd : Type 0 where
 
 -- ---- a content that is too large
 
+-- which content is too large, what its bytes do as they come, and how it is answered
 pub record TooLargeContent : Type 0 where
   -- a body of 1,048,576 bytes is taken, and one of a byte more is not
   pub largest : is_too_large (header_bytes 1048576 no_properties) 1048576 ≡ false
@@ -85,6 +89,7 @@ pub record TooLargeContent : Type 0 where
 
 -- ---- what the headline refuses
 
+-- what is sent to `orders` under `new` reaches `audit`
 abbrev pub wanted : Guarantee
 wanted = record { mode = Reaches; exchange = codes "orders"; pattern = codes "new"; queue = codes "audit" }
 
@@ -102,6 +107,7 @@ multiple_ack = 1 ∷ 0 ∷ 1 ∷ 0 ∷ 0 ∷ 0 ∷ 13 ∷ 0 ∷ 60 ∷ 0 ∷ 80 
 
 -- ---- what happens at single events
 
+-- a content with no property and no body
 abbrev pub no_content : Content
 no_content = record { properties = no_properties; body = [] }
 
@@ -109,6 +115,7 @@ no_content = record { properties = no_properties; body = [] }
 abbrev pub first_entry : Entry
 first_entry = record { message = record { number = 1; first_exchange = codes "orders"; first_key = codes "new"; exchange = codes "orders"; key = codes "new"; content = no_content; redelivered = false }; mark = Ready }
 
+-- the entries of each queue, where only the one of this name has any
 abbrev pub one_queue : Text → List Entry → Text → List Entry
 one_queue name entries q = if bytes_eq q name then entries else []
 
@@ -116,9 +123,11 @@ one_queue name entries q = if bytes_eq q name then entries else []
 abbrev pub with_entries : List Entry → State
 with_entries entries = record { broker = record empty_broker { published = 1; queue = one_queue (codes "audit") entries }; session = λ c. no_session }
 
+-- what is sent to `orders` under `new` never comes to `bin`
 abbrev pub forbids : Guarantee
 forbids = record { mode = Never; exchange = codes "orders"; pattern = codes "new"; queue = codes "bin" }
 
+-- these guarantees in force, over a topology with nothing in it
 abbrev pub under : List Guarantee → Config
 under guarantees = record { topology = record { exchanges = []; queues = []; bindings = [] }; guarantees = guarantees; users = [] }
 
@@ -130,6 +139,7 @@ event_of_notes guarantees old notes new = record { config = under guarantees; ev
 abbrev pub vanishing : List Note → List Note → State → List Happening
 vanishing first second last = event_of_notes [] (with_entries (first_entry ∷ [])) first (with_entries []) ∷ event_of_notes [] (with_entries []) second last ∷ []
 
+-- Each promise of the headline fails where it should: an output, notes or events that break it.
 pub record HeadlineRefuses : Type 0 where
   -- an output from which the ack of an acked publish is missing
   pub output_without_ack : HasAcksOf (first_acked ∷ []) select_ok → ⊥

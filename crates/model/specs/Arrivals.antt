@@ -27,6 +27,7 @@ pub record Wire : Type 0 where
   -- put out and not yet taken
   pub output : List ℕ
 
+-- all that there is: what is in force, the broker's state and the phases, and each connection's bytes
 pub record World : Type 0 where
   pub config : Config
   pub state : State
@@ -34,14 +35,17 @@ pub record World : Type 0 where
   pub given : ℕ
   pub wire : ℕ → Wire
 
+-- a connection from which nothing came and to which nothing was put out; also one that is lost
 abbrev pub new_wire : Wire
 new_wire = record { kept = None; stream = running_stream; output = [] }
 
+-- where every run begins: this is in force, and no connection was opened
 abbrev pub new_world : Config → World
 new_world f = record { config = f; state = empty_state; given = 0; wire = λ c. new_wire }
 
 -- ---- where a connection stands
 
+-- the last phase, in which nothing more is read
 abbrev pub is_ended : Phase → Bool
 is_ended phase.Over = true
 is_ended p = false
@@ -54,12 +58,15 @@ is_over w c = is_ended (w.state.session c).phase
 abbrev pub is_past_bound : List ℕ → Bool
 is_past_bound output = nat_le 1048576 (length output)
 
+-- it is past that bound: nothing is performed for it until enough of its output is taken
 abbrev pub is_paused : World → ℕ → Bool
 is_paused w c = is_past_bound (w.wire c).output
 
+-- what it asks for is performed: it is neither over nor paused
 abbrev pub is_awake : World → ℕ → Bool
 is_awake w c = not (is_over w c) && not (is_paused w c)
 
+-- bytes that were put out for it are not taken yet
 abbrev pub has_output : World → ℕ → Bool
 has_output w c = nat_lt 0 (length (w.wire c).output)
 
@@ -74,6 +81,7 @@ standing w (suc n) = if is_gone w (suc n) then standing w n else standing w n + 
 
 -- ---- what is read
 
+-- a command of connection c as an event; a publish goes with its content, where that is not too large
 abbrev pub event_of : ℕ → Command → Event
 event_of c (Plain h m) = event.Command c h m None
 event_of c (Full h p content) = event.Command c h (BasicPublish p) (Some content)
@@ -98,6 +106,7 @@ IsSaid e = Unit {0}
 
 -- ---- events
 
+-- This event, under what is in force, is what happened between these two states, and it is one step.
 pub record Happens (f : Config) (old : State) (e : Event) (h : Happening) (new : State) : Type 0 where
   pub under : h.config ≡ f
   pub event : h.event ≡ e
@@ -152,6 +161,7 @@ pub record Waits (old : World) (c : ℕ) (new : World) : Type 0 where
   pub output : (new.wire c).output ≡ (old.wire c).output
   pub coming : SameToCome (old.wire c).kept (old.wire c).stream (new.wire c).kept (new.wire c).stream
 
+-- nothing is different between the two worlds
 pub record Same (old new : World) : Type 0 where
   pub config : new.config ≡ old.config
   pub state : new.state ≡ old.state
@@ -181,6 +191,7 @@ pub record WorksOff (old : World) (c : ℕ) (hs : List Happening) (new : World) 
 
 -- ---- arrivals
 
+-- these bytes have come for c: they stand behind what its stream has still to say
 abbrev pub with_heard : World → ℕ → List ℕ → World
 with_heard w c bytes = record w { wire = with_one w.wire c (record (w.wire c) { stream = heard (w.wire c).stream bytes }) }
 
@@ -195,6 +206,7 @@ pub record Takes_off (old : World) (c n : ℕ) (hs : List Happening) (new : Worl
 abbrev pub can_open : World → Bool
 can_open w = nat_lt (standing w w.given) 1024 && nat_lt w.given 18446744073709551615
 
+-- A connection is opened by this event under the next number, with this stream; nothing is sent.
 pub record Opens (old : World) (e : Event) (s : Stream) (hs : List Happening) (new : World) : Type 0 where
   pub h : Happening
   pub all : hs ≡ h ∷ []
@@ -204,6 +216,7 @@ pub record Opens (old : World) (e : Event) (s : Stream) (hs : List Happening) (n
   pub given : new.given ≡ old.given + 1
   pub wires : (d : ℕ) → new.wire d ≡ with_one old.wire (old.given + 1) (record new_wire { stream = s }) d
 
+-- The connection is lost: what it held is requeued, and what it had still to say or to take is gone.
 pub record Loses (old : World) (c : ℕ) (hs : List Happening) (new : World) : Type 0 where
   pub h : Happening
   pub all : hs ≡ h ∷ []
@@ -222,6 +235,7 @@ pub record TakesAndWorks (old : World) (c n : ℕ) (hs : List Happening) (new : 
   pub takes : Takes_off old c n first mid
   pub works : WorksOff mid c rest new
 
+-- no event, and the world stays as it is
 abbrev pub Nothing_happens : World → List Happening → World → Type 0
 Nothing_happens old hs new = (hs ≡ []) × Same old new
 
@@ -249,6 +263,7 @@ pub record Seen : Type 0 where
   pub connections : List Shown
   pub notes : List Note
 
+-- what is seen of connection c: all that was put out for it, taken or not, and whether it is over
 abbrev pub shown : List Happening → World → ℕ → Shown
 shown hs w c = record { output = put_out c hs; is_over = is_over w c }
 

@@ -24,6 +24,7 @@ pub record Outstanding : Type 0 where
   pub queue : Text
   pub by : Taker
 
+-- an open channel (AMQP 0-9-1, section 2.2.5, "The Channel Class")
 pub record Channel : Type 0 where
   -- the last confirm number, where publishes are confirmed (RabbitMQ, "Publisher Confirms")
   pub confirm : Option ℕ
@@ -77,6 +78,7 @@ is_at (Some limit) n = nat_le limit n
 abbrev pub queue_named : List DeclaredQueue → Text → Option DeclaredQueue
 queue_named qs name = find (λ (q : DeclaredQueue). bytes_eq q.name name) qs
 
+-- how many ready messages the queue may have; none where it has no limit
 abbrev pub limit_of : Option DeclaredQueue → Option ℕ
 limit_of None = None
 limit_of (Some q) = q.limit

@@ -2,6 +2,7 @@
 use Rattle.std.specs.Prelude.{ℕ, ◌==◌, if◌then◌else◌, codes}
 use Rattle.model.specs.Words.{Text}
 
+-- the text that is sent with a reply code; of 541, and of any code that is not listed, it is internal-error
 abbrev pub code_text : ℕ → Text
 code_text code =
     if code == 311 then codes "content-too-large"

@@ -64,6 +64,7 @@ taken_dropped h size count =
     else if count == size then Makes (TooLarge h)
     else Goes_on (Drops size count)
 
+-- a header: its body is awaited, and with none declared the publish is complete; one that is refused breaks the stream
 abbrev pub taken_header : ℕ → Publish → Result Header ℕ → Taken
 taken_header h p (Ok header) = taken_body h p header.properties header.size []
 taken_header h p (Err code) = Breaks code
@@ -113,6 +114,7 @@ pub record Stream : Type 0 where
   pub pending : ℕ → Pending
   pub unread : List ℕ
 
+-- what a channel has begun after a frame: nothing where the frame completes a command or breaks the stream
 abbrev pub pending_after : Taken → Pending
 pending_after (Goes_on p) = p
 pending_after (Makes c) = Nothing

@@ -49,10 +49,12 @@ IsArgument (Bits bs) = length bs ≤ 8
 
 -- ---- the table of methods
 
+-- the two numbers by which a payload names its method
 pub record Ids : Type 0 where
   pub class : ℕ
   pub method : ℕ
 
+-- this class, and this method of it
 abbrev pub ids : ℕ → ℕ → Ids
 ids class method = record { class = class; method = method }
 
@@ -162,9 +164,11 @@ IsMethod m = AllByRecursion IsArgument (arguments m)
 
 -- ---- what a payload says
 
+-- the class that a payload begins with, in its first two bytes
 abbrev pub class_at : List ℕ → ℕ
 class_at bytes = from_be_bytes w16 (take 2 bytes)
 
+-- the method behind the class, in the next two bytes
 abbrev pub method_at : List ℕ → ℕ
 method_at bytes = from_be_bytes w16 (take 2 (drop 2 bytes))
 

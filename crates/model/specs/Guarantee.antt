@@ -6,6 +6,7 @@ use Rattle.model.specs.Routing.{Routes, Comes, of_key}
 use Rattle.model.specs.declared.topologies.Mode.{Mode}
 use Rattle.model.specs.declared.topologies.Mode.TheVariants.{Reaches, Never}
 
+-- what is sent to this exchange under a key that matches the pattern reaches this queue, or never comes to it
 pub record Guarantee : Type 0 where
   pub mode : Mode
   pub exchange : Text

@@ -6,6 +6,7 @@ use Rattle.model.specs.Words.{Text}
 use Rattle.model.specs.Grammar.{Argument, Octet, Long_long, Short_text, Field_table, argument, IsArgument, class_at}
 use Rattle.model.specs.declared.contents.Properties.{Properties}
 
+-- a content that has none of the fourteen properties
 abbrev pub no_properties : Properties
 no_properties = record {
   content_type = None;
@@ -29,14 +30,17 @@ abbrev pub text_of : Option Text → Option Argument
 text_of None = None
 text_of (Some t) = Some (Short_text t)
 
+-- the same of an octet: delivery-mode, priority
 abbrev pub octet_of : Option ℕ → Option Argument
 octet_of None = None
 octet_of (Some n) = Some (Octet n)
 
+-- of a time: timestamp
 abbrev pub time_of : Option ℕ → Option Argument
 time_of None = None
 time_of (Some n) = Some (Long_long n)
 
+-- of a field table, by the bytes of its pairs: headers
 abbrev pub table_of : Option (List ℕ) → Option Argument
 table_of None = None
 table_of (Some t) = Some (Field_table t)
@@ -58,6 +62,7 @@ abbrev pub value_of : Option Argument → List ℕ
 value_of None = []
 value_of (Some a) = argument a
 
+-- a property that is absent, or that has a spelling
 abbrev pub IsValue : Option Argument → Type 0
 IsValue None = Unit {0}
 IsValue (Some a) = IsArgument a
@@ -72,17 +77,21 @@ header_bytes size p = to_be_bytes w16 60 ++ to_be_bytes w16 0 ++ to_be_bytes w64
 
 -- ---- what a payload says
 
+-- what a content header says of its content
 pub record Header : Type 0 where
   -- of the body, in bytes
   pub size : ℕ
   pub properties : Properties
 
+-- the weight behind the class, which is not used and has to be 0
 abbrev pub weight_at : List ℕ → ℕ
 weight_at bytes = from_be_bytes w16 (take 2 (drop 2 bytes))
 
+-- the size of the body, in the eight bytes behind the weight
 abbrev pub size_at : List ℕ → ℕ
 size_at bytes = from_be_bytes w64 (take 8 (drop 4 bytes))
 
+-- the property flags, in the two bytes behind the size
 abbrev pub flags_at : List ℕ → ℕ
 flags_at bytes = from_be_bytes w16 (take 2 (drop 12 bytes))
 

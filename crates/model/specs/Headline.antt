@@ -40,6 +40,7 @@ ack_in f =
     then Some (record { channel = f.channel; number = from_be_bytes w64 (take 8 (drop 4 f.payload)); multiple = first_bit f.payload 12 })
     else None
 
+-- the acks among these frames, in their order
 abbrev pub acks_in : List Frame → List Ack
 acks_in fs = filter_map ack_in fs
 
@@ -59,6 +60,7 @@ pub record Acked : Type 0 where
   -- the guarantees in force at it
   pub guarantees : List Guarantee
 
+-- the note confirms this publish, by ack
 abbrev pub is_ack_of : ℕ → Note → Bool
 is_ack_of n (Confirmed m answer.Ack) = m == n
 is_ack_of n note = false
@@ -69,6 +71,7 @@ acked_as gs c notes (Published n d h x key (Some m)) =
     if d == c && list_any (is_ack_of n) notes then Some (record { number = n; channel = h; exchange = x; key = key; confirm = m; guarantees = gs }) else None
 acked_as gs c notes note = None
 
+-- the publishes of connection c that this event confirms by ack, in the order of its notes
 abbrev pub acked_at : ℕ → Happening → List Acked
 acked_at c h = filter_map (acked_as h.config.guarantees c h.notes) h.notes
 
@@ -86,6 +89,7 @@ pub record HasAcksOf (ps : List Acked) (output : List ℕ) : Type 0 where
   pub reading : IsReading output frames
   pub acks : acks_in frames ≡ map ack_for ps
 
+-- the note says that this publish entered this queue as a publish, and not as a dead letter
 abbrev pub is_publish_into : ℕ → Text → Note → Bool
 is_publish_into n q (Entered m r way.Publish) = (m == n) && bytes_eq r q
 is_publish_into n q note = false
@@ -132,10 +136,12 @@ AreAllowedIn notes h = AllByRecursion (IsAllowed h.config.guarantees (IsNoted no
 abbrev pub IsCause : Happening → ℕ → Text → Cause → Type 0
 IsCause h n q cause = ⊥
 
+-- where the note says that a message left a queue, it left by this event for the cause that is noted
 abbrev pub HasCause : Happening → Note → Type 0
 HasCause h (Left n q cause) = IsCause h n q cause
 HasCause h note = Unit {0}
 
+-- so does each message of which the event notes that it left
 abbrev pub HaveCauses : Happening → Type 0
 HaveCauses h = AllByRecursion (HasCause h) h.notes
 

@@ -9,12 +9,14 @@ use Rattle.model.specs.declared.events.Send.TheVariants as send
 use Rattle.model.specs.declared.methods.Method.{Method}
 use Rattle.model.specs.declared.methods.Method.TheVariants.{ConnectionClose, ConnectionCloseOk}
 
+-- where a connection stands, and the limits that were agreed on for it
 pub record Session : Type 0 where
   pub phase : Phase
   -- the limits in force
   pub channel_max : ℕ
   pub frame_max : ℕ
 
+-- a connection that runs, with the limits that hold where none were agreed on (own)
 abbrev pub running_session : Session
 running_session = record { phase = phase.Running; channel_max = 255; frame_max = 131072 }
 
@@ -27,16 +29,19 @@ abbrev pub to_phase : Session → Phase → Session
 to_phase s phase.Over = no_session
 to_phase s p = record s { phase = p }
 
+-- the phase in which the broker performs its commands
 abbrev pub is_running : Phase → Bool
 is_running phase.Running = true
 is_running p = false
 
 -- ---- what a phase answers
 
+-- what is sent by a phase that answers by itself, and where the connection stands then
 pub record Move : Type 0 where
   pub sends : List Send
   pub next : Session
 
+-- nothing is sent, and the connection stands where it stood
 abbrev pub stays_in : Session → Move
 stays_in s = record { sends = []; next = s }
 
@@ -59,11 +64,13 @@ faulted c s p code = record { sends = connection_close c code (ids 0 0) ∷ []; 
 
 -- ---- after an event in Running, by what was sent: a close awaits close-ok, a close-ok ends the connection
 
+-- the phase after this method was sent, where what is sent after it leads to that one
 abbrev pub after_method : Method → Phase → Phase
 after_method (ConnectionClose m) p = phase.Closing
 after_method ConnectionCloseOk p = phase.Over
 after_method m p = p
 
+-- the phase after these sends: the first connection.close or close-ok among them tells, and without one it is Running
 abbrev pub after_sends : List Send → Phase
 after_sends [] = phase.Running
 after_sends (send.Greeting c ∷ sends) = after_sends sends

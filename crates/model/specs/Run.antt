@@ -12,9 +12,11 @@ use Rattle.model.specs.declared.notes.Note.{Note}
 use Rattle.model.specs.declared.notes.Note.TheVariants.{Entered, Left}
 use Rattle.model.specs.declared.events.Event.{Event}
 
+-- the broker before any event: no connection, no message, and no publish counted
 abbrev pub empty_broker : Broker
 empty_broker = record { published = 0; queue = λ q. []; connection = λ c. None; channel = λ c h. None }
 
+-- the state before any event, in which no connection was opened
 abbrev pub empty_state : State
 empty_state = record { broker = empty_broker; session = λ c. no_session }
 
@@ -34,9 +36,11 @@ abbrev pub Run : State → List Happening → State → Type 0
 Run old [] new = new ≡ old
 Run old (h ∷ hs) new = (h.before ≡ old) × Step h.config h.before h.event h.sends h.notes h.after × Run h.after hs new
 
+-- all that is noted by these events, in order
 abbrev pub notes_of : List Happening → List Note
 notes_of hs = flat_map (λ (h : Happening). h.notes) hs
 
+-- all that is sent by them, in order
 abbrev pub sends_of : List Happening → List Send
 sends_of hs = flat_map (λ (h : Happening). h.sends) hs
 
@@ -46,14 +50,17 @@ put_out c hs = flat_map (λ (h : Happening). spelling h.frame_max (sends_to c h.
 
 -- ---- what the notes say of a queue
 
+-- the note says that the message of publish n entered the queue q, as a publish or a dead letter
 abbrev pub is_entered : ℕ → Text → Note → Bool
 is_entered n q (Entered m r w) = (m == n) && bytes_eq r q
 is_entered n q _ = false
 
+-- the note says that the message of publish n left the queue q, for whatever cause
 abbrev pub is_left : ℕ → Text → Note → Bool
 is_left n q (Left m r cause) = (m == n) && bytes_eq r q
 is_left n q _ = false
 
+-- the entry's message is of publish n
 abbrev pub has_number : ℕ → Entry → Bool
 has_number n e = e.message.number == n
 

@@ -13,6 +13,7 @@ use Rattle.model.specs.declared.events.Send.TheVariants.{Greeting, Command}
 abbrev pub eight_bytes : List ℕ
 eight_bytes = 65 ∷ 77 ∷ 81 ∷ 80 ∷ 0 ∷ 0 ∷ 9 ∷ 1 ∷ []
 
+-- a method on channel h, as a frame
 abbrev pub method_frame : ℕ → Method → Frame
 method_frame h m = record { kind = 1; channel = h; payload = method_bytes m }
 
@@ -22,6 +23,7 @@ pieces_of size zero bytes = []
 pieces_of size (suc steps) [] = []
 pieces_of size (suc steps) (b ∷ bytes) = take size (b ∷ bytes) ∷ pieces_of size steps (drop size (b ∷ bytes))
 
+-- a piece of a body on channel h, as a frame
 abbrev pub body_frame : ℕ → List ℕ → Frame
 body_frame h piece = record { kind = 3; channel = h; payload = piece }
 
@@ -31,10 +33,12 @@ content_frames max h None = []
 content_frames max h (Some c) =
     record { kind = 2; channel = h; payload = header_bytes (length c.body) c.properties } ∷ map (body_frame h) (pieces_of (max - 8) (length c.body) c.body)
 
+-- the frames of a send: of its method, and of its content where there is one; the protocol header is no frame
 abbrev pub frames_of : ℕ → Send → List Frame
 frames_of max (Greeting c) = []
 frames_of max (Command c h m content) = method_frame h m ∷ content_frames max h content
 
+-- the bytes of a send: its frames one after another, or the protocol header
 abbrev pub send_bytes : ℕ → Send → List ℕ
 send_bytes max (Greeting c) = eight_bytes
 send_bytes max (Command c h m content) = flat_map frame_bytes (frames_of max (Command c h m content))
@@ -48,6 +52,7 @@ abbrev pub receiver : Send → ℕ
 receiver (Greeting c) = c
 receiver (Command c h m content) = c
 
+-- those sends that are for connection c, in order
 abbrev pub sends_to : ℕ → List Send → List Send
 sends_to c sends = filter (λ s. receiver s == c) sends
 
@@ -56,6 +61,7 @@ pub record IsContent (c : Content) : Type 0 where
   pub properties : AreProperties c.properties
   pub size : length c.body < 2 ^ 64
 
+-- where there is a content, its header can be spelled
 abbrev pub HasContent : Option Content → Type 0
 HasContent None = Unit {0}
 HasContent (Some c) = IsContent c

@@ -32,6 +32,7 @@ use Rattle.model.specs.declared.events.Event.TheVariants.{Running, Command, TooL
 
 -- ---- refusals, in the order in which they are looked for
 
+-- what a command that is refused does
 pub data Refusal : Type 0 where
   -- nothing is done
   Ignored : Refusal
@@ -40,6 +41,7 @@ pub data Refusal : Type 0 where
   -- the connection is closed with this reply code
   Of_connection : (code : ℕ) → Refusal
 
+-- the exchange of this name, as the topology declares it
 abbrev pub exchange_named : List Exchange → Text → Option Exchange
 exchange_named xs name = find (λ (x : Exchange). bytes_eq x.name name) xs
 
@@ -57,6 +59,7 @@ refusal_to t (b ∷ bs) = refusal_at (exchange_named t.exchanges (b ∷ bs))
 abbrev pub greatest : ℕ
 greatest = 18446744073709551615
 
+-- the channel's last confirm number is the greatest, so that none is left; outside confirm mode none is needed
 abbrev pub is_spent : Option ℕ → Bool
 is_spent None = false
 is_spent (Some n) = n == greatest
@@ -106,6 +109,7 @@ abbrev pub refusal_on : Topology → Broker → Option Channel → Method → Op
 refusal_on t b None m = Some (Of_connection 504)
 refusal_on t b (Some ch) m = refusal_of t b ch m
 
+-- on channel 0 connection.close is taken; any other method is invalid there
 abbrev pub refusal_on_zero : Method → Option Refusal
 refusal_on_zero (ConnectionClose m) = None
 refusal_on_zero _ = Some (Of_connection 503)
@@ -116,6 +120,7 @@ refusal_while_closing (ChannelClose m) = None
 refusal_while_closing ChannelCloseOk = None
 refusal_while_closing _ = Some Ignored
 
+-- the channel was closed from here, and close-ok has not come
 abbrev pub is_awaiting : Option Channel → Bool
 is_awaiting None = false
 is_awaiting (Some ch) = ch.is_closing
@@ -131,9 +136,11 @@ refusal t b conn h m ch =
 
 -- ---- changes
 
+-- the channel h of connection c is this now, or is not open
 abbrev pub with_channel : Broker → ℕ → ℕ → Option Channel → Broker
 with_channel b c h ch = record b { channel = with_pair b.channel c h ch }
 
+-- the connection c and its channels are not there any more; entries that they held are still held
 abbrev pub without_connection : Broker → ℕ → Broker
 without_connection b c = record b { connection = with_one b.connection c None; channel = with_row b.channel c (λ h. None) }
 
@@ -141,12 +148,15 @@ without_connection b c = record b { connection = with_one b.connection c None; c
 abbrev pub freed : (Holder → Bool) → Entry → Entry
 freed mine e = elim e.mark [ Ready ↦ e | Held holder ↦ if mine holder then record e { message = record e.message { redelivered = true }; mark = Ready } else e ]
 
+-- every entry that these held is ready again, in its place in its queue
 abbrev pub with_freed : Broker → (Holder → Bool) → Broker
 with_freed b mine = record b { queue = λ q. map (freed mine) (b.queue q) }
 
+-- channel h of connection c holds it
 abbrev pub by_channel : ℕ → ℕ → Holder → Bool
 by_channel c h holder = (holder.connection == c) && (holder.channel == h)
 
+-- some channel of connection c holds it
 abbrev pub by_connection : ℕ → Holder → Bool
 by_connection c holder = holder.connection == c
 
@@ -167,17 +177,21 @@ pub record Is (made new : Broker) : Type 0 where
 
 -- ---- sends
 
+-- a method without a content, sent to connection c on channel h
 abbrev pub reply : ℕ → ℕ → Method → Send
 reply c h m = send.Command c h m None
 
+-- channel.close with this code, its text, and the ids of the method that caused it
 abbrev pub channel_close : ℕ → ℕ → ℕ → Ids → Send
 channel_close c h code cause = reply c h (ChannelClose (record { reply_code = code; reply_text = code_text code; class_id = cause.class; method_id = cause.method }))
 
+-- connection.close with this code, its text, and the ids of the method that caused it; 0 and 0 where none did
 abbrev pub connection_close : ℕ → ℕ → Ids → Send
 connection_close c code cause = reply c 0 (ConnectionClose (record { reply_code = code; reply_text = code_text code; class_id = cause.class; method_id = cause.method }))
 
 -- ---- a publish
 
+-- the message of publish n: the exchange and key that it was first sent to stay with it when it is dead-lettered
 abbrev pub message : ℕ → Publish → Content → Message
 message n p content = record { number = n; first_exchange = p.exchange; first_key = p.routing_key; exchange = p.exchange; key = p.routing_key; content = content; redelivered = false }
 
@@ -192,6 +206,7 @@ comes_to t entries m q (r ∷ rs) =
     if bytes_eq r q && not (is_full t entries r (length m.content.body)) then record { message = m; mark = Ready } ∷ comes_to t entries m q rs
     else comes_to t entries m q rs
 
+-- the publish is routed to no queue
 abbrev pub is_none : List Text → Bool
 is_none [] = true
 is_none (q ∷ qs) = false
@@ -200,6 +215,7 @@ is_none (q ∷ qs) = false
 abbrev pub returned_notes : ℕ → Bool → List Note
 returned_notes n is_returned = if is_returned then Returned n ∷ [] else []
 
+-- it goes back with its content to the channel that it came from, with the code 312 no-route
 abbrev pub returned_sends : ℕ → ℕ → Publish → Content → Bool → List Send
 returned_sends c h p content is_returned =
     if is_returned then send.Command c h (BasicReturn (record { reply_code = 312; reply_text = code_text 312; exchange = p.exchange; routing_key = p.routing_key })) (Some content) ∷ [] else []
@@ -208,22 +224,27 @@ returned_sends c h p content is_returned =
 abbrev pub answer_of : Bool → Answer
 answer_of some_full = if some_full then answer.Nack else answer.Ack
 
+-- ack or nack as a method, of number n alone and not of those before it
 abbrev pub confirm_method : Answer → ℕ → Method
 confirm_method answer.Ack n = BasicAck (record { delivery_tag = n; multiple = false })
 confirm_method answer.Nack n = BasicNack (record { delivery_tag = n; multiple = false; requeue = false })
 
+-- the confirm number that a publish gets, which counts up by one; none outside confirm mode
 abbrev pub next_of : Option ℕ → Option ℕ
 next_of None = None
 next_of (Some n) = Some (n + 1)
 
+-- in confirm mode the answer to publish n is noted
 abbrev pub confirm_notes : ℕ → Option ℕ → Answer → List Note
 confirm_notes n None a = []
 confirm_notes n (Some m) a = Confirmed n a ∷ []
 
+-- in confirm mode the answer is sent, with the confirm number
 abbrev pub confirm_sends : ℕ → ℕ → Option ℕ → Answer → List Send
 confirm_sends c h None a = []
 confirm_sends c h (Some m) a = reply c h (confirm_method a m) ∷ []
 
+-- the publish is counted, its message is last in each routed queue that was not full, and its confirm number is used
 abbrev pub after_publish : Topology → Broker → ℕ → ℕ → Channel → Publish → Content → List Text → Broker
 after_publish t b c h ch p content targets = record b {
   published = b.published + 1;
@@ -235,6 +256,7 @@ after_publish t b c h ch p content targets = record b {
 abbrev pub is_some_full : Topology → (Text → List Entry) → Content → List Text → Bool
 is_some_full t entries content targets = list_any (λ q. is_full t entries q (length content.body)) targets
 
+-- what is noted of each routed queue, in their order
 abbrev pub entry_notes : Topology → (Text → List Entry) → ℕ → ℕ → Way → List Text → List Note
 entry_notes t entries size n w targets = map (entry_note t entries size n w) targets
 
@@ -262,6 +284,7 @@ abbrev pub started : Option ℕ → Option ℕ
 started None = Some 0
 started (Some n) = Some n
 
+-- confirm.select is answered, unless its no-wait bit says not to
 abbrev pub select_sends : ℕ → ℕ → Bool → List Send
 select_sends c h no_wait = if no_wait then [] else reply c h ConfirmSelectOk ∷ []
 
@@ -294,10 +317,12 @@ Refuses old c h m Ignored sends notes new = Does sends notes new [] old
 Refuses old c h m (Of_channel code) sends notes new = Does sends notes new (channel_close c h code (ids_of m) ∷ []) (with_closing old c h)
 Refuses old c h m (Of_connection code) sends notes new = Does sends notes new (connection_close c code (ids_of m) ∷ []) (with_gone old c)
 
+-- the channel; where it is not open, as for what closes the connection, one with nothing on it
 abbrev pub channel_or_new : Option Channel → Channel
 channel_or_new None = new_channel
 channel_or_new (Some ch) = ch
 
+-- a command does what it asks for where nothing stands against it, and else what its refusal says
 abbrev pub Decides : Topology → Broker → ℕ → ℕ → Method → Option Content → Option Refusal → List Send → List Note → Broker → Type 0
 Decides t old c h m content None sends notes new = Performs t old c h (channel_or_new (old.channel c h)) m content sends notes new
 Decides t old c h m content (Some r) sends notes new = Refuses old c h m r sends notes new
@@ -337,9 +362,11 @@ OnLarge old c h sends notes new (Some conn) = Refuses old c h empty_publish (ref
 abbrev pub channels_up_to : ℕ → ℕ → Option Channel
 channels_up_to k h = if nat_le 1 h && nat_le h k then Some new_channel else None
 
+-- connection c runs, with this channel-max, and its channels 1 to k are open
 abbrev pub opened : Broker → ℕ → ℕ → ℕ → Broker
 opened b c max k = record b { connection = with_one b.connection c (Some (record { channel_max = max; is_paused = false })); channel = with_row b.channel c (channels_up_to k) }
 
+-- the connection is paused, or is not; without one there is nothing to change
 abbrev pub paused : Bool → Option Connection → Option Connection
 paused is None = None
 paused is (Some conn) = Some (record conn { is_paused = is })

@@ -98,10 +98,12 @@ abbrev mutual
   IsValue depth (Byte_array t) = length t < 2 ^ 32
   IsValue depth Void = Unit {0}
 
+  -- the same of each value of an array
   pub AreValues : ℕ → Values → Type 0
   AreValues depth no_values = Unit {0}
   AreValues depth (value v vs) = IsValue depth v × AreValues depth vs
 
+  -- and of each value of a table, whose names have their length in one byte
   pub ArePairs : ℕ → Pairs → Type 0
   ArePairs depth no_pairs = Unit {0}
   ArePairs depth (pair name v ps) = (length name < 256) × IsValue depth v × ArePairs depth ps

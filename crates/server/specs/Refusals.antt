@@ -7,6 +7,7 @@ use Rattle.server.specs.declared.refusals.Refusal.TheVariants.{Refused, TooLong,
 use Rattle.server.specs.declared.storage.Unread.{Unread as Why}
 use Rattle.server.specs.declared.storage.Unread.TheVariants as why
 
+-- a file that could not be read, is too long, or wants more memory than there is
 abbrev pub of_file : Why → Refusal
 of_file why.Failed = Unread
 of_file why.TooLong = TooLong

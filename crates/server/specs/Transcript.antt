@@ -31,14 +31,17 @@ abbrev pub confirm_word : Option ℕ → Text
 confirm_word None = codes "-"
 confirm_word (Some n) = decimal n
 
+-- how a publish was confirmed
 abbrev pub answer_word : Answer → Text
 answer_word Ack = codes "ack"
 answer_word Nack = codes "nack"
 
+-- how a message came into a queue
 abbrev pub way_word : Way → Text
 way_word Publish = codes "publish"
 way_word Dead = codes "dead"
 
+-- why a message left a queue
 abbrev pub cause_word : Cause → Text
 cause_word Acked = codes "acked"
 cause_word Auto = codes "auto"
@@ -81,6 +84,7 @@ abbrev pub shown_from : ℕ → List Shown → Text
 shown_from c [] = []
 shown_from c (s ∷ ss) = shown_lines c s ++ shown_from (c + 1) ss
 
+-- a line for each note
 abbrev pub note_lines : List Note → Text
 note_lines [] = []
 note_lines (n ∷ ns) = note_line n ++ note_lines ns

@@ -28,6 +28,7 @@ pub record IsShort (c d h : ℕ) (m : Method) (content : Option Content) : Type 
   pub none : content ≡ None
   pub size : length (method_bytes m) ≤ 4088
 
+-- it is a short method for connection c; the protocol header answers no event
 abbrev pub IsReply : ℕ → Send → Type 0
 IsReply c (Greeting d) = ⊥
 IsReply c (Command d h m content) = IsShort c d h m content
