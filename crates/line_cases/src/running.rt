@@ -10,7 +10,7 @@ use std::{fs, io};
 /// The answer to a line of this kind.
 fn answer(rt: &HostRuntime, kind: &str, asked: &str) -> Result<String, Unanswered> {
     match kind {
-        "pattern" | "match" | "places" => routing::of_patterns(rt, kind, asked),
+        "pattern" | "match" | "places" | "words" => routing::of_patterns(rt, kind, asked),
         "definitions"
         | "definitions-hex"
         | "counts"

@@ -3,12 +3,6 @@
 #![tactic(auto)]
 
 #[cfg(test)]
-mod admitting;
-#[cfg(test)]
-mod calls;
-#[cfg(test)]
 mod engines;
 #[cfg(test)]
 mod streams;
-#[cfg(test)]
-mod topologies;

@@ -5,7 +5,7 @@ use crate::routing::words::words_of;
 use crate::unanswered::Unanswered;
 use crate::words::{word, yes_or_no};
 use std::alloc::Global;
-use topic_match::{Bad, Matcher, Pattern, Plain, covers_key};
+use topic_match::{Bad, Matcher, Pattern, Plain, covers_key, split};
 
 /// Whether a text is a pattern.
 fn pattern(alloc: Global, words: &[&str]) -> Result<String, Unanswered> {
@@ -28,6 +28,18 @@ fn matched(alloc: Global, words: &[&str]) -> Result<String, Unanswered> {
         }
         _ => Err(Unanswered::Form),
     }
+}
+
+/// The words of a key, each in quotes.
+fn words_of_key(alloc: Global, words: &[&str]) -> Result<String, Unanswered> {
+    let (key, _) = words.split_first().ok_or(Unanswered::Form)?;
+    let mut out = String::new(alloc);
+    for word in split(alloc, key.as_bytes())? {
+        let word = String::from_utf8_lossy(alloc, word.as_bytes())?;
+        let quoted = format!(in alloc; "\"{word}\"")?;
+        put_word(&mut out, quoted.as_str())?;
+    }
+    or_none(alloc, out)
 }
 
 /// A matcher of these patterns.
@@ -61,6 +73,7 @@ pub fn answer(alloc: Global, kind: &str, asked: &str) -> Result<String, Unanswer
         "pattern" => pattern(alloc, words.as_slice()),
         "match" => matched(alloc, words.as_slice()),
         "places" => places(alloc, words.as_slice()),
+        "words" => words_of_key(alloc, words.as_slice()),
         _ => Err(Unanswered::Form),
     }
 }
