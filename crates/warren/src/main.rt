@@ -1,6 +1,8 @@
 //! The program `warren`: its words, its files and its printing are those of the process.
 #![tactic(auto)]
 
+ghost use Rattle.std.specs.Prelude.{◌≤◌, length, IfOk};
+
 use server::{Files, Unread, Unwritten, program};
 use std::alloc::Global;
 use std::io::{Read, Write};
@@ -41,7 +43,9 @@ fn front_of_named(rt: &HostRuntime, alloc: Global, name: &str) -> io::Result<Vec
 }
 
 /// The bytes, unless they are too many.
-fn within_limit(bytes: Vec<u8>) -> Result<Vec<u8>, Unread> {
+fn within_limit(bytes: Vec<u8>) -> Result<Vec<u8>, Unread>
+    ensures { IfOk result (λ kept. length kept.items ≤ 16777216) }
+{
     if bytes.len() as u64 > LIMIT {
         Err(Unread::TooLong)
     } else {
