@@ -3,6 +3,8 @@
 #![tactic(auto)]
 
 #[cfg(test)]
+mod admitting;
+#[cfg(test)]
 mod engines;
 #[cfg(test)]
 mod streams;
