@@ -44,7 +44,6 @@ examples:
 	@cd crates/warren && rt run -- replay $(EXAMPLES)/shop/script --definitions $(EXAMPLES)/shop/definitions.json | diff $(EXAMPLES)/shop/output -
 
 bench:
-	@cd crates/publish_benchmarks && rt run -- all
 	@cd crates/benchmarks && rt run -- all
 
 install: run

@@ -19,16 +19,39 @@ use std::process::ExitCode;
 use std::{env, io};
 use trials::tried;
 
-/// Runs a case, prints how many rows it has, and gives their number, or none where one differs.
-fn ran(folder: Folder<'_>, name: &str) -> io::Result<Option<u64>> {
-    match tried(folder, name) {
-        Ok(Some(rows)) => {
-            println!(folder.rt; "{name}: {rows} ok")?;
-            Ok(Some(rows))
+/// How many cases and rows there were, and how many cases failed.
+#[derive(Clone, Copy, Drop)]
+struct Count {
+    cases: u64,
+    rows: u64,
+    failed: u64,
+}
+
+impl Count {
+    /// One case more, with so many rows, or none where it failed.
+    fn and(self, rows: Option<u64>) -> Count {
+        Count {
+            cases: self.cases.saturating_add(1),
+            rows: self.rows.saturating_add(rows.unwrap_or(0)),
+            failed: self.failed.saturating_add(u64::from(rows.is_none())),
         }
-        Ok(None) => {
-            println!(folder.rt; "{name}: failed")?;
-            Ok(None)
+    }
+}
+
+/// Prints that a case has so many rows, or none where it failed.
+fn tell(rt: &HostRuntime, name: &str, rows: Option<u64>) -> io::Result<()> {
+    match rows {
+        Some(rows) => println!(rt; "{name}: {rows} ok"),
+        None => println!(rt; "{name}: failed"),
+    }
+}
+
+/// Runs a case, prints how many rows it has, and gives their number, or none where one differs.
+fn run(folder: Folder<'_>, name: &str) -> io::Result<Option<u64>> {
+    match tried(folder, name) {
+        Ok(rows) => {
+            tell(folder.rt, name, rows)?;
+            Ok(rows)
         }
         Err(error) => {
             println!(folder.rt; "{name}: {error}")?;
@@ -37,18 +60,26 @@ fn ran(folder: Folder<'_>, name: &str) -> io::Result<Option<u64>> {
     }
 }
 
-/// Runs each case that standard input names, and tells whether there are some and none failed.
-fn all_pass(folder: Folder<'_>) -> io::Result<bool> {
-    let mut cases = 0u64;
-    let mut rows = 0u64;
-    let mut failed = 0u64;
+/// Runs each case that standard input names.
+fn run_all(folder: Folder<'_>) -> io::Result<Count> {
+    let mut count = Count {
+        cases: 0,
+        rows: 0,
+        failed: 0,
+    };
     for name in folder.rt.lines(folder.rt.alloc()) {
-        cases = cases.saturating_add(1);
-        match ran(folder, name?.as_str())? {
-            Some(more) => rows = rows.saturating_add(more),
-            None => failed = failed.saturating_add(1),
-        }
+        count = count.and(run(folder, name?.as_str())?);
     }
+    Ok(count)
+}
+
+/// Whether there are cases, and none failed.
+fn all_pass(folder: Folder<'_>) -> io::Result<bool> {
+    let Count {
+        cases,
+        rows,
+        failed,
+    } = run_all(folder)?;
     println!(folder.rt; "{cases} cases, {rows} rows, {failed} failed")?;
     Ok(cases > 0 && failed == 0)
 }

@@ -1,20 +1,15 @@
 //! Single calls of an engine.
 
-use crate::topologies::with_source;
 use certificate::admit;
 use engine::{Engine, Turn};
+use exchange_graph::Topology;
 use std::alloc::Global;
 
-/// An engine of the built-in topology.
+/// An engine over a topology without exchanges and queues.
 fn new_engine(alloc: Global) -> Option<Engine> {
-    let topology = match with_source(alloc, b"orders") {
-        Ok(Some(topology)) => topology,
-        _ => return None,
-    };
-    match admit(alloc, topology, Vec::new(alloc), &[]) {
-        Ok(checked) => Engine::new(alloc, checked, Vec::new(alloc)).ok(),
-        Err(_) => None,
-    }
+    let topology = Topology::build(alloc, Vec::new(alloc), Vec::new(alloc), Vec::new(alloc)).ok()?;
+    let checked = admit(alloc, topology, Vec::new(alloc), &[]).ok()?;
+    Engine::new(alloc, checked, Vec::new(alloc)).ok()
 }
 
 /// What a turn did.

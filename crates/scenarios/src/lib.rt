@@ -5,10 +5,6 @@
 #[cfg(test)]
 mod admitting;
 #[cfg(test)]
-mod calls;
-#[cfg(test)]
 mod engines;
 #[cfg(test)]
 mod streams;
-#[cfg(test)]
-mod topologies;

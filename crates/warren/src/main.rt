@@ -1,6 +1,8 @@
 //! The program `warren`: its words, its files and its printing are those of the process.
 #![tactic(auto)]
 
+ghost use Rattle.std.specs.Prelude.{◌≤◌, length, IfOk};
+
 use server::{Files, Unread, Unwritten, program};
 use std::alloc::Global;
 use std::io::{Read, Write};
@@ -24,24 +26,41 @@ fn unread(error: &io::Error) -> Unread {
     }
 }
 
+/// What stands in a file up to the limit, and one byte more where it goes on.
+fn front_of<R: Read + Drop>(alloc: Global, file: R) -> io::Result<Vec<u8>> {
+    let mut bytes = Vec::new(alloc);
+    file.take(LIMIT + 1).read_to_end(&mut bytes)?;
+    Ok(bytes)
+}
+
+/// What stands in the file of this name up to the limit, and one byte more where it goes on.
+fn front_of_named(rt: &HostRuntime, alloc: Global, name: &str) -> io::Result<Vec<u8>> {
+    if name == "/dev/stdin" {
+        front_of(alloc, rt.reader())
+    } else {
+        front_of(alloc, fs::open(rt, name)?)
+    }
+}
+
+/// The bytes, unless they are too many.
+fn within_limit(bytes: Vec<u8>) -> Result<Vec<u8>, Unread>
+    ensures { IfOk result (λ kept. length kept.items ≤ 16777216) }
+{
+    if bytes.len() as u64 > LIMIT {
+        Err(Unread::TooLong)
+    } else {
+        Ok(bytes)
+    }
+}
+
 impl Files for Disk<'_> {
     ghost use Rattle.server.specs.Files.{Unknown};
 
     ghost holds = { λ _ _. Unknown };
 
     fn read(&mut self, alloc: Global, name: &str) -> Result<Vec<u8>, Unread> {
-        let mut bytes = Vec::new(alloc);
-        let read = if name == "/dev/stdin" {
-            self.rt.reader().take(LIMIT + 1).read_to_end(&mut bytes)
-        } else {
-            match fs::open(self.rt, name) {
-                Ok(file) => file.take(LIMIT + 1).read_to_end(&mut bytes),
-                Err(error) => Err(error),
-            }
-        };
-        match read {
-            Ok(_) if bytes.len() as u64 > LIMIT => Err(Unread::TooLong),
-            Ok(_) => Ok(bytes),
+        match front_of_named(self.rt, alloc, name) {
+            Ok(bytes) => within_limit(bytes),
             Err(error) => Err(unread(&error)),
         }
     }
@@ -63,24 +82,27 @@ fn words(rt: &HostRuntime) -> io::Result<Vec<String>> {
     Ok(words)
 }
 
+/// Says why there are no words, and with which status the program ends.
+fn refuse<W: Write>(err: &mut W, error: &io::Error) -> u8 {
+    if error.kind() == io::ErrorKind::OutOfMemory {
+        let _ = writeln!(err, "warren: memory");
+        return 4;
+    }
+    let _ = writeln!(
+        err,
+        "error: invalid UTF-8 was detected in one or more arguments"
+    );
+    3
+}
+
 fn main(rt: HostRuntime) -> ExitCode {
     let mut out = io::writer(&rt);
     let error_stream = rt.stderr();
     let mut err = io::writer(&error_stream);
-    let words = match words(&rt) {
-        Ok(words) => words,
-        Err(error) => {
-            if error.kind() == io::ErrorKind::OutOfMemory {
-                let _ = writeln!(&mut err, "warren: memory");
-                return ExitCode::from(4);
-            }
-            let _ = writeln!(
-                &mut err,
-                "error: invalid UTF-8 was detected in one or more arguments"
-            );
-            return ExitCode::from(3);
-        }
-    };
     let mut files = Disk { rt: &rt };
-    ExitCode::from(program(rt.alloc(), words.as_slice(), &mut files, &mut out, &mut err))
+    let status = match words(&rt) {
+        Ok(words) => program(rt.alloc(), words.as_slice(), &mut files, &mut out, &mut err),
+        Err(error) => refuse(&mut err, &error),
+    };
+    ExitCode::from(status)
 }

@@ -1,0 +1,31 @@
+//! How long large definitions files take.
+
+use crate::files::{many_bindings, many_users, padded};
+use definitions::read_definitions;
+use std::alloc::Global;
+use std::io;
+use std::time::Instant;
+
+/// The cause by which the file is refused, 0 where it is taken.
+fn cause_of(alloc: Global, bytes: &[u8]) -> u8 {
+    match read_definitions(alloc, bytes) {
+        Ok(_) => 0,
+        Err(bad) => bad.number(),
+    }
+}
+
+/// Prints how long it takes to read or to refuse a file.
+fn measure(rt: &HostRuntime, name: &str, bytes: &[u8]) -> io::Result<()> {
+    let start = Instant::now(rt)?;
+    let cause = cause_of(rt.alloc(), bytes);
+    let milliseconds = start.elapsed(rt)?.as_millis();
+    let length = bytes.len();
+    println!(rt; "file of {length} bytes, {name}, cause {cause}: {milliseconds} milliseconds")
+}
+
+/// Prints how long the largest files take.
+pub fn measure_all(rt: &HostRuntime) -> io::Result<()> {
+    measure(rt, "padded", padded(rt.alloc())?.as_bytes())?;
+    measure(rt, "many bindings", many_bindings(rt.alloc())?.as_bytes())?;
+    measure(rt, "many users", many_users(rt.alloc())?.as_bytes())
+}

@@ -1,0 +1,129 @@
+//! What is measured.
+
+/// A topology. But for the last shape it has the exchange `x`, to which messages are sent.
+#[derive(Clone, Copy, Drop)]
+pub enum Shape {
+    /// A direct exchange, bound to one queue by each key.
+    Direct,
+    /// A fanout exchange bound to three queues.
+    Fanout,
+    /// A topic exchange with so many bindings, of which the last matches each key.
+    Topic(u32),
+    /// A direct exchange among so many others.
+    Exchanges(u32),
+    /// A direct exchange bound to one queue among so many.
+    Queues(u32),
+    /// 256 topic exchanges, so many of which lead on to the next, 256 queues, and as many bindings as there may be where
+    /// all lead on.
+    Linked(u32),
+}
+
+/// One load: so many publishes of one size.
+#[derive(Clone, Copy, Drop)]
+pub struct Load {
+    pub name: &'static str,
+    pub shape: Shape,
+    pub connections: u64,
+    pub publishes: u64,
+    /// Bytes of a body.
+    pub body: usize,
+    /// How many bytes are handed in at once.
+    pub piece: usize,
+    /// How the keys go.
+    pub keys: Keys,
+}
+
+/// How the routing keys of a load go.
+#[derive(Clone, Copy, PartialEq, Eq, Drop)]
+pub enum Keys {
+    /// One key comes again.
+    One,
+    /// No key comes again.
+    Fresh,
+}
+
+const WHOLE: usize = 16_777_216;
+
+/// A load of one connection and one key, whose windows are handed in whole.
+fn plain(name: &'static str, shape: Shape, publishes: u64, body: usize) -> Load {
+    Load {
+        name,
+        shape,
+        connections: 1,
+        publishes,
+        body,
+        piece: WHOLE,
+        keys: Keys::One,
+    }
+}
+
+/// A load by so many connections in turn.
+fn by(name: &'static str, connections: u64) -> Load {
+    Load {
+        name,
+        shape: Shape::Direct,
+        connections,
+        publishes: 100_000,
+        body: 12,
+        piece: WHOLE,
+        keys: Keys::One,
+    }
+}
+
+/// A load whose keys never come again.
+fn fresh(name: &'static str, shape: Shape, publishes: u64) -> Load {
+    Load {
+        name,
+        shape,
+        connections: 1,
+        publishes,
+        body: 12,
+        piece: WHOLE,
+        keys: Keys::Fresh,
+    }
+}
+
+/// A load handed in by pieces of so many bytes.
+fn pieces(name: &'static str, piece: usize, publishes: u64) -> Load {
+    Load {
+        name,
+        shape: Shape::Direct,
+        connections: 1,
+        publishes,
+        body: 12,
+        piece,
+        keys: Keys::One,
+    }
+}
+
+/// The load at this place, none past the last.
+pub fn load_at(place: u32) -> Option<Load> {
+    let load = match place {
+        0 => plain("direct, 12 bytes", Shape::Direct, 1_000_000, 12),
+        1 => plain("direct, 1,024 bytes", Shape::Direct, 100_000, 1_024),
+        2 => plain("fanout to 3, 12 bytes", Shape::Fanout, 100_000, 12),
+        3 => plain("fanout to 3, 1,024 bytes", Shape::Fanout, 100_000, 1_024),
+        4 => plain("topic with 1 binding", Shape::Topic(1), 100_000, 12),
+        5 => plain("topic with 100 bindings", Shape::Topic(100), 100_000, 12),
+        6 => plain(
+            "topic with 1,000 bindings",
+            Shape::Topic(1_000),
+            100_000,
+            12,
+        ),
+        7 => plain("among 256 exchanges", Shape::Exchanges(256), 100_000, 12),
+        8 => plain("among 256 queues", Shape::Queues(256), 100_000, 12),
+        9 => by("64 connections", 64),
+        10 => by("1,000 connections", 1_000),
+        11 => fresh("topic, fresh keys", Shape::Topic(1), 100_000),
+        12 => fresh(
+            "topic with 1,000 bindings, fresh keys",
+            Shape::Topic(1_000),
+            20_000,
+        ),
+        13 => pieces("pieces of 1 byte", 1, 20_000),
+        14 => pieces("pieces of 64 bytes", 64, 100_000),
+        _ => return None,
+    };
+    Some(load)
+}

@@ -1,0 +1,45 @@
+//! How long a route takes.
+
+use crate::loads::Shape;
+use crate::topologies::built;
+use exchange_graph::Topology;
+use std::io;
+use std::time::Instant;
+
+/// How often a route is taken.
+const ROUTES: u32 = 100;
+
+/// How many queues a key leads to, and 0 where memory is wanting.
+fn count_targets(rt: &HostRuntime, topology: &Topology, key: &[u8]) -> usize {
+    match topology.route(rt.alloc(), b"x0", key) {
+        Ok(targets) => targets.len(),
+        Err(_) => 0,
+    }
+}
+
+/// Prints how long a route takes on average.
+fn measure_route(rt: &HostRuntime, topology: &Topology, links: u32, key: &str) -> io::Result<()> {
+    let start = Instant::now(rt)?;
+    let mut most = 0;
+    for _ in 0..ROUTES {
+        most = most.max(count_targets(rt, topology, key.as_bytes()));
+    }
+    let microseconds = start.elapsed(rt)?.as_micros() / u128::from(ROUTES);
+    println!(rt; "route of {key} past {links} links to {most} queues: {microseconds} microseconds")
+}
+
+/// Prints how long two routes take where so many exchanges are linked.
+fn measure_linked(rt: &HostRuntime, links: u32) -> io::Result<()> {
+    if let Some(topology) = built(rt.alloc(), Shape::Linked(links))? {
+        measure_route(rt, &topology, links, "a.b.c.d.e")?;
+        measure_route(rt, &topology, links, "other")?;
+    }
+    Ok(())
+}
+
+/// Prints how long routes take past no exchange, past some, and past all.
+pub fn measure_all(rt: &HostRuntime) -> io::Result<()> {
+    measure_linked(rt, 0)?;
+    measure_linked(rt, 15)?;
+    measure_linked(rt, 255)
+}

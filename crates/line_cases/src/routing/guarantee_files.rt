@@ -1,0 +1,118 @@
+//! Lines about guarantees files over a topology.
+
+use crate::hex_words::bytes_of;
+use crate::routing::admission::{admitted, route_of_admitted};
+use crate::routing::files::{file_of, source_of};
+use crate::routing::names::{put_name, refused};
+use crate::routing::words::words_of;
+use crate::unanswered::Unanswered;
+use crate::words::yes_or_no;
+use definitions::read_definitions;
+use exchange_graph::Topology;
+use guarantees::{Guarantee, read_guarantees};
+use model::Mode;
+use std::alloc::Global;
+
+/// How many guarantees a file has, or why it is refused.
+fn guarantees(alloc: Global, topology: &Topology, bytes: &[u8]) -> Result<String, Unanswered> {
+    match read_guarantees(alloc, bytes, topology) {
+        Ok(read) => Ok(format!(in alloc; "read {}", read.len())?),
+        Err(bad) => refused(alloc, bad.number()),
+    }
+}
+
+/// The parts of a guarantee.
+fn parts(alloc: Global, guarantee: &Guarantee) -> Result<String, Unanswered> {
+    let mode = match guarantee.mode() {
+        Mode::Reaches => "reaches",
+        Mode::Never => "never",
+    };
+    let mut out = String::from_str(alloc, mode)?;
+    put_name(&mut out, alloc, guarantee.exchange())?;
+    put_name(&mut out, alloc, guarantee.pattern())?;
+    put_name(&mut out, alloc, guarantee.queue())?;
+    Ok(out)
+}
+
+/// Whether a guarantee, and so a clone of it, covers what is sent to an exchange under a key.
+fn covers(
+    alloc: Global,
+    guarantee: &Guarantee,
+    exchange: &str,
+    key: &str,
+) -> Result<String, Unanswered> {
+    let same = guarantee.clone()?;
+    let yes = same.covers(alloc, exchange.as_bytes(), key.as_bytes())?;
+    yes_or_no(alloc, yes)
+}
+
+/// The guarantee at a place.
+fn guarantee_at<'a>(guarantees: &'a [Guarantee], place: &str) -> Result<&'a Guarantee, Unanswered> {
+    let place = place.parse::<usize>().ok().ok_or(Unanswered::Form)?;
+    guarantees.get(place).ok_or(Unanswered::Form)
+}
+
+/// The answer to a line about guarantees that were read.
+fn of_read(
+    alloc: Global,
+    kind: &str,
+    topology: &Topology,
+    guarantees: Vec<Guarantee>,
+    words: &[&str],
+) -> Result<String, Unanswered> {
+    match words {
+        [place] if kind == "guarantee" => parts(alloc, guarantee_at(guarantees.as_slice(), place)?),
+        [place, exchange, key] if kind == "covers" => covers(
+            alloc,
+            guarantee_at(guarantees.as_slice(), place)?,
+            exchange,
+            key,
+        ),
+        [] if kind == "admit" => admitted(alloc, topology, guarantees),
+        [exchange, key] if kind == "admitted" => {
+            route_of_admitted(alloc, topology, guarantees, exchange, key)
+        }
+        _ => Err(Unanswered::Form),
+    }
+}
+
+/// The answer to a line about a file of guarantees.
+fn of_file(
+    rt: &HostRuntime,
+    kind: &str,
+    topology: &Topology,
+    asked: &str,
+) -> Result<String, Unanswered> {
+    let alloc = rt.alloc();
+    let (name, rest) = asked.split_once(' ').unwrap_or((asked, ""));
+    let file = file_of(rt, name)?;
+    let words = words_of(alloc, rest)?;
+    match read_guarantees(alloc, file.as_bytes(), topology) {
+        Ok(read) => of_read(alloc, kind, topology, read, words.as_slice()),
+        Err(_) => Err(Unanswered::File),
+    }
+}
+
+fn over(
+    rt: &HostRuntime,
+    kind: &str,
+    topology: &Topology,
+    asked: &str,
+) -> Result<String, Unanswered> {
+    let alloc = rt.alloc();
+    match kind {
+        "guarantees" => guarantees(alloc, topology, source_of(rt, asked)?.as_bytes()),
+        "guarantees-hex" => guarantees(alloc, topology, bytes_of(alloc, asked)?.as_slice()),
+        _ => of_file(rt, kind, topology, asked),
+    }
+}
+
+/// The answer to a line about guarantees, which names a definitions file first.
+pub fn answer(rt: &HostRuntime, kind: &str, asked: &str) -> Result<String, Unanswered> {
+    let (name, rest) = asked.split_once(' ').unwrap_or((asked, ""));
+    let file = file_of(rt, name)?;
+    match read_definitions(rt.alloc(), file.as_bytes()) {
+        Ok(read) => over(rt, kind, read.topology(), rest),
+        Err(_) => Err(Unanswered::File),
+    }
+}

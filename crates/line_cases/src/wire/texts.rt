@@ -1,0 +1,24 @@
+//! Answers as texts.
+
+use crate::unanswered::Unanswered;
+use crate::words::word;
+use std::alloc::Global;
+
+/// A reply code.
+pub fn code(alloc: Global, code: u16) -> Result<String, Unanswered> {
+    Ok(format!(in alloc; "{code}")?)
+}
+
+/// Bytes in hex.
+pub fn in_hex(alloc: Global, bytes: &[u8]) -> Result<String, Unanswered> {
+    Ok(hex::encode(alloc, bytes)?)
+}
+
+/// `read`, where the same bytes were written as were read, and else what was written.
+pub fn again(alloc: Global, read: &[u8], written: &[u8]) -> Result<String, Unanswered> {
+    if read == written {
+        word(alloc, "read")
+    } else {
+        in_hex(alloc, written)
+    }
+}
