@@ -52,6 +52,8 @@ fn leaf_behind(letter: u8, bytes: &[u8]) -> Option<(Leaf<'_>, &[u8])>
     }
 }
 
+// ---- what stands behind each letter
+
 fn truth_behind(bytes: &[u8]) -> Option<(Leaf<'_>, &[u8])>
     ensures { option_map (λ x. (seen x.0, x.1.now)) result ≡ behind 116 bytes.now }
 {
@@ -79,6 +81,7 @@ fn short_behind(bytes: &[u8]) -> Option<(Leaf<'_>, &[u8])>
     Some((Leaf::Short(number), rest))
 }
 
+/// `I` or `f`.
 fn long_behind(letter: u8, bytes: &[u8]) -> Option<(Leaf<'_>, &[u8])>
     requires { kinds_behind letter ≡ Some (a_long ∷ []) }
     ensures { option_map (λ x. (seen x.0, x.1.now)) result ≡ behind letter bytes.now }
@@ -93,6 +96,7 @@ fn long_behind(letter: u8, bytes: &[u8]) -> Option<(Leaf<'_>, &[u8])>
     Some((leaf, rest))
 }
 
+/// `l`, `d` or `T`.
 fn long_long_behind(letter: u8, bytes: &[u8]) -> Option<(Leaf<'_>, &[u8])>
     requires { kinds_behind letter ≡ Some (a_long_long ∷ []) }
     ensures { option_map (λ x. (seen x.0, x.1.now)) result ≡ behind letter bytes.now }
@@ -120,6 +124,7 @@ fn decimal_behind(bytes: &[u8]) -> Option<(Leaf<'_>, &[u8])>
     Some((Leaf::Decimal(scale, digits), rest))
 }
 
+/// `S`, `A`, `F` or `x`.
 fn text_behind(letter: u8, bytes: &[u8]) -> Option<(Leaf<'_>, &[u8])>
     requires { kinds_behind letter ≡ Some (a_long_text ∷ []) }
     ensures { option_map (λ x. (seen x.0, x.1.now)) result ≡ behind letter bytes.now }

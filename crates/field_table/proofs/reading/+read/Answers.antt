@@ -1,8 +1,7 @@
 -- What is left is values or pairs where the whole is, and the whole is what was read and what is left.
-use Rattle.std.proofs.Common.{◌≡◌, sym, Some, arith, rules}
+use Rattle.std.proofs.Common.{◌≡◌, sym, rules}
 use Rattle.std.proofs.lemmas.Result.{err_from_is_err_and}
 use Rattle.model.specs.Tables.{no_pairs, value, pair}
-use Rattle.field_table.specs.Leaves.{read_leaf, seen}
 use Rattle.field_table.specs.View.{field_view, entry_view, table_view, entries_view, pairs_then}
 use Rattle.field_table.specs.declared.fields.Field.{the_lemmas}
 use Rattle.field_table.specs.declared.fields.Table.{roll-Table}
