@@ -73,6 +73,13 @@ spelled_at xs h m p lt s all false e = subst IsSpelled (sym (get_or-set_other xs
 pub spelled_set : (xs : List Pending) (h : ℕ) (p : Pending) → h < length xs → IsSpelled p → AreSpelled xs → AreSpelled (set xs h p)
 spelled_set xs h p lt s all m = spelled_at xs h m p lt s all (m == h) refl
 
+pub spelled_there : (xs : List Pending) (h : ℕ) (was x : Pending) → h < length xs → was ≡ x → x ≡ get_or xs h x → AreSpelled xs → IsSpelled was
+spelled_there xs h was x lt e f all = subst IsSpelled (sym (e ∙ f ∙ get_or_default xs h x Nothing lt)) (all h)
+
+pub spelled_back : (xs : List Pending) (h : ℕ) (between now : Pending) → h < length xs → between ≡ Nothing → IsSpelled now → AreSpelled xs → AreSpelled (set (set xs h between) h now)
+spelled_back xs h between now lt e s all =
+    spelled_set (set xs h between) h now (omega (arith, length-set xs h between)) s (spelled_set xs h between lt (subst IsSpelled (sym e) tt) all)
+
 -- one content is taken out, a frame is taken for it, and what it has become is put back
 pub does_there : (E : Commands.Pending → Taken → Type 0) (xs : List Pending) (h : ℕ) (was x between now : Pending) (r : Result (Option Command) Fault)
     → h < length xs → was ≡ x → x ≡ get_or xs h x → Does (E (pending_of was)) (pending_of was) r (pending_of now)

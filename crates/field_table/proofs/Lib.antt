@@ -3,3 +3,4 @@ pub mod Letters
 pub mod Alone
 pub mod Firsts
 pub mod Views
+pub mod Puts

@@ -41,7 +41,9 @@ fn are_pairs(bytes: &[u8], depth: usize) -> bool
 fn pair_end(bytes: &[u8], depth: usize) -> Option<&[u8]>
     ensures { MatchOption result (HasNoPair depth bytes.now) (λ rest. (name : Text) × (v : Value) × IsFirstPair depth bytes.now name v rest.now) }
 {
-    let (_, rest) = short_text_at(bytes)?;
+    let Some((_, rest)) = short_text_at(bytes) else {
+        return None;
+    };
     value_end(rest, depth)
 }
 
@@ -65,7 +67,9 @@ fn are_values(bytes: &[u8], depth: usize) -> bool
 fn value_end(bytes: &[u8], depth: usize) -> Option<&[u8]>
     ensures { MatchOption result (HasNone depth bytes.now) (λ rest. (v : Value) × IsFirst depth bytes.now v rest.now) }
 {
-    let (leaf, rest) = leaf_at(bytes)?;
+    let Some((leaf, rest)) = leaf_at(bytes) else {
+        return None;
+    };
     if is_sound(leaf, depth) {
         Some(rest)
     } else {

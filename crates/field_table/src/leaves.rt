@@ -1,7 +1,8 @@
 //! Values of tables and arrays, whose own tables and arrays are still bytes.
 
-ghost use Rattle.std.specs.Prelude.{◌≡◌, option_map};
-ghost use Rattle.field_table.specs.Leaves.{seen, read_leaf, behind};
+ghost use Rattle.std.specs.Prelude.{◌≡◌, [], ◌∷◌, Some, option_map};
+ghost use Rattle.field_table.specs.Arguments.{a_long, a_long_long, a_long_text};
+ghost use Rattle.field_table.specs.Leaves.{seen, kinds_behind, read_leaf, behind};
 
 use crate::takes::{long_at, long_long_at, long_text_at, octet_at, one_bit_at, short_at};
 
@@ -28,7 +29,9 @@ pub enum Leaf<'a> {
 pub fn leaf_at(bytes: &[u8]) -> Option<(Leaf<'_>, &[u8])>
     ensures { option_map (λ x. (seen x.0, x.1.now)) result ≡ read_leaf bytes.now }
 {
-    let (letter, rest) = octet_at(bytes)?;
+    let Some((letter, rest)) = octet_at(bytes) else {
+        return None;
+    };
     leaf_behind(letter, rest)
 }
 
@@ -37,60 +40,103 @@ fn leaf_behind(letter: u8, bytes: &[u8]) -> Option<(Leaf<'_>, &[u8])>
     ensures { option_map (λ x. (seen x.0, x.1.now)) result ≡ behind letter bytes.now }
 {
     match letter {
-        b't' => {
-            let (truth, rest) = one_bit_at(bytes)?;
-            Some((Leaf::Truth(truth), rest))
-        }
-        b'b' => {
-            let (number, rest) = octet_at(bytes)?;
-            Some((Leaf::Byte(number), rest))
-        }
-        b's' => {
-            let (number, rest) = short_at(bytes)?;
-            Some((Leaf::Short(number), rest))
-        }
-        b'I' => {
-            let (number, rest) = long_at(bytes)?;
-            Some((Leaf::Long(number), rest))
-        }
-        b'l' => {
-            let (number, rest) = long_long_at(bytes)?;
-            Some((Leaf::LongLong(number), rest))
-        }
-        b'f' => {
-            let (number, rest) = long_at(bytes)?;
-            Some((Leaf::Float(number), rest))
-        }
-        b'd' => {
-            let (number, rest) = long_long_at(bytes)?;
-            Some((Leaf::Double(number), rest))
-        }
-        b'D' => {
-            let (scale, rest) = octet_at(bytes)?;
-            let (digits, rest) = long_at(rest)?;
-            Some((Leaf::Decimal(scale, digits), rest))
-        }
-        b'S' => {
-            let (text, rest) = long_text_at(bytes)?;
-            Some((Leaf::Text(text), rest))
-        }
-        b'A' => {
-            let (values, rest) = long_text_at(bytes)?;
-            Some((Leaf::Array(values), rest))
-        }
-        b'T' => {
-            let (number, rest) = long_long_at(bytes)?;
-            Some((Leaf::Timestamp(number), rest))
-        }
-        b'F' => {
-            let (pairs, rest) = long_text_at(bytes)?;
-            Some((Leaf::Table(pairs), rest))
-        }
-        b'x' => {
-            let (data, rest) = long_text_at(bytes)?;
-            Some((Leaf::Bytes(data), rest))
-        }
+        b't' => truth_behind(bytes),
+        b'b' => byte_behind(bytes),
+        b's' => short_behind(bytes),
+        b'I' | b'f' => long_behind(letter, bytes),
+        b'l' | b'd' | b'T' => long_long_behind(letter, bytes),
+        b'D' => decimal_behind(bytes),
+        b'S' | b'A' | b'F' | b'x' => text_behind(letter, bytes),
         b'V' => Some((Leaf::Void, bytes)),
         _ => None,
     }
+}
+
+// ---- what stands behind each letter
+
+fn truth_behind(bytes: &[u8]) -> Option<(Leaf<'_>, &[u8])>
+    ensures { option_map (λ x. (seen x.0, x.1.now)) result ≡ behind 116 bytes.now }
+{
+    let Some((truth, rest)) = one_bit_at(bytes) else {
+        return None;
+    };
+    Some((Leaf::Truth(truth), rest))
+}
+
+fn byte_behind(bytes: &[u8]) -> Option<(Leaf<'_>, &[u8])>
+    ensures { option_map (λ x. (seen x.0, x.1.now)) result ≡ behind 98 bytes.now }
+{
+    let Some((number, rest)) = octet_at(bytes) else {
+        return None;
+    };
+    Some((Leaf::Byte(number), rest))
+}
+
+fn short_behind(bytes: &[u8]) -> Option<(Leaf<'_>, &[u8])>
+    ensures { option_map (λ x. (seen x.0, x.1.now)) result ≡ behind 115 bytes.now }
+{
+    let Some((number, rest)) = short_at(bytes) else {
+        return None;
+    };
+    Some((Leaf::Short(number), rest))
+}
+
+/// `I` or `f`.
+fn long_behind(letter: u8, bytes: &[u8]) -> Option<(Leaf<'_>, &[u8])>
+    requires { kinds_behind letter ≡ Some (a_long ∷ []) }
+    ensures { option_map (λ x. (seen x.0, x.1.now)) result ≡ behind letter bytes.now }
+{
+    let Some((number, rest)) = long_at(bytes) else {
+        return None;
+    };
+    let leaf = match letter {
+        b'I' => Leaf::Long(number),
+        _ => Leaf::Float(number),
+    };
+    Some((leaf, rest))
+}
+
+/// `l`, `d` or `T`.
+fn long_long_behind(letter: u8, bytes: &[u8]) -> Option<(Leaf<'_>, &[u8])>
+    requires { kinds_behind letter ≡ Some (a_long_long ∷ []) }
+    ensures { option_map (λ x. (seen x.0, x.1.now)) result ≡ behind letter bytes.now }
+{
+    let Some((number, rest)) = long_long_at(bytes) else {
+        return None;
+    };
+    let leaf = match letter {
+        b'l' => Leaf::LongLong(number),
+        b'd' => Leaf::Double(number),
+        _ => Leaf::Timestamp(number),
+    };
+    Some((leaf, rest))
+}
+
+fn decimal_behind(bytes: &[u8]) -> Option<(Leaf<'_>, &[u8])>
+    ensures { option_map (λ x. (seen x.0, x.1.now)) result ≡ behind 68 bytes.now }
+{
+    let Some((scale, rest)) = octet_at(bytes) else {
+        return None;
+    };
+    let Some((digits, rest)) = long_at(rest) else {
+        return None;
+    };
+    Some((Leaf::Decimal(scale, digits), rest))
+}
+
+/// `S`, `A`, `F` or `x`.
+fn text_behind(letter: u8, bytes: &[u8]) -> Option<(Leaf<'_>, &[u8])>
+    requires { kinds_behind letter ≡ Some (a_long_text ∷ []) }
+    ensures { option_map (λ x. (seen x.0, x.1.now)) result ≡ behind letter bytes.now }
+{
+    let Some((body, rest)) = long_text_at(bytes) else {
+        return None;
+    };
+    let leaf = match letter {
+        b'S' => Leaf::Text(body),
+        b'A' => Leaf::Array(body),
+        b'F' => Leaf::Table(body),
+        _ => Leaf::Bytes(body),
+    };
+    Some((leaf, rest))
 }

@@ -50,10 +50,14 @@ fn table_in(alloc: Global, bytes: &[u8], depth: usize) -> Result<Table, Refusal>
 fn entry_at(alloc: Global, bytes: &[u8], depth: usize) -> Result<(Entry, &[u8]), Refusal>
     ensures { Answers result (λ x. IsFirstPair depth bytes.now x.0.name (field_view x.0.value) x.1.now) (HasNoPair depth bytes.now) }
 {
-    let (name, rest) = short_text_at(bytes).ok_or(Refusal::SyntaxError)?;
-    let (value, rest) = field_at(alloc, rest, depth)?;
+    let Some((name, rest)) = short_text_at(bytes) else {
+        return Err(Refusal::SyntaxError);
+    };
     let name = Text::from_slice(alloc, name)?;
-    Ok((Entry { name, value }, rest))
+    match field_at(alloc, rest, depth) {
+        Ok((value, rest)) => Ok((Entry { name, value }, rest)),
+        Err(why) => Err(why),
+    }
 }
 
 /// The values of an array, in which arrays and tables may stand `depth` levels deep.
@@ -76,9 +80,13 @@ fn values_in(alloc: Global, bytes: &[u8], depth: usize) -> Result<Vec<Field>, Re
 fn field_at(alloc: Global, bytes: &[u8], depth: usize) -> Result<(Field, &[u8]), Refusal>
     ensures { Answers result (λ x. IsFirst depth bytes.now (field_view x.0) x.1.now) (HasNone depth bytes.now) }
 {
-    let (leaf, rest) = leaf_at(bytes).ok_or(Refusal::SyntaxError)?;
-    let field = field_of(alloc, leaf, depth)?;
-    Ok((field, rest))
+    let Some((leaf, rest)) = leaf_at(bytes) else {
+        return Err(Refusal::SyntaxError);
+    };
+    match field_of(alloc, leaf, depth) {
+        Ok(field) => Ok((field, rest)),
+        Err(why) => Err(why),
+    }
 }
 
 /// The value itself, with what its array or table holds.

@@ -5,6 +5,7 @@ use Rattle.model.specs.Tables.{IsTable}
 use Rattle.model.specs.Grammar.{Argument, Short_text, Field_table}
 use Rattle.model.specs.Headers.{octet_of, time_of, properties_of}
 use Rattle.model.specs.declared.contents.Properties.{Properties}
+use Rattle.headers.specs.Writing.{front_of, back_of}
 use Rattle.headers.specs.declared.contents.Refusal.{Refusal}
 use Rattle.headers.specs.declared.contents.Refusal.TheVariants.{FrameError, SyntaxError, Memory}
 use Rattle.headers.specs.declared.optional.Front.{Front}
@@ -61,6 +62,15 @@ IsTableOr pairs (Err e) = NoTable (pairs_in pairs) e
 abbrev pub Copies : Front → Back → Result Properties Refusal → Type 0
 Copies front back (Ok p) = (properties_of p ≡ front_in front ++ back_in back) × AreWhole p.headers
 Copies front back (Err e) = NoTable (pairs_in front.headers) e
+
+-- the first seven are these, with a table that is one
+abbrev pub CopiesFront : Front → Properties → Result ⊤ Refusal → Type 0
+CopiesFront front p (Ok _) = (front_of p ≡ front_in front) × AreWhole p.headers
+CopiesFront front p (Err e) = NoTable (pairs_in front.headers) e
+
+-- the other seven are these, and the first are as they were
+abbrev pub CopiesBack : Back → Properties → Properties → Type 0
+CopiesBack back before after = (back_of after ≡ back_in back) × (front_of after ≡ front_of before) × (after.headers ≡ before.headers)
 
 -- the pairs of the headers among the properties, which stand third
 abbrev pub headers_in : List (Option Argument) → Option (List ℕ)

@@ -37,13 +37,27 @@ pub(crate) struct Back<'a> {
 pub(crate) fn front_at(flags: u16, bytes: &[u8]) -> Option<(Front<'_>, &[u8])>
     ensures { option_map (λ x. (front_in x.0, x.1.now)) result ≡ options_at flags front_rows bytes.now }
 {
-    let (content_type, rest) = text_at(has(flags, 15), bytes)?;
-    let (content_encoding, rest) = text_at(has(flags, 14), rest)?;
-    let (headers, rest) = table_at(has(flags, 13), rest)?;
-    let (delivery_mode, rest) = number_at(has(flags, 12), rest)?;
-    let (priority, rest) = number_at(has(flags, 11), rest)?;
-    let (correlation_id, rest) = text_at(has(flags, 10), rest)?;
-    let (reply_to, rest) = text_at(has(flags, 9), rest)?;
+    let Some((content_type, rest)) = text_at(has(flags, 15), bytes) else {
+        return None;
+    };
+    let Some((content_encoding, rest)) = text_at(has(flags, 14), rest) else {
+        return None;
+    };
+    let Some((headers, rest)) = table_at(has(flags, 13), rest) else {
+        return None;
+    };
+    let Some((delivery_mode, rest)) = number_at(has(flags, 12), rest) else {
+        return None;
+    };
+    let Some((priority, rest)) = number_at(has(flags, 11), rest) else {
+        return None;
+    };
+    let Some((correlation_id, rest)) = text_at(has(flags, 10), rest) else {
+        return None;
+    };
+    let Some((reply_to, rest)) = text_at(has(flags, 9), rest) else {
+        return None;
+    };
     let front = Front {
         content_type,
         content_encoding,
@@ -60,13 +74,27 @@ pub(crate) fn front_at(flags: u16, bytes: &[u8]) -> Option<(Front<'_>, &[u8])>
 pub(crate) fn back_at(flags: u16, bytes: &[u8]) -> Option<(Back<'_>, &[u8])>
     ensures { option_map (λ x. (back_in x.0, x.1.now)) result ≡ options_at flags back_rows bytes.now }
 {
-    let (expiration, rest) = text_at(has(flags, 8), bytes)?;
-    let (message_id, rest) = text_at(has(flags, 7), rest)?;
-    let (timestamp, rest) = time_at(has(flags, 6), rest)?;
-    let (kind, rest) = text_at(has(flags, 5), rest)?;
-    let (user_id, rest) = text_at(has(flags, 4), rest)?;
-    let (app_id, rest) = text_at(has(flags, 3), rest)?;
-    let (reserved, rest) = text_at(has(flags, 2), rest)?;
+    let Some((expiration, rest)) = text_at(has(flags, 8), bytes) else {
+        return None;
+    };
+    let Some((message_id, rest)) = text_at(has(flags, 7), rest) else {
+        return None;
+    };
+    let Some((timestamp, rest)) = time_at(has(flags, 6), rest) else {
+        return None;
+    };
+    let Some((kind, rest)) = text_at(has(flags, 5), rest) else {
+        return None;
+    };
+    let Some((user_id, rest)) = text_at(has(flags, 4), rest) else {
+        return None;
+    };
+    let Some((app_id, rest)) = text_at(has(flags, 3), rest) else {
+        return None;
+    };
+    let Some((reserved, rest)) = text_at(has(flags, 2), rest) else {
+        return None;
+    };
     let back = Back {
         expiration,
         message_id,
@@ -93,7 +121,9 @@ fn text_at(is: bool, bytes: &[u8]) -> Option<(Option<&[u8]>, &[u8])>
     if !is {
         return Some((None, bytes));
     }
-    let (text, rest) = short_text_at(bytes)?;
+    let Some((text, rest)) = short_text_at(bytes) else {
+        return None;
+    };
     Some((Some(text), rest))
 }
 
@@ -103,7 +133,9 @@ fn table_at(is: bool, bytes: &[u8]) -> Option<(Option<&[u8]>, &[u8])>
     if !is {
         return Some((None, bytes));
     }
-    let (pairs, rest) = pairs_at(bytes)?;
+    let Some((pairs, rest)) = pairs_at(bytes) else {
+        return None;
+    };
     Some((Some(pairs), rest))
 }
 
@@ -113,7 +145,9 @@ fn number_at(is: bool, bytes: &[u8]) -> Option<(Option<u8>, &[u8])>
     if !is {
         return Some((None, bytes));
     }
-    let (number, rest) = octet_at(bytes)?;
+    let Some((number, rest)) = octet_at(bytes) else {
+        return None;
+    };
     Some((Some(number), rest))
 }
 
@@ -123,6 +157,8 @@ fn time_at(is: bool, bytes: &[u8]) -> Option<(Option<u64>, &[u8])>
     if !is {
         return Some((None, bytes));
     }
-    let (time, rest) = long_long_at(bytes)?;
+    let Some((time, rest)) = long_long_at(bytes) else {
+        return None;
+    };
     Some((Some(time), rest))
 }

@@ -3,7 +3,7 @@
 ghost use Rattle.std.specs.Prelude.{◌≡◌, IfOk};
 ghost use Rattle.model.specs.Headers.{text_of, properties_of};
 ghost use Rattle.headers.specs.Properties.{properties_at};
-ghost use Rattle.headers.specs.Unread.{text_in, front_in, back_in, Gives, Copies, IsTableOr};
+ghost use Rattle.headers.specs.Unread.{text_in, front_in, back_in, Gives, Copies, CopiesFront, CopiesBack, IsTableOr};
 
 use crate::contents::Refusal;
 use crate::optional::{Back, Front, back_at, front_at};
@@ -18,8 +18,12 @@ pub(crate) fn properties_in(alloc: Global, flags: u16, bytes: &[u8]) -> Result<P
     if flags % 4 != 0 {
         return Err(Refusal::SyntaxError);
     }
-    let (front, rest) = front_at(flags, bytes).ok_or(Refusal::SyntaxError)?;
-    let (back, rest) = back_at(flags, rest).ok_or(Refusal::SyntaxError)?;
+    let Some((front, rest)) = front_at(flags, bytes) else {
+        return Err(Refusal::SyntaxError);
+    };
+    let Some((back, rest)) = back_at(flags, rest) else {
+        return Err(Refusal::SyntaxError);
+    };
     if !rest.is_empty() {
         return Err(Refusal::SyntaxError);
     }
@@ -30,22 +34,38 @@ pub(crate) fn properties_in(alloc: Global, flags: u16, bytes: &[u8]) -> Result<P
 fn copied(alloc: Global, front: Front<'_>, back: Back<'_>) -> Result<Properties, Refusal>
     ensures { Copies front.entry back.entry result }
 {
-    Ok(Properties {
-        content_type: text(alloc, front.content_type)?,
-        content_encoding: text(alloc, front.content_encoding)?,
-        headers: table(alloc, front.headers)?,
-        delivery_mode: front.delivery_mode,
-        priority: front.priority,
-        correlation_id: text(alloc, front.correlation_id)?,
-        reply_to: text(alloc, front.reply_to)?,
-        expiration: text(alloc, back.expiration)?,
-        message_id: text(alloc, back.message_id)?,
-        timestamp: back.timestamp,
-        kind: text(alloc, back.kind)?,
-        user_id: text(alloc, back.user_id)?,
-        app_id: text(alloc, back.app_id)?,
-        reserved: text(alloc, back.reserved)?,
-    })
+    let mut properties = Properties::none();
+    copy_front(alloc, &mut properties, &front)?;
+    copy_back(alloc, &mut properties, &back)?;
+    Ok(properties)
+}
+
+/// Copies the first seven properties.
+fn copy_front(alloc: Global, properties: &mut Properties, front: &Front<'_>) -> Result<(), Refusal>
+    ensures { CopiesFront front.now properties.new result }
+{
+    properties.content_type = text(alloc, front.content_type)?;
+    properties.content_encoding = text(alloc, front.content_encoding)?;
+    properties.headers = table(alloc, front.headers)?;
+    properties.delivery_mode = front.delivery_mode;
+    properties.priority = front.priority;
+    properties.correlation_id = text(alloc, front.correlation_id)?;
+    properties.reply_to = text(alloc, front.reply_to)?;
+    Ok(())
+}
+
+/// Copies the other seven, and leaves the first as they are.
+fn copy_back(alloc: Global, properties: &mut Properties, back: &Back<'_>) -> Result<(), AllocError>
+    ensures { IfOk result (λ _. CopiesBack back.now properties.old properties.new) }
+{
+    properties.expiration = text(alloc, back.expiration)?;
+    properties.message_id = text(alloc, back.message_id)?;
+    properties.timestamp = back.timestamp;
+    properties.kind = text(alloc, back.kind)?;
+    properties.user_id = text(alloc, back.user_id)?;
+    properties.app_id = text(alloc, back.app_id)?;
+    properties.reserved = text(alloc, back.reserved)?;
+    Ok(())
 }
 
 /// A copy of the text, if there is one.
@@ -54,7 +74,10 @@ fn text(alloc: Global, bytes: Option<&[u8]>) -> Result<Option<Text>, AllocError>
 {
     match bytes {
         None => Ok(None),
-        Some(bytes) => Ok(Some(Text::from_slice(alloc, bytes)?)),
+        Some(bytes) => match Text::from_slice(alloc, bytes) {
+            Ok(text) => Ok(Some(text)),
+            Err(error) => Err(error),
+        },
     }
 }
 
@@ -68,7 +91,10 @@ fn table(alloc: Global, pairs: Option<&[u8]>) -> Result<Option<Table>, Refusal>
             if !is_table(pairs) {
                 return Err(Refusal::SyntaxError);
             }
-            Ok(Some(Table::from_pairs(Text::from_slice(alloc, pairs)?)))
+            match Text::from_slice(alloc, pairs) {
+                Ok(pairs) => Ok(Some(Table::from_pairs(pairs))),
+                Err(_) => Err(Refusal::Memory),
+            }
         }
     }
 }

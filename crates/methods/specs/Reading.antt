@@ -85,11 +85,6 @@ pub record AreRead (ks : List Kind) (p : Pieces) (read : Option (List Argument))
   pub kinds : AreOf ks p
   pub all : read ≡ Some (given p)
 
--- pieces of these kinds, or no arguments of these kinds are there
-abbrev pub GivesPieces : List Kind → Result Pieces Refusal → Option (List Argument) → Type 0
-GivesPieces ks (Ok p) read = AreRead ks p read
-GivesPieces ks (Err e) read = (e ≡ SyntaxError) × (read ≡ None)
-
 -- the pairs are no table, or memory was refused
 abbrev pub NoTable : List ℕ → Refusal → Type 0
 NoTable pairs FrameError = ⊥

@@ -9,7 +9,7 @@ ghost use Rattle.methods.specs.Reading.{Gives};
 
 use crate::pieces::Kind;
 use crate::refusals::Refusal;
-use crate::taking::read;
+use crate::taking::pieces_at;
 use model::{
     Ack, Cancel, Close, Consume, Deliver, Get, GetOk, Nack, Open, Publish, Purge, Qos,
     QueueDeclared, Reject, Return, Start, StartOk, Text, Tuning,
@@ -99,32 +99,59 @@ const TAG_AND_TWO_BITS: [Kind; 2] = [Kind::LongLong, Kind::TwoBits];
 pub(crate) fn start_in(alloc: Global, bytes: &[u8]) -> Result<Start, Refusal>
     ensures { Gives (λ x. arguments (ConnectionStart x)) result (arguments_at start_kinds bytes.now) }
 {
-    let pieces = read(&START, bytes)?;
-    Ok(Start {
-        version_major: pieces.first.octet(),
-        version_minor: pieces.second.octet(),
-        server_properties: pieces.third.table(alloc)?,
-        mechanisms: pieces.fourth.long_text(alloc)?,
-        locales: pieces.fifth.long_text(alloc)?,
-    })
+    let Some(pieces) = pieces_at(&START, bytes) else {
+        return Err(Refusal::SyntaxError);
+    };
+    let Ok(mechanisms) = pieces.fourth.long_text(alloc) else {
+        return Err(Refusal::Memory);
+    };
+    let Ok(locales) = pieces.fifth.long_text(alloc) else {
+        return Err(Refusal::Memory);
+    };
+    match pieces.third.table(alloc) {
+        Ok(server_properties) => Ok(Start {
+            version_major: pieces.first.octet(),
+            version_minor: pieces.second.octet(),
+            server_properties,
+            mechanisms,
+            locales,
+        }),
+        Err(why) => Err(why),
+    }
 }
 
 pub(crate) fn start_ok_in(alloc: Global, bytes: &[u8]) -> Result<StartOk, Refusal>
     ensures { Gives (λ x. arguments (ConnectionStartOk x)) result (arguments_at start_ok_kinds bytes.now) }
 {
-    let pieces = read(&START_OK, bytes)?;
-    Ok(StartOk {
-        client_properties: pieces.first.table(alloc)?,
-        mechanism: pieces.second.short_text(alloc)?,
-        response: pieces.third.long_text(alloc)?,
-        locale: pieces.fourth.short_text(alloc)?,
-    })
+    let Some(pieces) = pieces_at(&START_OK, bytes) else {
+        return Err(Refusal::SyntaxError);
+    };
+    let Ok(mechanism) = pieces.second.short_text(alloc) else {
+        return Err(Refusal::Memory);
+    };
+    let Ok(response) = pieces.third.long_text(alloc) else {
+        return Err(Refusal::Memory);
+    };
+    let Ok(locale) = pieces.fourth.short_text(alloc) else {
+        return Err(Refusal::Memory);
+    };
+    match pieces.first.table(alloc) {
+        Ok(client_properties) => Ok(StartOk {
+            client_properties,
+            mechanism,
+            response,
+            locale,
+        }),
+        Err(why) => Err(why),
+    }
 }
 
 pub(crate) fn tuning_in(bytes: &[u8]) -> Result<Tuning, Refusal>
     ensures { Gives (λ x. arguments (ConnectionTune x)) result (arguments_at tuning_kinds bytes.now) }
 {
-    let pieces = read(&TUNING, bytes)?;
+    let Some(pieces) = pieces_at(&TUNING, bytes) else {
+        return Err(Refusal::SyntaxError);
+    };
     Ok(Tuning {
         channel_max: pieces.first.short(),
         frame_max: pieces.second.long(),
@@ -135,10 +162,18 @@ pub(crate) fn tuning_in(bytes: &[u8]) -> Result<Tuning, Refusal>
 pub(crate) fn open_in(alloc: Global, bytes: &[u8]) -> Result<Open, Refusal>
     ensures { Gives (λ x. arguments (ConnectionOpen x)) result (arguments_at open_kinds bytes.now) }
 {
-    let pieces = read(&OPEN, bytes)?;
+    let Some(pieces) = pieces_at(&OPEN, bytes) else {
+        return Err(Refusal::SyntaxError);
+    };
+    let Ok(virtual_host) = pieces.first.short_text(alloc) else {
+        return Err(Refusal::Memory);
+    };
+    let Ok(reserved_text) = pieces.second.short_text(alloc) else {
+        return Err(Refusal::Memory);
+    };
     Ok(Open {
-        virtual_host: pieces.first.short_text(alloc)?,
-        reserved_text: pieces.second.short_text(alloc)?,
+        virtual_host,
+        reserved_text,
         reserved_bit: pieces.third.bit(),
     })
 }
@@ -146,10 +181,15 @@ pub(crate) fn open_in(alloc: Global, bytes: &[u8]) -> Result<Open, Refusal>
 pub(crate) fn close_in(alloc: Global, bytes: &[u8]) -> Result<Close, Refusal>
     ensures { Gives (λ x. arguments (ConnectionClose x)) result (arguments_at close_kinds bytes.now) }
 {
-    let pieces = read(&CLOSE, bytes)?;
+    let Some(pieces) = pieces_at(&CLOSE, bytes) else {
+        return Err(Refusal::SyntaxError);
+    };
+    let Ok(reply_text) = pieces.second.short_text(alloc) else {
+        return Err(Refusal::Memory);
+    };
     Ok(Close {
         reply_code: pieces.first.short(),
-        reply_text: pieces.second.short_text(alloc)?,
+        reply_text,
         class_id: pieces.third.short(),
         method_id: pieces.fourth.short(),
     })
@@ -161,44 +201,68 @@ pub(crate) fn exchange_declare_in(
 ) -> Result<model::ExchangeDeclare, Refusal>
     ensures { Gives (λ x. arguments (ExchangeDeclare x)) result (arguments_at declare_exchange_kinds bytes.now) }
 {
-    let pieces = read(&DECLARE_EXCHANGE, bytes)?;
-    let [passive, durable, auto_delete, internal, no_wait] = pieces.fourth.five_bits();
-    Ok(model::ExchangeDeclare {
-        reserved: pieces.first.short(),
-        exchange: pieces.second.short_text(alloc)?,
-        kind: pieces.third.short_text(alloc)?,
-        passive,
-        durable,
-        auto_delete,
-        internal,
-        no_wait,
-        arguments: pieces.fifth.table(alloc)?,
-    })
+    let Some(pieces) = pieces_at(&DECLARE_EXCHANGE, bytes) else {
+        return Err(Refusal::SyntaxError);
+    };
+    let Ok(exchange) = pieces.second.short_text(alloc) else {
+        return Err(Refusal::Memory);
+    };
+    let Ok(kind) = pieces.third.short_text(alloc) else {
+        return Err(Refusal::Memory);
+    };
+    let (passive, durable, auto_delete, internal, no_wait) = pieces.fourth.five_bits();
+    match pieces.fifth.table(alloc) {
+        Ok(arguments) => Ok(model::ExchangeDeclare {
+            reserved: pieces.first.short(),
+            exchange,
+            kind,
+            passive,
+            durable,
+            auto_delete,
+            internal,
+            no_wait,
+            arguments,
+        }),
+        Err(why) => Err(why),
+    }
 }
 
 pub(crate) fn queue_declare_in(alloc: Global, bytes: &[u8]) -> Result<model::QueueDeclare, Refusal>
     ensures { Gives (λ x. arguments (QueueDeclare x)) result (arguments_at declare_queue_kinds bytes.now) }
 {
-    let pieces = read(&DECLARE_QUEUE, bytes)?;
-    let [passive, durable, exclusive, auto_delete, no_wait] = pieces.third.five_bits();
-    Ok(model::QueueDeclare {
-        reserved: pieces.first.short(),
-        queue: pieces.second.short_text(alloc)?,
-        passive,
-        durable,
-        exclusive,
-        auto_delete,
-        no_wait,
-        arguments: pieces.fourth.table(alloc)?,
-    })
+    let Some(pieces) = pieces_at(&DECLARE_QUEUE, bytes) else {
+        return Err(Refusal::SyntaxError);
+    };
+    let (passive, durable, exclusive, auto_delete, no_wait) = pieces.third.five_bits();
+    let Ok(queue) = pieces.second.short_text(alloc) else {
+        return Err(Refusal::Memory);
+    };
+    match pieces.fourth.table(alloc) {
+        Ok(arguments) => Ok(model::QueueDeclare {
+            reserved: pieces.first.short(),
+            queue,
+            passive,
+            durable,
+            exclusive,
+            auto_delete,
+            no_wait,
+            arguments,
+        }),
+        Err(why) => Err(why),
+    }
 }
 
 pub(crate) fn queue_declared_in(alloc: Global, bytes: &[u8]) -> Result<QueueDeclared, Refusal>
     ensures { Gives (λ x. arguments (QueueDeclareOk x)) result (arguments_at declared_kinds bytes.now) }
 {
-    let pieces = read(&DECLARED, bytes)?;
+    let Some(pieces) = pieces_at(&DECLARED, bytes) else {
+        return Err(Refusal::SyntaxError);
+    };
+    let Ok(queue) = pieces.first.short_text(alloc) else {
+        return Err(Refusal::Memory);
+    };
     Ok(QueueDeclared {
-        queue: pieces.first.short_text(alloc)?,
+        queue,
         message_count: pieces.second.long(),
         consumer_count: pieces.third.long(),
     })
@@ -207,10 +271,15 @@ pub(crate) fn queue_declared_in(alloc: Global, bytes: &[u8]) -> Result<QueueDecl
 pub(crate) fn purge_in(alloc: Global, bytes: &[u8]) -> Result<Purge, Refusal>
     ensures { Gives (λ x. arguments (QueuePurge x)) result (arguments_at queue_kinds bytes.now) }
 {
-    let pieces = read(&QUEUE, bytes)?;
+    let Some(pieces) = pieces_at(&QUEUE, bytes) else {
+        return Err(Refusal::SyntaxError);
+    };
+    let Ok(queue) = pieces.second.short_text(alloc) else {
+        return Err(Refusal::Memory);
+    };
     Ok(Purge {
         reserved: pieces.first.short(),
-        queue: pieces.second.short_text(alloc)?,
+        queue,
         no_wait: pieces.third.bit(),
     })
 }
@@ -218,7 +287,9 @@ pub(crate) fn purge_in(alloc: Global, bytes: &[u8]) -> Result<Purge, Refusal>
 pub(crate) fn qos_in(bytes: &[u8]) -> Result<Qos, Refusal>
     ensures { Gives (λ x. arguments (BasicQos x)) result (arguments_at qos_kinds bytes.now) }
 {
-    let pieces = read(&QOS, bytes)?;
+    let Some(pieces) = pieces_at(&QOS, bytes) else {
+        return Err(Refusal::SyntaxError);
+    };
     Ok(Qos {
         prefetch_size: pieces.first.long(),
         prefetch_count: pieces.second.short(),
@@ -229,26 +300,42 @@ pub(crate) fn qos_in(bytes: &[u8]) -> Result<Qos, Refusal>
 pub(crate) fn consume_in(alloc: Global, bytes: &[u8]) -> Result<Consume, Refusal>
     ensures { Gives (λ x. arguments (BasicConsume x)) result (arguments_at consume_kinds bytes.now) }
 {
-    let pieces = read(&CONSUME, bytes)?;
-    let [no_local, no_ack, exclusive, no_wait] = pieces.fourth.four_bits();
-    Ok(Consume {
-        reserved: pieces.first.short(),
-        queue: pieces.second.short_text(alloc)?,
-        consumer_tag: pieces.third.short_text(alloc)?,
-        no_local,
-        no_ack,
-        exclusive,
-        no_wait,
-        arguments: pieces.fifth.table(alloc)?,
-    })
+    let Some(pieces) = pieces_at(&CONSUME, bytes) else {
+        return Err(Refusal::SyntaxError);
+    };
+    let (no_local, no_ack, exclusive, no_wait) = pieces.fourth.four_bits();
+    let Ok(queue) = pieces.second.short_text(alloc) else {
+        return Err(Refusal::Memory);
+    };
+    let Ok(consumer_tag) = pieces.third.short_text(alloc) else {
+        return Err(Refusal::Memory);
+    };
+    match pieces.fifth.table(alloc) {
+        Ok(arguments) => Ok(Consume {
+            reserved: pieces.first.short(),
+            queue,
+            consumer_tag,
+            no_local,
+            no_ack,
+            exclusive,
+            no_wait,
+            arguments,
+        }),
+        Err(why) => Err(why),
+    }
 }
 
 pub(crate) fn cancel_in(alloc: Global, bytes: &[u8]) -> Result<Cancel, Refusal>
     ensures { Gives (λ x. arguments (BasicCancel x)) result (arguments_at cancel_kinds bytes.now) }
 {
-    let pieces = read(&CANCEL, bytes)?;
+    let Some(pieces) = pieces_at(&CANCEL, bytes) else {
+        return Err(Refusal::SyntaxError);
+    };
+    let Ok(consumer_tag) = pieces.first.short_text(alloc) else {
+        return Err(Refusal::Memory);
+    };
     Ok(Cancel {
-        consumer_tag: pieces.first.short_text(alloc)?,
+        consumer_tag,
         no_wait: pieces.second.bit(),
     })
 }
@@ -256,12 +343,20 @@ pub(crate) fn cancel_in(alloc: Global, bytes: &[u8]) -> Result<Cancel, Refusal>
 pub(crate) fn publish_in(alloc: Global, bytes: &[u8]) -> Result<Publish, Refusal>
     ensures { Gives (λ x. arguments (BasicPublish x)) result (arguments_at publish_kinds bytes.now) }
 {
-    let pieces = read(&PUBLISH, bytes)?;
+    let Some(pieces) = pieces_at(&PUBLISH, bytes) else {
+        return Err(Refusal::SyntaxError);
+    };
     let (mandatory, immediate) = pieces.fourth.two_bits();
+    let Ok(exchange) = pieces.second.short_text(alloc) else {
+        return Err(Refusal::Memory);
+    };
+    let Ok(routing_key) = pieces.third.short_text(alloc) else {
+        return Err(Refusal::Memory);
+    };
     Ok(Publish {
         reserved: pieces.first.short(),
-        exchange: pieces.second.short_text(alloc)?,
-        routing_key: pieces.third.short_text(alloc)?,
+        exchange,
+        routing_key,
         mandatory,
         immediate,
     })
@@ -270,35 +365,62 @@ pub(crate) fn publish_in(alloc: Global, bytes: &[u8]) -> Result<Publish, Refusal
 pub(crate) fn return_in(alloc: Global, bytes: &[u8]) -> Result<Return, Refusal>
     ensures { Gives (λ x. arguments (BasicReturn x)) result (arguments_at return_kinds bytes.now) }
 {
-    let pieces = read(&RETURN, bytes)?;
+    let Some(pieces) = pieces_at(&RETURN, bytes) else {
+        return Err(Refusal::SyntaxError);
+    };
+    let Ok(reply_text) = pieces.second.short_text(alloc) else {
+        return Err(Refusal::Memory);
+    };
+    let Ok(exchange) = pieces.third.short_text(alloc) else {
+        return Err(Refusal::Memory);
+    };
+    let Ok(routing_key) = pieces.fourth.short_text(alloc) else {
+        return Err(Refusal::Memory);
+    };
     Ok(Return {
         reply_code: pieces.first.short(),
-        reply_text: pieces.second.short_text(alloc)?,
-        exchange: pieces.third.short_text(alloc)?,
-        routing_key: pieces.fourth.short_text(alloc)?,
+        reply_text,
+        exchange,
+        routing_key,
     })
 }
 
 pub(crate) fn deliver_in(alloc: Global, bytes: &[u8]) -> Result<Deliver, Refusal>
     ensures { Gives (λ x. arguments (BasicDeliver x)) result (arguments_at deliver_kinds bytes.now) }
 {
-    let pieces = read(&DELIVER, bytes)?;
+    let Some(pieces) = pieces_at(&DELIVER, bytes) else {
+        return Err(Refusal::SyntaxError);
+    };
+    let Ok(consumer_tag) = pieces.first.short_text(alloc) else {
+        return Err(Refusal::Memory);
+    };
+    let Ok(exchange) = pieces.fourth.short_text(alloc) else {
+        return Err(Refusal::Memory);
+    };
+    let Ok(routing_key) = pieces.fifth.short_text(alloc) else {
+        return Err(Refusal::Memory);
+    };
     Ok(Deliver {
-        consumer_tag: pieces.first.short_text(alloc)?,
+        consumer_tag,
         delivery_tag: pieces.second.long_long(),
         redelivered: pieces.third.bit(),
-        exchange: pieces.fourth.short_text(alloc)?,
-        routing_key: pieces.fifth.short_text(alloc)?,
+        exchange,
+        routing_key,
     })
 }
 
 pub(crate) fn get_in(alloc: Global, bytes: &[u8]) -> Result<Get, Refusal>
     ensures { Gives (λ x. arguments (BasicGet x)) result (arguments_at queue_kinds bytes.now) }
 {
-    let pieces = read(&QUEUE, bytes)?;
+    let Some(pieces) = pieces_at(&QUEUE, bytes) else {
+        return Err(Refusal::SyntaxError);
+    };
+    let Ok(queue) = pieces.second.short_text(alloc) else {
+        return Err(Refusal::Memory);
+    };
     Ok(Get {
         reserved: pieces.first.short(),
-        queue: pieces.second.short_text(alloc)?,
+        queue,
         no_ack: pieces.third.bit(),
     })
 }
@@ -306,12 +428,20 @@ pub(crate) fn get_in(alloc: Global, bytes: &[u8]) -> Result<Get, Refusal>
 pub(crate) fn get_ok_in(alloc: Global, bytes: &[u8]) -> Result<GetOk, Refusal>
     ensures { Gives (λ x. arguments (BasicGetOk x)) result (arguments_at get_ok_kinds bytes.now) }
 {
-    let pieces = read(&GET_OK, bytes)?;
+    let Some(pieces) = pieces_at(&GET_OK, bytes) else {
+        return Err(Refusal::SyntaxError);
+    };
+    let Ok(exchange) = pieces.third.short_text(alloc) else {
+        return Err(Refusal::Memory);
+    };
+    let Ok(routing_key) = pieces.fourth.short_text(alloc) else {
+        return Err(Refusal::Memory);
+    };
     Ok(GetOk {
         delivery_tag: pieces.first.long_long(),
         redelivered: pieces.second.bit(),
-        exchange: pieces.third.short_text(alloc)?,
-        routing_key: pieces.fourth.short_text(alloc)?,
+        exchange,
+        routing_key,
         message_count: pieces.fifth.long(),
     })
 }
@@ -319,7 +449,9 @@ pub(crate) fn get_ok_in(alloc: Global, bytes: &[u8]) -> Result<GetOk, Refusal>
 pub(crate) fn ack_in(bytes: &[u8]) -> Result<Ack, Refusal>
     ensures { Gives (λ x. arguments (BasicAck x)) result (arguments_at (tag_kinds 1) bytes.now) }
 {
-    let pieces = read(&TAG_AND_BIT, bytes)?;
+    let Some(pieces) = pieces_at(&TAG_AND_BIT, bytes) else {
+        return Err(Refusal::SyntaxError);
+    };
     Ok(Ack {
         delivery_tag: pieces.first.long_long(),
         multiple: pieces.second.bit(),
@@ -329,7 +461,9 @@ pub(crate) fn ack_in(bytes: &[u8]) -> Result<Ack, Refusal>
 pub(crate) fn reject_in(bytes: &[u8]) -> Result<Reject, Refusal>
     ensures { Gives (λ x. arguments (BasicReject x)) result (arguments_at (tag_kinds 1) bytes.now) }
 {
-    let pieces = read(&TAG_AND_BIT, bytes)?;
+    let Some(pieces) = pieces_at(&TAG_AND_BIT, bytes) else {
+        return Err(Refusal::SyntaxError);
+    };
     Ok(Reject {
         delivery_tag: pieces.first.long_long(),
         requeue: pieces.second.bit(),
@@ -339,7 +473,9 @@ pub(crate) fn reject_in(bytes: &[u8]) -> Result<Reject, Refusal>
 pub(crate) fn nack_in(bytes: &[u8]) -> Result<Nack, Refusal>
     ensures { Gives (λ x. arguments (BasicNack x)) result (arguments_at (tag_kinds 2) bytes.now) }
 {
-    let pieces = read(&TAG_AND_TWO_BITS, bytes)?;
+    let Some(pieces) = pieces_at(&TAG_AND_TWO_BITS, bytes) else {
+        return Err(Refusal::SyntaxError);
+    };
     let (multiple, requeue) = pieces.second.two_bits();
     Ok(Nack {
         delivery_tag: pieces.first.long_long(),
@@ -353,27 +489,43 @@ pub(crate) fn nack_in(bytes: &[u8]) -> Result<Nack, Refusal>
 pub(crate) fn short_text_in(alloc: Global, bytes: &[u8]) -> Result<Text, Refusal>
     ensures { Gives (λ t. Short_text t ∷ []) result (arguments_at (a_short_text ∷ []) bytes.now) }
 {
-    let pieces = read(&[Kind::ShortText], bytes)?;
-    Ok(pieces.first.short_text(alloc)?)
+    let Some(pieces) = pieces_at(&[Kind::ShortText], bytes) else {
+        return Err(Refusal::SyntaxError);
+    };
+    let Ok(text) = pieces.first.short_text(alloc) else {
+        return Err(Refusal::Memory);
+    };
+    Ok(text)
 }
 
 pub(crate) fn long_text_in(alloc: Global, bytes: &[u8]) -> Result<Text, Refusal>
     ensures { Gives (λ t. Long_text t ∷ []) result (arguments_at (a_long_text ∷ []) bytes.now) }
 {
-    let pieces = read(&[Kind::LongText], bytes)?;
-    Ok(pieces.first.long_text(alloc)?)
+    let Some(pieces) = pieces_at(&[Kind::LongText], bytes) else {
+        return Err(Refusal::SyntaxError);
+    };
+    let Ok(text) = pieces.first.long_text(alloc) else {
+        return Err(Refusal::Memory);
+    };
+    Ok(text)
 }
 
 pub(crate) fn long_in(bytes: &[u8]) -> Result<u32, Refusal>
     ensures { Gives (λ n. Long n ∷ []) result (arguments_at (a_long ∷ []) bytes.now) }
 {
-    Ok(read(&[Kind::Long], bytes)?.first.long())
+    let Some(pieces) = pieces_at(&[Kind::Long], bytes) else {
+        return Err(Refusal::SyntaxError);
+    };
+    Ok(pieces.first.long())
 }
 
 pub(crate) fn bit_in(bytes: &[u8]) -> Result<bool, Refusal>
     ensures { Gives (λ b. Bits (b ∷ []) ∷ []) result (arguments_at (some_bits 1 ∷ []) bytes.now) }
 {
-    Ok(read(&[Kind::Bit], bytes)?.first.bit())
+    let Some(pieces) = pieces_at(&[Kind::Bit], bytes) else {
+        return Err(Refusal::SyntaxError);
+    };
+    Ok(pieces.first.bit())
 }
 
 pub(crate) fn nothing_in(bytes: &[u8]) -> Result<(), Refusal>

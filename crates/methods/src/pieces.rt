@@ -156,22 +156,22 @@ impl<'a> Piece<'a> {
         }
     }
 
-    pub(crate) fn four_bits(&self) -> [bool; 4]
+    pub(crate) fn four_bits(&self) -> (bool, bool, bool, bool)
         requires { IsOf (some_bits 4) self.now }
-        ensures { seen self.now ≡ Some (said.Bits result) }
+        ensures { seen self.now ≡ Some (said.Bits (result.0 ∷ result.1 ∷ result.2 ∷ result.3 ∷ [])) }
     {
         match self {
-            Piece::FourBits(a, b, c, d) => [*a, *b, *c, *d],
+            Piece::FourBits(a, b, c, d) => (*a, *b, *c, *d),
             _ => unreachable!(),
         }
     }
 
-    pub(crate) fn five_bits(&self) -> [bool; 5]
+    pub(crate) fn five_bits(&self) -> (bool, bool, bool, bool, bool)
         requires { IsOf (some_bits 5) self.now }
-        ensures { seen self.now ≡ Some (said.Bits result) }
+        ensures { seen self.now ≡ Some (said.Bits (result.0 ∷ result.1 ∷ result.2 ∷ result.3 ∷ result.4 ∷ [])) }
     {
         match self {
-            Piece::FiveBits(a, b, c, d, e) => [*a, *b, *c, *d, *e],
+            Piece::FiveBits(a, b, c, d, e) => (*a, *b, *c, *d, *e),
             _ => unreachable!(),
         }
     }

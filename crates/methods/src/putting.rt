@@ -3,6 +3,7 @@
 ghost use Rattle.std.specs.Prelude.{◌≡◌, ◌+◌, ◌≤◌, ◌<◌, ◌^◌, [], ◌∷◌, ◌++◌, length, vec_len, vec_capacity, MatchOption, IfSome};
 ghost use Rattle.model.specs.Grammar.{octet as octet_of};
 ghost use Rattle.model.specs.Headers.{value_of, IsValue};
+ghost use Rattle.model.specs.Tables.{sized};
 ghost use Rattle.methods.specs.Pieces.{seen};
 ghost use Rattle.methods.specs.Writing.{pieces_bytes, AreSpelled};
 
@@ -14,11 +15,21 @@ pub(crate) fn pieces_len(pieces: &Pieces<'_>) -> Option<usize>
     ensures cases { MatchOption result (AreSpelled pieces.now → ⊥) (λ n. AreSpelled pieces.now × (n ≡ length (pieces_bytes pieces.now))) }
     ensures bound { IfSome result (λ n. n < 2 ^ 36) }
 {
-    let first = piece_len(&pieces.first)?;
-    let second = piece_len(&pieces.second)?;
-    let third = piece_len(&pieces.third)?;
-    let fourth = piece_len(&pieces.fourth)?;
-    let fifth = piece_len(&pieces.fifth)?;
+    let Some(first) = piece_len(&pieces.first) else {
+        return None;
+    };
+    let Some(second) = piece_len(&pieces.second) else {
+        return None;
+    };
+    let Some(third) = piece_len(&pieces.third) else {
+        return None;
+    };
+    let Some(fourth) = piece_len(&pieces.fourth) else {
+        return None;
+    };
+    let Some(fifth) = piece_len(&pieces.fifth) else {
+        return None;
+    };
     Some(first + second + third + fourth + fifth)
 }
 
@@ -91,27 +102,41 @@ fn put_piece(out: &mut Vec<u8>, piece: &Piece<'_>)
 {
     match piece {
         Piece::Nothing => {}
-        Piece::Octet(n) => put_bytes(out, &[*n]),
+        Piece::Octet(n) => put_octet(out, *n),
         Piece::Short(n) => put_bytes(out, &n.to_be_bytes()),
         Piece::Long(n) => put_bytes(out, &n.to_be_bytes()),
         Piece::LongLong(n) => put_bytes(out, &n.to_be_bytes()),
         Piece::ShortText(t) => {
-            put_bytes(out, &[t.len() as u8]);
+            put_octet(out, t.len() as u8);
             put_bytes(out, t);
         }
-        Piece::LongText(t) => {
-            put_bytes(out, &(t.len() as u32).to_be_bytes());
-            put_bytes(out, t);
-        }
-        Piece::Table(t) => {
-            put_bytes(out, &(t.len() as u32).to_be_bytes());
-            put_bytes(out, t);
-        }
-        Piece::Bit(b) => put_bytes(out, &[*b as u8]),
-        Piece::TwoBits(a, b) => put_bytes(out, &[octet(*a, *b, false, false, false)]),
-        Piece::FourBits(a, b, c, d) => put_bytes(out, &[octet(*a, *b, *c, *d, false)]),
-        Piece::FiveBits(a, b, c, d, e) => put_bytes(out, &[octet(*a, *b, *c, *d, *e)]),
+        Piece::LongText(t) => put_long_text(out, t),
+        Piece::Table(t) => put_long_text(out, t),
+        Piece::Bit(b) => put_octet(out, *b as u8),
+        Piece::TwoBits(a, b) => put_octet(out, octet(*a, *b, false, false, false)),
+        Piece::FourBits(a, b, c, d) => put_octet(out, octet(*a, *b, *c, *d, false)),
+        Piece::FiveBits(a, b, c, d, e) => put_octet(out, octet(*a, *b, *c, *d, *e)),
     }
+}
+
+fn put_octet(out: &mut Vec<u8>, n: u8)
+    requires { vec_len out.old + 1 ≤ vec_capacity out.old }
+    ensures items { out.new.items ≡ out.old.items ++ n ∷ [] }
+    ensures len { vec_len out.new ≡ vec_len out.old + 1 }
+    ensures capacity { vec_capacity out.old ≤ vec_capacity out.new }
+{
+    put_bytes(out, &[n]);
+}
+
+fn put_long_text(out: &mut Vec<u8>, text: &[u8])
+    requires fits { length text.now < 2 ^ 32 }
+    requires room { vec_len out.old + length (sized text.now) ≤ vec_capacity out.old }
+    ensures items { out.new.items ≡ out.old.items ++ sized text.now }
+    ensures len { vec_len out.new ≡ vec_len out.old + length (sized text.now) }
+    ensures capacity { vec_capacity out.old ≤ vec_capacity out.new }
+{
+    put_bytes(out, &(text.len() as u32).to_be_bytes());
+    put_bytes(out, text);
 }
 
 // The octet of these bits, the first the lowest.

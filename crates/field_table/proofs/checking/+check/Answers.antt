@@ -6,16 +6,16 @@ use Rattle.field_table.proofs.checking.+check.Goals as goal
 
 pub value_end-returns-then-is_sound : goal.value_end-returns-then-is_sound
 value_end-returns-then-is_sound t c =
-    let m = means_some c.args.depth c.in_ok-leaf.leaf (when_true _ _ _ c.if-is_sound.true c.is_sound.ensures) in
-    (m.0, first_is c.args.depth c.args.bytes.now c.in_ok-leaf.rest.now c.in_ok-leaf.leaf m.0 (λ i. (c.type_inv.bytes i).fits) (sym c.in_ok-leaf.ensures) m.1)
+    let m = means_some c.args.depth c.in-Some.leaf (when_true _ _ _ c.if-is_sound.true c.is_sound.ensures) in
+    (m.0, first_is c.args.depth c.args.bytes.now c.in-Some.rest.now c.in-Some.leaf m.0 (λ i. (c.type_inv.bytes i).fits) (sym c.in-Some.ensures) m.1)
 
 pub value_end-returns-else-is_sound : goal.value_end-returns-else-is_sound
 value_end-returns-else-is_sound t c =
-    unsound c.args.depth c.args.bytes.now c.in_ok-leaf.rest.now c.in_ok-leaf.leaf (sym c.in_ok-leaf.ensures) (when_false _ _ _ c.if-is_sound.false c.is_sound.ensures)
+    unsound c.args.depth c.args.bytes.now c.in-Some.rest.now c.in-Some.leaf (sym c.in-Some.ensures) (when_false _ _ _ c.if-is_sound.false c.is_sound.ensures)
 
 pub pair_end-returns : goal.pair_end-returns
 pair_end-returns t c =
-    pair_here _ c.args.depth c.args.bytes.now c.in_ok-rest.field-0-0.now c.in_ok-rest.rest.now c.value_end.result (λ i. (c.type_inv.bytes i).fits) (sym c.in_ok-rest.ensures) c.value_end.ensures
+    pair_here _ c.args.depth c.args.bytes.now c.in-Some.field-0-0.now c.in-Some.rest.now c.value_end.result (λ i. (c.type_inv.bytes i).fits) (sym c.in-Some.ensures) c.value_end.ensures
 
 pub are_values-returns : goal.are_values-returns
 are_values-returns t c = c.values.invariant.onto (subst (HasValues c.args.depth) (sym (is_nil c.values.rest.now (sym c.values-test.ensures))) (values_end c.args.depth))
@@ -45,5 +45,5 @@ are_pairs-pairs-preserved t c =
       back = λ h. pairs_back c.args.depth c.pairs.rest.now f.0 f.1 c.in-Some.after.now f.2 (c.pairs.invariant.back h);
     }
 
-pub value_end-returns-in_err-leaf : goal.value_end-returns-in_err-leaf
-value_end-returns-in_err-leaf t c = rw c.from_residual.ensures (no_leaf c.args.depth c.args.bytes.now (sym c.in_err-leaf.ensures))
+pub value_end-returns-in_default : goal.value_end-returns-in_default
+value_end-returns-in_default t c = no_leaf c.args.depth c.args.bytes.now (sym c.in_default.ensures)

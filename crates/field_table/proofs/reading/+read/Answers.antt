@@ -1,19 +1,21 @@
 -- What is left is values or pairs where the whole is, and the whole is what was read and what is left.
-use Rattle.std.proofs.Common.{◌≡◌, sym, Some, arith, rules}
+use Rattle.std.proofs.Common.{◌≡◌, sym, rules}
 use Rattle.std.proofs.lemmas.Result.{err_from_is_err_and}
 use Rattle.model.specs.Tables.{no_pairs, value, pair}
-use Rattle.field_table.specs.Leaves.{read_leaf, seen}
 use Rattle.field_table.specs.View.{field_view, entry_view, table_view, entries_view, pairs_then}
 use Rattle.field_table.specs.declared.fields.Field.{the_lemmas}
 use Rattle.field_table.specs.declared.fields.Table.{roll-Table}
-use Rattle.field_table.proofs.Firsts.{first_is, values_back, no_values_left, pairs_back, no_pairs_left, is_nil, not_nil}
+use Rattle.field_table.proofs.Firsts.{first_is, unsound, values_back, no_values_left, pairs_back, no_pairs_left, is_nil, not_nil}
 use Rattle.field_table.proofs.Views.{named, one_more_value, one_more_pair, then_values, then_pairs, refused_so}
 use Rattle.field_table.proofs.reading.+read.Goals as goal
 
-pub field_at-returns : goal.field_at-returns
-field_at-returns t c =
-    let e : read_leaf c.args.bytes.now ≡ Some (seen c.in_ok-leaf.leaf, c.in_ok-leaf.rest.now) = grind arith in
-    first_is c.args.depth c.args.bytes.now c.in_ok-leaf.rest.now c.in_ok-leaf.leaf _ (λ i. (c.type_inv.bytes i).fits) e c.in_ok-field.ensures
+pub field_at-returns-in-Ok : goal.field_at-returns-in-Ok
+field_at-returns-in-Ok t c =
+    first_is c.args.depth c.args.bytes.now c.in-Some.rest.now c.in-Some.leaf _ (λ i. (c.type_inv.bytes i).fits) (sym c.in-Some.ensures) c.in-Ok.ensures
+
+pub field_at-returns-in-Err : goal.field_at-returns-in-Err
+field_at-returns-in-Err t c =
+    refused_so c.in-Err.why _ _ (unsound c.args.depth c.args.bytes.now c.in-Some.rest.now c.in-Some.leaf (sym c.in-Some.ensures)) c.in-Err.ensures
 
 pub values_in-returns-in_err-value : goal.values_in-returns-in_err-value
 values_in-returns-in_err-value t c =
