@@ -13,38 +13,20 @@ pub(crate) fn connection(alloc: Global, method: u16, arguments: &[u8]) -> Result
     ensures { Reads 10 method arguments.now result }
 {
     match method {
-        10 => match start_in(alloc, arguments) {
-            Ok(given) => Ok(Method::ConnectionStart(given)),
-            Err(why) => Err(why),
-        },
-        11 => match start_ok_in(alloc, arguments) {
-            Ok(given) => Ok(Method::ConnectionStartOk(given)),
-            Err(why) => Err(why),
-        },
-        30 => match tuning_in(arguments) {
-            Ok(given) => Ok(Method::ConnectionTune(given)),
-            Err(why) => Err(why),
-        },
-        31 => match tuning_in(arguments) {
-            Ok(given) => Ok(Method::ConnectionTuneOk(given)),
-            Err(why) => Err(why),
-        },
-        40 => match open_in(alloc, arguments) {
-            Ok(given) => Ok(Method::ConnectionOpen(given)),
-            Err(why) => Err(why),
-        },
-        41 => match short_text_in(alloc, arguments) {
-            Ok(reserved) => Ok(Method::ConnectionOpenOk { reserved }),
-            Err(why) => Err(why),
-        },
-        50 => match close_in(alloc, arguments) {
-            Ok(given) => Ok(Method::ConnectionClose(given)),
-            Err(why) => Err(why),
-        },
-        51 => match nothing_in(arguments) {
-            Ok(()) => Ok(Method::ConnectionCloseOk),
-            Err(why) => Err(why),
-        },
+        10 => Ok(Method::ConnectionStart(start_in(alloc, arguments)?)),
+        11 => Ok(Method::ConnectionStartOk(start_ok_in(alloc, arguments)?)),
+        30 => Ok(Method::ConnectionTune(tuning_in(arguments)?)),
+        31 => Ok(Method::ConnectionTuneOk(tuning_in(arguments)?)),
+        40 => Ok(Method::ConnectionOpen(open_in(alloc, arguments)?)),
+        41 => {
+            let reserved = short_text_in(alloc, arguments)?;
+            Ok(Method::ConnectionOpenOk { reserved })
+        }
+        50 => Ok(Method::ConnectionClose(close_in(alloc, arguments)?)),
+        51 => {
+            nothing_in(arguments)?;
+            Ok(Method::ConnectionCloseOk)
+        }
         _ => Err(Refusal::CommandInvalid),
     }
 }
@@ -53,30 +35,27 @@ pub(crate) fn channel(alloc: Global, method: u16, arguments: &[u8]) -> Result<Me
     ensures { Reads 20 method arguments.now result }
 {
     match method {
-        10 => match short_text_in(alloc, arguments) {
-            Ok(reserved) => Ok(Method::ChannelOpen { reserved }),
-            Err(why) => Err(why),
-        },
-        11 => match long_text_in(alloc, arguments) {
-            Ok(reserved) => Ok(Method::ChannelOpenOk { reserved }),
-            Err(why) => Err(why),
-        },
-        20 => match bit_in(arguments) {
-            Ok(active) => Ok(Method::ChannelFlow { active }),
-            Err(why) => Err(why),
-        },
-        21 => match bit_in(arguments) {
-            Ok(active) => Ok(Method::ChannelFlowOk { active }),
-            Err(why) => Err(why),
-        },
-        40 => match close_in(alloc, arguments) {
-            Ok(given) => Ok(Method::ChannelClose(given)),
-            Err(why) => Err(why),
-        },
-        41 => match nothing_in(arguments) {
-            Ok(()) => Ok(Method::ChannelCloseOk),
-            Err(why) => Err(why),
-        },
+        10 => {
+            let reserved = short_text_in(alloc, arguments)?;
+            Ok(Method::ChannelOpen { reserved })
+        }
+        11 => {
+            let reserved = long_text_in(alloc, arguments)?;
+            Ok(Method::ChannelOpenOk { reserved })
+        }
+        20 => {
+            let active = bit_in(arguments)?;
+            Ok(Method::ChannelFlow { active })
+        }
+        21 => {
+            let active = bit_in(arguments)?;
+            Ok(Method::ChannelFlowOk { active })
+        }
+        40 => Ok(Method::ChannelClose(close_in(alloc, arguments)?)),
+        41 => {
+            nothing_in(arguments)?;
+            Ok(Method::ChannelCloseOk)
+        }
         _ => Err(Refusal::CommandInvalid),
     }
 }
@@ -85,14 +64,11 @@ pub(crate) fn exchange(alloc: Global, method: u16, arguments: &[u8]) -> Result<M
     ensures { Reads 40 method arguments.now result }
 {
     match method {
-        10 => match exchange_declare_in(alloc, arguments) {
-            Ok(given) => Ok(Method::ExchangeDeclare(given)),
-            Err(why) => Err(why),
-        },
-        11 => match nothing_in(arguments) {
-            Ok(()) => Ok(Method::ExchangeDeclareOk),
-            Err(why) => Err(why),
-        },
+        10 => Ok(Method::ExchangeDeclare(exchange_declare_in(alloc, arguments)?)),
+        11 => {
+            nothing_in(arguments)?;
+            Ok(Method::ExchangeDeclareOk)
+        }
         20 => Ok(Method::ExchangeDelete),
         30 => Ok(Method::ExchangeBind),
         40 => Ok(Method::ExchangeUnbind),
@@ -104,23 +80,14 @@ pub(crate) fn queue(alloc: Global, method: u16, arguments: &[u8]) -> Result<Meth
     ensures { Reads 50 method arguments.now result }
 {
     match method {
-        10 => match queue_declare_in(alloc, arguments) {
-            Ok(given) => Ok(Method::QueueDeclare(given)),
-            Err(why) => Err(why),
-        },
-        11 => match queue_declared_in(alloc, arguments) {
-            Ok(given) => Ok(Method::QueueDeclareOk(given)),
-            Err(why) => Err(why),
-        },
+        10 => Ok(Method::QueueDeclare(queue_declare_in(alloc, arguments)?)),
+        11 => Ok(Method::QueueDeclareOk(queue_declared_in(alloc, arguments)?)),
         20 => Ok(Method::QueueBind),
-        30 => match purge_in(alloc, arguments) {
-            Ok(given) => Ok(Method::QueuePurge(given)),
-            Err(why) => Err(why),
-        },
-        31 => match long_in(arguments) {
-            Ok(message_count) => Ok(Method::QueuePurgeOk { message_count }),
-            Err(why) => Err(why),
-        },
+        30 => Ok(Method::QueuePurge(purge_in(alloc, arguments)?)),
+        31 => {
+            let message_count = long_in(arguments)?;
+            Ok(Method::QueuePurgeOk { message_count })
+        }
         40 => Ok(Method::QueueDelete),
         50 => Ok(Method::QueueUnbind),
         _ => Err(Refusal::CommandInvalid),
@@ -143,30 +110,21 @@ fn basic_consuming(alloc: Global, method: u16, arguments: &[u8]) -> Result<Metho
     ensures { Reads 60 method arguments.now result }
 {
     match method {
-        10 => match qos_in(arguments) {
-            Ok(given) => Ok(Method::BasicQos(given)),
-            Err(why) => Err(why),
-        },
-        11 => match nothing_in(arguments) {
-            Ok(()) => Ok(Method::BasicQosOk),
-            Err(why) => Err(why),
-        },
-        20 => match consume_in(alloc, arguments) {
-            Ok(given) => Ok(Method::BasicConsume(given)),
-            Err(why) => Err(why),
-        },
-        21 => match short_text_in(alloc, arguments) {
-            Ok(consumer_tag) => Ok(Method::BasicConsumeOk { consumer_tag }),
-            Err(why) => Err(why),
-        },
-        30 => match cancel_in(alloc, arguments) {
-            Ok(given) => Ok(Method::BasicCancel(given)),
-            Err(why) => Err(why),
-        },
-        31 => match short_text_in(alloc, arguments) {
-            Ok(consumer_tag) => Ok(Method::BasicCancelOk { consumer_tag }),
-            Err(why) => Err(why),
-        },
+        10 => Ok(Method::BasicQos(qos_in(arguments)?)),
+        11 => {
+            nothing_in(arguments)?;
+            Ok(Method::BasicQosOk)
+        }
+        20 => Ok(Method::BasicConsume(consume_in(alloc, arguments)?)),
+        21 => {
+            let consumer_tag = short_text_in(alloc, arguments)?;
+            Ok(Method::BasicConsumeOk { consumer_tag })
+        }
+        30 => Ok(Method::BasicCancel(cancel_in(alloc, arguments)?)),
+        31 => {
+            let consumer_tag = short_text_in(alloc, arguments)?;
+            Ok(Method::BasicCancelOk { consumer_tag })
+        }
         _ => Err(Refusal::CommandInvalid),
     }
 }
@@ -177,30 +135,15 @@ fn basic_contents(alloc: Global, method: u16, arguments: &[u8]) -> Result<Method
     ensures { Reads 60 method arguments.now result }
 {
     match method {
-        40 => match publish_in(alloc, arguments) {
-            Ok(given) => Ok(Method::BasicPublish(given)),
-            Err(why) => Err(why),
-        },
-        50 => match return_in(alloc, arguments) {
-            Ok(given) => Ok(Method::BasicReturn(given)),
-            Err(why) => Err(why),
-        },
-        60 => match deliver_in(alloc, arguments) {
-            Ok(given) => Ok(Method::BasicDeliver(given)),
-            Err(why) => Err(why),
-        },
-        70 => match get_in(alloc, arguments) {
-            Ok(given) => Ok(Method::BasicGet(given)),
-            Err(why) => Err(why),
-        },
-        71 => match get_ok_in(alloc, arguments) {
-            Ok(given) => Ok(Method::BasicGetOk(given)),
-            Err(why) => Err(why),
-        },
-        72 => match short_text_in(alloc, arguments) {
-            Ok(reserved) => Ok(Method::BasicGetEmpty { reserved }),
-            Err(why) => Err(why),
-        },
+        40 => Ok(Method::BasicPublish(publish_in(alloc, arguments)?)),
+        50 => Ok(Method::BasicReturn(return_in(alloc, arguments)?)),
+        60 => Ok(Method::BasicDeliver(deliver_in(alloc, arguments)?)),
+        70 => Ok(Method::BasicGet(get_in(alloc, arguments)?)),
+        71 => Ok(Method::BasicGetOk(get_ok_in(alloc, arguments)?)),
+        72 => {
+            let reserved = short_text_in(alloc, arguments)?;
+            Ok(Method::BasicGetEmpty { reserved })
+        }
         _ => Err(Refusal::CommandInvalid),
     }
 }
@@ -211,26 +154,17 @@ fn basic_settling(method: u16, arguments: &[u8]) -> Result<Method, Refusal>
     ensures { Reads 60 method arguments.now result }
 {
     match method {
-        80 => match ack_in(arguments) {
-            Ok(given) => Ok(Method::BasicAck(given)),
-            Err(why) => Err(why),
-        },
-        90 => match reject_in(arguments) {
-            Ok(given) => Ok(Method::BasicReject(given)),
-            Err(why) => Err(why),
-        },
-        110 => match bit_in(arguments) {
-            Ok(requeue) => Ok(Method::BasicRecover { requeue }),
-            Err(why) => Err(why),
-        },
-        111 => match nothing_in(arguments) {
-            Ok(()) => Ok(Method::BasicRecoverOk),
-            Err(why) => Err(why),
-        },
-        120 => match nack_in(arguments) {
-            Ok(given) => Ok(Method::BasicNack(given)),
-            Err(why) => Err(why),
-        },
+        80 => Ok(Method::BasicAck(ack_in(arguments)?)),
+        90 => Ok(Method::BasicReject(reject_in(arguments)?)),
+        110 => {
+            let requeue = bit_in(arguments)?;
+            Ok(Method::BasicRecover { requeue })
+        }
+        111 => {
+            nothing_in(arguments)?;
+            Ok(Method::BasicRecoverOk)
+        }
+        120 => Ok(Method::BasicNack(nack_in(arguments)?)),
         _ => Err(Refusal::CommandInvalid),
     }
 }
@@ -239,14 +173,14 @@ pub(crate) fn confirm(method: u16, arguments: &[u8]) -> Result<Method, Refusal>
     ensures { Reads 85 method arguments.now result }
 {
     match method {
-        10 => match bit_in(arguments) {
-            Ok(no_wait) => Ok(Method::ConfirmSelect { no_wait }),
-            Err(why) => Err(why),
-        },
-        11 => match nothing_in(arguments) {
-            Ok(()) => Ok(Method::ConfirmSelectOk),
-            Err(why) => Err(why),
-        },
+        10 => {
+            let no_wait = bit_in(arguments)?;
+            Ok(Method::ConfirmSelect { no_wait })
+        }
+        11 => {
+            nothing_in(arguments)?;
+            Ok(Method::ConfirmSelectOk)
+        }
         _ => Err(Refusal::CommandInvalid),
     }
 }
