@@ -1,12 +1,12 @@
 -- The causes one by one, in their order.
-use Rattle.std.proofs.Common.{◌≡◌, ℕ, ◌+◌, ◌<◌, ◌==◌, inl, inr, refl, sym, ap, ◌∙◌, subst, arith}
+use Rattle.std.proofs.Common.{◌≡◌, Bool, true, false, ℕ, ◌+◌, ◌<◌, ◌==◌, inl, inr, refl, sym, ap, ◌∙◌, subst, arith}
 use Rattle.std.proofs.lemmas.Bool.Decides.{eqb_tells}
-use Rattle.std.specs.Prelude.{◌⊎◌, if◌then◌else◌}
+use Rattle.std.specs.Prelude.{◌⊎◌, Decides, if◌then◌else◌}
 use Rattle.definitions.specs.declared.bad.Bad.{Bad}
 use Rattle.definitions.specs.declared.bad.Bad.TheVariants.{NotJson, Malformed, OtherVhost, Repeated, Absent, OtherType, Unsupported, NoOverflow, Worded, TooMany, NoExchange, OtherPermission, OtherHash, Memory}
 use Rattle.definitions.specs.Numbers.{number}
 use Rattle.definitions.specs.File.{File}
-use Rattle.definitions.specs.Causes.{IsClear, IsClearBelow}
+use Rattle.definitions.specs.Causes.{IsClear, IsClearBelow, IsLeast}
 
 -- the cause of a number
 abbrev numbered : ℕ → Bad
@@ -52,6 +52,10 @@ none_below f NoExchange h = absurd (omega (arith, h))
 none_below f OtherPermission h = absurd (omega (arith, h))
 none_below f OtherHash h = absurd (omega (arith, h))
 none_below f Memory h = tt
+
+-- a cause that stands where none below it does
+pub least : (f : File) (bad : Bad) (b : Bool) → IsClearBelow (number bad) f → Decides b (IsClear bad f) → b ≡ false → IsLeast bad f
+least f bad b below d e = record { below = below; stands = λ h. (let z : b ≡ true = d.1 h in cc) }
 
 -- one cause more
 pub below_next : (f : File) (bad : Bad) → IsClearBelow (number bad) f → IsClear bad f → IsClearBelow (number bad + 1) f

@@ -9,7 +9,7 @@ use crate::bad::Bad;
 use crate::document::Document;
 use crate::judging::judge;
 use crate::shape::document;
-use crate::stating::{bindings_of, exchanges_of, queues_of, users_of};
+use crate::stating::{Parts, users_of};
 use exchange_graph::Topology;
 use json_file::parse;
 use model::User;
@@ -78,20 +78,12 @@ fn open(alloc: Global, bytes: &[u8]) -> Result<Document, Bad>
 fn settle(alloc: Global, document: &Document) -> Result<Definitions, Bad>
     ensures { Settles result (file_of document.now) }
 {
-    let exchanges = exchanges_of(alloc, document.exchanges.as_slice())?;
-    let queues = queues_of(alloc, document.queues.as_slice())?;
-    let bindings = bindings_of(alloc, document.bindings.as_slice())?;
-    judge(
-        alloc,
-        document,
-        exchanges.as_slice(),
-        queues.as_slice(),
-        bindings.as_slice(),
-    )?;
+    let parts = Parts::of(alloc, document)?;
+    judge(alloc, document, &parts)?;
     let Some(users) = users_of(alloc, document.users.as_slice())? else {
         return Err(Bad::OtherHash);
     };
-    let topology = Topology::sound(alloc, exchanges, queues, bindings)?;
+    let topology = parts.sound(alloc)?;
     Ok(Definitions { topology, users })
 }
 

@@ -1,7 +1,7 @@
 //! The least cause that stands in a file, but for the users' hashes.
 
-ghost use Rattle.std.specs.Prelude.{◌≡◌};
-ghost use Rattle.definitions.specs.Causes.{user_names};
+ghost use Rattle.std.specs.Prelude.{◌≡◌, MatchResult};
+ghost use Rattle.definitions.specs.Causes.{IsClearBelow, IsTold, user_names};
 ghost use Rattle.definitions.specs.File.{file_of};
 ghost use Rattle.definitions.specs.Judged.{Judges};
 ghost use Rattle.definitions.specs.States.{topology_of};
@@ -12,20 +12,19 @@ use crate::causes::{
     has_overflows, has_permissions, has_types, is_supported,
 };
 use crate::document::{Document, UserEntry};
+use crate::stating::Parts;
 use exchange_graph::{Directory, Draft};
-use model::{Binding, DeclaredQueue, Exchange};
 use std::alloc::Global;
 
-/// The least cause that stands in a file, if one below the users' hashes does.
-fn least_cause(
-    alloc: Global,
+/// The least of the first five causes that stands in a file, if one does.
+fn first_cause(
     document: &Document,
     users: &Directory<'_, UserEntry>,
     draft: &Draft<'_>,
 ) -> Result<(), Bad>
     requires users { users.now ≡ user_names (file_of document.now) }
     requires draft { draft.now ≡ topology_of (file_of document.now) }
-    ensures { Judges result (file_of document.now) }
+    ensures { MatchResult result (λ _. IsClearBelow 8 (file_of document.now)) (λ bad. IsTold bad (file_of document.now)) }
 {
     if !has_one_vhost(document) {
         return Err(Bad::OtherVhost);
@@ -42,6 +41,21 @@ fn least_cause(
     if !is_supported(document) {
         return Err(Bad::Unsupported);
     }
+    Ok(())
+}
+
+/// The least of the next five causes that stands in a file, if one does.
+fn next_cause(
+    alloc: Global,
+    document: &Document,
+    users: &Directory<'_, UserEntry>,
+    draft: &Draft<'_>,
+) -> Result<(), Bad>
+    requires users { users.now ≡ user_names (file_of document.now) }
+    requires draft { draft.now ≡ topology_of (file_of document.now) }
+    requires clear { IsClearBelow 8 (file_of document.now) }
+    ensures { Judges result (file_of document.now) }
+{
     if !has_overflows(document) {
         return Err(Bad::NoOverflow);
     }
@@ -60,19 +74,28 @@ fn least_cause(
     Ok(())
 }
 
-/// Tells the least cause that stands in a file, if one below the users' hashes does. What the file sets up is asked of
-/// its draft.
-pub fn judge(
+/// The least cause that stands in a file, if one below the users' hashes does.
+fn least_cause(
     alloc: Global,
     document: &Document,
-    exchanges: &[Exchange],
-    queues: &[DeclaredQueue],
-    bindings: &[Binding],
+    users: &Directory<'_, UserEntry>,
+    draft: &Draft<'_>,
 ) -> Result<(), Bad>
-    requires { record { exchanges = exchanges.now; queues = queues.now; bindings = bindings.now } ≡ topology_of (file_of document.now) }
+    requires users { users.now ≡ user_names (file_of document.now) }
+    requires draft { draft.now ≡ topology_of (file_of document.now) }
+    ensures { Judges result (file_of document.now) }
+{
+    first_cause(document, users, draft)?;
+    next_cause(alloc, document, users, draft)
+}
+
+/// Tells the least cause that stands in a file, if one below the users' hashes does. What the file sets up is asked of
+/// its draft.
+pub fn judge(alloc: Global, document: &Document, parts: &Parts) -> Result<(), Bad>
+    requires { parts.now ≡ topology_of (file_of document.now) }
     ensures { Judges result (file_of document.now) }
 {
     let users = Directory::of(alloc, document.users.as_slice());
-    let draft = Draft::of(alloc, exchanges, queues, bindings);
+    let draft = parts.draft(alloc);
     least_cause(alloc, document, &users, &draft)
 }

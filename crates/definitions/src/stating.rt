@@ -1,15 +1,28 @@
 //! What the entries of a file set up.
 
 ghost use Rattle.std.specs.Prelude.{◌≡◌, All, IfOk, IsSome, MatchOption, map};
-ghost use Rattle.definitions.specs.States.{binding_of, exchange_of, hash_of, of_36, place_of, queue_of, user_of};
+ghost use Rattle.exchange_graph.specs.Causes.{IsBuildable};
+ghost use Rattle.definitions.specs.File.{file_of};
+ghost use Rattle.definitions.specs.States.{
+  binding_of,
+  exchange_of,
+  hash_of,
+  of_36,
+  place_of,
+  queue_of,
+  topology_of,
+  user_of,
+};
 ghost use Rattle.definitions.specs.Hashed.{AreHashed};
 
 use crate::causes::kind_named;
-use crate::document::{BindingEntry, ExchangeEntry, QueueEntry, UserEntry};
+use crate::document::{BindingEntry, Document, ExchangeEntry, QueueEntry, UserEntry};
 use base64::DecodeAllocError;
 use base64::engine::general_purpose::STANDARD;
+use exchange_graph::{Draft, Topology};
 use model::{Binding, DeclaredQueue, Exchange, ExchangeKind, Place, Text, User};
 use std::alloc::{AllocError, Global};
+use std::marker::Model;
 
 /// The same text, if there is one.
 fn copy(text: &Option<Text>) -> Result<Option<Text>, AllocError>
@@ -34,7 +47,7 @@ fn exchange_of(entry: &ExchangeEntry) -> Result<Exchange, AllocError>
 }
 
 /// The exchanges.
-pub fn exchanges_of(alloc: Global, entries: &[ExchangeEntry]) -> Result<Vec<Exchange>, AllocError>
+fn exchanges_of(alloc: Global, entries: &[ExchangeEntry]) -> Result<Vec<Exchange>, AllocError>
     ensures { IfOk result (λ made. made.items ≡ map exchange_of entries.now) }
 {
     let mut made = Vec::new(alloc);
@@ -57,7 +70,7 @@ fn queue_of(entry: &QueueEntry) -> Result<DeclaredQueue, AllocError>
 }
 
 /// The queues.
-pub fn queues_of(alloc: Global, entries: &[QueueEntry]) -> Result<Vec<DeclaredQueue>, AllocError>
+fn queues_of(alloc: Global, entries: &[QueueEntry]) -> Result<Vec<DeclaredQueue>, AllocError>
     ensures { IfOk result (λ made. made.items ≡ map queue_of entries.now) }
 {
     let mut made = Vec::new(alloc);
@@ -92,7 +105,7 @@ fn binding_of(entry: &BindingEntry) -> Result<Binding, AllocError>
 }
 
 /// The bindings.
-pub fn bindings_of(alloc: Global, entries: &[BindingEntry]) -> Result<Vec<Binding>, AllocError>
+fn bindings_of(alloc: Global, entries: &[BindingEntry]) -> Result<Vec<Binding>, AllocError>
     ensures { IfOk result (λ made. made.items ≡ map binding_of entries.now) }
 {
     let mut made = Vec::new(alloc);
@@ -100,6 +113,73 @@ pub fn bindings_of(alloc: Global, entries: &[BindingEntry]) -> Result<Vec<Bindin
         made.push(binding_of(entry)?)?;
     }
     Ok(made)
+}
+
+/// What the entries of a file set up, but for its users.
+pub struct Parts {
+    exchanges: Vec<Exchange>,
+    queues: Vec<DeclaredQueue>,
+    bindings: Vec<Binding>,
+}
+
+/// Written out, so that a drop is one call.
+impl Drop for Parts {
+    fn drop(self) {
+        let Parts {
+            exchanges: _,
+            queues: _,
+            bindings: _,
+        } = self;
+    }
+}
+
+impl Model for Parts {
+    ghost use Rattle.model.specs.Topology.{Topology};
+
+    ghost Value = { Topology };
+
+    ghost view = { λ p. record { exchanges = p.exchanges.items; queues = p.queues.items; bindings = p.bindings.items } };
+}
+
+impl Parts {
+    /// The parts that these entries set up.
+    pub fn of(alloc: Global, document: &Document) -> Result<Parts, AllocError>
+        ensures { IfOk result (λ p. p ≡ topology_of (file_of document.now)) }
+    {
+        let exchanges = exchanges_of(alloc, document.exchanges.as_slice())?;
+        let queues = queues_of(alloc, document.queues.as_slice())?;
+        let bindings = bindings_of(alloc, document.bindings.as_slice())?;
+        Ok(Parts {
+            exchanges,
+            queues,
+            bindings,
+        })
+    }
+
+    /// A draft of them.
+    pub fn draft(&self, alloc: Global) -> Draft<'_>
+        ensures { result ≡ self.entry.now }
+    {
+        Draft::of(
+            alloc,
+            self.exchanges.as_slice(),
+            self.queues.as_slice(),
+            self.bindings.as_slice(),
+        )
+    }
+
+    /// Their topology, against which nothing stands.
+    pub fn sound(self, alloc: Global) -> Result<Topology, AllocError>
+        requires { IsBuildable self }
+        ensures { IfOk result (λ t. t ≡ self) }
+    {
+        let Parts {
+            exchanges,
+            queues,
+            bindings,
+        } = self;
+        Topology::sound(alloc, exchanges, queues, bindings)
+    }
 }
 
 /// These bytes, if there are exactly 36.

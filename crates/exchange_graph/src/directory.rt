@@ -35,9 +35,15 @@ impl Named for DeclaredQueue {
 }
 
 /// Names that are apart, in their order, each known by its place.
-#[derive(Drop)]
 pub struct Names {
     set: IndexSet<Vec<u8>>,
+}
+
+/// Written out, so that a drop is one call.
+impl Drop for Names {
+    fn drop(self) {
+        let Names { set: _ } = self;
+    }
 }
 
 impl Model for Names {
@@ -137,11 +143,21 @@ fn are_apart<N: Named>(entries: &[N]) -> bool
 }
 
 /// The names of a list. They are looked up by an index; where memory for it was refused, the list is gone over.
-#[derive(Drop)]
 pub struct Directory<'a, N: Named> {
     entries: &'a [N],
     index: Option<Names>,
     apart: bool,
+}
+
+/// Written out, so that a drop is one call.
+impl<'a, N: Named> Drop for Directory<'a, N> {
+    fn drop(self) {
+        let Directory {
+            entries: _,
+            index: _,
+            apart: _,
+        } = self;
+    }
 }
 
 impl<'a, N: Named> Model for Directory<'a, N> {

@@ -27,13 +27,25 @@ use std::marker::Model;
 
 /// Exchanges, queues and bindings, of which can be asked what stands against them. It takes memory where there is some,
 /// and answers the same without.
-#[derive(Drop)]
 pub struct Draft<'a> {
     exchanges: &'a [Exchange],
     queues: &'a [DeclaredQueue],
     bindings: &'a [Binding],
     exchange_names: Directory<'a, Exchange>,
     queue_names: Directory<'a, DeclaredQueue>,
+}
+
+/// Written out, so that a drop is one call.
+impl<'a> Drop for Draft<'a> {
+    fn drop(self) {
+        let Draft {
+            exchanges: _,
+            queues: _,
+            bindings: _,
+            exchange_names: _,
+            queue_names: _,
+        } = self;
+    }
 }
 
 impl<'a> Model for Draft<'a> {

@@ -1,6 +1,6 @@
 //! Marks of the exchanges and queues that were met on the way.
 
-ghost use Rattle.std.specs.Prelude.{◌≡◌, ◌∷◌, [], length, IfOk, false, replicate};
+ghost use Rattle.std.specs.Prelude.{◌≡◌, ◌<◌, ◌∷◌, [], length, IfOk, false, true, replicate, slice_set};
 ghost use Rattle.model.specs.Topology.{IsIn};
 ghost use Rattle.exchange_graph.specs.Fans.{EndsWithin};
 ghost use Rattle.exchange_graph.specs.Marks.{IsPending, Marks, set_places};
@@ -13,6 +13,16 @@ pub fn unmarked(alloc: Global, count: usize) -> Result<Vec<bool>, AllocError>
     ensures { IfOk result (λ marks. marks.items ≡ replicate count false) }
 {
     let marks = vec![in alloc; false; count]?;
+    Ok(marks)
+}
+
+/// This many marks, of which the one at this place is set.
+pub fn one_marked(alloc: Global, count: usize, place: usize) -> Result<Vec<bool>, AllocError>
+    requires { place < count }
+    ensures { IfOk result (λ marks. marks.items ≡ slice_set (replicate count false) place true) }
+{
+    let mut marks = unmarked(alloc, count)?;
+    marks[place] = true;
     Ok(marks)
 }
 

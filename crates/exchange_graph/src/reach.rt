@@ -12,7 +12,7 @@ ghost use Rattle.exchange_graph.specs.Marks.{
   exchange_name,
 };
 
-use crate::marks::{mark_all, pending, unmarked};
+use crate::marks::{mark_all, one_marked, pending, unmarked};
 use crate::topologies::Topology;
 use std::alloc::{AllocError, Global};
 
@@ -76,10 +76,9 @@ fn met_from(
     requires named { exchange_name topology.now place ≡ exchange.now }
     ensures { IfOk result (λ met. AreMet topology.now exchange.now key.now met.seen.items met.found.items) }
 {
-    let mut seen = unmarked(alloc, topology.exchanges().len())?;
+    let mut seen = one_marked(alloc, topology.exchanges().len(), place)?;
     let mut found = unmarked(alloc, topology.queues().len())?;
     let mut done = unmarked(alloc, topology.exchanges().len())?;
-    seen[place] = true;
     spread(
         topology,
         alloc,
@@ -97,13 +96,9 @@ fn found_by_name(topology: &Topology, alloc: Global, key: &[u8]) -> Result<Vec<b
     ensures { IfOk result (λ found. AreFound topology.now [] key.now found.items) }
 {
     topology.is_well_formed();
-    let mut found = unmarked(alloc, topology.queues().len())?;
     match topology.queue_at(key) {
-        Some(place) => {
-            found[place] = true;
-            Ok(found)
-        }
-        None => Ok(found),
+        Some(place) => one_marked(alloc, topology.queues().len(), place),
+        None => unmarked(alloc, topology.queues().len()),
     }
 }
 

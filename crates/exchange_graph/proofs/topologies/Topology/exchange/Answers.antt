@@ -1,4 +1,4 @@
-use Rattle.std.proofs.Common.{◌≡◌, ◌∙◌, sym, ap, Some, None, position}
+use Rattle.std.proofs.Common.{◌≡◌, sym, Some, None, position}
 use Rattle.std.specs.Str.{bytes_eq}
 use Rattle.model.specs.declared.topologies.Exchange.{Exchange}
 use Rattle.exchange_graph.proofs.Indices.{found_if_some, found_if_none}
