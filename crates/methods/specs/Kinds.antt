@@ -2,27 +2,35 @@
 use Rattle.std.specs.Prelude.{◌==◌, ℕ, List, [], ◌∷◌, if◌then◌else◌}
 use Rattle.field_table.specs.Arguments.{Kind, an_octet, a_short, a_long, a_long_long, a_short_text, a_long_text, a_field_table, some_bits}
 
+-- the arguments of connection.start
 abbrev pub start_kinds : List Kind
 start_kinds = an_octet ∷ an_octet ∷ a_field_table ∷ a_long_text ∷ a_long_text ∷ []
 
+-- of connection.start-ok
 abbrev pub start_ok_kinds : List Kind
 start_ok_kinds = a_field_table ∷ a_short_text ∷ a_long_text ∷ a_short_text ∷ []
 
+-- of connection.tune and connection.tune-ok
 abbrev pub tuning_kinds : List Kind
 tuning_kinds = a_short ∷ a_long ∷ a_short ∷ []
 
+-- of connection.open
 abbrev pub open_kinds : List Kind
 open_kinds = a_short_text ∷ a_short_text ∷ some_bits 1 ∷ []
 
+-- of connection.close and channel.close
 abbrev pub close_kinds : List Kind
 close_kinds = a_short ∷ a_short_text ∷ a_short ∷ a_short ∷ []
 
+-- of exchange.declare
 abbrev pub declare_exchange_kinds : List Kind
 declare_exchange_kinds = a_short ∷ a_short_text ∷ a_short_text ∷ some_bits 5 ∷ a_field_table ∷ []
 
+-- of queue.declare
 abbrev pub declare_queue_kinds : List Kind
 declare_queue_kinds = a_short ∷ a_short_text ∷ some_bits 5 ∷ a_field_table ∷ []
 
+-- of queue.declare-ok
 abbrev pub declared_kinds : List Kind
 declared_kinds = a_short_text ∷ a_long ∷ a_long ∷ []
 
@@ -30,24 +38,31 @@ declared_kinds = a_short_text ∷ a_long ∷ a_long ∷ []
 abbrev pub queue_kinds : List Kind
 queue_kinds = a_short ∷ a_short_text ∷ some_bits 1 ∷ []
 
+-- of basic.qos
 abbrev pub qos_kinds : List Kind
 qos_kinds = a_long ∷ a_short ∷ some_bits 1 ∷ []
 
+-- of basic.consume
 abbrev pub consume_kinds : List Kind
 consume_kinds = a_short ∷ a_short_text ∷ a_short_text ∷ some_bits 4 ∷ a_field_table ∷ []
 
+-- of basic.cancel
 abbrev pub cancel_kinds : List Kind
 cancel_kinds = a_short_text ∷ some_bits 1 ∷ []
 
+-- of basic.publish
 abbrev pub publish_kinds : List Kind
 publish_kinds = a_short ∷ a_short_text ∷ a_short_text ∷ some_bits 2 ∷ []
 
+-- of basic.return
 abbrev pub return_kinds : List Kind
 return_kinds = a_short ∷ a_short_text ∷ a_short_text ∷ a_short_text ∷ []
 
+-- of basic.deliver
 abbrev pub deliver_kinds : List Kind
 deliver_kinds = a_short_text ∷ a_long_long ∷ some_bits 1 ∷ a_short_text ∷ a_short_text ∷ []
 
+-- of basic.get-ok
 abbrev pub get_ok_kinds : List Kind
 get_ok_kinds = a_long_long ∷ some_bits 1 ∷ a_short_text ∷ a_short_text ∷ a_long ∷ []
 
@@ -55,6 +70,7 @@ get_ok_kinds = a_long_long ∷ some_bits 1 ∷ a_short_text ∷ a_short_text ∷
 abbrev pub tag_kinds : ℕ → List Kind
 tag_kinds n = a_long_long ∷ some_bits n ∷ []
 
+-- of each method of the connection class, by its number; close-ok (51) has none
 abbrev pub connection_kinds : ℕ → List Kind
 connection_kinds m =
     if m == 10 then start_kinds
@@ -66,6 +82,7 @@ connection_kinds m =
     else if m == 50 then close_kinds
     else []
 
+-- of each method of the channel class; close-ok (41) has none
 abbrev pub channel_kinds : ℕ → List Kind
 channel_kinds m =
     if m == 10 then a_short_text ∷ []
@@ -75,9 +92,11 @@ channel_kinds m =
     else if m == 40 then close_kinds
     else []
 
+-- of exchange.declare; declare-ok (11) has none, and those of delete, bind and unbind are not read
 abbrev pub exchange_kinds : ℕ → List Kind
 exchange_kinds m = if m == 10 then declare_exchange_kinds else []
 
+-- of each method of the queue class; those of bind (20), delete (40) and unbind (50) are not read
 abbrev pub queue_class_kinds : ℕ → List Kind
 queue_class_kinds m =
     if m == 10 then declare_queue_kinds
@@ -86,6 +105,7 @@ queue_class_kinds m =
     else if m == 31 then a_long ∷ []
     else []
 
+-- of each method of the basic class; qos-ok (11) and recover-ok (111) have none
 abbrev pub basic_kinds : ℕ → List Kind
 basic_kinds m =
     if m == 10 then qos_kinds
@@ -105,6 +125,7 @@ basic_kinds m =
     else if m == 120 then tag_kinds 2
     else []
 
+-- of confirm.select; select-ok (11) has none
 abbrev pub confirm_kinds : ℕ → List Kind
 confirm_kinds m = if m == 10 then some_bits 1 ∷ [] else []
 

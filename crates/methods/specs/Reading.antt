@@ -56,6 +56,7 @@ AreWhole given = AllByRecursion IsWhole given
 abbrev pub Lacks : Option (List Argument) → Type 0
 Lacks read = (given : List Argument) → read ≡ Some given → AreWhole given → ⊥
 
+-- what was read is refused for this reason: arguments lack, a table among them is none, or memory was refused
 abbrev pub Wants : Option (List Argument) → Refusal → Type 0
 Wants read FrameError = ⊥
 Wants read SyntaxError = Lacks read
@@ -119,6 +120,7 @@ pub record IsWithout (c m : ℕ) (bytes : List ℕ) : Type 0 where
   pub read : is_unread c m ≡ false
   pub lacks : Lacks (arguments_at (kinds_of c m) bytes)
 
+-- behind these ids no method was read: there is none, it is left out, its arguments lack, or memory was refused
 abbrev pub Fails : ℕ → ℕ → List ℕ → Refusal → Type 0
 Fails c m bytes FrameError = ⊥
 Fails c m bytes SyntaxError = IsWithout c m bytes
@@ -126,6 +128,7 @@ Fails c m bytes CommandInvalid = (is_known c m ≡ false) × (is_left_out c m �
 Fails c m bytes NotImplemented = is_left_out c m ≡ true
 Fails c m bytes Memory = ⊤
 
+-- what was read behind these ids: the method, or why there is none
 abbrev pub Reads : ℕ → ℕ → List ℕ → Result Method Refusal → Type 0
 Reads c m bytes (Ok x) = IsRead c m bytes x
 Reads c m bytes (Err e) = Fails c m bytes e
