@@ -1,20 +1,20 @@
 -- Whatever arrives, the world keeps what every world keeps.
-use Rattle.std.proofs.Common.{◌≡◌, ◌≢◌, ◌+◌, ℕ, List, [], ◌∷◌, ◌++◌, Bool, true, false, cond, Some, refl, sym, ap, subst, ◌∙◌}
+use Rattle.std.proofs.Common.{◌≡◌, ◌≢◌, ◌+◌, ℕ, List, [], ◌∷◌, Bool, true, false, cond, refl, sym, ap, subst, ◌∙◌}
 use Rattle.std.specs.Prelude.{◌&&◌, ◌==◌, not, MatchBool}
 use Rattle.std.proofs.lemmas.Bool.{eqb-true, eqb-false, false≢true}
 use Rattle.model.specs.Broker.{with_one}
 use Rattle.model.specs.State.{Config, State}
 use Rattle.model.specs.Run.{Happening}
 use Rattle.model.specs.Commands.{Stream}
-use Rattle.model.specs.Arrivals.{World, Wire, new_world, is_over, is_paused, is_past_bound, is_gone, can_open, Same, Turns, Waits, Works, none_more, one_more, WorksOff, Takes_off, TakesAndWorks, Opens, Loses, Answers, Plays, with_heard}
+use Rattle.model.specs.Arrivals.{World, Wire, new_world, is_over, is_paused, is_past_bound, is_gone, can_open, Same, Turns, Waits, Works, none_more, one_more, WorksOff, Takes_off, Opens, Loses, Answers, Plays, with_heard}
 use Rattle.model.specs.Consistent.{IsConsistent}
 use Rattle.model.specs.declared.events.Arrival.{Arrival}
 use Rattle.model.specs.declared.events.Arrival.TheVariants as arrival
 use Rattle.model.specs.declared.events.Event.TheVariants as event
 use Rattle.laws.specs.Consistency.{WorldsStayConsistent}
 use Rattle.laws.proofs.Balance.{run_counts}
-use Rattle.laws.proofs.Linked.{Agrees, with_by, read_agrees, settled_agrees, opened_agrees, lost_agrees}
-use Rattle.laws.proofs.Plays.{told_turns, told_taken, told_opens, told_loses, step_of}
+use Rattle.laws.proofs.Linked.{Agrees, with_by, read_agrees, settled_agrees, step_agrees}
+use Rattle.laws.proofs.Plays.{told_turns, told_taken, told_opens, told_loses}
 
 agreed : (w : World) → IsConsistent w → Agrees w.state.broker w.state.session (is_paused w)
 agreed w c = record { running = c.running; paused = c.paused }
@@ -72,15 +72,15 @@ pub opens_consistent : (old new : World) (k : ℕ) (s : Stream) (hs : List Happe
 opens_consistent old new k s hs is o =
     let c = old.given + 1 in
     let after : Agrees new.state.broker new.state.session (is_paused new) =
-    opened_agrees old.config old.state new.state c 255 k o.h.sends o.h.notes (is_paused old) (is_paused new) (agreed old is) o.happens.stepped
-    (λ d ne. ap (λ (w : Wire). is_past_bound w.output) (o.wires d ∙ wire_changed old.wire c d _ ne)) (ap (λ (w : Wire). is_past_bound w.output) (o.wires c ∙ wire_own old.wire c _)) in
+    step_agrees old.config old.state new.state (event.Running c 255 k) o.h.sends o.h.notes (is_paused old) (is_paused new) (agreed old is)
+    (λ d ne. ap (λ (w : Wire). is_past_bound w.output) (o.wires d ∙ wire_changed old.wire c d _ ne)) (ap (λ (w : Wire). is_past_bound w.output) (o.wires c ∙ wire_own old.wire c _)) o.happens.stepped in
     record { counted = run_counts hs old.state new.state (told_opens old new c k s hs o).run is.counted; running = after.running; paused = after.paused }
 
 pub loses_consistent : (old new : World) (c : ℕ) (hs : List Happening) → IsConsistent old → Loses old c hs new → IsConsistent new
 loses_consistent old new c hs k o =
     let after : Agrees new.state.broker new.state.session (is_paused new) =
-    lost_agrees old.config old.state new.state c o.h.sends o.h.notes (is_paused old) (is_paused new) (agreed old k) o.happens.stepped
-    (λ d ne. ap (λ (w : Wire). is_past_bound w.output) (o.wires d ∙ wire_changed old.wire c d _ ne)) in
+    step_agrees old.config old.state new.state (event.Lose c) o.h.sends o.h.notes (is_paused old) (is_paused new) (agreed old k)
+    (λ d ne. ap (λ (w : Wire). is_past_bound w.output) (o.wires d ∙ wire_changed old.wire c d _ ne)) tt o.happens.stepped in
     record { counted = run_counts hs old.state new.state (told_loses old new c hs o).run k.counted; running = after.running; paused = after.paused }
 
 pub new_is_consistent : (f : Config) → IsConsistent (new_world f)

@@ -1,5 +1,6 @@
 pub mod Counts
 pub mod Keys
+pub mod View
 pub mod Balance
 pub mod Once
 pub mod Acks

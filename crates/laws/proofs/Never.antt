@@ -19,7 +19,8 @@ use Rattle.model.specs.declared.notes.Note.TheVariants.{Published, Entered}
 use Rattle.model.specs.declared.notes.Way.TheVariants as way
 use Rattle.laws.specs.Promises.{AreSound, AreSaid}
 use Rattle.laws.proofs.Counts.{all_in, in-append, count-cons, count-cons_yes}
-use Rattle.laws.proofs.Balance.{Publishes, Seen, seen_at, number, first_note, entry_part, answer_part, noted, others_all, run_stays, counted_at}
+use Rattle.laws.proofs.View.{Publishes, Seen, seen_at}
+use Rattle.laws.proofs.Balance.{number, first_note, entry_part, answer_part, noted, others_all, run_stays, counted_at}
 use Rattle.laws.proofs.Once.{is_of_publish, AreOfOthers, Placed, places, key_is_short, run_entered_once}
 
 -- ---- what the publish of a number was

@@ -1,24 +1,19 @@
 -- Whatever arrives, what happens is a run, under what is in force, of commands that were said and sends that were put out.
 use Rattle.std.proofs.Common.{◌≡◌, ◌≤◌, ℕ, List, [], ◌∷◌, ◌++◌, Bool, true, false, Option, Some, None, refl, sym, subst, ◌∙◌, ◌⊎◌, inl, inr}
-use Rattle.std.specs.Prelude.{MatchBool, if◌then◌else◌, ◌==◌}
+use Rattle.std.specs.Prelude.{MatchBool}
 use Rattle.std.specs.List.{AllByRecursion}
 use Rattle.model.specs.Topology.{Topology}
-use Rattle.model.specs.Broker.{Broker, Channel, Connection}
-use Rattle.model.specs.Phases.{Session, Move, answer, while_closing, faulted, stays_in}
-use Rattle.model.specs.State.{Config, State, Step, Moves, OfCommand, OfLarge, OfFault}
-use Rattle.model.specs.Step.{Refusal, Ignored, Of_channel, Of_connection, Acts, Does, IsPublish, Performs, Refuses, Decides, OnConnection, OnLarge, empty_publish, refusal, refusal_of_large, returned_sends, confirm_sends, next_of, answer_of, is_some_full, is_none, select_sends, channel_or_new}
+use Rattle.model.specs.Broker.{Broker}
+use Rattle.model.specs.State.{Config, State, Step}
+use Rattle.model.specs.Step.{returned_sends, confirm_sends, next_of}
 use Rattle.model.specs.Run.{Happening, Run}
 use Rattle.model.specs.Spelling.{IsSpelled}
 use Rattle.model.specs.Commands.{Stream}
 use Rattle.model.specs.Arrivals.{World, Turns, Works, none_more, one_more, Waits, WorksOff, Answers, Same, with_heard, is_over, is_gone, can_open, Opens, Loses, Takes_off, TakesAndWorks, Puts, Settles, Happens, IsSaid, Plays}
 use Rattle.model.specs.declared.contents.Content.{Content}
 use Rattle.model.specs.declared.methods.Publish.{Publish}
-use Rattle.model.specs.declared.methods.Method.{Method}
-use Rattle.model.specs.declared.methods.Method.TheVariants.{ConnectionClose, ConnectionCloseOk, ChannelClose, ChannelCloseOk, BasicPublish, ConfirmSelect}
 use Rattle.model.specs.declared.notes.Note.{Note}
 use Rattle.model.specs.declared.notes.Answer.{Answer}
-use Rattle.model.specs.declared.events.Phase.{Phase}
-use Rattle.model.specs.declared.events.Phase.TheVariants as phase
 use Rattle.model.specs.declared.events.Send.{Send}
 use Rattle.model.specs.declared.events.Send.TheVariants as send
 use Rattle.model.specs.declared.events.Event.{Event}
@@ -26,6 +21,7 @@ use Rattle.model.specs.declared.events.Event.TheVariants as event
 use Rattle.model.specs.declared.events.Arrival.{Arrival}
 use Rattle.model.specs.declared.events.Arrival.TheVariants as arrival
 use Rattle.laws.proofs.Counts.{all-append}
+use Rattle.laws.proofs.View.{Seen, seen, reply_all}
 
 -- ---- no step sends the protocol header
 
@@ -36,9 +32,6 @@ IsCommandSend (send.Command c h m content) = Unit {0}
 abbrev pub AreCommandSends : List Send → Type 0
 AreCommandSends sends = AllByRecursion IsCommandSend sends
 
-commands_done : (sends wanted : List Send) (notes : List Note) (made new : Broker) → AreCommandSends wanted → Does sends notes new wanted made → AreCommandSends sends
-commands_done sends wanted notes made new a d = subst AreCommandSends (sym d.sent) a
-
 commands_returned : (c h : ℕ) (p : Publish) (content : Content) (b : Bool) → AreCommandSends (returned_sends c h p content b)
 commands_returned c h p content true = (tt, tt)
 commands_returned c h p content false = tt
@@ -47,98 +40,9 @@ commands_confirmed : (c h : ℕ) (o : Option ℕ) (a : Answer) → AreCommandSen
 commands_confirmed c h None a = tt
 commands_confirmed c h (Some n) a = (tt, tt)
 
-commands_selected : (c h : ℕ) (b : Bool) → AreCommandSends (select_sends c h b)
-commands_selected c h true = tt
-commands_selected c h false = (tt, tt)
-
-commands_published : (t : Topology) (old : Broker) (c h : ℕ) (ch : Channel) (p : Publish) (content : Content) (sends : List Send) (notes : List Note) (new : Broker) → IsPublish t old c h ch p content sends notes new → AreCommandSends sends
-commands_published t old c h ch p content sends notes new is =
-    subst AreCommandSends (sym is.sent) (all-append IsCommandSend _ _ (commands_returned c h p content _) (commands_confirmed c h (next_of ch.confirm) _))
-
-commands_performed : (t : Topology) (old : Broker) (c h : ℕ) (ch : Channel) (m : Method) (content : Option Content) (sends : List Send) (notes : List Note) (new : Broker) → Performs t old c h ch m content sends notes new → AreCommandSends sends
-commands_performed t old c h ch (ConfirmSelect no_wait) content sends notes new d = commands_done sends _ notes _ new (commands_selected c h no_wait) d
-commands_performed t old c h ch (BasicPublish p) content sends notes new d = commands_published t old c h ch p _ sends notes new d
-commands_performed t old c h ch (ChannelClose m) content sends notes new d = commands_done sends _ notes _ new (tt, tt) d
-commands_performed t old c h ch ChannelCloseOk content sends notes new d = commands_done sends _ notes _ new tt d
-commands_performed t old c h ch (ConnectionClose m) content sends notes new d = commands_done sends _ notes _ new (tt, tt) d
-commands_performed t old c h ch _ content sends notes new d = absurd d
-
-commands_refused : (old : Broker) (c h : ℕ) (m : Method) (r : Refusal) (sends : List Send) (notes : List Note) (new : Broker) → Refuses old c h m r sends notes new → AreCommandSends sends
-commands_refused old c h m Ignored sends notes new d = commands_done sends _ notes _ new tt d
-commands_refused old c h m (Of_channel code) sends notes new d = commands_done sends _ notes _ new (tt, tt) d
-commands_refused old c h m (Of_connection code) sends notes new d = commands_done sends _ notes _ new (tt, tt) d
-
-commands_decided : (t : Topology) (old : Broker) (c h : ℕ) (m : Method) (content : Option Content) (r : Option Refusal) (sends : List Send) (notes : List Note) (new : Broker) → Decides t old c h m content r sends notes new → AreCommandSends sends
-commands_decided t old c h m content None sends notes new d = commands_performed t old c h _ m content sends notes new d
-commands_decided t old c h m content (Some r) sends notes new d = commands_refused old c h m r sends notes new d
-
-commands_on : (t : Topology) (old : Broker) (c h : ℕ) (m : Method) (content : Option Content) (sends : List Send) (notes : List Note) (new : Broker) (o : Option Connection) → OnConnection t old c h m content sends notes new o → AreCommandSends sends
-commands_on t old c h m content sends notes new None d = commands_done sends _ notes _ new tt d
-commands_on t old c h m content sends notes new (Some conn) d = commands_decided t old c h m content _ sends notes new d
-
-commands_of_refused_large : (old : Broker) (c h : ℕ) (sends : List Send) (notes : List Note) (new : Broker) (o : Option Connection) → OnLarge old c h sends notes new o → AreCommandSends sends
-commands_of_refused_large old c h sends notes new None d = commands_done sends _ notes _ new tt d
-commands_of_refused_large old c h sends notes new (Some conn) d = commands_refused old c h empty_publish (refusal_of_large conn h (old.channel c h)) sends notes new d
-
-commands_acted : (t : Topology) (old : Broker) (e : Event) (sends : List Send) (notes : List Note) (new : Broker) → Acts t old e sends notes new → AreCommandSends sends
-commands_acted t old (event.Running c max k) sends notes new d = commands_done sends _ notes _ new tt d
-commands_acted t old (event.Command c h m content) sends notes new d = commands_on t old c h m content sends notes new (old.connection c) d
-commands_acted t old (event.TooLarge c h) sends notes new d = commands_of_refused_large old c h sends notes new (old.connection c) d
-commands_acted t old (event.Fault c code) sends notes new d = commands_done sends _ notes _ new (tt, tt) d
-commands_acted t old (event.Lose c) sends notes new d = commands_done sends _ notes _ new tt d
-commands_acted t old (event.Pause c) sends notes new d = commands_done sends _ notes _ new tt d
-commands_acted t old (event.Resume c) sends notes new d = commands_done sends _ notes _ new tt d
-
-commands_while_closing : (c : ℕ) (s : Session) (h : ℕ) (m : Method) → AreCommandSends (while_closing c s h m).sends
-commands_while_closing c s h (ConnectionClose m) = go (h == 0)
-  where
-    go : (b : Bool) → AreCommandSends (if b then record { sends = Rattle.model.specs.Step.reply c 0 ConnectionCloseOk ∷ []; next = s } else stays_in s).sends
-    go true = (tt, tt)
-    go false = tt
-commands_while_closing c s h ConnectionCloseOk = go (h == 0)
-  where
-    go : (b : Bool) → AreCommandSends (if b then record { sends = []; next = Rattle.model.specs.Phases.to_phase s phase.Over } else stays_in s).sends
-    go true = tt
-    go false = tt
-commands_while_closing c s h _ = tt
-
-commands_answered : (c : ℕ) (s : Session) (p : Phase) (h : ℕ) (m : Method) → AreCommandSends (answer c s p h m).sends
-commands_answered c s phase.Closing h m = commands_while_closing c s h m
-commands_answered c s _ h m = tt
-
-commands_faulted : (c : ℕ) (s : Session) (p : Phase) (code : ℕ) → AreCommandSends (faulted c s p code).sends
-commands_faulted c s phase.Closing code = tt
-commands_faulted c s phase.Over code = tt
-commands_faulted c s _ code = (tt, tt)
-
-commands_moved : (old : State) (c : ℕ) (move : Move) (sends : List Send) (notes : List Note) (new : State) → AreCommandSends move.sends → Moves old c move sends notes new → AreCommandSends sends
-commands_moved old c move sends notes new a m = subst AreCommandSends (sym m.sent) a
-
-commands_of_command : (f : Config) (old : State) (p : Phase) (c h : ℕ) (m : Method) (content : Option Content) (sends : List Send) (notes : List Note) (new : State) → OfCommand f old p c h m content sends notes new → AreCommandSends sends
-commands_of_command f old phase.Running c h m content sends notes new s = commands_acted f.topology old.broker (event.Command c h m content) sends notes new.broker s.acts
-commands_of_command f old phase.Closing c h m content sends notes new s = commands_moved old c _ sends notes new (commands_answered c (old.session c) phase.Closing h m) s
-commands_of_command f old _ c h m content sends notes new s = commands_moved old c _ sends notes new tt s
-
-commands_of_large : (f : Config) (old : State) (p : Phase) (c h : ℕ) (sends : List Send) (notes : List Note) (new : State) → OfLarge f old p c h sends notes new → AreCommandSends sends
-commands_of_large f old phase.Running c h sends notes new s = commands_acted f.topology old.broker (event.TooLarge c h) sends notes new.broker s.acts
-commands_of_large f old phase.Closing c h sends notes new s = commands_moved old c _ sends notes new (commands_answered c (old.session c) phase.Closing h empty_publish) s
-commands_of_large f old _ c h sends notes new s = commands_moved old c _ sends notes new tt s
-
-commands_of_fault : (f : Config) (old : State) (p : Phase) (c code : ℕ) (sends : List Send) (notes : List Note) (new : State) → OfFault f old p c code sends notes new → AreCommandSends sends
-commands_of_fault f old phase.Running c code sends notes new s = commands_acted f.topology old.broker (event.Fault c code) sends notes new.broker s.acts
-commands_of_fault f old phase.Closing c code sends notes new s = commands_moved old c _ sends notes new tt s
-commands_of_fault f old phase.Over c code sends notes new s = commands_moved old c _ sends notes new tt s
-commands_of_fault f old _ c code sends notes new s = commands_moved old c _ sends notes new (tt, tt) s
-
--- no step sends the protocol header
-pub commands_stepped : (f : Config) (old : State) (e : Event) (sends : List Send) (notes : List Note) (new : State) → Step f old e sends notes new → AreCommandSends sends
-commands_stepped f old (event.Running c max k) sends notes new s = commands_acted f.topology old.broker (event.Running c max k) sends notes new.broker s.acts
-commands_stepped f old (event.Command c h m content) sends notes new s = commands_of_command f old (old.session c).phase c h m content sends notes new s
-commands_stepped f old (event.TooLarge c h) sends notes new s = commands_of_large f old (old.session c).phase c h sends notes new s
-commands_stepped f old (event.Fault c code) sends notes new s = commands_of_fault f old (old.session c).phase c code sends notes new s
-commands_stepped f old (event.Lose c) sends notes new s = commands_acted f.topology old.broker (event.Lose c) sends notes new.broker s.acts
-commands_stepped f old (event.Pause c) sends notes new s = commands_acted f.topology old.broker (event.Pause c) sends notes new.broker s.acts
-commands_stepped f old (event.Resume c) sends notes new s = commands_acted f.topology old.broker (event.Resume c) sends notes new.broker s.acts
+commands_seen : (t : Topology) (old new : Broker) (e : Event) (sends : List Send) (notes : List Note) → Seen t old new e sends notes → AreCommandSends sends
+commands_seen t old new e sends notes (inl q) = reply_all IsCommandSend (λ c h m content is. tt) sends q.few
+commands_seen t old new e sends notes (inr p) = subst AreCommandSends (sym p.is.sent) (all-append IsCommandSend _ _ (commands_returned p.c p.h p.publish _ _) (commands_confirmed p.c p.h (next_of p.ch.confirm) _))
 
 -- ---- what is told of the happenings of a run
 
@@ -228,7 +132,7 @@ told_puts : (a b : World) (e : Event) (c : ℕ) (hs : List Happening) → IsSaid
 told_puts a b e c hs said p =
     let rest = settled_is a.config p.mid b.state c _ _ p.rest p.settled in
     let put : IsPut p.h = record {
-      commands = commands_stepped a.config a.state e p.h.sends p.h.notes p.mid p.happens.stepped;
+      commands = commands_seen a.config.topology a.state.broker p.mid.broker e p.h.sends p.h.notes (seen a.config a.state p.mid p.h.sends p.h.notes e p.happens.stepped);
       spelled = p.spelled;
       bounded = inr p.bounded;
     } in

@@ -9,7 +9,6 @@ use Rattle.model.specs.Headers.{header_bytes, no_properties}
 use Rattle.model.specs.Spelling.{method_frame, body_frame, spelling}
 use Rattle.model.specs.Commands.{Goes_on, Makes, Breaks, Drops, is_too_large, taken_dropped}
 use Rattle.model.specs.Step.{channel_close, connection_close, select_sends, confirm_sends, empty_publish}
-use Rattle.model.specs.Topology.{Topology}
 use Rattle.model.specs.Phases.{no_session}
 use Rattle.model.specs.State.{Config, State}
 use Rattle.model.specs.Run.{Happening, Stays, empty_broker}

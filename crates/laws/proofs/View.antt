@@ -1,0 +1,314 @@
+-- The ways in which a step can go. Here alone all cases of `Step` are walked over: a new command is a new line here.
+use Rattle.std.proofs.Common.{◌≡◌, ℕ, ◌⊎◌, List, [], ◌∷◌, ◌++◌, Bool, true, false, cond, eqb, refl, sym, ap, subst, ◌∙◌, map, Option, Some, None, inl, inr}
+use Rattle.std.specs.Prelude.{count_by, ◌==◌, if◌then◌else◌}
+use Rattle.std.specs.List.{AllByRecursion}
+use Rattle.std.proofs.lemmas.Bool.{eqb-true, false≢true}
+use Rattle.model.specs.Words.{Text}
+use Rattle.model.specs.Topology.{Topology}
+use Rattle.model.specs.Broker.{Channel, Connection, Broker, with_one}
+use Rattle.model.specs.Step.{Refusal, Ignored, Of_channel, Of_connection, Does, IsPublish, Performs, Refuses, Decides, OnConnection, OnLarge, Acts, empty_publish, refusal_of_large, freed, by_channel, by_connection, with_channel, with_freed, reply, content_or_none, returned_sends, confirm_sends, is_some_full, next_of, answer_of, refusal, channel_or_new, opened, paused}
+use Rattle.model.specs.Phases.{Session, Move, running_session, no_session, is_running, after_sends, stays_in, to_phase, while_closing, answer, faulted}
+use Rattle.model.specs.State.{Config, State, Moves, OfCommand, OfLarge, OfFault, Step}
+use Rattle.model.specs.Run.{Happening, has_number}
+use Rattle.model.specs.declared.messages.Message.{Message}
+use Rattle.model.specs.declared.messages.Holder.{Holder}
+use Rattle.model.specs.declared.messages.Mark.{Mark}
+use Rattle.model.specs.declared.messages.Mark.TheVariants.{Ready, Held}
+use Rattle.model.specs.declared.messages.Entry.{Entry}
+use Rattle.model.specs.declared.contents.Content.{Content}
+use Rattle.model.specs.declared.events.Send.{Send}
+use Rattle.model.specs.declared.events.Send.TheVariants as send
+use Rattle.model.specs.declared.events.Phase.{Phase}
+use Rattle.model.specs.declared.events.Phase.TheVariants as phase
+use Rattle.model.specs.declared.events.Event.{Event}
+use Rattle.model.specs.declared.events.Event.TheVariants.{Running, Command, TooLarge, Fault, Lose, Pause, Resume}
+use Rattle.model.specs.declared.methods.Publish.{Publish}
+use Rattle.model.specs.declared.methods.Method.{Method}
+use Rattle.model.specs.declared.methods.Method.TheVariants.{ConnectionClose, ConnectionCloseOk, ChannelClose, ChannelCloseOk, BasicPublish, ConfirmSelect, ConfirmSelectOk}
+use Rattle.model.specs.declared.notes.Note.{Note}
+use Rattle.model.specs.declared.notes.Answer.{Answer}
+use Rattle.model.specs.declared.notes.Answer.TheVariants as answered
+use Rattle.laws.proofs.Counts.{count-map}
+
+-- ---- what is sent
+
+-- a close, its answer, or the answer to confirm.select
+abbrev pub is_reply : Method → Bool
+is_reply (ConnectionClose m) = true
+is_reply ConnectionCloseOk = true
+is_reply (ChannelClose m) = true
+is_reply ChannelCloseOk = true
+is_reply ConfirmSelectOk = true
+is_reply m = false
+
+-- nothing, or one reply
+abbrev pub IsReplyAtMost : List Send → Type 0
+IsReplyAtMost [] = Unit {0}
+IsReplyAtMost (send.Greeting c ∷ sends) = ⊥
+IsReplyAtMost (send.Command c h m content ∷ sends) = (is_reply m ≡ true) × (sends ≡ [])
+
+-- what is true of replies is true of each of these sends
+pub reply_all : (P : Send → Type 0) → ((c h : ℕ) (m : Method) (content : Option Content) → is_reply m ≡ true → P (send.Command c h m content)) → (sends : List Send) → IsReplyAtMost sends → AllByRecursion P sends
+reply_all P each [] a = tt
+reply_all P each (send.Greeting c ∷ sends) a = absurd a
+reply_all P each (send.Command c h m content ∷ sends) a = (each c h m content a.0, subst (AllByRecursion P) (sym a.1) tt)
+
+-- ---- one value changed
+
+pub with_same : {A : Type 0} (f : ℕ → A) (n : ℕ) (a : A) → a ≡ f n → (d : ℕ) → with_one f n a d ≡ f d
+with_same f n a e d = go (d == n) refl
+  where
+    go : (b : Bool) → (d == n) ≡ b → cond b a (f d) ≡ f d
+    go true q = e ∙ ap f (sym (eqb-true d n q))
+    go false q = refl
+
+-- ---- the ways of the broker
+
+-- no publish is counted and nothing is noted, each queue has the messages that it had, and one reply at most is sent
+pub record AddsNothing (old new : Broker) (sends : List Send) (notes : List Note) : Type 0 where
+  pub same : new.published ≡ old.published
+  pub noted : notes ≡ []
+  pub kept : (n : ℕ) (q : Text) → count_by (has_number n) (new.queue q) ≡ count_by (has_number n) (old.queue q)
+  pub few : IsReplyAtMost sends
+
+-- the event is a publish, of a connection that runs, and is not refused
+pub record Publishes (t : Topology) (old new : Broker) (e : Event) (sends : List Send) (notes : List Note) : Type 0 where
+  pub c : ℕ
+  pub h : ℕ
+  pub ch : Channel
+  pub publish : Publish
+  pub given : Option Content
+  pub event : e ≡ Command c h (BasicPublish publish) given
+  pub connection : Connection
+  pub accepted : refusal t old connection h (BasicPublish publish) (old.channel c h) ≡ None
+  pub is : IsPublish t old c h ch publish (content_or_none given) sends notes new
+
+abbrev pub Seen : Topology → Broker → Broker → Event → List Send → List Note → Type 0
+Seen t old new e sends notes = AddsNothing old new sends notes ⊎ Publishes t old new e sends notes
+
+-- the connection of an event
+abbrev pub connection_of : Event → ℕ
+connection_of (Running c max k) = c
+connection_of (Command c h m content) = c
+connection_of (TooLarge c h) = c
+connection_of (Fault c code) = c
+connection_of (Lose c) = c
+connection_of (Pause c) = c
+connection_of (Resume c) = c
+
+-- after these sends it is there if it runs on
+abbrev pub kept_after : Broker → ℕ → List Send → Option Connection
+kept_after old c sends = cond (is_running (after_sends sends)) (old.connection c) None
+
+-- it as the broker has it after the event; the others stay
+abbrev pub connection_after : Broker → Event → List Send → Option Connection
+connection_after old (Running c max k) sends = Some (record { channel_max = max; is_paused = false })
+connection_after old (Command c h m content) sends = kept_after old c sends
+connection_after old (TooLarge c h) sends = kept_after old c sends
+connection_after old (Fault c code) sends = None
+connection_after old (Lose c) sends = None
+connection_after old (Pause c) sends = paused true (old.connection c)
+connection_after old (Resume c) sends = paused false (old.connection c)
+
+abbrev IsAlone : Broker → ℕ → Option Connection → Broker → Type 0
+IsAlone old c o new = (d : ℕ) → new.connection d ≡ with_one old.connection c o d
+
+-- an event of the broker: it adds nothing or is a publish, and changes its own connection alone
+pub record Acted (t : Topology) (old new : Broker) (e : Event) (sends : List Send) (notes : List Note) : Type 0 where
+  pub seen : Seen t old new e sends notes
+  pub connections : (d : ℕ) → new.connection d ≡ with_one old.connection (connection_of e) (connection_after old e sends) d
+
+-- one that adds nothing, after which its connection is this one
+record Quiet (old new : Broker) (c : ℕ) (after : List Send → Option Connection) (sends : List Send) (notes : List Note) : Type 0 where
+  adds : AddsNothing old new sends notes
+  connections : IsAlone old c (after sends) new
+
+quiet_acts : (t : Topology) (old new : Broker) (e : Event) (sends : List Send) (notes : List Note) → Quiet old new (connection_of e) (connection_after old e) sends notes → Acted t old new e sends notes
+quiet_acts t old new e sends notes q = record { seen = inl q.adds; connections = q.connections }
+
+-- this state has the messages of the other, and the count of its publishes
+record Keeps (old made : Broker) : Type 0 where
+  same : made.published ≡ old.published
+  kept : (n : ℕ) (q : Text) → count_by (has_number n) (made.queue q) ≡ count_by (has_number n) (old.queue q)
+
+-- freeing keeps numbers
+freed_number : (n : ℕ) (mine : Holder → Bool) (e : Entry) → has_number n (freed mine e) ≡ has_number n e
+freed_number n mine e = go e.message e.mark
+  where
+    go : (m : Message) (k : Mark) → has_number n (freed mine (record { message = m; mark = k })) ≡ eqb m.number n
+    go m Ready = refl
+    go m (Held holder) = elim (mine holder) as (λ v. has_number n (if v then record { message = record m { redelivered = true }; mark = Ready } else record { message = m; mark = Held holder }) ≡ eqb m.number n) [ true ↦ refl | false ↦ refl ]
+
+freed_count : (b : Broker) (mine : Holder → Bool) (n : ℕ) (q : Text) → count_by (has_number n) (map (freed mine) (b.queue q)) ≡ count_by (has_number n) (b.queue q)
+freed_count b mine n q = count-map (has_number n) (freed mine) (freed_number n mine) (b.queue q)
+
+-- all connections stay
+stay : (old : Broker) (c : ℕ) → IsAlone old c (old.connection c) old
+stay old c d = sym (with_same old.connection c (old.connection c) refl d)
+
+quiet : (old new made : Broker) (c : ℕ) (after : List Send → Option Connection) (sends wanted : List Send) (notes : List Note)
+    → Does sends notes new wanted made → IsReplyAtMost wanted → Keeps old made → IsAlone old c (after wanted) made → Quiet old new c after sends notes
+quiet old new made c after sends wanted notes d few k alone = record {
+  adds = record {
+    same = d.left.counted ∙ k.same;
+    noted = d.noted;
+    kept = λ n q. ap (count_by (has_number n)) (d.left.queues q) ∙ k.kept n q;
+    few = subst IsReplyAtMost (sym d.sent) few;
+  };
+  connections = λ x. d.left.connections x ∙ subst (λ (s : List Send). made.connection x ≡ with_one old.connection c (after s) x) (sym d.sent) (alone x);
+}
+
+-- a publish sends what leaves its connection running
+publish_runs : (c h : ℕ) (p : Publish) (content : Content) (b : Bool) (o : Option ℕ) (a : Answer) → is_running (after_sends (returned_sends c h p content b ++ confirm_sends c h o a)) ≡ true
+publish_runs c h p content true None a = refl
+publish_runs c h p content true (Some n) answered.Ack = refl
+publish_runs c h p content true (Some n) answered.Nack = refl
+publish_runs c h p content false None a = refl
+publish_runs c h p content false (Some n) answered.Ack = refl
+publish_runs c h p content false (Some n) answered.Nack = refl
+
+publish_stays : (t : Topology) (old new : Broker) (c h : ℕ) (ch : Channel) (p : Publish) (content : Content) (sends : List Send) (notes : List Note) → IsPublish t old c h ch p content sends notes new → IsAlone old c (kept_after old c sends) new
+publish_stays t old new c h ch p content sends notes is d =
+    let runs : is_running (after_sends sends) ≡ true = ap (λ (s : List Send). is_running (after_sends s)) is.sent ∙ publish_runs c h p content _ (next_of ch.confirm) (answer_of (is_some_full t old.queue content is.targets)) in
+    is.left.connections d ∙ sym (with_same old.connection c _ (ap (λ (b : Bool). cond b (old.connection c) None) runs) d)
+
+-- ---- the walk over all cases
+
+module _ (t : Topology) (old new : Broker) (sends : List Send) (notes : List Note) where
+  -- a command that is no publish
+  still : (c : ℕ) (wanted : List Send) (made : Broker) → Does sends notes new wanted made → IsReplyAtMost wanted → Keeps old made → IsAlone old c (kept_after old c wanted) made → Quiet old new c (kept_after old c) sends notes
+  still c wanted made = quiet old new made c (kept_after old c) sends wanted notes
+
+  closes : (c h : ℕ) (v : Bool) → Does sends notes new (reply c h ChannelCloseOk ∷ []) (if v then old else with_freed (with_channel old c h None) (by_channel c h)) → Quiet old new c (kept_after old c) sends notes
+  closes c h true p = still c _ _ p (refl, refl) (record { same = refl; kept = λ n q. refl }) (stay old c)
+  closes c h false p = still c _ _ p (refl, refl) (record { same = refl; kept = freed_count old (by_channel c h) }) (stay old c)
+
+  performs : (c h : ℕ) (ch : Channel) (m : Method) (content : Option Content) (conn : Connection) → refusal t old conn h m (old.channel c h) ≡ None → Performs t old c h ch m content sends notes new → Acted t old new (Command c h m content) sends notes
+  performs c h ch (ConfirmSelect true) content conn accepted p = quiet_acts t old new _ sends notes (still c _ _ p tt (record { same = refl; kept = λ n q. refl }) (stay old c))
+  performs c h ch (ConfirmSelect false) content conn accepted p = quiet_acts t old new _ sends notes (still c _ _ p (refl, refl) (record { same = refl; kept = λ n q. refl }) (stay old c))
+  performs c h ch (BasicPublish publish) content conn accepted p = record {
+    seen = inr (record { c = c; h = h; ch = ch; publish = publish; given = content; event = refl; connection = conn; accepted = accepted; is = p });
+    connections = publish_stays t old new c h ch publish (content_or_none content) sends notes p;
+  }
+  performs c h ch (ChannelClose m) content conn accepted p = quiet_acts t old new _ sends notes (closes c h ch.is_closing p)
+  performs c h ch ChannelCloseOk content conn accepted p = quiet_acts t old new _ sends notes (still c _ _ p tt (record { same = refl; kept = λ n q. refl }) (stay old c))
+  performs c h ch (ConnectionClose m) content conn accepted p = quiet_acts t old new _ sends notes (still c _ _ p (refl, refl) (record { same = refl; kept = freed_count old (by_connection c) }) (λ d. refl))
+  performs c h ch _ content conn accepted p = absurd p
+
+  refuses : (c h : ℕ) (m : Method) (r : Refusal) → Refuses old c h m r sends notes new → Quiet old new c (kept_after old c) sends notes
+  refuses c h m Ignored p = still c _ _ p tt (record { same = refl; kept = λ n q. refl }) (stay old c)
+  refuses c h m (Of_channel code) p = still c _ _ p (refl, refl) (record { same = refl; kept = freed_count old (by_channel c h) }) (stay old c)
+  refuses c h m (Of_connection code) p = still c _ _ p (refl, refl) (record { same = refl; kept = freed_count old (by_connection c) }) (λ d. refl)
+
+  decides : (c h : ℕ) (m : Method) (content : Option Content) (conn : Connection) (r : Option Refusal) → refusal t old conn h m (old.channel c h) ≡ r → Decides t old c h m content r sends notes new → Acted t old new (Command c h m content) sends notes
+  decides c h m content conn None is p = performs c h (channel_or_new (old.channel c h)) m content conn is p
+  decides c h m content conn (Some r) is p = quiet_acts t old new _ sends notes (refuses c h m r p)
+
+  commanded : (c h : ℕ) (m : Method) (content : Option Content) (o : Option Connection) → OnConnection t old c h m content sends notes new o → Acted t old new (Command c h m content) sends notes
+  commanded c h m content None p = quiet_acts t old new _ sends notes (still c _ _ p tt (record { same = refl; kept = λ n q. refl }) (stay old c))
+  commanded c h m content (Some conn) p = decides c h m content conn (refusal t old conn h m (old.channel c h)) refl p
+
+  too_large : (c h : ℕ) (o : Option Connection) → OnLarge old c h sends notes new o → Quiet old new c (kept_after old c) sends notes
+  too_large c h None p = still c _ _ p tt (record { same = refl; kept = λ n q. refl }) (stay old c)
+  too_large c h (Some conn) p = refuses c h empty_publish (refusal_of_large conn h (old.channel c h)) p
+
+  -- Each event of the broker goes one of these ways.
+  pub acted : (e : Event) → Acts t old e sends notes new → Acted t old new e sends notes
+  acted (Running c max k) p = quiet_acts t old new _ sends notes (quiet old new _ c _ sends _ notes p tt (record { same = refl; kept = λ n q. refl }) (λ d. refl))
+  acted (Command c h m content) p = commanded c h m content (old.connection c) p
+  acted (TooLarge c h) p = quiet_acts t old new _ sends notes (too_large c h (old.connection c) p)
+  acted (Fault c code) p = quiet_acts t old new _ sends notes (quiet old new _ c _ sends _ notes p (refl, refl) (record { same = refl; kept = freed_count old (by_connection c) }) (λ d. refl))
+  acted (Lose c) p = quiet_acts t old new _ sends notes (quiet old new _ c _ sends _ notes p tt (record { same = refl; kept = freed_count old (by_connection c) }) (λ d. refl))
+  acted (Pause c) p = quiet_acts t old new _ sends notes (quiet old new _ c _ sends _ notes p tt (record { same = refl; kept = λ n q. refl }) (λ d. refl))
+  acted (Resume c) p = quiet_acts t old new _ sends notes (quiet old new _ c _ sends _ notes p tt (record { same = refl; kept = λ n q. refl }) (λ d. refl))
+
+-- ---- the ways of a whole step
+
+-- its connection's session after an event of the broker
+abbrev pub session_after : Session → Event → List Send → Session
+session_after s (Running c max k) sends = record running_session { channel_max = max }
+session_after s (Command c h m content) sends = to_phase s (after_sends sends)
+session_after s (TooLarge c h) sends = to_phase s (after_sends sends)
+session_after s (Fault c code) sends = to_phase s phase.Over
+session_after s (Lose c) sends = no_session
+session_after s (Pause c) sends = s
+session_after s (Resume c) sends = s
+
+-- a command, or a fault of its stream
+abbrev pub is_read : Event → Bool
+is_read (Command c h m content) = true
+is_read (TooLarge c h) = true
+is_read (Fault c code) = true
+is_read e = false
+
+-- the broker performs it
+pub record Performed (f : Config) (old : State) (e : Event) (sends : List Send) (notes : List Note) (new : State) : Type 0 where
+  pub runs : is_read e ≡ true → is_running (old.session (connection_of e)).phase ≡ true
+  pub acts : Acts f.topology old.broker e sends notes new.broker
+  pub sessions : (d : ℕ) → new.session d ≡ with_one old.session (connection_of e) (session_after (old.session (connection_of e)) e sends) d
+
+-- the phase of a connection that doesn't run answers what is read, by one reply at most
+pub record Answered (old : State) (e : Event) (sends : List Send) (notes : List Note) (new : State) : Type 0 where
+  pub idle : is_running (old.session (connection_of e)).phase ≡ false
+  pub read : is_read e ≡ true
+  pub move : Move
+  pub few : IsReplyAtMost move.sends
+  pub moves : Moves old (connection_of e) move sends notes new
+
+either_few : (b : Bool) (x y : Move) → IsReplyAtMost x.sends → IsReplyAtMost y.sends → IsReplyAtMost (if b then x else y).sends
+either_few true x y p q = p
+either_few false x y p q = q
+
+closing_few : (c : ℕ) (s : Session) (h : ℕ) (m : Method) → IsReplyAtMost (while_closing c s h m).sends
+closing_few c s h (ConnectionClose m) = either_few (h == 0) (record { sends = reply c 0 ConnectionCloseOk ∷ []; next = s }) (stays_in s) (refl, refl) tt
+closing_few c s h ConnectionCloseOk = either_few (h == 0) (record { sends = []; next = to_phase s phase.Over }) (stays_in s) tt tt
+closing_few c s h _ = tt
+
+answer_few : (c : ℕ) (s : Session) (p : Phase) (h : ℕ) (m : Method) → IsReplyAtMost (answer c s p h m).sends
+answer_few c s phase.Closing h m = closing_few c s h m
+answer_few c s _ h m = tt
+
+fault_few : (c : ℕ) (s : Session) (p : Phase) (code : ℕ) → IsReplyAtMost (faulted c s p code).sends
+fault_few c s phase.Closing code = tt
+fault_few c s phase.Over code = tt
+fault_few c s _ code = (refl, refl)
+
+module _ (f : Config) (old new : State) (sends : List Send) (notes : List Note) where
+  of_command : (p : Phase) (c h : ℕ) (m : Method) (content : Option Content) → (old.session c).phase ≡ p → OfCommand f old p c h m content sends notes new → Performed f old (Command c h m content) sends notes new ⊎ Answered old (Command c h m content) sends notes new
+  of_command phase.Running c h m content here s = inl (record { runs = λ r. ap is_running here; acts = s.acts; sessions = s.session })
+  of_command p c h m content here s = inr (record { idle = ap is_running here; read = refl; move = answer c (old.session c) p h m; few = answer_few c (old.session c) p h m; moves = s })
+
+  of_large : (p : Phase) (c h : ℕ) → (old.session c).phase ≡ p → OfLarge f old p c h sends notes new → Performed f old (TooLarge c h) sends notes new ⊎ Answered old (TooLarge c h) sends notes new
+  of_large phase.Running c h here s = inl (record { runs = λ r. ap is_running here; acts = s.acts; sessions = s.session })
+  of_large p c h here s = inr (record { idle = ap is_running here; read = refl; move = answer c (old.session c) p h empty_publish; few = answer_few c (old.session c) p h empty_publish; moves = s })
+
+  of_fault : (p : Phase) (c code : ℕ) → (old.session c).phase ≡ p → OfFault f old p c code sends notes new → Performed f old (Fault c code) sends notes new ⊎ Answered old (Fault c code) sends notes new
+  of_fault phase.Running c code here s = inl (record { runs = λ r. ap is_running here; acts = s.acts; sessions = s.session })
+  of_fault p c code here s = inr (record { idle = ap is_running here; read = refl; move = faulted c (old.session c) p code; few = fault_few c (old.session c) p code; moves = s })
+
+  -- Each step goes one of these ways.
+  pub goes : (e : Event) → Step f old e sends notes new → Performed f old e sends notes new ⊎ Answered old e sends notes new
+  goes (Running c max k) s = inl (record { runs = λ r. absurd (false≢true r); acts = s.acts; sessions = s.session })
+  goes (Command c h m content) s = of_command (old.session c).phase c h m content refl s
+  goes (TooLarge c h) s = of_large (old.session c).phase c h refl s
+  goes (Fault c code) s = of_fault (old.session c).phase c code refl s
+  goes (Lose c) s = inl (record { runs = λ r. absurd (false≢true r); acts = s.acts; sessions = s.session })
+  goes (Pause c) s = inl (record { runs = λ r. absurd (false≢true r); acts = s.acts; sessions = λ d. s.session d ∙ sym (with_same old.session c (old.session c) refl d) })
+  goes (Resume c) s = inl (record { runs = λ r. absurd (false≢true r); acts = s.acts; sessions = λ d. s.session d ∙ sym (with_same old.session c (old.session c) refl d) })
+
+  -- a move to Running leaves the publishes and the queues as they are, as any other
+  answered_adds : (e : Event) → Answered old e sends notes new → AddsNothing old.broker new.broker sends notes
+  answered_adds e a = record {
+    same = a.moves.broker.counted ∙ (elim (is_running a.move.next.phase) as (λ v. (if v then opened old.broker (connection_of e) a.move.next.channel_max 0 else old.broker).published ≡ old.broker.published) [ true ↦ refl | false ↦ refl ]);
+    noted = a.moves.noted;
+    kept = λ n q. ap (count_by (has_number n)) (a.moves.broker.queues q ∙ (elim (is_running a.move.next.phase) as (λ v. (if v then opened old.broker (connection_of e) a.move.next.channel_max 0 else old.broker).queue q ≡ old.broker.queue q) [ true ↦ refl | false ↦ refl ]));
+    few = subst IsReplyAtMost (sym a.moves.sent) a.few;
+  }
+
+  -- Each step adds nothing, or is a publish.
+  pub seen : (e : Event) → Step f old e sends notes new → Seen f.topology old.broker new.broker e sends notes
+  seen e s = elim (goes e s) [ inl p ↦ (acted f.topology old.broker new.broker sends notes e p.acts).seen | inr a ↦ inl (answered_adds e a) ]
+
+-- an event of a run, as it stands in it
+pub seen_at : (h : Happening) → Step h.config h.before h.event h.sends h.notes h.after → Seen h.config.topology h.before.broker h.after.broker h.event h.sends h.notes
+seen_at h s = seen h.config h.before h.after h.sends h.notes h.event s
