@@ -8,13 +8,12 @@ use crate::closes::{
     channel_close, channel_close_ok, connection_close, connection_close_ok, select_ok,
 };
 use crate::links::Links;
-use crate::names::{Ids, ids_of};
 use crate::refusals::{Act, Refusal, judge, judge_large};
 use crate::steps::Step;
 use channel::Channel;
 use depot::Depot;
 use exchange_graph::Topology;
-use model::{Content, Event, Method, Properties, Publish, Send, Text};
+use model::{Content, Event, Ids, Method, Properties, Publish, Send, Text};
 use std::alloc::{AllocError, Global};
 use std::marker::Model;
 
@@ -315,11 +314,11 @@ impl Broker {
         match refusal {
             Refusal::Ignored => Ok(Step::nothing(alloc)),
             Refusal::Channel(code) => {
-                let send = channel_close(connection, channel, code, ids_of(method));
+                let send = channel_close(connection, channel, code, method.ids());
                 self.close_channel(alloc, connection, channel, send)
             }
             Refusal::Connection(code) => {
-                let send = connection_close(connection, code, ids_of(method));
+                let send = connection_close(connection, code, method.ids());
                 self.close_connection(alloc, connection, send)
             }
         }

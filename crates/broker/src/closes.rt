@@ -7,8 +7,7 @@ ghost use Rattle.model.specs.Step as said;
 ghost use Rattle.model.specs.declared.methods.Method.TheVariants as seen;
 ghost use Rattle.broker.specs.Sent.{IsOwn};
 
-use crate::names::{Ids, text_of};
-use model::{Ack, Answer, Close, Method, Nack, Send};
+use model::{Ack, Answer, Close, Ids, Method, Nack, Send, reply_text};
 
 /// A method that carries no content.
 fn reply(connection: u64, channel: u16, method: Method) -> Send
@@ -29,7 +28,7 @@ fn close(code: u16, cause: Ids) -> Close
 {
     Close {
         reply_code: code,
-        reply_text: text_of(code),
+        reply_text: reply_text(code),
         class_id: cause.class,
         method_id: cause.method,
     }

@@ -7,7 +7,6 @@
 mod brokers;
 mod closes;
 mod links;
-mod names;
 mod refusals;
 mod steps;
 

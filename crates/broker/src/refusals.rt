@@ -13,7 +13,6 @@ ghost use Rattle.broker.specs.Judged.{seen, seen_if, HasChannel, Judges};
 ghost use Rattle.broker.specs.Links.{channel_in, limits_of};
 
 use crate::links::Link;
-use crate::names::ids_of;
 use channel::Channel;
 use exchange_graph::Topology;
 use model::{Exchange, Method, Publish, Text};
@@ -172,7 +171,7 @@ fn judge_on_open<'a>(
 fn is_of_connection(method: &Method) -> bool
     ensures { result ≡ said.is_of_connection method.now }
 {
-    ids_of(method).class == 10
+    method.ids().class == 10
 }
 
 /// A method on a channel that awaits nothing, of a connection that runs: on channel 0 only a close of the connection is

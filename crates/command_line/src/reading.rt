@@ -12,7 +12,17 @@ ghost use Rattle.std.specs.Prelude.{
   option_map,
   option_and_then,
 };
-ghost use Rattle.clap.specs.Words.{app_of, first_of, found_of, rows_of, rule_of, subcommand_rows_of};
+ghost use Rattle.clap.specs.Words.{
+  app_of,
+  first_of,
+  found_of,
+  new_app,
+  rows_of,
+  rule_of,
+  subcommand_rows_of,
+  with_rule,
+  with_subcommand,
+};
 ghost use Rattle.clap.specs.declared.Command.TheViews.{out-Command as fields_of};
 ghost use Rattle.command_line.specs.CommandLine.{
   Asks,
@@ -26,6 +36,7 @@ ghost use Rattle.command_line.specs.CommandLine.{
   wanted_by,
   wanted_of,
   warren,
+  with_subcommands,
 };
 
 use crate::asked::Asked;
@@ -60,19 +71,38 @@ fn option<'a>(alloc: Global, id: &'a str, help: &'a str) -> Arg<'a>
         .action(ArgAction::Set)
 }
 
+/// A command without arguments, with what help says of it.
+fn bare<'a>(alloc: Global, name: &'a str, about: &'a str) -> Command<'a>
+    ensures app { app_of result ≡ new_app name.entry.now }
+    ensures local { (fields_of result).has_globals ≡ false }
+{
+    Command::new(alloc, name).about(about)
+}
+
+/// The command with one more argument.
+fn with_argument<'a>(command: Command<'a>, argument: Arg<'a>) -> Result<Command<'a>, AllocError>
+    requires command { (fields_of command).has_globals ≡ false }
+    requires argument { argument.global ≡ false }
+    ensures app { IfOk result (λ c. app_of c ≡ with_rule (app_of command.entry) (rule_of argument.entry)) }
+    ensures local { IfOk result (λ c. (fields_of c).has_globals ≡ false) }
+{
+    command.arg(argument)
+}
+
 /// `replay SCRIPT [--definitions FILE]`.
 fn replay_command<'a>(alloc: Global) -> Result<Command<'a>, AllocError>
     ensures app { IfOk result (λ c. app_of c ≡ replay) }
     ensures local { IfOk result (λ c. (fields_of c).has_globals ≡ false) }
 {
-    Command::new(alloc, "replay")
-        .about("Runs a script and prints what it puts out")
-        .arg(needed(alloc, "SCRIPT", "The script file"))?
-        .arg(option(
-            alloc,
-            "definitions",
-            "The definitions file to run over, in place of the built-in topology",
-        ))
+    let command = bare(alloc, "replay", "Runs a script and prints what it puts out");
+    let script = needed(alloc, "SCRIPT", "The script file");
+    let command = with_argument(command, script)?;
+    let definitions = option(
+        alloc,
+        "definitions",
+        "The definitions file to run over, in place of the built-in topology",
+    );
+    with_argument(command, definitions)
 }
 
 /// `route DEFS EXCHANGE KEY`.
@@ -80,27 +110,55 @@ fn route_command<'a>(alloc: Global) -> Result<Command<'a>, AllocError>
     ensures app { IfOk result (λ c. app_of c ≡ route) }
     ensures local { IfOk result (λ c. (fields_of c).has_globals ≡ false) }
 {
-    Command::new(alloc, "route")
-        .about("Prints the queues to which a key leads from an exchange")
-        .arg(needed(alloc, "DEFS", "The definitions file"))?
-        .arg(needed(
-            alloc,
-            "EXCHANGE",
-            "The exchange that a message is sent to; \"\" is the default exchange",
-        ))?
-        .arg(needed(alloc, "KEY", "The routing key that it is sent under"))
+    let command = bare(
+        alloc,
+        "route",
+        "Prints the queues to which a key leads from an exchange",
+    );
+    let definitions = needed(alloc, "DEFS", "The definitions file");
+    let command = with_argument(command, definitions)?;
+    let exchange = needed(
+        alloc,
+        "EXCHANGE",
+        "The exchange that a message is sent to; \"\" is the default exchange",
+    );
+    let command = with_argument(command, exchange)?;
+    let key = needed(alloc, "KEY", "The routing key that it is sent under");
+    with_argument(command, key)
+}
+
+/// The program before its subcommands.
+fn program<'a>(alloc: Global) -> Command<'a>
+    ensures { app_of result ≡ with_subcommands (codes "warren") }
+{
+    Command::new(alloc, "warren")
+        .version(VERSION)
+        .about("A message broker for AMQP 0-9-1 whose routing is certified")
+        .subcommand_required(true)
+}
+
+/// The command with one more subcommand.
+fn with_command<'a>(program: Command<'a>, command: Command<'a>) -> Result<Command<'a>, AllocError>
+    requires { (fields_of command).has_globals ≡ false }
+    ensures { IfOk result (λ c. app_of c ≡ with_subcommand (app_of program.entry) (app_of command.entry).top) }
+{
+    program.subcommand(command)
+}
+
+/// The program with the first of its subcommands.
+fn with_replay<'a>(alloc: Global) -> Result<Command<'a>, AllocError>
+    ensures { IfOk result (λ c. app_of c ≡ with_subcommand (with_subcommands (codes "warren")) replay.top) }
+{
+    let replay = replay_command(alloc)?;
+    with_command(program(alloc), replay)
 }
 
 /// The program with its subcommands.
 fn warren_command<'a>(alloc: Global) -> Result<Command<'a>, AllocError>
     ensures { IfOk result (λ c. app_of c ≡ warren) }
 {
-    Command::new(alloc, "warren")
-        .version(VERSION)
-        .about("A message broker for AMQP 0-9-1 whose routing is certified")
-        .subcommand_required(true)
-        .subcommand(replay_command(alloc)?)?
-        .subcommand(route_command(alloc)?)
+    let warren = with_replay(alloc)?;
+    with_command(warren, route_command(alloc)?)
 }
 
 /// The text that was given for an argument.
@@ -154,16 +212,28 @@ fn asked<'a>(matches: &ArgMatches<'a>) -> Option<Asked<'a>>
     named(name, given)
 }
 
+/// What the words ask of the program.
+fn ask<'a, S: AsStr>(program: &mut Command<'a>, words: &'a [S]) -> Result<Asked<'a>, Error>
+    requires { app_of program.old ≡ warren }
+    ensures { MatchResult result (λ asked. Asks (map S.text words.entry.now) asked) (λ e. IsRefused (map S.text words.entry.now) e) }
+{
+    let matches = program.try_get_matches_from_mut(words)?;
+    let asked = asked(&matches);
+    drop(matches);
+    match asked {
+        Some(asked) => Ok(asked),
+        None => Err(program.error(ErrorKind::MissingSubcommand, "a command is missing")?),
+    }
+}
+
 /// What the words ask for. The first of them is the program's name.
 ///
 /// An error is shown by its own text, help among them; its kind is `OutOfMemory` where a growth was refused.
 pub fn command<'a, S: AsStr>(alloc: Global, words: &'a [S]) -> Result<Asked<'a>, Error>
     ensures { MatchResult result (λ asked. Asks (map S.text words.entry.now) asked) (λ e. IsRefused (map S.text words.entry.now) e) }
 {
-    let mut warren = warren_command(alloc)?;
-    let matches = warren.try_get_matches_from_mut(words)?;
-    match asked(&matches) {
-        Some(asked) => Ok(asked),
-        None => Err(warren.error(ErrorKind::MissingSubcommand, "a command is missing")?),
-    }
+    let mut program = warren_command(alloc)?;
+    let asked = ask(&mut program, words);
+    drop(program);
+    asked
 }

@@ -11,7 +11,6 @@ use session::Session;
 use std::alloc::Global;
 
 /// A connection that is not gone.
-#[derive(Drop)]
 pub(crate) struct Link {
     /// Connections count from 1 in the order of their openings.
     pub(crate) number: u64,
@@ -20,6 +19,20 @@ pub(crate) struct Link {
     /// A command that was read and could not be performed for want of memory.
     pub(crate) kept: Option<Event>,
     pub(crate) output: Output,
+}
+
+/// Written out, so that a drop is one call.
+impl Drop for Link {
+    fn drop(self) {
+        let Link {
+            number: _,
+            session: _,
+            stream: _,
+            kept,
+            output: _,
+        } = self;
+        drop(kept);
+    }
 }
 
 impl Link {

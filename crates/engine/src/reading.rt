@@ -50,14 +50,14 @@ pub(crate) fn read_next(
 fn keep(kept: &mut Option<Event>, event: Event)
     ensures { kept.new ≡ Some event }
 {
-    *kept = Some(event);
+    drop(kept.replace(event));
 }
 
 /// Keeps nothing any more.
 pub(crate) fn forget(kept: &mut Option<Event>)
     ensures { kept.new ≡ None }
 {
-    *kept = None;
+    drop(kept.take());
 }
 
 /// The command of a connection, as an event.

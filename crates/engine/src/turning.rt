@@ -110,6 +110,7 @@ fn do_fault(
     ensures topology { topology_of broker.new ≡ topology_of broker.old }
 {
     let connection = link.number;
+    let event = Event::Fault { connection, code };
     let done = do_event(
         connection,
         alloc,
@@ -117,8 +118,9 @@ fn do_fault(
         scratch,
         &mut link.session,
         &mut link.output,
-        &Event::Fault { connection, code },
+        &event,
     );
+    drop(event);
     match done {
         Ok(notes) => Ok(Turn::Did(notes)),
         Err(error) => Err(error),

@@ -1,7 +1,7 @@
 //! Why the program does not do what it is asked for, and how it tells so.
 
-ghost use Rattle.std.specs.Prelude.{◌≡◌, IfOk, string_bytes};
-ghost use Rattle.server.specs.Program.{message, out_of_memory, status_of, Refuses};
+ghost use Rattle.std.specs.Prelude.{◌≡◌, ◌++◌, ◌∷◌, [], codes, decimal, IfOk, string_bytes};
+ghost use Rattle.server.specs.Program.{message, out_of_memory, status_of, told, Refuses};
 ghost use Rattle.server.specs.Streams.{Tries, change};
 
 use crate::storage;
@@ -83,16 +83,30 @@ impl From<Bad> for Refusal {
     }
 }
 
+/// What is wrong with a file, in these words.
+fn file_message(alloc: Global, file: &str, what: &str) -> Result<String, AllocError>
+    ensures { IfOk result (λ text. string_bytes text ≡ told file.now what.now) }
+{
+    format!(in alloc; "warren: {file}: {what}\n")
+}
+
+/// The same with a number.
+fn numbered_message(alloc: Global, file: &str, what: &str, n: u64) -> Result<String, AllocError>
+    ensures { IfOk result (λ text. string_bytes text ≡ codes "warren: " ++ (file.now ++ (codes ": " ++ (what.now ++ 32 ∷ (decimal n ++ 10 ∷ []))))) }
+{
+    format!(in alloc; "warren: {file}: {what} {n}\n")
+}
+
 /// What is wrong with a file, as it is told.
 fn message(alloc: Global, file: &str, refusal: Refusal) -> Result<String, AllocError>
     ensures { IfOk result (λ text. string_bytes text ≡ message file.now refusal) }
 {
     match refusal {
-        Refusal::Line(n) => format!(in alloc; "warren: {file}: line {n}\n"),
-        Refusal::Refused(n) => format!(in alloc; "warren: {file}: refused {n}\n"),
-        Refusal::TooLong => format!(in alloc; "warren: {file}: refused 10\n"),
-        Refusal::Unread => format!(in alloc; "warren: {file}: cannot read\n"),
-        Refusal::Unwritten => format!(in alloc; "warren: {file}: cannot write\n"),
+        Refusal::Line(n) => numbered_message(alloc, file, "line", n),
+        Refusal::Refused(n) => numbered_message(alloc, file, "refused", u64::from(n)),
+        Refusal::TooLong => file_message(alloc, file, "refused 10"),
+        Refusal::Unread => file_message(alloc, file, "cannot read"),
+        Refusal::Unwritten => file_message(alloc, file, "cannot write"),
         Refusal::NoExchange => String::from_str(alloc, NO_EXCHANGE),
         Refusal::Memory => String::from_str(alloc, OUT_OF_MEMORY),
     }

@@ -21,7 +21,7 @@ ghost use Rattle.exchange_graph.specs.Targets.{names_at};
 ghost use Rattle.server.specs.Transcript.{line, name_word};
 ghost use Rattle.server.specs.Routes.{name_lines, HasExchange, Lists, ListsRoutes};
 
-use crate::transcript::name_word;
+use crate::transcript::{name_word, put_line};
 use exchange_graph::Topology;
 use model::{DeclaredQueue, Exchange};
 use std::alloc::{AllocError, Global};
@@ -55,9 +55,7 @@ fn put_name(alloc: Global, text: &mut Vec<u8>, queue: &DeclaredQueue) -> Result<
     ensures { OnOk result (text.new.items ≡ text.old.items ++ line (name_word queue.now.name ∷ [])) }
 {
     let word = name_word(alloc, queue.name.as_bytes())?;
-    let line = format!(in alloc; "{word}\n")?;
-    text.extend_from_slice(line.as_bytes())?;
-    Ok(())
+    put_line(text, format!(in alloc; "{word}\n")?)
 }
 
 /// Appends the line of the queue at this place.

@@ -82,12 +82,15 @@ fn cause_word(cause: Cause) -> &'static str
 /// The words of a publish behind its numbers, and the end of the line.
 fn publish_words(
     alloc: Global,
-    exchange: &str,
-    key: &str,
-    confirm: &str,
+    exchange: &[u8],
+    key: &[u8],
+    confirm: Option<u64>,
 ) -> Result<String, AllocError>
-    ensures { IfOk result (λ text. string_bytes text ≡ line (exchange.now ∷ key.now ∷ confirm.now ∷ [])) }
+    ensures { IfOk result (λ text. string_bytes text ≡ line (name_word exchange.now ∷ hex_word key.now ∷ confirm_word confirm ∷ [])) }
 {
+    let exchange = name_word(alloc, exchange)?;
+    let key = hex_word(alloc, key)?;
+    let confirm = confirm_word(alloc, confirm)?;
     format!(in alloc; "{exchange} {key} {confirm}\n")
 }
 
@@ -104,6 +107,40 @@ fn publish_line(
     format!(in alloc; "published {number} {connection} {channel} {rest}")
 }
 
+/// The line of a message that came to a queue.
+fn entered_line(alloc: Global, number: u64, queue: &[u8], way: Way) -> Result<String, AllocError>
+    ensures { IfOk result (λ text. string_bytes text ≡ line (codes "entered" ∷ decimal number ∷ name_word queue.now ∷ way_word way ∷ [])) }
+{
+    let queue = name_word(alloc, queue)?;
+    let way = way_word(way);
+    format!(in alloc; "entered {number} {queue} {way}\n")
+}
+
+/// The line of a message that a full queue refused.
+fn refused_line(alloc: Global, number: u64, queue: &[u8]) -> Result<String, AllocError>
+    ensures { IfOk result (λ text. string_bytes text ≡ line (codes "refused" ∷ decimal number ∷ name_word queue.now ∷ [])) }
+{
+    let queue = name_word(alloc, queue)?;
+    format!(in alloc; "refused {number} {queue}\n")
+}
+
+/// The line of a publish that was confirmed.
+fn confirmed_line(alloc: Global, number: u64, answer: Answer) -> Result<String, AllocError>
+    ensures { IfOk result (λ text. string_bytes text ≡ line (codes "confirmed" ∷ decimal number ∷ answer_word answer ∷ [])) }
+{
+    let answer = answer_word(answer);
+    format!(in alloc; "confirmed {number} {answer}\n")
+}
+
+/// The line of a message that left a queue.
+fn left_line(alloc: Global, number: u64, queue: &[u8], cause: Cause) -> Result<String, AllocError>
+    ensures { IfOk result (λ text. string_bytes text ≡ line (codes "left" ∷ decimal number ∷ name_word queue.now ∷ cause_word cause ∷ [])) }
+{
+    let queue = name_word(alloc, queue)?;
+    let cause = cause_word(cause);
+    format!(in alloc; "left {number} {queue} {cause}\n")
+}
+
 /// The line of a note.
 fn note_line(alloc: Global, note: &Note) -> Result<String, AllocError>
     ensures { IfOk result (λ line. string_bytes line ≡ note_line note.now) }
@@ -117,36 +154,28 @@ fn note_line(alloc: Global, note: &Note) -> Result<String, AllocError>
             key,
             confirm,
         } => {
-            let exchange = name_word(alloc, exchange.as_bytes())?;
-            let key = hex_word(alloc, key.as_bytes())?;
-            let confirm = confirm_word(alloc, *confirm)?;
-            let rest = publish_words(alloc, exchange.as_str(), key.as_str(), confirm.as_str())?;
+            let rest = publish_words(alloc, exchange.as_bytes(), key.as_bytes(), *confirm)?;
             publish_line(alloc, *number, *connection, *channel, rest.as_str())
         }
         Note::Entered { number, queue, way } => {
-            let queue = name_word(alloc, queue.as_bytes())?;
-            let way = way_word(*way);
-            format!(in alloc; "entered {number} {queue} {way}\n")
+            entered_line(alloc, *number, queue.as_bytes(), *way)
         }
-        Note::Refused { number, queue } => {
-            let queue = name_word(alloc, queue.as_bytes())?;
-            format!(in alloc; "refused {number} {queue}\n")
-        }
+        Note::Refused { number, queue } => refused_line(alloc, *number, queue.as_bytes()),
         Note::Returned { number } => format!(in alloc; "returned {number}\n"),
-        Note::Confirmed { number, answer } => {
-            let answer = answer_word(*answer);
-            format!(in alloc; "confirmed {number} {answer}\n")
-        }
+        Note::Confirmed { number, answer } => confirmed_line(alloc, *number, *answer),
         Note::Left {
             number,
             queue,
             cause,
-        } => {
-            let queue = name_word(alloc, queue.as_bytes())?;
-            let cause = cause_word(*cause);
-            format!(in alloc; "left {number} {queue} {cause}\n")
-        }
+        } => left_line(alloc, *number, queue.as_bytes(), *cause),
     }
+}
+
+/// Appends a line.
+pub(crate) fn put_line(text: &mut Vec<u8>, line: String) -> Result<(), AllocError>
+    ensures { OnOk result (text.new.items ≡ text.old.items ++ string_bytes line) }
+{
+    text.extend_from_slice(line.as_bytes())
 }
 
 /// Appends the line of a connection that is over or lost.
@@ -154,10 +183,17 @@ fn put_over(alloc: Global, text: &mut Vec<u8>, number: u64, shown: &Shown) -> Re
     ensures { OnOk result (text.new.items ≡ text.old.items ++ over_line number shown.now) }
 {
     if shown.is_over() {
-        let line = format!(in alloc; "over {number}\n")?;
-        text.extend_from_slice(line.as_bytes())?;
+        put_line(text, format!(in alloc; "over {number}\n")?)?;
     }
     Ok(())
+}
+
+/// The line of all bytes that were put out for a connection.
+fn out_line(alloc: Global, number: u64, bytes: &[u8]) -> Result<String, AllocError>
+    ensures { IfOk result (λ text. string_bytes text ≡ line (codes "out" ∷ decimal number ∷ hex_word bytes.now ∷ [])) }
+{
+    let bytes = hex_word(alloc, bytes)?;
+    format!(in alloc; "out {number} {bytes}\n")
 }
 
 /// Appends the lines of a connection.
@@ -169,9 +205,7 @@ fn put_shown(
 ) -> Result<(), AllocError>
     ensures { OnOk result (text.new.items ≡ text.old.items ++ shown_lines number shown.now) }
 {
-    let bytes = hex_word(alloc, shown.output())?;
-    let line = format!(in alloc; "out {number} {bytes}\n")?;
-    text.extend_from_slice(line.as_bytes())?;
+    put_line(text, out_line(alloc, number, shown.output())?)?;
     put_over(alloc, text, number, shown)
 }
 
@@ -196,8 +230,7 @@ fn put_notes(alloc: Global, text: &mut Vec<u8>, notes: &[Note]) -> Result<(), Al
     ensures { OnOk result (text.new.items ≡ text.old.items ++ note_lines notes.now) }
 {
     for note in notes {
-        let line = note_line(alloc, note)?;
-        text.extend_from_slice(line.as_bytes())?;
+        put_line(text, note_line(alloc, note)?)?;
     }
     Ok(())
 }

@@ -177,7 +177,10 @@ impl Session {
             mandatory: false,
             immediate: false,
         };
-        self.take(alloc, connection, channel, &Method::BasicPublish(publish))
+        let method = Method::BasicPublish(publish);
+        let sends = self.take(alloc, connection, channel, &method);
+        drop(method);
+        sends
     }
 
     /// The bytes of the connection broke the wire's rules: it is closed with this reply code, and over. While close-ok is
