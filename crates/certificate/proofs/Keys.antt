@@ -1,6 +1,6 @@
 -- A pattern of words alone covers one key: itself.
 use Rattle.std.proofs.Common.{◌≡◌, ℕ, ◌≤◌, List, [], ◌∷◌, Bool, true, false, cond, eqb, refl, sym, ap, ◌∙◌, subst, map, inl, inr, length}
-use Rattle.std.specs.Prelude.{Contains, All}
+use Rattle.std.specs.Prelude.{All}
 use Rattle.std.specs.Str.{bytes_eq}
 use Rattle.std.specs.List.{join_with_byte}
 use Rattle.std.proofs.lemmas.Bool.{eqb-true}
@@ -13,8 +13,7 @@ use Rattle.model.specs.Guarantee.{Guarantee, Holds, AllHold, Keeps}
 use Rattle.model.specs.declared.texts.Token.{Token}
 use Rattle.model.specs.declared.texts.Token.TheVariants.{Word, One, Any}
 use Rattle.model.specs.declared.topologies.Mode.{Mode}
-use Rattle.model.specs.declared.topologies.Mode.TheVariants.{Reaches}
-use Rattle.certificate.specs.Admitted.{IsWordsAlone, IsPlain}
+use Rattle.certificate.specs.Admitted.{IsPlain}
 
 -- ---- the words of a key, joined again, are the key
 

@@ -1,3 +1,4 @@
 pub mod Keys
 pub mod Routed
 pub mod Refuting
+pub mod Certifying

@@ -1,6 +1,6 @@
 -- A queue is routed to exactly where its place is among the targets.
-use Rattle.std.proofs.Common.{◌≡◌, ℕ, zero, suc, ◌+◌, ◌<◌, ◌≤◌, List, [], ◌∷◌, Bool, true, false, refl, sym, ap, ◌∙◌, subst, length, map, eqb, eq-eqb, get_or, inl, inr, arith, Option, Some, None}
-use Rattle.std.specs.Prelude.{◌⊎◌, ◌==◌, ◌||◌, slice_get, Decides}
+use Rattle.std.proofs.Common.{◌≡◌, ℕ, zero, suc, ◌<◌, List, [], ◌∷◌, Bool, true, false, refl, sym, ◌∙◌, subst, length, eqb, eq-eqb, get_or, inl, inr, arith, Some}
+use Rattle.std.specs.Prelude.{◌==◌, ◌||◌, slice_get, Decides}
 use Rattle.std.specs.List.{list_any}
 use Rattle.std.specs.Str.{bytes_eq}
 use Rattle.std.proofs.lemmas.Bool.{eqb-true}
@@ -12,7 +12,7 @@ use Rattle.model.specs.Routing.{Picks, none, take, pass, Routes, Reading, Edge, 
 use Rattle.model.specs.declared.topologies.DeclaredQueue.{DeclaredQueue}
 use Rattle.model.specs.declared.topologies.Place.{Place}
 use Rattle.model.specs.declared.topologies.Place.TheVariants as place
-use Rattle.exchange_graph.specs.Targets.{AreTargets, names_at}
+use Rattle.exchange_graph.specs.Targets.{AreTargets}
 use Rattle.exchange_graph.specs.Marks.{queue_name}
 use Rattle.exchange_graph.proofs.Members.{in_get, get_in, in_map, map_in, in_contains}
 use Rattle.exchange_graph.proofs.Naming.{apart_same}

@@ -1,6 +1,6 @@
 -- What is admitted: a topology and guarantees that hold of it.
 use Rattle.std.specs.Prelude.{◌≡◌, ◌<◌, ◌≤◌, ℕ, zero, suc, List, [], ◌∷◌, length, slice_get, Some, Result, Ok, Err}
-use Rattle.model.specs.Words.{Text, words, tokens}
+use Rattle.model.specs.Words.{Text, words}
 use Rattle.model.specs.Topology.{Topology, IsIn}
 use Rattle.model.specs.Routing.{Routes}
 use Rattle.model.specs.Guarantee.{Guarantee, AllHold}

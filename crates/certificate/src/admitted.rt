@@ -4,7 +4,9 @@ ghost use Rattle.std.specs.Prelude.{◌≡◌, length, IfOk};
 ghost use Rattle.model.specs.Topology.{IsWellFormed};
 ghost use Rattle.model.specs.Guarantee.{AllHold};
 ghost use Rattle.certificate.specs.Admitted.{Admits};
+ghost use Rattle.certificate.specs.Certified.{AdmitsCertified};
 
+use crate::certified::all_certified;
 use crate::faults::CertFault;
 use crate::plain::all_plain;
 use exchange_graph::Topology;
@@ -16,7 +18,7 @@ use std::marker::Model;
 #[derive(Drop)]
 pub struct Certificate {}
 
-/// A topology and guarantees that hold of it. Only `admit` makes one.
+/// A topology and guarantees that hold of it. Only `admit` and `admit_certified` make one.
 pub struct Checked {
     topology: Topology,
     guarantees: Vec<Guarantee>,
@@ -59,6 +61,25 @@ pub fn admit(
         Ok(_) => Ok(Checked {
             topology,
             guarantees,
+        }),
+        Err(fault) => Err(fault),
+    }
+}
+
+/// The topology and the guarantees as they are handed in, where each guarantee has its certificate at its place, and
+/// there are no more.
+pub fn admit_certified(
+    alloc: Global,
+    topology: Topology,
+    wanted: Vec<Guarantee>,
+    certificates: &[certificate_check::Certificate],
+) -> Result<Checked, (usize, certificate_check::CertFault)>
+    ensures { AdmitsCertified topology wanted.items certificates.now result }
+{
+    match all_certified(alloc, &topology, wanted.as_slice(), certificates) {
+        Ok(_) => Ok(Checked {
+            topology,
+            guarantees: wanted,
         }),
         Err(fault) => Err(fault),
     }

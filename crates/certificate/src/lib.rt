@@ -2,10 +2,11 @@
 #![tactic(auto)]
 
 mod admitted;
+mod certified;
 mod faults;
 mod plain;
 mod refutations;
 
-pub use admitted::{Certificate, Checked, admit};
+pub use admitted::{Certificate, Checked, admit, admit_certified};
 pub use faults::CertFault;
 pub use refutations::{Refutation, disprove, refutes};

@@ -1,6 +1,6 @@
 //! Keys that break a guarantee.
 
-ghost use Rattle.std.specs.Prelude.{◌≡◌, IfOk, true};
+ghost use Rattle.std.specs.Prelude.{◌≡◌, ◌<◌, IfOk, Ok, false, length, true};
 ghost use Rattle.model.specs.Refutations.{Refutes};
 ghost use Rattle.model.specs.declared.topologies.Mode.TheVariants.{Reaches};
 
@@ -59,6 +59,7 @@ pub fn refutes(
 ) -> Result<bool, AllocError>
     ensures yes { IfOk result (λ yes. yes ≡ true → Refutes topology.now guarantee.now refutation.now) }
     ensures no { IfOk result (λ yes. guarantee.now.mode ≡ Reaches → Refutes topology.now guarantee.now refutation.now → yes ≡ true) }
+    ensures too_long { 255 < length refutation.now.key → result ≡ Ok false }
 {
     if refutation.key().len() > 255 {
         return Ok(false);

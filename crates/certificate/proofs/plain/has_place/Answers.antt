@@ -1,4 +1,3 @@
-use Rattle.std.proofs.Common.{◌≡◌}
 use Rattle.certificate.proofs.Routed.{any_place}
 use Rattle.certificate.proofs.plain.has_place.Goals as goal
 

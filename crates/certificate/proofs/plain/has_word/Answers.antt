@@ -1,4 +1,3 @@
-use Rattle.std.proofs.Common.{◌≡◌}
 use Rattle.certificate.proofs.Routed.{any_word}
 use Rattle.certificate.proofs.plain.has_word.Goals as goal
 

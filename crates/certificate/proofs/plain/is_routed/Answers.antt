@@ -1,4 +1,3 @@
-use Rattle.std.proofs.Common.{◌≡◌}
 use Rattle.certificate.proofs.Routed.{target_routed, routed_target, routed_there}
 use Rattle.certificate.proofs.plain.is_routed.Goals as goal
 

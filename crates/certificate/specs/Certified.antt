@@ -1,0 +1,76 @@
+-- What is admitted by certificates, one for each guarantee.
+use Rattle.std.specs.Prelude.{◌≡◌, ◌<◌, ◌⊎◌, ℕ, List, length, slice_get, Some, None, Result, Ok, Err}
+use Rattle.model.specs.Topology.{Topology}
+use Rattle.model.specs.Guarantee.{Guarantee, AllHold}
+use Rattle.model.specs.Certificates.{Certificate, Accepts}
+use Rattle.certificate_check.specs.Checks.{Faults}
+use Rattle.certificate_check.specs.declared.faults.CertFault.{CertFault}
+use Rattle.certificate_check.specs.declared.faults.CertFault.TheVariants.{Start, Open, Missed, Form, Memory}
+use Rattle.certificate.specs.Admitted.{Admitted}
+
+-- the certificate at this place is accepted for the guarantee
+pub record IsCertified (t : Topology) (g : Guarantee) (cs : List Certificate) (place : ℕ) : Type 0 where
+  pub certificate : Certificate
+  pub is : slice_get cs place ≡ Some certificate
+  pub accepted : Accepts t g certificate
+
+-- the certificate at this place has this fault
+pub record HasFault (t : Topology) (g : Guarantee) (cs : List Certificate) (place : ℕ) (f : CertFault) : Type 0 where
+  pub certificate : Certificate
+  pub is : slice_get cs place ≡ Some certificate
+  pub fault : Faults t g certificate f
+
+-- Why the guarantee has no certificate at this place: there is none, or it has this fault.
+abbrev pub IsUncertified : Topology → Guarantee → List Certificate → ℕ → CertFault → Type 0
+IsUncertified t g cs place Start = HasFault t g cs place Start
+IsUncertified t g cs place (Open at word) = HasFault t g cs place (Open at word)
+IsUncertified t g cs place (Missed at) = HasFault t g cs place (Missed at)
+IsUncertified t g cs place Form = (slice_get cs place ≡ None) ⊎ HasFault t g cs place Form
+IsUncertified t g cs place Memory = Unit {0}
+
+abbrev pub ChecksAt : Topology → Guarantee → List Certificate → ℕ → Result Unit CertFault → Type 0
+ChecksAt t g cs place (Ok u) = IsCertified t g cs place
+ChecksAt t g cs place (Err f) = IsUncertified t g cs place f
+
+-- each guarantee before this place has its certificate
+abbrev pub AreCertifiedBelow : Topology → List Guarantee → List Certificate → ℕ → Type 0
+AreCertifiedBelow t gs cs n = (i : ℕ) (g : Guarantee) → i < n → slice_get gs i ≡ Some g → IsCertified t g cs i
+
+-- each guarantee has its certificate, and there are no more
+pub record AreCertified (t : Topology) (gs : List Guarantee) (cs : List Certificate) : Type 0 where
+  pub count : length gs ≡ length cs
+  pub all : (i : ℕ) (g : Guarantee) → slice_get gs i ≡ Some g → IsCertified t g cs i
+
+-- the guarantee at this place has no certificate, for this fault
+pub record FailsAt (t : Topology) (gs : List Guarantee) (cs : List Certificate) (place : ℕ) (f : CertFault) : Type 0 where
+  pub guarantee : Guarantee
+  pub is : slice_get gs place ≡ Some guarantee
+  pub fault : IsUncertified t guarantee cs place f
+
+-- a certificate stands behind the last guarantee's
+pub record IsOneTooMany (gs : List Guarantee) (cs : List Certificate) (place : ℕ) (f : CertFault) : Type 0 where
+  pub place_is : place ≡ length gs
+  pub more : length gs < length cs
+  pub fault : f ≡ Form
+
+-- the least place at fault
+pub record FailsFirst (t : Topology) (gs : List Guarantee) (cs : List Certificate) (place : ℕ) (f : CertFault) : Type 0 where
+  pub before : AreCertifiedBelow t gs cs place
+  pub fails : FailsAt t gs cs place f ⊎ IsOneTooMany gs cs place f
+
+-- want of memory owes nothing
+abbrev pub IsRefused : Topology → List Guarantee → List Certificate → ℕ → CertFault → Type 0
+IsRefused t gs cs place Start = FailsFirst t gs cs place Start
+IsRefused t gs cs place (Open at word) = FailsFirst t gs cs place (Open at word)
+IsRefused t gs cs place (Missed at) = FailsFirst t gs cs place (Missed at)
+IsRefused t gs cs place Form = FailsFirst t gs cs place Form
+IsRefused t gs cs place Memory = Unit {0}
+
+abbrev pub Certifies : Topology → List Guarantee → List Certificate → Result Unit (ℕ × CertFault) → Type 0
+Certifies t gs cs (Ok u) = AreCertified t gs cs
+Certifies t gs cs (Err e) = IsRefused t gs cs e.0 e.1
+
+-- what is handed in is admitted as it is, and holds, or is refused at the least place at fault
+abbrev pub AdmitsCertified : Topology → List Guarantee → List Certificate → Result Admitted (ℕ × CertFault) → Type 0
+AdmitsCertified t gs cs (Ok k) = (k ≡ record { topology = t; guarantees = gs }) × AllHold t gs × AreCertified t gs cs
+AdmitsCertified t gs cs (Err e) = IsRefused t gs cs e.0 e.1

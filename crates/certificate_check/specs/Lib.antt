@@ -1,0 +1,5 @@
+pub mod Orders
+pub mod Forms
+pub mod Walks
+pub mod Checks
+pub mod Judgements

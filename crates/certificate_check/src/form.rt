@@ -1,0 +1,95 @@
+//! The form of a certificate.
+
+ghost use Rattle.std.specs.Prelude.{◌≡◌, ◌≤◌, ◌<◌, ◌+◌, ◌^◌, Decides, length};
+ghost use Rattle.std.specs.List.{AllByRecursion, list_all};
+ghost use Rattle.model.specs.Certificates.{AreFew, IsFormed, IsOf, IsShort};
+ghost use Rattle.model.specs.Positions.{FitsEach};
+ghost use Rattle.model.specs.declared.topologies.Mode.TheVariants.{Reaches};
+ghost use Rattle.state_walks.specs.Judged.{states_of};
+ghost use Rattle.certificate_check.specs.Forms.{is_short};
+
+use crate::certificates::Certificate;
+use crate::order::ascend;
+use guarantees::Guarantee;
+use word_automata::Tracked;
+
+/// Whether the certificate has the guarantee's texts, that of a `reaches`.
+fn is_of(guarantee: &Guarantee, certificate: &Certificate) -> bool
+    requires { guarantee.now.mode ≡ Reaches }
+    ensures { Decides result (IsOf guarantee.now certificate.now) }
+{
+    certificate.exchange().as_bytes() == guarantee.exchange().as_bytes()
+        && certificate.mode().as_bytes() == b"reaches".as_slice()
+        && certificate.pattern().as_bytes() == guarantee.pattern().as_bytes()
+        && certificate.queue().as_bytes() == guarantee.queue().as_bytes()
+}
+
+/// Whether the pattern has at most 31 words.
+fn is_short(pattern: &Tracked) -> bool
+    ensures { result ≡ is_short pattern.now }
+{
+    pattern.tokens().len() <= 31
+}
+
+/// Whether each pattern has at most 31 words.
+fn all_short(patterns: &[Tracked]) -> bool
+    ensures { result ≡ list_all is_short patterns.now }
+{
+    patterns.iter().all(|pattern| is_short(pattern))
+}
+
+/// Whether there are at most 64 patterns, each of at most 31 words.
+fn are_few(patterns: &[Tracked]) -> bool
+    ensures { Decides result (AreFew patterns.now) }
+{
+    patterns.len() <= 64 && all_short(patterns)
+}
+
+/// Whether a number uses only the bits up to this place.
+fn fits_tokens(count: usize, number: u64) -> bool
+    requires { count ≤ 31 }
+    ensures { Decides result (number < 2 ^ (count + 1)) }
+{
+    number < 1u64 << (count + 1)
+}
+
+/// Whether each number uses only the places of its pattern.
+pub fn fits(patterns: &[Tracked], state: &[u64]) -> bool
+    requires { AllByRecursion IsShort patterns.now }
+    ensures { Decides result (FitsEach patterns.now state.now) }
+{
+    if patterns.len() != state.len() {
+        return false;
+    }
+    for at in 0..patterns.len() {
+        if !fits_tokens(patterns[at].tokens().len(), state[at]) {
+            return false;
+        }
+    }
+    true
+}
+
+/// Whether each state has a number for each pattern.
+fn all_fit(patterns: &[Tracked], states: &[Vec<u64>]) -> bool
+    requires { AllByRecursion IsShort patterns.now }
+    ensures { Decides result (AllByRecursion (FitsEach patterns.now) (states_of states.now)) }
+{
+    for state in states {
+        if !fits(patterns, state.as_slice()) {
+            return false;
+        }
+    }
+    true
+}
+
+/// Whether these patterns and the certificate are within the limits, and it has the form that the guarantee needs.
+pub fn is_formed(guarantee: &Guarantee, patterns: &[Tracked], certificate: &Certificate) -> bool
+    requires { guarantee.now.mode ≡ Reaches }
+    ensures { Decides result (IsFormed guarantee.now patterns.now certificate.now) }
+{
+    is_of(guarantee, certificate)
+        && are_few(patterns)
+        && certificate.states().len() <= 65_536
+        && all_fit(patterns, certificate.states())
+        && ascend(certificate.states())
+}

@@ -1,0 +1,81 @@
+-- What is written is read back.
+use Rattle.std.proofs.Common.{◌≡◌, ◌≤◌, ℕ, List, [], ◌∷◌, map, false, refl, sym, ap, subst, ◌∙◌, Option, Some, option_map, arith}
+use Rattle.std.specs.Prelude.{IsUtf8, option_and_then}
+use Rattle.serde_json.specs.Data.{Data, depth, items_depth}
+use Rattle.serde_json.specs.View.{items_of}
+use Rattle.serde_json.specs.Read.{read}
+use Rattle.serde_json.specs.Written.{compact_text, has_float, items_have_float}
+use Rattle.serde_json.proofs.OnLiterals.{serde_json_on_literals}
+use Rattle.json_file.specs.Members.{each, text_at}
+use Rattle.model.specs.Certificates.{Certificate}
+use Rattle.certificate_files.specs.Stated.{number_of, state_of, states_at, form_at, members_at, certificate_at, certificates_of}
+use Rattle.certificate_files.specs.Spelled.{number_data, state_data, states_data, certificate_data, file_data}
+use Rattle.certificate_files.specs.Writes.{IsWritten}
+
+-- each is read back
+each_back : {A : Type 0} (f : A → Data) (reads : Data → Option A) → ((x : A) → reads (f x) ≡ Some x) → (xs : List A) → each reads (items_of (map f xs)) ≡ Some xs
+unfolding each
+each_back f reads back [] = refl
+each_back {A} f reads back (x ∷ xs) = ap (λ (o : Option A). option_and_then (λ (y : A). option_map (λ (ys : List A). y ∷ ys) (each reads (items_of (map f xs)))) o) (back x) ∙ ap (λ (o : Option (List A)). option_map (λ (ys : List A). x ∷ ys) o) (each_back f reads back xs)
+
+state_back : (s : List ℕ) → state_of (state_data s) ≡ Some s
+unfolding state_of
+state_back s = each_back number_data number_of (λ n. refl) s
+
+states_back : (ss : List (List ℕ)) → each state_of (items_of (map state_data ss)) ≡ Some ss
+states_back ss = each_back state_data state_of state_back ss
+
+certificate_back : (c : Certificate) → certificate_at (certificate_data c) ≡ Some c
+unfolding certificate_at members_at form_at states_at text_at serde_json_on_literals
+certificate_back c = ap (λ (o : Option (List (List ℕ))). option_and_then (λ (ss : List (List ℕ)). Some (record { exchange = c.exchange; mode = c.mode; pattern = c.pattern; queue = c.queue; states = ss })) o) (states_back c.states)
+
+pub file_back : (cs : List Certificate) → certificates_of (file_data cs) ≡ Some cs
+unfolding certificates_of
+file_back cs = each_back certificate_data certificate_at certificate_back cs
+
+-- ---- depth
+
+each_depth : {A : Type 0} (f : A → Data) (n : ℕ) → ((x : A) → depth (f x) ≤ n) → (xs : List A) → items_depth (items_of (map f xs)) ≤ n
+each_depth f n h [] = omega arith
+each_depth f n h (x ∷ xs) = let a = h x in let b = each_depth f n h xs in omega (arith, a, b)
+
+state_depth : (s : List ℕ) → depth (state_data s) ≤ 1
+state_depth s = let a = each_depth number_data 0 (λ n. omega arith) s in omega (arith, a)
+
+states_depth : (ss : List (List ℕ)) → depth (states_data ss) ≤ 2
+states_depth ss = let a = each_depth state_data 1 state_depth ss in omega (arith, a)
+
+certificate_depth : (c : Certificate) → depth (certificate_data c) ≤ 3
+certificate_depth c = let a = states_depth c.states in omega (arith, a)
+
+pub file_depth : (cs : List Certificate) → depth (file_data cs) ≤ 127
+file_depth cs = let a = each_depth certificate_data 3 certificate_depth cs in omega (arith, a)
+
+-- ---- no floats
+
+each_whole : {A : Type 0} (f : A → Data) → ((x : A) → has_float (f x) ≡ false) → (xs : List A) → items_have_float (items_of (map f xs)) ≡ false
+each_whole f h [] = refl
+each_whole f h (x ∷ xs) = rw (h x) (each_whole f h xs)
+
+states_whole : (ss : List (List ℕ)) → has_float (states_data ss) ≡ false
+states_whole ss = each_whole state_data (λ s. each_whole number_data (λ n. refl) s) ss
+
+certificate_whole : (c : Certificate) → has_float (certificate_data c) ≡ false
+certificate_whole c = rw (states_whole c.states) refl
+
+pub file_whole : (cs : List Certificate) → has_float (file_data cs) ≡ false
+file_whole cs = each_whole certificate_data certificate_whole cs
+
+pub written : (bytes text : List ℕ) (d : Data) (cs : List Certificate) → d ≡ file_data cs → (has_float d ≡ false → text ≡ compact_text d) → (depth d ≤ 127 → read text ≡ Some d) → IsUtf8 text → bytes ≡ text → IsWritten bytes cs
+written bytes text d cs same compact back utf8 is = record {
+  compact = is ∙ compact (ap has_float same ∙ file_whole cs) ∙ ap compact_text same;
+  reads_back = λ short. record {
+    value = d;
+    json = record {
+      short = short;
+      text = subst (λ (z : List ℕ). IsUtf8 z) (sym is) utf8;
+      value = ap read is ∙ back (subst (λ (z : Data). depth z ≤ 127) (sym same) (file_depth cs));
+    };
+    states = ap certificates_of same ∙ file_back cs;
+  };
+}

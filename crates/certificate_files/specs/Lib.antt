@@ -1,0 +1,6 @@
+pub mod Numbers
+pub mod Faults
+pub mod Stated
+pub mod Reads
+pub mod Spelled
+pub mod Writes

@@ -1,0 +1,10 @@
+-- The causes for which a certificates file is refused, by their numbers (own).
+use Rattle.std.specs.Prelude.{ℕ}
+use Rattle.certificate_files.specs.declared.bad.Bad.{Bad}
+use Rattle.certificate_files.specs.declared.bad.Bad.TheVariants.{NotJson, Malformed, TooLong, Memory}
+
+abbrev pub number : Bad → ℕ
+number NotJson = 1
+number Malformed = 2
+number TooLong = 10
+number Memory = 14

@@ -1,0 +1,47 @@
+-- What writing certificates answers.
+use Rattle.std.specs.Prelude.{◌≡◌, ◌≤◌, ℕ, List, Result, Ok, Err, length, map, Vec, IsUtf8}
+use Rattle.std.specs.List.{AllByRecursion}
+use Rattle.std.specs.declared.alloc.Global.{Global}
+use denote.Ref.{Bor}
+use Rattle.serde_json.specs.Written.{compact_text}
+use Rattle.serde_json.specs.View.{view}
+use Rattle.serde_json.specs.declared.value.Value.{Value}
+use Rattle.model.specs.Words.{Text}
+use Rattle.model.specs.Certificates.{Certificate}
+use Rattle.certificate_files.specs.declared.unwritten.Unwritten.{Unwritten}
+use Rattle.certificate_files.specs.declared.unwritten.Unwritten.TheVariants.{NotText, Memory}
+use Rattle.certificate_files.specs.Spelled.{certificate_data, file_data}
+use Rattle.certificate_files.specs.Reads.{IsFile}
+
+-- the texts of a certificate are UTF-8
+pub record AreTexts (c : Certificate) : Type 0 where
+  pub exchange : IsUtf8 c.exchange
+  pub mode : IsUtf8 c.mode
+  pub pattern : IsUtf8 c.pattern
+  pub queue : IsUtf8 c.queue
+
+-- nothing is written for this reason alone; want of memory owes nothing
+abbrev pub Lacks : Unwritten → Type 0 → Type 0
+Lacks NotText why = why → ⊥
+Lacks Memory why = Unit {0}
+
+abbrev pub LendsText : Result (Bor (List ℕ)) Unwritten → Text → Type 0
+LendsText (Ok s) text = s.now ≡ text
+LendsText (Err e) text = Lacks e (IsUtf8 text)
+
+abbrev pub GivesData : Result Value Unwritten → Certificate → Type 0
+GivesData (Ok v) c = view v ≡ certificate_data c
+GivesData (Err e) c = Lacks e (AreTexts c)
+
+abbrev pub GivesItems : Result (Vec Value Global) Unwritten → List Certificate → Type 0
+GivesItems (Ok vs) cs = map view vs.items ≡ map certificate_data cs
+GivesItems (Err e) cs = Lacks e (AllByRecursion AreTexts cs)
+
+-- the file that is written is compact, and is read back as these certificates
+pub record IsWritten (bytes : List ℕ) (cs : List Certificate) : Type 0 where
+  pub compact : bytes ≡ compact_text (file_data cs)
+  pub reads_back : length bytes ≤ 16777216 → IsFile bytes cs
+
+abbrev pub Writes : Result (Vec ℕ Global) Unwritten → List Certificate → Type 0
+Writes (Ok bytes) cs = IsWritten bytes.items cs
+Writes (Err e) cs = Lacks e (AllByRecursion AreTexts cs)

@@ -1,0 +1,12 @@
+//! Certificates files.
+#![tactic(auto)]
+
+mod bad;
+mod reading;
+mod unwritten;
+mod writing;
+
+pub use bad::Bad;
+pub use reading::read_certificates;
+pub use unwritten::Unwritten;
+pub use writing::write_certificates;

@@ -1,0 +1,193 @@
+-- The patterns that are collected are those of the exchanges that a message may meet.
+use Rattle.std.proofs.Common.{◌≡◌, ◌⊎◌, ℕ, zero, suc, ◌+◌, ◌<◌, Bool, true, false, cond, List, [], ◌∷◌, length, map, refl, sym, ap, subst, ◌∙◌, inl, inr, Some, arith}
+use Rattle.std.specs.Prelude.{slice_index_or, fold, flat_map}
+use Rattle.std.specs.Str.{bytes_eq}
+use Rattle.std.proofs.lemmas.Bool.{false≢true}
+use Rattle.std.proofs.lemmas.List.Sums.{fold-append}
+use Rattle.model.specs.Words.{Text}
+use Rattle.model.specs.Topology.{Topology, IsIn, IsWellFormed, exchange_names}
+use Rattle.model.specs.Guarantee.{Guarantee}
+use Rattle.model.specs.Tracking.{Tracked, Met, own, by_bound, by_alternate, by_death, IsTrackedList, Selects, same_tracked, once_more, keys_from, keys_by, keys_of, names_in}
+use Rattle.model.specs.declared.topologies.Mode.TheVariants.{Reaches, Never}
+use Rattle.model.specs.declared.topologies.Exchange.{Exchange}
+use Rattle.model.specs.declared.topologies.DeclaredQueue.{DeclaredQueue}
+use Rattle.model.specs.declared.topologies.Binding.{Binding}
+use Rattle.model.specs.declared.topologies.Place.{Place}
+use Rattle.model.specs.declared.topologies.Place.TheVariants as place
+use Rattle.model.specs.declared.topologies.ExchangeKind.{ExchangeKind}
+use Rattle.model.specs.declared.topologies.ExchangeKind.TheVariants.{Direct, Fanout, Topic}
+use Rattle.exchange_graph.specs.Marks.{IsSet}
+use Rattle.state_routes.specs.declared.reach.Link.{Link}
+use Rattle.state_routes.specs.Reach.{Chain, still, along, AreWithin, AreReached}
+use Rattle.state_routes.specs.Nodes.{node, count, end_node, link_of, links_of, alternate_links, any_links}
+use Rattle.state_routes.specs.Collected.{onto, keys_onto, keys_by_onto, names_onto, met_onto, collected}
+use Rattle.state_routes.proofs.Numbers.{node_same, node_default, node_above, node_within}
+use Rattle.state_routes.proofs.Known.{alternate_in, from_alternates}
+use Rattle.state_routes.proofs.Chains.{chain_on}
+use Rattle.certificate_laws.proofs.Onces.{in_front, in_back, in_either, in_map, from_map}
+use Rattle.certificate_laws.proofs.Trackings.{contained, has_place}
+
+link_in : (xs : List Exchange) (q : Text) (b : Binding) (bs : List Binding) → IsIn b bs → IsIn (link_of xs q b) (links_of xs q bs)
+link_in xs q b [] i = absurd i
+link_in xs q b (c ∷ cs) (inl e) = inl (ap (link_of xs q) e)
+link_in xs q b (c ∷ cs) (inr i) = inr (link_in xs q b cs i)
+
+from_links : (xs : List Exchange) (q : Text) (l : Link) (bs : List Binding) → IsIn l (links_of xs q bs) → (b : Binding) × IsIn b bs × (l ≡ link_of xs q b)
+from_links xs q l [] i = absurd i
+from_links xs q l (b ∷ bs) (inl e) = (b, inl refl, e)
+from_links xs q l (b ∷ bs) (inr i) = let r = from_links xs q l bs i in (r.0, inr r.1, r.2)
+
+pub end_within : (xs : List Exchange) (q : Text) (to : Place) → end_node xs q to < length xs + 4
+end_within xs q (place.Exchange name) = node_within xs name
+end_within xs q (place.Queue name) = go (bytes_eq name q)
+  where
+    go : (b : Bool) → cond b 0 1 < length xs + 4
+    go true = omega arith
+    go false = omega arith
+
+pub links_within : (t : Topology) (q : Text) → AreWithin (count t) (any_links t q)
+links_within t q l i = elim (in_either l (links_of t.exchanges q t.bindings) (alternate_links t.exchanges t.exchanges) i) [
+  | inl j ↦
+      let r = from_links t.exchanges q l t.bindings j in
+      subst (λ (z : Link). (z.from < length t.exchanges + 4) × (z.to < length t.exchanges + 4)) (sym r.2) (node_within t.exchanges r.0.source, end_within t.exchanges q r.0.to)
+  | inr j ↦
+      let r = from_alternates t.exchanges t.exchanges l j in
+      subst (λ (z : Link). (z.from < length t.exchanges + 4) × (z.to < length t.exchanges + 4)) (sym r.4) (node_within t.exchanges r.0.name, node_within t.exchanges r.1)
+]
+
+pub within_as : (t : Topology) (q : Text) (n : ℕ) (links : List Link) → n ≡ length t.exchanges + 4 → links ≡ any_links t q → AreWithin n links
+within_as t q n links e f = subst (λ (z : ℕ). AreWithin z links) (sym e) (subst (λ (z : List Link). AreWithin (length t.exchanges + 4) z) (sym f) (links_within t q))
+
+module _ (t : Topology) (g : Guarantee) (q : Text) (reaches : g.mode ≡ Reaches) (formed : IsWellFormed t) where
+  pub met_chain : {y : Text} → Met t g y → Chain (any_links t q) (node t.exchanges g.exchange) (node t.exchanges y)
+  met_chain own = still
+  met_chain (by_bound {y = y} e b m c n bs) =
+      chain_on (any_links t q) (met_chain m) (link_of t.exchanges q b) (node t.exchanges y)
+      (in_front (link_of t.exchanges q b) (links_of t.exchanges q t.bindings) (alternate_links t.exchanges t.exchanges) (link_in t.exchanges q b t.bindings (contained t.bindings b bs.is_binding)))
+      (ap (node t.exchanges) (bs.source ∙ n)) (ap (end_node t.exchanges q) bs.leads)
+  met_chain (by_alternate {y = y} e m c n a) =
+      chain_on (any_links t q) (met_chain m) (record { from = node t.exchanges e.name; to = node t.exchanges y }) (node t.exchanges y)
+      (in_back (record { from = node t.exchanges e.name; to = node t.exchanges y }) (links_of t.exchanges q t.bindings) (alternate_links t.exchanges t.exchanges) (alternate_in t.exchanges t.exchanges e y (contained t.exchanges e c) a))
+      (ap (node t.exchanges) n) refl
+  met_chain (by_death last never m e d k) = absurd (let h : Never ≡ Reaches = sym never ∙ reaches in cc)
+
+  -- from places that are no exchanges nothing leads on
+  low_end : {a b : ℕ} → Chain (any_links t q) a b → a < 2 → (y : Text) → b ≡ node t.exchanges y → ⊥
+  low_end still h y e = let k = node_above t.exchanges y in omega arith
+  low_end (along l i f u rest) h y e = elim (in_either l (links_of t.exchanges q t.bindings) (alternate_links t.exchanges t.exchanges) i) [
+    | inl j ↦ let r = from_links t.exchanges q l t.bindings j in let k = node_above t.exchanges r.0.source in let m : l.from ≡ node t.exchanges r.0.source = ap (λ (z : Link). z.from) r.2 in omega arith
+    | inr j ↦ let r = from_alternates t.exchanges t.exchanges l j in let k = node_above t.exchanges r.0.name in let m : l.from ≡ node t.exchanges r.0.name = ap (λ (z : Link). z.from) r.4 in omega arith
+  ]
+
+  same_name : (y x : Text) → IsIn y (exchange_names t.exchanges) ⊎ (y ≡ []) → node t.exchanges y ≡ node t.exchanges x → y ≡ x
+  same_name y x (inl i) e = node_same t.exchanges y x formed.default_apart i e
+  same_name y x (inr s) e = s ∙ sym (node_default t.exchanges x (sym e ∙ ap (node t.exchanges) s))
+
+  pub chain_met : {a b : ℕ} → Chain (any_links t q) a b → (x : Text) → a ≡ node t.exchanges x → Met t g x → (y : Text) → b ≡ node t.exchanges y → IsIn y (exchange_names t.exchanges) ⊎ (y ≡ []) → Met t g y
+  chain_met still x e m y f s = subst (λ (z : Text). Met t g z) (sym (same_name y x s (sym f ∙ e))) m
+  chain_met (along {b = b} {c = last} l i f u rest) x e m y k s = elim (in_either l (links_of t.exchanges q t.bindings) (alternate_links t.exchanges t.exchanges) i) [
+    | inl j ↦ by_link (from_links t.exchanges q l t.bindings j) (λ z h n. chain_met rest z h n y k s)
+    | inr j ↦ by_other (from_alternates t.exchanges t.exchanges l j) (λ z h n. chain_met rest z h n y k s)
+  ]
+    where
+      low : (v : Bool) → b ≡ cond v zero (suc zero) → b < 2
+      low true r = omega (arith, r)
+      low false r = omega (arith, r)
+
+      to_place : (c : Binding) (w : IsIn c t.bindings) (to : Place) → c.to ≡ to → b ≡ end_node t.exchanges q c.to → ((z : Exchange) × IsIn z t.exchanges × (c.source ≡ z.name)) → c.source ≡ x → ((z : Text) → b ≡ node t.exchanges z → Met t g z → Met t g y) → Met t g y
+      to_place c w (place.Exchange z) d h o same onward = onward z (h ∙ ap (end_node t.exchanges q) d) (by_bound o.0 c m (has_place t.exchanges o.0 o.1) (sym o.2 ∙ same) (record { is_binding = has_place t.bindings c w; source = o.2; leads = d }))
+      to_place c w (place.Queue z) d h o same onward = absurd (low_end rest (low (bytes_eq z q) (h ∙ ap (end_node t.exchanges q) d)) y k)
+
+      by_link : ((c : Binding) × IsIn c t.bindings × (l ≡ link_of t.exchanges q c)) → ((z : Text) → b ≡ node t.exchanges z → Met t g z → Met t g y) → Met t g y
+      by_link (c, w, p) onward =
+          let source = formed.sources c (has_place t.bindings c w) in
+          let same : c.source ≡ x = node_same t.exchanges c.source x formed.default_apart source (sym (ap (λ (z : Link). z.from) p) ∙ f ∙ e) in
+          to_place c w c.to refl (sym u ∙ ap (λ (z : Link). z.to) p) (from_map (λ (z : Exchange). z.name) c.source t.exchanges source) same onward
+
+      by_other : ((z : Exchange) × (other : Text) × IsIn z t.exchanges × (z.alternate ≡ Some other) × (l ≡ record { from = node t.exchanges z.name; to = node t.exchanges other })) → ((z : Text) → b ≡ node t.exchanges z → Met t g z → Met t g y) → Met t g y
+      by_other (z, other, w, a, p) onward =
+          let same : z.name ≡ x = node_same t.exchanges z.name x formed.default_apart (in_map (λ (v : Exchange). v.name) z t.exchanges w) (sym (ap (λ (v : Link). v.from) p) ∙ f ∙ e) in
+          onward other (sym u ∙ ap (λ (v : Link). v.to) p) (by_alternate z m (has_place t.exchanges z w) same a)
+
+-- ---- the list
+
+keys_fold : (ps : List Tracked) (kind : ExchangeKind) (name : Text) (bs : List Binding) → keys_onto ps kind name bs ≡ fold (once_more same_tracked) ps (keys_from kind name bs)
+keys_fold ps kind name [] = refl
+keys_fold ps kind name (b ∷ bs) = elim (bytes_eq b.source name) as (λ v. keys_onto (cond v (onto ps kind b.key) ps) kind name bs ≡ fold (once_more same_tracked) ps (cond v (record { kind = kind; text = b.key } ∷ keys_from kind name bs) (keys_from kind name bs))) [
+  | true ↦ keys_fold (onto ps kind b.key) kind name bs
+  | false ↦ keys_fold ps kind name bs
+]
+
+keys_by_fold : (ps : List Tracked) (kind : ExchangeKind) (name : Text) (bs : List Binding) → keys_by_onto ps kind name bs ≡ fold (once_more same_tracked) ps (keys_by kind name bs)
+keys_by_fold ps Direct name bs = keys_fold ps Direct name bs
+keys_by_fold ps Topic name bs = keys_fold ps Topic name bs
+keys_by_fold ps Fanout name bs = refl
+
+pub names_fold : (ps : List Tracked) (qs : List DeclaredQueue) → names_onto ps qs ≡ fold (once_more same_tracked) ps (map (λ (q : DeclaredQueue). record { kind = Direct; text = q.name }) qs)
+names_fold ps [] = refl
+names_fold ps (q ∷ qs) = names_fold (onto ps Direct q.name) qs
+
+-- the exchanges that are marked
+abbrev pub chosen : Topology → List Bool → List Exchange → List Exchange
+chosen t marks [] = []
+chosen t marks (x ∷ xs) = cond (slice_index_or marks (node t.exchanges x.name) false) (x ∷ chosen t marks xs) (chosen t marks xs)
+
+pub met_fold : (t : Topology) (marks : List Bool) (ps : List Tracked) (xs : List Exchange) → met_onto t marks ps xs ≡ fold (once_more same_tracked) ps (flat_map (keys_of t) (chosen t marks xs))
+met_fold t marks ps [] = refl
+met_fold t marks ps (x ∷ xs) = elim (slice_index_or marks (node t.exchanges x.name) false) as (λ v. met_onto t marks (cond v (keys_by_onto ps x.kind x.name t.bindings) ps) xs ≡ fold (once_more same_tracked) ps (flat_map (keys_of t) (cond v (x ∷ chosen t marks xs) (chosen t marks xs)))) [
+  | true ↦
+      met_fold t marks (keys_by_onto ps x.kind x.name t.bindings) xs
+      ∙ ap (λ (z : List Tracked). fold (once_more same_tracked) z (flat_map (keys_of t) (chosen t marks xs))) (keys_by_fold ps x.kind x.name t.bindings)
+      ∙ sym (fold-append (once_more same_tracked) ps (keys_of t x) (flat_map (keys_of t) (chosen t marks xs)))
+  | false ↦ met_fold t marks ps xs
+]
+
+selects : (t : Topology) (marks : List Bool) (P : Text → Type 0) (xs : List Exchange) → ((x : Exchange) → IsIn x xs → (IsSet marks (node t.exchanges x.name) → P x.name) × (P x.name → IsSet marks (node t.exchanges x.name))) → Selects P xs (chosen t marks xs)
+selects t marks P [] f = Selects.none
+selects t marks P (x ∷ xs) f = go (slice_index_or marks (node t.exchanges x.name) false) refl (selects t marks P xs (λ y i. f y (inr i)))
+  where
+    go : (v : Bool) → slice_index_or marks (node t.exchanges x.name) false ≡ v → Selects P xs (chosen t marks xs) → Selects P (x ∷ xs) (cond v (x ∷ chosen t marks xs) (chosen t marks xs))
+    go true e s = Selects.take ((f x (inl refl)).0 e) s
+    go false e s = Selects.pass (λ p. false≢true (sym e ∙ (f x (inl refl)).1 p)) s
+
+pub tracked_list : (t : Topology) (g : Guarantee) (q : Text) (marks : List Bool) (ps : List Tracked) → g.mode ≡ Reaches → IsWellFormed t → AreReached (any_links t q) (count t) (node t.exchanges g.exchange) marks
+    → ps ≡ met_onto t marks (cond (slice_index_or marks 2 false) (names_onto (once_more same_tracked [] (record { kind = Topic; text = g.pattern })) t.queues) (once_more same_tracked [] (record { kind = Topic; text = g.pattern }))) t.exchanges
+    → IsTrackedList t g ps
+tracked_list t g q marks ps reaches formed reached is = go (slice_index_or marks 2 false) refl is
+  where
+    first : Tracked
+    first = record { kind = Topic; text = g.pattern }
+
+    found : Selects (Met t g) t.exchanges (chosen t marks t.exchanges)
+    found = selects t marks (Met t g) t.exchanges (λ x i. (
+      (λ s. chain_met t g q reaches formed (reached.sound (node t.exchanges x.name) s) g.exchange refl own x.name refl (inl (in_map (λ (z : Exchange). z.name) x t.exchanges i))),
+      (λ m. reached.all (node t.exchanges x.name) (met_chain t g q reaches formed m)),
+    ))
+
+    go : (v : Bool) → slice_index_or marks 2 false ≡ v → ps ≡ met_onto t marks (cond v (names_onto (once_more same_tracked [] first) t.queues) (once_more same_tracked [] first)) t.exchanges → IsTrackedList t g ps
+    go true e p = record {
+      met = chosen t marks t.exchanges;
+      names = names_in t;
+      selects = found;
+      default_met = λ m. refl;
+      default_unmet = λ n. absurd (n (chain_met t g q reaches formed (reached.sound 2 e) g.exchange refl own [] refl (inr refl)));
+      is = p ∙ met_fold t marks (names_onto (once_more same_tracked [] first) t.queues) t.exchanges
+          ∙ ap (λ (z : List Tracked). fold (once_more same_tracked) z (flat_map (keys_of t) (chosen t marks t.exchanges))) (names_fold (once_more same_tracked [] first) t.queues)
+          ∙ sym (fold-append (once_more same_tracked) (once_more same_tracked [] first) (names_in t) (flat_map (keys_of t) (chosen t marks t.exchanges)));
+    }
+    go false e p = record {
+      met = chosen t marks t.exchanges;
+      names = [];
+      selects = found;
+      default_met = λ m. absurd (false≢true (sym e ∙ reached.all 2 (met_chain t g q reaches formed m)));
+      default_unmet = λ n. refl;
+      is = p ∙ met_fold t marks (once_more same_tracked [] first) t.exchanges;
+    }
+
+pub reached_as : (t : Topology) (x q : Text) (links : List Link) (n from : ℕ) (marks : List Bool) → links ≡ any_links t q → n ≡ count t → from ≡ node t.exchanges x → AreReached links n from marks → AreReached (any_links t q) (count t) (node t.exchanges x) marks
+reached_as t x q links n from marks l c f r = subst (λ (z : List Link). AreReached z (count t) (node t.exchanges x) marks) l (subst (λ (z : ℕ). AreReached links z (node t.exchanges x) marks) c (subst (λ (z : ℕ). AreReached links n z marks) f r))
+
+pub tracked_from : (t : Topology) (g : Guarantee) (x q pattern : Text) (marks seen : List Bool) (ps : List Tracked) → g.mode ≡ Reaches → IsWellFormed t → x ≡ g.exchange → pattern ≡ g.pattern → seen ≡ marks → AreReached (any_links t q) (count t) (node t.exchanges x) marks → ps ≡ collected t pattern seen → IsTrackedList t g ps
+tracked_from t g x q pattern marks seen ps m f ex pa se r is =
+    tracked_list t g q marks ps m f (subst (λ (z : Text). AreReached (any_links t q) (count t) (node t.exchanges z) marks) ex r)
+    (is ∙ ap (λ (z : Text). collected t z seen) pa ∙ ap (λ (z : List Bool). collected t g.pattern z) se)

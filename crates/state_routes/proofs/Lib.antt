@@ -1,0 +1,6 @@
+pub mod Chains
+pub mod Numbers
+pub mod Known
+pub mod Collecting
+pub mod Sure
+pub mod Once

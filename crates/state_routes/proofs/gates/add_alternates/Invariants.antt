@@ -1,0 +1,6 @@
+use Rattle.std.proofs.Common.{◌≡◌, ◌++◌, drop}
+use Rattle.state_routes.specs.Gates.{open_alternates}
+use Rattle.state_routes.proofs.gates.add_alternates.Given as goal
+
+abbrev pub invariant-loop-link : goal.invariant-loop-link
+invariant-loop-link l = l.links.items ++ open_alternates l.gates (drop l.link-index l.alternates) l.accepted ≡ l.fn.links.items ++ open_alternates l.gates l.alternates l.accepted

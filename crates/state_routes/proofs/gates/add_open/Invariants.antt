@@ -1,0 +1,6 @@
+use Rattle.std.proofs.Common.{◌≡◌, ◌++◌, drop}
+use Rattle.state_routes.specs.Gates.{open_links}
+use Rattle.state_routes.proofs.gates.add_open.Given as goal
+
+abbrev pub invariant-loop-gate : goal.invariant-loop-gate
+invariant-loop-gate l = l.links.items ++ open_links (drop l.gate-index l.gates) l.accepted ≡ l.fn.links.items ++ open_links l.gates l.accepted

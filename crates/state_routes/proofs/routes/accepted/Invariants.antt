@@ -1,0 +1,6 @@
+use Rattle.std.proofs.Common.{◌≡◌, ◌++◌, drop}
+use Rattle.state_routes.specs.Gates.{accepted}
+use Rattle.state_routes.proofs.routes.accepted.Given as goal
+
+abbrev pub invariant-loop-place : goal.invariant-loop-place
+invariant-loop-place l = l.found.items ++ accepted (drop l.place l.letters) (drop l.place l.state) ≡ accepted l.letters l.state

@@ -1,0 +1,38 @@
+-- The tracked patterns, one after another.
+use Rattle.std.specs.Prelude.{List, [], ◌∷◌, Bool, false, slice_index_or, if◌then◌else◌}
+use Rattle.std.specs.Str.{bytes_eq}
+use Rattle.model.specs.Words.{Text}
+use Rattle.model.specs.Topology.{Topology}
+use Rattle.state_routes.specs.Nodes.{node}
+use Rattle.model.specs.Tracking.{Tracked, once_more, same_tracked}
+use Rattle.model.specs.declared.topologies.Exchange.{Exchange}
+use Rattle.model.specs.declared.topologies.DeclaredQueue.{DeclaredQueue}
+use Rattle.model.specs.declared.topologies.Binding.{Binding}
+use Rattle.model.specs.declared.topologies.ExchangeKind.{ExchangeKind}
+use Rattle.model.specs.declared.topologies.ExchangeKind.TheVariants.{Direct, Fanout, Topic}
+
+-- one more pattern, if it is not there yet
+abbrev pub onto : List Tracked → ExchangeKind → Text → List Tracked
+onto ps kind text = once_more same_tracked ps (record { kind = kind; text = text })
+
+abbrev pub keys_onto : List Tracked → ExchangeKind → Text → List Binding → List Tracked
+keys_onto ps kind name [] = ps
+keys_onto ps kind name (b ∷ bs) = keys_onto (if bytes_eq b.source name then onto ps kind b.key else ps) kind name bs
+
+abbrev pub keys_by_onto : List Tracked → ExchangeKind → Text → List Binding → List Tracked
+keys_by_onto ps Direct name bs = keys_onto ps Direct name bs
+keys_by_onto ps Topic name bs = keys_onto ps Topic name bs
+keys_by_onto ps Fanout name bs = ps
+
+abbrev pub names_onto : List Tracked → List DeclaredQueue → List Tracked
+names_onto ps [] = ps
+names_onto ps (q ∷ qs) = names_onto (onto ps Direct q.name) qs
+
+-- the keys of those of these exchanges that are marked
+abbrev pub met_onto : Topology → List Bool → List Tracked → List Exchange → List Tracked
+met_onto t marks ps [] = ps
+met_onto t marks ps (x ∷ xs) = met_onto t marks (if slice_index_or marks (node t.exchanges x.name) false then keys_by_onto ps x.kind x.name t.bindings else ps) xs
+
+-- the pattern, then the queue names where the default exchange is marked, then the keys of the marked exchanges
+abbrev pub collected : Topology → Text → List Bool → List Tracked
+collected t pattern marks = met_onto t marks (if slice_index_or marks 2 false then names_onto (onto [] Topic pattern) t.queues else onto [] Topic pattern) t.exchanges

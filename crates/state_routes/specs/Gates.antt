@@ -1,0 +1,90 @@
+-- Bindings as gates between places: each asks whether a tracked pattern accepts the key.
+use Rattle.std.specs.Prelude.{ℕ, zero, suc, List, [], ◌∷◌, ◌++◌, Bool, true, false, not, ◌&&◌, ◌||◌, ◌==◌, Option, Some, None, slice_get, unwrap_or, option_map, if◌then◌else◌, find}
+use Rattle.std.specs.List.{list_any}
+use Rattle.std.specs.Str.{bytes_eq}
+use Rattle.model.specs.Words.{Text}
+use Rattle.model.specs.Topology.{Topology}
+use Rattle.model.specs.Tracking.{Tracked, same_tracked}
+use Rattle.model.specs.Positions.{is_accepted}
+use Rattle.model.specs.declared.topologies.Exchange.{Exchange}
+use Rattle.model.specs.declared.topologies.DeclaredQueue.{DeclaredQueue}
+use Rattle.model.specs.declared.topologies.Binding.{Binding}
+use Rattle.model.specs.declared.topologies.ExchangeKind.{ExchangeKind}
+use Rattle.model.specs.declared.topologies.ExchangeKind.TheVariants.{Direct, Fanout, Topic}
+use Rattle.state_routes.specs.declared.reach.Link.{Link}
+use Rattle.state_routes.specs.declared.gates.Test.{Test}
+use Rattle.state_routes.specs.declared.gates.Test.TheVariants.{Always, Pattern}
+use Rattle.state_routes.specs.declared.gates.Gate.{Gate}
+use Rattle.state_routes.specs.Nodes.{link_of, alternate_links}
+
+-- the first place of a tracked pattern, or how many there are
+abbrev pub place_of : List Tracked → ExchangeKind → Text → ℕ
+place_of [] kind text = zero
+place_of (p ∷ ps) kind text = if same_tracked (record { kind = kind; text = text }) p then zero else suc (place_of ps kind text)
+
+-- what a binding key of an exchange of this kind asks
+abbrev pub test_by : List Tracked → ExchangeKind → Text → Test
+test_by ps Fanout key = Always
+test_by ps Direct key = Pattern (place_of ps Direct key)
+test_by ps Topic key = Pattern (place_of ps Topic key)
+
+abbrev pub kind_or_direct : Option Exchange → ExchangeKind
+kind_or_direct None = Direct
+kind_or_direct (Some x) = x.kind
+
+-- the kind of the first exchange of this name
+abbrev pub kind_at : List Exchange → Text → ExchangeKind
+kind_at exchanges name = kind_or_direct (find (λ (x : Exchange). bytes_eq x.name name) exchanges)
+
+abbrev pub gate_of : List Exchange → Text → List Tracked → Binding → Gate
+gate_of exchanges queue ps b = record { link = link_of exchanges queue b; test = test_by ps (kind_at exchanges b.source) b.key }
+
+abbrev pub binding_gates : List Exchange → Text → List Tracked → List Binding → List Gate
+binding_gates exchanges queue ps [] = []
+binding_gates exchanges queue ps (b ∷ bs) = gate_of exchanges queue ps b ∷ binding_gates exchanges queue ps bs
+
+abbrev pub has_queue : List DeclaredQueue → Text → Bool
+has_queue queues name = list_any (λ (q : DeclaredQueue). bytes_eq q.name name) queues
+
+-- from the default exchange to the queue
+abbrev pub default_gate : List Tracked → Text → Gate
+default_gate ps queue = record { link = record { from = 2; to = 0 }; test = Pattern (place_of ps Direct queue) }
+
+-- the gates of a topology: those of its bindings, and the default exchange's to the queue, if it is there
+abbrev pub gates_of : Topology → Text → List Tracked → List Gate
+gates_of t queue ps = if has_queue t.queues queue then binding_gates t.exchanges queue ps t.bindings ++ default_gate ps queue ∷ [] else binding_gates t.exchanges queue ps t.bindings
+
+-- ---- by what the tracked patterns accept
+
+-- which patterns accept the words of a state
+abbrev pub accepted : List Tracked → List ℕ → List Bool
+accepted [] ms = []
+accepted (p ∷ ps) [] = []
+accepted (p ∷ ps) (m ∷ ms) = is_accepted p m ∷ accepted ps ms
+
+abbrev pub is_open : Test → List Bool → Bool
+is_open Always acc = true
+is_open (Pattern i) acc = unwrap_or (slice_get acc i) false
+
+abbrev pub is_shut : Test → List Bool → Bool
+is_shut Always acc = false
+is_shut (Pattern i) acc = unwrap_or (option_map not (slice_get acc i)) false
+
+-- each gate from this place is known to be shut
+abbrev pub all_shut : List Gate → ℕ → List Bool → Bool
+all_shut [] from acc = true
+all_shut (g ∷ gs) from acc = (not (g.link.from == from) || is_shut g.test acc) && all_shut gs from acc
+
+-- the links of the gates that are known to be open
+abbrev pub open_links : List Gate → List Bool → List Link
+open_links [] acc = []
+open_links (g ∷ gs) acc = if is_open g.test acc then g.link ∷ open_links gs acc else open_links gs acc
+
+-- the links to the alternate exchanges of those whose gates are all known to be shut
+abbrev pub open_alternates : List Gate → List Link → List Bool → List Link
+open_alternates gs [] acc = []
+open_alternates gs (l ∷ ls) acc = if all_shut gs l.from acc then l ∷ open_alternates gs ls acc else open_alternates gs ls acc
+
+-- where a key leads of which no more is known than what the patterns accept
+abbrev pub sure_links : Topology → Text → List Tracked → List Bool → List Link
+sure_links t queue ps acc = open_links (gates_of t queue ps) acc ++ open_alternates (gates_of t queue ps) (alternate_links t.exchanges t.exchanges) acc

@@ -1,0 +1,5 @@
+pub mod Reach
+pub mod Nodes
+pub mod Gates
+pub mod Known
+pub mod Collected

@@ -1,0 +1,46 @@
+-- The places of a topology as numbers: 0 is the guarantee's queue, 1 any other, 2 the default exchange, and from 3 on the exchanges of the file.
+use Rattle.std.specs.Prelude.{ℕ, ◌+◌, List, [], ◌∷◌, ◌++◌, Option, Some, None, length, if◌then◌else◌}
+use Rattle.std.specs.Str.{bytes_eq}
+use Rattle.model.specs.Words.{Text}
+use Rattle.model.specs.Topology.{Topology}
+use Rattle.model.specs.declared.topologies.Exchange.{Exchange}
+use Rattle.model.specs.declared.topologies.Binding.{Binding}
+use Rattle.model.specs.declared.topologies.Place.{Place}
+use Rattle.model.specs.declared.topologies.Place.TheVariants as place
+use Rattle.exchange_graph.specs.Fans.{exchange_place}
+use Rattle.state_routes.specs.declared.reach.Link.{Link}
+
+-- the number of the exchange of this name; one that is not there has a number of its own
+abbrev pub node : List Exchange → Text → ℕ
+node exchanges [] = 2
+node exchanges (b ∷ bs) = exchange_place exchanges (b ∷ bs) + 3
+
+-- how many numbers there are
+abbrev pub count : Topology → ℕ
+count t = length t.exchanges + 4
+
+-- the number of the place where a binding ends
+abbrev pub end_node : List Exchange → Text → Place → ℕ
+end_node exchanges queue (place.Exchange name) = node exchanges name
+end_node exchanges queue (place.Queue name) = if bytes_eq name queue then 0 else 1
+
+-- where a binding leads from and to
+abbrev pub link_of : List Exchange → Text → Binding → Link
+link_of exchanges queue b = record { from = node exchanges b.source; to = end_node exchanges queue b.to }
+
+abbrev pub links_of : List Exchange → Text → List Binding → List Link
+links_of exchanges queue [] = []
+links_of exchanges queue (b ∷ bs) = link_of exchanges queue b ∷ links_of exchanges queue bs
+
+-- where the alternate exchange of an exchange leads from and to, if it has one
+abbrev pub alternate_link : List Exchange → Text → Option Text → List Link
+alternate_link exchanges name None = []
+alternate_link exchanges name (Some other) = record { from = node exchanges name; to = node exchanges other } ∷ []
+
+abbrev pub alternate_links : List Exchange → List Exchange → List Link
+alternate_links exchanges [] = []
+alternate_links exchanges (x ∷ xs) = alternate_link exchanges x.name x.alternate ++ alternate_links exchanges xs
+
+-- where any binding or alternate exchange leads from and to
+abbrev pub any_links : Topology → Text → List Link
+any_links t queue = links_of t.exchanges queue t.bindings ++ alternate_links t.exchanges t.exchanges

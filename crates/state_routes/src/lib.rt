@@ -1,0 +1,14 @@
+//! What a guarantee keeps track of, and where a key leads of which no more is known than a state tells.
+//!
+//! Names are looked up once: a topology's exchanges and the guarantee's queue become places, numbered from 0, and its
+//! bindings gates between them, each behind a tracked pattern (`specs/Gates.antt`).
+#![tactic(auto)]
+
+mod gates;
+mod nodes;
+mod reach;
+mod routes;
+mod tracking;
+
+pub use routes::Routes;
+pub use tracking::tracked_patterns;

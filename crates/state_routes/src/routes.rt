@@ -1,0 +1,151 @@
+//! Whether a key is sure to come to the guarantee's queue, by a state.
+
+ghost use Rattle.std.specs.Prelude.{◌≡◌, ◌++◌, IfOk, Decides};
+ghost use Rattle.model.specs.Words.{Text};
+ghost use Rattle.model.specs.Topology.{Topology as Shown};
+ghost use Rattle.model.specs.Routing.{RoutesBy};
+ghost use Rattle.model.specs.Certificates.{sure};
+ghost use Rattle.model.specs.Positions.{FitsEach};
+ghost use Rattle.state_routes.specs.Gates.{accepted, open_alternates, open_links};
+ghost use Rattle.state_routes.specs.Reach.{AreReached, Chain};
+ghost use Rattle.state_routes.specs.Known.{AreOnce, IsBounded, IsKnown, IsSure};
+
+use crate::gates::{Gate, add_alternates, add_open, gates_of};
+use crate::nodes::{alternate_links, node};
+use crate::reach::{Link, reached};
+use exchange_graph::Topology;
+use std::alloc::{AllocError, Global};
+use std::marker::Model;
+use word_automata::{Letters, accepts};
+
+/// Where keys lead, by which tracked patterns accept them.
+#[derive(Drop)]
+pub struct Routes {
+    gates: Vec<Gate>,
+    alternates: Vec<Link>,
+    count: usize,
+    start: usize,
+}
+
+impl Model for Routes {
+    ghost use Rattle.state_routes.specs.Known.{Leading, IsBounded};
+
+    ghost Value = { Leading };
+
+    ghost view = { λ r. record { gates = r.gates.items; alternates = r.alternates.items; count = r.count; start = r.start } };
+
+    ghost invariant = { λ r. IsBounded r.gates.items r.alternates.items r.count r.start };
+}
+
+/// Which patterns accept the words of a state.
+fn accepted(alloc: Global, letters: &Letters, state: &[u64]) -> Result<Vec<bool>, AllocError>
+    requires { FitsEach letters.now state.now }
+    ensures { IfOk result (λ found. found.items ≡ accepted letters.now state.now) }
+{
+    let mut found = Vec::new(alloc);
+    for place in 0..letters.patterns().len() {
+        found.push(accepts(state, letters, place))?;
+    }
+    Ok(found)
+}
+
+/// The links that are open where these patterns accept.
+fn sure_links(
+    alloc: Global,
+    gates: &[Gate],
+    alternates: &[Link],
+    accepted: &[bool],
+) -> Result<Vec<Link>, AllocError>
+    ensures { IfOk result (λ links. links.items ≡ open_links gates.now accepted.now ++ open_alternates gates.now alternates.now accepted.now) }
+{
+    let mut links = Vec::new(alloc);
+    add_open(&mut links, gates, accepted)?;
+    add_alternates(&mut links, gates, alternates, accepted)?;
+    Ok(links)
+}
+
+/// The places to which the open links lead from the start.
+fn sure_marks(
+    alloc: Global,
+    gates: &[Gate],
+    alternates: &[Link],
+    accepted: &[bool],
+    count: usize,
+    start: usize,
+) -> Result<Vec<bool>, AllocError>
+    requires { IsBounded gates.now alternates.now count start }
+    ensures { IfOk result (λ marks. AreReached (open_links gates.now accepted.now ++ open_alternates gates.now alternates.now accepted.now) count start marks.items) }
+{
+    let links = sure_links(alloc, gates, alternates, accepted)?;
+    let marks = reached(alloc, links.as_slice(), count, start)?;
+    Ok(marks)
+}
+
+/// Whether open links lead from the start to the queue.
+fn leads_there(
+    alloc: Global,
+    gates: &[Gate],
+    alternates: &[Link],
+    accepted: &[bool],
+    count: usize,
+    start: usize,
+) -> Result<bool, AllocError>
+    requires { IsBounded gates.now alternates.now count start }
+    ensures { IfOk result (λ yes. Decides yes (Chain (open_links gates.now accepted.now ++ open_alternates gates.now alternates.now accepted.now) start 0)) }
+{
+    let marks = sure_marks(alloc, gates, alternates, accepted, count, start)?;
+    Ok(marks[0])
+}
+
+impl Routes {
+    /// Where keys lead that are sent to this exchange, as far as it matters to this queue.
+    pub fn new(
+        alloc: Global,
+        topology: &Topology,
+        exchange: &[u8],
+        queue: &[u8],
+        letters: &Letters,
+    ) -> Result<Routes, AllocError>
+        ensures { IfOk result (λ r. IsKnown topology.now exchange.now queue.now letters.now r) }
+    {
+        topology.is_well_formed();
+        Ok(Routes {
+            gates: gates_of(alloc, topology, queue, letters.patterns())?,
+            alternates: alternate_links(alloc, topology.exchanges(), topology.exchanges())?,
+            count: topology.exchanges().len() + 4,
+            start: node(topology.exchanges(), exchange),
+        })
+    }
+
+    /// Whether open links lead to the queue, by what the patterns accept at this state.
+    fn leads(&self, alloc: Global, letters: &Letters, state: &[u64]) -> Result<bool, AllocError>
+        requires { FitsEach letters.now state.now }
+        ensures { IfOk result (λ yes. Decides yes (IsSure letters.now self.now state.now)) }
+    {
+        let accepted = accepted(alloc, letters, state)?;
+        let yes = leads_there(
+            alloc,
+            self.gates.as_slice(),
+            self.alternates.as_slice(),
+            accepted.as_slice(),
+            self.count,
+            self.start,
+        )?;
+        Ok(yes)
+    }
+
+    /// Whether a key of this state is sure to come to the queue.
+    pub fn is_sure(
+        &self,
+        alloc: Global,
+        letters: &Letters,
+        state: &[u64],
+    ) -> Result<bool, AllocError>
+        requires { FitsEach letters.now state.now }
+        ensures links { IfOk result (λ yes. Decides yes (IsSure letters.now self.now state.now)) }
+        ensures routes { IfOk result (λ yes. (t : Shown) (x q : Text) → IsKnown t x q letters.now self.now → AreOnce letters.now → Decides yes (RoutesBy t (sure letters.now state.now) x q)) }
+    {
+        let yes = self.leads(alloc, letters, state)?;
+        Ok(yes)
+    }
+}
