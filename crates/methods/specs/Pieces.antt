@@ -1,5 +1,5 @@
 -- Arguments between the bytes of a payload and a method. Source: AMQP 0-9-1, section 4.2.5, "Data Types".
-use Rattle.std.specs.Prelude.{◌≡◌, ℕ, List, [], ◌∷◌, map, Option, Some, None, Result, Ok, Err}
+use Rattle.std.specs.Prelude.{◌≡◌, List, [], ◌∷◌, map, Option, Some, None}
 use Rattle.model.specs.Grammar.{Argument, Octet, Short, Long, Long_long, Short_text, Long_text, Field_table, Bits}
 use Rattle.field_table.specs.Arguments as arguments
 use Rattle.methods.specs.declared.pieces.Kind.{Kind}

@@ -1,5 +1,5 @@
 -- The ids and the arguments that are put are the method's.
-use Rattle.std.proofs.Common.{◌≡◌, ◌+◌, ◌++◌, ◌∙◌, ℕ, List, length, append_assoc, ap, arith}
+use Rattle.std.proofs.Common.{◌≡◌, ◌++◌, ◌∙◌, ℕ, List, length, append_assoc, ap, arith}
 use Rattle.std.specs.Int.{w16, to_be_bytes}
 use Rattle.model.specs.Grammar.{Ids, ids}
 use Rattle.methods.specs.Writing.{pieces_bytes}
