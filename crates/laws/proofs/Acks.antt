@@ -1,6 +1,6 @@
 -- The acks that are sent are those that are noted, one by one.
 use Rattle.std.proofs.Common.{◌≡◌, ℕ, List, [], ◌∷◌, ◌++◌, Bool, true, false, cond, refl, sym, ap, ◌∙◌, map, Option, Some, None, inl, inr}
-use Rattle.std.specs.Prelude.{◌==◌, ◌||◌, filter, filter_map}
+use Rattle.std.specs.Prelude.{◌==◌, ◌||◌, filter_map}
 use Rattle.std.specs.List.{list_any, AllByRecursion, cons_option}
 use Rattle.std.proofs.lemmas.List.{map-append}
 use Rattle.std.proofs.lemmas.List.Elements.{filter-append, filter_map-append}
@@ -22,7 +22,7 @@ use Rattle.model.specs.declared.events.Send.{Send}
 use Rattle.model.specs.declared.notes.Note.{Note}
 use Rattle.model.specs.declared.notes.Answer.TheVariants as answer
 use Rattle.laws.specs.Promises.{ack_of, ack_sent}
-use Rattle.laws.proofs.Counts.{filter_map_none}
+use Rattle.laws.proofs.Counts.{filter_all, filter_map_none}
 use Rattle.laws.proofs.View.{is_reply, Publishes, Seen, seen_at, reply_all}
 use Rattle.laws.proofs.Balance.{number, content, confirm, some_full, is_returned}
 use Rattle.laws.proofs.Once.{acked_if, nothing_acked, publish_acked, acked_by_answer}
@@ -42,14 +42,6 @@ acks_to c sends = filter_map ack_sent (sends_to c sends)
 
 acks_to-append : (c : ℕ) (xs ys : List Send) → acks_to c (xs ++ ys) ≡ acks_to c xs ++ acks_to c ys
 acks_to-append c xs ys = ap (filter_map ack_sent) (filter-append (λ s. receiver s == c) xs ys) ∙ filter_map-append ack_sent (sends_to c xs) (sends_to c ys)
-
-filter_all : {A : Type 0} (P : A → Type 0) (test : A → Bool) (xs : List A) → AllByRecursion P xs → AllByRecursion P (filter test xs)
-filter_all P test [] a = tt
-filter_all P test (x ∷ xs) a = go (test x) (filter_all P test xs a.1)
-  where
-    go : (b : Bool) → AllByRecursion P (filter test xs) → AllByRecursion P (cond b (x ∷ filter test xs) (filter test xs))
-    go true r = (a.0, r)
-    go false r = r
 
 acks_to_none : (c : ℕ) (sends : List Send) → AllByRecursion IsNoAck sends → acks_to c sends ≡ []
 acks_to_none c sends a = filter_map_none ack_sent (sends_to c sends) (filter_all IsNoAck (λ s. receiver s == c) sends a)

@@ -3,6 +3,8 @@ use Rattle.std.proofs.Common.{◌≡◌, ◌<◌, ℕ, ◌+◌, List, [], ◌∷
 use Rattle.std.specs.Prelude.{count_by, ◌&&◌, not, if◌then◌else◌}
 use Rattle.std.specs.Str.{bytes_eq}
 use Rattle.std.specs.List.{AllByRecursion}
+use Rattle.std.proofs.Math.Bool.{and-true, and-false}
+use Rattle.std.proofs.lemmas.Bool.{ne_eqb}
 use Rattle.model.specs.Words.{Text}
 use Rattle.model.specs.Topology.{Topology, IsIn}
 use Rattle.model.specs.Broker.{Broker, is_full}
@@ -20,7 +22,7 @@ use Rattle.model.specs.declared.notes.Note.TheVariants.{Published, Entered, Refu
 use Rattle.model.specs.declared.notes.Answer.{Answer}
 use Rattle.model.specs.declared.notes.Way.TheVariants as way
 use Rattle.laws.proofs.View.{Publishes, Seen, seen_at}
-use Rattle.laws.proofs.Counts.{count-append, count-cons, count-cons_no, count_none, all-append, and_true, and_false, other_number}
+use Rattle.laws.proofs.Counts.{count-append, count-cons, count-cons_no, count_none, all-append}
 
 -- ---- what a publish notes
 
@@ -88,11 +90,11 @@ comes_by_case : (same full : Bool) (m : Message) (n : ℕ) (q r : Text) (es : Li
     → count_by (has_number n) (if same && not full then record { message = m; mark = Ready } ∷ es else es) ≡ count_by (is_entered n q) ((if full then Refused m.number r else Entered m.number r way.Publish) ∷ ns)
 comes_by_case true true m n q r es ns e ih = ih ∙ sym (count-cons_no (is_entered n q) (Refused m.number r) ns refl)
 comes_by_case true false m n q r es ns e ih =
-    let one : is_entered n q (Entered m.number r way.Publish) ≡ eqb m.number n = ap (λ b. eqb m.number n && b) e ∙ and_true (eqb m.number n) in
+    let one : is_entered n q (Entered m.number r way.Publish) ≡ eqb m.number n = ap (λ b. eqb m.number n && b) e ∙ and-true (eqb m.number n) in
     count-cons (has_number n) (record { message = m; mark = Ready }) es ∙ ap (λ z. cond (eqb m.number n) 1 0 + z) ih ∙ ap (λ b. cond b 1 0 + count_by (is_entered n q) ns) (sym one) ∙ sym (count-cons (is_entered n q) (Entered m.number r way.Publish) ns)
 comes_by_case false true m n q r es ns e ih = ih ∙ sym (count-cons_no (is_entered n q) (Refused m.number r) ns refl)
 comes_by_case false false m n q r es ns e ih =
-    ih ∙ sym (count-cons_no (is_entered n q) (Entered m.number r way.Publish) ns (ap (λ b. eqb m.number n && b) e ∙ and_false (eqb m.number n)))
+    ih ∙ sym (count-cons_no (is_entered n q) (Entered m.number r way.Publish) ns (ap (λ b. eqb m.number n && b) e ∙ and-false (eqb m.number n)))
 
 comes_as_noted : (t : Topology) (entries : Text → List Entry) (m : Message) (n : ℕ) (q : Text) (rs : List Text)
     → count_by (has_number n) (comes_to t entries m q rs) ≡ count_by (is_entered n q) (entry_notes t entries (length m.content.body) m.number way.Publish rs)
@@ -148,7 +150,7 @@ run_balances hs old new r = stays_balances hs old.broker new.broker (run_stays h
 counted_by_publish : (t : Topology) (old new : Broker) (e : Event) (sends : List Send) (notes : List Note) → Publishes t old new e sends notes → AreCounted old → AreCounted new
 counted_by_publish t old new e sends notes p counted n q lt =
     let made : new.published ≡ old.published + 1 = p.is.left.counted in
-    let ne : eqb (old.published + 1) n ≡ false = other_number n (old.published + 1) (λ e. omega (arith, e, lt, made)) in
+    let ne : eqb (old.published + 1) n ≡ false = ne_eqb (old.published + 1) n (λ e. omega (arith, e, lt, made)) in
     let entered : count_by (is_entered n q) notes ≡ 0 =
     ap (count_by (is_entered n q)) (noted p)
     ∙ count_none (is_entered n q) (first_note p ∷ (entry_part p ++ answer_part p)) (refl, others_all p _ (λ r. refl) (λ r i. ap (λ b. b && bytes_eq r q) ne) refl (λ a. refl)) in

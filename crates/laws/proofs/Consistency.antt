@@ -1,7 +1,7 @@
 -- Whatever arrives, the world keeps what every world keeps.
 use Rattle.std.proofs.Common.{◌≡◌, ◌≢◌, ◌+◌, ℕ, List, [], ◌∷◌, Bool, true, false, cond, refl, sym, ap, subst, ◌∙◌}
 use Rattle.std.specs.Prelude.{◌&&◌, ◌==◌, not, MatchBool}
-use Rattle.std.proofs.lemmas.Bool.{eqb-true, eqb-false, false≢true}
+use Rattle.std.proofs.lemmas.Bool.{ne_eqb, eqb-true, eqb-false, false≢true}
 use Rattle.model.specs.Broker.{with_one}
 use Rattle.model.specs.State.{Config, State}
 use Rattle.model.specs.Run.{Happening}
@@ -12,8 +12,9 @@ use Rattle.model.specs.declared.events.Arrival.{Arrival}
 use Rattle.model.specs.declared.events.Arrival.TheVariants as arrival
 use Rattle.model.specs.declared.events.Event.TheVariants as event
 use Rattle.laws.specs.Consistency.{WorldsStayConsistent}
+use Rattle.laws.proofs.Counts.{from_either}
 use Rattle.laws.proofs.Balance.{run_counts}
-use Rattle.laws.proofs.Linked.{Agrees, with_by, read_agrees, settled_agrees, step_agrees}
+use Rattle.laws.proofs.Linked.{Agrees, with_here, read_agrees, settled_agrees, step_agrees}
 use Rattle.laws.proofs.Plays.{told_turns, told_taken, told_opens, told_loses}
 
 agreed : (w : World) → IsConsistent w → Agrees w.state.broker w.state.session (is_paused w)
@@ -52,14 +53,11 @@ pub waits_consistent : (old new : World) (c : ℕ) → IsConsistent old → Wait
 waits_consistent old new c k v = consistent_same old new k v.state (others_and_own old new c (λ d ne. ap (λ (w : Wire). w.output) (v.others d ne)) v.output)
 
 wire_changed : (f : ℕ → Wire) (c d : ℕ) (w : Wire) → d ≢ c → with_one f c w d ≡ f d
-wire_changed f c d w ne = ap (λ (b : Bool). cond b w (f d)) (Rattle.laws.proofs.Counts.other_number c d ne)
-
-wire_own : (f : ℕ → Wire) (c : ℕ) (w : Wire) → with_one f c w c ≡ w
-wire_own f c w = Rattle.laws.proofs.Linked.with_here f c w
+wire_changed f c d w ne = ap (λ (b : Bool). cond b w (f d)) (ne_eqb d c ne)
 
 pub hears_consistent : (w : World) (c : ℕ) (bytes : List ℕ) → IsConsistent w → IsConsistent (with_heard w c bytes)
 hears_consistent w c bytes k = consistent_same w (with_heard w c bytes) k refl
-    (others_and_own w (with_heard w c bytes) c (λ d ne. ap (λ (x : Wire). x.output) (wire_changed w.wire c d _ ne)) (ap (λ (x : Wire). x.output) (wire_own w.wire c _)))
+    (others_and_own w (with_heard w c bytes) c (λ d ne. ap (λ (x : Wire). x.output) (wire_changed w.wire c d _ ne)) (ap (λ (x : Wire). x.output) (with_here w.wire c _)))
 
 pub takes_consistent : (old new : World) (c n : ℕ) (hs : List Happening) → IsConsistent old → Takes_off old c n hs new → IsConsistent new
 takes_consistent old new c n hs k t =
@@ -73,7 +71,7 @@ opens_consistent old new k s hs is o =
     let c = old.given + 1 in
     let after : Agrees new.state.broker new.state.session (is_paused new) =
     step_agrees old.config old.state new.state (event.Running c 255 k) o.h.sends o.h.notes (is_paused old) (is_paused new) (agreed old is)
-    (λ d ne. ap (λ (w : Wire). is_past_bound w.output) (o.wires d ∙ wire_changed old.wire c d _ ne)) (ap (λ (w : Wire). is_past_bound w.output) (o.wires c ∙ wire_own old.wire c _)) o.happens.stepped in
+    (λ d ne. ap (λ (w : Wire). is_past_bound w.output) (o.wires d ∙ wire_changed old.wire c d _ ne)) (ap (λ (w : Wire). is_past_bound w.output) (o.wires c ∙ with_here old.wire c _)) o.happens.stepped in
     record { counted = run_counts hs old.state new.state (told_opens old new c k s hs o).run is.counted; running = after.running; paused = after.paused }
 
 pub loses_consistent : (old new : World) (c : ℕ) (hs : List Happening) → IsConsistent old → Loses old c hs new → IsConsistent new
@@ -109,19 +107,11 @@ works_off_consistent c old new hs k w = waits_consistent w.mid new c (works_cons
 pub same_consistent : (old new : World) (hs : List Happening) → IsConsistent old → (hs ≡ []) × Same old new → IsConsistent new
 same_consistent old new hs k p = consistent_same old new k p.1.state (λ d. ap (λ (w : Wire). w.output) (p.1.wires d))
 
-where_true : (old new : World) (P : Type 0) (hs : List Happening) (v : Bool) → IsConsistent old → (P → IsConsistent new) → MatchBool v P ((hs ≡ []) × Same old new) → IsConsistent new
-where_true old new P hs true k f p = f p
-where_true old new P hs false k f p = same_consistent old new hs k p
-
-where_false : (old new : World) (P : Type 0) (hs : List Happening) (v : Bool) → IsConsistent old → (P → IsConsistent new) → MatchBool v ((hs ≡ []) × Same old new) P → IsConsistent new
-where_false old new P hs true k f p = same_consistent old new hs k p
-where_false old new P hs false k f p = f p
-
 answers_consistent : (old new : World) (a : Arrival) (hs : List Happening) → IsConsistent old → Answers old a hs new → IsConsistent new
-answers_consistent old new (arrival.Ready n) hs k p = where_true old new _ hs (can_open old) k (λ o. opens_consistent old new n _ hs k o) p
-answers_consistent old new (arrival.In c bytes) hs k p = where_false old new _ hs (is_over old c) k (λ w. works_off_consistent c (with_heard old c bytes) new hs (hears_consistent old c bytes k) w) p
-answers_consistent old new (arrival.Sent c n) hs k p = where_false old new _ hs (is_gone old c) k (λ t. works_off_consistent c t.mid new t.rest (takes_consistent old t.mid c n t.first k t.takes) t.works) p
-answers_consistent old new (arrival.Lose c) hs k p = where_false old new _ hs (is_gone old c) k (λ o. loses_consistent old new c hs k o) p
+answers_consistent old new (arrival.Ready n) hs k p = from_either (can_open old) (λ o. opens_consistent old new n _ hs k o) (same_consistent old new hs k) p
+answers_consistent old new (arrival.In c bytes) hs k p = from_either (is_over old c) (same_consistent old new hs k) (λ w. works_off_consistent c (with_heard old c bytes) new hs (hears_consistent old c bytes k) w) p
+answers_consistent old new (arrival.Sent c n) hs k p = from_either (is_gone old c) (same_consistent old new hs k) (λ t. works_off_consistent c t.mid new t.rest (takes_consistent old t.mid c n t.first k t.takes) t.works) p
+answers_consistent old new (arrival.Lose c) hs k p = from_either (is_gone old c) (same_consistent old new hs k) (λ o. loses_consistent old new c hs k o) p
 
 pub plays_consistent : (old new : World) (arrivals : List Arrival) (hs : List Happening) → IsConsistent old → Plays old arrivals hs new → IsConsistent new
 plays_consistent old new [] hs k p = same_consistent old new hs k p

@@ -1,8 +1,7 @@
 -- Counts over lists, and facts on each element of a list.
-use Rattle.std.proofs.Common.{◌≡◌, ℕ, zero, suc, ◌+◌, ◌<◌, ◌⊎◌, List, [], ◌∷◌, ◌++◌, Bool, true, false, cond, eqb, length, get_or, refl, sym, ap, subst, ◌∙◌, arith, map, Option, None, inl, inr}
-use Rattle.std.specs.Prelude.{count_by, filter_map, ◌&&◌}
+use Rattle.std.proofs.Common.{◌≡◌, ℕ, zero, suc, ◌+◌, ◌<◌, ◌⊎◌, List, [], ◌∷◌, ◌++◌, Bool, true, false, cond, length, get_or, refl, sym, ap, subst, ◌∙◌, arith, map, Option, None, inl, inr}
+use Rattle.std.specs.Prelude.{count_by, filter, filter_map, MatchBool}
 use Rattle.std.specs.List.{list_any, AllByRecursion}
-use Rattle.std.proofs.lemmas.Bool.{eqb-true}
 use Rattle.std.proofs.lemmas.List.Sums.{sum_by-append, sum_by-cons}
 use Rattle.model.specs.Topology.{IsIn}
 
@@ -54,6 +53,14 @@ all_in P x [] a i = absurd i
 all_in P x (y ∷ ys) a (inl e) = subst P (sym e) a.0
 all_in P x (y ∷ ys) a (inr i) = all_in P x ys a.1 i
 
+pub filter_all : {A : Type 0} (P : A → Type 0) (test : A → Bool) (xs : List A) → AllByRecursion P xs → AllByRecursion P (filter test xs)
+filter_all P test [] a = tt
+filter_all P test (x ∷ xs) a = go (test x) (filter_all P test xs a.1)
+  where
+    go : (b : Bool) → AllByRecursion P (filter test xs) → AllByRecursion P (cond b (x ∷ filter test xs) (filter test xs))
+    go true r = (a.0, r)
+    go false r = r
+
 -- ---- elements
 
 pub in-append : {A : Type 0} (x : A) (xs ys : List A) → IsIn x (xs ++ ys) → IsIn x xs ⊎ IsIn x ys
@@ -71,19 +78,9 @@ in-map f x [] i = absurd i
 in-map f x (y ∷ xs) (inl e) = inl (ap f e)
 in-map f x (y ∷ xs) (inr i) = inr (in-map f x xs i)
 
--- ---- tests
+-- ---- one of two facts
 
-pub and_true : (b : Bool) → (b && true) ≡ b
-and_true true = refl
-and_true false = refl
-
-pub and_false : (b : Bool) → (b && false) ≡ false
-and_false true = refl
-and_false false = refl
-
-pub other_number : (n k : ℕ) → (k ≡ n → ⊥) → eqb k n ≡ false
-other_number n k ne = go (eqb k n) refl
-  where
-    go : (b : Bool) → eqb k n ≡ b → b ≡ false
-    go true e = absurd (ne (eqb-true k n e))
-    go false e = refl
+-- what follows from either follows
+pub from_either : {P Q R : Type 0} (b : Bool) → (P → R) → (Q → R) → MatchBool b P Q → R
+from_either true f g p = f p
+from_either false f g q = g q

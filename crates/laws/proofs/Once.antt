@@ -4,7 +4,7 @@ use Rattle.std.specs.Prelude.{◌==◌, count_by, ◌&&◌, ◌||◌, if◌then�
 use Rattle.std.specs.Str.{bytes_eq}
 use Rattle.std.specs.List.{list_any, AllByRecursion, cons_option}
 use Rattle.std.proofs.lemmas.Slice.Eq.{bytes_eq-Decides}
-use Rattle.std.proofs.lemmas.Bool.{eq-eqb}
+use Rattle.std.proofs.lemmas.Bool.{eq-eqb, ne_eqb, or_parts}
 use Rattle.std.proofs.lemmas.List.Folds.{list_any-append}
 use Rattle.model.specs.Words.{Text}
 use Rattle.model.specs.Topology.{Topology, queue_names, IsIn, AreApart, IsThere, IsWellFormed}
@@ -29,7 +29,7 @@ use Rattle.model.specs.declared.notes.Note.{Note}
 use Rattle.model.specs.declared.notes.Note.TheVariants.{Published, Entered}
 use Rattle.model.specs.declared.notes.Way.TheVariants as way
 use Rattle.laws.specs.Promises.{AreSound, AreSaid}
-use Rattle.laws.proofs.Counts.{count-append, count-cons, count-cons_yes, count-cons_no, count_none, any_none, filter_map_none, all-append, all_each, in_from_contains, in-map, other_number}
+use Rattle.laws.proofs.Counts.{count-append, count-cons, count-cons_yes, count-cons_no, count_none, any_none, filter_map_none, all-append, all_each, in_from_contains, in-map}
 use Rattle.laws.proofs.View.{Publishes, Seen, seen_at}
 use Rattle.laws.proofs.Balance.{number, content, confirm, some_full, is_returned, first_note, entry_part, answer_part, noted, returned_all, entry_all, answers_all, others_all}
 
@@ -50,7 +50,7 @@ step_of_others : (t : Topology) (old new : Broker) (e : Event) (sends : List Sen
 step_of_others t old new e sends notes (inl q) n out = subst (AreOfOthers n) (sym q.noted) tt
 step_of_others t old new e sends notes (inr p) n out =
     let made : new.published ≡ old.published + 1 = p.is.left.counted in
-    let ne : eqb (old.published + 1) n ≡ false = other_number n (old.published + 1) (λ e. elim out [ inl le ↦ omega arith | inr lt ↦ omega arith ]) in
+    let ne : eqb (old.published + 1) n ≡ false = ne_eqb (old.published + 1) n (λ e. elim out [ inl le ↦ omega arith | inr lt ↦ omega arith ]) in
     subst (AreOfOthers n) (sym (noted p)) (ne, others_all p _ (λ r. refl) (λ r i. ne) refl (λ a. refl))
 
 step_grows : (t : Topology) (old new : Broker) (e : Event) (sends : List Send) (notes : List Note) → Seen t old new e sends notes → old.published ≤ new.published
@@ -178,15 +178,11 @@ acked_not_full n o false e = refl
 acked_not_full n None true e = absurd cc
 acked_not_full n (Some m) true e = absurd cc
 
-or_split : (a b : Bool) → (a || b) ≡ false → (a ≡ false) × (b ≡ false)
-or_split true b e = absurd cc
-or_split false b e = (refl, e)
-
 entered_as_targets : (t : Topology) (entries : Text → List Entry) (size n : ℕ) (q : Text) (rs : List Text) → list_any (λ (r : Text). is_full t entries r size) rs ≡ false
     → count_by (is_publish_into n q) (entry_notes t entries size n way.Publish rs) ≡ count_by (same_as q) rs
 entered_as_targets t entries size n q [] e = refl
 entered_as_targets t entries size n q (r ∷ rs) e =
-    let s = or_split (is_full t entries r size) (list_any (λ (r : Text). is_full t entries r size) rs) e in
+    let s = or_parts (is_full t entries r size) (list_any (λ (r : Text). is_full t entries r size) rs) e in
     let yes : is_publish_into n q (entry_note t entries size n way.Publish r) ≡ same_as q r = rw (s.0, eq-eqb n n refl) refl in
     count-cons (is_publish_into n q) (entry_note t entries size n way.Publish r) (entry_notes t entries size n way.Publish rs)
     ∙ ap (λ v. cond v 1 0 + count_by (is_publish_into n q) (entry_notes t entries size n way.Publish rs)) yes

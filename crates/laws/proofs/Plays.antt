@@ -1,6 +1,5 @@
 -- Whatever arrives, what happens is a run, under what is in force, of commands that were said and sends that were put out.
 use Rattle.std.proofs.Common.{◌≡◌, ◌≤◌, ℕ, List, [], ◌∷◌, ◌++◌, Bool, true, false, Option, Some, None, refl, sym, subst, ◌∙◌, ◌⊎◌, inl, inr}
-use Rattle.std.specs.Prelude.{MatchBool}
 use Rattle.std.specs.List.{AllByRecursion}
 use Rattle.model.specs.Topology.{Topology}
 use Rattle.model.specs.Broker.{Broker}
@@ -20,7 +19,7 @@ use Rattle.model.specs.declared.events.Event.{Event}
 use Rattle.model.specs.declared.events.Event.TheVariants as event
 use Rattle.model.specs.declared.events.Arrival.{Arrival}
 use Rattle.model.specs.declared.events.Arrival.TheVariants as arrival
-use Rattle.laws.proofs.Counts.{all-append}
+use Rattle.laws.proofs.Counts.{all-append, from_either}
 use Rattle.laws.proofs.View.{Seen, seen, reply_all}
 
 -- ---- no step sends the protocol header
@@ -102,12 +101,6 @@ silent_put h e = record {
 silent_told : (f : Config) (old new : State) (e : Event) (h : Happening) → IsSaid e → h.sends ≡ [] → Happens f old e h new → IsTold f h
 silent_told f old new e h said silent p = record { under = p.under; said = subst IsSaid (sym p.event) said; put = silent_put h silent }
 
-pause_silent : (f : Config) (old new : State) (c : ℕ) (h : Happening) → Happens f old (event.Pause c) h new → h.sends ≡ []
-pause_silent f old new c h p = p.stepped.acts.sent
-
-resume_silent : (f : Config) (old new : State) (c : ℕ) (h : Happening) → Happens f old (event.Resume c) h new → h.sends ≡ []
-resume_silent f old new c h p = p.stepped.acts.sent
-
 -- a pause or a resumption, or none
 pub record Settled (f : Config) (mid : State) (hs : List Happening) (new : State) : Type 0 where
   pub run : Run mid hs new
@@ -123,8 +116,8 @@ settled_one f mid new e h hs said silent all p = record {
 }
 
 settled_is : (f : Config) (mid new : State) (c : ℕ) (x y : Bool) (hs : List Happening) → Settles f mid c x y hs new → Settled f mid hs new
-settled_is f mid new c false true hs (h, all, p) = settled_one f mid new (event.Pause c) h hs tt (pause_silent f mid new c h p) all p
-settled_is f mid new c true false hs (h, all, p) = settled_one f mid new (event.Resume c) h hs tt (resume_silent f mid new c h p) all p
+settled_is f mid new c false true hs (h, all, p) = settled_one f mid new (event.Pause c) h hs tt p.stepped.acts.sent all p
+settled_is f mid new c true false hs (h, all, p) = settled_one f mid new (event.Resume c) h hs tt p.stepped.acts.sent all p
 settled_is f mid new c true true hs p = settled_none f mid new hs p
 settled_is f mid new c false false hs p = settled_none f mid new hs p
 
@@ -172,33 +165,23 @@ told_taken c n a b hs t =
 told_taken_and_works : (c n : ℕ) (a b : World) (hs : List Happening) → TakesAndWorks a c n hs b → Told a hs b
 told_taken_and_works c n a b hs t = told_at a b hs (t.first ++ t.rest) t.all (told-append a t.mid b t.first t.rest (told_taken c n a t.mid t.first t.takes) (told_works_off c t.mid b t.rest t.works))
 
+-- one happening without sends
+told_one : (a b : World) (e : Event) (h : Happening) (hs : List Happening) → IsSaid e → hs ≡ h ∷ [] → Happens a.config a.state e h b.state → h.sends ≡ [] → b.config ≡ a.config → Told a hs b
+told_one a b e h hs said all p silent config =
+    let s = settled_one a.config a.state b.state e h hs said silent all p in
+    record { run = s.run; each = s.each; config = config }
+
 pub told_opens : (a b : World) (n k : ℕ) (s : Stream) (hs : List Happening) → Opens a (event.Running n 255 k) s hs b → Told a hs b
-told_opens a b n k s hs o = told_at a b hs (o.h ∷ []) o.all (record {
-  run = run_one a.config a.state b.state _ o.h o.happens;
-  each = (silent_told a.config a.state b.state _ o.h tt o.silent o.happens, tt);
-  config = o.config;
-})
+told_opens a b n k s hs o = told_one a b (event.Running n 255 k) o.h hs tt o.all o.happens o.silent o.config
 
 pub told_loses : (a b : World) (c : ℕ) (hs : List Happening) → Loses a c hs b → Told a hs b
-told_loses a b c hs o = told_at a b hs (o.h ∷ []) o.all (record {
-  run = run_one a.config a.state b.state _ o.h o.happens;
-  each = (silent_told a.config a.state b.state _ o.h tt o.silent o.happens, tt);
-  config = o.config;
-})
-
-told_match : (a b : World) (P : Type 0) (hs : List Happening) (x : Bool) → (P → Told a hs b) → MatchBool x P ((hs ≡ []) × Same a b) → Told a hs b
-told_match a b P hs true f p = f p
-told_match a b P hs false f p = told_same a b hs p
-
-told_unless : (a b : World) (P : Type 0) (hs : List Happening) (x : Bool) → (P → Told a hs b) → MatchBool x ((hs ≡ []) × Same a b) P → Told a hs b
-told_unless a b P hs true f p = told_same a b hs p
-told_unless a b P hs false f p = f p
+told_loses a b c hs o = told_one a b (event.Lose c) o.h hs tt o.all o.happens o.silent o.config
 
 told_answers : (a b : World) (t : Arrival) (hs : List Happening) → Answers a t hs b → Told a hs b
-told_answers a b (arrival.Ready k) hs p = told_match a b _ hs (can_open a) (λ o. told_opens a b _ k _ hs o) p
-told_answers a b (arrival.In c bytes) hs p = told_unless a b _ hs (is_over a c) (λ w. told_heard a b c bytes hs (told_works_off c (with_heard a c bytes) b hs w)) p
-told_answers a b (arrival.Sent c n) hs p = told_unless a b _ hs (is_gone a c) (λ w. told_taken_and_works c n a b hs w) p
-told_answers a b (arrival.Lose c) hs p = told_unless a b _ hs (is_gone a c) (λ o. told_loses a b c hs o) p
+told_answers a b (arrival.Ready k) hs p = from_either (can_open a) (λ o. told_opens a b _ k _ hs o) (told_same a b hs) p
+told_answers a b (arrival.In c bytes) hs p = from_either (is_over a c) (told_same a b hs) (λ w. told_heard a b c bytes hs (told_works_off c (with_heard a c bytes) b hs w)) p
+told_answers a b (arrival.Sent c n) hs p = from_either (is_gone a c) (told_same a b hs) (λ w. told_taken_and_works c n a b hs w) p
+told_answers a b (arrival.Lose c) hs p = from_either (is_gone a c) (told_same a b hs) (λ o. told_loses a b c hs o) p
 
 -- Whatever arrives, what happens is a run.
 pub told_plays : (old new : World) (arrivals : List Arrival) (hs : List Happening) → Plays old arrivals hs new → Told old hs new

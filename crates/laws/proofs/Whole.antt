@@ -1,9 +1,10 @@
 -- Certified delivery: whatever arrives, the headline holds of what is seen.
-use Rattle.std.proofs.Common.{◌≡◌, ◌<◌, ◌≤◌, ◌+◌, ℕ, List, [], ◌∷◌, ◌++◌, Bool, true, false, cond, Some, refl, sym, ap, subst, ◌∙◌, ◌⊎◌, inl, inr, arith, append_assoc}
+use Rattle.std.proofs.Common.{◌≡◌, ◌<◌, ◌≤◌, ◌+◌, ℕ, List, [], ◌∷◌, ◌++◌, refl, sym, ap, subst, ◌∙◌, ◌⊎◌, inl, inr, arith}
 use Rattle.std.specs.Prelude.{filter_map, flat_map, ◌==◌}
 use Rattle.std.specs.List.{AllByRecursion}
-use Rattle.std.proofs.lemmas.List.Elements.{filter_map-append}
-use Rattle.std.proofs.lemmas.Option.{slice_get_within}
+use Rattle.std.proofs.lemmas.Grind.{flat_map-append}
+use Rattle.std.proofs.lemmas.List.Elements.{filter-append, filter_map-append}
+use Rattle.std.proofs.lemmas.Option.{same_Some, slice_get_within}
 use Rattle.model.specs.Frames.{Frame, frame_bytes, IsFrame}
 use Rattle.model.specs.Consistent.{IsConsistent}
 use Rattle.model.specs.State.{Config, State}
@@ -15,7 +16,7 @@ use Rattle.model.specs.declared.events.Send.{Send}
 use Rattle.model.specs.declared.events.Send.TheVariants as send
 use Rattle.model.specs.declared.events.Arrival.{Arrival}
 use Rattle.laws.specs.Promises.{ack_sent}
-use Rattle.laws.proofs.Counts.{all-append}
+use Rattle.laws.proofs.Counts.{all-append, filter_all}
 use Rattle.laws.proofs.Reading.{sent_acks, frames_each}
 use Rattle.laws.proofs.Plays.{AreCommandSends, IsPut, IsTold, told_turns, told_plays}
 use Rattle.laws.proofs.Never.{run_keeps}
@@ -30,26 +31,6 @@ said_each f [] a = tt
 said_each f (h ∷ hs) a = (a.0.said, said_each f hs a.1)
 
 -- ---- the output of one connection, as frames
-
-flat_map-append : {A B : Type 0} (f : A → List B) (xs ys : List A) → flat_map f (xs ++ ys) ≡ flat_map f xs ++ flat_map f ys
-flat_map-append f [] ys = refl
-flat_map-append {B = B} f (x ∷ xs) ys = ap (λ (z : List B). f x ++ z) (flat_map-append f xs ys) ∙ sym (append_assoc (f x) (flat_map f xs) (flat_map f ys))
-
-sends_to-append : (c : ℕ) (xs ys : List Send) → sends_to c (xs ++ ys) ≡ sends_to c xs ++ sends_to c ys
-sends_to-append c [] ys = refl
-sends_to-append c (s ∷ xs) ys = go (receiver s == c) (sends_to-append c xs ys)
-  where
-    go : (b : Bool) → sends_to c (xs ++ ys) ≡ sends_to c xs ++ sends_to c ys → cond b (s ∷ sends_to c (xs ++ ys)) (sends_to c (xs ++ ys)) ≡ cond b (s ∷ sends_to c xs) (sends_to c xs) ++ sends_to c ys
-    go true e = ap (λ (z : List Send). s ∷ z) e
-    go false e = e
-
-kept_all : (P : Send → Type 0) (c : ℕ) (sends : List Send) → AllByRecursion P sends → AllByRecursion P (sends_to c sends)
-kept_all P c [] a = tt
-kept_all P c (s ∷ sends) a = go (receiver s == c) (kept_all P c sends a.1)
-  where
-    go : (b : Bool) → AllByRecursion P (sends_to c sends) → AllByRecursion P (cond b (s ∷ sends_to c sends) (sends_to c sends))
-    go true r = (a.0, r)
-    go false r = r
 
 -- the frames of what one happening sent to a connection
 abbrev frames_at : ℕ → Happening → List Frame
@@ -69,7 +50,7 @@ spelling_is max (send.Command c h m content ∷ sends) a =
 put_out_is : (f : Config) (c : ℕ) (hs : List Happening) → AllByRecursion (IsTold f) hs → put_out c hs ≡ flat_map frame_bytes (frames_put c hs)
 put_out_is f c [] a = refl
 put_out_is f c (h ∷ hs) a =
-    ap (λ (z : List ℕ). z ++ put_out c hs) (spelling_is h.frame_max (sends_to c h.sends) (kept_all _ c h.sends a.0.put.commands))
+    ap (λ (z : List ℕ). z ++ put_out c hs) (spelling_is h.frame_max (sends_to c h.sends) (filter_all _ (λ x. receiver x == c) h.sends a.0.put.commands))
     ∙ ap (λ (z : List ℕ). flat_map frame_bytes (frames_at c h) ++ z) (put_out_is f c hs a.1)
     ∙ sym (flat_map-append frame_bytes (frames_at c h) (frames_put c hs))
 
@@ -82,7 +63,7 @@ frames_fit_at c h p = go p.bounded
   where
     go : (h.sends ≡ []) ⊎ (h.frame_max ≤ 131072) → AllByRecursion (IsFrame 131072) (flat_map (frames_of h.frame_max) (sends_to c h.sends))
     go (inl e) = subst (λ (s : List Send). AllByRecursion (IsFrame 131072) (flat_map (frames_of h.frame_max) (sends_to c s))) (sym e) tt
-    go (inr small) = weaker h.frame_max small _ (frames_each h.frame_max (sends_to c h.sends) (kept_all _ c h.sends p.spelled))
+    go (inr small) = weaker h.frame_max small _ (frames_each h.frame_max (sends_to c h.sends) (filter_all _ (λ x. receiver x == c) h.sends p.spelled))
 
 frames_fit : (f : Config) (c : ℕ) (hs : List Happening) → AllByRecursion (IsTold f) hs → AllByRecursion (IsFrame 131072) (frames_put c hs)
 frames_fit f c [] a = tt
@@ -92,10 +73,10 @@ frames_acks : (f : Config) (c : ℕ) (hs : List Happening) → AllByRecursion (I
 frames_acks f c [] a = refl
 frames_acks f c (h ∷ hs) a =
     filter_map-append _ (frames_at c h) (frames_put c hs)
-    ∙ ap (λ (z : List Ack). z ++ acks_in (frames_put c hs)) (sent_acks h.frame_max (sends_to c h.sends) (kept_all _ c h.sends a.0.put.spelled))
+    ∙ ap (λ (z : List Ack). z ++ acks_in (frames_put c hs)) (sent_acks h.frame_max (sends_to c h.sends) (filter_all _ (λ x. receiver x == c) h.sends a.0.put.spelled))
     ∙ ap (λ (z : List Ack). filter_map ack_sent (sends_to c h.sends) ++ z) (frames_acks f c hs a.1)
     ∙ sym (filter_map-append ack_sent (sends_to c h.sends) (sends_to c (sends_of hs)))
-    ∙ ap (λ (z : List Send). filter_map ack_sent z) (sym (sends_to-append c h.sends (sends_of hs)))
+    ∙ ap (λ (z : List Send). filter_map ack_sent z) (sym (filter-append (λ x. receiver x == c) h.sends (sends_of hs)))
 
 has_acks : (f : Config) (old new : State) (c : ℕ) (hs : List Happening) → AllByRecursion (IsTold f) hs → Run old hs new → HasAcksOf (acked c hs) (put_out c hs)
 has_acks f old new c hs a run = record {
@@ -111,9 +92,6 @@ turn_keeps old new c hs sound consistent turns =
     let told = told_turns old new c hs turns in
     run_keeps hs old.state new.state (sound_each old.config hs sound told.each) (said_each old.config hs told.each) consistent.counted told.run
 
-some_same : {A : Type 0} (x y : A) → Some x ≡ Some y → x ≡ y
-some_same x y e = cc
-
 pub headline_holds : (f : Config) (arrivals : List Arrival) (hs : List Happening) (w : World) (seen : Seen)
     → IsSound f → Plays (new_world f) arrivals hs w → Shows hs w seen → KeepsPromises hs w.state.broker seen.connections
 headline_holds f arrivals hs w seen sound plays shows =
@@ -122,7 +100,7 @@ headline_holds f arrivals hs w seen sound plays shows =
       events = run_keeps hs empty_state w.state (sound_each f hs sound told.each) (said_each f hs told.each) (λ n q lt. refl) told.run;
       acks = λ i one e.
           let within : i < w.given = subst (λ (n : ℕ). i < n) shows.counted (slice_get_within seen.connections i one e) in
-          let is : one ≡ shown hs w (i + 1) = some_same one (shown hs w (i + 1)) (sym e ∙ shows.each i within) in
+          let is : one ≡ shown hs w (i + 1) = same_Some one (shown hs w (i + 1)) (sym e ∙ shows.each i within) in
           let output : one.output ≡ put_out (i + 1) hs = ap (λ (s : Shown). s.output) is in
           subst (λ (z : List ℕ). HasAcksOf (acked (i + 1) hs) z) (sym output) (has_acks f empty_state w.state (i + 1) hs told.each told.run);
     }
