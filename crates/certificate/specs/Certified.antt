@@ -28,6 +28,7 @@ IsUncertified t g cs place (Missed at) = HasFault t g cs place (Missed at)
 IsUncertified t g cs place Form = (slice_get cs place ≡ None) ⊎ HasFault t g cs place Form
 IsUncertified t g cs place Memory = Unit {0}
 
+-- what a check of the certificate at this place answers: it is accepted for the guarantee, or why it is not
 abbrev pub ChecksAt : Topology → Guarantee → List Certificate → ℕ → Result Unit CertFault → Type 0
 ChecksAt t g cs place (Ok u) = IsCertified t g cs place
 ChecksAt t g cs place (Err f) = IsUncertified t g cs place f
@@ -66,6 +67,7 @@ IsRefused t gs cs place (Missed at) = FailsFirst t gs cs place (Missed at)
 IsRefused t gs cs place Form = FailsFirst t gs cs place Form
 IsRefused t gs cs place Memory = Unit {0}
 
+-- each guarantee has its certificate and there are no more, or the least place at fault, and its fault
 abbrev pub Certifies : Topology → List Guarantee → List Certificate → Result Unit (ℕ × CertFault) → Type 0
 Certifies t gs cs (Ok u) = AreCertified t gs cs
 Certifies t gs cs (Err e) = IsRefused t gs cs e.0 e.1

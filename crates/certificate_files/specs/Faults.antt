@@ -4,6 +4,7 @@ use Rattle.json_file.specs.declared.faults.Fault.TheVariants as fault
 use Rattle.certificate_files.specs.declared.bad.Bad.{Bad}
 use Rattle.certificate_files.specs.declared.bad.Bad.TheVariants.{NotJson, Malformed, TooLong, Memory}
 
+-- a fault of the JSON reader, as a cause of this file
 abbrev pub bad_of : Fault → Bad
 bad_of fault.TooLong = TooLong
 bad_of fault.NotJson = NotJson

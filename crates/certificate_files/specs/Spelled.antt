@@ -5,12 +5,15 @@ use Rattle.serde_json.specs.View.{items_of}
 use Rattle.model.specs.Words.{Text}
 use Rattle.model.specs.Certificates.{Certificate}
 
+-- a number of a state, as JSON
 abbrev pub number_data : ℕ → Data
 number_data n = number (unsigned n)
 
+-- a state: an array of its numbers
 abbrev pub state_data : List ℕ → Data
 state_data s = array (items_of (map number_data s))
 
+-- the states of a certificate: an array of states, in their order
 abbrev pub states_data : List (List ℕ) → Data
 states_data ss = array (items_of (map state_data ss))
 
@@ -20,8 +23,10 @@ members_data exchange mode pattern queue states =
     object (member (codes "exchange") (string exchange) (member (codes "form") (number (unsigned 1)) (member (codes "mode") (string mode)
     (member (codes "pattern") (string pattern) (member (codes "queue") (string queue) (member (codes "states") states no_members))))))
 
+-- a certificate: an object with its members
 abbrev pub certificate_data : Certificate → Data
 certificate_data c = members_data c.exchange c.mode c.pattern c.queue (states_data c.states)
 
+-- a file: an array of certificates, in their order
 abbrev pub file_data : List Certificate → Data
 file_data cs = array (items_of (map certificate_data cs))

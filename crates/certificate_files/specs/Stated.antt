@@ -6,6 +6,7 @@ use Rattle.json_file.specs.Members.{each, has_only, text_at}
 use Rattle.model.specs.Certificates.{Certificate}
 
 infixl 10 ◌>>=◌
+-- the second reading is done with what the first gave, if it gave something
 abbrev pub ◌>>=◌ : {A B : Type 0} → Option A → (A → Option B) → Option B
 o >>= f = option_and_then f o
 

@@ -25,14 +25,17 @@ abbrev pub Lacks : Unwritten → Type 0 → Type 0
 Lacks NotText why = why → ⊥
 Lacks Memory why = Unit {0}
 
+-- the text is lent, or is no UTF-8, or memory was refused
 abbrev pub LendsText : Result (Bor (List ℕ)) Unwritten → Text → Type 0
 LendsText (Ok s) text = s.now ≡ text
 LendsText (Err e) text = Lacks e (IsUtf8 text)
 
+-- the certificate as JSON, or one of its texts is no UTF-8, or memory was refused
 abbrev pub GivesData : Result Value Unwritten → Certificate → Type 0
 GivesData (Ok v) c = view v ≡ certificate_data c
 GivesData (Err e) c = Lacks e (AreTexts c)
 
+-- the certificates as JSON, in their order, or a text of one is no UTF-8, or memory was refused
 abbrev pub GivesItems : Result (Vec Value Global) Unwritten → List Certificate → Type 0
 GivesItems (Ok vs) cs = map view vs.items ≡ map certificate_data cs
 GivesItems (Err e) cs = Lacks e (AllByRecursion AreTexts cs)
@@ -42,6 +45,7 @@ pub record IsWritten (bytes : List ℕ) (cs : List Certificate) : Type 0 where
   pub compact : bytes ≡ compact_text (file_data cs)
   pub reads_back : length bytes ≤ 16777216 → IsFile bytes cs
 
+-- the file of these certificates is given, or a text of one is no UTF-8, or memory was refused
 abbrev pub Writes : Result (Vec ℕ Global) Unwritten → List Certificate → Type 0
 Writes (Ok bytes) cs = IsWritten bytes.items cs
 Writes (Err e) cs = Lacks e (AllByRecursion AreTexts cs)

@@ -15,15 +15,18 @@ use Rattle.model.specs.declared.topologies.ExchangeKind.TheVariants.{Direct, Fan
 abbrev pub onto : List Tracked → ExchangeKind → Text → List Tracked
 onto ps kind text = once_more same_tracked ps (record { kind = kind; text = text })
 
+-- and the keys of the bindings from the exchange of this name, each of which is not there yet
 abbrev pub keys_onto : List Tracked → ExchangeKind → Text → List Binding → List Tracked
 keys_onto ps kind name [] = ps
 keys_onto ps kind name (b ∷ bs) = keys_onto (if bytes_eq b.source name then onto ps kind b.key else ps) kind name bs
 
+-- the same by the kind of the exchange: a fanout exchange asks no key
 abbrev pub keys_by_onto : List Tracked → ExchangeKind → Text → List Binding → List Tracked
 keys_by_onto ps Direct name bs = keys_onto ps Direct name bs
 keys_by_onto ps Topic name bs = keys_onto ps Topic name bs
 keys_by_onto ps Fanout name bs = ps
 
+-- and the names of these queues, as keys of the default exchange
 abbrev pub names_onto : List Tracked → List DeclaredQueue → List Tracked
 names_onto ps [] = ps
 names_onto ps (q ∷ qs) = names_onto (onto ps Direct q.name) qs

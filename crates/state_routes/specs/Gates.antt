@@ -28,6 +28,7 @@ test_by ps Fanout key = Always
 test_by ps Direct key = Pattern (place_of ps Direct key)
 test_by ps Topic key = Pattern (place_of ps Topic key)
 
+-- the kind of an exchange; where none is there, nothing rests on it
 abbrev pub kind_or_direct : Option Exchange → ExchangeKind
 kind_or_direct None = Direct
 kind_or_direct (Some x) = x.kind
@@ -36,13 +37,16 @@ kind_or_direct (Some x) = x.kind
 abbrev pub kind_at : List Exchange → Text → ExchangeKind
 kind_at exchanges name = kind_or_direct (find (λ (x : Exchange). bytes_eq x.name name) exchanges)
 
+-- a binding as a gate: where it leads from and to, and what its exchange asks of a key
 abbrev pub gate_of : List Exchange → Text → List Tracked → Binding → Gate
 gate_of exchanges queue ps b = record { link = link_of exchanges queue b; test = test_by ps (kind_at exchanges b.source) b.key }
 
+-- these bindings as gates, in their order
 abbrev pub binding_gates : List Exchange → Text → List Tracked → List Binding → List Gate
 binding_gates exchanges queue ps [] = []
 binding_gates exchanges queue ps (b ∷ bs) = gate_of exchanges queue ps b ∷ binding_gates exchanges queue ps bs
 
+-- a queue of this name is declared
 abbrev pub has_queue : List DeclaredQueue → Text → Bool
 has_queue queues name = list_any (λ (q : DeclaredQueue). bytes_eq q.name name) queues
 
@@ -62,10 +66,12 @@ accepted [] ms = []
 accepted (p ∷ ps) [] = []
 accepted (p ∷ ps) (m ∷ ms) = is_accepted p m ∷ accepted ps ms
 
+-- the test is known to hold, by what the patterns accept
 abbrev pub is_open : Test → List Bool → Bool
 is_open Always acc = true
 is_open (Pattern i) acc = unwrap_or (slice_get acc i) false
 
+-- the test is known to fail, by what the patterns accept
 abbrev pub is_shut : Test → List Bool → Bool
 is_shut Always acc = false
 is_shut (Pattern i) acc = unwrap_or (option_map not (slice_get acc i)) false

@@ -28,6 +28,7 @@ end_node exchanges queue (place.Queue name) = if bytes_eq name queue then 0 else
 abbrev pub link_of : List Exchange → Text → Binding → Link
 link_of exchanges queue b = record { from = node exchanges b.source; to = end_node exchanges queue b.to }
 
+-- where these bindings lead from and to, in their order
 abbrev pub links_of : List Exchange → Text → List Binding → List Link
 links_of exchanges queue [] = []
 links_of exchanges queue (b ∷ bs) = link_of exchanges queue b ∷ links_of exchanges queue bs
@@ -37,6 +38,7 @@ abbrev pub alternate_link : List Exchange → Text → Option Text → List Link
 alternate_link exchanges name None = []
 alternate_link exchanges name (Some other) = record { from = node exchanges name; to = node exchanges other } ∷ []
 
+-- where the alternate exchanges of these exchanges lead from and to, in their order
 abbrev pub alternate_links : List Exchange → List Exchange → List Link
 alternate_links exchanges [] = []
 alternate_links exchanges (x ∷ xs) = alternate_link exchanges x.name x.alternate ++ alternate_links exchanges xs
