@@ -1,8 +1,8 @@
 # `make` alone lists the targets.
+SHELL := bash
+.SHELLFLAGS := -o pipefail -c
 .PHONY: help try run shop cases examples bench install test
 
-# how many crates are proved at a time
-JOBS ?= $(shell nproc)
 # where `make install` puts the program
 PREFIX ?= /usr/local
 
@@ -20,9 +20,11 @@ try:
 	@cd crates/warren && rt try -- replay /dev/stdin < ../../examples/first_publish/script
 	@echo "Nothing was proved. \`make run\` proves all of it first."
 
+# which crate is being proved, and what is not; the lines that say so of each function are left out
+SAID = { grep --line-buffered -a -E '^rt: chose|not proved|no proof|error' || true; }
+
 run:
-	@rt all check --jobs $(JOBS) | grep --line-buffered -a -E '^==|crates ok'
-	@cd crates/warren && rt run -- replay /dev/stdin < ../../examples/first_publish/script
+	@cd crates/warren && { rt run -- replay /dev/stdin < ../../examples/first_publish/script 2>&1 >&3 | $(SAID); } 3>&1
 
 shop:
 	@cd crates/warren && rt run -- replay ../../examples/shop/script --definitions ../../examples/shop/definitions.json
