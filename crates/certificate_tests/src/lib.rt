@@ -9,3 +9,5 @@ mod checking;
 mod files;
 #[cfg(test)]
 mod orders;
+#[cfg(test)]
+mod searching;

@@ -7,6 +7,7 @@ pub mod Tracking
 pub mod Positions
 pub mod Certificates
 pub mod Refutations
+pub mod Searches
 pub mod Frames
 pub mod Grammar
 pub mod Headers

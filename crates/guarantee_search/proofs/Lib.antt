@@ -1,0 +1,5 @@
+pub mod Keys
+pub mod Wording
+pub mod Walking
+pub mod Sorting
+pub mod Deciding

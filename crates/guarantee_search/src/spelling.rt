@@ -1,0 +1,122 @@
+//! Words that letters stand for, and the keys that they make.
+
+ghost use Rattle.std.specs.Prelude.{◌≡◌, ◌<◌, ◌∷◌, length, IfOk, OnOk, Decides, not, ◌==◌};
+ghost use Rattle.std.specs.List.{AllByRecursion, list_all, list_any};
+ghost use Rattle.std.specs.Fmt.{decimal};
+ghost use Rattle.std.specs.Str.{bytes_eq};
+ghost use Rattle.model.specs.Topology.{IsIn};
+ghost use Rattle.model.specs.Positions.{named_words};
+ghost use Rattle.guarantee_search.specs.Spellings.{Spells, after, key_of};
+ghost use Rattle.model.specs.Searches.{IsWord};
+
+use model::Text;
+use std::alloc::{AllocError, Global};
+use word_automata::Letters;
+
+/// Whether no byte is a dot.
+fn has_no_dot(word: &[u8]) -> bool
+    ensures { result ≡ list_all (λ b. not (b == 46)) word.now }
+{
+    word.iter().all(|byte| *byte != b'.')
+}
+
+/// Whether a key may have the word alone.
+fn is_word(word: &[u8]) -> bool
+    ensures { Decides result (IsWord word.now) }
+{
+    !word.is_empty() && has_no_dot(word)
+}
+
+/// Whether a key may have each of these words alone.
+pub fn are_words(words: &[Text]) -> bool
+    ensures { Decides result (AllByRecursion IsWord words.now) }
+{
+    for word in words {
+        if !is_word(word.as_bytes()) {
+            return false;
+        }
+    }
+    true
+}
+
+/// Whether some word is this one.
+fn any_word(words: &[Text], word: &[u8]) -> bool
+    ensures { result ≡ list_any (λ w. bytes_eq w word.now) words.now }
+{
+    words.iter().any(|w| w.as_bytes() == word)
+}
+
+/// Whether the word is named.
+fn has_word(words: &[Text], word: &[u8]) -> bool
+    ensures { Decides result (IsIn word.now words.now) }
+{
+    any_word(words, word)
+}
+
+/// A word that is made of a number.
+fn numbered(alloc: Global, number: usize) -> Result<Text, AllocError>
+    ensures { IfOk result (λ w. w ≡ 119 ∷ decimal number) }
+{
+    let word = format!(in alloc; "w{number}")?;
+    Text::from_slice(alloc, word.as_bytes())
+}
+
+/// The first numbered word that is not named.
+fn other_word(alloc: Global, names: &[Text]) -> Result<Text, AllocError>
+    ensures word { IfOk result (λ w. IsWord w) }
+    ensures other { IfOk result (λ w. IsIn w names.now → ⊥) }
+{
+    for number in 0..names.len() + 1 {
+        let word = numbered(alloc, number)?;
+        if !has_word(names, word.as_bytes()) {
+            return Ok(word);
+        }
+    }
+    unreachable!()
+}
+
+/// The same words.
+fn copy_words(alloc: Global, words: &[Text]) -> Result<Vec<Text>, AllocError>
+    ensures { IfOk result (λ made. made.items ≡ words.now) }
+{
+    let mut made = Vec::new(alloc);
+    for word in words {
+        made.push(word.clone()?)?;
+    }
+    Ok(made)
+}
+
+/// A word for each letter: its own, and for the letter of all others one that is not named.
+pub fn spellings(alloc: Global, letters: &Letters) -> Result<Vec<Text>, AllocError>
+    requires { AllByRecursion IsWord (named_words letters.now) }
+    ensures { IfOk result (λ words. Spells letters.now words.items) }
+{
+    let mut words = copy_words(alloc, letters.names())?;
+    words.push(other_word(alloc, letters.names())?)?;
+    Ok(words)
+}
+
+/// Adds a word to a key.
+fn add_word(key: &mut Vec<u8>, word: &[u8]) -> Result<(), AllocError>
+    ensures { OnOk result (key.new.items ≡ after key.old.items word.now) }
+{
+    if !key.is_empty() {
+        key.push(b'.')?;
+    }
+    key.extend_from_slice(word)?;
+    Ok(())
+}
+
+/// The key of these letters, the last one first.
+pub fn key_of(alloc: Global, words: &[Text], letters: &[usize]) -> Result<Vec<u8>, AllocError>
+    requires { AllByRecursion (λ a. a < length words.now) letters.now }
+    ensures { IfOk result (λ key. key.items ≡ key_of words.now letters.now) }
+{
+    let mut key = Vec::new(alloc);
+    let mut left = letters.len();
+    while left > 0 {
+        left -= 1;
+        add_word(&mut key, words[letters[left]].as_bytes())?;
+    }
+    Ok(key)
+}

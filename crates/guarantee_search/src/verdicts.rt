@@ -1,0 +1,26 @@
+//! What a search says of a guarantee.
+
+use certificate::Refutation;
+use certificate_check::Certificate;
+
+/// Why a guarantee is not decided.
+#[derive(Clone, Copy, PartialEq, Eq, Debug, Drop)]
+pub enum Cause {
+    /// There are more than 64 tracked patterns, or more than 65,536 states.
+    TooManyStates,
+    /// The key that breaks it has more than 255 bytes.
+    KeyTooLong,
+    /// It is a `never`, which is not searched yet, or some tracked pattern has more than 31 words or names the empty
+    /// word. No file that is read has such a pattern.
+    Unfit,
+}
+
+/// Whether a guarantee holds.
+#[derive(Drop)]
+pub enum Verdict {
+    /// It does, as this shows.
+    Yes(Certificate),
+    /// It doesn't, as this shows.
+    No(Refutation),
+    Undecided(Cause),
+}
