@@ -2,6 +2,7 @@
 use Rattle.std.proofs.Common.{◌≡◌, ℕ, true, Option, Some, None, sym, ap, subst, Result, Ok, Err, refl}
 use Rattle.model.specs.Commands
 use Rattle.model.specs.Commands.{Taken, Goes_on, Makes, Breaks, Wants_header, TakesPayload, is_too_large, taken_method, taken_dropped}
+use Rattle.model.specs.Grammar.{split}
 use Rattle.model.specs.Frames.{Frame}
 use Rattle.model.specs.Headers.{SaysSize}
 use Rattle.model.specs.declared.events.Command.{Command}
@@ -12,7 +13,7 @@ use Rattle.model.specs.declared.events.Command.TheVariants.{Plain}
 use Rattle.assembly.specs.declared.faults.Fault.{Fault}
 use Rattle.assembly.specs.declared.faults.Fault.TheVariants.{Broken, Memory}
 use Rattle.assembly.specs.Faults.{IsFault}
-use Rattle.assembly.specs.Taking.{Does, split}
+use Rattle.assembly.specs.Taking.{Does}
 use Rattle.assembly.proofs.Places.{match_true}
 
 -- what follows for each code follows for the fault

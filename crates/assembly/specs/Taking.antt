@@ -22,8 +22,3 @@ abbrev pub DoesAt : (Taken → Type 0) → ℕ → (ℕ → Commands.Pending) �
 DoesAt Effect channel old (Ok None) new = (p : Commands.Pending) × Effect (Goes_on p) × (new ≡ with_one old channel p)
 DoesAt Effect channel old (Ok (Some c)) new = Effect (Makes c) × IsCommand c × (new ≡ with_one old channel Commands.Nothing)
 DoesAt Effect channel old (Err e) new = IsFault (λ code. Effect (Breaks code)) e × (new ≡ old)
-
--- a publish's arguments, or the method where it is another
-abbrev pub split : Method → Result Publish Method
-split (BasicPublish publish) = Ok publish
-split method = Err method

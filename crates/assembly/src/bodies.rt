@@ -2,7 +2,6 @@
 
 ghost use Rattle.std.specs.Prelude.{◌≡◌, [], ◌++◌, length, OnOk, OnErr, IfOk, IfErr};
 
-use bytes::Bytes;
 use model::Text;
 use std::alloc::{AllocError, Global};
 use std::marker::Model;
@@ -55,8 +54,8 @@ impl Body {
         if self.append(piece).is_err() {
             return Err(self);
         }
-        match Bytes::from_vec(self.bytes) {
-            Ok(bytes) => Ok(Text::from_bytes(bytes)),
+        match Text::from_vec(self.bytes) {
+            Ok(text) => Ok(text),
             Err(failed) => {
                 let mut bytes = failed.value;
                 bytes.truncate(len);

@@ -12,6 +12,7 @@ mod dropping;
 mod faults;
 mod frames;
 mod laws;
+mod names;
 mod reading;
 mod streams;
 mod taking;

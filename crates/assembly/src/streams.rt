@@ -8,6 +8,7 @@ ghost use Rattle.assembly.specs.Onward.{Answers};
 use crate::buffers::Unread;
 use crate::contents::Pending;
 use crate::faults::Fault;
+use crate::names::Names;
 use crate::reading::next_command;
 use model::Command;
 use std::alloc::{AllocError, Global};
@@ -19,6 +20,7 @@ pub struct Stream {
     max: u32,
     contents: Vec<Pending>,
     unread: Unread,
+    names: Names,
 }
 
 /// Written out, so that a drop is one call.
@@ -29,6 +31,7 @@ impl Drop for Stream {
             max: _,
             contents: _,
             unread: _,
+            names: _,
         } = self;
     }
 }
@@ -55,6 +58,7 @@ impl Stream {
             max: 131_072,
             contents: Vec::new(alloc),
             unread: Unread::new(alloc),
+            names: Names::new(alloc),
         }
     }
 
@@ -73,7 +77,11 @@ impl Stream {
     pub fn next(&mut self) -> Result<Option<Command>, Fault>
         ensures { Answers (stream_of self.old) result (stream_of self.new) }
     {
-        next_command(self.alloc, self.max, &mut self.contents, &mut self.unread)
+        match next_command(self.alloc, self.max, &mut self.contents, &mut self.unread) {
+            Ok(Some(command)) => Ok(Some(self.names.named(command))),
+            Ok(None) => Ok(None),
+            Err(fault) => Err(fault),
+        }
     }
 
     /// How many bytes were fed and are not yet read.

@@ -9,7 +9,7 @@ ghost use Rattle.model.specs.declared.methods.Method.TheVariants.{BasicPublish};
 ghost use Rattle.frame.specs.Reading.{seen};
 ghost use Rattle.assembly.specs.Pending.{pending_of, IsSpelled};
 ghost use Rattle.assembly.specs.declared.contents.Pending.TheVariants.{WantsBody};
-ghost use Rattle.assembly.specs.Taking.{Does, split};
+ghost use Rattle.assembly.specs.Taking.{Does};
 
 use crate::bodies::Body;
 use crate::contents::{Gathering, Pending};
@@ -70,22 +70,12 @@ fn begin(channel: u16, method: Method) -> Taking
     ensures spelled { IsSpelled result.0 }
     ensures does { Does (λ t. t ≡ taken_method channel (Ok method)) Commands.Nothing result.1 (pending_of result.0) }
 {
-    match publish_of(method) {
+    match method.into_publish() {
         Ok(publish) => (Pending::WantsHeader(publish), Ok(None)),
         Err(method) => (
             Pending::Nothing,
             Ok(Some(Command::Plain { channel, method })),
         ),
-    }
-}
-
-/// The method's arguments where it is a publish, or else the method.
-fn publish_of(method: Method) -> Result<Publish, Method>
-    ensures { result ≡ split method }
-{
-    match method {
-        Method::BasicPublish(publish) => Ok(publish),
-        method => Err(method),
     }
 }
 

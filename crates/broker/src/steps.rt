@@ -34,7 +34,8 @@ impl Step {
         ensures notes { IfOk result (λ s. s.notes.items ≡ []) }
     {
         let mut sends = Vec::new(alloc);
-        sends.push(send)?;
+        sends.reserve_exact(1)?;
+        sends.push_reserved(send);
         Ok(Step {
             sends,
             notes: Vec::new(alloc),

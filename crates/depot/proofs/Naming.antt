@@ -12,7 +12,7 @@ use Rattle.model.specs.Topology.{Topology, queue_names, IsIn, AreApart, IsWellFo
 use Rattle.model.specs.Broker.{listed, is_at, limit_of, queue_named, is_full}
 use Rattle.model.specs.Step.{message, entry_notes, comes_to, is_none}
 use Rattle.model.specs.declared.messages.Entry.{Entry}
-use Rattle.model.specs.declared.messages.Message.{Message}
+use Rattle.model.specs.Message.{Message}
 use Rattle.model.specs.declared.messages.Mark.TheVariants.{Ready}
 use Rattle.model.specs.declared.topologies.DeclaredQueue.{DeclaredQueue}
 use Rattle.model.specs.declared.contents.Content.{Content}

@@ -3,7 +3,7 @@ use Rattle.std.proofs.Common.{◌≡◌, ◌≢◌, ℕ, zero, suc, ◌+◌, ◌
 use Rattle.std.proofs.lemmas.Bool.Decides.{eqb_tells}
 use Rattle.std.proofs.lemmas.List.{append-nil, get_or_default, get_or-set_same, get_or-set_other}
 use Rattle.model.specs.declared.messages.Entry.{Entry}
-use Rattle.model.specs.declared.messages.Message.{Message}
+use Rattle.model.specs.Message.{Message}
 use Rattle.model.specs.declared.messages.Mark.TheVariants.{Ready}
 use Rattle.queue.specs.Line.{Line}
 use Rattle.depot.specs.declared.turns.Turn.{Turn}

@@ -49,21 +49,6 @@ use model::{Content, DeclaredQueue, Message, Note, Publish, Way};
 use queue::Queue;
 use std::alloc::{AllocError, Global};
 
-/// The message of a publish, under this publish number.
-fn message_of(number: u64, publish: &Publish, content: &Content) -> Result<Message, AllocError>
-    ensures { IfOk result (λ m. m ≡ message number publish.now content.now) }
-{
-    Ok(Message {
-        number,
-        first_exchange: publish.exchange.clone()?,
-        first_key: publish.routing_key.clone()?,
-        exchange: publish.exchange.clone()?,
-        key: publish.routing_key.clone()?,
-        content: content.clone()?,
-        redelivered: false,
-    })
-}
-
 /// The note of a publish.
 pub(crate) fn note_of(
     number: u64,
@@ -89,14 +74,13 @@ fn turn(
     declared: &DeclaredQueue,
     queue: &Queue,
     place: usize,
-    number: u64,
-    publish: &Publish,
-    content: &Content,
+    message: &Message,
 ) -> Result<Turn, AllocError>
-    ensures { IfOk result (λ t. t ≡ turn_of declared.now.name (is_at declared.now.limit (ready_count queue.now.entries)) (message number publish.now content.now) place) }
+    ensures { IfOk result (λ t. t ≡ turn_of declared.now.name (is_at declared.now.limit (ready_count queue.now.entries)) message.now place) }
 {
+    let number = message.number();
     let name = declared.name.clone()?;
-    if queue.is_full(declared.limit, content.body.len()) {
+    if queue.is_full(declared.limit, message.content().body.len()) {
         return Ok(Turn {
             place,
             message: None,
@@ -108,7 +92,7 @@ fn turn(
     }
     Ok(Turn {
         place,
-        message: Some(message_of(number, publish, content)?),
+        message: Some(message.clone()?),
         note: Note::Entered {
             number,
             queue: name,
@@ -123,56 +107,38 @@ fn turns(
     declared: &[DeclaredQueue],
     queues: &[Queue],
     targets: &[usize],
-    number: u64,
-    publish: &Publish,
-    content: &Content,
+    message: &Message,
 ) -> Result<Vec<Turn>, AllocError>
     requires within { All (λ i. i < length declared.now) targets.now }
     requires len { length queues.now ≡ length declared.now }
-    ensures { IfOk result (λ turns. turns.items ≡ map (turn_at declared.now (entries_of queues.now) (message number publish.now content.now)) targets.now) }
+    ensures { IfOk result (λ turns. turns.items ≡ map (turn_at declared.now (entries_of queues.now) message.now) targets.now) }
 {
     let mut turns = Vec::new(alloc);
-    turns.reserve(targets.len())?;
+    turns.reserve_exact(targets.len())?;
     for target in targets {
         let place = *target;
-        turns.push_reserved(turn(
-            &declared[place],
-            &queues[place],
-            place,
-            number,
-            publish,
-            content,
-        )?);
+        turns.push_reserved(turn(&declared[place], &queues[place], place, message)?);
     }
     Ok(turns)
 }
 
-/// Routes a publish, under this publish number, and tells what comes of it at each queue.
+/// Routes a publish, of which this is the message, and tells what comes of it at each queue.
 fn plan(
     alloc: Global,
     topology: &Topology,
     queues: &[Queue],
-    number: u64,
     publish: &Publish,
-    content: &Content,
+    message: &Message,
 ) -> Result<Vec<Turn>, AllocError>
     requires { length queues.now ≡ length topology.now.queues }
-    ensures { IfOk result (λ turns. IsPlan topology.now (entries_of queues.now) publish.now (message number publish.now content.now) turns.items) }
+    ensures { IfOk result (λ turns. IsPlan topology.now (entries_of queues.now) publish.now message.now turns.items) }
 {
     let targets = topology.route(
         alloc,
         publish.exchange.as_bytes(),
         publish.routing_key.as_bytes(),
     )?;
-    turns(
-        alloc,
-        topology.queues(),
-        queues,
-        &targets,
-        number,
-        publish,
-        content,
-    )
+    turns(alloc, topology.queues(), queues, &targets, message)
 }
 
 /// Makes room for a message in each of these queues.
@@ -253,9 +219,10 @@ pub(crate) fn publish_in(
     ensures queues { OnErr result (entries_of queues.new.items ≡ entries_of queues.old.items) }
     ensures notes { OnErr result (notes.new.items ≡ notes.old.items) }
 {
-    let turns = plan(alloc, topology, queues, number, publish, content)?;
+    let message = Message::of_publish(alloc, number, publish, content)?;
+    let turns = plan(alloc, topology, queues, publish, &message)?;
     make_room(queues, &turns)?;
-    notes.reserve(turns.len() + 3)?;
+    notes.reserve_exact(turns.len() + 3)?;
     let routed = Routed {
         is_none: turns.is_empty(),
         is_some_full: is_some_refusal(&turns),

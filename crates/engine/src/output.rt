@@ -8,6 +8,9 @@ use frame::{Frame, put_frame};
 use std::alloc::{AllocError, Global};
 use std::marker::Model;
 
+/// From so many taken bytes on, what is left moves to the front.
+const MOVED_FROM: usize = 16_384;
+
 /// Bytes that wait to be taken. What was taken lies in front of `start` for a while.
 #[derive(Drop)]
 pub(crate) struct Output {
@@ -70,13 +73,18 @@ impl Output {
         frame_into(&mut self.bytes, frame);
     }
 
-    /// Takes `n` bytes. What is left moves to the front once it is no more than what was taken since it last moved.
+    /// Takes `n` bytes. Where none is left the front is free at once; else what is left moves there once 16 KiB or more
+    /// were taken since it last moved, and no less than what is left.
     pub(crate) fn take(&mut self, n: usize)
         requires { n ≤ length self.old.bytes }
         ensures { self.new.bytes ≡ drop n self.old.bytes }
     {
         self.start += n;
-        if self.bytes.len() - self.start <= self.start {
+        let left = self.bytes.len() - self.start;
+        if left == 0 {
+            self.start = 0;
+            self.bytes.clear();
+        } else if self.start >= MOVED_FROM && left <= self.start {
             let start = self.start;
             self.start = 0;
             drop_front(&mut self.bytes, start);

@@ -8,7 +8,7 @@ use Rattle.model.specs.Words.{Text}
 use Rattle.model.specs.Tables.{IsTable}
 use Rattle.model.specs.Grammar.{Argument, Octet, Long_long, Short_text, Field_table, argument, IsArgument}
 use Rattle.model.specs.Headers.{no_properties, text_of, octet_of, time_of, table_of, properties_of, flags, value_of, IsValue, AreProperties}
-use Rattle.model.specs.declared.contents.Properties.{Properties}
+use Rattle.model.specs.declared.contents.Fields.{Fields as Properties}
 use Rattle.field_table.specs.Arguments.{Kind, an_octet, a_short_text, a_long_long, a_field_table, ◌>>=◌, argument_at, IsSized, IsWhole}
 use Rattle.field_table.proofs.Exactly.{IsBytes, bind_some, whole, sized_of}
 use Rattle.headers.specs.Properties.{Row, front_rows, back_rows, has, option_at, options_at, properties_at}

@@ -5,7 +5,7 @@ use Rattle.std.specs.List.{AllByRecursion, flat_map}
 use Rattle.model.specs.Words.{Text}
 use Rattle.model.specs.Grammar.{Argument}
 use Rattle.model.specs.Headers.{text_of, octet_of, time_of, table_of, properties_of, flags, value_of, IsValue, AreProperties, header_bytes}
-use Rattle.model.specs.declared.contents.Properties.{Properties}
+use Rattle.model.specs.declared.contents.Fields.{Fields as Properties}
 use Rattle.headers.specs.Writing.{front_of, back_of, values, AreValues, flag, front_flags, back_flags, fixed}
 
 -- ---- flags

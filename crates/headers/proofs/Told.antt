@@ -5,7 +5,7 @@ use Rattle.model.specs.Tables.{IsTable}
 use Rattle.model.specs.Grammar.{Argument, class_at}
 use Rattle.model.specs.Headers
 use Rattle.model.specs.Headers.{properties_of, flags, value_of, AreProperties, header_bytes, weight_at, flags_at, IsNoHeader, SaysHeader, said, no_header, bad_properties}
-use Rattle.model.specs.declared.contents.Properties.{Properties}
+use Rattle.model.specs.declared.contents.Fields.{Fields as Properties}
 use Rattle.field_table.proofs.Exactly.{IsBytes}
 use Rattle.headers.specs.Properties.{properties_at}
 use Rattle.headers.specs.Unread.{AreWhole, headers_in, Gives}

@@ -4,7 +4,7 @@ use Rattle.std.specs.Borrow.{Bor}
 use Rattle.model.specs.Tables.{IsTable}
 use Rattle.model.specs.Grammar.{Argument, Short_text, Field_table}
 use Rattle.model.specs.Headers.{octet_of, time_of, properties_of}
-use Rattle.model.specs.declared.contents.Properties.{Properties}
+use Rattle.model.specs.declared.contents.Fields.{Fields as Properties}
 use Rattle.headers.specs.Writing.{front_of, back_of}
 use Rattle.headers.specs.declared.contents.Refusal.{Refusal}
 use Rattle.headers.specs.declared.contents.Refusal.TheVariants.{FrameError, SyntaxError, Memory}

@@ -4,7 +4,7 @@ use Rattle.std.specs.List.{AllByRecursion}
 use Rattle.std.specs.Int.{w16, w64, to_be_bytes}
 use Rattle.model.specs.Grammar.{Argument}
 use Rattle.model.specs.Headers.{text_of, octet_of, time_of, table_of, value_of, IsValue, AreProperties, header_bytes}
-use Rattle.model.specs.declared.contents.Properties.{Properties}
+use Rattle.model.specs.declared.contents.Fields.{Fields as Properties}
 use Rattle.headers.specs.declared.contents.WriteError.{WriteError}
 use Rattle.headers.specs.declared.contents.WriteError.TheVariants.{SyntaxError, Memory}
 

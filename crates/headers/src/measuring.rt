@@ -6,10 +6,10 @@ ghost use Rattle.headers.specs.Writing;
 ghost use Rattle.headers.specs.Writing.{front_of, back_of, values, AreValues};
 
 use field_table::is_table;
-use model::{Properties, Table, Text};
+use model::{Fields, Table, Text};
 
 /// How many bytes the first seven properties have.
-pub(crate) fn front_len(p: &Properties) -> Option<usize>
+pub(crate) fn front_len(p: &Fields) -> Option<usize>
     ensures cases { MatchOption result (AreValues (front_of p.now) → ⊥) (λ n. AreValues (front_of p.now) × (n ≡ length (values (front_of p.now)))) }
     ensures bound { IfSome result (λ n. n < 2 ^ 34) }
 {
@@ -33,7 +33,7 @@ pub(crate) fn front_len(p: &Properties) -> Option<usize>
 }
 
 /// How many bytes the other seven have.
-pub(crate) fn back_len(p: &Properties) -> Option<usize>
+pub(crate) fn back_len(p: &Fields) -> Option<usize>
     ensures cases { MatchOption result (AreValues (back_of p.now) → ⊥) (λ n. AreValues (back_of p.now) × (n ≡ length (values (back_of p.now)))) }
     ensures bound { IfSome result (λ n. n < 2 ^ 12) }
 {
@@ -120,7 +120,7 @@ fn time_len(time: &Option<u64>) -> usize
 }
 
 /// The flags of the first seven properties.
-pub(crate) fn front_flags(p: &Properties) -> u16
+pub(crate) fn front_flags(p: &Fields) -> u16
     ensures is { result ≡ Writing.front_flags p.now }
     ensures bound { result ≤ 65024 }
 {
@@ -134,7 +134,7 @@ pub(crate) fn front_flags(p: &Properties) -> u16
 }
 
 /// The flags of the other seven.
-pub(crate) fn back_flags(p: &Properties) -> u16
+pub(crate) fn back_flags(p: &Fields) -> u16
     ensures is { result ≡ Writing.back_flags p.now }
     ensures bound { result ≤ 508 }
 {

@@ -8,11 +8,21 @@ ghost use Rattle.headers.specs.Unread.{text_in, front_in, back_in, Gives, Copies
 use crate::contents::Refusal;
 use crate::optional::{Back, Front, back_at, front_at};
 use field_table::is_table;
-use model::{Properties, Table, Text};
+use model::{Fields, Properties, Table, Text};
 use std::alloc::{AllocError, Global};
 
 /// All of the bytes, as the properties of these flags.
 pub(crate) fn properties_in(alloc: Global, flags: u16, bytes: &[u8]) -> Result<Properties, Refusal>
+    ensures { Gives result (properties_at flags bytes.now) }
+{
+    if flags == 0 && bytes.is_empty() {
+        return Ok(Properties::none());
+    }
+    flagged_in(alloc, flags, bytes)
+}
+
+/// The same, where there may be some.
+fn flagged_in(alloc: Global, flags: u16, bytes: &[u8]) -> Result<Properties, Refusal>
     ensures { Gives result (properties_at flags bytes.now) }
 {
     if flags % 4 != 0 {
@@ -34,37 +44,40 @@ pub(crate) fn properties_in(alloc: Global, flags: u16, bytes: &[u8]) -> Result<P
 fn copied(alloc: Global, front: Front<'_>, back: Back<'_>) -> Result<Properties, Refusal>
     ensures { Copies front.entry back.entry result }
 {
-    let mut properties = Properties::none();
-    copy_front(alloc, &mut properties, &front)?;
-    copy_back(alloc, &mut properties, &back)?;
-    Ok(properties)
+    let mut fields = Fields::none();
+    copy_front(alloc, &mut fields, &front)?;
+    copy_back(alloc, &mut fields, &back)?;
+    match Properties::new(alloc, fields) {
+        Ok(properties) => Ok(properties),
+        Err(_) => Err(Refusal::Memory),
+    }
 }
 
 /// Copies the first seven properties.
-fn copy_front(alloc: Global, properties: &mut Properties, front: &Front<'_>) -> Result<(), Refusal>
-    ensures { CopiesFront front.now properties.new result }
+fn copy_front(alloc: Global, fields: &mut Fields, front: &Front<'_>) -> Result<(), Refusal>
+    ensures { CopiesFront front.now fields.new result }
 {
-    properties.content_type = text(alloc, front.content_type)?;
-    properties.content_encoding = text(alloc, front.content_encoding)?;
-    properties.headers = table(alloc, front.headers)?;
-    properties.delivery_mode = front.delivery_mode;
-    properties.priority = front.priority;
-    properties.correlation_id = text(alloc, front.correlation_id)?;
-    properties.reply_to = text(alloc, front.reply_to)?;
+    fields.content_type = text(alloc, front.content_type)?;
+    fields.content_encoding = text(alloc, front.content_encoding)?;
+    fields.headers = table(alloc, front.headers)?;
+    fields.delivery_mode = front.delivery_mode;
+    fields.priority = front.priority;
+    fields.correlation_id = text(alloc, front.correlation_id)?;
+    fields.reply_to = text(alloc, front.reply_to)?;
     Ok(())
 }
 
 /// Copies the other seven, and leaves the first as they are.
-fn copy_back(alloc: Global, properties: &mut Properties, back: &Back<'_>) -> Result<(), AllocError>
-    ensures { IfOk result (λ _. CopiesBack back.now properties.old properties.new) }
+fn copy_back(alloc: Global, fields: &mut Fields, back: &Back<'_>) -> Result<(), AllocError>
+    ensures { IfOk result (λ _. CopiesBack back.now fields.old fields.new) }
 {
-    properties.expiration = text(alloc, back.expiration)?;
-    properties.message_id = text(alloc, back.message_id)?;
-    properties.timestamp = back.timestamp;
-    properties.kind = text(alloc, back.kind)?;
-    properties.user_id = text(alloc, back.user_id)?;
-    properties.app_id = text(alloc, back.app_id)?;
-    properties.reserved = text(alloc, back.reserved)?;
+    fields.expiration = text(alloc, back.expiration)?;
+    fields.message_id = text(alloc, back.message_id)?;
+    fields.timestamp = back.timestamp;
+    fields.kind = text(alloc, back.kind)?;
+    fields.user_id = text(alloc, back.user_id)?;
+    fields.app_id = text(alloc, back.app_id)?;
+    fields.reserved = text(alloc, back.reserved)?;
     Ok(())
 }
 

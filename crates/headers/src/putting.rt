@@ -5,7 +5,7 @@ ghost use Rattle.model.specs.Headers.{text_of, table_of, octet_of, time_of, valu
 ghost use Rattle.headers.specs.Writing.{front_of, back_of, values, AreValues, fixed};
 
 use field_table::put_bytes;
-use model::{Properties, Table, Text};
+use model::{Fields, Table, Text};
 
 /// Appends class, weight, size and flags.
 pub(crate) fn put_fixed(out: &mut Vec<u8>, size: u64, flags: u16)
@@ -20,7 +20,7 @@ pub(crate) fn put_fixed(out: &mut Vec<u8>, size: u64, flags: u16)
 }
 
 /// Appends the first seven properties.
-pub(crate) fn put_front(out: &mut Vec<u8>, p: &Properties)
+pub(crate) fn put_front(out: &mut Vec<u8>, p: &Fields)
     requires fits { AreValues (front_of p.now) }
     requires room { vec_len out.old + length (values (front_of p.now)) ≤ vec_capacity out.old }
     ensures items { out.new.items ≡ out.old.items ++ values (front_of p.now) }
@@ -37,7 +37,7 @@ pub(crate) fn put_front(out: &mut Vec<u8>, p: &Properties)
 }
 
 /// Appends the other seven.
-pub(crate) fn put_back(out: &mut Vec<u8>, p: &Properties)
+pub(crate) fn put_back(out: &mut Vec<u8>, p: &Fields)
     requires fits { AreValues (back_of p.now) }
     requires room { vec_len out.old + length (values (back_of p.now)) ≤ vec_capacity out.old }
     ensures items { out.new.items ≡ out.old.items ++ values (back_of p.now) }

@@ -8,7 +8,7 @@ ghost use Rattle.headers.specs.Writing.{Counts, Refused};
 use crate::contents::WriteError;
 use crate::measuring::{back_flags, back_len, front_flags, front_len};
 use crate::putting::{put_back, put_fixed, put_front};
-use model::Properties;
+use model::{Fields, Properties};
 
 /// Appends the payload of the header frame of a body of `size` bytes to `out`. On an error `out` is as it was.
 pub fn write_header(out: &mut Vec<u8>, size: u64, properties: &Properties) -> Result<(), WriteError>
@@ -34,8 +34,18 @@ pub fn write_header(out: &mut Vec<u8>, size: u64, properties: &Properties) -> Re
 pub fn spelled_len(properties: &Properties) -> Option<usize>
     ensures { Counts properties.now result }
 {
-    let front = front_len(properties)?;
-    let back = back_len(properties)?;
+    match properties.fields() {
+        None => Some(14),
+        Some(fields) => fields_len(fields),
+    }
+}
+
+/// The same of the properties one by one.
+fn fields_len(fields: &Fields) -> Option<usize>
+    ensures { Counts fields.now result }
+{
+    let front = front_len(fields)?;
+    let back = back_len(fields)?;
     Some(14 + front + back)
 }
 
@@ -47,7 +57,21 @@ pub fn put_header(out: &mut Vec<u8>, size: u64, properties: &Properties)
     ensures len { vec_len out.new ≡ vec_len out.old + length (header_bytes size properties.now) }
     ensures capacity { vec_capacity out.old ≤ vec_capacity out.new }
 {
-    put_fixed(out, size, front_flags(properties) + back_flags(properties));
-    put_front(out, properties);
-    put_back(out, properties);
+    match properties.fields() {
+        None => put_fixed(out, size, 0),
+        Some(fields) => put_fields(out, size, fields),
+    }
+}
+
+/// The same with the properties one by one.
+fn put_fields(out: &mut Vec<u8>, size: u64, fields: &Fields)
+    requires spelled { AreProperties fields.now }
+    requires room { vec_len out.old + length (header_bytes size fields.now) ≤ vec_capacity out.old }
+    ensures items { out.new.items ≡ out.old.items ++ header_bytes size fields.now }
+    ensures len { vec_len out.new ≡ vec_len out.old + length (header_bytes size fields.now) }
+    ensures capacity { vec_capacity out.old ≤ vec_capacity out.new }
+{
+    put_fixed(out, size, front_flags(fields) + back_flags(fields));
+    put_front(out, fields);
+    put_back(out, fields);
 }

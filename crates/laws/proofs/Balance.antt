@@ -11,7 +11,7 @@ use Rattle.model.specs.Broker.{Broker, is_full}
 use Rattle.model.specs.Step.{content_or_none, message, comes_to, entry_notes, returned_notes, confirm_notes, is_none, is_some_full, next_of, answer_of}
 use Rattle.model.specs.State.{State, Step}
 use Rattle.model.specs.Run.{Happening, Run, Balances, Stays, AreCounted, notes_of, is_entered, is_left, has_number}
-use Rattle.model.specs.declared.messages.Message.{Message}
+use Rattle.model.specs.Message.{Message}
 use Rattle.model.specs.declared.messages.Mark.TheVariants.{Ready}
 use Rattle.model.specs.declared.messages.Entry.{Entry}
 use Rattle.model.specs.declared.contents.Content.{Content}

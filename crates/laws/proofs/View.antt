@@ -10,7 +10,7 @@ use Rattle.model.specs.Step.{Refusal, Ignored, Of_channel, Of_connection, Does, 
 use Rattle.model.specs.Phases.{Session, Move, running_session, no_session, is_running, after_sends, stays_in, to_phase, while_closing, answer, faulted}
 use Rattle.model.specs.State.{Config, State, Moves, OfCommand, OfLarge, OfFault, Step}
 use Rattle.model.specs.Run.{Happening, has_number}
-use Rattle.model.specs.declared.messages.Message.{Message}
+use Rattle.model.specs.Message.{Message}
 use Rattle.model.specs.declared.messages.Holder.{Holder}
 use Rattle.model.specs.declared.messages.Mark.{Mark}
 use Rattle.model.specs.declared.messages.Mark.TheVariants.{Ready, Held}

@@ -6,7 +6,7 @@ use Rattle.model.specs.Broker.{with_one}
 use Rattle.model.specs.Frames.{Frame, Begins, IsBroken}
 use Rattle.model.specs.Grammar.{IsMethod, SaysMethod}
 use Rattle.model.specs.Headers.{Header, SaysSize, SaysHeader}
-use Rattle.model.specs.declared.contents.Properties.{Properties}
+use Rattle.model.specs.declared.contents.Fields.{Fields as Properties}
 use Rattle.model.specs.declared.events.Command.{Command}
 use Rattle.model.specs.declared.events.Command.TheVariants.{Plain, Full, TooLarge}
 use Rattle.model.specs.declared.methods.Publish.{Publish}

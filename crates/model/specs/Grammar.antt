@@ -4,6 +4,7 @@ use Rattle.std.specs.Int.{w16, w32, w64, to_be_bytes, from_be_bytes}
 use Rattle.std.specs.List.{AllByRecursion, list_any}
 use Rattle.model.specs.Words.{Text}
 use Rattle.model.specs.Tables.{IsTable}
+use Rattle.model.specs.declared.methods.Publish.{Publish}
 use Rattle.model.specs.declared.methods.Method.{Method}
 use Rattle.model.specs.declared.methods.Method.TheVariants.{ConnectionStart, ConnectionStartOk, ConnectionTune, ConnectionTuneOk, ConnectionOpen, ConnectionOpenOk, ConnectionClose, ConnectionCloseOk, ChannelOpen, ChannelOpenOk, ChannelFlow, ChannelFlowOk, ChannelClose, ChannelCloseOk, ExchangeDeclare, ExchangeDeclareOk, ExchangeDelete, ExchangeBind, ExchangeUnbind, QueueDeclare, QueueDeclareOk, QueueBind, QueuePurge, QueuePurgeOk, QueueDelete, QueueUnbind, BasicQos, BasicQosOk, BasicConsume, BasicConsumeOk, BasicCancel, BasicCancelOk, BasicPublish, BasicReturn, BasicDeliver, BasicGet, BasicGetOk, BasicGetEmpty, BasicAck, BasicReject, BasicRecover, BasicRecoverOk, BasicNack, ConfirmSelect, ConfirmSelectOk}
 
@@ -207,3 +208,8 @@ pub data SaysMethod (payload : List ℕ) : Result Method ℕ → Type 0 where
   left_out : 4 ≤ length payload → is_left_out (class_at payload) (method_at payload) ≡ true → SaysMethod payload (Err 540)
   bad_arguments : 4 ≤ length payload → is_known (class_at payload) (method_at payload) ≡ true
       → ((m : Method) → IsMethod m → Spells payload m → ⊥) → SaysMethod payload (Err 502)
+
+-- a publish's arguments, or the method where it is another
+abbrev pub split : Method → Result Publish Method
+split (BasicPublish publish) = Ok publish
+split method = Err method

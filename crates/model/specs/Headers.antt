@@ -4,7 +4,7 @@ use Rattle.std.specs.Int.{w16, w64, to_be_bytes, from_be_bytes}
 use Rattle.std.specs.List.{AllByRecursion}
 use Rattle.model.specs.Words.{Text}
 use Rattle.model.specs.Grammar.{Argument, Octet, Long_long, Short_text, Field_table, argument, IsArgument, class_at}
-use Rattle.model.specs.declared.contents.Properties.{Properties}
+use Rattle.model.specs.declared.contents.Fields.{Fields as Properties}
 
 -- a content that has none of the fourteen properties
 abbrev pub no_properties : Properties

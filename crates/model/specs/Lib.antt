@@ -11,6 +11,7 @@ pub mod Searches
 pub mod Frames
 pub mod Grammar
 pub mod Headers
+pub mod Message
 pub mod Broker
 pub mod Commands
 pub mod Codes

@@ -11,7 +11,7 @@ use Rattle.model.specs.Grammar.{Ids, ids, ids_of}
 use Rattle.model.specs.Headers.{no_properties}
 use Rattle.model.specs.Codes.{code_text}
 use Rattle.model.specs.declared.topologies.Exchange.{Exchange}
-use Rattle.model.specs.declared.messages.Message.{Message}
+use Rattle.model.specs.Message.{Message}
 use Rattle.model.specs.declared.messages.Holder.{Holder}
 use Rattle.model.specs.declared.messages.Entry.{Entry}
 use Rattle.model.specs.declared.messages.Mark.TheVariants.{Ready, Held}

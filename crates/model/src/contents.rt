@@ -1,16 +1,18 @@
 //! Contents: what a publish carries beside its method.
 
-ghost use Rattle.std.specs.Prelude.{◌≡◌, None, IfOk};
+ghost use Rattle.std.specs.Prelude.{◌≡◌, IfOk};
 ghost use Rattle.model.specs.Headers.{no_properties};
 
 use crate::tables::Table;
 use crate::texts::Text;
-use std::alloc::AllocError;
+use std::alloc::{AllocError, Global};
+use std::marker::Model;
+use std::sync::Arc;
 
-/// The properties of a content. The broker passes all of them on, and changes only `headers`.
+/// The fourteen properties of a content, one by one. The broker passes all of them on, and changes only `headers`.
 ///
 /// Source: AMQP 0-9-1, section 4.2.6.1, "The Content Header", and the `basic` class of its XML.
-pub struct Properties {
+pub struct Fields {
     pub content_type: Option<Text>,
     pub content_encoding: Option<Text>,
     pub headers: Option<Table>,
@@ -28,9 +30,9 @@ pub struct Properties {
 }
 
 /// Written out, so that a drop is one call.
-impl Drop for Properties {
+impl Drop for Fields {
     fn drop(self) {
-        let Properties {
+        let Fields {
             content_type: _,
             content_encoding: _,
             headers: _,
@@ -49,39 +51,12 @@ impl Drop for Properties {
     }
 }
 
-/// Properties and a body.
-#[derive(Drop)]
-pub struct Content {
-    pub properties: Properties,
-    pub body: Text,
-}
-
-/// The same text, if there is one, sharing its bytes.
-fn clone_text(text: &Option<Text>) -> Result<Option<Text>, AllocError>
-    ensures { IfOk result (λ t. t ≡ text.now) }
-{
-    match text {
-        None => Ok(None),
-        Some(text) => Ok(Some(text.clone()?)),
-    }
-}
-
-/// The same table, if there is one, sharing its bytes.
-fn clone_table(table: &Option<Table>) -> Result<Option<Table>, AllocError>
-    ensures { IfOk result (λ t. t ≡ table.now) }
-{
-    match table {
-        None => Ok(None),
-        Some(table) => Ok(Some(table.clone()?)),
-    }
-}
-
-impl Properties {
+impl Fields {
     /// No property at all.
-    pub fn none() -> Properties
+    pub fn none() -> Fields
         ensures { result ≡ no_properties }
     {
-        Properties {
+        Fields {
             content_type: None,
             content_encoding: None,
             headers: None,
@@ -98,38 +73,88 @@ impl Properties {
             reserved: None,
         }
     }
+}
+
+/// The properties of a content, in 16 bytes of their own. Clones share them, and where there are none there is no block.
+pub struct Properties {
+    fields: Option<Arc<Fields>>,
+}
+
+/// Written out, so that a drop is one call.
+impl Drop for Properties {
+    fn drop(self) {
+        let Properties { fields: _ } = self;
+    }
+}
+
+impl Model for Properties {
+    ghost use Rattle.std.specs.Prelude.{Some, None};
+    ghost use Rattle.model.specs.Headers.{no_properties};
+    ghost use Rattle.model.specs.declared.contents.Fields.{Fields as Seen};
+
+    ghost Value = { Seen };
+
+    ghost view = { λ p. elim p.fields [ None ↦ no_properties | Some shared ↦ shared.value ] };
+}
+
+impl Properties {
+    ghost use Rattle.std.specs.Prelude.{MatchOption};
+
+    /// No property at all. It takes no memory.
+    pub fn none() -> Properties
+        ensures { result ≡ no_properties }
+    {
+        Properties { fields: None }
+    }
+
+    /// These properties.
+    pub fn new(alloc: Global, fields: Fields) -> Result<Properties, AllocError>
+        ensures { IfOk result (λ p. p ≡ fields) }
+    {
+        match Arc::new(alloc, fields) {
+            Ok(shared) => Ok(Properties {
+                fields: Some(shared),
+            }),
+            Err(_) => Err(AllocError),
+        }
+    }
+
+    /// The properties one by one. `None` tells that there is none at all.
+    pub fn fields(&self) -> Option<&Fields>
+        ensures { MatchOption result (self.now ≡ no_properties) (λ fields. fields.now ≡ self.now) }
+    {
+        match &self.fields {
+            None => None,
+            Some(shared) => Some(&**shared),
+        }
+    }
 
     /// The same properties, sharing their bytes.
     pub fn clone(&self) -> Result<Properties, AllocError>
         ensures { IfOk result (λ p. p ≡ self.now) }
     {
-        let content_type = clone_text(&self.content_type)?;
-        let content_encoding = clone_text(&self.content_encoding)?;
-        let headers = clone_table(&self.headers)?;
-        let correlation_id = clone_text(&self.correlation_id)?;
-        let reply_to = clone_text(&self.reply_to)?;
-        let expiration = clone_text(&self.expiration)?;
-        let message_id = clone_text(&self.message_id)?;
-        let kind = clone_text(&self.kind)?;
-        let user_id = clone_text(&self.user_id)?;
-        let app_id = clone_text(&self.app_id)?;
-        let reserved = clone_text(&self.reserved)?;
-        Ok(Properties {
-            content_type,
-            content_encoding,
-            headers,
-            delivery_mode: self.delivery_mode,
-            priority: self.priority,
-            correlation_id,
-            reply_to,
-            expiration,
-            message_id,
-            timestamp: self.timestamp,
-            kind,
-            user_id,
-            app_id,
-            reserved,
-        })
+        match &self.fields {
+            None => Ok(Properties::none()),
+            Some(shared) => Ok(Properties {
+                fields: Some(Arc::try_clone(shared)?),
+            }),
+        }
+    }
+}
+
+/// Properties and a body.
+pub struct Content {
+    pub properties: Properties,
+    pub body: Text,
+}
+
+/// Written out, so that a drop is one call.
+impl Drop for Content {
+    fn drop(self) {
+        let Content {
+            properties: _,
+            body: _,
+        } = self;
     }
 }
 

@@ -10,11 +10,12 @@ mod messages;
 mod methods;
 mod notes;
 mod numbers;
+mod sizes;
 mod tables;
 mod texts;
 mod topologies;
 
-pub use contents::{Content, Properties};
+pub use contents::{Content, Fields, Properties};
 pub use events::{Arrival, Command, Event, Phase, Send};
 pub use messages::{Entry, Holder, Mark, Message, Taker, User};
 pub use methods::{

@@ -3,36 +3,135 @@
 ghost use Rattle.std.specs.Prelude.{◌≡◌, IfOk};
 
 use crate::contents::Content;
+use crate::methods::Publish;
 use crate::texts::Text;
-use std::alloc::AllocError;
+use std::alloc::{AllocError, Global};
+use std::marker::Model;
+use std::sync::Arc;
 
-/// A publish, wherever it stands now. Dead lettering changes the current exchange and key, and keeps the first.
-#[derive(Drop)]
+/// What all copies of a publish share.
+struct Shared {
+    exchange: Text,
+    key: Text,
+    content: Content,
+}
+
+/// Written out, so that a drop is one call.
+impl Drop for Shared {
+    fn drop(self) {
+        let Shared {
+            exchange: _,
+            key: _,
+            content: _,
+        } = self;
+    }
+}
+
+/// A publish in a queue, in 24 bytes of its own: its names, properties and body stand once for all of its copies.
 pub struct Message {
-    /// Publishes count from 1 over the whole broker.
-    pub number: u64,
-    pub first_exchange: Text,
-    pub first_key: Text,
-    pub exchange: Text,
-    pub key: Text,
-    pub content: Content,
-    pub redelivered: bool,
+    number: u64,
+    shared: Arc<Shared>,
+    redelivered: bool,
+}
+
+/// Written out, so that a drop is one call.
+impl Drop for Message {
+    fn drop(self) {
+        let Message {
+            number: _,
+            shared: _,
+            redelivered: _,
+        } = self;
+    }
+}
+
+impl Model for Message {
+    ghost use Rattle.model.specs.Message.{Message as Seen};
+
+    ghost Value = { Seen };
+
+    ghost view = { λ m. record { number = m.number; first_exchange = m.shared.value.exchange; first_key = m.shared.value.key; exchange = m.shared.value.exchange; key = m.shared.value.key; content = m.shared.value.content; redelivered = m.redelivered } };
 }
 
 impl Message {
+    ghost use Rattle.std.specs.Prelude.{true};
+    ghost use Rattle.model.specs.Step.{message};
+
+    /// The message of a publish under this publish number. It shares the bytes of the publish and of its content.
+    pub fn of_publish(
+        alloc: Global,
+        number: u64,
+        publish: &Publish,
+        content: &Content,
+    ) -> Result<Message, AllocError>
+        ensures { IfOk result (λ m. m ≡ message number publish.now content.now) }
+    {
+        let shared = Shared {
+            exchange: publish.exchange.clone()?,
+            key: publish.routing_key.clone()?,
+            content: content.clone()?,
+        };
+        match Arc::new(alloc, shared) {
+            Ok(shared) => Ok(Message {
+                number,
+                shared,
+                redelivered: false,
+            }),
+            Err(_) => Err(AllocError),
+        }
+    }
+
     /// The same message, sharing its bytes.
     pub fn clone(&self) -> Result<Message, AllocError>
         ensures { IfOk result (λ m. m ≡ self.now) }
     {
         Ok(Message {
             number: self.number,
-            first_exchange: self.first_exchange.clone()?,
-            first_key: self.first_key.clone()?,
-            exchange: self.exchange.clone()?,
-            key: self.key.clone()?,
-            content: self.content.clone()?,
+            shared: Arc::try_clone(&self.shared)?,
             redelivered: self.redelivered,
         })
+    }
+
+    /// Its publish number: publishes count from 1 over the whole broker.
+    pub fn number(&self) -> u64
+        ensures { result ≡ self.now.number }
+    {
+        self.number
+    }
+
+    /// The exchange that it was published to, or as a dead letter was sent to.
+    pub fn exchange(&self) -> &Text
+        ensures { result.now ≡ self.now.exchange }
+    {
+        &self.shared.exchange
+    }
+
+    /// The key under which it came.
+    pub fn key(&self) -> &Text
+        ensures { result.now ≡ self.now.key }
+    {
+        &self.shared.key
+    }
+
+    /// Its properties and body.
+    pub fn content(&self) -> &Content
+        ensures { result.now ≡ self.now.content }
+    {
+        &self.shared.content
+    }
+
+    /// Whether it was given out before.
+    pub fn is_redelivered(&self) -> bool
+        ensures { result ≡ self.now.redelivered }
+    {
+        self.redelivered
+    }
+
+    /// It was given out before from now on.
+    pub fn redeliver(&mut self)
+        ensures { self.new ≡ record self.old { redelivered = true } }
+    {
+        self.redelivered = true;
     }
 }
 
@@ -62,11 +161,20 @@ pub enum Mark {
     Held(Holder),
 }
 
-/// A message in a queue.
-#[derive(Drop)]
+/// A message in a queue, in 64 bytes of its own.
 pub struct Entry {
     pub message: Message,
     pub mark: Mark,
+}
+
+/// Written out, so that a drop is one call.
+impl Drop for Entry {
+    fn drop(self) {
+        let Entry {
+            message: _,
+            mark: _,
+        } = self;
+    }
 }
 
 /// One who may log in: the name, and four bytes of salt with the SHA-256 of salt and password behind them.

@@ -191,7 +191,6 @@ pub struct Nack {
 }
 
 /// A method with its arguments. The arguments of those that declare and bind for a client, which are refused, are not read.
-#[derive(Drop)]
 pub enum Method {
     ConnectionStart(Start),
     ConnectionStartOk(StartOk),
@@ -238,4 +237,72 @@ pub enum Method {
     BasicNack(Nack),
     ConfirmSelect { no_wait: bool },
     ConfirmSelectOk,
+}
+
+/// Written out, so that a drop is one call.
+impl Drop for Method {
+    fn drop(self) {
+        match self {
+            Method::ConnectionStart(_) => {}
+            Method::ConnectionStartOk(_) => {}
+            Method::ConnectionTune(_) => {}
+            Method::ConnectionTuneOk(_) => {}
+            Method::ConnectionOpen(_) => {}
+            Method::ConnectionOpenOk { reserved: _ } => {}
+            Method::ConnectionClose(_) => {}
+            Method::ConnectionCloseOk => {}
+            Method::ChannelOpen { reserved: _ } => {}
+            Method::ChannelOpenOk { reserved: _ } => {}
+            Method::ChannelFlow { active: _ } => {}
+            Method::ChannelFlowOk { active: _ } => {}
+            Method::ChannelClose(_) => {}
+            Method::ChannelCloseOk => {}
+            Method::ExchangeDeclare(_) => {}
+            Method::ExchangeDeclareOk => {}
+            Method::ExchangeDelete => {}
+            Method::ExchangeBind => {}
+            Method::ExchangeUnbind => {}
+            Method::QueueDeclare(_) => {}
+            Method::QueueDeclareOk(_) => {}
+            Method::QueueBind => {}
+            Method::QueuePurge(_) => {}
+            Method::QueuePurgeOk { message_count: _ } => {}
+            Method::QueueDelete => {}
+            Method::QueueUnbind => {}
+            Method::BasicQos(_) => {}
+            Method::BasicQosOk => {}
+            Method::BasicConsume(_) => {}
+            Method::BasicConsumeOk { consumer_tag: _ } => {}
+            Method::BasicCancel(_) => {}
+            Method::BasicCancelOk { consumer_tag: _ } => {}
+            Method::BasicPublish(_) => {}
+            Method::BasicReturn(_) => {}
+            Method::BasicDeliver(_) => {}
+            Method::BasicGet(_) => {}
+            Method::BasicGetOk(_) => {}
+            Method::BasicGetEmpty { reserved: _ } => {}
+            Method::BasicAck(_) => {}
+            Method::BasicReject(_) => {}
+            Method::BasicRecover { requeue: _ } => {}
+            Method::BasicRecoverOk => {}
+            Method::BasicNack(_) => {}
+            Method::ConfirmSelect { no_wait: _ } => {}
+            Method::ConfirmSelectOk => {}
+        }
+    }
+}
+
+impl Method {
+    ghost use Rattle.std.specs.Prelude.{◌≡◌};
+    ghost use Rattle.model.specs.Grammar.{split};
+
+    /// The arguments of a publish, or the method as it was where it is another.
+    pub fn into_publish(self) -> Result<Publish, Method>
+        ensures { result ≡ split self }
+    {
+        match self {
+            Method::BasicPublish(publish) => Ok(publish),
+            method => Err(method),
+        }
+    }
 }

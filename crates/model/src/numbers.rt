@@ -5,7 +5,6 @@ ghost use Rattle.model.specs.Codes.{code_text};
 
 use crate::methods::Method;
 use crate::texts::Text;
-use bytes::Bytes;
 
 /// The class and the method by which a method is known.
 #[derive(Clone, Copy, PartialEq, Eq, Debug, Drop)]
@@ -93,5 +92,5 @@ pub fn reply_text(code: u16) -> Text
         540 => b"not-implemented",
         _ => b"internal-error",
     };
-    Text::from_bytes(Bytes::from_static(text))
+    Text::fixed(text)
 }

@@ -24,7 +24,7 @@ fn free(entry: &mut Entry, connection: u64, channel: Option<u16>)
     if let Mark::Held(holder) = &entry.mark {
         if is_on(holder, connection, channel) {
             entry.mark = Mark::Ready;
-            entry.message.redelivered = true;
+            entry.message.redeliver();
         }
     }
 }

@@ -5,7 +5,6 @@ ghost use Rattle.std.specs.List.{position_from};
 ghost use Rattle.server.specs.Script.{lines, cut, with_digit, digits_after, number, piece, ready, connection, bytes_in, by_word, line_of};
 ghost use Rattle.server.specs.Lines.{Tells, lines_left};
 
-use bytes::Bytes;
 use hex::FromHexError;
 use model::{Arrival, Text};
 use std::alloc::{AllocError, AllocFailed, Global};
@@ -105,7 +104,7 @@ fn piece(alloc: Global, text: &[u8]) -> Result<Text, Bad>
         return Err(Bad::Malformed);
     }
     match hex::decode(alloc, text) {
-        Ok(bytes) => Ok(Text::from_bytes(Bytes::from_vec(bytes)?)),
+        Ok(bytes) => Ok(Text::from_vec(bytes)?),
         Err(FromHexError::OutOfMemory) => Err(Bad::Memory),
         Err(_) => Err(Bad::Malformed),
     }

@@ -5,7 +5,7 @@ use crate::wire::properties_of::listed;
 use crate::wire::texts::{again, code};
 use crate::words::word;
 use headers::{Header, Refusal, WriteError, read_header, read_size, write_header};
-use model::{Properties, Text};
+use model::{Fields, Properties, Text};
 use std::alloc::Global;
 
 fn refused(alloc: Global, refusal: Refusal) -> Result<String, Unanswered> {
@@ -51,9 +51,9 @@ pub fn size(alloc: Global, payload: &[u8]) -> Result<String, Unanswered> {
 /// No property but a content type of these bytes.
 fn typed(alloc: Global, bytes: &[u8]) -> Result<Properties, Unanswered> {
     let text = Text::from_slice(alloc, bytes)?;
-    let mut properties = Properties::none();
-    properties.content_type = Some(text);
-    Ok(properties)
+    let mut fields = Fields::none();
+    fields.content_type = Some(text);
+    Ok(Properties::new(alloc, fields)?)
 }
 
 /// What becomes of a header with this content type: `written`, or the reply code where nothing was appended.

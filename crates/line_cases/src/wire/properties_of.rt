@@ -2,7 +2,7 @@
 
 use crate::unanswered::Unanswered;
 use crate::wire::texts::in_hex;
-use model::{Properties, Table, Text};
+use model::{Fields, Properties, Table, Text};
 use std::alloc::Global;
 
 /// Appends ` NAME=VALUE`.
@@ -60,7 +60,7 @@ fn put_number(
     }
 }
 
-fn put_first(out: &mut String, alloc: Global, p: &Properties) -> Result<(), Unanswered> {
+fn put_first(out: &mut String, alloc: Global, p: &Fields) -> Result<(), Unanswered> {
     put_text(out, alloc, "content-type", &p.content_type)?;
     put_text(out, alloc, "content-encoding", &p.content_encoding)?;
     put_table(out, alloc, "headers", &p.headers)?;
@@ -70,7 +70,7 @@ fn put_first(out: &mut String, alloc: Global, p: &Properties) -> Result<(), Unan
     put_text(out, alloc, "reply-to", &p.reply_to)
 }
 
-fn put_others(out: &mut String, alloc: Global, p: &Properties) -> Result<(), Unanswered> {
+fn put_others(out: &mut String, alloc: Global, p: &Fields) -> Result<(), Unanswered> {
     put_text(out, alloc, "expiration", &p.expiration)?;
     put_text(out, alloc, "message-id", &p.message_id)?;
     put_number(out, alloc, "timestamp", p.timestamp)?;
@@ -83,7 +83,9 @@ fn put_others(out: &mut String, alloc: Global, p: &Properties) -> Result<(), Una
 /// The size of a body, and ` NAME=VALUE` for each property that is there, in the order of their flags.
 pub fn listed(alloc: Global, size: u64, properties: &Properties) -> Result<String, Unanswered> {
     let mut out = format!(in alloc; "{size}")?;
-    put_first(&mut out, alloc, properties)?;
-    put_others(&mut out, alloc, properties)?;
+    if let Some(fields) = properties.fields() {
+        put_first(&mut out, alloc, fields)?;
+        put_others(&mut out, alloc, fields)?;
+    }
     Ok(out)
 }

@@ -1,5 +1,4 @@
 use Rattle.std.proofs.Common.{◌≡◌, ◌≤◌, length, map, take, vec_len, vec_capacity}
-use Rattle.model.specs.Step.{message}
 use Rattle.depot.specs.Store.{entries_of}
 use Rattle.depot.specs.Turns.{turn_at}
 use Rattle.depot.proofs.publishing.turns.Given as goal
@@ -7,7 +6,7 @@ use Rattle.depot.proofs.publishing.turns.Given as goal
 -- the targets before the index have their turns
 abbrev pub invariant-loop-target : goal.invariant-loop-target
 invariant-loop-target l = record {
-  turned : l.turns.items ≡ map (turn_at l.declared (entries_of l.queues) (message l.number l.publish l.content)) (take l.target-index l.targets);
+  turned : l.turns.items ≡ map (turn_at l.declared (entries_of l.queues) l.message) (take l.target-index l.targets);
   len : vec_len l.turns ≡ l.target-index;
   capacity : length l.targets ≤ vec_capacity l.turns;
 }

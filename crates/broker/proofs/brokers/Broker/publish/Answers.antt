@@ -27,7 +27,7 @@ returns-clause-ok c =
     subst (λ (o : Option ℕ). Publishes old.store connection number c.args.publish.now c.args.content.now o done.noted c.in_ok-routed.routed new.store) confirm done.publishes in
     let sends : c.confirm.new.self.sends.items ≡ confirm_sends connection number (next_of ch.confirm) answer =
     c.confirm.ensures.sends
-    ∙ ap (λ (z : List Send). z ++ confirm_sends connection number c.next_confirm-confirm.result answer) (c.in_ok-reserve.ensures.items ∙ c.nothing-step.ensures.sends)
+    ∙ ap (λ (z : List Send). z ++ confirm_sends connection number c.next_confirm-confirm.result answer) (c.in_ok-reserve_exact.ensures.items ∙ c.nothing-step.ensures.sends)
     ∙ ap (λ (o : Option ℕ). confirm_sends connection number o answer) confirm in
     let notes : c.confirm.new.self.notes.items ≡ done.noted ++ confirm_notes (old.store.published + 1) (next_of ch.confirm) answer =
     c.confirm.ensures.notes

@@ -1,0 +1,32 @@
+//! How many bytes a value has that is passed about or kept in great numbers.
+//!
+//! What is large stands once, behind a pointer that all share; what is passed by value is copied at each call.
+
+use crate::contents::{Content, Properties};
+use crate::events::{Command, Event, Send};
+use crate::messages::{Entry, Message};
+use crate::methods::{Method, Publish};
+use crate::notes::Note;
+use crate::texts::Text;
+
+const _: () = prove!(size_of::<Text>() == 24);
+
+const _: () = prove!(size_of::<Properties>() == 16);
+
+const _: () = prove!(size_of::<Content>() == 40);
+
+const _: () = prove!(size_of::<Message>() == 24);
+
+const _: () = prove!(size_of::<Entry>() <= 64);
+
+const _: () = prove!(size_of::<Publish>() <= 64);
+
+const _: () = prove!(size_of::<Note>() <= 96);
+
+const _: () = prove!(size_of::<Method>() <= 104);
+
+const _: () = prove!(size_of::<Command>() <= 120);
+
+const _: () = prove!(size_of::<Event>() <= 176);
+
+const _: () = prove!(size_of::<Send>() <= 176);
