@@ -4,7 +4,7 @@ use Rattle.std.specs.Prelude.{◌||◌, ◌&&◌, is_some}
 use Rattle.std.proofs.lemmas.Bool.{false≢true}
 use Rattle.std.proofs.lemmas.Grind.{common_steps}
 use Rattle.model.specs.Topology.{Topology}
-use Rattle.model.specs.Grammar.{IsMethod, method_bytes}
+use Rattle.model.specs.Grammar.{Ids, IsMethod, ids_of, method_bytes}
 use Rattle.model.specs.Broker.{Broker, Channel, Connection}
 use Rattle.model.specs.Step.{Acts, OnConnection, OnLarge, Refuses, empty_publish, refusal_of_large, Decides, Performs, Refusal, Ignored, Of_channel, Of_connection, refusal, refusal_on, is_none, confirm_sends, returned_sends, select_sends, next_of, answer_of, is_some_full, content_or_none, channel_or_new}
 use Rattle.model.specs.declared.contents.Content.{Content}
@@ -91,15 +91,15 @@ few_performs t old new c h ch ChannelCloseOk content sends notes not by = subst 
 few_performs t old new c h ch (ConnectionClose x) content sends notes not by = subst IsFew (sym by.sent) (refl, refl)
 few_performs t old new c h ch _ content sends notes not by = absurd by
 
-few_refuses : (old new : Broker) (c h : ℕ) (m : Method) (r : Refusal) (sends : List Send) (notes : List Note) → Refuses old c h m r sends notes new → IsFew sends
-few_refuses old new c h m Ignored sends notes by = subst IsFew (sym by.sent) tt
-few_refuses old new c h m (Of_channel code) sends notes by = subst IsFew (sym by.sent) (refl, refl)
-few_refuses old new c h m (Of_connection code) sends notes by = subst IsFew (sym by.sent) (refl, refl)
+few_refuses : (old new : Broker) (c h : ℕ) (cause : Ids) (r : Refusal) (sends : List Send) (notes : List Note) → Refuses old c h cause r sends notes new → IsFew sends
+few_refuses old new c h cause Ignored sends notes by = subst IsFew (sym by.sent) tt
+few_refuses old new c h cause (Of_channel code) sends notes by = subst IsFew (sym by.sent) (refl, refl)
+few_refuses old new c h cause (Of_connection code) sends notes by = subst IsFew (sym by.sent) (refl, refl)
 
 few_decides : (t : Topology) (old new : Broker) (c h : ℕ) (m : Method) (content : Option Content) (r : Option Refusal) (sends : List Send) (notes : List Note)
     → (r ≡ None → (p : Publish) → m ≡ BasicPublish p → p.mandatory ≡ false) → Decides t old c h m content r sends notes new → IsFew sends
 few_decides t old new c h m content None sends notes not by = few_performs t old new c h (channel_or_new (old.channel c h)) m content sends notes (not refl) by
-few_decides t old new c h m content (Some r) sends notes not by = few_refuses old new c h m r sends notes by
+few_decides t old new c h m content (Some r) sends notes not by = few_refuses old new c h (ids_of m) r sends notes by
 
 few_on : (t : Topology) (old new : Broker) (c h : ℕ) (m : Method) (content : Option Content) (sends : List Send) (notes : List Note) (o : Option Connection)
     → OnConnection t old c h m content sends notes new o → IsFew sends
@@ -110,7 +110,7 @@ few_on t old new c h m content sends notes (Some conn) by =
 
 few_large : (old new : Broker) (c h : ℕ) (sends : List Send) (notes : List Note) (o : Option Connection) → OnLarge old c h sends notes new o → IsFew sends
 few_large old new c h sends notes None by = subst IsFew (sym by.sent) tt
-few_large old new c h sends notes (Some conn) by = few_refuses old new c h empty_publish (refusal_of_large conn h (old.channel c h)) sends notes by
+few_large old new c h sends notes (Some conn) by = few_refuses old new c h (ids_of empty_publish) (refusal_of_large conn h (old.channel c h)) sends notes by
 
 pub broker_replies : (t : Topology) (old new : Broker) (c : ℕ) (e : Event) (sends : List Send) (notes : List Note)
     → IsAsked c e → Acts t old e sends notes new → AreOwn (connection_of_event e) sends → AreReplies c sends
