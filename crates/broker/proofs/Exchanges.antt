@@ -1,9 +1,30 @@
--- A name that is not empty is looked for among the exchanges.
-use Rattle.std.proofs.Common.{◌≡◌, ◌≢◌, List, [], ◌∷◌, length, refl, Option}
+-- A publish is refused for what is said of clients' access to its exchange.
+use Rattle.std.proofs.Common.{◌≡◌, List, [], ◌∷◌, Option, Some, None, Bool, true, false, refl, sym, ap, ◌∙◌, if◌then◌else◌}
 use Rattle.model.specs.Words.{Text}
 use Rattle.model.specs.Topology.{Topology}
-use Rattle.model.specs.Step.{Refusal, refusal_to, refusal_at, exchange_named}
+use Rattle.model.specs.Step.{Refusal, Of_channel, refusal_to, refusal_at, exchange_named}
+use Rattle.model.specs.declared.topologies.Exchange.{Exchange}
+use Rattle.exchange_graph.specs.declared.routes.Access.{Access}
+use Rattle.exchange_graph.specs.declared.routes.Access.TheVariants.{Open, Internal, Absent}
+use Rattle.exchange_graph.specs.Routers.{access_at, access_to}
 
-pub refusal_to_named : (t : Topology) (name : Text) → length name ≢ 0 → refusal_to t name ≡ refusal_at (exchange_named t.exchanges name)
-refusal_to_named t [] h = absurd (h refl)
-refusal_to_named t (b ∷ bs) h = refl
+-- why clients may not publish to an exchange
+abbrev pub refusal_by : Access → Option Refusal
+refusal_by Open = None
+refusal_by Internal = Some (Of_channel 403)
+refusal_by Absent = Some (Of_channel 404)
+
+internal_or_open : (b : Bool) → (if b then Some (Of_channel 403) else None) ≡ refusal_by (if b then Internal else Open)
+internal_or_open true = refl
+internal_or_open false = refl
+
+refused_at : (x : Option Exchange) → refusal_at x ≡ refusal_by (access_at x)
+refused_at None = refl
+refused_at (Some x) = internal_or_open x.internal
+
+refused_to : (t : Topology) (name : Text) → refusal_to t name ≡ refusal_by (access_to t name)
+refused_to t [] = refl
+refused_to t (b ∷ bs) = refused_at (exchange_named t.exchanges (b ∷ bs))
+
+pub refused_by : (t : Topology) (name : Text) (a b : Access) → a ≡ access_to t name → a ≡ b → refusal_by b ≡ refusal_to t name
+refused_by t name a b e f = ap refusal_by (sym f ∙ e) ∙ sym (refused_to t name)

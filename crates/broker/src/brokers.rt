@@ -72,7 +72,7 @@ impl Broker {
         match self.links.get(connection) {
             None => None,
             Some(link) => Some(judge(
-                self.depot.topology(),
+                self.depot.router(),
                 self.depot.published(),
                 link,
                 channel,

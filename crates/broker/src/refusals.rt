@@ -14,8 +14,8 @@ ghost use Rattle.broker.specs.Links.{channel_in, limits_of};
 
 use crate::links::Link;
 use channel::Channel;
-use exchange_graph::Topology;
-use model::{Exchange, Method, Publish, Text};
+use exchange_graph::{Access, Router};
+use model::{Method, Publish};
 
 /// Why a command is not performed.
 #[derive(Clone, Copy, Drop)]
@@ -43,29 +43,13 @@ pub(crate) enum Act<'a> {
 }
 
 /// Clients may publish to no internal exchange, and to none that is not there.
-fn refusal_at(exchange: Option<&Exchange>) -> Option<Refusal>
-    ensures { seen_if result ≡ said.refusal_at (option_copied exchange.entry) }
+fn refusal_to(router: &Router, publish: &Publish) -> Option<Refusal>
+    ensures { seen_if result ≡ said.refusal_to router.now publish.now.exchange }
 {
-    match exchange {
-        None => Some(Refusal::Channel(404)),
-        Some(exchange) => {
-            if exchange.internal {
-                Some(Refusal::Channel(403))
-            } else {
-                None
-            }
-        }
-    }
-}
-
-/// The same of the exchange of this name; the default exchange is always there.
-fn refusal_to(topology: &Topology, exchange: &Text) -> Option<Refusal>
-    ensures { seen_if result ≡ said.refusal_to topology.now exchange.now }
-{
-    if exchange.len() == 0 {
-        None
-    } else {
-        refusal_at(topology.exchange(exchange.as_bytes()))
+    match router.access(&publish.exchange, &publish.routing_key) {
+        Access::Open => None,
+        Access::Internal => Some(Refusal::Channel(403)),
+        Access::Absent => Some(Refusal::Channel(404)),
     }
 }
 
@@ -78,17 +62,17 @@ fn is_spent(published: u64, channel: &Channel) -> bool
 
 /// A publish is refused for what is not built, then for its exchange, then for its counters.
 fn refusal_of_publish(
-    topology: &Topology,
+    router: &Router,
     published: u64,
     channel: &Channel,
     publish: &Publish,
 ) -> Option<Refusal>
-    ensures { (b : Broker) → b.published ≡ published → seen_if result ≡ said.refusal_of_publish topology.now b channel.now publish.now }
+    ensures { (b : Broker) → b.published ≡ published → seen_if result ≡ said.refusal_of_publish router.now b channel.now publish.now }
 {
     if publish.immediate || publish.mandatory {
         return Some(Refusal::Connection(540));
     }
-    if let Some(refusal) = refusal_to(topology, &publish.exchange) {
+    if let Some(refusal) = refusal_to(router, publish) {
         return Some(refusal);
     }
     if is_spent(published, channel) {
@@ -121,14 +105,14 @@ fn judge_on_zero(method: &Method) -> Result<Act<'_>, Refusal>
 
 /// A publish on an open channel.
 fn judge_publish<'a>(
-    topology: &Topology,
+    router: &Router,
     published: u64,
     channel: &Channel,
     publish: &'a Publish,
 ) -> Result<Act<'a>, Refusal>
-    ensures { (b : Broker) → b.published ≡ published → Judges topology.now b (Some channel.now) (BasicPublish publish.now) (said.refusal_of_publish topology.now b channel.now publish.now) result }
+    ensures { (b : Broker) → b.published ≡ published → Judges router.now b (Some channel.now) (BasicPublish publish.now) (said.refusal_of_publish router.now b channel.now publish.now) result }
 {
-    match refusal_of_publish(topology, published, channel, publish) {
+    match refusal_of_publish(router, published, channel, publish) {
         None => Ok(Act::Publish(publish)),
         Some(refusal) => Err(refusal),
     }
@@ -136,17 +120,17 @@ fn judge_publish<'a>(
 
 /// A method on an open channel. One that is not built yet is not implemented.
 fn judge_on_open<'a>(
-    topology: &Topology,
+    router: &Router,
     published: u64,
     channel: &Channel,
     method: &'a Method,
 ) -> Result<Act<'a>, Refusal>
     requires { channel.now.is_closing ≡ false }
-    ensures { (b : Broker) → b.published ≡ published → Judges topology.now b (Some channel.now) method.now (said.refusal_of topology.now b channel.now method.now) result }
+    ensures { (b : Broker) → b.published ≡ published → Judges router.now b (Some channel.now) method.now (said.refusal_of router.now b channel.now method.now) result }
 {
     match method {
         Method::ConfirmSelect { no_wait } => Ok(Act::Select(*no_wait)),
-        Method::BasicPublish(publish) => judge_publish(topology, published, channel, publish),
+        Method::BasicPublish(publish) => judge_publish(router, published, channel, publish),
         Method::ChannelClose(_) => Ok(Act::CloseChannel(false)),
         Method::ChannelCloseOk
         | Method::ChannelOpenOk { .. }
@@ -177,14 +161,14 @@ fn is_of_connection(method: &Method) -> bool
 /// A method on a channel that awaits nothing, of a connection that runs: on channel 0 only a close of the connection is
 /// known, and elsewhere no method of its class; a channel that is not open knows no method.
 fn judge_on_number<'a>(
-    topology: &Topology,
+    router: &Router,
     published: u64,
     link: &Link,
     number: u16,
     method: &'a Method,
 ) -> Result<Act<'a>, Refusal>
     requires { said.is_awaiting (channel_in link.now number) ≡ false }
-    ensures { (b : Broker) → b.published ≡ published → Judges topology.now b (channel_in link.now number) method.now (said.refusal topology.now b (limits_of link.now) number method.now (channel_in link.now number)) result }
+    ensures { (b : Broker) → b.published ≡ published → Judges router.now b (channel_in link.now number) method.now (said.refusal router.now b (limits_of link.now) number method.now (channel_in link.now number)) result }
 {
     if number == 0 {
         return judge_on_zero(method);
@@ -197,7 +181,7 @@ fn judge_on_number<'a>(
     }
     match link.channel(number) {
         None => Err(Refusal::Connection(504)),
-        Some(channel) => judge_on_open(topology, published, channel, method),
+        Some(channel) => judge_on_open(router, published, channel, method),
     }
 }
 
@@ -213,18 +197,18 @@ fn is_awaiting(channel: Option<&Channel>) -> bool
 
 /// A method of a connection that runs.
 pub(crate) fn judge<'a>(
-    topology: &Topology,
+    router: &Router,
     published: u64,
     link: &Link,
     number: u16,
     method: &'a Method,
 ) -> Result<Act<'a>, Refusal>
-    ensures { (b : Broker) → b.published ≡ published → Judges topology.now b (channel_in link.now number) method.now (said.refusal topology.now b (limits_of link.now) number method.now (channel_in link.now number)) result }
+    ensures { (b : Broker) → b.published ≡ published → Judges router.now b (channel_in link.now number) method.now (said.refusal router.now b (limits_of link.now) number method.now (channel_in link.now number)) result }
 {
     if is_awaiting(link.channel(number)) {
         judge_while_closing(method)
     } else {
-        judge_on_number(topology, published, link, number, method)
+        judge_on_number(router, published, link, number, method)
     }
 }
 

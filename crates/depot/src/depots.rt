@@ -6,7 +6,7 @@ ghost use Rattle.queue.specs.Line.{requeued};
 ghost use Rattle.depot.specs.Store.{entries_of};
 
 use crate::publishing::{note_of, publish_in};
-use exchange_graph::Topology;
+use exchange_graph::{Router, Topology};
 use model::{Content, Note, Publish};
 use queue::Queue;
 use std::alloc::{AllocError, Global};
@@ -23,7 +23,7 @@ pub struct Routed {
 
 /// The queues of a topology, in the order of the file, and the number of publishes.
 pub struct Depot {
-    topology: Topology,
+    router: Router,
     queues: Vec<Queue>,
     published: u64,
 }
@@ -32,7 +32,7 @@ pub struct Depot {
 impl Drop for Depot {
     fn drop(self) {
         let Depot {
-            topology: _,
+            router: _,
             queues: _,
             published: _,
         } = self;
@@ -45,9 +45,9 @@ impl Model for Depot {
 
     ghost Value = { Store };
 
-    ghost view = { λ d. record { topology = d.topology; queues = entries_of d.queues.items; published = d.published } };
+    ghost view = { λ d. record { topology = d.router; queues = entries_of d.queues.items; published = d.published } };
 
-    ghost invariant = { λ d. length d.queues.items ≡ length d.topology.queues };
+    ghost invariant = { λ d. length d.queues.items ≡ length d.router.queues };
 }
 
 /// So many queues with no message.
@@ -92,8 +92,9 @@ impl Depot {
         ensures { IfOk result (λ d. d ≡ record { topology = topology; queues = replicate (length topology.queues) []; published = 0 }) }
     {
         let queues = empty_queues(alloc, topology.queues().len())?;
+        let router = Router::new(alloc, topology)?;
         Ok(Depot {
-            topology,
+            router,
             queues,
             published: 0,
         })
@@ -121,12 +122,17 @@ impl Depot {
         ensures notes { OnErr result (notes.new.items ≡ notes.old.items) }
     {
         let number = self.published + 1;
-        self.topology.is_well_formed();
         let first = note_of(number, connection, channel, publish, confirm)?;
+        let route = self
+            .router
+            .route(alloc, &publish.exchange, &publish.routing_key)?;
+        let topology = self.router.topology();
+        topology.is_well_formed();
         let routed = publish_in(
             alloc,
-            &self.topology,
+            topology,
             &mut self.queues,
+            &route.targets,
             number,
             publish,
             content,
@@ -156,7 +162,14 @@ impl Depot {
     pub fn topology(&self) -> &Topology
         ensures { result.now ≡ self.now.topology }
     {
-        &self.topology
+        self.router.topology()
+    }
+
+    /// The router of the topology that was handed in.
+    pub fn router(&self) -> &Router
+        ensures { result.now ≡ self.now.topology }
+    {
+        &self.router
     }
 
     /// How many publishes there were.
@@ -170,7 +183,8 @@ impl Depot {
     pub fn ready(&self, name: &[u8]) -> Option<usize>
         ensures { result ≡ option_map (λ _. ready_count (queue_of self.now name.now)) (queue_named self.now.topology.queues name.now) }
     {
-        let place = self.topology.queue_at(name)?;
+        let topology = self.router.topology();
+        let place = topology.queue_at(name)?;
         Some(self.queues[place].ready())
     }
 }

@@ -25,6 +25,7 @@ ghost use Rattle.std.specs.List.{list_any};
 ghost use Rattle.model.specs.Broker.{is_at};
 ghost use Rattle.model.specs.Step.{message};
 ghost use Rattle.model.specs.declared.notes.Note.TheVariants.{Published};
+ghost use Rattle.exchange_graph.specs.Targets.{AreTargets};
 ghost use Rattle.queue.specs.Line.{ready_count};
 ghost use Rattle.depot.specs.Store.{entries_of};
 ghost use Rattle.depot.specs.Turns.{
@@ -122,23 +123,29 @@ fn turns(
     Ok(turns)
 }
 
-/// Routes a publish, of which this is the message, and tells what comes of it at each queue.
+/// What comes of a publish, under this publish number, at each queue of its route.
 fn plan(
     alloc: Global,
     topology: &Topology,
     queues: &[Queue],
+    targets: &[usize],
+    number: u64,
     publish: &Publish,
     message: &Message,
 ) -> Result<Vec<Turn>, AllocError>
-    requires { length queues.now ≡ length topology.now.queues }
-    ensures { IfOk result (λ turns. IsPlan topology.now (entries_of queues.now) publish.now message.now turns.items) }
+    requires len { length queues.now ≡ length topology.now.queues }
+    requires routed { AreTargets topology.now publish.now.exchange publish.now.routing_key targets.now }
+    ensures { IfOk result (λ turns. IsPlan topology.now (entries_of queues.now) publish.now (message number publish.now content.now) turns.items) }
 {
-    let targets = topology.route(
+    turns(
         alloc,
-        publish.exchange.as_bytes(),
-        publish.routing_key.as_bytes(),
-    )?;
-    turns(alloc, topology.queues(), queues, &targets, message)
+        topology.queues(),
+        queues,
+        targets,
+        number,
+        publish,
+        content,
+    )
 }
 
 /// Makes room for a message in each of these queues.
@@ -201,26 +208,28 @@ fn is_some_refusal(turns: &[Turn]) -> bool
     turns.iter().any(|turn| turn.message.is_none())
 }
 
-/// Publishes to the queues of this topology, under this publish number. The first note tells of the publish itself.
+/// Publishes to the queues of this topology at these places, to which it is routed, under this publish number. The first
+/// note tells of the publish itself.
 pub(crate) fn publish_in(
     alloc: Global,
     topology: &Topology,
     queues: &mut Vec<Queue>,
+    targets: &[usize],
     number: u64,
     publish: &Publish,
     content: &Content,
     first: Note,
     notes: &mut Vec<Note>,
 ) -> Result<Routed, AllocError>
-    requires { vec_len queues.old ≡ length topology.now.queues }
+    requires len { vec_len queues.old ≡ length topology.now.queues }
+    requires routed { AreTargets topology.now publish.now.exchange publish.now.routing_key targets.now }
     ensures ok { IfOk result (λ routed. Enters topology.now (entries_of queues.old.items) (entries_of queues.new.items) publish.now (message number publish.now content.now) first notes.old.items notes.new.items routed) }
     ensures len { vec_len queues.new ≡ vec_len queues.old }
     ensures room { OnOk result (vec_len notes.new + 2 ≤ vec_capacity notes.new) }
     ensures queues { OnErr result (entries_of queues.new.items ≡ entries_of queues.old.items) }
     ensures notes { OnErr result (notes.new.items ≡ notes.old.items) }
 {
-    let message = Message::of_publish(alloc, number, publish, content)?;
-    let turns = plan(alloc, topology, queues, publish, &message)?;
+    let turns = plan(alloc, topology, queues, targets, number, publish, content)?;
     make_room(queues, &turns)?;
     notes.reserve_exact(turns.len() + 3)?;
     let routed = Routed {

@@ -11,9 +11,14 @@ mod fans;
 mod marks;
 mod places;
 mod reach;
+mod routers;
+mod routes;
+mod slots;
 mod topologies;
 
 pub use bad::Bad;
 pub use directory::{Directory, Named, Names};
 pub use drafts::Draft;
+pub use routers::Router;
+pub use routes::{Access, Route};
 pub use topologies::Topology;

@@ -2,3 +2,4 @@ pub mod Cuts
 pub mod Loops
 pub mod Rowing
 pub mod Some
+pub mod Behind

@@ -8,7 +8,7 @@ use Rattle.broker.proofs.Judging.{zero_judged, open_judged}
 use Rattle.broker.proofs.refusals.judge_on_number.Goals as goal
 
 pub returns-then-number-eq0 : goal.returns-then-number-eq0
-returns-then-number-eq0 c = λ b e. zero_judged c.args.topology.now b (limits_of c.args.link.now) c.args.number c.args.method.now c.judge_on_zero.result (channel_in c.args.link.now c.args.number) c.requires c.if-number-eq0.true (c.judge_on_zero.ensures c.args.topology.now b (channel_in c.args.link.now c.args.number))
+returns-then-number-eq0 c = λ b e. zero_judged c.args.router.now b (limits_of c.args.link.now) c.args.number c.args.method.now c.judge_on_zero.result (channel_in c.args.link.now c.args.number) c.requires c.if-number-eq0.true (c.judge_on_zero.ensures c.args.router.now b (channel_in c.args.link.now c.args.number))
 
 pub returns-in-Some : goal.returns-in-Some
 returns-in-Some c =
@@ -17,5 +17,5 @@ returns-in-Some c =
     let class : is_of_connection c.args.method.now ≡ false = sym c.is_of_connection.ensures ∙ c.if-is_of_connection.false in
     let within : (limits_of c.args.link.now).channel_max < c.args.number → ⊥ = λ l. absurd (omega arith) in
     λ b e.
-    subst (λ (ch : Option Channel). Judges c.args.topology.now b ch c.args.method.now (refusal c.args.topology.now b (limits_of c.args.link.now) c.args.number c.args.method.now ch) c.judge_on_open.result) (sym is)
-    (open_judged c.args.topology.now b (limits_of c.args.link.now) c.args.number c.args.method.now c.judge_on_open.result c.in-Some.channel.now runs c.if-number-eq0.false class within (c.judge_on_open.ensures b e))
+    subst (λ (ch : Option Channel). Judges c.args.router.now b ch c.args.method.now (refusal c.args.router.now b (limits_of c.args.link.now) c.args.number c.args.method.now ch) c.judge_on_open.result) (sym is)
+    (open_judged c.args.router.now b (limits_of c.args.link.now) c.args.number c.args.method.now c.judge_on_open.result c.in-Some.channel.now runs c.if-number-eq0.false class within (c.judge_on_open.ensures b e))

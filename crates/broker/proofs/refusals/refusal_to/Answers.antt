@@ -1,13 +1,12 @@
-use Rattle.std.proofs.Common.{◌≡◌, ◌≢◌, ◌∙◌, ap, arith, length, find}
-use Rattle.std.specs.Str.{bytes_eq}
-use Rattle.model.specs.Words.{Text}
-use Rattle.model.specs.Step.{refusal_at, exchange_named}
-use Rattle.broker.proofs.Exchanges.{refusal_to_named}
+use Rattle.exchange_graph.specs.declared.routes.Access.TheVariants.{Open, Internal, Absent}
+use Rattle.broker.proofs.Exchanges.{refused_by}
 use Rattle.broker.proofs.refusals.refusal_to.Goals as goal
 
-pub returns-else-len-eq0 : goal.returns-else-len-eq0
-returns-else-len-eq0 c =
-    let t = c.args.topology.now in
-    let name = c.args.exchange.now in
-    let some : length name ≢ 0 = omega arith in
-    rw (refusal_to_named t name some) (c.refusal_at.ensures ∙ ap refusal_at (c.exchange.ensures ∙ ap (λ (n : Text). exchange_named t.exchanges n) c.as_bytes.ensures))
+pub returns-in-Open : goal.returns-in-Open
+returns-in-Open c = refused_by c.args.router.now c.args.publish.now.exchange c.access.result Open c.access.ensures (cc)
+
+pub returns-in-Internal : goal.returns-in-Internal
+returns-in-Internal c = refused_by c.args.router.now c.args.publish.now.exchange c.access.result Internal c.access.ensures (cc)
+
+pub returns-in-Absent : goal.returns-in-Absent
+returns-in-Absent c = refused_by c.args.router.now c.args.publish.now.exchange c.access.result Absent c.access.ensures (cc)

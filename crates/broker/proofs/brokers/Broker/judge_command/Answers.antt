@@ -14,7 +14,7 @@ returns-in-Some c =
     let link = c.in-Some.link.now in
     let there : link_in kept.links c.args.connection ≡ Some link =
     sym (c.get.ensures ∙ ap (λ (k : Kept). link_in k.links c.args.connection) c.self.view_is) ∙ ap option_copied c.in-Some.is in
-    let topology : c.topology.result.now ≡ topology_of kept = c.topology.ensures ∙ ap topology_of c.self.view_is in
+    let topology : c.router.result.now ≡ topology_of kept = c.router.ensures ∙ ap topology_of c.self.view_is in
     let published : kept.store.published ≡ c.published.result = sym (c.published.ensures ∙ ap (λ (k : Kept). k.store.published) c.self.view_is) in
     judged_on kept c.args.connection c.args.channel c.args.method.now c.judge.result link there
     (subst (λ (t : Topology). Judges t (broker_of kept) (channel_in link c.args.channel) c.args.method.now (refusal t (broker_of kept) (limits_of link) c.args.channel c.args.method.now (channel_in link c.args.channel)) c.judge.result) topology
