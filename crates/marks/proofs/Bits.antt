@@ -19,10 +19,10 @@ none_above n a e k le =
 -- the lowest bit of what is left of the word
 pub next_above : (n a b : ℕ) → bit_at (n / 2 ^ a) b ≡ 1 → ((k : ℕ) → k < b → bit_at (n / 2 ^ a) k ≡ 0) → IsNext (bit_at n) a (a + b)
 next_above n a b there before = record {
-    least = omega arith;
-    there = sym (shifted n a b) ∙ there;
-    before = λ k ge lt. let s : k ≡ a + (k - a) = omega arith in ap (bit_at n) s ∙ sym (shifted n a (k - a)) ∙ before (k - a) (omega arith);
-  }
+  least = omega arith;
+  there = sym (shifted n a b) ∙ there;
+  before = λ k ge lt. let s : k ≡ a + (k - a) = omega arith in ap (bit_at n) s ∙ sym (shifted n a (k - a)) ∙ before (k - a) (omega arith);
+}
 
 -- a place in a word that is zero is not in
 pub zero_word : (words : List ℕ) (k : ℕ) → get_or words (k / 64) 0 ≡ 0 → bit_of words k ≡ 0
@@ -44,13 +44,14 @@ bit_in words i b small =
 pub first_here : (words : List ℕ) (start i b : ℕ) → b < 64 → bit_at (get_or words i 0) b ≡ 1 → ((k : ℕ) → k < b → bit_at (get_or words i 0) k ≡ 0)
     → AreZero words start i → IsNext (bit_of words) (start * 64) (i * 64 + b)
 first_here words start i b small there before h = record {
-    least = let o = h.order in omega arith;
-    there = bit_in words i b small ∙ there;
-    before = λ k ge lt. go k ge lt (split (k / 64) i (omega arith));
-  }
+  least = let o = h.order in omega arith;
+  there = bit_in words i b small ∙ there;
+  before = λ k ge lt. go k ge lt (split (k / 64) i (omega arith));
+}
   where
     split : (j i : ℕ) → j ≤ i → (j < i) ⊎ (j ≡ i)
     split j i h = search arith
+
     go : (k : ℕ) → start * 64 ≤ k → k < i * 64 + b → (k / 64 < i) ⊎ (k / 64 ≡ i) → bit_of words k ≡ 0
     go k ge lt (inl l) = zero_word words k (h.zeros (k / 64) (omega arith) l)
     go k ge lt (inr e) = ap (λ (j : ℕ). bit_at (get_or words j 0) (k % 64)) e ∙ before (k % 64) (omega arith)
