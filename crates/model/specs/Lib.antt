@@ -12,6 +12,8 @@ pub mod Frames
 pub mod Grammar
 pub mod Headers
 pub mod Broker
+pub mod Settling
+pub mod Prefetch
 pub mod Commands
 pub mod Codes
 pub mod Step
