@@ -13,6 +13,8 @@ pub mod Grammar
 pub mod Headers
 pub mod Message
 pub mod Broker
+pub mod Settling
+pub mod Prefetch
 pub mod Commands
 pub mod Codes
 pub mod Step

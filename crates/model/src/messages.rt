@@ -141,7 +141,7 @@ pub enum Taker {
     /// A basic.get.
     Get,
     /// The consumer of this number: consumers of a channel are numbered as they are made.
-    Consumer(u32),
+    Consumer(u64),
 }
 
 /// Where a message was given out, and under which delivery tag.

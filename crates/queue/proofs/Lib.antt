@@ -1,1 +1,4 @@
 pub mod Freed
+pub mod Places
+pub mod Slotted
+pub mod Purging

@@ -6,6 +6,9 @@
 #![tactic(auto)]
 
 mod entries;
+mod indexed;
 mod listed;
+mod slots;
 
+pub use indexed::Indexed;
 pub use listed::Queue;

@@ -1,0 +1,11 @@
+use Rattle.std.proofs.Common.{◌≡◌, ◌≤◌, take, count_by}
+use Rattle.model.specs.Prefetch.{is_to, is_delivery}
+use Rattle.channel.specs.Outstanding.{taker_of}
+use Rattle.channel.proofs.consumers.given_to_all.Given as goal
+
+-- those before the index are counted
+abbrev pub invariant-loop-one : goal.invariant-loop-one
+invariant-loop-one l = record {
+  count : l.count ≡ count_by (λ x. is_delivery (taker_of x)) (take l.one-index l.given);
+  most : l.count ≤ l.one-index;
+}

@@ -1,0 +1,7 @@
+use Rattle.std.proofs.Common.{not, rules}
+use Rattle.std.proofs.lemmas.Fn.{filter_same}
+use Rattle.channel.specs.Deliveries.{has_name}
+use Rattle.channel.proofs.consumers.take_out.Goals as goal
+
+pub returns : goal.returns
+returns c = filter_same _ (λ x. not (has_name c.args.tag.now x)) _ (λ x b f' r. search rules) _ _ c.retain.ensures.filtered

@@ -1,0 +1,7 @@
+use Rattle.std.proofs.Common.{sym, subst}
+use Rattle.channel.specs.Outstanding.{AreBefore}
+use Rattle.channel.proofs.Settlement.{kept_before}
+use Rattle.channel.proofs.deliveries.Deliveries.forget.Goals as goal
+
+pub invariant_of-self : goal.invariant_of-self
+invariant_of-self c = subst (AreBefore c.self.inside.next_tag) (sym c.forget.ensures.outstanding) (kept_before c.self.inside.next_tag c.args.tag c.args.multiple _ c.self.invariant)

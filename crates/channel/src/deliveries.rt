@@ -1,0 +1,181 @@
+//! Delivery tags, what is outstanding under them, and the consumers with their limits.
+
+use crate::consumers::{Consumer, Refusal, is_in_use, may_one, take_out};
+use crate::pending::{Outstanding, Pending};
+use model::{Taker, Text};
+use std::alloc::{AllocError, Global};
+use std::marker::Model;
+
+/// What an open channel keeps of its deliveries.
+#[derive(Drop)]
+pub struct Deliveries {
+    pending: Pending,
+    consumers: Vec<Consumer>,
+    next_tag: u64,
+    next_number: u64,
+    each_limit: u16,
+    limit: u16,
+}
+
+impl Model for Deliveries {
+    ghost use Rattle.channel.specs.Deliveries.{Given};
+    ghost use Rattle.channel.specs.Outstanding.{AreBefore};
+
+    ghost Value = { Given };
+
+    ghost view = { λ d. record { next_tag = d.next_tag; next_number = d.next_number; each_limit = d.each_limit; limit = d.limit; consumers = d.consumers.items; outstanding = d.pending.outstanding; room = d.pending.room } };
+
+    ghost invariant = { λ d. AreBefore d.next_tag d.pending.outstanding };
+}
+
+impl Deliveries {
+    ghost use Rattle.std.specs.Prelude.{◌≡◌, ◌<◌, ◌≤◌, ◌+◌, ◌-◌, [], true, filter, not, option_map, OnOk, OnErr};
+    ghost use Rattle.model.specs.Settling.{settled, kept};
+    ghost use Rattle.model.specs.Prefetch.{has_tag_left};
+    ghost use Rattle.channel.specs.Outstanding.{tag_of};
+    ghost use Rattle.channel.specs.Deliveries.{with_given, with_limit, may_take, has_name, Consumes};
+
+    /// Nothing was given out, there is no consumer and no limit. It takes no memory.
+    pub fn new(alloc: Global) -> Deliveries
+        ensures { result ≡ record { next_tag = 1; next_number = 1; each_limit = 0; limit = 0; consumers = []; outstanding = []; room = result.room } }
+    {
+        Deliveries {
+            pending: Pending::new(alloc),
+            consumers: Vec::new(alloc),
+            next_tag: 1,
+            next_number: 1,
+            each_limit: 0,
+            limit: 0,
+        }
+    }
+
+    /// Makes room for so many messages more that are given out. Nothing else changes, also where memory is wanting.
+    pub fn reserve(&mut self, more: usize) -> Result<(), AllocError>
+        ensures same { self.new ≡ record self.old { room = self.new.room } }
+        ensures kept { self.old.room ≤ self.new.room }
+        ensures room { OnOk result (more ≤ self.new.room) }
+        ensures full { OnErr result (self.old.room < more) }
+    {
+        self.pending.reserve(more)
+    }
+
+    /// What this tag settles, in tag order; none where it is refused, with 406. Source: AMQP 0-9-1, basic.ack.
+    pub fn settle(&self, tag: u64, multiple: bool) -> Option<&[Outstanding]>
+        ensures { option_map (λ s. s.now) result ≡ settled tag_of tag multiple self.now.outstanding }
+    {
+        self.pending.settle(tag, multiple)
+    }
+
+    /// Takes out what this tag settles; nothing where it is refused.
+    pub fn forget(&mut self, tag: u64, multiple: bool)
+        ensures outstanding { self.new ≡ record self.old { outstanding = kept tag_of tag multiple self.old.outstanding; room = self.new.room } }
+        ensures room { self.old.room ≤ self.new.room }
+    {
+        self.pending.forget(tag, multiple);
+    }
+
+    /// All that is outstanding, in tag order.
+    pub fn outstanding(&self) -> &[Outstanding]
+        ensures { result.now ≡ self.now.outstanding }
+    {
+        self.pending.all()
+    }
+
+    /// Whether a delivery tag is left.
+    pub fn has_tag_left(&self) -> bool
+        ensures { result ≡ has_tag_left self.now.next_tag }
+    {
+        self.next_tag < u64::MAX
+    }
+
+    /// A message of the queue at this place is given out, and waits to be settled. Tells its tag.
+    pub fn give(&mut self, queue: u16, arrival: u64, by: Taker) -> u64
+        requires left { has_tag_left self.old.next_tag ≡ true }
+        requires room { 0 < self.old.room }
+        ensures tag { result ≡ self.old.next_tag }
+        ensures given { self.new ≡ with_given self.old queue arrival by self.new.room }
+        ensures room { self.new.room + 1 ≡ self.old.room }
+    {
+        let tag = self.next_tag;
+        self.pending.push(Outstanding {
+            tag,
+            queue,
+            arrival,
+            by,
+        });
+        self.next_tag = tag + 1;
+        tag
+    }
+
+    /// A message is given out that needs no acknowledgement. Tells its tag, which is never outstanding.
+    pub fn give_settled(&mut self) -> u64
+        requires { has_tag_left self.old.next_tag ≡ true }
+        ensures tag { result ≡ self.old.next_tag }
+        ensures given { self.new ≡ record self.old { next_tag = self.old.next_tag + 1 } }
+    {
+        let tag = self.next_tag;
+        self.next_tag = tag + 1;
+        tag
+    }
+
+    /// Sets a limit; 0 is none. Source: AMQP 0-9-1, basic.qos; RabbitMQ, "Consumer Prefetch".
+    pub fn limit(&mut self, count: u16, global: bool)
+        ensures { self.new ≡ with_limit self.old count global }
+    {
+        if global {
+            self.limit = count;
+        } else {
+            self.each_limit = count;
+        }
+    }
+
+    /// Whether the consumer of this number is the channel's, and may be given a message now: a tag is left, and neither its
+    /// limit nor the channel's is reached.
+    pub fn may_take(&self, number: u64) -> bool
+        ensures { result ≡ may_take self.now number }
+    {
+        self.has_tag_left() && may_one(&self.consumers, number, self.limit, self.pending.all())
+    }
+
+    /// Makes a consumer of this tag. Tells its number.
+    pub fn consume(&mut self, tag: Text, queue: u16, no_ack: bool) -> Result<u64, Refusal>
+        ensures { Consumes self.old tag queue no_ack result self.new }
+    {
+        if is_in_use(&self.consumers, tag.as_bytes()) {
+            return Err(Refusal::InUse);
+        }
+        if self.consumers.len() >= 256 {
+            return Err(Refusal::TooMany);
+        }
+        let number = self.next_number;
+        if number == u64::MAX {
+            return Err(Refusal::Spent);
+        }
+        let consumer = Consumer {
+            number,
+            tag,
+            queue,
+            no_ack,
+            limit: self.each_limit,
+        };
+        if self.consumers.push(consumer).is_err() {
+            return Err(Refusal::Memory);
+        }
+        self.next_number = number + 1;
+        Ok(number)
+    }
+
+    /// Takes the consumer of this tag out, if there is one. What it was given stays outstanding.
+    pub fn cancel(&mut self, tag: &[u8])
+        ensures { self.new ≡ record self.old { consumers = filter (λ c. not (has_name tag.now c)) self.old.consumers } }
+    {
+        take_out(&mut self.consumers, tag);
+    }
+
+    /// The consumers, in the order in which they were made.
+    pub fn consumers(&self) -> &[Consumer]
+        ensures { result.now ≡ self.now.consumers }
+    {
+        &self.consumers
+    }
+}

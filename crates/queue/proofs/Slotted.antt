@@ -1,0 +1,416 @@
+-- What is kept beside the slots of a queue, at each change.
+use Rattle.std.proofs.Common.{◌≡◌, ℕ, zero, suc, ◌+◌, ◌-◌, ◌<◌, ◌≤◌, List, [], ◌∷◌, ◌++◌, length, get_or, map, filter, refl, sym, ap, ◌∙◌, subst, arith, Bool, true, false, cond, not, Option, Some, None, find, is_some, inl, inr, eqb, append_assoc}
+use Rattle.std.specs.Prelude.{◌&&◌, ◌==◌}
+use Rattle.std.proofs.lemmas.Bool.{false≢true}
+use Rattle.std.proofs.lemmas.Bool.Decides.{eqb_tells, leb_tells}
+use Rattle.std.proofs.Math.ListN.{set}
+use Rattle.std.proofs.lemmas.List.{get_or-set_same, get_or-set_other, map-set}
+use Rattle.model.specs.Broker.{is_ready}
+use Rattle.model.specs.Step.{freed}
+use Rattle.model.specs.declared.messages.Entry.{Entry}
+use Rattle.model.specs.declared.messages.Message.{Message}
+use Rattle.model.specs.declared.messages.Holder.{Holder}
+use Rattle.model.specs.declared.messages.Mark.{Mark}
+use Rattle.model.specs.declared.messages.Mark.TheVariants.{Ready, Held}
+use Rattle.marks.specs.Places.{IsNext, Differs}
+use Rattle.queue.specs.Line.{is_under, is_held_as, held_as, change_first, without_first, requeued, ready_count, number_of}
+use Rattle.queue.specs.declared.slots.Slot.{Slot}
+use Rattle.queue.specs.Slots.{somes, has, changed, num, tally, AreMarked, Shows, HasPlaces, contents}
+use Rattle.queue.proofs.Places.{num-some, num-none, within, FirstAt, change_at, remove_at, find_at, some_at, NonePasses, none_found, none_changed, none_removed, none_mapped, none_left_out, counted, tally-most, somes-most, count-set, length-set, somes-append, count-fewer, OnlyAt, only_first, only_mapped, only_left_out}
+
+-- ---- one entry
+
+pub ready_not_held : (h : Holder) (o : Option Entry) → has is_ready o ≡ true → has (is_held_as h) o ≡ false
+ready_not_held h None r = refl
+ready_not_held h (Some e) r = go e.mark r
+  where
+    go : (m : Mark) → elim m [ Ready ↦ true | Held g ↦ false ] ≡ true → elim m [ Ready ↦ false | Held g ↦ is_under h g ] ≡ false
+    go Ready r = refl
+    go (Held g) r = absurd (false≢true r)
+
+pub held_not_ready : (h : Holder) (o : Option Entry) → has (is_held_as h) o ≡ true → has is_ready o ≡ false
+held_not_ready h None r = refl
+held_not_ready h (Some e) r = go e.mark r
+  where
+    go : (m : Mark) → elim m [ Ready ↦ false | Held g ↦ is_under h g ] ≡ true → elim m [ Ready ↦ true | Held g ↦ false ] ≡ false
+    go Ready r = absurd (false≢true r)
+    go (Held g) r = refl
+
+some_of : {X : Type 0} (p : X → Bool) (o : Option X) → has p o ≡ true → is_some o ≡ true
+some_of p None h = absurd (false≢true h)
+some_of p (Some x) h = refl
+
+still_some : {X : Type 0} (f : X → X) (o : Option X) → is_some (changed f o) ≡ is_some o
+still_some f None = refl
+still_some f (Some x) = refl
+
+held_is : (h holder : Holder) (o : Option Entry) → has is_ready o ≡ true → has (is_held_as h) (changed (held_as holder) o) ≡ is_under h holder
+held_is h holder None r = absurd (false≢true r)
+held_is h holder (Some e) r = refl
+
+held_not_free : (holder : Holder) (o : Option Entry) → has is_ready (changed (held_as holder) o) ≡ false
+held_not_free holder None = refl
+held_not_free holder (Some e) = refl
+
+-- released
+abbrev freed_of : Entry → Entry
+freed_of e = record e { message = record e.message { redelivered = true }; mark = Ready }
+
+freed_ready : (holder : Holder) (o : Option Entry) → has (is_held_as holder) o ≡ true → has is_ready (changed (freed (is_under holder)) o) ≡ true
+freed_ready holder None h = absurd (false≢true h)
+freed_ready holder (Some e) h = go e.mark h
+  where
+    go : (m : Mark) → elim m [ Ready ↦ false | Held g ↦ is_under holder g ] ≡ true
+        → is_ready (elim m [ Ready ↦ e | Held g ↦ cond (is_under holder g) (freed_of e) e ]) ≡ true
+    go Ready h = absurd (false≢true h)
+    go (Held g) h = rw h refl
+
+pub freed_same : (holder : Holder) (e : Entry) → is_held_as holder e ≡ false → freed (is_under holder) e ≡ e
+freed_same holder e h = go e.mark h
+  where
+    go : (m : Mark) → elim m [ Ready ↦ false | Held g ↦ is_under holder g ] ≡ false
+        → elim m [ Ready ↦ e | Held g ↦ cond (is_under holder g) (freed_of e) e ] ≡ e
+    go Ready h = refl
+    go (Held g) h = rw h refl
+
+-- ---- one tag
+
+both : (a b : Bool) → (a && b) ≡ true → (a ≡ true) × (b ≡ true)
+both true true e = (refl, refl)
+both true false e = absurd (false≢true e)
+both false b e = absurd (false≢true e)
+
+equal : (a b : ℕ) → eqb a b ≡ true → a ≡ b
+equal a b e = elim (eqb_tells a b) [ inl p ↦ p.1 | inr p ↦ absurd (false≢true (sym p.0 ∙ e)) ]
+
+same_under : (h holder g : Holder) → is_under h holder ≡ true → is_under h g ≡ is_under holder g
+same_under h holder g e =
+    let two : ((((holder.connection == h.connection) && (holder.channel == h.channel)) ≡ true) × ((holder.tag == h.tag) ≡ true)) = both ((holder.connection == h.connection) && (holder.channel == h.channel)) (holder.tag == h.tag) e in
+    let one : (((holder.connection == h.connection) ≡ true) × ((holder.channel == h.channel) ≡ true)) = both (holder.connection == h.connection) (holder.channel == h.channel) two.0 in
+    ap (λ (n : ℕ). ((g.connection == n) && (g.channel == h.channel)) && (g.tag == h.tag)) (sym (equal holder.connection h.connection one.0))
+    ∙ ap (λ (n : ℕ). ((g.connection == holder.connection) && (g.channel == n)) && (g.tag == h.tag)) (sym (equal holder.channel h.channel one.1))
+    ∙ ap (λ (n : ℕ). ((g.connection == holder.connection) && (g.channel == holder.channel)) && (g.tag == n)) (sym (equal holder.tag h.tag two.1))
+
+same_held : (h holder : Holder) (e : Entry) → is_under h holder ≡ true → is_held_as h e ≡ is_held_as holder e
+same_held h holder e u = go e.mark
+  where
+    go : (m : Mark) → ◌≡◌ {A = Bool} (elim m [ Ready ↦ false | Held g ↦ is_under h g ]) (elim m [ Ready ↦ false | Held g ↦ is_under holder g ])
+    go Ready = refl
+    go (Held g) = same_under h holder g u
+
+same_count : {X : Type 0} (p q : X → Bool) → ((x : X) → p x ≡ q x) → (xs : List X) → tally p xs ≡ tally q xs
+same_count p q s [] = refl
+same_count p q s (x ∷ xs) = let a = ap num (s x) in let b = same_count p q s xs in omega arith
+
+not_found : {X : Type 0} (p : X → Bool) (xs : List X) → find p xs ≡ None → tally p xs ≡ 0
+not_found p [] e = refl
+not_found p (x ∷ xs) e = go (p x) refl (not_found p xs) e
+  where
+    go : (b : Bool) → p x ≡ b → (find p xs ≡ None → tally p xs ≡ 0) → cond b (Some x) (find p xs) ≡ None → tally p (x ∷ xs) ≡ 0
+    go true h r e = absurd (cc)
+    go false h r e = let a = ap num h in let b = r e in omega arith
+
+-- ---- the marks
+
+pub first_by_marks : (slots : List (Option Entry)) (bit : ℕ → ℕ) (i : ℕ) → AreMarked slots bit → IsNext bit 0 i → FirstAt is_ready slots i
+first_by_marks slots bit i m n = record { there = num-some _ (sym (m i) ∙ n.there); before = λ k lt. num-none _ (sym (m k) ∙ n.before k (omega arith) lt) }
+
+pub none_by_marks : (slots : List (Option Entry)) (bit : ℕ → ℕ) → AreMarked slots bit → ((k : ℕ) → bit k ≡ 0) → NonePasses is_ready slots
+none_by_marks slots bit m z = record { no = λ k. num-none _ (sym (m k) ∙ z k) }
+
+pub marked_set : (slots : List (Option Entry)) (v : Option Entry) (bit bit' : ℕ → ℕ) (i : ℕ) → i < length slots → AreMarked slots bit
+    → Differs bit bit' i (num (has is_ready v)) → AreMarked (set slots i v) bit'
+marked_set slots v bit bit' i lt m d j = elim (eqb_tells j i) [
+  | inl p ↦ ap bit' p.1 ∙ d.there ∙ ap (λ (o : Option Entry). num (has is_ready o)) (sym (get_or-set_same slots i v None lt) ∙ ap (λ (k : ℕ). get_or (set slots i v) k None) (sym p.1))
+  | inr p ↦ d.others j p.1 ∙ m j ∙ ap (λ (o : Option Entry). num (has is_ready o)) (sym (get_or-set_other slots i j v None p.1))
+]
+
+at_end : (xs : List (Option Entry)) (v : Option Entry) → get_or (xs ++ v ∷ []) (length xs) None ≡ v
+at_end [] v = refl
+at_end (x ∷ xs) v = at_end xs v
+
+not_end : (xs : List (Option Entry)) (v : Option Entry) (j : ℕ) → ((j ≡ length xs) → ⊥) → get_or (xs ++ v ∷ []) j None ≡ get_or xs j None
+not_end [] v zero h = absurd (h refl)
+not_end [] v (suc j) h = refl
+not_end (x ∷ xs) v zero h = refl
+not_end (x ∷ xs) v (suc j) h = not_end xs v j (λ e. h (ap suc e))
+
+pub marked_push : (slots : List (Option Entry)) (v : Option Entry) (bit bit' : ℕ → ℕ) → AreMarked slots bit
+    → Differs bit bit' (length slots) (num (has is_ready v)) → AreMarked (slots ++ v ∷ []) bit'
+marked_push slots v bit bit' m d j = elim (eqb_tells j (length slots)) [
+  | inl p ↦ ap bit' p.1 ∙ d.there ∙ ap (λ (o : Option Entry). num (has is_ready o)) (sym (at_end slots v) ∙ ap (λ (k : ℕ). get_or (slots ++ v ∷ []) k None) (sym p.1))
+  | inr p ↦ d.others j p.1 ∙ m j ∙ ap (λ (o : Option Entry). num (has is_ready o)) (sym (not_end slots v j p.1))
+]
+
+-- ---- one slot is written
+
+-- What was written, and how the counts changed.
+record Written (slots : List (Option Entry)) (v : Option Entry) (bit bit' : ℕ → ℕ) (ready ready' live live' i : ℕ) : Type 0 where
+  there : i < length slots
+  bits : Differs bit bit' i (num (has is_ready v))
+  ready_count : ready' + num (has is_ready (get_or slots i None)) ≡ ready + num (has is_ready v)
+  live_count : live' + num (is_some (get_or slots i None)) ≡ live + num (is_some v)
+  apart : (h : Holder) → tally (is_held_as h) (somes (set slots i v)) ≤ 1
+
+shows_set : (slots : List (Option Entry)) (v : Option Entry) (bit bit' : ℕ → ℕ) (ready ready' live live' i : ℕ) → Shows slots bit ready live
+    → Written slots v bit bit' ready ready' live live' i → Shows (set slots i v) bit' ready' live'
+shows_set slots v bit bit' ready ready' live live' i s w = record {
+  marked = marked_set slots v bit bit' i w.there s.marked w.bits;
+  ready_count = (let a = s.ready_count in let b = w.ready_count in let c = count-set is_ready slots i v w.there in omega arith);
+  live_count = (let a = s.live_count in let b = w.live_count in let c = length-set slots i v w.there in omega arith);
+  apart = w.apart;
+}
+
+-- no more are held so than before
+apart_less : (slots : List (Option Entry)) (v : Option Entry) (i : ℕ) (h : Holder) → i < length slots → tally (is_held_as h) (somes slots) ≤ 1
+    → has (is_held_as h) v ≡ false → tally (is_held_as h) (somes (set slots i v)) ≤ 1
+apart_less slots v i h lt le e = let a = count-set (is_held_as h) slots i v lt in let n = ap num e in omega arith
+
+-- one more is held, under a tag under which none was
+apart_held : (slots : List (Option Entry)) (i : ℕ) (holder h : Holder) (b : Bool) → is_under h holder ≡ b → i < length slots → has is_ready (get_or slots i None) ≡ true
+    → find (is_held_as holder) (somes slots) ≡ None → tally (is_held_as h) (somes slots) ≤ 1
+    → tally (is_held_as h) (somes (set slots i (changed (held_as holder) (get_or slots i None)))) ≤ 1
+apart_held slots i holder h false e lt r f le = apart_less slots (changed (held_as holder) (get_or slots i None)) i h lt le (held_is h holder (get_or slots i None) r ∙ e)
+apart_held slots i holder h true e lt r f le =
+    let z : tally (is_held_as h) (somes slots) ≡ 0 = same_count (is_held_as h) (is_held_as holder) (λ x. same_held h holder x e) (somes slots) ∙ not_found (is_held_as holder) (somes slots) f in
+    let a = count-set (is_held_as h) slots i (changed (held_as holder) (get_or slots i None)) lt in
+    let n = ap num (held_is h holder (get_or slots i None) r ∙ e) in
+    omega arith
+
+-- ---- the calls
+
+pub hold_shows : (slots now : List (Option Entry)) (bit bit' : ℕ → ℕ) (ready ready' live i : ℕ) (holder : Holder) → Shows slots bit ready live → IsNext bit 0 i
+    → Differs bit bit' i 0 → now ≡ set slots i (changed (held_as holder) (get_or slots i None)) → find (is_held_as holder) (somes slots) ≡ None → ready' + 1 ≡ ready
+    → Shows now bit' ready' live
+hold_shows slots now bit bit' ready ready' live i holder s n d e f r =
+    let v : Option Entry = changed (held_as holder) (get_or slots i None) in
+    let p : FirstAt is_ready slots i = first_by_marks slots bit i s.marked n in
+    let lt : i < length slots = within is_ready slots i p.there in
+    subst (λ (xs : List (Option Entry)). Shows xs bit' ready' live) (sym e) (shows_set slots v bit bit' ready ready' live live i s (record {
+      there = lt;
+      bits = subst (λ (b : Bool). Differs bit bit' i (num b)) (sym (held_not_free holder (get_or slots i None))) d;
+      ready_count = (let a = ap num p.there in let b = ap num (held_not_free holder (get_or slots i None)) in omega arith);
+      live_count = ap (λ (b : Bool). live + num b) (sym (still_some (held_as holder) (get_or slots i None)));
+      apart = λ h. apart_held slots i holder h (is_under h holder) refl lt p.there f (s.apart h);
+    }))
+
+pub take_shows : (slots now : List (Option Entry)) (bit bit' : ℕ → ℕ) (ready ready' live live' i : ℕ) → Shows slots bit ready live → IsNext bit 0 i
+    → Differs bit bit' i 0 → now ≡ set slots i None → ready' + 1 ≡ ready → live' + 1 ≡ live → Shows now bit' ready' live'
+take_shows slots now bit bit' ready ready' live live' i s n d e r l =
+    let p : FirstAt is_ready slots i = first_by_marks slots bit i s.marked n in
+    let lt : i < length slots = within is_ready slots i p.there in
+    subst (λ (xs : List (Option Entry)). Shows xs bit' ready' live') (sym e) (shows_set slots None bit bit' ready ready' live live' i s (record {
+      there = lt;
+      bits = d;
+      ready_count = (let a = ap num p.there in omega arith);
+      live_count = (let a = ap num (some_of is_ready (get_or slots i None) p.there) in omega arith);
+      apart = λ h. apart_less slots None i h lt (s.apart h) refl;
+    }))
+
+pub release_shows : (slots now : List (Option Entry)) (bit bit' : ℕ → ℕ) (ready ready' live i : ℕ) (holder : Holder) → Shows slots bit ready live
+    → has (is_held_as holder) (get_or slots i None) ≡ true → Differs bit bit' i 1 → now ≡ set slots i (changed (freed (is_under holder)) (get_or slots i None)) → ready' ≡ ready + 1
+    → Shows now bit' ready' live
+release_shows slots now bit bit' ready ready' live i holder s t d e r =
+    let v : Option Entry = changed (freed (is_under holder)) (get_or slots i None) in
+    let lt : i < length slots = within (is_held_as holder) slots i t in
+    let f : has is_ready v ≡ true = freed_ready holder (get_or slots i None) t in
+    subst (λ (xs : List (Option Entry)). Shows xs bit' ready' live) (sym e) (shows_set slots v bit bit' ready ready' live live i s (record {
+      there = lt;
+      bits = subst (λ (b : Bool). Differs bit bit' i (num b)) (sym f) d;
+      ready_count = (let a = ap num (held_not_ready holder (get_or slots i None) t) in let b = ap num f in omega arith);
+      live_count = ap (λ (b : Bool). live + num b) (sym (still_some (freed (is_under holder)) (get_or slots i None)));
+      apart = λ h. apart_less slots v i h lt (s.apart h) (ready_not_held h v f);
+    }))
+
+pub remove_shows : (slots now : List (Option Entry)) (bit : ℕ → ℕ) (ready live live' i : ℕ) (holder : Holder) → Shows slots bit ready live
+    → has (is_held_as holder) (get_or slots i None) ≡ true → now ≡ set slots i None → live' + 1 ≡ live → Shows now bit ready live'
+remove_shows slots now bit ready live live' i holder s t e l =
+    let lt : i < length slots = within (is_held_as holder) slots i t in
+    let no : has is_ready (get_or slots i None) ≡ false = held_not_ready holder (get_or slots i None) t in
+    subst (λ (xs : List (Option Entry)). Shows xs bit ready live') (sym e) (shows_set slots None bit bit ready ready live live' i s (record {
+      there = lt;
+      bits = record { there = s.marked i ∙ ap num no; others = λ k ne. refl };
+      ready_count = (let a = ap num no in omega arith);
+      live_count = (let a = ap num (some_of (is_held_as holder) (get_or slots i None) t) in omega arith);
+      apart = λ h. apart_less slots None i h lt (s.apart h) refl;
+    }))
+
+pub push_shows : (slots now : List (Option Entry)) (bit bit' : ℕ → ℕ) (ready ready' live live' : ℕ) (m : Message) → Shows slots bit ready live
+    → Differs bit bit' (length slots) 1 → now ≡ slots ++ Some (record { message = m; mark = Ready }) ∷ [] → ready' ≡ ready + 1 → live' ≡ live + 1 → Shows now bit' ready' live'
+push_shows slots now bit bit' ready ready' live live' m s d e r l =
+    let v : Entry = record { message = m; mark = Ready } in
+    subst (λ (xs : List (Option Entry)). Shows xs bit' ready' live') (sym e) (record {
+      marked = marked_push slots (Some v) bit bit' s.marked d;
+      ready_count = (let a = s.ready_count in let b = counted_end is_ready slots v in omega arith);
+      live_count = (let a = s.live_count in let b = length_end slots v in omega arith);
+      apart = λ h. (let a = s.apart h in let b = counted_end (is_held_as h) slots v in omega arith);
+    })
+  where
+    counted_end : (p : Entry → Bool) (xs : List (Option Entry)) (x : Entry) → tally p (somes (xs ++ Some x ∷ [])) ≡ tally p (somes xs) + num (p x)
+    counted_end p [] x = omega arith
+    counted_end p (None ∷ xs) x = counted_end p xs x
+    counted_end p (Some y ∷ xs) x = let r = counted_end p xs x in omega arith
+
+    length_end : (xs : List (Option Entry)) (x : Entry) → length (somes (xs ++ Some x ∷ [])) ≡ length (somes xs) + 1
+    length_end [] x = refl
+    length_end (None ∷ xs) x = length_end xs x
+    length_end (Some y ∷ xs) x = let r = length_end xs x in omega arith
+
+-- the counts have room for a step
+pub ready_least : (slots : List (Option Entry)) (bit : ℕ → ℕ) (ready live i : ℕ) → Shows slots bit ready live → IsNext bit 0 i → (1 ≤ ready) × (1 ≤ live)
+ready_least slots bit ready live i s n =
+    let p : FirstAt is_ready slots i = first_by_marks slots bit i s.marked n in
+    let c = counted is_ready slots i p.there in
+    let m = tally-most is_ready (somes slots) in
+    let a = s.ready_count in let b = s.live_count in
+    (omega arith, omega arith)
+
+pub held_least : (slots : List (Option Entry)) (bit : ℕ → ℕ) (ready live i : ℕ) (holder : Holder) → Shows slots bit ready live
+    → has (is_held_as holder) (get_or slots i None) ≡ true → (1 ≤ live) × (ready < length slots)
+held_least slots bit ready live i holder s t =
+    let c = counted (is_held_as holder) slots i t in
+    let m = tally-most (is_held_as holder) (somes slots) in
+    let f = count-fewer is_ready slots i (within (is_held_as holder) slots i t) (held_not_ready holder (get_or slots i None) t) in
+    let a = s.ready_count in let b = s.live_count in
+    (omega arith, omega arith)
+
+-- what is held under a tag is the only such entry
+pub only_held : (slots : List (Option Entry)) (bit : ℕ → ℕ) (ready live i : ℕ) (holder : Holder) → Shows slots bit ready live
+    → has (is_held_as holder) (get_or slots i None) ≡ true → OnlyAt (is_held_as holder) slots i
+only_held slots bit ready live i holder s t = record { there = t; only = s.apart holder }
+
+-- the counts are at most what there is
+pub counts_most : (slots : List (Option Entry)) (bit : ℕ → ℕ) (ready live : ℕ) → Shows slots bit ready live → (ready ≤ live) × (live ≤ length slots)
+counts_most slots bit ready live s =
+    let m = tally-most is_ready (somes slots) in let n = somes-most slots in
+    let a = s.ready_count in let b = s.live_count in
+    (omega arith, omega arith)
+
+pub same_places : (slots slots' capacity capacity' size size' places : ℕ) → HasPlaces slots capacity size places → slots' ≡ slots → capacity' ≡ capacity → size' ≡ size → HasPlaces slots' capacity' size' places
+same_places slots slots' capacity capacity' size size' places h a b c = record {
+  used = (let u = h.used in omega arith);
+  kept = (let k = h.kept in omega arith);
+  marked = (let m = h.marked in omega arith);
+}
+
+-- one more of the places is used
+pub more_places : (slots slots' capacity capacity' size size' places : ℕ) → HasPlaces slots capacity size places → 0 < places - slots → slots' ≡ slots + 1 → capacity' ≡ capacity → size' ≡ size
+    → HasPlaces slots' capacity' size' places
+more_places slots slots' capacity capacity' size size' places h r a b c = record {
+  used = (let u = h.used in omega arith);
+  kept = (let k = h.kept in omega arith);
+  marked = (let m = h.marked in omega arith);
+}
+
+-- ---- slots and what stands in them
+
+pub contents-length : (slots : List Slot) → length (contents slots) ≡ length slots
+contents-length [] = refl
+contents-length (s ∷ ss) = ap suc (contents-length ss)
+
+pub contents-past : (p : Entry → Bool) (slots : List Slot) (k : ℕ) → length slots ≤ k → has p (get_or (contents slots) k None) ≡ false
+contents-past p [] k h = refl
+contents-past p (s ∷ ss) zero h = absurd (omega arith)
+contents-past p (s ∷ ss) (suc k) h = contents-past p ss k (omega arith)
+
+pub contents-at : (slots : List Slot) (i : ℕ) (d : Slot) → i < length slots → (get_or slots i d).entry ≡ get_or (contents slots) i None
+contents-at [] i d lt = absurd (omega arith)
+contents-at (s ∷ ss) zero d lt = refl
+contents-at (s ∷ ss) (suc i) d lt = contents-at ss i d (omega arith)
+
+-- a slot is written, where this one stood
+pub contents-written : (slots : List Slot) (i : ℕ) (d s : Slot) (o : Option Entry) (f : Option Entry → Option Entry) → i < length slots → d ≡ get_or slots i d → s.entry ≡ f d.entry
+    → contents (set slots i s) ≡ set (contents slots) i (f (get_or (contents slots) i None))
+contents-written slots i d s o f lt e w =
+    map-set (λ (x : Slot). x.entry) slots i s
+    ∙ ap (λ (v : Option Entry). set (contents slots) i v) (w ∙ ap f (ap (λ (x : Slot). x.entry) e ∙ contents-at slots i d lt))
+
+somes-cons : {X : Type 0} (o : Option X) (xs ys : List (Option X)) → somes xs ≡ somes ys → somes (o ∷ xs) ≡ somes (o ∷ ys)
+somes-cons None xs ys e = e
+somes-cons (Some x) xs ys e = ap (λ (zs : List _). x ∷ zs) e
+
+somes-skip : {X : Type 0} (o : Option X) (xs ys : List (Option X)) → is_some o ≡ false → somes xs ≡ somes ys → somes xs ≡ somes (o ∷ ys)
+somes-skip None xs ys h e = e
+somes-skip (Some x) xs ys h e = absurd (false≢true (sym h))
+
+-- the empty slots are taken out
+pub somes-dropped : (slots : List Slot) → somes (contents (filter (λ (s : Slot). is_some s.entry) slots)) ≡ somes (contents slots)
+somes-dropped [] = refl
+somes-dropped (s ∷ ss) = go (is_some s.entry) refl (somes-dropped ss)
+  where
+    kept : List Slot
+    kept = filter (λ (s : Slot). is_some s.entry) ss
+
+    go : (b : Bool) → is_some s.entry ≡ b → somes (contents kept) ≡ somes (contents ss) → somes (contents (cond b (s ∷ kept) kept)) ≡ somes (contents (s ∷ ss))
+    go true h e = somes-cons s.entry (contents kept) (contents ss) e
+    go false h e = somes-skip s.entry (contents kept) (contents ss) h e
+
+-- ---- bits set one after another
+
+-- The bits below a place are as their slots are, and those from `places` on are 0.
+pub record MarkedBelow (slots : List (Option Entry)) (bit : ℕ → ℕ) (place places : ℕ) : Type 0 where
+  pub below : (k : ℕ) → k < place → bit k ≡ num (has is_ready (get_or slots k None))
+  pub above : (k : ℕ) → places ≤ k → bit k ≡ 0
+
+pub marked_more : (slots : List (Option Entry)) (bit bit' : ℕ → ℕ) (place places : ℕ) → place < places → MarkedBelow slots bit place places
+    → Differs bit bit' place (num (has is_ready (get_or slots place None))) → MarkedBelow slots bit' (place + 1) places
+marked_more slots bit bit' place places lt m d = record {
+  below = λ k l. elim (eqb_tells k place) [
+    | inl p ↦ ap bit' p.1 ∙ d.there ∙ ap (λ (j : ℕ). num (has is_ready (get_or slots j None))) (sym p.1)
+    | inr p ↦ let ne = p.1 in d.others k p.1 ∙ m.below k (omega arith)
+  ];
+  above = λ k ge. d.others k (λ e. absurd (omega arith)) ∙ m.above k ge;
+}
+
+pub marked_done : (slots : List Slot) (bit : ℕ → ℕ) (place places : ℕ) → places ≤ place → length slots ≤ places → MarkedBelow (contents slots) bit place places → AreMarked (contents slots) bit
+marked_done slots bit place places le len m k = elim (leb_tells places k) [
+  | inl p ↦ m.above k p.1 ∙ sym (ap num (contents-past is_ready slots k (let h = p.1 in omega arith)))
+  | inr p ↦ let h = p.1 in m.below k (omega arith)
+]
+
+-- ---- the ready ones taken out one by one
+
+pub first_filtered : (es : List Entry) (e : Entry) → find is_ready es ≡ Some e → filter is_ready es ≡ e ∷ filter is_ready (without_first is_ready es)
+first_filtered [] e h = absurd (cc)
+first_filtered (x ∷ xs) e h = go (is_ready x) refl (first_filtered xs e) h
+  where
+    go : (b : Bool) → is_ready x ≡ b → (find is_ready xs ≡ Some e → filter is_ready xs ≡ e ∷ filter is_ready (without_first is_ready xs)) → cond b (Some x) (find is_ready xs) ≡ Some e
+        → cond b (x ∷ filter is_ready xs) (filter is_ready xs) ≡ e ∷ filter is_ready (cond b xs (x ∷ without_first is_ready xs))
+    go true i r h = ap (λ (y : Entry). y ∷ filter is_ready xs) (some_is x e h)
+      where
+        some_is : (x e : Entry) → Some x ≡ Some e → x ≡ e
+        some_is x e h = cc
+    go false i r h = rw i (r h)
+
+pub rest_filtered : (es : List Entry) → filter (λ e. not (is_ready e)) (without_first is_ready es) ≡ filter (λ e. not (is_ready e)) es
+rest_filtered [] = refl
+rest_filtered (x ∷ xs) = go (is_ready x) refl (rest_filtered xs)
+  where
+    go : (b : Bool) → is_ready x ≡ b → filter (λ e. not (is_ready e)) (without_first is_ready xs) ≡ filter (λ e. not (is_ready e)) xs
+        → filter (λ e. not (is_ready e)) (cond b xs (x ∷ without_first is_ready xs)) ≡ cond (not b) (x ∷ filter (λ e. not (is_ready e)) xs) (filter (λ e. not (is_ready e)) xs)
+    go true i r = refl
+    go false i r = rw i (ap (λ (ys : List Entry). x ∷ ys) r)
+
+pub none_filtered : (es : List Entry) → find is_ready es ≡ None → filter is_ready es ≡ []
+none_filtered [] h = refl
+none_filtered (x ∷ xs) h = go (is_ready x) refl (none_filtered xs) h
+  where
+    go : (b : Bool) → is_ready x ≡ b → (find is_ready xs ≡ None → filter is_ready xs ≡ []) → cond b (Some x) (find is_ready xs) ≡ None → cond b (x ∷ filter is_ready xs) (filter is_ready xs) ≡ []
+    go true i r h = absurd (cc)
+    go false i r h = r h
+
+pub purged_more : (numbers : List ℕ) (es : List Entry) (e : Entry) → Some e ≡ find is_ready es
+    → (numbers ++ number_of e ∷ []) ++ map number_of (filter is_ready (without_first is_ready es)) ≡ numbers ++ map number_of (filter is_ready es)
+purged_more numbers es e h = append_assoc numbers (number_of e ∷ []) _ ∙ ap (λ (ys : List Entry). numbers ++ map number_of ys) (sym (first_filtered es e (sym h)))
+
+pub ready_less : (es : List Entry) (e : Entry) → Some e ≡ find is_ready es → ready_count es ≡ ready_count (without_first is_ready es) + 1
+ready_less es e h = let l = ap length (first_filtered es e (sym h)) in omega arith
+
+pub none_left : (es : List Entry) → find is_ready es ≡ None → without_first is_ready es ≡ filter (λ e. not (is_ready e)) es
+none_left [] h = refl
+none_left (x ∷ xs) h = go (is_ready x) refl (none_left xs) h
+  where
+    go : (b : Bool) → is_ready x ≡ b → (find is_ready xs ≡ None → without_first is_ready xs ≡ filter (λ e. not (is_ready e)) xs) → cond b (Some x) (find is_ready xs) ≡ None
+        → cond b xs (x ∷ without_first is_ready xs) ≡ cond (not b) (x ∷ filter (λ e. not (is_ready e)) xs) (filter (λ e. not (is_ready e)) xs)
+    go true i r h = absurd (cc)
+    go false i r h = ap (λ (ys : List Entry). x ∷ ys) (r h)

@@ -1,0 +1,40 @@
+use Rattle.std.proofs.Common.{◌≡◌, ℕ, ◌∙◌, ◌+◌, ◌-◌, ◌≤◌, ◌<◌, ◌∷◌, ◌++◌, [], sym, ap, refl, subst, arith, rules, List, length, Bool, true, false, not, filter, Option, Some, None, find, is_some, get_or, vec_len}
+use Rattle.std.specs.Prelude.{option_map}
+use Rattle.model.specs.Broker.{is_ready}
+use Rattle.model.specs.Step.{freed}
+use Rattle.model.specs.declared.messages.Entry.{Entry}
+use Rattle.model.specs.declared.messages.Mark.TheVariants.{Ready}
+use Rattle.queue.specs.Line.{Line, ready_count, requeued, is_under, is_held_as, held_as, change_first, without_first}
+use Rattle.queue.specs.Slots.{contents, somes, has, changed}
+use Rattle.queue.specs.declared.slots.Slot.{Slot}
+use Rattle.marks.specs.Places.{Differs, bit_of}
+use Rattle.queue.proofs.Places.{somes-append, tally-filter, change_at, remove_at, find_at, some_at, none_found, none_changed, none_removed, none_mapped, none_left_out, only_first, only_mapped, only_left_out}
+use Rattle.queue.proofs.Slotted.{more_places, first_by_marks, none_by_marks, hold_shows, take_shows, release_shows, remove_shows, push_shows, ready_least, held_least, only_held, counts_most, same_places, contents-length, freed_same}
+use Rattle.queue.proofs.indexed.Indexed.push.Goals as goal
+
+pub overflow_add-self : goal.overflow_add-self
+overflow_add-self c =
+    let a = counts_most _ _ _ _ c.self.invariant.0 in let n = contents-length c.self.inside.slots.items in
+    let l : vec_len c.self.inside.slots ≡ length c.self.inside.slots.items = search rules in
+    let b : vec_len c.self.inside.slots < vec_len c.append.new.slots = search arith in
+    let t : vec_len c.append.new.slots ≡ length c.append.new.slots.items = search rules in
+    omega (arith, a.0, a.1)
+
+pub overflow_add-self-2 : goal.overflow_add-self-2
+overflow_add-self-2 c =
+    let a = counts_most _ _ _ _ c.self.invariant.0 in let n = contents-length c.self.inside.slots.items in
+    let l : vec_len c.self.inside.slots ≡ length c.self.inside.slots.items = search rules in
+    let b : vec_len c.self.inside.slots < vec_len c.append.new.slots = search arith in
+    omega (arith, a.0, a.1)
+
+pub invariant_of-self : goal.invariant_of-self
+invariant_of-self c =
+    let l : vec_len c.self.inside.slots ≡ length c.self.inside.slots.items = search rules in
+    let n : c.len.result ≡ length (contents c.self.inside.slots.items) = c.len.ensures ∙ l ∙ sym (contents-length c.self.inside.slots.items) in (
+      push_shows _ _ _ _ _ _ _ _ c.args.message c.self.invariant.0 (subst (λ (k : ℕ). Differs (bit_of c.self.inside.ready) (bit_of c.set.new.self) k 1) n c.set.ensures.set) c.append.ensures.contents refl refl,
+      more_places _ _ _ _ _ _ _ c.self.invariant.1 (subst (λ (l : Line). 0 < l.room) (sym c.self.view_is) c.requires) c.append.ensures.len c.append.ensures.capacity c.set.ensures.size,
+    )
+
+pub returns-clause-entries : goal.returns-clause-entries
+returns-clause-entries c = subst (λ (l : Line). somes (contents c.append.new.slots.items) ≡ l.entries ++ record { message = c.args.message; mark = Ready } ∷ []) c.self.view_is
+    (ap somes c.append.ensures.contents ∙ somes-append (contents c.self.inside.slots.items) (Some (record { message = c.args.message; mark = Ready }) ∷ []))

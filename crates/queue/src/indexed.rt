@@ -1,0 +1,261 @@
+//! A queue in slots by arrival, of which the ready ones are marked.
+
+ghost use Rattle.std.specs.Prelude.{◌≡◌, ◌+◌, ◌≤◌, ◌++◌, map, filter, not, vec_len, vec_capacity};
+ghost use Rattle.model.specs.Broker.{is_ready};
+ghost use Rattle.queue.specs.Line.{number_of, ready_count};
+
+use crate::slots::{
+    Marks, Slot, append, close_gaps, entry_at, free_at, hold_at, place_held, take_at,
+};
+use marks::{Flat, Over, Places};
+use model::{Entry, Holder, Mark, Message};
+use std::alloc::{AllocError, Global};
+use std::marker::Model;
+
+/// Messages in the order in which they came, ready or held.
+///
+/// Each stands in a slot, which stays empty once it is gone; `reserve` closes the gaps. A mark for each slot says whether
+/// it is ready, so that the first ready message is found without a scan.
+#[derive(Drop)]
+pub struct Indexed {
+    slots: Vec<Slot>,
+    ready: Marks,
+    /// How many slots there is room for, with a mark each.
+    places: usize,
+    ready_count: usize,
+    live: usize,
+    /// How many messages came so far.
+    arrived: u64,
+}
+
+impl Model for Indexed {
+    ghost use Rattle.std.specs.Prelude.{◌-◌, ◌*◌, length, vec_len, vec_capacity};
+    ghost use Rattle.marks.specs.Places.{bit_of};
+    ghost use Rattle.queue.specs.Line.{Line};
+    ghost use Rattle.queue.specs.Slots.{contents, somes, Shows, HasPlaces};
+
+    ghost Value = { Line };
+
+    ghost view = { λ q. record { entries = somes (contents q.slots.items); room = q.places - vec_len q.slots } };
+
+    ghost invariant = { λ q. Shows (contents q.slots.items) (bit_of q.ready) q.ready_count q.live × HasPlaces (vec_len q.slots) (vec_capacity q.slots) (length q.ready * 64) q.places };
+}
+
+impl Indexed {
+    ghost use Rattle.std.specs.Prelude.{
+      ◌≡◌,
+      ◌+◌,
+      ◌<◌,
+      ◌≤◌,
+      ◌∷◌,
+      ◌++◌,
+      [],
+      OnOk,
+      OnErr,
+      Some,
+      None,
+      length,
+      find,
+      filter,
+      map,
+      not,
+      is_some,
+      option_map,
+      vec_len,
+      vec_capacity,
+    };
+    ghost use Rattle.model.specs.Broker.{is_at, is_ready};
+    ghost use Rattle.model.specs.declared.messages.Mark.TheVariants.{Ready};
+    ghost use Rattle.queue.specs.Line.{ready_count, requeued, is_under, is_held_as, held_as, change_first, without_first, number_of};
+
+    /// A queue with no message. It takes no memory.
+    pub fn new(alloc: Global) -> Indexed
+        ensures { result.entries ≡ [] }
+    {
+        Indexed {
+            slots: Vec::new(alloc),
+            ready: <Over<Over<Flat>>>::empty(alloc),
+            places: 0,
+            ready_count: 0,
+            live: 0,
+            arrived: 0,
+        }
+    }
+
+    /// Makes room for so many messages more. The entries stay as they are, also where memory is wanting.
+    pub fn reserve(&mut self, more: usize) -> Result<(), AllocError>
+        ensures entries { self.new.entries ≡ self.old.entries }
+        ensures kept { self.old.room ≤ self.new.room }
+        ensures room { OnOk result (more ≤ self.new.room) }
+        ensures full { OnErr result (self.old.room < more) }
+    {
+        if more <= self.places - self.slots.len() {
+            return Ok(());
+        }
+        close_gaps(&mut self.slots, &mut self.ready, self.live);
+        self.slots.reserve(more)?;
+        let places = self.slots.capacity();
+        self.ready.grow(places)?;
+        self.places = places;
+        Ok(())
+    }
+
+    /// The message comes to the end of the queue and is ready. There is room for it.
+    pub fn push(&mut self, message: Message)
+        requires { 0 < self.old.room }
+        ensures entries { self.new.entries ≡ self.old.entries ++ record { message = message; mark = Ready } ∷ [] }
+        ensures room { self.new.room + 1 ≡ self.old.room }
+    {
+        self.ready.set(self.slots.len());
+        append(
+            &mut self.slots,
+            self.arrived,
+            Entry {
+                message,
+                mark: Mark::Ready,
+            },
+        );
+        self.ready_count += 1;
+        self.live += 1;
+        self.arrived = self.arrived.wrapping_add(1);
+    }
+
+    /// How many messages the queue has, ready or held.
+    pub fn len(&self) -> usize
+        ensures { result ≡ length self.now.entries }
+    {
+        self.live
+    }
+
+    /// How many messages can be given out.
+    pub fn ready(&self) -> usize
+        ensures { result ≡ ready_count self.now.entries }
+    {
+        self.ready_count
+    }
+
+    /// Whether the queue, under this limit of ready messages, refuses a message with a body of `size` bytes: so it does
+    /// where it has a limit and at least as many ready messages. Source: RabbitMQ, "Queue Length Limit", reject-publish.
+    pub fn is_full(&self, limit: Option<u32>, size: usize) -> bool
+        ensures { result ≡ is_at limit (ready_count self.now.entries) }
+    {
+        let _ = size;
+        match limit {
+            None => false,
+            Some(limit) => limit as usize <= self.ready(),
+        }
+    }
+
+    /// The first message that can be given out.
+    pub fn first_ready(&self) -> Option<&Entry>
+        ensures { option_map (λ e. e.now) result ≡ find is_ready self.now.entries }
+    {
+        match self.ready.first() {
+            Some(place) => entry_at(&self.slots, place),
+            None => None,
+        }
+    }
+
+    /// Gives the first ready message out, if there is one: it is held from now on. Tells the number of its arrival, by which
+    /// it is found again at once. Nothing is held under this tag yet.
+    pub fn hold(&mut self, holder: Holder) -> Option<u64>
+        requires { find (is_held_as holder) self.old.entries ≡ None }
+        ensures told { is_some result ≡ is_some (find is_ready self.old.entries) }
+        ensures entries { self.new.entries ≡ change_first is_ready (held_as holder) self.old.entries }
+        ensures room { self.new.room ≡ self.old.room }
+    {
+        match self.ready.first() {
+            None => None,
+            Some(place) => {
+                self.ready.clear(place);
+                self.ready_count -= 1;
+                Some(hold_at(&mut self.slots, place, holder))
+            }
+        }
+    }
+
+    /// Takes the first ready message out, if there is one.
+    pub fn take_first(&mut self) -> Option<Entry>
+        ensures taken { result ≡ find is_ready self.old.entries }
+        ensures entries { self.new.entries ≡ without_first is_ready self.old.entries }
+        ensures room { self.new.room ≡ self.old.room }
+    {
+        match self.ready.first() {
+            None => None,
+            Some(place) => {
+                self.ready.clear(place);
+                self.ready_count -= 1;
+                self.live -= 1;
+                take_at(&mut self.slots, place)
+            }
+        }
+    }
+
+    /// The message that is held under this tag. It is found at once by the number of its arrival, as `hold` told it.
+    pub fn held(&self, holder: &Holder, arrival: u64) -> Option<&Entry>
+        ensures { option_map (λ e. e.now) result ≡ find (is_held_as holder.now) self.now.entries }
+    {
+        match place_held(&self.slots, holder, arrival) {
+            Some(place) => entry_at(&self.slots, place),
+            None => None,
+        }
+    }
+
+    /// The message that is held under this tag is ready again, in its place and marked redelivered. Tells whether there is
+    /// one. It takes no memory.
+    pub fn release(&mut self, holder: &Holder, arrival: u64) -> bool
+        ensures told { result ≡ is_some (find (is_held_as holder.now) self.old.entries) }
+        ensures entries { self.new.entries ≡ requeued (is_under holder.now) self.old.entries }
+        ensures room { self.new.room ≡ self.old.room }
+    {
+        match place_held(&self.slots, holder, arrival) {
+            None => false,
+            Some(place) => {
+                free_at(&mut self.slots, place, holder);
+                self.ready.set(place);
+                self.ready_count += 1;
+                true
+            }
+        }
+    }
+
+    /// Takes the message out that is held under this tag, if there is one.
+    pub fn remove(&mut self, holder: &Holder, arrival: u64) -> Option<Entry>
+        ensures taken { result ≡ find (is_held_as holder.now) self.old.entries }
+        ensures entries { self.new.entries ≡ filter (λ e. not (is_held_as holder.now e)) self.old.entries }
+        ensures room { self.new.room ≡ self.old.room }
+    {
+        match place_held(&self.slots, holder, arrival) {
+            None => None,
+            Some(place) => {
+                self.live -= 1;
+                take_at(&mut self.slots, place)
+            }
+        }
+    }
+
+    /// Takes the ready messages out, and appends their publish numbers in the order of arrival. It takes time for each of
+    /// them, and none for what is held. There is room for the numbers.
+    pub fn purge(&mut self, numbers: &mut Vec<u64>)
+        requires { vec_len numbers.old + ready_count self.old.entries ≤ vec_capacity numbers.old }
+        ensures entries { self.new.entries ≡ filter (λ e. not (is_ready e)) self.old.entries }
+        ensures numbers { numbers.new.items ≡ numbers.old.items ++ map number_of (filter is_ready self.old.entries) }
+        ensures capacity { vec_capacity numbers.new ≡ vec_capacity numbers.old }
+        ensures room { self.new.room ≡ self.old.room }
+    {
+        purge_in(self, numbers);
+    }
+}
+
+/// Takes the ready messages out, one after another.
+fn purge_in(queue: &mut Indexed, numbers: &mut Vec<u64>)
+    requires { vec_len numbers.old + ready_count queue.old.entries ≤ vec_capacity numbers.old }
+    ensures entries { queue.new.entries ≡ filter (λ e. not (is_ready e)) queue.old.entries }
+    ensures numbers { numbers.new.items ≡ numbers.old.items ++ map number_of (filter is_ready queue.old.entries) }
+    ensures capacity { vec_capacity numbers.new ≡ vec_capacity numbers.old }
+    ensures room { queue.new.room ≡ queue.old.room }
+{
+    while let Some(entry) = queue.take_first() {
+        numbers.push_reserved(entry.message.number);
+    }
+}
