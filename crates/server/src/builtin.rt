@@ -73,6 +73,7 @@ pub fn unguaranteed(alloc: Global, topology: Topology) -> Result<Checked, AllocE
 {
     match admit(alloc, topology, Vec::new(alloc), &[]) {
         Ok(checked) => Ok(checked),
-        Err(_) => unreachable!(),
+        // No guarantee is handed in, so that none is at fault.
+        Err(_) => Err(AllocError),
     }
 }
