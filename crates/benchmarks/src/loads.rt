@@ -13,6 +13,11 @@ pub enum Shape {
     Exchanges(u32),
     /// A direct exchange bound to one queue among so many.
     Queues(u32),
+    /// An exchange bound to the queue `q`: a fanout one where the number is 0; else a topic one, by `#` and by each pattern of at
+    /// most so many words, of which each is `a` or `*`.
+    Worded(u32),
+    /// 256 topic exchanges, each bound to a queue of its own by 16 patterns, of which the first is `k.#`.
+    Starred,
     /// 256 topic exchanges, so many of which lead on to the next, 256 queues, and as many bindings as there may be where
     /// all lead on.
     Linked(u32),

@@ -1,7 +1,8 @@
-//! Benchmarks: what a confirmed publish costs the engine, and how long routes and large definitions files take. What is
-//! printed is to be read; nothing tests it.
+//! Benchmarks: what a confirmed publish costs the engine, and how long routes, large definitions files and certificates
+//! take. What is printed is to be read; nothing tests it.
 #![tactic(auto)]
 
+mod certificates;
 mod clients;
 mod definitions_files;
 mod files;
@@ -15,13 +16,14 @@ use std::{env, io};
 
 /// How the program is called.
 const USAGE: &str =
-    "benchmarks publishes|routes|files|all: prints what publishes, routes and large definitions files cost";
+    "benchmarks publishes [NAME]|routes|files|certificates|all: prints what publishes, routes, large definitions files and certificates cost";
 
 /// Measures all.
 fn measure_all(rt: &HostRuntime) -> io::Result<()> {
     publishes::measure_all(rt)?;
     routes::measure_all(rt)?;
-    definitions_files::measure_all(rt)
+    definitions_files::measure_all(rt)?;
+    certificates::measure_all(rt)
 }
 
 /// Measures what a word names.
@@ -30,14 +32,20 @@ fn measure(rt: &HostRuntime, word: &str) -> io::Result<()> {
         "publishes" => publishes::measure_all(rt),
         "routes" => routes::measure_all(rt),
         "files" => definitions_files::measure_all(rt),
+        "certificates" => certificates::measure_all(rt),
         "all" => measure_all(rt),
         _ => println!(rt; "{USAGE}"),
     }
 }
 
 fn main(rt: HostRuntime) -> io::Result<()> {
-    match env::args(&rt)?.nth(1) {
-        Some(word) => measure(&rt, word.as_str()),
-        None => println!(&rt; "{USAGE}"),
+    let mut words = env::args(&rt)?.skip(1);
+    match (words.next(), words.next()) {
+        (Some(word), Some(name)) if word == "publishes" => publishes::measure_one(
+            &rt,
+            name.as_str(),
+        ),
+        (Some(word), None) => measure(&rt, word.as_str()),
+        _ => println!(&rt; "{USAGE}"),
     }
 }

@@ -152,6 +152,18 @@ fn measure(rt: &HostRuntime, load: &Load) -> io::Result<()> {
     }
 }
 
+/// Runs the load of this name alone, so that no other has grown the memory.
+pub fn measure_one(rt: &HostRuntime, name: &str) -> io::Result<()> {
+    for place in 0..u32::MAX {
+        match load_at(place) {
+            Some(load) if load.name == name => return measure(rt, &load),
+            Some(_) => {}
+            None => break,
+        }
+    }
+    println!(rt; "no load has this name")
+}
+
 /// Runs all loads.
 pub fn measure_all(rt: &HostRuntime) -> io::Result<()> {
     for place in 0..u32::MAX {

@@ -171,6 +171,68 @@ fn linked(alloc: Global, plan: &mut Plan, links: u32) -> Result<(), AllocError> 
     Ok(())
 }
 
+/// A pattern of words `a` and `*`: the binary digits of a number behind its first.
+fn worded_key(alloc: Global, number: u32) -> Result<String, AllocError> {
+    let mut key = String::new(alloc);
+    let mut rest = number;
+    for _ in 0..32 {
+        if rest <= 1 {
+            break;
+        }
+        if !key.is_empty() {
+            key.push_str(".")?;
+        }
+        key.push_str(if rest % 2 == 1 { "a" } else { "*" })?;
+        rest /= 2;
+    }
+    Ok(key)
+}
+
+/// One exchange and one queue, bound by all patterns of at most so many words.
+fn worded(alloc: Global, plan: &mut Plan, words: u32) -> Result<(), AllocError> {
+    plan.queue(alloc, "q")?;
+    if words == 0 {
+        plan.exchange(alloc, "x", ExchangeKind::Fanout)?;
+        return plan.bind(alloc, "x", "q", "");
+    }
+    plan.exchange(alloc, "x", ExchangeKind::Topic)?;
+    plan.bind(alloc, "x", "q", "#")?;
+    for number in 2..2u32.saturating_pow(words.saturating_add(1)) {
+        let key = worded_key(alloc, number)?;
+        plan.bind(alloc, "x", "q", key.as_str())?;
+    }
+    Ok(())
+}
+
+/// One of the 16 patterns by which an exchange is bound to its queue.
+fn starred_key(alloc: Global, place: u32) -> Result<String, AllocError> {
+    if place == 0 {
+        String::from_str(alloc, "k.#")
+    } else {
+        format!(in alloc; "k.{place}.*")
+    }
+}
+
+/// An exchange and its queue, bound by 16 patterns.
+fn star(alloc: Global, plan: &mut Plan, number: u32) -> Result<(), AllocError> {
+    numbered(alloc, plan, number)?;
+    let exchange = format!(in alloc; "x{number}")?;
+    let queue = format!(in alloc; "q{number}")?;
+    for place in 0..16 {
+        let key = starred_key(alloc, place)?;
+        plan.bind(alloc, exchange.as_str(), queue.as_str(), key.as_str())?;
+    }
+    Ok(())
+}
+
+/// 256 exchanges, each bound to its queue by 16 patterns.
+fn starred(alloc: Global, plan: &mut Plan) -> Result<(), AllocError> {
+    for number in 0..256 {
+        star(alloc, plan, number)?;
+    }
+    Ok(())
+}
+
 fn put_shape(alloc: Global, plan: &mut Plan, shape: Shape) -> Result<(), AllocError> {
     match shape {
         Shape::Direct => direct(alloc, plan),
@@ -178,6 +240,8 @@ fn put_shape(alloc: Global, plan: &mut Plan, shape: Shape) -> Result<(), AllocEr
         Shape::Topic(bindings) => topic(alloc, plan, bindings),
         Shape::Exchanges(count) => among_exchanges(alloc, plan, count),
         Shape::Queues(count) => among_queues(alloc, plan, count),
+        Shape::Worded(words) => worded(alloc, plan, words),
+        Shape::Starred => starred(alloc, plan),
         Shape::Linked(links) => linked(alloc, plan, links),
     }
 }

@@ -9,8 +9,7 @@ use Rattle.certificate_laws.proofs.Certificates.{certificate_sound}
 use Rattle.certificate_laws.proofs.Trackings.{contained}
 use Rattle.certificate_check.specs.Checks.{Checks}
 use Rattle.certificate_check.specs.declared.faults.CertFault.{CertFault}
-use Rattle.certificate_check.specs.declared.faults.CertFault.TheVariants.{Start, Open, Missed, Form, Memory}
-use Rattle.certificate.specs.Certified.{IsCertified, IsUncertified, ChecksAt, AreCertifiedBelow, AreCertified, IsRefused}
+use Rattle.certificate.specs.Certified.{IsCertified, IsUncertified, ChecksAt, AreCertifiedBelow, AreCertified, FailsFirst}
 
 place_in : (gs : List Guarantee) (g : Guarantee) → IsIn g gs → (n : ℕ) × (slice_get gs n ≡ Some g)
 place_in [] g i = absurd i
@@ -35,11 +34,7 @@ none_there (x ∷ xs) (suc i) h = none_there xs i (let k : suc (length xs) ≤ s
 
 pub checked_at : (t : Topology) (g : Guarantee) (cs : List Certificate) (place : ℕ) (c : Certificate) (res : Result Unit CertFault) → place < length cs → c ≡ get_or cs place c → Checks t g c res → ChecksAt t g cs place res
 checked_at t g cs place c (Ok u) l e k = record { certificate = c; is = found_there cs place c l e; accepted = k }
-checked_at t g cs place c (Err Start) l e k = record { certificate = c; is = found_there cs place c l e; fault = k }
-checked_at t g cs place c (Err (Open at word)) l e k = record { certificate = c; is = found_there cs place c l e; fault = k }
-checked_at t g cs place c (Err (Missed at)) l e k = record { certificate = c; is = found_there cs place c l e; fault = k }
-checked_at t g cs place c (Err Form) l e k = inr (record { certificate = c; is = found_there cs place c l e; fault = k })
-checked_at t g cs place c (Err Memory) l e k = tt
+checked_at t g cs place c (Err f) l e k = inr (record { certificate = c; is = found_there cs place c l e; fault = k })
 
 same_there : (gs : List Guarantee) (i : ℕ) (g h : Guarantee) → h ≡ get_or gs i h → slice_get gs i ≡ Some g → h ≡ g
 same_there [] i g h e s = let n : None ≡ Some g = s in cc
@@ -60,12 +55,8 @@ one_certified t gs cs place h e b c i g l s = elim (below_or i place) [
       subst (λ (n : ℕ). IsCertified t g cs n) (sym same) (subst (λ (z : Guarantee). IsCertified t z cs place) is c)
 ]
 
-pub refused_at : (t : Topology) (gs : List Guarantee) (cs : List Certificate) (place : ℕ) (h : Guarantee) (f : CertFault) → place < length gs → h ≡ get_or gs place h → AreCertifiedBelow t gs cs place → IsUncertified t h cs place f → IsRefused t gs cs place f
-refused_at t gs cs place h Start l e b u = record { before = b; fails = inl (record { guarantee = h; is = found_there gs place h l e; fault = u }) }
-refused_at t gs cs place h (Open at word) l e b u = record { before = b; fails = inl (record { guarantee = h; is = found_there gs place h l e; fault = u }) }
-refused_at t gs cs place h (Missed at) l e b u = record { before = b; fails = inl (record { guarantee = h; is = found_there gs place h l e; fault = u }) }
-refused_at t gs cs place h Form l e b u = record { before = b; fails = inl (record { guarantee = h; is = found_there gs place h l e; fault = u }) }
-refused_at t gs cs place h Memory l e b u = tt
+pub refused_at : (t : Topology) (gs : List Guarantee) (cs : List Certificate) (place : ℕ) (h : Guarantee) (f : CertFault) → place < length gs → h ≡ get_or gs place h → AreCertifiedBelow t gs cs place → IsUncertified t h cs place f → FailsFirst t gs cs place f
+refused_at t gs cs place h f l e b u = record { before = b; fails = inl (record { guarantee = h; is = found_there gs place h l e; fault = u }) }
 
 pub certified_all : (t : Topology) (gs : List Guarantee) (cs : List Certificate) (place : ℕ) → length gs ≤ place → length cs ≤ length gs → AreCertifiedBelow t gs cs place → AreCertified t gs cs
 certified_all t gs cs place l m b = record {

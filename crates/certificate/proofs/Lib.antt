@@ -1,4 +1,3 @@
-pub mod Keys
 pub mod Routed
 pub mod Refuting
 pub mod Certifying

@@ -2,9 +2,7 @@
 use Rattle.std.proofs.Common.{◌≡◌, ℕ, zero, suc, ◌<◌, List, [], ◌∷◌, Bool, true, false, refl, sym, ◌∙◌, subst, length, eqb, eq-eqb, get_or, inl, inr, arith, Some}
 use Rattle.std.specs.Prelude.{◌==◌, ◌||◌, slice_get, Decides}
 use Rattle.std.specs.List.{list_any}
-use Rattle.std.specs.Str.{bytes_eq}
 use Rattle.std.proofs.lemmas.Bool.{eqb-true}
-use Rattle.std.proofs.lemmas.Slice.Eq.{bytes_eq-Decides}
 use Rattle.std.proofs.lemmas.List.{length-map}
 use Rattle.model.specs.Words.{Text}
 use Rattle.model.specs.Topology.{Topology, IsIn, IsThere, IsWellFormed, queue_names}
@@ -54,16 +52,10 @@ routed_there t x key q w s = edge_there q w s.2 refl
 
 -- ---- lists
 
-any_at : {A : Type 0} (x y : A) (ys : List A) (v w : Bool) → (v ≡ true → y ≡ x) → (x ≡ y → v ≡ true) → ((w ≡ true → IsIn x ys) × (IsIn x ys → w ≡ true))
+pub any_at : {A : Type 0} (x y : A) (ys : List A) (v w : Bool) → (v ≡ true → y ≡ x) → (x ≡ y → v ≡ true) → ((w ≡ true → IsIn x ys) × (IsIn x ys → w ≡ true))
     → ((v || w) ≡ true → IsIn x (y ∷ ys)) × (IsIn x (y ∷ ys) → (v || w) ≡ true)
 any_at x y ys true w d e ih = (λ h. inl (sym (d refl)), λ h. refl)
 any_at x y ys false w d e ih = (λ h. inr (ih.0 h), λ h. (elim h [ inl q ↦ absurd (let z : false ≡ true = e q in cc) | inr r ↦ ih.1 r ]))
-
--- some word is this one
-pub any_word : (word : Text) (ws : List Text) → Decides (list_any (λ (w : Text). bytes_eq w word) ws) (IsIn word ws)
-any_word word [] = (λ h. absurd (cc), λ h. absurd h)
-any_word word (w ∷ ws) =
-    any_at word w ws (bytes_eq w word) (list_any (λ (v : Text). bytes_eq v word) ws) (bytes_eq-Decides w word).0 (λ q. (bytes_eq-Decides w word).1 (sym q)) (any_word word ws)
 
 -- some place is this one
 pub any_place : (place : ℕ) (ps : List ℕ) → Decides (list_any (λ (p : ℕ). p == place) ps) (IsIn place ps)

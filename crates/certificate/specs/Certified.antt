@@ -5,7 +5,7 @@ use Rattle.model.specs.Guarantee.{Guarantee, AllHold}
 use Rattle.model.specs.Certificates.{Certificate, Accepts}
 use Rattle.certificate_check.specs.Checks.{Faults}
 use Rattle.certificate_check.specs.declared.faults.CertFault.{CertFault}
-use Rattle.certificate_check.specs.declared.faults.CertFault.TheVariants.{Start, Open, Missed, Form, Memory}
+use Rattle.certificate_check.specs.declared.faults.CertFault.TheVariants.{Form}
 use Rattle.certificate.specs.Admitted.{Admitted}
 
 -- the certificate at this place is accepted for the guarantee
@@ -22,11 +22,7 @@ pub record HasFault (t : Topology) (g : Guarantee) (cs : List Certificate) (plac
 
 -- Why the guarantee has no certificate at this place: there is none, or it has this fault.
 abbrev pub IsUncertified : Topology → Guarantee → List Certificate → ℕ → CertFault → Type 0
-IsUncertified t g cs place Start = HasFault t g cs place Start
-IsUncertified t g cs place (Open at word) = HasFault t g cs place (Open at word)
-IsUncertified t g cs place (Missed at) = HasFault t g cs place (Missed at)
-IsUncertified t g cs place Form = (slice_get cs place ≡ None) ⊎ HasFault t g cs place Form
-IsUncertified t g cs place Memory = Unit {0}
+IsUncertified t g cs place f = ((slice_get cs place ≡ None) × (f ≡ Form)) ⊎ HasFault t g cs place f
 
 -- what a check of the certificate at this place answers: it is accepted for the guarantee, or why it is not
 abbrev pub ChecksAt : Topology → Guarantee → List Certificate → ℕ → Result Unit CertFault → Type 0
@@ -54,25 +50,17 @@ pub record IsOneTooMany (gs : List Guarantee) (cs : List Certificate) (place : �
   pub more : length gs < length cs
   pub fault : f ≡ Form
 
--- the least place at fault
+-- The least place at fault. Memory is wanted only of a certificate that fits its guarantee.
 pub record FailsFirst (t : Topology) (gs : List Guarantee) (cs : List Certificate) (place : ℕ) (f : CertFault) : Type 0 where
   pub before : AreCertifiedBelow t gs cs place
   pub fails : FailsAt t gs cs place f ⊎ IsOneTooMany gs cs place f
 
--- want of memory owes nothing
-abbrev pub IsRefused : Topology → List Guarantee → List Certificate → ℕ → CertFault → Type 0
-IsRefused t gs cs place Start = FailsFirst t gs cs place Start
-IsRefused t gs cs place (Open at word) = FailsFirst t gs cs place (Open at word)
-IsRefused t gs cs place (Missed at) = FailsFirst t gs cs place (Missed at)
-IsRefused t gs cs place Form = FailsFirst t gs cs place Form
-IsRefused t gs cs place Memory = Unit {0}
-
 -- each guarantee has its certificate and there are no more, or the least place at fault, and its fault
 abbrev pub Certifies : Topology → List Guarantee → List Certificate → Result Unit (ℕ × CertFault) → Type 0
 Certifies t gs cs (Ok u) = AreCertified t gs cs
-Certifies t gs cs (Err e) = IsRefused t gs cs e.0 e.1
+Certifies t gs cs (Err e) = FailsFirst t gs cs e.0 e.1
 
 -- what is handed in is admitted as it is, and holds, or is refused at the least place at fault
-abbrev pub AdmitsCertified : Topology → List Guarantee → List Certificate → Result Admitted (ℕ × CertFault) → Type 0
-AdmitsCertified t gs cs (Ok k) = (k ≡ record { topology = t; guarantees = gs }) × AllHold t gs × AreCertified t gs cs
-AdmitsCertified t gs cs (Err e) = IsRefused t gs cs e.0 e.1
+abbrev pub Admits : Topology → List Guarantee → List Certificate → Result Admitted (ℕ × CertFault) → Type 0
+Admits t gs cs (Ok k) = (k ≡ record { topology = t; guarantees = gs }) × AllHold t gs × AreCertified t gs cs
+Admits t gs cs (Err e) = FailsFirst t gs cs e.0 e.1

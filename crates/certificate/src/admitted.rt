@@ -1,24 +1,18 @@
 //! Topologies whose guarantees hold.
 
-ghost use Rattle.std.specs.Prelude.{◌≡◌, length, IfOk};
+ghost use Rattle.std.specs.Prelude.{◌≡◌, IfOk};
 ghost use Rattle.model.specs.Topology.{IsWellFormed};
 ghost use Rattle.model.specs.Guarantee.{AllHold};
-ghost use Rattle.certificate.specs.Admitted.{Admits};
-ghost use Rattle.certificate.specs.Certified.{AdmitsCertified};
+ghost use Rattle.certificate.specs.Certified.{Admits};
 
 use crate::certified::all_certified;
-use crate::faults::CertFault;
-use crate::plain::all_plain;
+use certificate_check::{CertFault, Certificate};
 use exchange_graph::Topology;
 use guarantees::Guarantee;
 use std::alloc::{AllocError, Global};
 use std::marker::Model;
 
-/// A certificate of one guarantee. None is taken yet.
-#[derive(Drop)]
-pub struct Certificate {}
-
-/// A topology and guarantees that hold of it. Only `admit` and `admit_certified` make one.
+/// A topology and guarantees that hold of it. Only `admit` makes one.
 pub struct Checked {
     topology: Topology,
     guarantees: Vec<Guarantee>,
@@ -45,41 +39,20 @@ impl Model for Checked {
     ghost invariant = { λ c. AllHold c.topology c.guarantees.items };
 }
 
-/// The topology and the guarantees as they are handed in, where each guarantee holds.
+/// The topology and the guarantees as they are handed in, where each guarantee has its certificate at its place, and
+/// there are no more.
 pub fn admit(
     alloc: Global,
     topology: Topology,
     guarantees: Vec<Guarantee>,
     certificates: &[Certificate],
 ) -> Result<Checked, (usize, CertFault)>
-    ensures { Admits result topology guarantees.items (length certificates.now) }
+    ensures { Admits topology guarantees.items certificates.now result }
 {
-    if !certificates.is_empty() {
-        return Err((0, CertFault::Form));
-    }
-    match all_plain(alloc, &topology, guarantees.as_slice()) {
+    match all_certified(alloc, &topology, guarantees.as_slice(), certificates) {
         Ok(_) => Ok(Checked {
             topology,
             guarantees,
-        }),
-        Err(fault) => Err(fault),
-    }
-}
-
-/// The topology and the guarantees as they are handed in, where each guarantee has its certificate at its place, and
-/// there are no more.
-pub fn admit_certified(
-    alloc: Global,
-    topology: Topology,
-    wanted: Vec<Guarantee>,
-    certificates: &[certificate_check::Certificate],
-) -> Result<Checked, (usize, certificate_check::CertFault)>
-    ensures { AdmitsCertified topology wanted.items certificates.now result }
-{
-    match all_certified(alloc, &topology, wanted.as_slice(), certificates) {
-        Ok(_) => Ok(Checked {
-            topology,
-            guarantees: wanted,
         }),
         Err(fault) => Err(fault),
     }

@@ -1,12 +1,10 @@
-//! Certificates: a topology and guarantees are admitted only where each guarantee holds.
+//! Certificates: a topology and guarantees are admitted only where each guarantee has one that is accepted.
 #![tactic(auto)]
 
 mod admitted;
 mod certified;
-mod faults;
-mod plain;
 mod refutations;
+mod targets;
 
-pub use admitted::{Certificate, Checked, admit, admit_certified};
-pub use faults::CertFault;
-pub use refutations::{Refutation, disprove, refutes};
+pub use admitted::{Checked, admit};
+pub use refutations::{Refutation, disprove};

@@ -1,10 +1,11 @@
 //! Keys that break a guarantee.
 
-ghost use Rattle.std.specs.Prelude.{◌≡◌, ◌<◌, IfOk, Ok, false, length, true};
+ghost use Rattle.std.specs.Prelude.{◌≡◌, ◌<◌, Decides, IfOk, Ok, OnErr, false, length};
 ghost use Rattle.model.specs.Refutations.{Refutes};
-ghost use Rattle.model.specs.declared.topologies.Mode.TheVariants.{Reaches};
+ghost use Rattle.model.specs.declared.topologies.Mode.TheVariants.{Never, Reaches};
+ghost use Rattle.certificate.specs.Disproved.{MayRefute};
 
-use crate::plain::{is_routed, reaches};
+use crate::targets::{is_routed, reaches};
 use exchange_graph::Topology;
 use guarantees::Guarantee;
 use model::Text;
@@ -49,25 +50,36 @@ impl Refutation {
     }
 }
 
-/// Whether the refutation shows that the guarantee fails, a `reaches`: its key has at most 255 bytes, is covered and
-/// doesn't lead to the queue, and its path is empty. One of a `never` is not judged yet, and shows nothing.
-pub fn refutes(
+/// The most bytes of a key.
+const LONGEST_KEY: usize = 255;
+
+/// Whether a route has to tell: a key of a `reaches` that can be sent, and no path.
+fn may_refute(guarantee: &Guarantee, refutation: &Refutation) -> bool
+    ensures { Decides result (MayRefute guarantee.now refutation.now) }
+{
+    reaches(guarantee.mode())
+        && refutation.key().len() <= LONGEST_KEY
+        && refutation.path().is_empty()
+}
+
+/// Whether the refutation shows that the guarantee fails.
+///
+/// Of a `reaches`: its key has at most 255 bytes, is covered and doesn't lead to the queue, and its path is empty. One of a
+/// `never` is not judged yet, and shows nothing.
+pub fn disprove(
     alloc: Global,
     topology: &Topology,
     guarantee: &Guarantee,
     refutation: &Refutation,
 ) -> Result<bool, AllocError>
-    ensures yes { IfOk result (λ yes. yes ≡ true → Refutes topology.now guarantee.now refutation.now) }
-    ensures no { IfOk result (λ yes. guarantee.now.mode ≡ Reaches → Refutes topology.now guarantee.now refutation.now → yes ≡ true) }
+    // Of a `reaches` it is yes exactly where the refutation shows that it fails.
+    ensures exact { guarantee.now.mode ≡ Reaches → IfOk result (λ yes. Decides yes (Refutes topology.now guarantee.now refutation.now)) }
+    ensures never { guarantee.now.mode ≡ Never → result ≡ Ok false }
     ensures too_long { 255 < length refutation.now.key → result ≡ Ok false }
+    // Memory is wanted only of what may refute.
+    ensures memory { OnErr result (MayRefute guarantee.now refutation.now) }
 {
-    if refutation.key().len() > 255 {
-        return Ok(false);
-    }
-    if !refutation.path().is_empty() {
-        return Ok(false);
-    }
-    if !reaches(guarantee.mode()) {
+    if !may_refute(guarantee, refutation) {
         return Ok(false);
     }
     let exchange = guarantee.exchange().as_bytes();
@@ -77,19 +89,4 @@ pub fn refutes(
     }
     let routed = is_routed(alloc, topology, exchange, key, guarantee.queue().as_bytes())?;
     Ok(!routed)
-}
-
-/// Whether the refutation is seen to show that the guarantee fails. Where a growth is refused the answer is no.
-pub fn disprove(
-    alloc: Global,
-    topology: &Topology,
-    guarantee: &Guarantee,
-    refutation: &Refutation,
-) -> bool
-    ensures { result ≡ true → Refutes topology.now guarantee.now refutation.now }
-{
-    match refutes(alloc, topology, guarantee, refutation) {
-        Ok(yes) => yes,
-        Err(_) => false,
-    }
 }

@@ -6,12 +6,33 @@ ghost use Rattle.model.specs.Certificates.{AreFew, IsFormed, IsOf, IsShort};
 ghost use Rattle.model.specs.Positions.{FitsEach};
 ghost use Rattle.model.specs.declared.topologies.Mode.TheVariants.{Reaches};
 ghost use Rattle.state_walks.specs.Judged.{states_of};
+ghost use Rattle.certificate_check.specs.Checks.{FitsGuarantee};
 ghost use Rattle.certificate_check.specs.Forms.{is_short};
 
 use crate::certificates::Certificate;
 use crate::order::ascend;
 use guarantees::Guarantee;
+use model::Mode;
 use word_automata::Tracked;
+
+/// The most patterns that are tracked.
+pub const MOST_PATTERNS: usize = 64;
+
+/// The most words of a tracked pattern.
+pub const MOST_WORDS: usize = 31;
+
+/// The most states of a certificate.
+pub const MOST_STATES: usize = 65_536;
+
+/// Whether it promises that messages come.
+fn reaches(mode: Mode) -> bool
+    ensures { Decides result (mode ≡ Reaches) }
+{
+    match mode {
+        Mode::Reaches => true,
+        Mode::Never => false,
+    }
+}
 
 /// Whether the certificate has the guarantee's texts, that of a `reaches`.
 fn is_of(guarantee: &Guarantee, certificate: &Certificate) -> bool
@@ -28,7 +49,7 @@ fn is_of(guarantee: &Guarantee, certificate: &Certificate) -> bool
 fn is_short(pattern: &Tracked) -> bool
     ensures { result ≡ is_short pattern.now }
 {
-    pattern.tokens().len() <= 31
+    pattern.tokens().len() <= MOST_WORDS
 }
 
 /// Whether each pattern has at most 31 words.
@@ -42,7 +63,7 @@ fn all_short(patterns: &[Tracked]) -> bool
 fn are_few(patterns: &[Tracked]) -> bool
     ensures { Decides result (AreFew patterns.now) }
 {
-    patterns.len() <= 64 && all_short(patterns)
+    patterns.len() <= MOST_PATTERNS && all_short(patterns)
 }
 
 /// Whether a number uses only the bits up to this place.
@@ -82,14 +103,20 @@ fn all_fit(patterns: &[Tracked], states: &[Vec<u64>]) -> bool
     true
 }
 
-/// Whether these patterns and the certificate are within the limits, and it has the form that the guarantee needs.
+/// Whether the certificate has the form as far as the tracked patterns have no say in it.
+pub fn fits_guarantee(guarantee: &Guarantee, certificate: &Certificate) -> bool
+    ensures { Decides result (FitsGuarantee guarantee.now certificate.now) }
+{
+    reaches(guarantee.mode())
+        && is_of(guarantee, certificate)
+        && certificate.states().len() <= MOST_STATES
+        && ascend(certificate.states())
+}
+
+/// Whether these patterns are within the limits, and the certificate has the form that the guarantee needs.
 pub fn is_formed(guarantee: &Guarantee, patterns: &[Tracked], certificate: &Certificate) -> bool
-    requires { guarantee.now.mode ≡ Reaches }
+    requires { FitsGuarantee guarantee.now certificate.now }
     ensures { Decides result (IsFormed guarantee.now patterns.now certificate.now) }
 {
-    is_of(guarantee, certificate)
-        && are_few(patterns)
-        && certificate.states().len() <= 65_536
-        && all_fit(patterns, certificate.states())
-        && ascend(certificate.states())
+    are_few(patterns) && all_fit(patterns, certificate.states())
 }

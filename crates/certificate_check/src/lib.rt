@@ -14,4 +14,5 @@ mod walk;
 pub use certificates::Certificate;
 pub use checking::check;
 pub use faults::CertFault;
+pub use form::{MOST_PATTERNS, MOST_STATES, MOST_WORDS};
 pub use walk::Walk;

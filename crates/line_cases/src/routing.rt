@@ -1,10 +1,14 @@
-//! Cases of routing: patterns and keys, definitions files and what they set up, guarantees files, what is admitted.
+//! Cases of routing: patterns and keys, definitions files and what they set up, guarantees and certificates files, what is
+//! admitted, checked, searched and disproved.
 
 mod admission;
+mod certificate_files;
+mod certificates;
 mod files;
 mod guarantee_files;
 mod names;
 mod patterns;
+mod sources;
 mod stated;
 mod words;
 
@@ -39,4 +43,13 @@ pub fn of_patterns(rt: &HostRuntime, kind: &str, asked: &str) -> Result<String, 
 /// The answer to a line about guarantees.
 pub fn of_guarantees(rt: &HostRuntime, kind: &str, asked: &str) -> Result<String, Unanswered> {
     guarantee_files::answer(rt, kind, asked)
+}
+
+/// The answer to a line about certificates.
+pub fn of_certificates(rt: &HostRuntime, kind: &str, asked: &str) -> Result<String, Unanswered> {
+    match kind {
+        "admit" | "admitted" => admission::answer(rt, asked),
+        "check" | "search" | "certificate" | "disprove" => certificates::answer(rt, kind, asked),
+        _ => certificate_files::answer(rt, kind, asked),
+    }
 }

@@ -19,9 +19,18 @@ fn answer(rt: &HostRuntime, kind: &str, asked: &str) -> Result<String, Unanswere
         | "user"
         | "route"
         | "visited" => routing::of_definitions(rt, kind, asked),
-        "guarantees" | "guarantees-hex" | "guarantee" | "covers" | "admit" | "admitted" => {
+        "guarantees" | "guarantees-hex" | "guarantee" | "covers" => {
             routing::of_guarantees(rt, kind, asked)
         }
+        "admit"
+        | "admitted"
+        | "check"
+        | "search"
+        | "certificate"
+        | "disprove"
+        | "certificates"
+        | "certificates-hex"
+        | "rewritten" => routing::of_certificates(rt, kind, asked),
         _ => wire::answer(rt.alloc(), kind, asked),
     }
 }

@@ -3,8 +3,6 @@
 #![tactic(auto)]
 
 #[cfg(test)]
-mod admitting;
-#[cfg(test)]
 mod engines;
 #[cfg(test)]
 mod streams;

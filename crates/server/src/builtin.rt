@@ -3,7 +3,7 @@
 ghost use Rattle.std.specs.Prelude.{◌≡◌, [], IfOk};
 ghost use Rattle.server.specs.Program.{built_in};
 
-use certificate::{CertFault, Checked, admit};
+use certificate::{Checked, admit};
 use exchange_graph::{Bad, Topology};
 use model::{Binding, DeclaredQueue, Exchange, ExchangeKind, Place, Text};
 use std::alloc::{AllocError, Global};
@@ -73,7 +73,7 @@ pub fn unguaranteed(alloc: Global, topology: Topology) -> Result<Checked, AllocE
 {
     match admit(alloc, topology, Vec::new(alloc), &[]) {
         Ok(checked) => Ok(checked),
-        Err((_, CertFault::Memory)) => Err(AllocError),
-        Err((_, CertFault::Form)) => unreachable!(),
+        // No guarantee is handed in, so that none is at fault.
+        Err(_) => Err(AllocError),
     }
 }

@@ -1,29 +1,21 @@
-//! Lines about guarantees that are admitted.
+//! Lines about guarantees that are admitted by their certificates.
 
+use crate::routing::certificates::told_fault;
+use crate::routing::sources::sources_of;
 use crate::routing::stated::route;
 use crate::unanswered::Unanswered;
-use certificate::{CertFault, Checked, admit};
+use certificate::{Checked, admit};
+use certificate_check::CertFault;
+use certificate_files::read_certificates;
+use definitions::read_definitions;
 use exchange_graph::Topology;
-use guarantees::Guarantee;
+use guarantees::read_guarantees;
 use std::alloc::Global;
 
 /// How many guarantees a clone of what was admitted has.
 fn count(alloc: Global, checked: &Checked) -> Result<String, Unanswered> {
     let same = checked.clone(alloc)?;
     Ok(format!(in alloc; "admitted {}", same.guarantees().len())?)
-}
-
-/// How many guarantees are admitted, or the place of the first that is not.
-pub fn admitted(
-    alloc: Global,
-    topology: &Topology,
-    guarantees: Vec<Guarantee>,
-) -> Result<String, Unanswered> {
-    match admit(alloc, topology.clone(alloc)?, guarantees, &[]) {
-        Ok(checked) => count(alloc, &checked),
-        Err((place, CertFault::Form)) => Ok(format!(in alloc; "refused at {place}")?),
-        Err((_, CertFault::Memory)) => Err(Unanswered::Memory),
-    }
 }
 
 /// The queues to which a clone of what was admitted leads a key.
@@ -37,16 +29,58 @@ fn route_of(
     route(alloc, same.topology(), exchange, key)
 }
 
-/// The queues to which a key leads in what is admitted.
-pub fn route_of_admitted(
+/// The answer about what was admitted.
+fn of_admitted(alloc: Global, checked: &Checked, words: &[&str]) -> Result<String, Unanswered> {
+    match words {
+        [] => count(alloc, checked),
+        [exchange, key] => route_of(alloc, checked, exchange, key),
+        _ => Err(Unanswered::Form),
+    }
+}
+
+/// The place of the first guarantee that is not admitted, and its fault.
+fn not_admitted(alloc: Global, place: usize, fault: &CertFault) -> Result<String, Unanswered> {
+    let fault = told_fault(alloc, fault)?;
+    Ok(format!(in alloc; "{fault} at {place}")?)
+}
+
+/// What is admitted of these files over a topology.
+fn admitted(
     alloc: Global,
     topology: &Topology,
-    guarantees: Vec<Guarantee>,
-    exchange: &str,
-    key: &str,
+    guarantees: &[u8],
+    certificates: &[u8],
+    words: &[&str],
 ) -> Result<String, Unanswered> {
-    match admit(alloc, topology.clone(alloc)?, guarantees, &[]) {
-        Ok(checked) => route_of(alloc, &checked, exchange, key),
-        Err(_) => Err(Unanswered::Form),
+    let stated = read_guarantees(alloc, guarantees, topology)
+        .ok()
+        .ok_or(Unanswered::File)?;
+    let offered = read_certificates(alloc, certificates)
+        .ok()
+        .ok_or(Unanswered::File)?;
+    match admit(alloc, topology.clone(alloc)?, stated, offered.as_slice()) {
+        Ok(checked) => of_admitted(alloc, &checked, words),
+        Err((place, fault)) => not_admitted(alloc, place, &fault),
+    }
+}
+
+/// The answer to a line about what is admitted, which names three files.
+pub fn answer(rt: &HostRuntime, asked: &str) -> Result<String, Unanswered> {
+    let alloc = rt.alloc();
+    let sources = sources_of(rt, asked, 3)?;
+    match sources.files.as_slice() {
+        [definitions, guarantees, certificates] => {
+            let read = read_definitions(alloc, definitions.as_bytes())
+                .ok()
+                .ok_or(Unanswered::File)?;
+            admitted(
+                alloc,
+                read.topology(),
+                guarantees.as_bytes(),
+                certificates.as_bytes(),
+                sources.words.as_slice(),
+            )
+        }
+        _ => Err(Unanswered::Form),
     }
 }

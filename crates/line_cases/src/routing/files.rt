@@ -61,7 +61,7 @@ pub fn file_of(rt: &HostRuntime, name: &str) -> Result<String, Unanswered> {
 }
 
 /// The text with `OLD => NEW` done at the first place where OLD stands.
-fn edited_once(alloc: Global, text: &str, edit: &str) -> Result<String, Unanswered> {
+pub fn edited_once(alloc: Global, text: &str, edit: &str) -> Result<String, Unanswered> {
     let (old, new) = edit.split_once(" =>").ok_or(Unanswered::Form)?;
     let new = new.strip_prefix(' ').unwrap_or(new);
     let (before, after) = text.split_once(old).ok_or(Unanswered::File)?;

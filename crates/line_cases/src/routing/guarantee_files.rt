@@ -1,7 +1,6 @@
 //! Lines about guarantees files over a topology.
 
 use crate::hex_words::bytes_of;
-use crate::routing::admission::{admitted, route_of_admitted};
 use crate::routing::files::{file_of, source_of};
 use crate::routing::names::{put_name, refused};
 use crate::routing::words::words_of;
@@ -56,21 +55,13 @@ fn guarantee_at<'a>(guarantees: &'a [Guarantee], place: &str) -> Result<&'a Guar
 fn of_read(
     alloc: Global,
     kind: &str,
-    topology: &Topology,
-    guarantees: Vec<Guarantee>,
+    guarantees: &[Guarantee],
     words: &[&str],
 ) -> Result<String, Unanswered> {
     match words {
-        [place] if kind == "guarantee" => parts(alloc, guarantee_at(guarantees.as_slice(), place)?),
-        [place, exchange, key] if kind == "covers" => covers(
-            alloc,
-            guarantee_at(guarantees.as_slice(), place)?,
-            exchange,
-            key,
-        ),
-        [] if kind == "admit" => admitted(alloc, topology, guarantees),
-        [exchange, key] if kind == "admitted" => {
-            route_of_admitted(alloc, topology, guarantees, exchange, key)
+        [place] if kind == "guarantee" => parts(alloc, guarantee_at(guarantees, place)?),
+        [place, exchange, key] if kind == "covers" => {
+            covers(alloc, guarantee_at(guarantees, place)?, exchange, key)
         }
         _ => Err(Unanswered::Form),
     }
@@ -88,7 +79,7 @@ fn of_file(
     let file = file_of(rt, name)?;
     let words = words_of(alloc, rest)?;
     match read_guarantees(alloc, file.as_bytes(), topology) {
-        Ok(read) => of_read(alloc, kind, topology, read, words.as_slice()),
+        Ok(read) => of_read(alloc, kind, read.as_slice(), words.as_slice()),
         Err(_) => Err(Unanswered::File),
     }
 }

@@ -1,4 +1,4 @@
-use Rattle.certificate.proofs.Routed.{any_word}
+use Rattle.guarantee_search.proofs.Wording.{any_word}
 use Rattle.guarantee_search.proofs.spelling.has_word.Goals as goal
 
 pub returns : goal.returns

@@ -1,5 +1,5 @@
 use Rattle.certificate.proofs.Routed.{target_routed, routed_target, routed_there}
-use Rattle.certificate.proofs.plain.is_routed.Goals as goal
+use Rattle.certificate.proofs.targets.is_routed.Goals as goal
 
 pub returns-in-Some : goal.returns-in-Some
 returns-in-Some c =

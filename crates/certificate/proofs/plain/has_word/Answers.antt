@@ -1,5 +1,0 @@
-use Rattle.certificate.proofs.Routed.{any_word}
-use Rattle.certificate.proofs.plain.has_word.Goals as goal
-
-pub returns : goal.returns
-returns c = rw c.any_word.ensures (any_word c.args.word.now c.args.words.now)

@@ -1,0 +1,53 @@
+//! Whether a key leads to a queue.
+
+ghost use Rattle.std.specs.Prelude.{Decides, IfOk, ◌≡◌, ◌==◌};
+ghost use Rattle.std.specs.List.{list_any};
+ghost use Rattle.model.specs.declared.topologies.Mode.TheVariants.{Reaches};
+ghost use Rattle.model.specs.Topology.{IsIn};
+ghost use Rattle.model.specs.Routing.{Routes};
+
+use exchange_graph::Topology;
+use model::Mode;
+use std::alloc::{AllocError, Global};
+
+/// Whether some place is this one.
+fn any_place(places: &[usize], place: usize) -> bool
+    ensures { result ≡ list_any (λ p. p == place) places.now }
+{
+    places.iter().any(|p| *p == place)
+}
+
+/// Whether a place is among these.
+fn has_place(places: &[usize], place: usize) -> bool
+    ensures { Decides result (IsIn place places.now) }
+{
+    any_place(places, place)
+}
+
+/// Whether the key leads from the exchange to the queue.
+pub fn is_routed(
+    alloc: Global,
+    topology: &Topology,
+    exchange: &[u8],
+    key: &[u8],
+    queue: &[u8],
+) -> Result<bool, AllocError>
+    ensures { IfOk result (λ yes. Decides yes (Routes topology.now exchange.now key.now queue.now)) }
+{
+    topology.is_well_formed();
+    let targets = topology.route(alloc, exchange, key)?;
+    match topology.queue_at(queue) {
+        Some(place) => Ok(has_place(targets.as_slice(), place)),
+        None => Ok(false),
+    }
+}
+
+/// Whether it promises that messages come.
+pub fn reaches(mode: Mode) -> bool
+    ensures { Decides result (mode ≡ Reaches) }
+{
+    match mode {
+        Mode::Reaches => true,
+        Mode::Never => false,
+    }
+}
