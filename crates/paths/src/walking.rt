@@ -6,7 +6,7 @@ ghost use Rattle.model.specs.Routing.{key_after};
 ghost use Rattle.paths.specs.Stands.{AddsAll, AreNext, GoesOn, IsPath, LeadsDead, Next, is_queue};
 ghost use Rattle.paths.specs.declared.stands.Stand.TheVariants.{Exchange, Queue};
 
-use crate::stands::{Stand, add};
+use crate::stands::{Stand, add_if};
 use exchange_graph::Topology;
 use model::{DeclaredQueue, Text};
 use std::alloc::{AllocError, Global};
@@ -22,13 +22,10 @@ fn go_on(
 ) -> Result<(), AllocError>
     ensures { OnOk result (AddsAll (Next topology.now name.now next.now (Exchange key.now)) stands.old.items stands.new.items) }
 {
-    if topology.leads_on(alloc, name, key.as_bytes(), next)? {
-        add(stands, Stand::Exchange(key.clone()?))?;
-    }
-    if topology.leads_in(alloc, name, key.as_bytes(), next)? {
-        add(stands, Stand::Queue(key.clone()?))?;
-    }
-    Ok(())
+    let on = topology.leads_on(alloc, name, key.as_bytes(), next)?;
+    let into = topology.leads_in(alloc, name, key.as_bytes(), next)?;
+    add_if(stands, on, Stand::Exchange(key.clone()?))?;
+    add_if(stands, into, Stand::Queue(key.clone()?))
 }
 
 /// Whether this is the queue's dead-letter exchange.
@@ -66,10 +63,11 @@ fn die(
         return Ok(());
     };
     let queue = topology.queue(place);
-    if leads_dead(queue, next) {
-        add(stands, Stand::Exchange(dead_key(queue, key)?))?;
-    }
-    Ok(())
+    add_if(
+        stands,
+        leads_dead(queue, next),
+        Stand::Exchange(dead_key(queue, key)?),
+    )
 }
 
 /// Adds how a message stands one step on.
