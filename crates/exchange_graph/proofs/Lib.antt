@@ -10,4 +10,4 @@ pub mod Starting
 pub mod Picking
 pub mod Alls
 pub mod Good
-pub mod Routing
+pub mod Edging

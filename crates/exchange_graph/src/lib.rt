@@ -6,6 +6,7 @@ mod checks;
 mod copies;
 mod directory;
 mod drafts;
+mod edges;
 mod ends;
 mod fans;
 mod marks;

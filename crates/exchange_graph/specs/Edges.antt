@@ -1,0 +1,26 @@
+-- Single steps of a route, by names.
+use Rattle.std.specs.Prelude.{ℕ, Bool, false, ◌==◌}
+use Rattle.model.specs.Words.{Text}
+use Rattle.model.specs.Topology.{Topology}
+use Rattle.model.specs.Routing.{Edge, of_key}
+use Rattle.model.specs.declared.topologies.Place.TheVariants as place
+use Rattle.exchange_graph.specs.declared.ends.End.{End}
+use Rattle.exchange_graph.specs.declared.ends.End.TheVariants.{Onward, Into}
+
+-- one step leads a message with this key from the exchange of this name on to that exchange
+abbrev pub LeadsOn : Topology → Text → Text → Text → Type 0
+LeadsOn t key exchange other = Edge t (of_key key) exchange (place.Exchange other)
+
+-- one step leads a message with this key from the exchange of this name into that queue
+abbrev pub LeadsIn : Topology → Text → Text → Text → Type 0
+LeadsIn t key exchange queue = Edge t (of_key key) exchange (place.Queue queue)
+
+-- the end is the exchange at this place
+abbrev pub is_onward : ℕ → End → Bool
+is_onward place (Onward at) = at == place
+is_onward place (Into at) = false
+
+-- the end is the queue at this place
+abbrev pub is_into : ℕ → End → Bool
+is_into place (Onward at) = false
+is_into place (Into at) = at == place

@@ -1,0 +1,80 @@
+//! Single steps of a route, by names.
+
+ghost use Rattle.std.specs.Prelude.{◌≡◌, Decides, IfOk};
+ghost use Rattle.std.specs.List.{list_any};
+ghost use Rattle.model.specs.Topology.{IsIn};
+ghost use Rattle.exchange_graph.specs.declared.ends.End.TheVariants.{Onward, Into};
+ghost use Rattle.exchange_graph.specs.Edges.{LeadsIn, LeadsOn, is_into, is_onward};
+
+use crate::ends::End;
+use crate::topologies::Topology;
+use std::alloc::{AllocError, Global};
+
+/// Whether some end is the exchange at this place.
+fn any_onward(ends: &[End], place: usize) -> bool
+    ensures { result ≡ list_any (λ e. is_onward place e) ends.now }
+{
+    ends.iter().any(|end| match end {
+        End::Onward(at) => *at == place,
+        End::Into(_) => false,
+    })
+}
+
+/// Whether some end is the queue at this place.
+fn any_into(ends: &[End], place: usize) -> bool
+    ensures { result ≡ list_any (λ e. is_into place e) ends.now }
+{
+    ends.iter().any(|end| match end {
+        End::Onward(_) => false,
+        End::Into(at) => *at == place,
+    })
+}
+
+impl Topology {
+    /// Whether one step leads a message with this key from the exchange of this name on to that exchange: a binding, or
+    /// the alternate exchange where no binding lets the key pass.
+    pub fn leads_on(
+        &self,
+        alloc: Global,
+        exchange: &[u8],
+        key: &[u8],
+        other: &[u8],
+    ) -> Result<bool, AllocError>
+        ensures { IfOk result (λ yes. Decides yes (LeadsOn self.now key.now exchange.now other.now)) }
+    {
+        self.is_well_formed();
+        let Some(from) = self.exchange_at(exchange) else {
+            return Ok(false);
+        };
+        let Some(to) = self.exchange_at(other) else {
+            return Ok(false);
+        };
+        let ends = self.steps(alloc, from, key)?;
+        Ok(any_onward(ends.as_slice(), to))
+    }
+
+    /// Whether one step leads a message with this key from the exchange of this name into that queue: a binding, or the
+    /// default exchange where the key is the queue's name.
+    pub fn leads_in(
+        &self,
+        alloc: Global,
+        exchange: &[u8],
+        key: &[u8],
+        queue: &[u8],
+    ) -> Result<bool, AllocError>
+        ensures { IfOk result (λ yes. Decides yes (LeadsIn self.now key.now exchange.now queue.now)) }
+    {
+        self.is_well_formed();
+        let Some(to) = self.queue_at(queue) else {
+            return Ok(false);
+        };
+        if exchange.is_empty() {
+            return Ok(queue == key);
+        }
+        let Some(from) = self.exchange_at(exchange) else {
+            return Ok(false);
+        };
+        let ends = self.steps(alloc, from, key)?;
+        Ok(any_into(ends.as_slice(), to))
+    }
+}

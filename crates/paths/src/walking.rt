@@ -1,0 +1,156 @@
+//! Whether a path leads a message from name to name.
+
+ghost use Rattle.std.specs.Prelude.{Decides, IfOk, OnOk, ◌≡◌};
+ghost use Rattle.std.specs.List.{list_any};
+ghost use Rattle.model.specs.Routing.{key_after};
+ghost use Rattle.paths.specs.Stands.{AddsAll, AreNext, GoesOn, IsPath, LeadsDead, Next, is_queue};
+ghost use Rattle.paths.specs.declared.stands.Stand.TheVariants.{Exchange, Queue};
+
+use crate::stands::{Stand, add_if};
+use exchange_graph::Topology;
+use model::{DeclaredQueue, Text};
+use std::alloc::{AllocError, Global};
+
+/// Adds how a message stands one edge behind the exchange of this name.
+fn go_on(
+    topology: &Topology,
+    alloc: Global,
+    name: &[u8],
+    key: &Text,
+    next: &[u8],
+    stands: &mut Vec<Stand>,
+) -> Result<(), AllocError>
+    ensures { OnOk result (AddsAll (Next topology.now name.now next.now (Exchange key.now)) stands.old.items stands.new.items) }
+{
+    let on = topology.leads_on(alloc, name, key.as_bytes(), next)?;
+    let into = topology.leads_in(alloc, name, key.as_bytes(), next)?;
+    add_if(stands, on, Stand::Exchange(key.clone()?))?;
+    add_if(stands, into, Stand::Queue(key.clone()?))
+}
+
+/// Whether this is the queue's dead-letter exchange.
+fn leads_dead(queue: &DeclaredQueue, next: &[u8]) -> bool
+    ensures { Decides result (LeadsDead queue.now next.now) }
+{
+    match &queue.dead_letter_exchange {
+        Some(name) => name.as_bytes() == next,
+        None => false,
+    }
+}
+
+/// The key under which a message dies in this queue.
+fn dead_key(queue: &DeclaredQueue, key: &Text) -> Result<Text, AllocError>
+    ensures { IfOk result (λ k. k ≡ key_after queue.now.dead_letter_key key.now) }
+{
+    match &queue.dead_letter_key {
+        Some(fixed) => fixed.clone(),
+        None => key.clone(),
+    }
+}
+
+/// Adds how a message stands that dies in the queue of this name.
+fn die(
+    topology: &Topology,
+    name: &[u8],
+    key: &Text,
+    next: &[u8],
+    stands: &mut Vec<Stand>,
+) -> Result<(), AllocError>
+    ensures { OnOk result (AddsAll (Next topology.now name.now next.now (Queue key.now)) stands.old.items stands.new.items) }
+{
+    topology.is_well_formed();
+    let Some(place) = topology.queue_at(name) else {
+        return Ok(());
+    };
+    let queue = topology.queue(place);
+    add_if(
+        stands,
+        leads_dead(queue, next),
+        Stand::Exchange(dead_key(queue, key)?),
+    )
+}
+
+/// Adds how a message stands one step on.
+fn step(
+    topology: &Topology,
+    alloc: Global,
+    name: &[u8],
+    stand: &Stand,
+    next: &[u8],
+    stands: &mut Vec<Stand>,
+) -> Result<(), AllocError>
+    ensures { OnOk result (AddsAll (Next topology.now name.now next.now stand.now) stands.old.items stands.new.items) }
+{
+    match stand {
+        Stand::Exchange(key) => go_on(topology, alloc, name, key, next, stands),
+        Stand::Queue(key) => die(topology, name, key, next, stands),
+    }
+}
+
+/// How a message may stand at the next name.
+fn advance(
+    topology: &Topology,
+    alloc: Global,
+    name: &[u8],
+    stands: &[Stand],
+    next: &[u8],
+) -> Result<Vec<Stand>, AllocError>
+    ensures { IfOk result (λ found. AreNext topology.now name.now next.now stands.now found.items) }
+{
+    let mut found = Vec::new(alloc);
+    for stand in stands {
+        step(topology, alloc, name, stand, next, &mut found)?;
+    }
+    Ok(found)
+}
+
+/// Whether a message stands in a queue.
+fn is_queued(stands: &[Stand]) -> bool
+    ensures { result ≡ list_any is_queue stands.now }
+{
+    stands.iter().any(|stand| match stand {
+        Stand::Exchange(_) => false,
+        Stand::Queue(_) => true,
+    })
+}
+
+/// Whether a message that stands at the exchange of this name comes along the rest of the path into the queue.
+fn goes_on(
+    topology: &Topology,
+    alloc: Global,
+    exchange: &[u8],
+    key: &Text,
+    queue: &[u8],
+    rest: &[Text],
+) -> Result<bool, AllocError>
+    ensures { IfOk result (λ yes. Decides yes (GoesOn topology.now queue.now exchange.now rest.now (Exchange key.now))) }
+{
+    let mut stands = Vec::new(alloc);
+    stands.push(Stand::Exchange(key.clone()?))?;
+    let mut name = exchange;
+    for next in rest {
+        stands = advance(topology, alloc, name, stands.as_slice(), next.as_bytes())?;
+        name = next.as_bytes();
+    }
+    Ok(name == queue && is_queued(stands.as_slice()))
+}
+
+/// Whether this is a path of a message with this key into the queue: it begins with the exchange, ends with the queue, and
+/// each name is one edge after the one before, or is the dead-letter exchange of the queue before, which may fix the key.
+pub fn is_path(
+    topology: &Topology,
+    alloc: Global,
+    exchange: &[u8],
+    key: &Text,
+    queue: &[u8],
+    path: &[Text],
+) -> Result<bool, AllocError>
+    ensures { IfOk result (λ yes. Decides yes (IsPath topology.now exchange.now key.now queue.now path.now)) }
+{
+    match path.split_first() {
+        Some((first, rest)) if first.as_bytes() == exchange => goes_on(
+            topology, alloc, exchange, key, queue, rest,
+        ),
+        _ => Ok(false),
+    }
+}
