@@ -1,18 +1,18 @@
 //! Keys that break a guarantee.
 
 ghost use Rattle.std.specs.Prelude.{◌≡◌, ◌<◌, Decides, IfOk, Ok, OnErr, false, length};
-ghost use Rattle.model.specs.Refutations.{Refutes};
-ghost use Rattle.model.specs.declared.topologies.Mode.TheVariants.{Never, Reaches};
-ghost use Rattle.certificate.specs.Disproved.{MayRefute};
+ghost use Rattle.model.specs.Refutations.{Breaks, Refutes};
+ghost use Rattle.certificate.specs.Disproved.{HasItsPath, MayRefute};
 
-use crate::targets::{is_routed, reaches};
+use crate::targets::is_routed;
 use exchange_graph::Topology;
 use guarantees::Guarantee;
-use model::Text;
+use model::{Mode, Text};
+use paths::is_path;
 use std::alloc::{AllocError, Global};
 use std::marker::Model;
 
-/// What shows that a guarantee fails: a key, and no path for a `reaches`.
+/// What shows that a guarantee fails: a key, and of a `never` the names by which a message comes where it must not.
 #[derive(Drop)]
 pub struct Refutation {
     key: Text,
@@ -53,28 +53,56 @@ impl Refutation {
 /// The most bytes of a key.
 const LONGEST_KEY: usize = 255;
 
-/// Whether a route has to tell: a key of a `reaches` that can be sent, and no path.
+/// Whether a refutation against such a guarantee has the path that it may have: none against a `reaches`.
+fn has_its_path(mode: Mode, path: &[Text]) -> bool
+    ensures { Decides result (HasItsPath mode path.now) }
+{
+    match mode {
+        Mode::Reaches => path.is_empty(),
+        Mode::Never => true,
+    }
+}
+
+/// Whether routes have to tell: a key that can be sent, and no path where none is looked for.
 fn may_refute(guarantee: &Guarantee, refutation: &Refutation) -> bool
     ensures { Decides result (MayRefute guarantee.now refutation.now) }
 {
-    reaches(guarantee.mode())
-        && refutation.key().len() <= LONGEST_KEY
-        && refutation.path().is_empty()
+    refutation.key().len() <= LONGEST_KEY && has_its_path(guarantee.mode(), refutation.path())
 }
 
-/// Whether the refutation shows that the guarantee fails.
-///
-/// Of a `reaches`: its key has at most 255 bytes, is covered and doesn't lead to the queue, and its path is empty. One of a
-/// `never` is not judged yet, and shows nothing.
+/// Whether the key, or the path of a message with that key, breaks the promise.
+fn breaks(
+    alloc: Global,
+    topology: &Topology,
+    guarantee: &Guarantee,
+    refutation: &Refutation,
+) -> Result<bool, AllocError>
+    requires { MayRefute guarantee.now refutation.now }
+    ensures { IfOk result (λ yes. Decides yes (Breaks guarantee.now.mode topology.now guarantee.now.exchange guarantee.now.queue refutation.now)) }
+{
+    let exchange = guarantee.exchange().as_bytes();
+    let queue = guarantee.queue().as_bytes();
+    let key = refutation.key();
+    match guarantee.mode() {
+        Mode::Reaches => {
+            let routed = is_routed(alloc, topology, exchange, key.as_bytes(), queue)?;
+            Ok(!routed)
+        }
+        Mode::Never => is_path(topology, alloc, exchange, key, queue, refutation.path()),
+    }
+}
+
+/// Whether the refutation shows that the guarantee fails: its key has at most 255 bytes and is covered, and of a `reaches` it
+/// doesn't lead to the queue, and the path is empty; of a `never` the path leads a message with this key from the exchange
+/// into the queue, by edges and dead-letter steps.
 pub fn disprove(
     alloc: Global,
     topology: &Topology,
     guarantee: &Guarantee,
     refutation: &Refutation,
 ) -> Result<bool, AllocError>
-    // Of a `reaches` it is yes exactly where the refutation shows that it fails.
-    ensures exact { guarantee.now.mode ≡ Reaches → IfOk result (λ yes. Decides yes (Refutes topology.now guarantee.now refutation.now)) }
-    ensures never { guarantee.now.mode ≡ Never → result ≡ Ok false }
+    // It is yes exactly where the refutation shows that the guarantee fails.
+    ensures exact { IfOk result (λ yes. Decides yes (Refutes topology.now guarantee.now refutation.now)) }
     ensures too_long { 255 < length refutation.now.key → result ≡ Ok false }
     // Memory is wanted only of what may refute.
     ensures memory { OnErr result (MayRefute guarantee.now refutation.now) }
@@ -83,10 +111,8 @@ pub fn disprove(
         return Ok(false);
     }
     let exchange = guarantee.exchange().as_bytes();
-    let key = refutation.key().as_bytes();
-    if !guarantee.covers(alloc, exchange, key)? {
+    if !guarantee.covers(alloc, exchange, refutation.key().as_bytes())? {
         return Ok(false);
     }
-    let routed = is_routed(alloc, topology, exchange, key, guarantee.queue().as_bytes())?;
-    Ok(!routed)
+    breaks(alloc, topology, guarantee, refutation)
 }

@@ -2,12 +2,10 @@
 
 ghost use Rattle.std.specs.Prelude.{Decides, IfOk, ◌≡◌, ◌==◌};
 ghost use Rattle.std.specs.List.{list_any};
-ghost use Rattle.model.specs.declared.topologies.Mode.TheVariants.{Reaches};
 ghost use Rattle.model.specs.Topology.{IsIn};
 ghost use Rattle.model.specs.Routing.{Routes};
 
 use exchange_graph::Topology;
-use model::Mode;
 use std::alloc::{AllocError, Global};
 
 /// Whether some place is this one.
@@ -39,15 +37,5 @@ pub fn is_routed(
     match topology.queue_at(queue) {
         Some(place) => Ok(has_place(targets.as_slice(), place)),
         None => Ok(false),
-    }
-}
-
-/// Whether it promises that messages come.
-pub fn reaches(mode: Mode) -> bool
-    ensures { Decides result (mode ≡ Reaches) }
-{
-    match mode {
-        Mode::Reaches => true,
-        Mode::Never => false,
     }
 }

@@ -25,11 +25,6 @@ ghost use Rattle.definitions.specs.Causes.{
   user_names,
 };
 ghost use Rattle.definitions.specs.File.{file_of};
-ghost use Rattle.definitions.specs.declared.document.VhostEntry.{VhostEntry as Vhost};
-ghost use Rattle.definitions.specs.declared.document.PermissionEntry.{PermissionEntry as Permission};
-ghost use Rattle.definitions.specs.declared.document.ExchangeEntry.{ExchangeEntry as Sender};
-ghost use Rattle.definitions.specs.declared.document.QueueEntry.{QueueEntry as Line};
-ghost use Rattle.definitions.specs.declared.document.BindingEntry.{BindingEntry as Bound};
 
 use crate::document::{
     BindingEntry, Document, ExchangeEntry, PermissionEntry, QueueEntry, UserEntry, VhostEntry,
@@ -47,51 +42,25 @@ fn is_root(name: &Text) -> bool
     name.as_bytes() == b"/".as_slice()
 }
 
-/// Whether each vhost is `/`.
-fn vhosts_are_root(entries: &[VhostEntry]) -> bool
-    ensures { Decides result (All (λ (e : Vhost). e.name ≡ codes "/") entries.now) }
-{
-    entries.iter().all(|entry| is_root(&entry.name))
-}
-
-/// Whether each permission is for `/`.
-fn permissions_are_of_root(entries: &[PermissionEntry]) -> bool
-    ensures { Decides result (All (λ (e : Permission). e.vhost ≡ codes "/") entries.now) }
-{
-    entries.iter().all(|entry| is_root(&entry.vhost))
-}
-
-/// Whether each exchange is in `/`.
-fn exchanges_are_of_root(entries: &[ExchangeEntry]) -> bool
-    ensures { Decides result (All (λ (e : Sender). e.vhost ≡ codes "/") entries.now) }
-{
-    entries.iter().all(|entry| is_root(&entry.vhost))
-}
-
-/// Whether each queue is in `/`.
-fn queues_are_of_root(entries: &[QueueEntry]) -> bool
-    ensures { Decides result (All (λ (e : Line). e.vhost ≡ codes "/") entries.now) }
-{
-    entries.iter().all(|entry| is_root(&entry.vhost))
-}
-
-/// Whether each binding is in `/`.
-fn bindings_are_of_root(entries: &[BindingEntry]) -> bool
-    ensures { Decides result (All (λ (e : Bound). e.vhost ≡ codes "/") entries.now) }
-{
-    entries.iter().all(|entry| is_root(&entry.vhost))
-}
-
 /// Whether there is one vhost, `/`, and no entry names another.
 pub fn has_one_vhost(document: &Document) -> bool
     ensures { Decides result (HasOneVhost (file_of document.now)) }
 {
     document.vhosts.len() == 1
-        && vhosts_are_root(document.vhosts.as_slice())
-        && permissions_are_of_root(document.permissions.as_slice())
-        && exchanges_are_of_root(document.exchanges.as_slice())
-        && queues_are_of_root(document.queues.as_slice())
-        && bindings_are_of_root(document.bindings.as_slice())
+        && document.vhosts.iter().all(|vhost| is_root(&vhost.name))
+        && document
+            .permissions
+            .iter()
+            .all(|permission| is_root(&permission.vhost))
+        && document
+            .exchanges
+            .iter()
+            .all(|exchange| is_root(&exchange.vhost))
+        && document.queues.iter().all(|queue| is_root(&queue.vhost))
+        && document
+            .bindings
+            .iter()
+            .all(|binding| is_root(&binding.vhost))
 }
 
 // ---- 4: names apart
@@ -200,35 +169,20 @@ fn is_plain_binding(binding: &BindingEntry) -> bool
     binding.listed && is_destination(binding.destination_type.as_bytes())
 }
 
-/// Whether the exchanges state only what is built.
-fn are_plain_exchanges(entries: &[ExchangeEntry]) -> bool
-    ensures { Decides result (All IsPlainExchange entries.now) }
-{
-    entries.iter().all(|exchange| is_plain_exchange(exchange))
-}
-
-/// Whether the queues state only what is built.
-fn are_plain_queues(entries: &[QueueEntry]) -> bool
-    ensures { Decides result (All IsPlainQueue entries.now) }
-{
-    entries.iter().all(|queue| is_plain_queue(queue))
-}
-
-/// Whether the bindings state only what is built.
-fn are_plain_bindings(entries: &[BindingEntry]) -> bool
-    ensures { Decides result (All IsPlainBinding entries.now) }
-{
-    entries.iter().all(|binding| is_plain_binding(binding))
-}
-
 /// Whether a file states only what is built.
 pub fn is_supported(document: &Document) -> bool
     ensures { Decides result (IsSupported (file_of document.now)) }
 {
     document.plain
-        && are_plain_exchanges(document.exchanges.as_slice())
-        && are_plain_queues(document.queues.as_slice())
-        && are_plain_bindings(document.bindings.as_slice())
+        && document
+            .exchanges
+            .iter()
+            .all(|exchange| is_plain_exchange(exchange))
+        && document.queues.iter().all(|queue| is_plain_queue(queue))
+        && document
+            .bindings
+            .iter()
+            .all(|binding| is_plain_binding(binding))
 }
 
 // ---- 8: limits refuse

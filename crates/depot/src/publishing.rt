@@ -123,29 +123,21 @@ fn turns(
     Ok(turns)
 }
 
-/// What comes of a publish, under this publish number, at each queue of its route.
+/// What comes of a publish, of which this is the message, at each queue of its route.
 fn plan(
     alloc: Global,
     topology: &Topology,
     queues: &[Queue],
     targets: &[usize],
-    number: u64,
     publish: &Publish,
     message: &Message,
 ) -> Result<Vec<Turn>, AllocError>
     requires len { length queues.now ≡ length topology.now.queues }
     requires routed { AreTargets topology.now publish.now.exchange publish.now.routing_key targets.now }
-    ensures { IfOk result (λ turns. IsPlan topology.now (entries_of queues.now) publish.now (message number publish.now content.now) turns.items) }
+    ensures { IfOk result (λ turns. IsPlan topology.now (entries_of queues.now) publish.now message.now turns.items) }
 {
-    turns(
-        alloc,
-        topology.queues(),
-        queues,
-        targets,
-        number,
-        publish,
-        content,
-    )
+    let _ = publish;
+    turns(alloc, topology.queues(), queues, targets, message)
 }
 
 /// Makes room for a message in each of these queues.
@@ -229,7 +221,8 @@ pub(crate) fn publish_in(
     ensures queues { OnErr result (entries_of queues.new.items ≡ entries_of queues.old.items) }
     ensures notes { OnErr result (notes.new.items ≡ notes.old.items) }
 {
-    let turns = plan(alloc, topology, queues, targets, number, publish, content)?;
+    let message = Message::of_publish(alloc, number, publish, content)?;
+    let turns = plan(alloc, topology, queues, targets, publish, &message)?;
     make_room(queues, &turns)?;
     notes.reserve_exact(turns.len() + 3)?;
     let routed = Routed {

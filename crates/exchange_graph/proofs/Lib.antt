@@ -10,4 +10,5 @@ pub mod Starting
 pub mod Picking
 pub mod Alls
 pub mod Good
+pub mod Routing
 pub mod Edging

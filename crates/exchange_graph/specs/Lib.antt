@@ -5,4 +5,5 @@ pub mod Fans
 pub mod Marks
 pub mod Built
 pub mod Drafts
+pub mod Routers
 pub mod Edges

@@ -125,7 +125,11 @@ fn ends_by_key(alloc: Global, ways: &[Way], key: &[u8]) -> Result<Vec<End>, Allo
 fn ends_of(alloc: Global, ways: &[Way]) -> Result<Vec<End>, AllocError>
     ensures { IfOk result (λ ends. ends.items ≡ ends_of ways.now) }
 {
-    ways.iter().map(|way| way.end).collect(alloc)
+    let mut ends = Vec::new(alloc);
+    for way in ways {
+        ends.push(way.end)?;
+    }
+    Ok(ends)
 }
 
 /// The ends of the ways at these places.

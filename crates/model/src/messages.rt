@@ -11,6 +11,7 @@ use std::sync::Arc;
 
 /// What all copies of a publish share.
 struct Shared {
+    number: u64,
     exchange: Text,
     key: Text,
     content: Content,
@@ -20,6 +21,7 @@ struct Shared {
 impl Drop for Shared {
     fn drop(self) {
         let Shared {
+            number: _,
             exchange: _,
             key: _,
             content: _,
@@ -27,9 +29,8 @@ impl Drop for Shared {
     }
 }
 
-/// A publish in a queue, in 24 bytes of its own: its names, properties and body stand once for all of its copies.
+/// A publish in a queue, in 16 bytes of its own: its number, names, properties and body stand once for all of its copies.
 pub struct Message {
-    number: u64,
     shared: Arc<Shared>,
     redelivered: bool,
 }
@@ -38,7 +39,6 @@ pub struct Message {
 impl Drop for Message {
     fn drop(self) {
         let Message {
-            number: _,
             shared: _,
             redelivered: _,
         } = self;
@@ -50,7 +50,7 @@ impl Model for Message {
 
     ghost Value = { Seen };
 
-    ghost view = { λ m. record { number = m.number; first_exchange = m.shared.value.exchange; first_key = m.shared.value.key; exchange = m.shared.value.exchange; key = m.shared.value.key; content = m.shared.value.content; redelivered = m.redelivered } };
+    ghost view = { λ m. record { number = m.shared.value.number; first_exchange = m.shared.value.exchange; first_key = m.shared.value.key; exchange = m.shared.value.exchange; key = m.shared.value.key; content = m.shared.value.content; redelivered = m.redelivered } };
 }
 
 impl Message {
@@ -67,13 +67,13 @@ impl Message {
         ensures { IfOk result (λ m. m ≡ message number publish.now content.now) }
     {
         let shared = Shared {
+            number,
             exchange: publish.exchange.clone()?,
             key: publish.routing_key.clone()?,
             content: content.clone()?,
         };
         match Arc::new(alloc, shared) {
             Ok(shared) => Ok(Message {
-                number,
                 shared,
                 redelivered: false,
             }),
@@ -86,7 +86,6 @@ impl Message {
         ensures { IfOk result (λ m. m ≡ self.now) }
     {
         Ok(Message {
-            number: self.number,
             shared: Arc::try_clone(&self.shared)?,
             redelivered: self.redelivered,
         })
@@ -96,7 +95,7 @@ impl Message {
     pub fn number(&self) -> u64
         ensures { result ≡ self.now.number }
     {
-        self.number
+        self.shared.number
     }
 
     /// The exchange that it was published to, or as a dead letter was sent to.

@@ -15,7 +15,7 @@ const _: () = prove!(size_of::<Properties>() == 16);
 
 const _: () = prove!(size_of::<Content>() == 40);
 
-const _: () = prove!(size_of::<Message>() == 24);
+const _: () = prove!(size_of::<Message>() == 16);
 
 const _: () = prove!(size_of::<Entry>() <= 64);
 

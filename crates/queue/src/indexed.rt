@@ -256,6 +256,6 @@ fn purge_in(queue: &mut Indexed, numbers: &mut Vec<u64>)
     ensures room { queue.new.room ≡ queue.old.room }
 {
     while let Some(entry) = queue.take_first() {
-        numbers.push_reserved(entry.message.number);
+        numbers.push_reserved(entry.message.number());
     }
 }

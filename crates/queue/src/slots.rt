@@ -53,7 +53,7 @@ fn free_entry(entry: &mut Entry, holder: &Holder)
     if let Mark::Held(other) = &entry.mark {
         if is_same(holder, other) {
             entry.mark = Mark::Ready;
-            entry.message.redelivered = true;
+            entry.message.redeliver();
         }
     }
 }

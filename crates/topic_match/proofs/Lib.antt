@@ -2,4 +2,3 @@ pub mod Cuts
 pub mod Loops
 pub mod Rowing
 pub mod Some
-pub mod Behind

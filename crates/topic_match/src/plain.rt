@@ -1,6 +1,6 @@
 //! A list of patterns that compares them one by one.
 
-ghost use Rattle.std.specs.Prelude.{◌≡◌, ◌+◌, ◌∷◌, ◌++◌, [], List, IfOk, OnOk, if◌then◌else◌, length};
+ghost use Rattle.std.specs.Prelude.{◌≡◌, ◌∷◌, ◌++◌, [], List, IfOk, OnOk, if◌then◌else◌, length};
 ghost use Rattle.model.specs.declared.texts.Token.{Token};
 ghost use Rattle.topic_match.specs.Places.{AreMatches};
 ghost use Rattle.topic_match.specs.Rows.{AreSome};
@@ -8,7 +8,7 @@ ghost use Rattle.topic_match.specs.Rows.{AreSome};
 use crate::matchers::Matcher;
 use crate::patterns::Pattern;
 use crate::pieces::split;
-use crate::rows::{matches, row_for};
+use crate::rows::matches;
 use model::Text;
 use std::alloc::{AllocError, Global};
 use std::marker::Model;
@@ -23,30 +23,15 @@ fn add_if(places: &mut Vec<usize>, yes: bool, place: usize) -> Result<(), AllocE
     Ok(())
 }
 
-/// The places of the patterns that match these words. All of them use one row.
-fn places_in(
-    alloc: Global,
-    patterns: &[Pattern],
-    words: &[Text],
-    row: &mut [bool],
-) -> Result<Vec<usize>, AllocError>
-    requires { length row.old ≡ length words.now + 1 }
-    ensures { IfOk result (λ places. AreSome patterns.now words.now (length patterns.now) places.items) }
-{
-    let mut places = Vec::new(alloc);
-    for place in 0..patterns.len() {
-        let yes = matches(patterns[place].tokens(), words, row);
-        add_if(&mut places, yes, place)?;
-    }
-    Ok(places)
-}
-
 /// The places of the patterns that match these words.
 fn places_of(alloc: Global, patterns: &[Pattern], words: &[Text]) -> Result<Vec<usize>, AllocError>
     ensures { IfOk result (λ places. AreSome patterns.now words.now (length patterns.now) places.items) }
 {
-    let mut row = row_for(alloc, words)?;
-    let places = places_in(alloc, patterns, words, row.as_mut_slice())?;
+    let mut places = Vec::new(alloc);
+    for place in 0..patterns.len() {
+        let yes = matches(alloc, patterns[place].tokens(), words)?;
+        add_if(&mut places, yes, place)?;
+    }
     Ok(places)
 }
 

@@ -1,6 +1,6 @@
 //! Whether a pattern matches, from its last token to its first.
 
-ghost use Rattle.std.specs.Prelude.{All, Decides, IfOk, vec_len, List, ◌≡◌, ◌+◌, ◌<◌, ◌∷◌, [], length, false, replicate};
+ghost use Rattle.std.specs.Prelude.{Decides, IfOk, List, ◌≡◌, ◌+◌, ◌<◌, ◌∷◌, [], length, false, replicate};
 ghost use Rattle.model.specs.Words.{Matches, tokens, words};
 ghost use Rattle.model.specs.declared.texts.Token.{Token as Letter};
 ghost use Rattle.topic_match.specs.Rows.{IsMoved, IsRow, IsShifted, IsSpread, takes};
@@ -68,62 +68,43 @@ fn step(token: &Token, words: &[Text], row: &mut [bool])
     }
 }
 
-/// Whether nothing is set: whatever stands before these tokens matches nothing.
-fn is_unset(row: &[bool]) -> bool
-    ensures { Decides result (All (λ b. b ≡ false) row.now) }
-{
-    row.iter().all(|mark| !*mark)
-}
-
 /// Whether these tokens match these words, from the row of no tokens.
 fn matches_words(tokens: &[Token], words: &[Text], row: &mut [bool]) -> bool
     requires { IsRow [] words.now row.old }
-    ensures matches { Decides result (Matches tokens.now words.now) }
-    ensures room { length row.new ≡ length words.now + 1 }
+    ensures { Decides result (Matches tokens.now words.now) }
 {
     let mut at = tokens.len();
     while at > 0 {
         at -= 1;
         step(&tokens[at], words, row);
-        if is_unset(row) {
-            return false;
-        }
     }
     row[0]
 }
 
-/// No mark is set.
-fn unset(row: &mut [bool])
-    ensures { row.new ≡ replicate (length row.old) false }
+/// This many marks, none of them set.
+fn unset(alloc: Global, count: usize) -> Result<Vec<bool>, AllocError>
+    ensures { IfOk result (λ marks. marks.items ≡ replicate count false) }
 {
-    row.fill(false);
+    let marks = vec![in alloc; false; count]?;
+    Ok(marks)
 }
 
 /// The row of no tokens: they match no words.
-fn begin(words: &[Text], row: &mut [bool])
-    requires { length row.old ≡ length words.now + 1 }
-    ensures { IsRow [] words.now row.new }
+fn first_row(alloc: Global, words: &[Text]) -> Result<Vec<bool>, AllocError>
+    ensures { IfOk result (λ row. IsRow [] words.now row.items) }
 {
-    unset(row);
+    let mut row = unset(alloc, words.len() + 1)?;
     row[words.len()] = true;
-}
-
-/// A row for these words.
-pub fn row_for(alloc: Global, words: &[Text]) -> Result<Vec<bool>, AllocError>
-    ensures { IfOk result (λ row. vec_len row ≡ length words.now + 1) }
-{
-    let row = vec![in alloc; false; words.len() + 1]?;
     Ok(row)
 }
 
-/// Whether a pattern matches these words. Whatever stood in the row is written over.
-pub fn matches(tokens: &[Token], words: &[Text], row: &mut [bool]) -> bool
-    requires { length row.old ≡ length words.now + 1 }
-    ensures matches { Decides result (Matches tokens.now words.now) }
-    ensures room { length row.new ≡ length row.old }
+/// Whether a pattern matches these words.
+pub fn matches(alloc: Global, tokens: &[Token], words: &[Text]) -> Result<bool, AllocError>
+    ensures { IfOk result (λ yes. Decides yes (Matches tokens.now words.now)) }
 {
-    begin(words, row);
-    matches_words(tokens, words, row)
+    let mut row = first_row(alloc, words)?;
+    let yes = matches_words(tokens, words, row.as_mut_slice());
+    Ok(yes)
 }
 
 /// Whether a key matches this text as a topic pattern, in a time that is their numbers of words multiplied. The text may
@@ -134,6 +115,6 @@ pub fn covers_key(alloc: Global, pattern: &[u8], key: &[u8]) -> Result<bool, All
     let parts = split(alloc, pattern)?;
     let tokens = tokens_of(alloc, parts.as_slice())?;
     let words = split(alloc, key)?;
-    let mut row = row_for(alloc, words.as_slice())?;
-    Ok(matches(tokens.as_slice(), words.as_slice(), row.as_mut_slice()))
+    let yes = matches(alloc, tokens.as_slice(), words.as_slice())?;
+    Ok(yes)
 }

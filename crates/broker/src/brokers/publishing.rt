@@ -54,7 +54,7 @@ impl Broker {
         let number = self.depot.published() + 1;
         let confirm = self.links.next_confirm(connection, channel);
         let mut step = Step::nothing(alloc);
-        step.sends.reserve(1)?;
+        step.sends.reserve_exact(1)?;
         let routed = self.depot.publish(
             alloc,
             connection,

@@ -37,6 +37,6 @@ pub fn method(alloc: Global, payload: &[u8]) -> Result<String, Unanswered> {
 pub fn bind(alloc: Global, payload: &[u8]) -> Result<String, Unanswered> {
     yes_or_no(
         alloc,
-        matches!(read_method(alloc, payload), Ok(Method::QueueBind)),
+        matches!(&read_method(alloc, payload), Ok(Method::QueueBind)),
     )
 }

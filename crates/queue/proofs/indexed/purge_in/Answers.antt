@@ -26,6 +26,7 @@ loop-entry-preserved c =
     let k = c.push_reserved.ensures.capacity in
     let room = i.1.1.0 in (
       ap (λ (ns : List ℕ). ns ++ map number_of (filter is_ready c.take_first.new.self.entries)) c.push_reserved.ensures.items
+          ∙ ap (λ (n : ℕ). (c.loop-entry.numbers.items ++ n ∷ []) ++ map number_of (filter is_ready c.take_first.new.self.entries)) c.number.ensures
           ∙ ap (λ (es : List Entry). (c.loop-entry.numbers.items ++ number_of c.in-Some.entry ∷ []) ++ map number_of (filter is_ready es)) q
           ∙ purged_more c.loop-entry.numbers.items c.loop-entry.queue.entries c.in-Some.entry c.in-Some.ensures.taken ∙ i.0,
       (

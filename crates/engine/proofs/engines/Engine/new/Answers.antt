@@ -1,0 +1,18 @@
+use Rattle.std.proofs.Common.{◌≡◌, List, [], rules, subst, sym}
+use Rattle.model.specs.Topology.{Topology, IsWellFormed}
+use Rattle.model.specs.Guarantee.{AllHold}
+use Rattle.model.specs.Consistent.{IsConsistent}
+use Rattle.broker.specs.State.{topology_of}
+use Rattle.engine.specs.declared.links.Link.{Link}
+use Rattle.engine.specs.World.{AreLinks, IsEngine, Parts, world_of}
+use Rattle.engine.proofs.engines.Engine.new.Goals as goal
+
+pub invariant_of-result : goal.invariant_of-result
+invariant_of-result c =
+    let t : topology_of c.in_ok-new.field-0 ≡ c.into_parts-topology.result.0 = c.in_ok-new.ensures.topology in
+    let formed' : IsWellFormed (topology_of c.in_ok-new.field-0) = subst (λ (z : Topology). IsWellFormed z) (sym t) c.into_parts-topology.ensures.well_formed in
+    let hold' : AllHold (topology_of c.in_ok-new.field-0) c.into_parts-topology.result.1.items = subst (λ (z : Topology). AllHold z c.into_parts-topology.result.1.items) (sym t) c.into_parts-topology.ensures.hold in
+    let parts : Parts = record { broker = c.in_ok-new.field-0; guarantees = c.into_parts-topology.result.1.items; users = c.args.users.items; given = 0; links = c.new-2.result.items } in
+    let links' : AreLinks 0 c.new-2.result.items = rw c.new-2.ensures.items (record { rising = tt; each = tt }) in
+    let consistent' : IsConsistent (world_of parts) = search rules in
+    record { hold = hold'; formed = formed'; links = links'; consistent = consistent' }
