@@ -2,12 +2,12 @@
 //! admitted, checked, searched and disproved.
 
 mod admission;
-mod certificate_files;
 mod certificates;
 mod files;
 mod guarantee_files;
 mod names;
 mod patterns;
+mod rewriting;
 mod sources;
 mod stated;
 mod words;
@@ -50,6 +50,6 @@ pub fn of_certificates(rt: &HostRuntime, kind: &str, asked: &str) -> Result<Stri
     match kind {
         "admit" | "admitted" => admission::answer(rt, asked),
         "check" | "search" | "certificate" | "disprove" => certificates::answer(rt, kind, asked),
-        _ => certificate_files::answer(rt, kind, asked),
+        _ => rewriting::answer(rt, kind, asked),
     }
 }
