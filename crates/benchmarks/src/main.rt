@@ -40,12 +40,12 @@ fn measure(rt: &HostRuntime, word: &str) -> io::Result<()> {
 
 fn main(rt: HostRuntime) -> io::Result<()> {
     let mut words = env::args(&rt)?.skip(1);
-    match (words.next(), words.next()) {
-        (Some(word), Some(name)) if word == "publishes" => publishes::measure_one(
-            &rt,
-            name.as_str(),
-        ),
-        (Some(word), None) => measure(&rt, word.as_str()),
-        _ => println!(&rt; "{USAGE}"),
+    let Some(word) = words.next() else {
+        return println!(&rt; "{USAGE}");
+    };
+    match words.next() {
+        Some(name) if word.as_str() == "publishes" => publishes::measure_one(&rt, name.as_str()),
+        Some(_) => println!(&rt; "{USAGE}"),
+        None => measure(&rt, word.as_str()),
     }
 }
