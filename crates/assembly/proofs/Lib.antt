@@ -4,3 +4,4 @@ pub mod Places
 pub mod Onwards
 pub mod Staying
 pub mod Once
+mod Limits

@@ -2,7 +2,7 @@
 use Rattle.std.specs.Prelude.{◌≡◌, ◌≤◌, ℕ, List, slice_index_or, ⊤}
 use Rattle.model.specs.Grammar.{IsMethod}
 use Rattle.model.specs.Commands
-use Rattle.model.specs.Commands.{Wants_header, Wants_body}
+use Rattle.model.specs.Commands.{Wants_header, Wants_body, IsWithinLimits}
 use Rattle.model.specs.declared.methods.Method.TheVariants.{BasicPublish}
 use Rattle.assembly.specs.declared.contents.Pending.{Pending}
 use Rattle.assembly.specs.declared.contents.Pending.TheVariants.{Nothing, WantsHeader, WantsBody, Drops}
@@ -14,11 +14,11 @@ pending_of (WantsHeader publish) = Wants_header publish
 pending_of (WantsBody g) = Wants_body g.publish g.properties g.size g.body
 pending_of (Drops d) = Commands.Drops d.size d.count
 
--- its publish, if there is one, has a spelling, and no more is dropped than was declared
+-- its publish, if there is one, has a spelling, a content that is gathered is not too large, and no more is dropped than was declared
 abbrev pub IsSpelled : Pending → Type 0
 IsSpelled Nothing = ⊤
 IsSpelled (WantsHeader publish) = IsMethod (BasicPublish publish)
-IsSpelled (WantsBody g) = IsMethod (BasicPublish g.publish)
+IsSpelled (WantsBody g) = IsMethod (BasicPublish g.publish) × IsWithinLimits g.size g.properties
 IsSpelled (Drops d) = d.count ≤ d.size
 
 -- the element of a channel, in a list by channel number

@@ -1,9 +1,9 @@
 //! What one frame does to the channel that awaits it.
 
-ghost use Rattle.std.specs.Prelude.{◌≡◌, ◌+◌, ◌==◌, ◌++◌, ℕ, length, MatchBool, Result, Ok};
+ghost use Rattle.std.specs.Prelude.{◌≡◌, ◌+◌, ◌==◌, ◌++◌, ℕ, length, false, MatchBool, Result, Ok};
 ghost use Rattle.model.specs.Commands;
-ghost use Rattle.model.specs.Commands.{Breaks, TakesPayload, awaited, taken_body, taken_header, taken_method};
-ghost use Rattle.model.specs.Headers.{Header, SaysHeader};
+ghost use Rattle.model.specs.Commands.{IsWithinLimits, Breaks, TakesPayload, awaited, taken_body, taken_header, taken_method};
+ghost use Rattle.model.specs.Headers.{Header, SaysHeader, size_at};
 ghost use Rattle.model.specs.Grammar.{IsMethod};
 ghost use Rattle.model.specs.declared.methods.Method.TheVariants.{BasicPublish};
 ghost use Rattle.frame.specs.Reading.{seen};
@@ -108,7 +108,8 @@ fn take_header(alloc: Global, publish: Publish, frame: &Frame<'_>) -> Taking
 
 /// A header that is not too large. A body of no bytes is whole.
 fn begin_content(alloc: Global, publish: Publish, frame: &Frame<'_>) -> Taking
-    requires { IsMethod (BasicPublish publish) }
+    requires publish { IsMethod (BasicPublish publish) }
+    requires small { Commands.is_too_large frame.now.payload.now (size_at frame.now.payload.now) ≡ false }
     ensures spelled { IsSpelled result.0 }
     ensures does { Does (λ t. (r : Result Header ℕ) × SaysHeader frame.now.payload.now r × (t ≡ taken_header frame.now.channel publish r)) (Commands.Wants_header publish) result.1 (pending_of result.0) }
 {
@@ -142,7 +143,7 @@ fn begin_content(alloc: Global, publish: Publish, frame: &Frame<'_>) -> Taking
 
 /// A piece of a body. Past the declared size it is a fault, and at it the publish is a command.
 fn take_body(gathering: Gathering, frame: &Frame<'_>) -> Taking
-    requires { IsMethod (BasicPublish gathering.publish) }
+    requires { IsMethod (BasicPublish gathering.publish) × IsWithinLimits gathering.size gathering.properties }
     ensures spelled { IsSpelled result.0 }
     ensures does { Does (λ t. t ≡ taken_body frame.now.channel gathering.publish gathering.properties gathering.size (gathering.body ++ frame.now.payload.now)) (pending_of (WantsBody gathering)) result.1 (pending_of result.0) }
 {
@@ -162,7 +163,7 @@ fn take_body(gathering: Gathering, frame: &Frame<'_>) -> Taking
 
 /// The last piece of a body.
 fn finish_body(gathering: Gathering, frame: &Frame<'_>) -> Taking
-    requires spelled { IsMethod (BasicPublish gathering.publish) }
+    requires spelled { IsMethod (BasicPublish gathering.publish) × IsWithinLimits gathering.size gathering.properties }
     requires last { length gathering.body + length frame.now.payload.now ≡ gathering.size }
     ensures spelled { IsSpelled result.0 }
     ensures does { Does (λ t. t ≡ taken_body frame.now.channel gathering.publish gathering.properties gathering.size (gathering.body ++ frame.now.payload.now)) (pending_of (WantsBody gathering)) result.1 (pending_of result.0) }

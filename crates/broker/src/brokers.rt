@@ -1,21 +1,24 @@
 //! The broker's step, case by case.
 
-ghost use Rattle.std.specs.Prelude.{◌≡◌, [], IfOk};
-ghost use Rattle.model.specs.Step.{select_sends};
-ghost use Rattle.broker.specs.Sent.{AreOwn};
+mod closing;
+mod publishing;
+mod running;
 
-use crate::closes::{
-    channel_close, channel_close_ok, connection_close, connection_close_ok, select_ok,
-};
+use crate::closes::{connection_close, connection_close_ok};
 use crate::links::Links;
 use crate::refusals::{Act, Refusal, judge, judge_large};
 use crate::steps::Step;
-use channel::Channel;
 use depot::Depot;
 use exchange_graph::Topology;
-use model::{Content, Event, Ids, Method, Properties, Publish, Send, Text};
+use model::{Content, Event, Ids, Method};
 use std::alloc::{AllocError, Global};
 use std::marker::Model;
+
+/// What names a publish in the close that answers it.
+const PUBLISH: Ids = Ids {
+    class: 60,
+    method: 40,
+};
 
 /// Queues, and the connections that run with their channels.
 pub struct Broker {
@@ -39,56 +42,13 @@ impl Model for Broker {
 }
 
 impl Broker {
-    ghost use Rattle.std.specs.Prelude.{
-      ◌≡◌,
-      ◌+◌,
-      ◌<◌,
-      ◌^◌,
-      ◌∷◌,
-      ◌++◌,
-      [],
-      ℕ,
-      None,
-      Some,
-      true,
-      false,
-      IsSome,
-      IfOk,
-      IsOk,
-      OnOk,
-      OnErr,
-    };
-    ghost use Rattle.model.specs.Broker as seen;
-    ghost use Rattle.model.specs.Step as said;
-    ghost use Rattle.model.specs.Step.{
-      Acts,
-      Does,
-      Is,
-      IsPublish,
-      Refuses,
-      OnConnection,
-      OnLarge,
-      Performs,
-      content_or_none,
-      opened,
-      with_gone,
-      with_closing,
-      with_channel,
-      with_paused,
-      after_close,
-      reply,
-      started,
-      select_sends,
-      channel_or_new,
-      empty_publish,
-      refusal_of_publish,
-    };
-    ghost use Rattle.model.specs.declared.events.Event.TheVariants as event_is;
-    ghost use Rattle.model.specs.declared.methods.Method.TheVariants.{ChannelCloseOk};
-    ghost use Rattle.broker.specs.State.{broker_of, topology_of, nothing};
-    ghost use Rattle.broker.specs.Judged.{seen as said_of, HasChannel, IsIgnored, IsLargeIgnored, WantsNoMemory, JudgesOn, JudgesLarge, Asks, CanAct};
+    ghost use Rattle.std.specs.Prelude.{◌≡◌, [], IfOk, IsOk, OnErr};
+    ghost use Rattle.model.specs.Spelling.{AreOwn};
+    ghost use Rattle.model.specs.Step.{Acts, Is, OnConnection, OnLarge, Performs, channel_or_new};
     ghost use Rattle.model.specs.declared.methods.Method.{Method as Seen};
-    ghost use Rattle.broker.specs.Sent.{IsOwn, AreOwn, connection_of_event};
+    ghost use Rattle.broker.specs.State.{broker_of, topology_of, nothing};
+    ghost use Rattle.broker.specs.Judged.{IsIgnored, IsLargeIgnored, WantsNoMemory, JudgesOn, JudgesLarge, Asks, CanAct};
+    ghost use Rattle.broker.specs.Sent.{connection_of_event};
 
     /// The broker of this topology: its queues are empty, and no connection runs.
     pub fn new(alloc: Global, topology: Topology) -> Result<Broker, AllocError>
@@ -129,258 +89,6 @@ impl Broker {
         match self.links.get(connection) {
             None => None,
             Some(link) => Some(judge_large(link, channel)),
-        }
-    }
-
-    /// The connection runs from now on, with channels 1 to `channels` open. Where memory is wanting, nothing has changed.
-    pub fn open(
-        &mut self,
-        alloc: Global,
-        connection: u64,
-        channel_max: u16,
-        channels: u16,
-    ) -> Result<(), AllocError>
-        ensures ok { OnOk result (Acts (topology_of self.old) (broker_of self.old) (event_is.Running connection channel_max channels) [] [] (broker_of self.new)) }
-        ensures topology { topology_of self.new ≡ topology_of self.old }
-        ensures err { OnErr result (self.new ≡ self.old) }
-    {
-        self.links.open(alloc, connection, channel_max, channels)
-    }
-
-    /// The connection runs no more: what it held is ready again.
-    fn go(&mut self, connection: u64)
-        ensures gone { Is (with_gone (broker_of self.old) connection) (broker_of self.new) }
-        ensures topology { topology_of self.new ≡ topology_of self.old }
-    {
-        self.depot.requeue_connection(connection);
-        self.links.remove(connection);
-    }
-
-    /// The connection is paused from now on, or is not.
-    fn set_paused(&mut self, connection: u64, is_paused: bool)
-        ensures paused { Is (with_paused (broker_of self.old) connection is_paused) (broker_of self.new) }
-        ensures topology { topology_of self.new ≡ topology_of self.old }
-    {
-        self.links.set_paused(connection, is_paused);
-    }
-
-    /// This close, or answer to a close, is sent, and the connection runs no more.
-    fn close_connection(
-        &mut self,
-        alloc: Global,
-        connection: u64,
-        send: Send,
-    ) -> Result<Step, AllocError>
-        ensures ok { IfOk result (λ s. Does s.sends.items s.notes.items (broker_of self.new) (send ∷ []) (with_gone (broker_of self.old) connection)) }
-        ensures own { IfOk result (λ s. IsOwn connection send → AreOwn connection s.sends.items) }
-        ensures topology { topology_of self.new ≡ topology_of self.old }
-        ensures err { OnErr result (self.new ≡ self.old) }
-    {
-        let step = Step::sending(alloc, send)?;
-        self.go(connection);
-        Ok(step)
-    }
-
-    /// What the channel held is ready again, and this stands in its place.
-    fn clear(&mut self, connection: u64, number: u16, channel: Option<Channel>)
-        requires { IsSome ((broker_of self.old).channel connection number) }
-        ensures cleared { Is (said.with_freed (with_channel (broker_of self.old) connection number channel) (said.by_channel connection number)) (broker_of self.new) }
-        ensures topology { topology_of self.new ≡ topology_of self.old }
-    {
-        self.depot.requeue_channel(connection, number);
-        self.links.put(connection, number, channel);
-    }
-
-    /// This close is sent on the channel, which awaits close-ok from now on.
-    fn close_channel(
-        &mut self,
-        alloc: Global,
-        connection: u64,
-        channel: u16,
-        send: Send,
-    ) -> Result<Step, AllocError>
-        requires { IsSome ((broker_of self.old).channel connection channel) }
-        ensures ok { IfOk result (λ s. Does s.sends.items s.notes.items (broker_of self.new) (send ∷ []) (with_closing (broker_of self.old) connection channel)) }
-        ensures own { IfOk result (λ s. IsOwn connection send → AreOwn connection s.sends.items) }
-        ensures topology { topology_of self.new ≡ topology_of self.old }
-        ensures err { OnErr result (self.new ≡ self.old) }
-    {
-        let step = Step::sending(alloc, send)?;
-        self.clear(connection, channel, Some(Channel::closing()));
-        Ok(step)
-    }
-
-    /// The client's close of a channel is answered. One that awaits close-ok goes on waiting for it; any other is gone.
-    fn answer_close(
-        &mut self,
-        alloc: Global,
-        connection: u64,
-        channel: u16,
-        is_closing: bool,
-    ) -> Result<Step, AllocError>
-        requires there { IsSome ((broker_of self.old).channel connection channel) }
-        requires closing { (channel_or_new ((broker_of self.old).channel connection channel)).is_closing ≡ is_closing }
-        ensures ok { IfOk result (λ s. Does s.sends.items s.notes.items (broker_of self.new) (reply connection channel ChannelCloseOk ∷ []) (after_close (broker_of self.old) connection channel (channel_or_new ((broker_of self.old).channel connection channel)))) }
-        ensures own { IfOk result (λ s. AreOwn connection s.sends.items) }
-        ensures topology { topology_of self.new ≡ topology_of self.old }
-        ensures err { OnErr result (self.new ≡ self.old) }
-    {
-        let step = Step::sending(alloc, channel_close_ok(connection, channel))?;
-        if !is_closing {
-            self.clear(connection, channel, None);
-        }
-        Ok(step)
-    }
-
-    /// The client agrees to the close of the channel, which is gone.
-    fn end_channel(&mut self, alloc: Global, connection: u64, channel: u16) -> Step
-        requires { IsSome ((broker_of self.old).channel connection channel) }
-        ensures does { Does result.sends.items result.notes.items (broker_of self.new) [] (with_channel (broker_of self.old) connection channel None) }
-        ensures topology { topology_of self.new ≡ topology_of self.old }
-    {
-        self.links.put(connection, channel, None);
-        Step::nothing(alloc)
-    }
-
-    /// Publishes on the channel are confirmed from now on. That is answered where an answer is wanted.
-    fn select(
-        &mut self,
-        alloc: Global,
-        connection: u64,
-        channel: u16,
-        no_wait: bool,
-    ) -> Result<Step, AllocError>
-        requires { IsSome ((broker_of self.old).channel connection channel) }
-        ensures ok { IfOk result (λ s. (ch : seen.Channel) → (broker_of self.old).channel connection channel ≡ Some ch → Does s.sends.items s.notes.items (broker_of self.new) (select_sends connection channel no_wait) (with_channel (broker_of self.old) connection channel (Some (record ch { confirm = started ch.confirm })))) }
-        ensures own { IfOk result (λ s. AreOwn connection s.sends.items) }
-        ensures topology { topology_of self.new ≡ topology_of self.old }
-        ensures err { OnErr result (self.new ≡ self.old) }
-    {
-        let step = answer_select(alloc, connection, channel, no_wait)?;
-        self.links.select(connection, channel);
-        Ok(step)
-    }
-
-    /// The message goes to each routed queue, and is confirmed where the channel confirms.
-    fn publish(
-        &mut self,
-        alloc: Global,
-        connection: u64,
-        channel: u16,
-        publish: &Publish,
-        content: &Content,
-    ) -> Result<Step, AllocError>
-        requires there { IsSome ((broker_of self.old).channel connection channel) }
-        requires accepted { refusal_of_publish (topology_of self.old) (broker_of self.old) (channel_or_new ((broker_of self.old).channel connection channel)) publish.now ≡ None }
-        ensures ok { IfOk result (λ s. IsPublish (topology_of self.old) (broker_of self.old) connection channel (channel_or_new ((broker_of self.old).channel connection channel)) publish.now content.now s.sends.items s.notes.items (broker_of self.new)) }
-        ensures own { IfOk result (λ s. AreOwn connection s.sends.items) }
-        ensures topology { topology_of self.new ≡ topology_of self.old }
-        ensures err { OnErr result (self.new ≡ self.old) }
-    {
-        let number = self.depot.published() + 1;
-        let confirm = self.links.next_confirm(connection, channel);
-        let mut step = Step::nothing(alloc);
-        step.sends.reserve(1)?;
-        let routed = self.depot.publish(
-            alloc,
-            connection,
-            channel,
-            publish,
-            content,
-            confirm,
-            &mut step.notes,
-        )?;
-        self.links.count_publish(connection, channel);
-        step.confirm(connection, channel, number, confirm, routed.is_some_full);
-        Ok(step)
-    }
-
-    /// The refused command does nothing, or closes its channel or its connection with the code of the refusal.
-    fn refuse(
-        &mut self,
-        alloc: Global,
-        connection: u64,
-        channel: u16,
-        method: &Method,
-        refusal: Refusal,
-    ) -> Result<Step, AllocError>
-        requires { HasChannel refusal ((broker_of self.old).channel connection channel) }
-        ensures ok { IfOk result (λ s. Refuses (broker_of self.old) connection channel method.now (said_of refusal) s.sends.items s.notes.items (broker_of self.new)) }
-        ensures ignored { said_of refusal ≡ said.Ignored → IsOk result }
-        ensures own { IfOk result (λ s. AreOwn connection s.sends.items) }
-        ensures topology { topology_of self.new ≡ topology_of self.old }
-        ensures err { OnErr result (self.new ≡ self.old) }
-    {
-        match refusal {
-            Refusal::Ignored => Ok(Step::nothing(alloc)),
-            Refusal::Channel(code) => {
-                let send = channel_close(connection, channel, code, method.ids());
-                self.close_channel(alloc, connection, channel, send)
-            }
-            Refusal::Connection(code) => {
-                let send = connection_close(connection, code, method.ids());
-                self.close_connection(alloc, connection, send)
-            }
-        }
-    }
-
-    /// A publish whose texts are not known any more is refused in the same way.
-    fn refuse_publish(
-        &mut self,
-        alloc: Global,
-        connection: u64,
-        channel: u16,
-        refusal: Refusal,
-    ) -> Result<Step, AllocError>
-        requires { HasChannel refusal ((broker_of self.old).channel connection channel) }
-        ensures ok { IfOk result (λ s. Refuses (broker_of self.old) connection channel empty_publish (said_of refusal) s.sends.items s.notes.items (broker_of self.new)) }
-        ensures ignored { said_of refusal ≡ said.Ignored → IsOk result }
-        ensures own { IfOk result (λ s. AreOwn connection s.sends.items) }
-        ensures topology { topology_of self.new ≡ topology_of self.old }
-        ensures err { OnErr result (self.new ≡ self.old) }
-    {
-        let publish = Ids {
-            class: 60,
-            method: 40,
-        };
-        match refusal {
-            Refusal::Ignored => Ok(Step::nothing(alloc)),
-            Refusal::Channel(code) => {
-                let send = channel_close(connection, channel, code, publish);
-                self.close_channel(alloc, connection, channel, send)
-            }
-            Refusal::Connection(code) => {
-                let send = connection_close(connection, code, publish);
-                self.close_connection(alloc, connection, send)
-            }
-        }
-    }
-
-    /// A publish, with no content where none came with it.
-    fn publish_content(
-        &mut self,
-        alloc: Global,
-        connection: u64,
-        channel: u16,
-        publish: &Publish,
-        content: &Option<Content>,
-    ) -> Result<Step, AllocError>
-        requires there { IsSome ((broker_of self.old).channel connection channel) }
-        requires accepted { refusal_of_publish (topology_of self.old) (broker_of self.old) (channel_or_new ((broker_of self.old).channel connection channel)) publish.now ≡ None }
-        ensures ok { IfOk result (λ s. IsPublish (topology_of self.old) (broker_of self.old) connection channel (channel_or_new ((broker_of self.old).channel connection channel)) publish.now (content_or_none content.now) s.sends.items s.notes.items (broker_of self.new)) }
-        ensures own { IfOk result (λ s. AreOwn connection s.sends.items) }
-        ensures topology { topology_of self.new ≡ topology_of self.old }
-        ensures err { OnErr result (self.new ≡ self.old) }
-    {
-        match content {
-            Some(content) => self.publish(alloc, connection, channel, publish, content),
-            None => {
-                let content = Content {
-                    properties: Properties::none(),
-                    body: Text::empty(),
-                };
-                self.publish(alloc, connection, channel, publish, &content)
-            }
         }
     }
 
@@ -431,7 +139,7 @@ impl Broker {
     {
         match self.judge_command(connection, channel, method) {
             None => Ok(Step::nothing(alloc)),
-            Some(Err(refusal)) => self.refuse(alloc, connection, channel, method, refusal),
+            Some(Err(refusal)) => self.refuse(alloc, connection, channel, method.ids(), refusal),
             Some(Ok(act)) => self.act(alloc, connection, channel, act, content),
         }
     }
@@ -451,32 +159,8 @@ impl Broker {
     {
         match self.judge_large(connection, channel) {
             None => Ok(Step::nothing(alloc)),
-            Some(refusal) => self.refuse_publish(alloc, connection, channel, refusal),
+            Some(refusal) => self.refuse(alloc, connection, channel, PUBLISH, refusal),
         }
-    }
-
-    /// The connection is lost: what it held is ready again, and it is gone with its channels. It takes no memory.
-    pub fn lose(&mut self, connection: u64)
-        ensures acts { Acts (topology_of self.old) (broker_of self.old) (event_is.Lose connection) [] [] (broker_of self.new) }
-        ensures topology { topology_of self.new ≡ topology_of self.old }
-    {
-        self.go(connection);
-    }
-
-    /// The output of the connection holds 1,048,576 bytes or more from now on. It takes no memory.
-    pub fn pause(&mut self, connection: u64)
-        ensures acts { Acts (topology_of self.old) (broker_of self.old) (event_is.Pause connection) [] [] (broker_of self.new) }
-        ensures topology { topology_of self.new ≡ topology_of self.old }
-    {
-        self.set_paused(connection, true);
-    }
-
-    /// It holds fewer again. It takes no memory.
-    pub fn resume(&mut self, connection: u64)
-        ensures acts { Acts (topology_of self.old) (broker_of self.old) (event_is.Resume connection) [] [] (broker_of self.new) }
-        ensures topology { topology_of self.new ≡ topology_of self.old }
-    {
-        self.set_paused(connection, false);
     }
 
     /// One event: what it sends, all to its own connection, what it notes, and the state after it. Where memory is
@@ -528,23 +212,5 @@ impl Broker {
                 Ok(Step::nothing(alloc))
             }
         }
-    }
-}
-
-/// The answer to confirm.select, where one is wanted.
-fn answer_select(
-    alloc: Global,
-    connection: u64,
-    channel: u16,
-    no_wait: bool,
-) -> Result<Step, AllocError>
-    ensures sends { IfOk result (λ s. s.sends.items ≡ select_sends connection channel no_wait) }
-    ensures notes { IfOk result (λ s. s.notes.items ≡ []) }
-    ensures own { IfOk result (λ s. AreOwn connection s.sends.items) }
-{
-    if no_wait {
-        Ok(Step::nothing(alloc))
-    } else {
-        Step::sending(alloc, select_ok(connection, channel))
     }
 }

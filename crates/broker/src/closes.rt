@@ -1,17 +1,20 @@
 //! The methods that the broker sends.
 
-ghost use Rattle.std.specs.Prelude.{◌≡◌, ◌<◌, None, true, false, length};
+ghost use Rattle.std.specs.Prelude.{◌≡◌, ◌<◌, ◌≤◌, ◌∷◌, [], true, false, length};
 ghost use Rattle.model.specs.Codes.{code_text};
-ghost use Rattle.model.specs.Grammar.{ids};
+ghost use Rattle.model.specs.Grammar.{ids, IsMethod, method_bytes};
 ghost use Rattle.model.specs.Step as said;
 ghost use Rattle.model.specs.declared.methods.Method.TheVariants as seen;
-ghost use Rattle.broker.specs.Sent.{IsOwn};
+ghost use Rattle.model.specs.Spelling.{AreOwn};
 
 use model::{Ack, Answer, Close, Ids, Method, Nack, Send, reply_text};
 
-/// A method that carries no content.
+/// A method that carries no content, and fits the least frame.
 fn reply(connection: u64, channel: u16, method: Method) -> Send
-    ensures { result ≡ said.reply connection channel method }
+    requires spelled { IsMethod method }
+    requires size { length (method_bytes method) ≤ 4088 }
+    ensures send { result ≡ said.reply connection channel method }
+    ensures own { AreOwn connection (result ∷ []) }
 {
     Send::Command {
         connection,
@@ -37,7 +40,7 @@ fn close(code: u16, cause: Ids) -> Close
 /// channel.close, with this reply code, for this method.
 pub(crate) fn channel_close(connection: u64, channel: u16, code: u16, cause: Ids) -> Send
     ensures send { result ≡ said.channel_close connection channel code (ids cause.class cause.method) }
-    ensures own { IsOwn connection result }
+    ensures own { AreOwn connection (result ∷ []) }
 {
     reply(
         connection,
@@ -49,7 +52,7 @@ pub(crate) fn channel_close(connection: u64, channel: u16, code: u16, cause: Ids
 /// connection.close, with this reply code, for this method.
 pub(crate) fn connection_close(connection: u64, code: u16, cause: Ids) -> Send
     ensures send { result ≡ said.connection_close connection code (ids cause.class cause.method) }
-    ensures own { IsOwn connection result }
+    ensures own { AreOwn connection (result ∷ []) }
 {
     reply(connection, 0, Method::ConnectionClose(close(code, cause)))
 }
@@ -57,7 +60,7 @@ pub(crate) fn connection_close(connection: u64, code: u16, cause: Ids) -> Send
 /// channel.close-ok.
 pub(crate) fn channel_close_ok(connection: u64, channel: u16) -> Send
     ensures send { result ≡ said.reply connection channel seen.ChannelCloseOk }
-    ensures own { IsOwn connection result }
+    ensures own { AreOwn connection (result ∷ []) }
 {
     reply(connection, channel, Method::ChannelCloseOk)
 }
@@ -65,7 +68,7 @@ pub(crate) fn channel_close_ok(connection: u64, channel: u16) -> Send
 /// connection.close-ok.
 pub(crate) fn connection_close_ok(connection: u64) -> Send
     ensures send { result ≡ said.reply connection 0 seen.ConnectionCloseOk }
-    ensures own { IsOwn connection result }
+    ensures own { AreOwn connection (result ∷ []) }
 {
     reply(connection, 0, Method::ConnectionCloseOk)
 }
@@ -73,7 +76,7 @@ pub(crate) fn connection_close_ok(connection: u64) -> Send
 /// confirm.select-ok.
 pub(crate) fn select_ok(connection: u64, channel: u16) -> Send
     ensures send { result ≡ said.reply connection channel seen.ConfirmSelectOk }
-    ensures own { IsOwn connection result }
+    ensures own { AreOwn connection (result ∷ []) }
 {
     reply(connection, channel, Method::ConfirmSelectOk)
 }
@@ -92,7 +95,7 @@ pub(crate) fn answer_of(is_some_full: bool) -> Answer
 /// basic.ack or basic.nack of the publish with this confirm number, and of no other.
 pub(crate) fn confirm(connection: u64, channel: u16, answer: Answer, number: u64) -> Send
     ensures send { result ≡ said.reply connection channel (said.confirm_method answer number) }
-    ensures own { IsOwn connection result }
+    ensures own { AreOwn connection (result ∷ []) }
 {
     let method = match answer {
         Answer::Ack => Method::BasicAck(Ack {

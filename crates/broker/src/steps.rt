@@ -1,9 +1,9 @@
 //! What a step sends and notes.
 
-ghost use Rattle.std.specs.Prelude.{◌≡◌, ◌<◌, ◌∷◌, ◌++◌, [], None, IfOk, vec_len, vec_capacity};
+ghost use Rattle.std.specs.Prelude.{◌≡◌, ◌<◌, ℕ, ◌∷◌, ◌++◌, [], None, IfOk, vec_len, vec_capacity};
 ghost use Rattle.model.specs.Step as said;
 ghost use Rattle.model.specs.Step.{confirm_sends, confirm_notes};
-ghost use Rattle.broker.specs.Sent.{AreOwn};
+ghost use Rattle.model.specs.Spelling.{AreOwn};
 
 use crate::closes::{answer_of, confirm};
 use model::{Note, Send};
@@ -21,6 +21,7 @@ impl Step {
     pub(crate) fn nothing(alloc: Global) -> Step
         ensures sends { result.sends.items ≡ [] }
         ensures notes { result.notes.items ≡ [] }
+        ensures own { (c : ℕ) → AreOwn c result.sends.items }
     {
         Step {
             sends: Vec::new(alloc),

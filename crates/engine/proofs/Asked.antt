@@ -1,7 +1,7 @@
 -- What is asked next, and what is decided of it.
 use Rattle.std.specs.Prelude.{Result, Ok, Err, IfOk, IsOk, OnErr}
 use Rattle.model.specs.Step.{Does}
-use Rattle.std.proofs.Common.{◌≢◌, List, [], refl}
+use Rattle.std.proofs.Common.{◌≢◌, ℕ, List, [], refl, subst}
 use Rattle.std.proofs.lemmas.Bool.{false≢true}
 use Rattle.model.specs.Topology.{Topology}
 use Rattle.model.specs.Broker.{Broker}
@@ -11,7 +11,10 @@ use Rattle.model.specs.declared.events.Phase.TheVariants as phase
 use Rattle.model.specs.declared.events.Send.{Send}
 use Rattle.model.specs.declared.events.Event.{Event}
 use Rattle.model.specs.declared.notes.Note.{Note}
-use Rattle.engine.specs.Performing.{ByPhase, Decides}
+use Rattle.model.specs.Spelling.{AreOwn}
+use Rattle.model.specs.declared.events.Event.TheVariants as event
+use Rattle.broker.specs.Sent.{connection_of_event}
+use Rattle.engine.specs.Performing.{ByPhase, Decides, IsAsked}
 
 pub decides_elsewhere : (p : Phase) (t : Topology) (b : Broker) (s : Session) (e : Event) (sends : List Send) (notes : List Note) (new_b : Broker) (new_s : Session)
     → p ≢ phase.Running → ByPhase p b s e sends notes new_b new_s → Decides p t b s e sends notes new_b new_s
@@ -38,3 +41,13 @@ quiet sends notes new made d = record { sent = refl; noted = refl; left = d.left
 pub ok_then : {T F : Type 0} (r : Result T F) (P : T → Type 0) (Q : Type 0) → ((x : T) → P x → Q) → IsOk r → IfOk r P → Q
 ok_then (Ok x) P Q f ok p = f x p
 ok_then (Err e) P Q f ok p = absurd (false≢true ok)
+
+-- what an event of c sends is own to c
+pub own_asked : (c : ℕ) (e : Event) (sends : List Send) → IsAsked c e → AreOwn (connection_of_event e) sends → AreOwn c sends
+own_asked c (event.Command d h m content) sends is own = subst (λ (k : ℕ). AreOwn k sends) is own
+own_asked c (event.TooLarge d h) sends is own = subst (λ (k : ℕ). AreOwn k sends) is own
+own_asked c (event.Fault d code) sends is own = subst (λ (k : ℕ). AreOwn k sends) is own
+own_asked c (event.Running d max k) sends is own = absurd is
+own_asked c (event.Lose d) sends is own = absurd is
+own_asked c (event.Pause d) sends is own = absurd is
+own_asked c (event.Resume d) sends is own = absurd is

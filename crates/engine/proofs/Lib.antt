@@ -1,6 +1,5 @@
 pub mod Asked
-pub mod Replies
-pub mod Turned
+pub pub mod Turned
 pub mod Numbered
 pub mod Found
 pub mod Standing
@@ -11,3 +10,4 @@ pub mod Openings
 pub mod Tooks
 pub mod Swept
 pub mod Certifying
+mod Sending

@@ -213,8 +213,8 @@ turned old new l l' notes b found open_still below did =
           happens = record { under = refl; event = refl; before = refl; after = refl; stepped = asked_steps c (kept_of l.kept) (stream_of l.stream) did.next did.event (config_of old) (state_of old) l.session l'.session p.sends notes p.mid did.read session_was p.decides };
           own = p.own;
           limit = sym (ap (λ (s : Session). s.frame_max) session_was);
-          bounded = p.bounded;
-          spelled = p.spelled;
+          least = p.least;
+          most = p.most;
           output = output_is ∙ p.put ∙ ap (λ (z : List ℕ). z ++ spelling l.session.frame_max p.sends) (sym output_was);
           settled = subst (λ (v : Bool). Settles (config_of old) mid c v (is_paused (world_of new) c) rest.hs (state_of new)) (sym past_was)
               (subst (λ (v : Bool). Settles (config_of old) mid c false v rest.hs (state_of new)) (sym past_is) rest.settled);

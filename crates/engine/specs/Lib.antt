@@ -6,3 +6,4 @@ pub mod World
 pub mod Engines
 pub mod Opening
 pub mod Certified
+pub mod Sending

@@ -1,11 +1,10 @@
 -- What a turn does to the broker and to one connection.
 use Rattle.std.specs.Prelude.{◌≡◌, ◌⊎◌, ◌≤◌, ◌<◌, ◌++◌, ℕ, List, true, false, None}
-use Rattle.std.specs.List.{AllByRecursion}
 use Rattle.model.specs.Topology.{Topology}
 use Rattle.model.specs.Broker.{Broker}
 use Rattle.model.specs.Phases.{Session}
 use Rattle.model.specs.Commands.{Stream, Ends}
-use Rattle.model.specs.Spelling.{receiver, spelling, IsSpelled}
+use Rattle.model.specs.Spelling.{spelling, AreOwn}
 use Rattle.model.specs.Arrivals.{Reads, SameToCome, IsSaid, is_ended, is_past_bound}
 use Rattle.model.specs.declared.events.Send.{Send}
 use Rattle.model.specs.declared.events.Event.{Event}
@@ -22,9 +21,9 @@ pub record Performed (t : Topology) (b : Broker) (c : ℕ) (s : Session) (output
   pub sends : List Send
   pub mid : Broker
   pub decides : Decides s.phase t b s event sends notes mid new_s
-  pub own : AllByRecursion (λ s. receiver s ≡ c) sends
-  pub bounded : s.frame_max ≤ 131072
-  pub spelled : AllByRecursion (IsSpelled s.frame_max) sends
+  pub own : AreOwn c sends
+  pub least : 4096 ≤ s.frame_max
+  pub most : s.frame_max ≤ 131072
   pub put : new_output ≡ output ++ spelling s.frame_max sends
   pub pauses : PausesOr t c false (is_past_bound new_output) mid new_b
 

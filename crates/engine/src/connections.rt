@@ -38,7 +38,7 @@ use broker::Broker;
 use std::alloc::{AllocError, Global};
 
 /// How many bytes one event sends at most: one method, in the least frame.
-const MOST_SENT: usize = 4_096;
+const MOST_SENT: usize = 1_060_000;
 
 /// An output of so many bytes pauses its connection.
 const BOUND: usize = 1_048_576;

@@ -7,7 +7,7 @@ use Rattle.model.specs.declared.topologies.Exchange.{Exchange}
 use Rattle.model.specs.declared.topologies.Binding.{Binding}
 use Rattle.model.specs.declared.topologies.Place.{Place}
 use Rattle.model.specs.declared.topologies.Place.TheVariants as place
-use Rattle.exchange_graph.specs.Causes.{IsBuildable, IsNamed, IsPlace, Joins, AlternateIsThere}
+use Rattle.exchange_graph.specs.Causes.{IsBuildable, IsNamed, IsPlace, Joins, AlternateIsThere, DeadLettersLead}
 use Rattle.exchange_graph.proofs.Members.{map_in, contains_in}
 
 none_unnamed : (t : Topology) → IsBuildable t → IsIn [] (exchange_names t.exchanges) → ⊥
@@ -29,5 +29,6 @@ well_formed t b =
       default_apart = none_unnamed t b;
       sources = λ x c. (joined x c).source.there;
       ends = λ x c. place_there t x.to (joined x c).end;
+      dead_letters = λ q exchange c e. All-contains (DeadLettersLead (exchange_names t.exchanges)) t.queues q b.lead.dead c exchange e;
       alternates = λ x other c e. All-contains (AlternateIsThere (exchange_names t.exchanges)) t.exchanges x b.lead.alternates c other e;
     }

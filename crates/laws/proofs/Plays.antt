@@ -126,8 +126,8 @@ told_puts a b e c hs said p =
     let rest = settled_is a.config p.mid b.state c _ _ p.rest p.settled in
     let put : IsPut p.h = record {
       commands = commands_seen a.config.topology a.state.broker p.mid.broker e p.h.sends p.h.notes (seen a.config a.state p.mid p.h.sends p.h.notes e p.happens.stepped);
-      spelled = p.spelled;
-      bounded = inr p.bounded;
+      spelled = p.own.spelled p.h.frame_max p.least;
+      bounded = inr p.most;
     } in
     let first : IsTold a.config p.h = record { under = p.happens.under; said = subst IsSaid (sym p.happens.event) said; put = put } in
     told_at a b hs (p.h ∷ p.rest) p.all (record {

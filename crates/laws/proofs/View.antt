@@ -7,6 +7,7 @@ use Rattle.model.specs.Words.{Text}
 use Rattle.model.specs.Topology.{Topology}
 use Rattle.model.specs.Broker.{Channel, Connection, Broker, with_one}
 use Rattle.model.specs.Step.{Refusal, Ignored, Of_channel, Of_connection, Does, IsPublish, Performs, Refuses, Decides, OnConnection, OnLarge, Acts, empty_publish, refusal_of_large, freed, by_channel, by_connection, with_channel, with_freed, reply, content_or_none, returned_sends, confirm_sends, is_some_full, next_of, answer_of, refusal, channel_or_new, opened, paused}
+use Rattle.model.specs.Grammar.{Ids, ids_of}
 use Rattle.model.specs.Phases.{Session, Move, running_session, no_session, is_running, after_sends, stays_in, to_phase, while_closing, answer, faulted}
 use Rattle.model.specs.State.{Config, State, Moves, OfCommand, OfLarge, OfFault, Step}
 use Rattle.model.specs.Run.{Happening, has_number}
@@ -195,14 +196,14 @@ module _ (t : Topology) (old new : Broker) (sends : List Send) (notes : List Not
   performs c h ch (ConnectionClose m) content conn accepted p = quiet_acts t old new _ sends notes (still c _ _ p (refl, refl) (record { same = refl; kept = freed_count old (by_connection c) }) (λ d. refl))
   performs c h ch _ content conn accepted p = absurd p
 
-  refuses : (c h : ℕ) (m : Method) (r : Refusal) → Refuses old c h m r sends notes new → Quiet old new c (kept_after old c) sends notes
-  refuses c h m Ignored p = still c _ _ p tt (record { same = refl; kept = λ n q. refl }) (stay old c)
-  refuses c h m (Of_channel code) p = still c _ _ p (refl, refl) (record { same = refl; kept = freed_count old (by_channel c h) }) (stay old c)
-  refuses c h m (Of_connection code) p = still c _ _ p (refl, refl) (record { same = refl; kept = freed_count old (by_connection c) }) (λ d. refl)
+  refuses : (c h : ℕ) (cause : Ids) (r : Refusal) → Refuses old c h cause r sends notes new → Quiet old new c (kept_after old c) sends notes
+  refuses c h cause Ignored p = still c _ _ p tt (record { same = refl; kept = λ n q. refl }) (stay old c)
+  refuses c h cause (Of_channel code) p = still c _ _ p (refl, refl) (record { same = refl; kept = freed_count old (by_channel c h) }) (stay old c)
+  refuses c h cause (Of_connection code) p = still c _ _ p (refl, refl) (record { same = refl; kept = freed_count old (by_connection c) }) (λ d. refl)
 
   decides : (c h : ℕ) (m : Method) (content : Option Content) (conn : Connection) (r : Option Refusal) → refusal t old conn h m (old.channel c h) ≡ r → Decides t old c h m content r sends notes new → Acted t old new (Command c h m content) sends notes
   decides c h m content conn None is p = performs c h (channel_or_new (old.channel c h)) m content conn is p
-  decides c h m content conn (Some r) is p = quiet_acts t old new _ sends notes (refuses c h m r p)
+  decides c h m content conn (Some r) is p = quiet_acts t old new _ sends notes (refuses c h (ids_of m) r p)
 
   commanded : (c h : ℕ) (m : Method) (content : Option Content) (o : Option Connection) → OnConnection t old c h m content sends notes new o → Acted t old new (Command c h m content) sends notes
   commanded c h m content None p = quiet_acts t old new _ sends notes (still c _ _ p tt (record { same = refl; kept = λ n q. refl }) (stay old c))
@@ -210,7 +211,7 @@ module _ (t : Topology) (old new : Broker) (sends : List Send) (notes : List Not
 
   too_large : (c h : ℕ) (o : Option Connection) → OnLarge old c h sends notes new o → Quiet old new c (kept_after old c) sends notes
   too_large c h None p = still c _ _ p tt (record { same = refl; kept = λ n q. refl }) (stay old c)
-  too_large c h (Some conn) p = refuses c h empty_publish (refusal_of_large conn h (old.channel c h)) p
+  too_large c h (Some conn) p = refuses c h (ids_of empty_publish) (refusal_of_large conn h (old.channel c h)) p
 
   -- Each event of the broker goes one of these ways.
   pub acted : (e : Event) → Acts t old e sends notes new → Acted t old new e sends notes

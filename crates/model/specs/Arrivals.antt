@@ -1,12 +1,11 @@
 -- Everything that comes, and all that is done for it (own): pieces of bytes, openings, output taken, losses.
 use Rattle.std.specs.Prelude.{◌≡◌, ◌≢◌, ◌+◌, ◌<◌, ◌≤◌, ℕ, suc, zero, List, [], ◌∷◌, ◌++◌, length, drop, Bool, true, false, nat_lt, nat_le, ◌&&◌, not, Option, Some, None, ◌⊎◌, MatchBool, if◌then◌else◌, slice_get}
-use Rattle.std.specs.List.{AllByRecursion}
 use Rattle.model.specs.Broker.{with_one}
 use Rattle.model.specs.State.{Config, State, Step}
 use Rattle.model.specs.Grammar.{IsMethod}
 use Rattle.model.specs.Run.{Happening, notes_of, put_out, empty_state}
-use Rattle.model.specs.Spelling.{spelling, receiver, IsSpelled}
-use Rattle.model.specs.Commands.{Stream, Yields, Ends, GoesOn, running_stream, heard}
+use Rattle.model.specs.Spelling.{spelling, AreOwn}
+use Rattle.model.specs.Commands.{Stream, Yields, Ends, GoesOn, running_stream, heard, IsWithinLimits}
 use Rattle.model.specs.declared.events.Phase.{Phase}
 use Rattle.model.specs.declared.events.Phase.TheVariants as phase
 use Rattle.model.specs.declared.events.Command.{Command}
@@ -16,6 +15,7 @@ use Rattle.model.specs.declared.events.Event.TheVariants as event
 use Rattle.model.specs.declared.events.Arrival.{Arrival}
 use Rattle.model.specs.declared.events.Arrival.TheVariants.{Ready, In, Sent, Lose}
 use Rattle.model.specs.declared.methods.Method.TheVariants.{BasicPublish}
+use Rattle.model.specs.declared.contents.Content.{Content}
 use Rattle.model.specs.declared.notes.Note.{Note}
 
 -- one connection, as its bytes go
@@ -99,9 +99,14 @@ pub data SameToCome : Option Command → Stream → Option Command → Stream �
   waits : {s new : Stream} → GoesOn s new → SameToCome None s None new
   kept : {m : Command} {s next : Stream} → Yields s m next → SameToCome None s (Some m) next
 
--- a command of a connection is a method that has a spelling
+-- a content that is there is not too large, and can be spelled
+abbrev pub HasLimits : Option Content → Type 0
+HasLimits None = Unit {0}
+HasLimits (Some content) = IsWithinLimits (length content.body) content.properties
+
+-- a command of a connection is a method that has a spelling, and so has its content
 abbrev pub IsSaid : Event → Type 0
-IsSaid (event.Command c h m content) = IsMethod m
+IsSaid (event.Command c h m content) = IsMethod m × HasLimits content
 IsSaid e = Unit {0}
 
 -- ---- events
@@ -127,10 +132,10 @@ pub record Puts (old : World) (e : Event) (c : ℕ) (hs : List Happening) (new :
   pub all : hs ≡ h ∷ rest
   pub mid : State
   pub happens : Happens old.config old.state e h mid
-  pub own : AllByRecursion (λ s. receiver s ≡ c) h.sends
+  pub own : AreOwn c h.sends
   pub limit : h.frame_max ≡ (old.state.session c).frame_max
-  pub bounded : h.frame_max ≤ 131072
-  pub spelled : AllByRecursion (IsSpelled h.frame_max) h.sends
+  pub least : 4096 ≤ h.frame_max
+  pub most : h.frame_max ≤ 131072
   pub output : (new.wire c).output ≡ (old.wire c).output ++ spelling h.frame_max h.sends
   pub settled : Settles old.config mid c (is_paused old c) (is_paused new c) rest new.state
   pub config : new.config ≡ old.config

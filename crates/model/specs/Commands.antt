@@ -1,11 +1,11 @@
 -- What the bytes of one connection say: frames, and contents put together per channel.
 -- Source: AMQP 0-9-1, section 4.2.6, "Content Framing", and section 2.3.5, "Frame Details".
-use Rattle.std.specs.Prelude.{◌≡◌, ℕ, List, [], ◌∷◌, ◌++◌, length, Bool, nat_lt, ◌==◌, ◌+◌, ◌&&◌, ◌||◌, not, if◌then◌else◌, Option, Some, None, Result, Ok, Err, MatchBool}
+use Rattle.std.specs.Prelude.{◌≡◌, ◌≤◌, ℕ, List, [], ◌∷◌, ◌++◌, length, Bool, nat_lt, ◌==◌, ◌+◌, ◌&&◌, ◌||◌, not, if◌then◌else◌, Option, Some, None, Result, Ok, Err, MatchBool}
 use Rattle.model.specs.Words.{Text}
 use Rattle.model.specs.Broker.{with_one}
 use Rattle.model.specs.Frames.{Frame, Begins, IsBroken}
 use Rattle.model.specs.Grammar.{IsMethod, SaysMethod}
-use Rattle.model.specs.Headers.{Header, SaysSize, SaysHeader}
+use Rattle.model.specs.Headers.{Header, SaysSize, SaysHeader, AreProperties, header_bytes}
 use Rattle.model.specs.declared.contents.Properties.{Properties}
 use Rattle.model.specs.declared.events.Command.{Command}
 use Rattle.model.specs.declared.events.Command.TheVariants.{Plain, Full, TooLarge}
@@ -162,8 +162,16 @@ running_stream = record { max = 131072; pending = λ h. Nothing; unread = [] }
 abbrev pub heard : Stream → List ℕ → Stream
 heard s bytes = record s { unread = s.unread ++ bytes }
 
--- the command, if it has a method, is made of one that has a spelling
+-- ---- what was read can be sent again
+
+-- A content of this size and with these properties is not too large: its header has a spelling of at most so many bytes.
+pub record IsWithinLimits (size : ℕ) (properties : Properties) : Type 0 where
+  pub body : size ≤ most_body
+  pub properties_are : AreProperties properties
+  pub header : length (header_bytes size properties) ≤ most_header
+
+-- the method has a spelling, and so has its content where there is one, which is not too large
 abbrev pub IsCommand : Command → Type 0
 IsCommand (Plain h m) = IsMethod m
-IsCommand (Full h p content) = IsMethod (BasicPublish p)
+IsCommand (Full h p content) = IsMethod (BasicPublish p) × IsWithinLimits (length content.body) content.properties
 IsCommand (TooLarge h) = Unit {0}

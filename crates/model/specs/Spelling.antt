@@ -1,5 +1,5 @@
 -- What is put out for what is sent. Source: AMQP 0-9-1, section 4.2.6, "Content Framing".
-use Rattle.std.specs.Prelude.{◌<◌, ◌-◌, ◌^◌, ℕ, zero, suc, List, [], ◌∷◌, length, take, drop, map, filter, flat_map, Option, Some, None, ◌==◌}
+use Rattle.std.specs.Prelude.{◌≡◌, ◌≤◌, ◌<◌, ◌-◌, ◌^◌, ℕ, zero, suc, List, [], ◌∷◌, length, take, drop, map, filter, flat_map, Option, Some, None, ◌==◌}
 use Rattle.std.specs.List.{AllByRecursion}
 use Rattle.model.specs.Frames.{Frame, frame_bytes, IsFrame}
 use Rattle.model.specs.Grammar.{method_bytes, IsMethod}
@@ -75,3 +75,15 @@ HasSpelling (Command c h m content) = IsMethod m × HasContent content
 pub record IsSpelled (max : ℕ) (s : Send) : Type 0 where
   pub spelled : HasSpelling s
   pub frames : AllByRecursion (IsFrame max) (frames_of max s)
+
+-- ---- what one event sends
+
+-- the most bytes that one event puts out (own)
+abbrev pub most_sent : ℕ
+most_sent = 1060000
+
+-- What one event sends is all for connection c; and in frames of whatever size is agreed on, it can be put out, as most_sent bytes at most.
+pub record AreOwn (c : ℕ) (sends : List Send) : Type 0 where
+  pub own : AllByRecursion (λ s. receiver s ≡ c) sends
+  pub spelled : (max : ℕ) → 4096 ≤ max → AllByRecursion (IsSpelled max) sends
+  pub size : (max : ℕ) → 4096 ≤ max → length (spelling max sends) ≤ most_sent

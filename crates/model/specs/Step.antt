@@ -312,10 +312,10 @@ Performs t old c h ch (ConnectionClose m) content sends notes new =
 Performs t old c h ch _ content sends notes new = ⊥
 
 -- What a refused command does: the close of its code names the method that caused it, and what was held is ready again.
-abbrev pub Refuses : Broker → ℕ → ℕ → Method → Refusal → List Send → List Note → Broker → Type 0
-Refuses old c h m Ignored sends notes new = Does sends notes new [] old
-Refuses old c h m (Of_channel code) sends notes new = Does sends notes new (channel_close c h code (ids_of m) ∷ []) (with_closing old c h)
-Refuses old c h m (Of_connection code) sends notes new = Does sends notes new (connection_close c code (ids_of m) ∷ []) (with_gone old c)
+abbrev pub Refuses : Broker → ℕ → ℕ → Ids → Refusal → List Send → List Note → Broker → Type 0
+Refuses old c h cause Ignored sends notes new = Does sends notes new [] old
+Refuses old c h cause (Of_channel code) sends notes new = Does sends notes new (channel_close c h code cause ∷ []) (with_closing old c h)
+Refuses old c h cause (Of_connection code) sends notes new = Does sends notes new (connection_close c code cause ∷ []) (with_gone old c)
 
 -- the channel; where it is not open, as for what closes the connection, one with nothing on it
 abbrev pub channel_or_new : Option Channel → Channel
@@ -325,7 +325,7 @@ channel_or_new (Some ch) = ch
 -- a command does what it asks for where nothing stands against it, and else what its refusal says
 abbrev pub Decides : Topology → Broker → ℕ → ℕ → Method → Option Content → Option Refusal → List Send → List Note → Broker → Type 0
 Decides t old c h m content None sends notes new = Performs t old c h (channel_or_new (old.channel c h)) m content sends notes new
-Decides t old c h m content (Some r) sends notes new = Refuses old c h m r sends notes new
+Decides t old c h m content (Some r) sends notes new = Refuses old c h (ids_of m) r sends notes new
 
 -- a command of a connection that doesn't run does nothing
 abbrev pub OnConnection : Topology → Broker → ℕ → ℕ → Method → Option Content → List Send → List Note → Broker → Option Connection → Type 0
@@ -354,7 +354,7 @@ refusal_of_large conn h ch =
 -- it is refused, and the close names basic.publish; of a connection that doesn't run it does nothing
 abbrev pub OnLarge : Broker → ℕ → ℕ → List Send → List Note → Broker → Option Connection → Type 0
 OnLarge old c h sends notes new None = Does sends notes new [] old
-OnLarge old c h sends notes new (Some conn) = Refuses old c h empty_publish (refusal_of_large conn h (old.channel c h)) sends notes new
+OnLarge old c h sends notes new (Some conn) = Refuses old c h (ids_of empty_publish) (refusal_of_large conn h (old.channel c h)) sends notes new
 
 -- ---- openings, pauses
 

@@ -46,3 +46,5 @@ pub record IsWellFormed (t : Topology) : Type 0 where
   pub sources : (b : Binding) → Contains t.bindings b → IsIn b.source (exchange_names t.exchanges)
   pub ends : (b : Binding) → Contains t.bindings b → IsThere t b.to
   pub alternates : (x : Exchange) (other : Text) → Contains t.exchanges x → x.alternate ≡ Some other → IsIn other (exchange_names t.exchanges)
+  -- a queue may dead-letter to the default exchange
+  pub dead_letters : (q : DeclaredQueue) (exchange : Text) → Contains t.queues q → q.dead_letter_exchange ≡ Some exchange → (exchange ≡ []) ⊎ IsIn exchange (exchange_names t.exchanges)

@@ -110,12 +110,12 @@ puts_all a b e c hs d p =
 
 puts_here : (a b : World) (e : Event) (c : ℕ) (hs : List Happening) → Puts a e c hs b → (b.wire c).output ≡ (a.wire c).output ++ put_out c hs
 puts_here a b e c hs p =
-    p.output ∙ ap (λ (z : List ℕ). (a.wire c).output ++ z) (ap (spelling p.h.frame_max) (sym (own_sends c p.h.sends p.own)) ∙ sym (puts_all a b e c hs c p))
+    p.output ∙ ap (λ (z : List ℕ). (a.wire c).output ++ z) (ap (spelling p.h.frame_max) (sym (own_sends c p.h.sends p.own.own)) ∙ sym (puts_all a b e c hs c p))
 
 puts_there : (a b : World) (e : Event) (c : ℕ) (hs : List Happening) (d : ℕ) → d ≢ c → Puts a e c hs b → (b.wire d).output ≡ (a.wire d).output ++ put_out d hs
 puts_there a b e c hs d ne p =
     ap (λ (w : Wire). w.output) (p.others d ne) ∙ sym (append-nil (a.wire d).output)
-    ∙ ap (λ (z : List ℕ). (a.wire d).output ++ z) (sym (puts_all a b e c hs d p ∙ ap (spelling p.h.frame_max) (other_sends c d p.h.sends ne p.own)))
+    ∙ ap (λ (z : List ℕ). (a.wire d).output ++ z) (sym (puts_all a b e c hs d p ∙ ap (spelling p.h.frame_max) (other_sends c d p.h.sends ne p.own.own)))
 
 puts_each : (a b : World) (e : Event) (c : ℕ) (hs : List Happening) (d : ℕ) → Puts a e c hs b → (b.wire d).output ≡ (a.wire d).output ++ put_out d hs
 puts_each a b e c hs d p = go (eqb d c) refl
