@@ -1,7 +1,7 @@
 # `make` alone lists the targets.
 SHELL := bash
 .SHELLFLAGS := -o pipefail -c
-.PHONY: help try run shop cases examples bench install test
+.PHONY: help try run shop verdicts cases examples bench install test
 
 # where `make install` puts the program
 PREFIX ?= /usr/local
@@ -10,6 +10,7 @@ help:
 	@echo "make try       replays examples/first_publish by a build that proves nothing, to look at"
 	@echo "make run       proves and builds warren, and replays examples/first_publish"
 	@echo "make shop      replays examples/shop over its definitions file"
+	@echo "make verdicts  checks the guarantees of examples/shop, and replays its script under them"
 	@echo "make cases     runs the cases of crates/cases, and tells of one that its list lacks"
 	@echo "make examples  replays the examples, and compares them with their outputs and with the cases"
 	@echo "make bench     prints what publishes, routes and large files cost"
@@ -29,6 +30,17 @@ run:
 shop:
 	@cd crates/warren && rt run -- replay ../../examples/shop/script --definitions ../../examples/shop/definitions.json
 
+SHOP = ../../examples/shop
+
+# checks, writes the certificates, verifies them and replays under them; then one binding leads elsewhere, and a key breaks
+verdicts:
+	@cd crates/warren && rt run -- check $(SHOP)/definitions.json $(SHOP)/guarantees.json --out out/certificates.json
+	@cd crates/warren && rt run -- verify $(SHOP)/definitions.json $(SHOP)/guarantees.json out/certificates.json
+	@cd crates/warren && rt run -- replay $(SHOP)/script --definitions $(SHOP)/definitions.json --guarantees $(SHOP)/guarantees.json --certificates out/certificates.json
+	@echo "one binding key changed, from orders.# to orders.*.#:"
+	@sed 's/"orders\.#"/"orders.*.#"/' examples/shop/definitions.json > crates/warren/out/changed.json
+	@cd crates/warren && { rt run -- check out/changed.json $(SHOP)/guarantees.json || [ $$? -eq 1 ]; }
+
 cases:
 	@cd crates/cases && rt run -- data < stdin | diff stdout -
 	@cd crates/cases/data && find . -name '*.words' | sed 's|^\./||; s|\.words$$||' | LC_ALL=C sort | diff ../stdin -
@@ -44,6 +56,10 @@ examples:
 	@cmp examples/shop/definitions.json $(CASES)/shop.json
 	@cd crates/warren && rt run -- replay $(EXAMPLES)/first_publish/script | diff $(EXAMPLES)/first_publish/output -
 	@cd crates/warren && rt run -- replay $(EXAMPLES)/shop/script --definitions $(EXAMPLES)/shop/definitions.json | diff $(EXAMPLES)/shop/output -
+	@cd crates/warren && rt run -- check $(EXAMPLES)/shop/definitions.json $(EXAMPLES)/shop/guarantees.json --out out/certificates.json | diff $(EXAMPLES)/shop/verdicts -
+	@cmp crates/warren/out/certificates.json examples/shop/certificates.json
+	@cd crates/warren && rt run -- verify $(EXAMPLES)/shop/definitions.json $(EXAMPLES)/shop/guarantees.json out/certificates.json | diff $(EXAMPLES)/shop/verified -
+	@cd crates/warren && rt run -- replay $(EXAMPLES)/shop/script --definitions $(EXAMPLES)/shop/definitions.json --guarantees $(EXAMPLES)/shop/guarantees.json --certificates out/certificates.json | diff $(EXAMPLES)/shop/output -
 
 bench:
 	@cd crates/benchmarks && rt run -- all

@@ -18,9 +18,25 @@ needed id = record (new_rule id) { required = true; action = Some Set }
 abbrev pub option : Text → Rule
 option id = record (new_rule id) { long = Some id; action = Some Set; value_names = 1 }
 
+-- a command that looks at a definitions file and a guarantees file: its name, and `DEFS GUARANTEES`
+abbrev pub over_guarantees : Text → App
+over_guarantees name = with_rule (with_rule (new_app name) (needed (codes "DEFS"))) (needed (codes "GUARANTEES"))
+
+-- `check DEFS GUARANTEES [--out FILE]`
+abbrev pub check : App
+check = with_rule (over_guarantees (codes "check")) (option (codes "out"))
+
+-- `verify DEFS GUARANTEES CERTS`
+abbrev pub verify : App
+verify = with_rule (over_guarantees (codes "verify")) (needed (codes "CERTS"))
+
 -- `replay SCRIPT [--definitions FILE]`
+abbrev pub replay_over : App
+replay_over = with_rule (with_rule (new_app (codes "replay")) (needed (codes "SCRIPT"))) (option (codes "definitions"))
+
+-- `replay SCRIPT [--definitions FILE] [--guarantees FILE] [--certificates FILE]`
 abbrev pub replay : App
-replay = with_rule (with_rule (new_app (codes "replay")) (needed (codes "SCRIPT"))) (option (codes "definitions"))
+replay = with_rule (with_rule replay_over (option (codes "guarantees"))) (option (codes "certificates"))
 
 -- `route DEFS EXCHANGE KEY`
 abbrev pub route : App
@@ -30,20 +46,29 @@ route = with_rule (with_rule (with_rule (new_app (codes "route")) (needed (codes
 abbrev pub with_subcommands : Text → App
 with_subcommands name = record (new_app name) { top = record (new_app name).top { has_version = true; subcommand_required = true } }
 
+-- the program with the commands that judge guarantees
+abbrev pub judging : App
+judging = with_subcommand (with_subcommand (with_subcommands (codes "warren")) check.top) verify.top
+
 -- the whole program
 abbrev pub warren : App
-warren = with_subcommand (with_subcommand (with_subcommands (codes "warren")) replay.top) route.top
+warren = with_subcommand (with_subcommand judging replay.top) route.top
 
 -- ---- what can be asked for
 
 -- a command with its arguments
 pub data Wanted : Type 0 where
-  Replay : (script : Text) (definitions : Option Text) → Wanted
+  Check : (definitions guarantees : Text) (out : Option Text) → Wanted
+  Verify : (definitions guarantees certificates : Text) → Wanted
+  Replay : (script : Text) (definitions guarantees certificates : Option Text) → Wanted
   Route : (definitions exchange key : Text) → Wanted
 
 -- what was asked for, by its texts
 abbrev pub wanted_of : Asked → Wanted
-wanted_of (asked.Replay script definitions) = Replay script.now (option_map (λ file. file.now) definitions)
+wanted_of (asked.Check definitions guarantees out) = Check definitions.now guarantees.now (option_map (λ file. file.now) out)
+wanted_of (asked.Verify definitions guarantees certificates) = Verify definitions.now guarantees.now certificates.now
+wanted_of (asked.Replay script definitions guarantees certificates) =
+    Replay script.now (option_map (λ file. file.now) definitions) (option_map (λ file. file.now) guarantees) (option_map (λ file. file.now) certificates)
 wanted_of (asked.Route definitions exchange key) = Route definitions.now exchange.now key.now
 
 -- what `←` means below: where one text is missing, there is no command
@@ -51,11 +76,26 @@ infixl 10 ◌>>=◌
 abbrev pub ◌>>=◌ : {A B : Type 0} → Option A → (A → Option B) → Option B
 o >>= f = option_and_then f o
 
+-- the arguments of `check`
+abbrev pub check_of : List Row → Option Wanted
+check_of rows = do
+  definitions ← first_of (codes "DEFS") rows
+  guarantees ← first_of (codes "GUARANTEES") rows
+  Some (Check definitions guarantees (first_of (codes "out") rows))
+
+-- the arguments of `verify`
+abbrev pub verify_of : List Row → Option Wanted
+verify_of rows = do
+  definitions ← first_of (codes "DEFS") rows
+  guarantees ← first_of (codes "GUARANTEES") rows
+  certificates ← first_of (codes "CERTS") rows
+  Some (Verify definitions guarantees certificates)
+
 -- the arguments of `replay`
 abbrev pub replay_of : List Row → Option Wanted
 replay_of rows = do
   script ← first_of (codes "SCRIPT") rows
-  Some (Replay script (first_of (codes "definitions") rows))
+  Some (Replay script (first_of (codes "definitions") rows) (first_of (codes "guarantees") rows) (first_of (codes "certificates") rows))
 
 -- the arguments of `route`
 abbrev pub route_of : List Row → Option Wanted
@@ -68,6 +108,8 @@ route_of rows = do
 -- the command of this name, with its arguments
 abbrev pub wanted_by : Text × List Row → Option Wanted
 wanted_by named =
+    if bytes_eq named.0 (codes "check") then check_of named.1 else
+    if bytes_eq named.0 (codes "verify") then verify_of named.1 else
     if bytes_eq named.0 (codes "replay") then replay_of named.1 else
     if bytes_eq named.0 (codes "route") then route_of named.1 else
     None

@@ -27,12 +27,19 @@ ghost use Rattle.clap.specs.declared.Command.TheViews.{out-Command as fields_of}
 ghost use Rattle.command_line.specs.CommandLine.{
   Asks,
   IsRefused,
+  check,
+  check_of,
+  judging,
   needed,
   option,
+  over_guarantees,
   replay,
   replay_of,
+  replay_over,
   route,
   route_of,
+  verify,
+  verify_of,
   wanted_by,
   wanted_of,
   warren,
@@ -89,9 +96,61 @@ fn with_argument<'a>(command: Command<'a>, argument: Arg<'a>) -> Result<Command<
     command.arg(argument)
 }
 
+/// A command that looks at a definitions file and a guarantees file, with what help says of it.
+fn over_guarantees<'a>(
+    alloc: Global,
+    name: &'a str,
+    about: &'a str,
+) -> Result<Command<'a>, AllocError>
+    ensures app { IfOk result (λ c. app_of c ≡ over_guarantees name.entry.now) }
+    ensures local { IfOk result (λ c. (fields_of c).has_globals ≡ false) }
+{
+    let command = bare(alloc, name, about);
+    let definitions = needed(alloc, "DEFS", "The definitions file");
+    let command = with_argument(command, definitions)?;
+    let guarantees = needed(alloc, "GUARANTEES", "The guarantees file");
+    with_argument(command, guarantees)
+}
+
+/// `check DEFS GUARANTEES [--out FILE]`.
+fn check_command<'a>(alloc: Global) -> Result<Command<'a>, AllocError>
+    ensures app { IfOk result (λ c. app_of c ≡ check) }
+    ensures local { IfOk result (λ c. (fields_of c).has_globals ≡ false) }
+{
+    let command = over_guarantees(
+        alloc,
+        "check",
+        "Tells of each guarantee whether it holds, or a key that breaks it",
+    )?;
+    let out = option(
+        alloc,
+        "out",
+        "The file to write the certificates to, where every guarantee holds",
+    );
+    with_argument(command, out)
+}
+
+/// `verify DEFS GUARANTEES CERTS`.
+fn verify_command<'a>(alloc: Global) -> Result<Command<'a>, AllocError>
+    ensures app { IfOk result (λ c. app_of c ≡ verify) }
+    ensures local { IfOk result (λ c. (fields_of c).has_globals ≡ false) }
+{
+    let command = over_guarantees(
+        alloc,
+        "verify",
+        "Tells of each guarantee whether its certificate is accepted",
+    )?;
+    let certificates = needed(
+        alloc,
+        "CERTS",
+        "The certificates file, a certificate for each guarantee in the same order",
+    );
+    with_argument(command, certificates)
+}
+
 /// `replay SCRIPT [--definitions FILE]`.
-fn replay_command<'a>(alloc: Global) -> Result<Command<'a>, AllocError>
-    ensures app { IfOk result (λ c. app_of c ≡ replay) }
+fn replay_over<'a>(alloc: Global) -> Result<Command<'a>, AllocError>
+    ensures app { IfOk result (λ c. app_of c ≡ replay_over) }
     ensures local { IfOk result (λ c. (fields_of c).has_globals ≡ false) }
 {
     let command = bare(alloc, "replay", "Runs a script and prints what it puts out");
@@ -103,6 +162,26 @@ fn replay_command<'a>(alloc: Global) -> Result<Command<'a>, AllocError>
         "The definitions file to run over, in place of the built-in topology",
     );
     with_argument(command, definitions)
+}
+
+/// `replay SCRIPT [--definitions FILE] [--guarantees FILE] [--certificates FILE]`.
+fn replay_command<'a>(alloc: Global) -> Result<Command<'a>, AllocError>
+    ensures app { IfOk result (λ c. app_of c ≡ replay) }
+    ensures local { IfOk result (λ c. (fields_of c).has_globals ≡ false) }
+{
+    let command = replay_over(alloc)?;
+    let guarantees = option(
+        alloc,
+        "guarantees",
+        "The guarantees file to run under; without it there are none",
+    );
+    let command = with_argument(command, guarantees)?;
+    let certificates = option(
+        alloc,
+        "certificates",
+        "The certificates file of the guarantees; without it there are none",
+    );
+    with_argument(command, certificates)
 }
 
 /// `route DEFS EXCHANGE KEY`.
@@ -145,19 +224,21 @@ fn with_command<'a>(program: Command<'a>, command: Command<'a>) -> Result<Comman
     program.subcommand(command)
 }
 
-/// The program with the first of its subcommands.
-fn with_replay<'a>(alloc: Global) -> Result<Command<'a>, AllocError>
-    ensures { IfOk result (λ c. app_of c ≡ with_subcommand (with_subcommands (codes "warren")) replay.top) }
+/// The program with the commands that judge guarantees.
+fn with_judging<'a>(alloc: Global) -> Result<Command<'a>, AllocError>
+    ensures { IfOk result (λ c. app_of c ≡ judging) }
 {
-    let replay = replay_command(alloc)?;
-    with_command(program(alloc), replay)
+    let check = check_command(alloc)?;
+    let warren = with_command(program(alloc), check)?;
+    with_command(warren, verify_command(alloc)?)
 }
 
 /// The program with its subcommands.
 fn warren_command<'a>(alloc: Global) -> Result<Command<'a>, AllocError>
     ensures { IfOk result (λ c. app_of c ≡ warren) }
 {
-    let warren = with_replay(alloc)?;
+    let warren = with_judging(alloc)?;
+    let warren = with_command(warren, replay_command(alloc)?)?;
     with_command(warren, route_command(alloc)?)
 }
 
@@ -168,6 +249,33 @@ fn text_of<'a>(given: &ArgMatches<'a>, id: &str) -> Option<&'a str>
     given.get_str(id)
 }
 
+/// What the arguments of `check` ask for.
+fn check<'a>(given: &ArgMatches<'a>) -> Option<Asked<'a>>
+    ensures { option_map wanted_of result ≡ check_of (rows_of (found_of given.now)) }
+{
+    let definitions = text_of(given, "DEFS")?;
+    let guarantees = text_of(given, "GUARANTEES")?;
+    Some(Asked::Check {
+        definitions,
+        guarantees,
+        out: text_of(given, "out"),
+    })
+}
+
+/// What the arguments of `verify` ask for.
+fn verify<'a>(given: &ArgMatches<'a>) -> Option<Asked<'a>>
+    ensures { option_map wanted_of result ≡ verify_of (rows_of (found_of given.now)) }
+{
+    let definitions = text_of(given, "DEFS")?;
+    let guarantees = text_of(given, "GUARANTEES")?;
+    let certificates = text_of(given, "CERTS")?;
+    Some(Asked::Verify {
+        definitions,
+        guarantees,
+        certificates,
+    })
+}
+
 /// What the arguments of `replay` ask for.
 fn replay<'a>(given: &ArgMatches<'a>) -> Option<Asked<'a>>
     ensures { option_map wanted_of result ≡ replay_of (rows_of (found_of given.now)) }
@@ -176,6 +284,8 @@ fn replay<'a>(given: &ArgMatches<'a>) -> Option<Asked<'a>>
     Some(Asked::Replay {
         script,
         definitions: text_of(given, "definitions"),
+        guarantees: text_of(given, "guarantees"),
+        certificates: text_of(given, "certificates"),
     })
 }
 
@@ -198,6 +308,8 @@ fn named<'a>(name: &str, given: &ArgMatches<'a>) -> Option<Asked<'a>>
     ensures { option_map wanted_of result ≡ wanted_by (name.now, rows_of (found_of given.now)) }
 {
     match name {
+        "check" => check(given),
+        "verify" => verify(given),
         "replay" => replay(given),
         "route" => route(given),
         _ => None,

@@ -2,3 +2,5 @@ pub mod Ends
 pub mod Listed
 pub mod Loops
 pub mod Outcomes
+pub mod Judged
+pub mod Kept

@@ -14,6 +14,10 @@ pub data Known : Type 0 where
 abbrev pub AreKept : (Text → Known) → (Text → Known) → Type 0
 AreKept before after = (name : Text) → after name ≡ before name
 
+-- no file is known to have changed but the one of this name
+abbrev pub AreKeptBut : Text → (Text → Known) → (Text → Known) → Type 0
+AreKeptBut name before after = (other : Text) → (other ≡ name → ⊥) → after other ≡ before other
+
 -- the longest file that is read, in bytes
 abbrev pub most_bytes : ℕ
 most_bytes = 16777216

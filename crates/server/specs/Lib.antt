@@ -5,4 +5,7 @@ pub mod Routes
 pub mod Files
 pub mod Streams
 pub mod Refusals
+pub mod Stated
+pub mod Verdicts
+pub mod Outcomes
 pub mod Program

@@ -1,49 +1,47 @@
--- What the program does (own): what it prints, its messages and its status.
-use Rattle.std.specs.Prelude.{◌≡◌, ◌⊎◌, ◌++◌, ℕ, Bool, List, [], ◌∷◌, Option, Some, None, false, Ok, Err, codes, decimal, ⊤}
+-- What the program does (own): what it answers, its messages and its status.
+use Rattle.std.specs.Prelude.{◌≡◌, ◌+◌, ◌⊎◌, ◌++◌, ◌≤◌, ℕ, Bool, List, [], ◌∷◌, Option, Some, None, Ok, Err, codes, decimal, length, ⊤}
 use Rattle.model.specs.Words.{Text}
+use Rattle.model.specs.Topology.{Topology}
 use Rattle.model.specs.State.{Config}
 use Rattle.model.specs.Arrivals.{Seen}
+use Rattle.model.specs.Guarantee.{Guarantee}
+use Rattle.model.specs.Certificates.{Certificate as Shown}
 use Rattle.model.specs.declared.events.Arrival.{Arrival}
-use Rattle.model.specs.Topology.{Topology}
-use Rattle.model.specs.declared.topologies.ExchangeKind.TheVariants.{Direct}
-use Rattle.model.specs.declared.topologies.Place.TheVariants as place
 use Rattle.clap.specs.declared.error.kind.ErrorKind.{ErrorKind}
 use Rattle.clap.specs.declared.error.kind.ErrorKind.TheVariants.{OutOfMemory}
-use Rattle.definitions.specs.declared.bad.Bad.{Bad}
-use Rattle.definitions.specs.Numbers.{number}
-use Rattle.definitions.specs.Reads.{Stated, Reads, IsFirst}
+use Rattle.definitions.specs.Reads.{Stated}
+use Rattle.certificate_check.specs.declared.faults.CertFault.{CertFault}
+use Rattle.certificate_files.specs.Reads.{IsFile}
+use Rattle.certificate.specs.Certified.{AreCertified, FailsFirst}
+use Rattle.guarantee_search.specs.declared.verdicts.Verdict.{Verdict}
 use Rattle.engine.specs.Certified.{IsCertified}
-use Rattle.command_line.specs.CommandLine.{Wanted, Replay, Route, AsksFor, AsksNothing}
+use Rattle.command_line.specs.CommandLine.{Wanted, Check, Verify, Replay, Route, AsksFor, AsksNothing}
 use Rattle.server.specs.declared.refusals.Refusal.{Refusal}
-use Rattle.server.specs.declared.refusals.Refusal.TheVariants.{Line, Refused, TooLong, Unread, Unwritten, NoExchange, Memory}
+use Rattle.server.specs.declared.refusals.Refusal.TheVariants.{Line, Refused, TooLong, Unread, Unwritten, NoExchange, Certificate, Memory}
 use Rattle.server.specs.Script.{script}
 use Rattle.server.specs.Transcript.{transcript_text}
 use Rattle.server.specs.Routes.{Lists}
-use Rattle.server.specs.Files.{Known, HasText, IsTooLong, IsClosed}
+use Rattle.server.specs.Files.{Known, HasText, IsTooLong, IsClosed, AreKept, AreKeptBut, most_bytes}
 use Rattle.server.specs.Streams.{Stream, GetsNothing, Puts, Tries, tried}
+use Rattle.server.specs.Stated.{States, Certifies, CertifiesAt, SetsUp, FailsToSetUp, FailsToCertify}
+use Rattle.server.specs.Verdicts.{AreFound, Judges, certificates_in, status_of_verdicts}
+use Rattle.server.specs.Outcomes.{Verifies, fault_number}
 
 -- ---- what is in force
 
--- the topology of a script without definitions: the queue `audit` is bound to the direct exchange `orders` by the key `new`
-abbrev pub built_in : Topology
-built_in = record {
-  exchanges = record { name = codes "orders"; kind = Direct; internal = false; alternate = None } ∷ [];
-  queues = record { name = codes "audit"; limit = None; dead_letter_exchange = None; dead_letter_key = None } ∷ [];
-  bindings = record { source = codes "orders"; to = place.Queue (codes "audit"); key = codes "new" } ∷ [];
-}
+-- what is in force where this is stated, under these guarantees
+abbrev pub force_of : Stated → List Guarantee → Config
+force_of stated gs = record { topology = stated.topology; guarantees = gs; users = stated.users }
 
--- a topology with those who may log in, and no guarantee
-abbrev pub unguaranteed : Stated → Config
-unguaranteed stated = record { topology = stated.topology; guarantees = []; users = stated.users }
-
--- the file has definitions in which no cause stands, and this is what they state
-abbrev pub States : Known → Stated → Type 0
-States known stated = (text : Text) × HasText known text × Reads (Ok stated) text
-
--- What is in force: what the definitions of a file state, or where no file is named the built-in topology, and nobody who may log in.
-abbrev pub IsInForce : (Text → Known) → Option Text → Config → Type 0
-IsInForce holds None force = force ≡ unguaranteed (record { topology = built_in; users = [] })
-IsInForce holds (Some file) force = (stated : Stated) × States (holds file) stated × (force ≡ unguaranteed stated)
+-- What is in force: what the definitions state, under exactly the guarantees of their file, each of which has its certificate.
+pub record IsInForce (holds : Text → Known) (definitions guarantees certificates : Option Text) (force : Config) : Type 0 where
+  pub stated : Stated
+  pub promised : List Guarantee
+  pub set_up : SetsUp holds definitions guarantees stated promised
+  pub shown : List Shown
+  pub certifies : CertifiesAt holds certificates shown
+  pub certified : AreCertified stated.topology promised shown
+  pub is : force ≡ force_of stated promised
 
 -- ---- what is printed
 
@@ -62,6 +60,55 @@ PrintsFile force known printed = (text : Text) × HasText known text × Prints f
 -- the queues to which the key leads from the exchange, over the topology of a file; none where the exchange is not there
 abbrev pub ListsFile : Known → Text → Text → Option Text → Type 0
 ListsFile known exchange key listed = (stated : Stated) × States known stated × Lists stated.topology exchange key listed
+
+-- ---- certificates that are written
+
+-- a text that is read back as exactly these certificates: it states them, and is no longer than any that is read
+pub record ReadsBack (text : Text) (cs : List Shown) : Type 0 where
+  pub short : length text ≤ most_bytes
+  pub states : IsFile text cs
+
+-- the file is read back as exactly these certificates, and no other file is known to have changed
+pub record IsFiled (before after : Text → Known) (file : Text) (cs : List Shown) : Type 0 where
+  pub text : Text
+  pub has : HasText (after file) text
+  pub read_back : ReadsBack text cs
+  pub others : AreKeptBut file before after
+
+-- a command that prints nothing leaves all files as they are, but one that it could not write
+abbrev pub AreLeft : (Text → Known) → (Text → Known) → Text → Refusal → Type 0
+AreLeft before after file (Line n) = AreKept before after
+AreLeft before after file (Refused n) = AreKept before after
+AreLeft before after file TooLong = AreKept before after
+AreLeft before after file Unread = AreKept before after
+AreLeft before after file Unwritten = AreKeptBut file before after
+AreLeft before after file NoExchange = AreKept before after
+AreLeft before after file (Certificate n fault) = AreKept before after
+AreLeft before after file Memory = AreKept before after
+
+-- why certificates are not written: the write failed, their file would be too long, or memory was wanting
+abbrev pub IsUnwritten : Refusal → Type 0
+IsUnwritten (Line n) = ⊥
+IsUnwritten (Refused n) = ⊥
+IsUnwritten TooLong = ⊥
+IsUnwritten Unread = ⊥
+IsUnwritten Unwritten = ⊤
+IsUnwritten NoExchange = ⊥
+IsUnwritten (Certificate n fault) = ⊥
+IsUnwritten Memory = ⊤
+
+-- .. and then no file is known to have changed but the one that could not be written
+abbrev pub IsUnfiled : (Text → Known) → (Text → Known) → Text → Refusal → Type 0
+IsUnfiled before after file why = IsUnwritten why × AreLeft before after file why
+
+-- What `check` leaves of the files: where one is named and all guarantees hold, it has their certificates; else all are as they were.
+pub data WritesOut (before after : Text → Known) : Option Text → List Verdict → Type 0 where
+  -- no file is named
+  unnamed : {verdicts : List Verdict} → AreKept before after → WritesOut before after None verdicts
+  -- some guarantee doesn't hold, or is undecided
+  doubtful : {file : Text} {verdicts : List Verdict} → (status_of_verdicts verdicts ≡ 0 → ⊥) → AreKept before after → WritesOut before after (Some file) verdicts
+  -- all hold
+  filed : {file : Text} {verdicts : List Verdict} → status_of_verdicts verdicts ≡ 0 → IsFiled before after file (certificates_in verdicts) → WritesOut before after (Some file) verdicts
 
 -- ---- refusals
 
@@ -85,9 +132,10 @@ message file TooLong = told file (codes "refused 10")
 message file Unread = told file (codes "cannot read")
 message file Unwritten = told file (codes "cannot write")
 message file NoExchange = no_exchange
+message file (Certificate n fault) = codes "warren: certificate " ++ (decimal n ++ (codes ": fault " ++ (decimal fault ++ 10 ∷ [])))
 message file Memory = out_of_memory
 
--- the exit status: 3 for a file that is refused or an exchange that is not there, 4 for memory, input or output
+-- the exit status: 3 for a file or a certificate that is refused, or an exchange that is not there, 4 for memory, input or output
 abbrev pub status_of : Refusal → ℕ
 status_of (Line n) = 3
 status_of (Refused n) = 3
@@ -95,6 +143,7 @@ status_of TooLong = 3
 status_of Unread = 4
 status_of Unwritten = 4
 status_of NoExchange = 3
+status_of (Certificate n fault) = 3
 status_of Memory = 4
 
 -- Why a script of which this is known is not replayed: its first line at fault, its length, or that it cannot be read.
@@ -105,6 +154,7 @@ IsWhy TooLong known = IsTooLong known
 IsWhy Unread known = IsClosed known
 IsWhy Unwritten known = ⊥
 IsWhy NoExchange known = ⊥
+IsWhy (Certificate n fault) known = ⊥
 IsWhy Memory known = ⊤
 
 -- the same of a script that was read
@@ -113,42 +163,103 @@ IsOf (Line n) text = script text ≡ Err n
 IsOf Memory text = ⊤
 IsOf other text = ⊥
 
--- the cause of this number stands in the definitions, and none of a smaller number
-abbrev pub HasCause : ℕ → Text → Type 0
-HasCause n text = (cause : Bad) × (n ≡ number cause) × IsFirst cause text
-
--- Why definitions of which this is known are refused: the least cause that stands in them, their length, or that they cannot be read.
-abbrev pub IsWhyUnstated : Refusal → Known → Type 0
-IsWhyUnstated (Line n) known = ⊥
-IsWhyUnstated (Refused n) known = (text : Text) × HasText known text × HasCause n text
-IsWhyUnstated TooLong known = IsTooLong known
-IsWhyUnstated Unread known = IsClosed known
-IsWhyUnstated Unwritten known = ⊥
-IsWhyUnstated NoExchange known = ⊥
-IsWhyUnstated Memory known = ⊤
+-- Why the guarantees are not admitted: the certificate of the least number at fault, counted from 1, has this fault first.
+abbrev pub IsWhyUnadmitted : Topology → List Guarantee → List Shown → Refusal → Type 0
+IsWhyUnadmitted t gs cs (Line n) = ⊥
+IsWhyUnadmitted t gs cs (Refused n) = ⊥
+IsWhyUnadmitted t gs cs TooLong = ⊥
+IsWhyUnadmitted t gs cs Unread = ⊥
+IsWhyUnadmitted t gs cs Unwritten = ⊥
+IsWhyUnadmitted t gs cs NoExchange = ⊥
+IsWhyUnadmitted t gs cs (Certificate n k) = (fault : CertFault) × (place : ℕ) × (n ≡ place + 1) × (k ≡ fault_number fault) × FailsFirst t gs cs place fault
+IsWhyUnadmitted t gs cs Memory = ⊤
 
 -- ---- what a command answers
 
--- A command prints this: a replay what the script prints over what is in force, a route the queues to which the key leads.
-abbrev pub IsPrinted : (Text → Known) → Wanted → Text → Type 0
-IsPrinted holds (Replay script definitions) printed = (force : Config) × IsInForce holds definitions force × PrintsFile force (holds script) printed
-IsPrinted holds (Route definitions exchange key) printed = ListsFile (holds definitions) exchange key (Some printed)
+-- `check`: the verdict on each guarantee of the file, and what is written of it
+pub record IsJudged (before after : Text → Known) (definitions guarantees : Text) (out : Option Text) (text : Text) (status : ℕ) : Type 0 where
+  pub stated : Stated
+  pub promised : List Guarantee
+  pub set_up : SetsUp before (Some definitions) (Some guarantees) stated promised
+  pub verdicts : List Verdict
+  pub judged : Judges stated.topology promised verdicts text status
+  pub written : WritesOut before after out verdicts
+
+-- `verify`: whether the certificate of each guarantee is accepted
+pub record IsVerified (holds : Text → Known) (definitions guarantees certificates text : Text) (status : ℕ) : Type 0 where
+  pub stated : Stated
+  pub promised : List Guarantee
+  pub set_up : SetsUp holds (Some definitions) (Some guarantees) stated promised
+  pub shown : List Shown
+  pub certifies : Certifies (holds certificates) shown
+  pub verified : Verifies stated.topology promised shown text status
+
+-- `replay`: what the script prints over what is in force
+pub record IsReplayed (holds : Text → Known) (script : Text) (definitions guarantees certificates : Option Text) (text : Text) (status : ℕ) : Type 0 where
+  pub force : Config
+  pub in_force : IsInForce holds definitions guarantees certificates force
+  pub printed : PrintsFile force (holds script) text
+  pub good : status ≡ 0
+
+-- `route`: the queues to which the key leads
+pub record IsRouted (holds : Text → Known) (definitions exchange key text : Text) (status : ℕ) : Type 0 where
+  pub listed : ListsFile (holds definitions) exchange key (Some text)
+  pub good : status ≡ 0
+
+-- What a command prints, the status that it leaves, and the files before and after it.
+abbrev pub IsAnswered : (Text → Known) → (Text → Known) → Wanted → Text → ℕ → Type 0
+IsAnswered before after (Check definitions guarantees out) text status = IsJudged before after definitions guarantees out text status
+IsAnswered before after (Verify definitions guarantees certificates) text status = IsVerified before definitions guarantees certificates text status × AreKept before after
+IsAnswered before after (Replay script definitions guarantees certificates) text status = IsReplayed before script definitions guarantees certificates text status × AreKept before after
+IsAnswered before after (Route definitions exchange key) text status = IsRouted before definitions exchange key text status × AreKept before after
 
 -- the definitions file that a command names
 abbrev pub definitions_of : Wanted → Option Text
-definitions_of (Replay script definitions) = definitions
+definitions_of (Check definitions guarantees out) = Some definitions
+definitions_of (Verify definitions guarantees certificates) = Some definitions
+definitions_of (Replay script definitions guarantees certificates) = definitions
 definitions_of (Route definitions exchange key) = Some definitions
 
--- Why a command prints nothing, and the file of which this is told.
+-- the guarantees file that it names
+abbrev pub guarantees_of : Wanted → Option Text
+guarantees_of (Check definitions guarantees out) = Some guarantees
+guarantees_of (Verify definitions guarantees certificates) = Some guarantees
+guarantees_of (Replay script definitions guarantees certificates) = guarantees
+guarantees_of (Route definitions exchange key) = None
+
+-- the certificates file that it reads
+abbrev pub certificates_of : Wanted → Option Text
+certificates_of (Check definitions guarantees out) = None
+certificates_of (Verify definitions guarantees certificates) = Some certificates
+certificates_of (Replay script definitions guarantees certificates) = certificates
+certificates_of (Route definitions exchange key) = None
+
+-- Why a command prints nothing, and the file of which this is told. The files are judged in this order.
 pub data Fails (holds : Text → Known) : Wanted → Text → Refusal → Type 0 where
-  -- the definitions are refused
-  unstated : {wanted : Wanted} {file : Text} (why : Refusal) → definitions_of wanted ≡ Some file → IsWhyUnstated why (holds file) → Fails holds wanted file why
-  -- the script is refused, over definitions that are good
-  unplayed : {script : Text} {definitions : Option Text} (force : Config) (why : Refusal) → IsInForce holds definitions force → IsWhy why (holds script) → Fails holds (Replay script definitions) script why
+  -- the definitions are refused, or the guarantees over them
+  unset : {wanted : Wanted} {file : Text} {why : Refusal} → FailsToSetUp holds (definitions_of wanted) (guarantees_of wanted) file why → Fails holds wanted file why
+  -- the certificates file is refused
+  uncertified : {wanted : Wanted} {file : Text} {why : Refusal} (stated : Stated) (gs : List Guarantee) → SetsUp holds (definitions_of wanted) (guarantees_of wanted) stated gs
+      → FailsToCertify holds (certificates_of wanted) file why → Fails holds wanted file why
+  -- a certificate is not accepted for its guarantee, or one of them has no partner
+  unadmitted : {script file : Text} {definitions guarantees certificates : Option Text} (stated : Stated) (gs : List Guarantee) (cs : List Shown) (why : Refusal)
+      → SetsUp holds definitions guarantees stated gs → CertifiesAt holds certificates cs → IsWhyUnadmitted stated.topology gs cs why
+      → Fails holds (Replay script definitions guarantees certificates) file why
+  -- the script is refused, over what is in force
+  unplayed : {script : Text} {definitions guarantees certificates : Option Text} (force : Config) (why : Refusal) → IsInForce holds definitions guarantees certificates force
+      → IsWhy why (holds script) → Fails holds (Replay script definitions guarantees certificates) script why
+  -- all guarantees hold, and their certificates are not written
+  unwritten : {definitions guarantees file : Text} (stated : Stated) (gs : List Guarantee) (verdicts : List Verdict)
+      → SetsUp holds (Some definitions) (Some guarantees) stated gs → AreFound stated.topology gs verdicts → status_of_verdicts verdicts ≡ 0
+      → Fails holds (Check definitions guarantees (Some file)) file Unwritten
   -- the exchange is not there
   unrouted : {file exchange key : Text} → ListsFile (holds file) exchange key None → Fails holds (Route file exchange key) file NoExchange
   -- memory was wanting
   wanting : {wanted : Wanted} {file : Text} → Fails holds wanted file Memory
+
+-- it prints nothing for this reason, and leaves the files so
+abbrev pub IsNotAnswered : (Text → Known) → (Text → Known) → Wanted → Text → Refusal → Type 0
+IsNotAnswered before after wanted file why = Fails before wanted file why × AreLeft before after file why
 
 -- ---- the program
 
@@ -160,15 +271,19 @@ Refuses err file why status = Tries err (message file why) (status_of why) statu
 abbrev pub Shows : ErrorKind → Stream → ℕ → Type 0
 Shows kind err status = ((kind ≡ OutOfMemory) × Tries err out_of_memory 4 status) ⊎ ((kind ≡ OutOfMemory → ⊥) × ((done : Bool) × (status ≡ tried done 3)))
 
--- What a call comes to, by its words, the files as they are known, what standard output and standard error got, and the
--- status. Where a stream took no more, `done` is false and the status 4.
-pub data Does (words : List Text) (holds : Text → Known) (out err : Stream) : ℕ → Type 0 where
-  -- what the command prints was put out
-  printed : (wanted : Wanted) (text : Text) (done : Bool) → AsksFor words wanted → IsPrinted holds wanted text → Puts out text done → GetsNothing err → Does words holds out err (tried done 0)
+-- What a call comes to, by its words, the files as they are known before it and after it, what standard output and
+-- standard error got, and the status. Where a stream took no more, `done` is false and the status 4.
+pub data Does (words : List Text) (before after : Text → Known) (out err : Stream) : ℕ → Type 0 where
+  -- what the command answers was put out
+  printed : (wanted : Wanted) (text : Text) (status : ℕ) (done : Bool) → AsksFor words wanted → IsAnswered before after wanted text status → Puts out text done → GetsNothing err
+      → Does words before after out err (tried done status)
   -- why it prints nothing was told
-  told_of : {wanted : Wanted} {file : Text} (why : Refusal) (done : Bool) → AsksFor words wanted → Fails holds wanted file why → GetsNothing out → Puts err (message file why) done
-      → Does words holds out err (tried done (status_of why))
+  told_of : {wanted : Wanted} {file : Text} (why : Refusal) (done : Bool) → AsksFor words wanted → IsNotAnswered before after wanted file why → GetsNothing out → Puts err (message file why) done
+      → Does words before after out err (tried done (status_of why))
+  -- .. or that there was no memory to tell it
+  untold : {wanted : Wanted} {file : Text} (why : Refusal) (done : Bool) → AsksFor words wanted → IsNotAnswered before after wanted file why → GetsNothing out → Puts err out_of_memory done
+      → Does words before after out err 4
   -- the words ask for nothing, and clap's own text was shown
-  unasked : (done : Bool) → AsksNothing words → GetsNothing out → Does words holds out err (tried done 3)
+  unasked : (done : Bool) → AsksNothing words → GetsNothing out → AreKept before after → Does words before after out err (tried done 3)
   -- memory was wanting before the words were read
-  unread : (done : Bool) → GetsNothing out → Puts err out_of_memory done → Does words holds out err 4
+  unread : (done : Bool) → GetsNothing out → Puts err out_of_memory done → AreKept before after → Does words before after out err 4

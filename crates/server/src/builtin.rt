@@ -1,9 +1,8 @@
-//! The topology that a script runs over where no definitions are given.
+//! The topology that a script runs over where no definitions are named.
 
-ghost use Rattle.std.specs.Prelude.{◌≡◌, [], IfOk};
-ghost use Rattle.server.specs.Program.{built_in};
+ghost use Rattle.std.specs.Prelude.{◌≡◌, IfOk};
+ghost use Rattle.server.specs.Stated.{built_in};
 
-use certificate::{CertFault, Checked, admit};
 use exchange_graph::{Bad, Topology};
 use model::{Binding, DeclaredQueue, Exchange, ExchangeKind, Place, Text};
 use std::alloc::{AllocError, Global};
@@ -50,30 +49,12 @@ fn new_orders(alloc: Global) -> Result<Vec<Binding>, AllocError>
 }
 
 /// The built-in topology.
-fn topology(alloc: Global) -> Result<Topology, AllocError>
+pub fn builtin(alloc: Global) -> Result<Topology, AllocError>
     ensures { IfOk result (λ topology. topology ≡ built_in) }
 {
     match Topology::build(alloc, orders(alloc)?, audit(alloc)?, new_orders(alloc)?) {
         Ok(topology) => Ok(topology),
         Err(Bad::Memory) => Err(AllocError),
         Err(_) => unreachable!(),
-    }
-}
-
-/// The built-in topology, which no guarantee stands on.
-pub fn builtin(alloc: Global) -> Result<Checked, AllocError>
-    ensures { IfOk result (λ checked. checked ≡ record { topology = built_in; guarantees = [] }) }
-{
-    unguaranteed(alloc, topology(alloc)?)
-}
-
-/// A topology that no guarantee stands on.
-pub fn unguaranteed(alloc: Global, topology: Topology) -> Result<Checked, AllocError>
-    ensures { IfOk result (λ checked. checked ≡ record { topology = topology; guarantees = [] }) }
-{
-    match admit(alloc, topology, Vec::new(alloc), &[]) {
-        Ok(checked) => Ok(checked),
-        Err((_, CertFault::Memory)) => Err(AllocError),
-        Err((_, CertFault::Form)) => unreachable!(),
     }
 }

@@ -31,6 +31,9 @@ pub enum Refusal {
     Unwritten,
     /// No exchange of the file has the name.
     NoExchange,
+    /// The certificate of this number has a fault of this number, or has no guarantee, or its guarantee no certificate.
+    /// Certificates count from 1.
+    Certificate { number: u64, fault: u8 },
     /// A growth was refused.
     Memory,
 }
@@ -83,6 +86,48 @@ impl From<Bad> for Refusal {
     }
 }
 
+impl From<guarantees::Bad> for Refusal {
+    ghost use Rattle.std.specs.Prelude.{◌≡◌};
+    ghost use Rattle.server.specs.Refusals.{of_guarantees};
+
+    ghost from_gives = { λ cause r. r ≡ of_guarantees cause };
+
+    fn from(cause: guarantees::Bad) -> Refusal {
+        match cause.number() {
+            14 => Refusal::Memory,
+            number => Refusal::Refused(number),
+        }
+    }
+}
+
+impl From<certificate_files::Bad> for Refusal {
+    ghost use Rattle.std.specs.Prelude.{◌≡◌};
+    ghost use Rattle.server.specs.Refusals.{of_certificates};
+
+    ghost from_gives = { λ cause r. r ≡ of_certificates cause };
+
+    fn from(cause: certificate_files::Bad) -> Refusal {
+        match cause.number() {
+            14 => Refusal::Memory,
+            number => Refusal::Refused(number),
+        }
+    }
+}
+
+impl<'a> From<AllocError> for Told<'a> {
+    ghost use Rattle.std.specs.Prelude.{◌≡◌};
+    ghost use Rattle.server.specs.declared.refusals.Refusal.TheVariants.{Memory};
+
+    ghost from_gives = { λ _ r. r.why ≡ Memory };
+
+    fn from(_: AllocError) -> Told<'a> {
+        Told {
+            file: "",
+            why: Refusal::Memory,
+        }
+    }
+}
+
 /// What is wrong with a file, in these words.
 fn file_message(alloc: Global, file: &str, what: &str) -> Result<String, AllocError>
     ensures { IfOk result (λ text. string_bytes text ≡ told file.now what.now) }
@@ -97,6 +142,13 @@ fn numbered_message(alloc: Global, file: &str, what: &str, n: u64) -> Result<Str
     format!(in alloc; "warren: {file}: {what} {n}\n")
 }
 
+/// That the certificate of this number has this fault.
+fn certificate_message(alloc: Global, number: u64, fault: u8) -> Result<String, AllocError>
+    ensures { IfOk result (λ text. string_bytes text ≡ codes "warren: certificate " ++ (decimal number ++ (codes ": fault " ++ (decimal fault ++ 10 ∷ [])))) }
+{
+    format!(in alloc; "warren: certificate {number}: fault {fault}\n")
+}
+
 /// What is wrong with a file, as it is told.
 fn message(alloc: Global, file: &str, refusal: Refusal) -> Result<String, AllocError>
     ensures { IfOk result (λ text. string_bytes text ≡ message file.now refusal) }
@@ -108,6 +160,7 @@ fn message(alloc: Global, file: &str, refusal: Refusal) -> Result<String, AllocE
         Refusal::Unread => file_message(alloc, file, "cannot read"),
         Refusal::Unwritten => file_message(alloc, file, "cannot write"),
         Refusal::NoExchange => String::from_str(alloc, NO_EXCHANGE),
+        Refusal::Certificate { number, fault } => certificate_message(alloc, number, fault),
         Refusal::Memory => String::from_str(alloc, OUT_OF_MEMORY),
     }
 }
@@ -123,6 +176,7 @@ fn status_of(refusal: Refusal) -> u8
         Refusal::Unread => 4,
         Refusal::Unwritten => 4,
         Refusal::NoExchange => 3,
+        Refusal::Certificate { .. } => 3,
         Refusal::Memory => 4,
     }
 }

@@ -1,4 +1,3 @@
-use Rattle.std.proofs.Common.{◌≡◌}
 use Rattle.server.proofs.Listed.{any_named}
 use Rattle.server.proofs.routes.has_name.Goals as goal
 

@@ -1,0 +1,20 @@
+use Rattle.server.specs.Stated.{IsWhyUncertified}
+use Rattle.server.specs.Program.{unset, uncertified, unadmitted}
+use Rattle.server.proofs.Kept.{why_kept, certifies_kept, few_promised}
+use Rattle.server.proofs.replaying.in_force.Goals as goal
+
+pub returns-in-Err-clause-force : goal.returns-in-Err-clause-force
+returns-in-Err-clause-force g c = λ script. unset c.in-Err.ensures.states
+
+pub returns-in-Err-certificates_of-clause-force : goal.returns-in-Err-certificates_of-clause-force
+returns-in-Err-certificates_of-clause-force g c =
+    λ script. uncertified (record { topology = c.in-Ok.setup.topology; users = c.in-Ok.setup.users.items }) c.in-Ok.setup.guarantees.items c.in-Ok.ensures.states
+    (why_kept _ _ IsWhyUncertified _ _ _ c.in-Ok.ensures.files c.in-Err-certificates_of.ensures.states)
+
+pub admitted-requires : goal.admitted-requires
+admitted-requires g c = few_promised _ _ _ _ c.in-Ok.ensures.states.promises
+
+pub returns-clause-force : goal.returns-clause-force
+returns-clause-force g c =
+    λ script. unadmitted (record { topology = c.in-Ok.setup.topology; users = c.in-Ok.setup.users.items }) c.in-Ok.setup.guarantees.items c.in-Ok-certificates_of.certificates.items c.in-Err-admitted.why
+    c.in-Ok.ensures.states (certifies_kept _ _ _ _ c.in-Ok.ensures.files c.in-Ok-certificates_of.ensures.states) (rw c.as_slice.ensures.value at c.in-Err-admitted.ensures)

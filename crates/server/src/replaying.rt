@@ -1,0 +1,152 @@
+//! What `replay` prints.
+
+ghost use Rattle.std.specs.Prelude.{◌≡◌, ◌≤◌, List, length, MatchResult, option_map, ℕ};
+ghost use Rattle.certificate.specs.Certified.{AreCertified};
+ghost use Rattle.command_line.specs.CommandLine.{Replay};
+ghost use Rattle.engine.specs.Certified.{in_force};
+ghost use Rattle.server.specs.Files.{AreKept};
+ghost use Rattle.server.specs.Outcomes.{fault_number};
+ghost use Rattle.server.specs.Program.{
+  Fails,
+  IsInForce,
+  IsOf,
+  IsReplayed,
+  IsWhy,
+  IsWhyUnadmitted,
+  Prints,
+  PrintsFile,
+};
+
+use crate::judging::Output;
+use crate::refusals::{Refusal, Told};
+use crate::script::{Fault, read_script};
+use crate::stated::{Setup, certificates_of, set_up};
+use crate::storage::Files;
+use crate::transcript::transcript_text;
+use certificate::{Checked, admit_certified};
+use certificate_check::{CertFault, Certificate};
+use exchange_graph::Topology;
+use guarantees::Guarantee;
+use model::User;
+use std::alloc::Global;
+
+/// What a script prints, over a topology with guarantees that hold of it, where these users may log in.
+pub fn replayed(
+    alloc: Global,
+    checked: Checked,
+    users: Vec<User>,
+    text: &[u8],
+) -> Result<Vec<u8>, Refusal>
+    ensures { MatchResult result (λ printed. Prints (in_force checked users.items) text.now printed.items) (λ refusal. IsOf refusal text.now) }
+{
+    let arrivals = match read_script(alloc, text) {
+        Ok(arrivals) => arrivals,
+        Err(Fault::Line(n)) => return Err(Refusal::Line(n)),
+        Err(Fault::Memory) => return Err(Refusal::Memory),
+    };
+    let transcript = engine::run(alloc, checked, users, arrivals.as_slice())?;
+    Ok(transcript_text(alloc, &transcript)?)
+}
+
+/// What the script of a file prints.
+fn replayed_file<F: Files>(
+    alloc: Global,
+    script: &str,
+    checked: Checked,
+    users: Vec<User>,
+    files: &mut F,
+) -> Result<Vec<u8>, Refusal>
+    ensures printed { MatchResult result (λ printed. PrintsFile (in_force checked users.items) (F.holds files.old script.now) printed.items) (λ refusal. IsWhy refusal (F.holds files.old script.now)) }
+    ensures files { AreKept (F.holds files.old) (F.holds files.new) }
+{
+    let text = files.read(alloc, script)?;
+    replayed(alloc, checked, users, text.as_slice())
+}
+
+/// The number of a fault.
+fn number_of(fault: &CertFault) -> u8
+    ensures { result ≡ fault_number fault.now }
+{
+    match fault {
+        CertFault::Start => 1,
+        CertFault::Open { .. } => 2,
+        CertFault::Missed { .. } => 3,
+        CertFault::Form => 5,
+        CertFault::Memory => 6,
+    }
+}
+
+/// The topology with its guarantees, each of which has its certificate.
+fn admitted(
+    alloc: Global,
+    topology: Topology,
+    promised: Vec<Guarantee>,
+    certificates: &[Certificate],
+) -> Result<Checked, Refusal>
+    requires { length promised.items ≤ 64 }
+    ensures { MatchResult result (λ checked. (checked ≡ record { topology = topology; guarantees = promised.items }) × AreCertified topology promised.items certificates.now) (λ why. IsWhyUnadmitted topology promised.items certificates.now why) }
+{
+    match admit_certified(alloc, topology, promised, certificates) {
+        Ok(checked) => Ok(checked),
+        Err((_, CertFault::Memory)) => Err(Refusal::Memory),
+        Err((place, fault)) => Err(Refusal::Certificate {
+            number: place as u64 + 1,
+            fault: number_of(&fault),
+        }),
+    }
+}
+
+/// The files that a replay names, but for its script.
+#[derive(Clone, Copy, Drop)]
+pub struct Named<'a> {
+    pub definitions: Option<&'a str>,
+    pub guarantees: Option<&'a str>,
+    pub certificates: Option<&'a str>,
+}
+
+/// What is in force by these files.
+fn in_force<'a, F: Files>(
+    alloc: Global,
+    named: Named<'a>,
+    files: &mut F,
+) -> Result<(Checked, Vec<User>), Told<'a>>
+    ensures force { (script : List ℕ) → MatchResult result (λ force. IsInForce (F.holds files.old) (option_map (λ f. f.now) named.entry.definitions) (option_map (λ f. f.now) named.entry.guarantees) (option_map (λ f. f.now) named.entry.certificates) (in_force force.0 force.1.items)) (λ told. Fails (F.holds files.old) (Replay script (option_map (λ f. f.now) named.entry.definitions) (option_map (λ f. f.now) named.entry.guarantees) (option_map (λ f. f.now) named.entry.certificates)) told.file.now told.why) }
+    ensures files { AreKept (F.holds files.old) (F.holds files.new) }
+{
+    let Setup {
+        topology,
+        users,
+        guarantees,
+    } = match set_up(alloc, named.definitions, named.guarantees, files) {
+        Ok(setup) => setup,
+        Err(told) => return Err(told),
+    };
+    let certificates = match certificates_of(alloc, named.certificates, files) {
+        Ok(certificates) => certificates,
+        Err(told) => return Err(told),
+    };
+    match admitted(alloc, topology, guarantees, certificates.as_slice()) {
+        Ok(checked) => Ok((checked, users)),
+        Err(why) => Err(Told { file: "", why }),
+    }
+}
+
+/// `replay SCRIPT`: what the script prints over what is in force by these files, which are judged first.
+pub fn replay<'a, F: Files>(
+    alloc: Global,
+    script: &'a str,
+    named: Named<'a>,
+    files: &mut F,
+) -> Result<Output, Told<'a>>
+    ensures answers { MatchResult result (λ o. IsReplayed (F.holds files.old) script.now (option_map (λ f. f.now) named.entry.definitions) (option_map (λ f. f.now) named.entry.guarantees) (option_map (λ f. f.now) named.entry.certificates) o.text.items o.status) (λ told. Fails (F.holds files.old) (Replay script.now (option_map (λ f. f.now) named.entry.definitions) (option_map (λ f. f.now) named.entry.guarantees) (option_map (λ f. f.now) named.entry.certificates)) told.file.now told.why) }
+    ensures files { AreKept (F.holds files.old) (F.holds files.new) }
+{
+    let (checked, users) = match in_force(alloc, named, files) {
+        Ok(force) => force,
+        Err(told) => return Err(told),
+    };
+    match replayed_file(alloc, script, checked, users, files) {
+        Ok(text) => Ok(Output { text, status: 0 }),
+        Err(why) => Err(Told { file: script, why }),
+    }
+}
