@@ -14,7 +14,7 @@ ghost use Rattle.broker.specs.Links.{channel_in, limits_of};
 
 use crate::links::Link;
 use channel::Channel;
-use exchange_graph::{Access, Router};
+use kept_routes::{Access, Router};
 use model::{Method, Publish};
 
 /// Why a command is not performed.

@@ -12,7 +12,7 @@ use Rattle.model.specs.declared.topologies.Place.{Place}
 use Rattle.model.specs.declared.topologies.Place.TheVariants as place
 use Rattle.exchange_graph.specs.Targets.{AreTargets}
 use Rattle.exchange_graph.specs.Marks.{queue_name}
-use Rattle.exchange_graph.proofs.Members.{in_get, get_in, in_map, map_in, in_contains}
+use Rattle.topology_drafts.proofs.Members.{in_get, get_in, in_map, map_in, in_contains}
 use Rattle.exchange_graph.proofs.Naming.{apart_same}
 
 picked_holds : {P : Text → Type 0} {xs ys : List Text} (y : Text) → Picks P xs ys → IsIn y ys → P y

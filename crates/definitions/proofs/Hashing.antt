@@ -4,7 +4,7 @@ use Rattle.std.specs.Prelude.{All, IsSome}
 use Rattle.std.proofs.lemmas.List.{drop_more, at_drop_all}
 use Rattle.model.specs.Words.{Text}
 use Rattle.model.specs.declared.messages.User.{User}
-use Rattle.exchange_graph.proofs.Alls.{all_more, all_taken}
+use Rattle.definitions.proofs.Alls.{all_more, all_taken}
 use Rattle.definitions.specs.declared.document.UserEntry.{UserEntry}
 use Rattle.definitions.specs.States.{hash_of, user_of}
 use Rattle.definitions.specs.Hashed.{AreHashed}

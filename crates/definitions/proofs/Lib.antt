@@ -1,3 +1,4 @@
+pub mod Alls
 pub mod Deciding
 pub mod Order
 pub mod Hashing

@@ -2,7 +2,7 @@
 use Rattle.std.specs.Prelude.{codes, ◌≡◌, ◌<◌, ◌≤◌, ℕ, List, true, false, Some, None, IsSome, map, length, All, ◌⊎◌}
 use Rattle.model.specs.Words.{Text}
 use Rattle.model.specs.Topology.{AreApart, IsIn}
-use Rattle.exchange_graph.specs.Causes.{AllJoin, AllWorded, IsSmall, NamesApart, NamesLead}
+use Rattle.topology_drafts.specs.Causes.{AllJoin, AllWorded, IsSmall, NamesApart, NamesLead}
 use Rattle.definitions.specs.declared.document.VhostEntry.{VhostEntry}
 use Rattle.definitions.specs.declared.document.UserEntry.{UserEntry}
 use Rattle.definitions.specs.declared.document.PermissionEntry.{PermissionEntry}

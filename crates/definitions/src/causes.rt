@@ -29,9 +29,9 @@ ghost use Rattle.definitions.specs.File.{file_of};
 use crate::document::{
     BindingEntry, Document, ExchangeEntry, PermissionEntry, QueueEntry, UserEntry, VhostEntry,
 };
-use exchange_graph::{Directory, Draft};
 use model::{ExchangeKind, Text};
 use std::alloc::Global;
+use topology_drafts::{Directory, Draft};
 
 // ---- 3: one vhost
 

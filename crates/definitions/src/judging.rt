@@ -13,8 +13,8 @@ use crate::causes::{
 };
 use crate::document::{Document, UserEntry};
 use crate::stating::Parts;
-use exchange_graph::{Directory, Draft};
 use std::alloc::Global;
+use topology_drafts::{Directory, Draft};
 
 /// The least of the first five causes that stands in a file, if one does.
 fn first_cause(

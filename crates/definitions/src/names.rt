@@ -3,7 +3,7 @@
 ghost use Rattle.std.specs.Prelude.{◌≡◌};
 
 use crate::document::{PermissionEntry, UserEntry};
-use exchange_graph::Named;
+use topology_drafts::Named;
 
 impl Named for UserEntry {
     ghost named = { λ u. u.name };

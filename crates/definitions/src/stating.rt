@@ -1,7 +1,7 @@
 //! What the entries of a file set up.
 
 ghost use Rattle.std.specs.Prelude.{◌≡◌, All, IfOk, IsSome, MatchOption, map};
-ghost use Rattle.exchange_graph.specs.Causes.{IsBuildable};
+ghost use Rattle.topology_drafts.specs.Causes.{IsBuildable};
 ghost use Rattle.definitions.specs.File.{file_of};
 ghost use Rattle.definitions.specs.States.{
   binding_of,
@@ -19,10 +19,11 @@ use crate::causes::kind_named;
 use crate::document::{BindingEntry, Document, ExchangeEntry, QueueEntry, UserEntry};
 use base64::DecodeAllocError;
 use base64::engine::general_purpose::STANDARD;
-use exchange_graph::{Draft, Topology};
+use exchange_graph::Topology;
 use model::{Binding, DeclaredQueue, Exchange, ExchangeKind, Place, Text, User};
 use std::alloc::{AllocError, Global};
 use std::marker::Model;
+use topology_drafts::Draft;
 
 /// The same text, if there is one.
 fn copy(text: &Option<Text>) -> Result<Option<Text>, AllocError>

@@ -6,7 +6,8 @@ ghost use Rattle.queue.specs.Line.{requeued};
 ghost use Rattle.depot.specs.Store.{entries_of};
 
 use crate::publishing::{note_of, publish_in};
-use exchange_graph::{Router, Topology};
+use exchange_graph::Topology;
+use kept_routes::Router;
 use model::{Content, Note, Publish};
 use queue::Queue;
 use std::alloc::{AllocError, Global};

@@ -18,7 +18,7 @@ use Rattle.exchange_graph.specs.declared.ends.End.TheVariants.{Onward, Into}
 use Rattle.exchange_graph.specs.Fans.{AreSteps, place_of, EndsWithin}
 use Rattle.exchange_graph.specs.Marks.{exchange_name, queue_name}
 use Rattle.exchange_graph.specs.Edges.{LeadsIn, LeadsOn, is_into, is_onward}
-use Rattle.exchange_graph.proofs.Members.{in_contains, in_map}
+use Rattle.topology_drafts.proofs.Members.{in_contains, in_map}
 use Rattle.exchange_graph.proofs.Naming.{apart_same, one_at}
 
 -- ---- what leads on is there

@@ -7,8 +7,10 @@ use Rattle.model.specs.declared.topologies.Exchange.{Exchange}
 use Rattle.model.specs.declared.topologies.Binding.{Binding}
 use Rattle.model.specs.declared.topologies.Place.{Place}
 use Rattle.model.specs.declared.topologies.Place.TheVariants as place
-use Rattle.exchange_graph.specs.Causes.{IsBuildable, IsNamed, IsPlace, Joins, AlternateIsThere, DeadLettersLead}
-use Rattle.exchange_graph.proofs.Members.{map_in, contains_in}
+use Rattle.topology_drafts.specs.declared.bad.Bad.{Bad}
+use Rattle.topology_drafts.specs.declared.bad.Bad.TheVariants.{Repeated, Absent, Argument, Worded, TooMany, NoExchange, Memory}
+use Rattle.topology_drafts.specs.Causes.{IsBuildable, StandsAgainst, IsRefused, IsNamed, IsPlace, Joins, AlternateIsThere, DeadLettersLead}
+use Rattle.topology_drafts.proofs.Members.{map_in, contains_in}
 
 none_unnamed : (t : Topology) → IsBuildable t → IsIn [] (exchange_names t.exchanges) → ⊥
 none_unnamed t b h =
@@ -32,3 +34,13 @@ well_formed t b =
       dead_letters = λ q exchange c e. All-contains (DeadLettersLead (exchange_names t.exchanges)) t.queues q b.lead.dead c exchange e;
       alternates = λ x other c e. All-contains (AlternateIsThere (exchange_names t.exchanges)) t.exchanges x b.lead.alternates c other e;
     }
+
+-- what stands against a topology is why it is refused
+pub refused : (e : Bad) (t : Topology) → StandsAgainst e t → IsRefused e t
+refused Repeated t h = h
+refused Absent t h = h
+refused Argument t h = h
+refused Worded t h = h
+refused TooMany t h = h
+refused NoExchange t h = h
+refused Memory t h = absurd h

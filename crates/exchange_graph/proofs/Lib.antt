@@ -1,14 +1,10 @@
 pub mod Indices
-pub mod Members
 pub mod Passing
 pub mod Marking
 pub mod Naming
-pub mod Entering
 pub mod Stepping
 pub mod Reached
 pub mod Starting
 pub mod Picking
-pub mod Alls
 pub mod Good
-pub mod Routing
 pub mod Edging

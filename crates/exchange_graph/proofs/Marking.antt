@@ -4,7 +4,7 @@ use Rattle.std.proofs.lemmas.List.{take_more}
 use Rattle.std.specs.Prelude.{◌⊎◌}
 use Rattle.exchange_graph.specs.declared.ends.End.{End}
 use Rattle.exchange_graph.specs.Marks.{Marks, IsSet, unset}
-use Rattle.exchange_graph.proofs.Members.{in_append, in_left, in_right}
+use Rattle.topology_drafts.proofs.Members.{in_append, in_left, in_right}
 
 pub marks_none : (seen found : List Bool) → Marks [] seen found seen found
 marks_none seen found = record {

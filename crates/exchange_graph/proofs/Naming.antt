@@ -13,7 +13,7 @@ use Rattle.model.specs.declared.topologies.DeclaredQueue.{DeclaredQueue}
 use Rattle.model.specs.declared.topologies.Place.{Place}
 use Rattle.model.specs.declared.topologies.Place.TheVariants as place
 use Rattle.exchange_graph.specs.Fans.{exchange_place, queue_place, end_of, place_of, EndsWithin}
-use Rattle.exchange_graph.proofs.Members.{in_get, in_contains, contains_in}
+use Rattle.topology_drafts.proofs.Members.{in_get, in_contains, contains_in}
 
 -- names that are apart stand in different places
 pub apart_same : (names : List Text) (i j : ℕ) → AreApart names → i < length names → j < length names → get_or names i [] ≡ get_or names j [] → i ≡ j

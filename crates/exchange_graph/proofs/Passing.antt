@@ -12,7 +12,7 @@ use Rattle.exchange_graph.specs.declared.ends.End.{End}
 use Rattle.exchange_graph.specs.declared.ends.End.TheVariants.{Onward}
 use Rattle.exchange_graph.specs.declared.ends.Way.{Way}
 use Rattle.exchange_graph.specs.Fans.{ArePassing, ends_by_key, ends_of, ends_at, patterns_of}
-use Rattle.exchange_graph.proofs.Members.{in_map, map_in, in_get}
+use Rattle.topology_drafts.proofs.Members.{in_map, map_in, in_get}
 
 -- ---- direct
 

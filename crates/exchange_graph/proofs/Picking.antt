@@ -9,7 +9,7 @@ use Rattle.model.specs.declared.topologies.Exchange.{Exchange}
 use Rattle.model.specs.declared.topologies.DeclaredQueue.{DeclaredQueue}
 use Rattle.exchange_graph.specs.Marks.{IsSet, AreFound, AreSeen, set_places, exchange_name, queue_name}
 use Rattle.exchange_graph.specs.Targets.{AreTargets, AreVisited, names_at}
-use Rattle.exchange_graph.proofs.Members.{in_get}
+use Rattle.topology_drafts.proofs.Members.{in_get}
 
 -- a place of a mark
 record IsBetween (low high i : ℕ) : Type 0 where

@@ -13,7 +13,7 @@ use Rattle.exchange_graph.specs.declared.ends.End.{End}
 use Rattle.exchange_graph.specs.declared.ends.End.TheVariants.{Onward, Into}
 use Rattle.exchange_graph.specs.Fans.{place_of}
 use Rattle.exchange_graph.specs.Marks.{IsMet, IsSet, Arrives, Reaching, AreFound, AreSeen, exchange_name, queue_name}
-use Rattle.exchange_graph.proofs.Members.{in_map, in_contains, in_get}
+use Rattle.topology_drafts.proofs.Members.{in_map, in_contains, in_get}
 use Rattle.exchange_graph.proofs.Marking.{set_only, set_here}
 use Rattle.exchange_graph.proofs.Naming.{apart_same, one_at}
 

@@ -16,7 +16,7 @@ use Rattle.exchange_graph.specs.declared.ends.Way.{Way}
 use Rattle.exchange_graph.specs.Built.{IsBuilt}
 use Rattle.exchange_graph.specs.Marks.{exchange_name}
 use Rattle.exchange_graph.specs.Fans.{Fan, ArePassing, LeadOn, AreSteps, EndsWithin, ways_from, way_of, fan_of, end_of, place_of, or_alternate, exchange_place}
-use Rattle.exchange_graph.proofs.Members.{in_contains, contains_in, in_map}
+use Rattle.topology_drafts.proofs.Members.{in_contains, contains_in, in_map}
 use Rattle.exchange_graph.proofs.Naming.{get_map, same_exchange, place_again, ends_within, exchange_stands}
 
 -- ---- the ways of an exchange are its bindings

@@ -1,9 +1,5 @@
-pub mod Naming
 pub mod Targets
-pub mod Causes
 pub mod Fans
 pub mod Marks
 pub mod Built
-pub mod Drafts
-pub mod Routers
 pub mod Edges

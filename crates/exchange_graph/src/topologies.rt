@@ -16,14 +16,11 @@ ghost use Rattle.std.specs.Prelude.{
 ghost use Rattle.std.specs.Str.{bytes_eq};
 ghost use Rattle.model.specs.Topology.{Topology as Handed, IsIn, IsWellFormed, exchange_names, queue_names};
 ghost use Rattle.exchange_graph.specs.Targets.{AreTargets, AreVisited};
-ghost use Rattle.exchange_graph.specs.Causes.{Builds, IsBuildable};
+ghost use Rattle.topology_drafts.specs.Causes.{Builds, IsBuildable};
 ghost use Rattle.exchange_graph.specs.Fans.{AreSteps};
 ghost use Rattle.exchange_graph.specs.Marks.{exchange_name, queue_name};
 
-use crate::bad::Bad;
 use crate::copies::{copy_bindings, copy_exchanges, copy_queues};
-use crate::directory::Names;
-use crate::drafts::judge;
 use crate::ends::End;
 use crate::fans::{Fan, all_fans};
 use crate::marks::set_places;
@@ -31,6 +28,7 @@ use crate::reach::{found, seen};
 use model::{Binding, DeclaredQueue, Exchange};
 use std::alloc::{AllocError, Global};
 use std::marker::Model;
+use topology_drafts::{Bad, Names, judge};
 
 /// Exchanges, queues and bindings, each in the order of the file.
 pub struct Topology {
@@ -69,6 +67,7 @@ impl Model for Topology {
 
 impl Topology {
     /// Exactly what is handed in, where nothing stands against it.
+    #[tactic(auto, using(crate::proofs::Good::refused))]
     pub fn build(
         alloc: Global,
         exchanges: Vec<Exchange>,

@@ -3,9 +3,10 @@
 ghost use Rattle.std.specs.Prelude.{◌≡◌, IfOk};
 ghost use Rattle.server.specs.Stated.{built_in};
 
-use exchange_graph::{Bad, Topology};
+use exchange_graph::Topology;
 use model::{Binding, DeclaredQueue, Exchange, ExchangeKind, Place, Text};
 use std::alloc::{AllocError, Global};
+use topology_drafts::Bad;
 
 /// The direct exchange `orders`.
 fn orders(alloc: Global) -> Result<Vec<Exchange>, AllocError>

@@ -1,4 +1,4 @@
-use Rattle.exchange_graph.specs.declared.routes.Access.TheVariants.{Open, Internal, Absent}
+use Rattle.kept_routes.specs.declared.routes.Access.TheVariants.{Open, Internal, Absent}
 use Rattle.broker.proofs.Exchanges.{refused_by}
 use Rattle.broker.proofs.refusals.refusal_to.Goals as goal
 

@@ -1,7 +1,7 @@
 use Rattle.std.proofs.Common.{arith, refl}
 use Rattle.definitions.specs.Causes.{IsOfUser}
 use Rattle.definitions.proofs.Deciding.{not_all}
-use Rattle.exchange_graph.proofs.Alls.{all_more, all_taken}
+use Rattle.definitions.proofs.Alls.{all_more, all_taken}
 use Rattle.definitions.proofs.causes.are_of_users.Goals as goal
 
 pub loop-permission-preserved : goal.loop-permission-preserved

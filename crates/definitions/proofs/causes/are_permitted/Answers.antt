@@ -1,7 +1,7 @@
 use Rattle.std.proofs.Common.{arith, refl}
 use Rattle.definitions.specs.Causes.{IsPermitted}
 use Rattle.definitions.proofs.Deciding.{not_all}
-use Rattle.exchange_graph.proofs.Alls.{all_more, all_taken}
+use Rattle.definitions.proofs.Alls.{all_more, all_taken}
 use Rattle.definitions.proofs.causes.are_permitted.Goals as goal
 
 pub loop-user-preserved : goal.loop-user-preserved

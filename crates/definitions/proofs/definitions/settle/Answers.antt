@@ -1,6 +1,6 @@
 use Rattle.std.proofs.Common.{◌∙◌, sym, subst}
 use Rattle.model.specs.Topology.{Topology}
-use Rattle.exchange_graph.specs.Causes.{IsBuildable}
+use Rattle.topology_drafts.specs.Causes.{IsBuildable}
 use Rattle.definitions.specs.File.{file_of}
 use Rattle.definitions.proofs.Building.{buildable, hashed_some, settled}
 use Rattle.definitions.proofs.definitions.settle.Goals as goal

@@ -1,6 +1,6 @@
 use Rattle.std.proofs.Common.{◌<◌, arith, length}
 use Rattle.exchange_graph.specs.declared.ends.End.TheVariants.{Onward}
-use Rattle.exchange_graph.proofs.Members.{in_get}
+use Rattle.topology_drafts.proofs.Members.{in_get}
 use Rattle.exchange_graph.proofs.Marking.{marks_more}
 use Rattle.exchange_graph.proofs.marks.mark_all.Goals as goal
 

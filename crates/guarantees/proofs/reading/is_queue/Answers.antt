@@ -1,7 +1,7 @@
 use Rattle.std.proofs.Common.{◌<◌, List, ℕ, [], length, refl, subst}
 use Rattle.std.proofs.lemmas.List.{length-map}
 use Rattle.model.specs.Topology.{IsIn, queue_names}
-use Rattle.exchange_graph.proofs.Members.{in_get}
+use Rattle.topology_drafts.proofs.Members.{in_get}
 use Rattle.guarantees.proofs.reading.is_queue.Goals as goal
 
 pub returns-in-Some : goal.returns-in-Some

@@ -1,0 +1,3 @@
+pub mod Naming
+pub mod Causes
+pub mod Drafts

@@ -1,0 +1,168 @@
+//! What stands against a topology.
+
+ghost use Rattle.std.specs.Prelude.{Decides, ℕ, List, MatchResult, All, ◌≡◌, Some};
+ghost use Rattle.model.specs.declared.topologies.Binding.{Binding as Bound};
+ghost use Rattle.topic_match.specs.Patterns.{IsPattern};
+ghost use Rattle.topology_drafts.specs.Causes.{
+  AlternateIsThere,
+  DeadLettersLead,
+  IsExchange,
+  IsNamed,
+  IsPlace,
+  IsWorded,
+  Joins,
+  KeyHasExchange,
+};
+
+use crate::directory::Directory;
+use model::{Binding, DeclaredQueue, Exchange, Place};
+use topic_match::is_pattern;
+
+/// Whether an exchange of this name is there. The default exchange is not.
+fn is_exchange(exchanges: &Directory<'_, Exchange>, name: &[u8]) -> bool
+    ensures { Decides result (IsExchange exchanges.now name.now) }
+{
+    !name.is_empty() && exchanges.has(name)
+}
+
+/// Whether the place is there.
+fn is_place(
+    exchanges: &Directory<'_, Exchange>,
+    queues: &Directory<'_, DeclaredQueue>,
+    to: &Place,
+) -> bool
+    ensures { Decides result (IsPlace exchanges.now queues.now to.now) }
+{
+    match to {
+        Place::Exchange(name) => is_exchange(exchanges, name.as_bytes()),
+        Place::Queue(name) => queues.has(name.as_bytes()),
+    }
+}
+
+/// Whether what a binding names is there.
+fn joins(
+    exchanges: &Directory<'_, Exchange>,
+    queues: &Directory<'_, DeclaredQueue>,
+    binding: &Binding,
+) -> bool
+    ensures { Decides result (Joins exchanges.now queues.now binding.now) }
+{
+    is_exchange(exchanges, binding.source.as_bytes()) && is_place(exchanges, queues, &binding.to)
+}
+
+/// Whether a queue with a dead-letter key has a dead-letter exchange.
+fn key_has_exchange(queue: &DeclaredQueue) -> bool
+    ensures { Decides result (KeyHasExchange queue.now) }
+{
+    queue.dead_letter_key.is_none() || queue.dead_letter_exchange.is_some()
+}
+
+/// Whether an exchange's name has its form.
+fn is_named(exchange: &Exchange) -> bool
+    ensures { Decides result (IsNamed exchange.now) }
+{
+    exchange.name.len() != 0 && exchange.name.len() <= 255
+}
+
+/// Whether a dead-letter key is a pattern, if there is one.
+fn key_is_pattern(queue: &DeclaredQueue) -> bool
+    ensures { Decides result ((key : List ℕ) → queue.now.dead_letter_key ≡ Some key → IsPattern key) }
+{
+    match &queue.dead_letter_key {
+        Some(key) => is_pattern(key.as_bytes()),
+        None => true,
+    }
+}
+
+/// Whether a queue's name and key have their form.
+fn is_worded(queue: &DeclaredQueue) -> bool
+    ensures { Decides result (IsWorded queue.now) }
+{
+    queue.name.len() != 0 && is_pattern(queue.name.as_bytes()) && key_is_pattern(queue)
+}
+
+/// Whether a binding key is a pattern.
+fn is_keyed(binding: &Binding) -> bool
+    ensures { Decides result (IsPattern binding.now.key) }
+{
+    is_pattern(binding.key.as_bytes())
+}
+
+/// Whether an alternate exchange is there.
+fn alternate_is_there(exchanges: &Directory<'_, Exchange>, exchange: &Exchange) -> bool
+    ensures { Decides result (AlternateIsThere exchanges.now exchange.now) }
+{
+    match &exchange.alternate {
+        Some(name) => exchanges.has(name.as_bytes()),
+        None => true,
+    }
+}
+
+/// Whether a dead-letter exchange is there, or is the default one.
+fn dead_letters_lead(exchanges: &Directory<'_, Exchange>, queue: &DeclaredQueue) -> bool
+    ensures { Decides result (DeadLettersLead exchanges.now queue.now) }
+{
+    match &queue.dead_letter_exchange {
+        Some(name) => name.len() == 0 || exchanges.has(name.as_bytes()),
+        None => true,
+    }
+}
+
+/// Whether what the bindings name is there.
+pub fn all_join(
+    exchanges: &Directory<'_, Exchange>,
+    queues: &Directory<'_, DeclaredQueue>,
+    bindings: &[Binding],
+) -> bool
+    ensures { Decides result (All (Joins exchanges.now queues.now) bindings.now) }
+{
+    bindings
+        .iter()
+        .all(|binding| joins(exchanges, queues, binding))
+}
+
+/// Whether the queues with a dead-letter key have a dead-letter exchange.
+pub fn keys_have_exchanges(queues: &[DeclaredQueue]) -> bool
+    ensures { Decides result (All KeyHasExchange queues.now) }
+{
+    queues.iter().all(|queue| key_has_exchange(queue))
+}
+
+/// Whether the exchanges' names have their form.
+pub fn all_named(exchanges: &[Exchange]) -> bool
+    ensures { Decides result (All IsNamed exchanges.now) }
+{
+    exchanges.iter().all(|exchange| is_named(exchange))
+}
+
+/// Whether the queues' names and keys have their form.
+pub fn all_worded(queues: &[DeclaredQueue]) -> bool
+    ensures { Decides result (All IsWorded queues.now) }
+{
+    queues.iter().all(|queue| is_worded(queue))
+}
+
+/// Whether the binding keys are patterns.
+pub fn all_keyed(bindings: &[Binding]) -> bool
+    ensures { Decides result (All (λ (b : Bound). IsPattern b.key) bindings.now) }
+{
+    bindings.iter().all(|binding| is_keyed(binding))
+}
+
+/// Whether the alternate exchanges are there.
+pub fn alternates_are_there(exchanges: &Directory<'_, Exchange>, entries: &[Exchange]) -> bool
+    ensures { Decides result (All (AlternateIsThere exchanges.now) entries.now) }
+{
+    entries
+        .iter()
+        .all(|exchange| alternate_is_there(exchanges, exchange))
+}
+
+/// Whether the dead-letter exchanges are there.
+pub fn all_dead_letters_lead(exchanges: &Directory<'_, Exchange>, queues: &[DeclaredQueue]) -> bool
+    ensures { Decides result (All (DeadLettersLead exchanges.now) queues.now) }
+{
+    queues
+        .iter()
+        .all(|queue| dead_letters_lead(exchanges, queue))
+}

@@ -1,0 +1,174 @@
+//! Topologies that are still to be found good.
+
+ghost use Rattle.std.specs.Prelude.{◌≡◌, All, Decides, MatchResult};
+ghost use Rattle.model.specs.Topology.{exchange_names};
+ghost use Rattle.topology_drafts.specs.Causes.{
+  AllJoin,
+  AllWorded,
+  AlternateIsThere,
+  DeadLettersLead,
+  IsBuildable,
+  IsSmall,
+  KeysHaveExchanges,
+  NamesApart,
+  NamesLead,
+  StandsAgainst,
+};
+
+use crate::bad::Bad;
+use crate::checks::{
+    all_dead_letters_lead, all_join, all_keyed, all_named, all_worded, alternates_are_there,
+    keys_have_exchanges,
+};
+use crate::directory::Directory;
+use model::{Binding, DeclaredQueue, Exchange};
+use std::alloc::Global;
+use std::marker::Model;
+
+/// Exchanges, queues and bindings, of which can be asked what stands against them. It takes memory where there is some,
+/// and answers the same without.
+pub struct Draft<'a> {
+    exchanges: &'a [Exchange],
+    queues: &'a [DeclaredQueue],
+    bindings: &'a [Binding],
+    exchange_names: Directory<'a, Exchange>,
+    queue_names: Directory<'a, DeclaredQueue>,
+}
+
+/// Written out, so that a drop is one call.
+impl<'a> Drop for Draft<'a> {
+    fn drop(self) {
+        let Draft {
+            exchanges: _,
+            queues: _,
+            bindings: _,
+            exchange_names: _,
+            queue_names: _,
+        } = self;
+    }
+}
+
+impl<'a> Model for Draft<'a> {
+    ghost use Rattle.model.specs.Topology.{Topology};
+    ghost use Rattle.topology_drafts.specs.Drafts.{KnowsNames};
+
+    ghost Value = { Topology };
+
+    ghost view = { λ d. record { exchanges = d.exchanges.now; queues = d.queues.now; bindings = d.bindings.now } };
+
+    ghost invariant = { λ d. KnowsNames d.exchange_names d.queue_names d.exchanges.now d.queues.now };
+}
+
+impl<'a> Draft<'a> {
+    /// A draft of these.
+    pub fn of(
+        alloc: Global,
+        exchanges: &'a [Exchange],
+        queues: &'a [DeclaredQueue],
+        bindings: &'a [Binding],
+    ) -> Draft<'a>
+        ensures { result ≡ record { exchanges = exchanges.entry.now; queues = queues.entry.now; bindings = bindings.entry.now } }
+    {
+        Draft {
+            exchanges,
+            queues,
+            bindings,
+            exchange_names: Directory::of(alloc, exchanges),
+            queue_names: Directory::of(alloc, queues),
+        }
+    }
+
+    /// Whether no two exchanges and no two queues have one name.
+    pub fn is_apart(&self) -> bool
+        ensures { Decides result (NamesApart self.now) }
+    {
+        self.queue_names.is_apart() && self.exchange_names.is_apart()
+    }
+
+    /// Whether what the bindings name is there.
+    pub fn joins(&self) -> bool
+        ensures { Decides result (AllJoin self.now) }
+    {
+        all_join(&self.exchange_names, &self.queue_names, self.bindings)
+    }
+
+    /// Whether each queue with a dead-letter key has a dead-letter exchange.
+    pub fn has_exchanges_for_keys(&self) -> bool
+        ensures { Decides result (KeysHaveExchanges self.now) }
+    {
+        keys_have_exchanges(self.queues)
+    }
+
+    /// Whether every name and key has its form.
+    pub fn is_worded(&self) -> bool
+        ensures { Decides result (AllWorded self.now) }
+    {
+        all_named(self.exchanges) && all_worded(self.queues) && all_keyed(self.bindings)
+    }
+
+    /// Whether there are at most 256 exchanges, 256 queues and 4,096 bindings.
+    pub fn is_small(&self) -> bool
+        ensures { Decides result (IsSmall self.now) }
+    {
+        self.exchanges.len() <= 256 && self.queues.len() <= 256 && self.bindings.len() <= 4096
+    }
+
+    /// Whether the alternate exchanges are there.
+    fn has_alternates(&self) -> bool
+        ensures { Decides result (All (AlternateIsThere (exchange_names self.now.exchanges)) self.now.exchanges) }
+    {
+        alternates_are_there(&self.exchange_names, self.exchanges)
+    }
+
+    /// Whether the dead-letter exchanges are there.
+    fn has_dead_letter_exchanges(&self) -> bool
+        ensures { Decides result (All (DeadLettersLead (exchange_names self.now.exchanges)) self.now.queues) }
+    {
+        all_dead_letters_lead(&self.exchange_names, self.queues)
+    }
+
+    /// Whether the alternate and the dead-letter exchanges are there.
+    pub fn leads(&self) -> bool
+        ensures { Decides result (NamesLead self.now) }
+    {
+        self.has_alternates() && self.has_dead_letter_exchanges()
+    }
+
+    /// What stands against these first, if anything does. It takes no memory.
+    fn judge(&self) -> Result<(), Bad>
+        ensures { MatchResult result (λ _. IsBuildable self.now) (λ e. StandsAgainst e self.now) }
+    {
+        if !self.is_apart() {
+            return Err(Bad::Repeated);
+        }
+        if !self.joins() {
+            return Err(Bad::Absent);
+        }
+        if !self.has_exchanges_for_keys() {
+            return Err(Bad::Argument);
+        }
+        if !self.is_worded() {
+            return Err(Bad::Worded);
+        }
+        if !self.is_small() {
+            return Err(Bad::TooMany);
+        }
+        if !self.leads() {
+            return Err(Bad::NoExchange);
+        }
+        Ok(())
+    }
+}
+
+/// What stands against these first, if anything does. Memory is never wanting: without it, it takes longer.
+pub fn judge(
+    alloc: Global,
+    exchanges: &[Exchange],
+    queues: &[DeclaredQueue],
+    bindings: &[Binding],
+) -> Result<(), Bad>
+    ensures { MatchResult result (λ _. IsBuildable (record { exchanges = exchanges.now; queues = queues.now; bindings = bindings.now })) (λ e. StandsAgainst e (record { exchanges = exchanges.now; queues = queues.now; bindings = bindings.now })) }
+{
+    let draft = Draft::of(alloc, exchanges, queues, bindings);
+    draft.judge()
+}
