@@ -1,4 +1,3 @@
 pub mod Rebuilt
 pub mod Whole
-pub mod Taken
 pub mod Rows

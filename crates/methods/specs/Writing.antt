@@ -1,24 +1,9 @@
 -- Methods as they are written. Source: AMQP 0-9-1, section 4.2.4, "Method Payloads", and its XML.
-use Rattle.std.specs.Prelude.{◌≡◌, ℕ, List, ◌++◌, length, Option, Some, None, ⊤}
+use Rattle.std.specs.Prelude.{◌≡◌, ℕ, List, length, Option, Some, None, ⊤}
 use Rattle.model.specs.Grammar.{method_bytes, IsMethod}
-use Rattle.model.specs.Headers.{value_of, IsValue}
 use Rattle.model.specs.declared.methods.Method.{Method}
-use Rattle.methods.specs.declared.pieces.Pieces.{Pieces}
-use Rattle.methods.specs.Pieces.{seen}
 use Rattle.methods.specs.declared.refusals.WriteError.{WriteError}
 use Rattle.methods.specs.declared.refusals.WriteError.TheVariants.{SyntaxError, Memory}
-
--- how arguments are spelled, one after another
-abbrev pub pieces_bytes : Pieces → List ℕ
-pieces_bytes p = value_of (seen p.first) ++ (value_of (seen p.second) ++ (value_of (seen p.third) ++ (value_of (seen p.fourth) ++ value_of (seen p.fifth))))
-
--- each of them has a spelling
-pub record AreSpelled (p : Pieces) : Type 0 where
-  pub first : IsValue (seen p.first)
-  pub second : IsValue (seen p.second)
-  pub third : IsValue (seen p.third)
-  pub fourth : IsValue (seen p.fourth)
-  pub fifth : IsValue (seen p.fifth)
 
 -- the method is not written for this reason, or memory was refused
 abbrev pub Refused : Method → WriteError → Type 0

@@ -7,9 +7,9 @@ ghost use Rattle.field_table.specs.Arguments.{arguments_at, a_long, a_short_text
 ghost use Rattle.methods.specs.Kinds.{start_kinds, start_ok_kinds, tuning_kinds, open_kinds, close_kinds, declare_exchange_kinds, declare_queue_kinds, declared_kinds, queue_kinds, qos_kinds, consume_kinds, cancel_kinds, publish_kinds, return_kinds, deliver_kinds, get_ok_kinds, tag_kinds};
 ghost use Rattle.methods.specs.Reading.{Gives};
 
-use crate::pieces::Kind;
 use crate::refusals::Refusal;
-use crate::taking::pieces_at;
+use crate::tables::table_in;
+use method_arguments::{Kind, pieces_at};
 use model::{
     Ack, Cancel, Close, Consume, Deliver, Get, GetOk, Nack, Open, Publish, Purge, Qos,
     QueueDeclared, Reject, Return, Start, StartOk, Text, Tuning,
@@ -108,7 +108,7 @@ pub(crate) fn start_in(alloc: Global, bytes: &[u8]) -> Result<Start, Refusal>
     let Ok(locales) = pieces.fifth.long_text(alloc) else {
         return Err(Refusal::Memory);
     };
-    match pieces.third.table(alloc) {
+    match table_in(alloc, &pieces.third) {
         Ok(server_properties) => Ok(Start {
             version_major: pieces.first.octet(),
             version_minor: pieces.second.octet(),
@@ -135,7 +135,7 @@ pub(crate) fn start_ok_in(alloc: Global, bytes: &[u8]) -> Result<StartOk, Refusa
     let Ok(locale) = pieces.fourth.short_text(alloc) else {
         return Err(Refusal::Memory);
     };
-    match pieces.first.table(alloc) {
+    match table_in(alloc, &pieces.first) {
         Ok(client_properties) => Ok(StartOk {
             client_properties,
             mechanism,
@@ -211,7 +211,7 @@ pub(crate) fn exchange_declare_in(
         return Err(Refusal::Memory);
     };
     let (passive, durable, auto_delete, internal, no_wait) = pieces.fourth.five_bits();
-    match pieces.fifth.table(alloc) {
+    match table_in(alloc, &pieces.fifth) {
         Ok(arguments) => Ok(model::ExchangeDeclare {
             reserved: pieces.first.short(),
             exchange,
@@ -237,7 +237,7 @@ pub(crate) fn queue_declare_in(alloc: Global, bytes: &[u8]) -> Result<model::Que
     let Ok(queue) = pieces.second.short_text(alloc) else {
         return Err(Refusal::Memory);
     };
-    match pieces.fourth.table(alloc) {
+    match table_in(alloc, &pieces.fourth) {
         Ok(arguments) => Ok(model::QueueDeclare {
             reserved: pieces.first.short(),
             queue,
@@ -310,7 +310,7 @@ pub(crate) fn consume_in(alloc: Global, bytes: &[u8]) -> Result<Consume, Refusal
     let Ok(consumer_tag) = pieces.third.short_text(alloc) else {
         return Err(Refusal::Memory);
     };
-    match pieces.fifth.table(alloc) {
+    match table_in(alloc, &pieces.fifth) {
         Ok(arguments) => Ok(Consume {
             reserved: pieces.first.short(),
             queue,

@@ -3,10 +3,10 @@
 ghost use Rattle.std.specs.Prelude.{◌≡◌};
 ghost use Rattle.model.specs.Grammar.{arguments};
 ghost use Rattle.model.specs.declared.methods.Method.TheVariants.{ConnectionStart, ConnectionStartOk, ConnectionTune, ConnectionOpen, ConnectionClose, ExchangeDeclare, QueueDeclare, QueueDeclareOk, QueuePurge, BasicQos, BasicConsume, BasicCancel, BasicPublish, BasicReturn, BasicDeliver, BasicGet, BasicGetOk, BasicAck, BasicReject, BasicNack};
-ghost use Rattle.methods.specs.declared.pieces.Piece.TheVariants.{Nothing};
-ghost use Rattle.methods.specs.Pieces.{given};
+ghost use Rattle.method_arguments.specs.declared.pieces.Piece.TheVariants.{Nothing};
+ghost use Rattle.method_arguments.specs.Pieces.{given};
 
-use crate::pieces::{NOTHING, Piece, Pieces};
+use method_arguments::{NOTHING, Piece, Pieces};
 use model::{
     Ack, Cancel, Close, Consume, Deliver, Get, GetOk, Method, Nack, Open, Publish, Purge, Qos,
     QueueDeclared, Reject, Return, Start, StartOk, Tuning,

@@ -1,18 +1,29 @@
 //! Tables among the arguments.
 
-ghost use Rattle.methods.specs.Reading.{MakesTable};
+ghost use Rattle.field_table.specs.Arguments.{a_field_table};
+ghost use Rattle.method_arguments.specs.Pieces.{seen, IsOf};
+ghost use Rattle.methods.specs.Reading.{IsTableOr, MakesTable};
 
 use crate::refusals::Refusal;
 use field_table::is_table;
+use method_arguments::Piece;
 use model::{Table, Text};
 use std::alloc::Global;
 
 /// The table of these pairs, if they are pairs.
-pub(crate) fn table_of(alloc: Global, pairs: &[u8]) -> Result<Table, Refusal>
+fn table_of(alloc: Global, pairs: &[u8]) -> Result<Table, Refusal>
     ensures { MakesTable pairs.now result }
 {
     if !is_table(pairs) {
         return Err(Refusal::SyntaxError);
     }
     Ok(Table::from_pairs(Text::from_slice(alloc, pairs)?))
+}
+
+/// The table of an argument, if its pairs are pairs.
+pub(crate) fn table_in(alloc: Global, piece: &Piece<'_>) -> Result<Table, Refusal>
+    requires { IsOf a_field_table piece.now }
+    ensures { IsTableOr (seen piece.now) result }
+{
+    table_of(alloc, piece.pairs())
 }

@@ -4,14 +4,12 @@ ghost use Rattle.std.specs.Prelude.{◌≡◌, [], ◌∷◌, Some, IfOk};
 ghost use Rattle.model.specs.Grammar as said;
 ghost use Rattle.field_table.specs.Arguments.{an_octet, a_short, a_long, a_long_long, a_short_text, a_long_text, a_field_table, some_bits};
 
-use crate::refusals::Refusal;
-use crate::tables::table_of;
-use model::{Table, Text};
+use model::Text;
 use std::alloc::{AllocError, Global};
 
 /// What an argument is; of bits that share an octet, how many.
 #[derive(Clone, Copy, Drop)]
-pub(crate) enum Kind {
+pub enum Kind {
     Octet,
     Short,
     Long,
@@ -27,7 +25,7 @@ pub(crate) enum Kind {
 
 /// An argument, or none. Texts and tables are still someone else's bytes.
 #[derive(Clone, Copy, Drop)]
-pub(crate) enum Piece<'a> {
+pub enum Piece<'a> {
     Nothing,
     Octet(u8),
     Short(u16),
@@ -44,7 +42,7 @@ pub(crate) enum Piece<'a> {
 
 /// The arguments of a method, at most five, in the order of the wire.
 #[derive(Clone, Copy, Drop)]
-pub(crate) struct Pieces<'a> {
+pub struct Pieces<'a> {
     pub first: Piece<'a>,
     pub second: Piece<'a>,
     pub third: Piece<'a>,
@@ -53,7 +51,7 @@ pub(crate) struct Pieces<'a> {
 }
 
 /// No arguments.
-pub(crate) const NOTHING: Pieces<'static> = Pieces {
+pub const NOTHING: Pieces<'static> = Pieces {
     first: Piece::Nothing,
     second: Piece::Nothing,
     third: Piece::Nothing,
@@ -62,10 +60,9 @@ pub(crate) const NOTHING: Pieces<'static> = Pieces {
 };
 
 impl<'a> Piece<'a> {
-    ghost use Rattle.methods.specs.Pieces.{seen, IsOf};
-    ghost use Rattle.methods.specs.Reading.{IsTableOr};
+    ghost use Rattle.method_arguments.specs.Pieces.{seen, IsOf};
 
-    pub(crate) fn octet(&self) -> u8
+    pub fn octet(&self) -> u8
         requires { IsOf an_octet self.now }
         ensures { seen self.now ≡ Some (said.Octet result) }
     {
@@ -75,7 +72,7 @@ impl<'a> Piece<'a> {
         }
     }
 
-    pub(crate) fn short(&self) -> u16
+    pub fn short(&self) -> u16
         requires { IsOf a_short self.now }
         ensures { seen self.now ≡ Some (said.Short result) }
     {
@@ -85,7 +82,7 @@ impl<'a> Piece<'a> {
         }
     }
 
-    pub(crate) fn long(&self) -> u32
+    pub fn long(&self) -> u32
         requires { IsOf a_long self.now }
         ensures { seen self.now ≡ Some (said.Long result) }
     {
@@ -95,7 +92,7 @@ impl<'a> Piece<'a> {
         }
     }
 
-    pub(crate) fn long_long(&self) -> u64
+    pub fn long_long(&self) -> u64
         requires { IsOf a_long_long self.now }
         ensures { seen self.now ≡ Some (said.Long_long result) }
     {
@@ -105,7 +102,7 @@ impl<'a> Piece<'a> {
         }
     }
 
-    pub(crate) fn short_text(&self, alloc: Global) -> Result<Text, AllocError>
+    pub fn short_text(&self, alloc: Global) -> Result<Text, AllocError>
         requires { IsOf a_short_text self.now }
         ensures { IfOk result (λ text. seen self.now ≡ Some (said.Short_text text)) }
     {
@@ -115,7 +112,7 @@ impl<'a> Piece<'a> {
         }
     }
 
-    pub(crate) fn long_text(&self, alloc: Global) -> Result<Text, AllocError>
+    pub fn long_text(&self, alloc: Global) -> Result<Text, AllocError>
         requires { IsOf a_long_text self.now }
         ensures { IfOk result (λ text. seen self.now ≡ Some (said.Long_text text)) }
     {
@@ -125,18 +122,18 @@ impl<'a> Piece<'a> {
         }
     }
 
-    /// The table of these pairs, if they are pairs.
-    pub(crate) fn table(&self, alloc: Global) -> Result<Table, Refusal>
+    /// The bytes of a table's pairs, which need not be pairs.
+    pub fn pairs(&self) -> &'a [u8]
         requires { IsOf a_field_table self.now }
-        ensures { IsTableOr (seen self.now) result }
+        ensures { seen self.now ≡ Some (said.Field_table result.now) }
     {
         match self {
-            Piece::Table(pairs) => table_of(alloc, pairs),
+            Piece::Table(pairs) => pairs,
             _ => unreachable!(),
         }
     }
 
-    pub(crate) fn bit(&self) -> bool
+    pub fn bit(&self) -> bool
         requires { IsOf (some_bits 1) self.now }
         ensures { seen self.now ≡ Some (said.Bits (result ∷ [])) }
     {
@@ -146,7 +143,7 @@ impl<'a> Piece<'a> {
         }
     }
 
-    pub(crate) fn two_bits(&self) -> (bool, bool)
+    pub fn two_bits(&self) -> (bool, bool)
         requires { IsOf (some_bits 2) self.now }
         ensures { seen self.now ≡ Some (said.Bits (result.0 ∷ result.1 ∷ [])) }
     {
@@ -156,7 +153,7 @@ impl<'a> Piece<'a> {
         }
     }
 
-    pub(crate) fn four_bits(&self) -> (bool, bool, bool, bool)
+    pub fn four_bits(&self) -> (bool, bool, bool, bool)
         requires { IsOf (some_bits 4) self.now }
         ensures { seen self.now ≡ Some (said.Bits (result.0 ∷ result.1 ∷ result.2 ∷ result.3 ∷ [])) }
     {
@@ -166,7 +163,7 @@ impl<'a> Piece<'a> {
         }
     }
 
-    pub(crate) fn five_bits(&self) -> (bool, bool, bool, bool, bool)
+    pub fn five_bits(&self) -> (bool, bool, bool, bool, bool)
         requires { IsOf (some_bits 5) self.now }
         ensures { seen self.now ≡ Some (said.Bits (result.0 ∷ result.1 ∷ result.2 ∷ result.3 ∷ result.4 ∷ [])) }
     {

@@ -4,14 +4,14 @@ ghost use Rattle.std.specs.Prelude.{◌≡◌, ◌+◌, ◌≤◌, ◌<◌, ◌^
 ghost use Rattle.model.specs.Grammar.{octet as octet_of};
 ghost use Rattle.model.specs.Headers.{value_of, IsValue};
 ghost use Rattle.model.specs.Tables.{sized};
-ghost use Rattle.methods.specs.Pieces.{seen};
-ghost use Rattle.methods.specs.Writing.{pieces_bytes, AreSpelled};
+ghost use Rattle.method_arguments.specs.Pieces.{seen};
+ghost use Rattle.method_arguments.specs.Putting.{pieces_bytes, AreSpelled};
 
 use crate::pieces::{Piece, Pieces};
 use field_table::{is_table, put_bytes};
 
 /// How many bytes arguments have, if their texts are not too long and their tables are tables.
-pub(crate) fn pieces_len(pieces: &Pieces<'_>) -> Option<usize>
+pub fn pieces_len(pieces: &Pieces<'_>) -> Option<usize>
     ensures cases { MatchOption result (AreSpelled pieces.now → ⊥) (λ n. AreSpelled pieces.now × (n ≡ length (pieces_bytes pieces.now))) }
     ensures bound { IfSome result (λ n. n < 2 ^ 36) }
 {
@@ -79,7 +79,7 @@ fn piece_len(piece: &Piece<'_>) -> Option<usize>
 }
 
 /// Appends arguments for which there is room.
-pub(crate) fn put_pieces(out: &mut Vec<u8>, pieces: &Pieces<'_>)
+pub fn put_pieces(out: &mut Vec<u8>, pieces: &Pieces<'_>)
     requires fits { AreSpelled pieces.now }
     requires room { vec_len out.old + length (pieces_bytes pieces.now) ≤ vec_capacity out.old }
     ensures items { out.new.items ≡ out.old.items ++ pieces_bytes pieces.now }

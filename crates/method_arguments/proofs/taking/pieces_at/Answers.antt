@@ -1,6 +1,6 @@
 -- Five arguments are all, where no bytes are left over.
-use Rattle.methods.proofs.Taken.{five, all, over}
-use Rattle.methods.proofs.taking.pieces_at.Goals as goal
+use Rattle.method_arguments.proofs.Taken.{five, all, over}
+use Rattle.method_arguments.proofs.taking.pieces_at.Goals as goal
 
 pub returns-then-not-is_empty : goal.returns-then-not-is_empty
 returns-then-not-is_empty c =

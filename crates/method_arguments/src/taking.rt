@@ -2,8 +2,8 @@
 
 ghost use Rattle.std.specs.Prelude.{◌≡◌, ◌≤◌, length, option_map, None, Some, IfSome, MatchOption};
 ghost use Rattle.field_table.specs.Arguments.{argument_at, arguments_at, an_octet, a_short, a_long, a_long_long, a_short_text, a_long_text, a_field_table, some_bits};
-ghost use Rattle.methods.specs.Pieces.{kind as as_kind, kind_in, kinds_in, seen};
-ghost use Rattle.methods.specs.Reading.{Takes, AreRead, found};
+ghost use Rattle.method_arguments.specs.Pieces.{kind as as_kind, kind_in, kinds_in, seen};
+ghost use Rattle.method_arguments.specs.Taking.{Takes, AreRead, found};
 
 use crate::pieces::{Kind, Piece, Pieces};
 use field_table::{
@@ -12,7 +12,7 @@ use field_table::{
 };
 
 /// All of the bytes, as arguments of these kinds, at most five.
-pub(crate) fn pieces_at<'a>(kinds: &[Kind], bytes: &'a [u8]) -> Option<Pieces<'a>>
+pub fn pieces_at<'a>(kinds: &[Kind], bytes: &'a [u8]) -> Option<Pieces<'a>>
     requires { length kinds.now ≤ 5 }
     ensures { MatchOption result (arguments_at (kinds_in kinds.now) bytes.now ≡ None) (λ p. AreRead kinds.now p (arguments_at (kinds_in kinds.now) bytes.now)) }
 {

@@ -2,11 +2,11 @@
 use Rattle.std.specs.Prelude.{◌≡◌, List, [], ◌∷◌, map, Option, Some, None}
 use Rattle.model.specs.Grammar.{Argument, Octet, Short, Long, Long_long, Short_text, Long_text, Field_table, Bits}
 use Rattle.field_table.specs.Arguments as arguments
-use Rattle.methods.specs.declared.pieces.Kind.{Kind}
-use Rattle.methods.specs.declared.pieces.Kind.TheVariants as kinds
-use Rattle.methods.specs.declared.pieces.Piece.{Piece}
-use Rattle.methods.specs.declared.pieces.Piece.TheVariants as pieces
-use Rattle.methods.specs.declared.pieces.Pieces.{Pieces}
+use Rattle.method_arguments.specs.declared.pieces.Kind.{Kind}
+use Rattle.method_arguments.specs.declared.pieces.Kind.TheVariants as kinds
+use Rattle.method_arguments.specs.declared.pieces.Piece.{Piece}
+use Rattle.method_arguments.specs.declared.pieces.Piece.TheVariants as pieces
+use Rattle.method_arguments.specs.declared.pieces.Pieces.{Pieces}
 
 -- a kind, as the grammar of arguments has it
 abbrev pub kind : Kind → arguments.Kind

@@ -3,10 +3,10 @@ use Rattle.std.proofs.Common.{◌≡◌, ◌≤◌, ℕ, List, [], ◌∷◌, le
 use Rattle.std.specs.Prelude.{◌==◌, if◌then◌else◌, Option, Some, None, option_map}
 use Rattle.model.specs.Grammar.{Argument}
 use Rattle.field_table.specs.Arguments.{arguments_at}
-use Rattle.methods.specs.declared.pieces.Kind.{Kind}
-use Rattle.methods.specs.declared.pieces.Pieces.{Pieces}
-use Rattle.methods.specs.Pieces.{seen, onto, first_of, others_of, AreOf, kinds_in}
-use Rattle.methods.specs.Reading.{IsTaken, AreRead}
+use Rattle.method_arguments.specs.declared.pieces.Kind.{Kind}
+use Rattle.method_arguments.specs.declared.pieces.Pieces.{Pieces}
+use Rattle.method_arguments.specs.Pieces.{seen, onto, first_of, others_of, AreOf, kinds_in}
+use Rattle.method_arguments.specs.Taking.{IsTaken, AreRead}
 
 none_left : (ks : List Kind) → length ks ≤ 5 → others_of (others_of (others_of (others_of (others_of ks)))) ≡ []
 none_left [] h = refl
