@@ -1,5 +1,5 @@
 -- What is known of files that are kept stays known.
-use Rattle.std.proofs.Common.{◌≡◌, ◌≤◌, ℕ, List, Option, Some, None, length, refl, ◌∙◌, subst, inl, inr, arith}
+use Rattle.std.proofs.Common.{◌≡◌, ◌≤◌, ℕ, List, Option, Some, length, sym, subst, inl, inr, arith}
 use Rattle.std.proofs.lemmas.Option.{slice_get_within}
 use Rattle.model.specs.Words.{Text}
 use Rattle.model.specs.Topology.{Topology}
@@ -8,25 +8,19 @@ use Rattle.model.specs.Certificates.{Certificate}
 use Rattle.certificate_check.specs.declared.faults.CertFault.{CertFault}
 use Rattle.certificate.specs.Certified.{FailsFirst}
 use Rattle.definitions.specs.Reads.{Stated}
-use Rattle.guarantees.specs.declared.bad.Bad.TheVariants.{TooMany}
 use Rattle.guarantee_search.specs.declared.verdicts.Verdict.{Verdict}
 use Rattle.server.specs.declared.refusals.Refusal.{Refusal}
 use Rattle.server.specs.declared.refusals.Refusal.TheVariants.{Line, Refused, TooLong, Unread, Unwritten, NoExchange, Certificate as OfCertificate, Memory}
 use Rattle.command_line.specs.CommandLine.{Wanted, Check}
-use Rattle.server.specs.Files.{Known, AreKept, AreKeptBut}
-use Rattle.server.specs.Stated.{States, StatesAt, Promises, PromisesAt, Certifies, CertifiesAt, IsWhyNone, SetsUp}
-use Rattle.server.specs.Verdicts.{AreFound, status_of_verdicts}
+use Rattle.named_files.specs.Files.{Known, AreKept}
+use Rattle.named_files.specs.Stated.{SetsUp}
+use Rattle.named_files.proofs.Kept.{kept_then, kept_but_then}
+use Rattle.verdicts.specs.Verdicts.{AreFound, status_of_verdicts}
+use Rattle.named_files.specs.declared.refusals.Refusal.{Refusal as FileRefusal}
+use Rattle.server.specs.Refusals.{of_refused, IsOfFile}
 use Rattle.server.specs.Program.{unwritten, wanting, IsNotAnswered, AreLeft, IsUnfiled, IsFiled, WritesOut, unnamed, doubtful, filed}
 
 -- ---- files
-
--- what is kept by two steps is kept
-pub kept_then : (a b c : Text → Known) → AreKept a b → AreKept b c → AreKept a c
-kept_then a b c p q name = q name ∙ p name
-
--- the same but for one file
-pub kept_but_then : (file : Text) (a b c : Text → Known) → AreKept a b → AreKeptBut file b c → AreKeptBut file a c
-kept_but_then file a b c p q name other = q name other ∙ p name
 
 -- where all files are kept, they are left so for any reason
 pub left_of_kept : (before after : Text → Known) (file : Text) (why : Refusal) → AreKept before after → AreLeft before after file why
@@ -39,45 +33,12 @@ left_of_kept before after file NoExchange h = h
 left_of_kept before after file (OfCertificate n fault) h = h
 left_of_kept before after file Memory h = h
 
--- what is left behind files that were kept
-pub left_then : (a b c : Text → Known) (file : Text) (why : Refusal) → AreKept a b → AreLeft b c file why → AreLeft a c file why
-left_then a b c file (Line n) p q = kept_then a b c p q
-left_then a b c file (Refused n) p q = kept_then a b c p q
-left_then a b c file TooLong p q = kept_then a b c p q
-left_then a b c file Unread p q = kept_then a b c p q
-left_then a b c file Unwritten p q = kept_but_then file a b c p q
-left_then a b c file NoExchange p q = kept_then a b c p q
-left_then a b c file (OfCertificate n fault) p q = kept_then a b c p q
-left_then a b c file Memory p q = kept_then a b c p q
-
--- ---- what files state
-
-pub states_kept : (a b : Text → Known) (named : Option Text) (stated : Stated) → AreKept a b → StatesAt b named stated → StatesAt a named stated
-states_kept a b None stated k h = h
-states_kept a b (Some file) stated k h = subst (λ (x : Known). States x stated) (k file) h
-
-pub promises_kept : (a b : Text → Known) (named : Option Text) (t : Topology) (gs : List Guarantee) → AreKept a b → PromisesAt b named t gs → PromisesAt a named t gs
-promises_kept a b None t gs k h = h
-promises_kept a b (Some file) t gs k h = subst (λ (x : Known). Promises x t gs) (k file) h
-
-pub certifies_kept : (a b : Text → Known) (named : Option Text) (cs : List Certificate) → AreKept a b → CertifiesAt b named cs → CertifiesAt a named cs
-certifies_kept a b None cs k h = h
-certifies_kept a b (Some file) cs k h = subst (λ (x : Known). Certifies x cs) (k file) h
-
-pub why_kept : (a b : Text → Known) (IsReason : Refusal → Known → Type 0) (named : Option Text) (file : Text) (why : Refusal) → AreKept a b
-    → IsWhyNone b IsReason named file why → IsWhyNone a IsReason named file why
-why_kept a b IsReason named file why k h = elim h [ inl p ↦ inl (p.0, subst (λ (x : Known). IsReason why x) (k file) p.1) | inr m ↦ inr m ]
-
--- what is said of a file is said of it before as well
-pub known_kept : (a b : Text → Known) (P : Known → Type 0) (file : Text) → AreKept a b → P (b file) → P (a file)
-known_kept a b P file k h = subst P (k file) h
+-- the refusal of a file, as the command tells it
+pub told_as : (IsRefused : Text → FileRefusal → Type 0) (file told : Text) (cause : FileRefusal) (why : Refusal)
+    → told ≡ file → why ≡ of_refused cause → IsRefused file cause → IsOfFile IsRefused told why
+told_as IsRefused file told cause why same is h = (cause, (is, subst (λ (name : Text). IsRefused name cause) (sym same) h))
 
 -- ---- guarantees
-
--- a file has at most 64 guarantees
-pub few_promised : (holds : Text → Known) (named : Option Text) (t : Topology) (gs : List Guarantee) → PromisesAt holds named t gs → length gs ≤ 64
-few_promised holds None t gs h = rw h (omega arith)
-few_promised holds (Some file) t gs h = (h.2.free TooMany).few gs h.2.is_file
 
 -- the least place at fault is that of a guarantee, or behind the last
 pub place_few : (t : Topology) (gs : List Guarantee) (cs : List Certificate) (place : ℕ) (fault : CertFault) → FailsFirst t gs cs place fault → place ≤ length gs

@@ -5,7 +5,7 @@ use Rattle.clap.specs.Words.{kind_of}
 use Rattle.clap.specs.declared.error.Error.{Error}
 use Rattle.command_line.specs.CommandLine.{Wanted, AsksFor, IsRefused}
 use Rattle.model.specs.Words.{Text}
-use Rattle.server.specs.Files.{Known, AreKept}
+use Rattle.named_files.specs.Files.{Known, AreKept}
 use Rattle.server.specs.Streams.{Stream, GetsNothing, Tries, tried}
 use Rattle.server.specs.declared.refusals.Refusal.{Refusal}
 use Rattle.server.specs.Program.{Does, printed, told_of, untold, unasked, unread, IsAnswered, IsNotAnswered, Refuses, Shows, status_of}

@@ -1,11 +1,5 @@
-pub mod Script
-pub mod Lines
-pub mod Transcript
 pub mod Routes
-pub mod Files
 pub mod Streams
 pub mod Refusals
-pub mod Stated
-pub mod Verdicts
-pub mod Outcomes
 pub mod Program
+pub use Rattle.named_files.specs.Files

@@ -18,14 +18,15 @@ use Rattle.engine.specs.Certified.{IsCertified}
 use Rattle.command_line.specs.CommandLine.{Wanted, Check, Verify, Replay, Route, AsksFor, AsksNothing}
 use Rattle.server.specs.declared.refusals.Refusal.{Refusal}
 use Rattle.server.specs.declared.refusals.Refusal.TheVariants.{Line, Refused, TooLong, Unread, Unwritten, NoExchange, Certificate, Memory}
-use Rattle.server.specs.Script.{script}
-use Rattle.server.specs.Transcript.{transcript_text}
+use Rattle.server.specs.Refusals.{IsOfFile}
+use Rattle.scripts.specs.Script.{script}
+use Rattle.scripts.specs.Transcript.{transcript_text}
 use Rattle.server.specs.Routes.{Lists}
-use Rattle.server.specs.Files.{Known, HasText, IsTooLong, IsClosed, AreKept, AreKeptBut}
+use Rattle.named_files.specs.Files.{Known, HasText, IsTooLong, IsClosed, AreKept, AreKeptBut}
 use Rattle.server.specs.Streams.{Stream, GetsNothing, Puts, Tries, tried}
-use Rattle.server.specs.Stated.{States, Certifies, CertifiesAt, SetsUp, FailsToSetUp, FailsToCertify}
-use Rattle.server.specs.Verdicts.{AreFound, Judges, certificates_in, status_of_verdicts}
-use Rattle.server.specs.Outcomes.{Verifies, fault_number}
+use Rattle.named_files.specs.Stated.{States, Certifies, CertifiesAt, SetsUp, FailsToSetUp, FailsToCertify}
+use Rattle.verdicts.specs.Verdicts.{AreFound, Judges, certificates_in, status_of_verdicts}
+use Rattle.verdicts.specs.Outcomes.{Verifies, fault_number}
 
 -- ---- what is in force
 
@@ -232,10 +233,10 @@ certificates_of (Route definitions exchange key) = None
 -- Why a command prints nothing, and the file of which this is told. The files are judged in this order.
 pub data Fails (holds : Text → Known) : Wanted → Text → Refusal → Type 0 where
   -- the definitions are refused, or the guarantees over them
-  unset : {wanted : Wanted} {file : Text} {why : Refusal} → FailsToSetUp holds (definitions_of wanted) (guarantees_of wanted) file why → Fails holds wanted file why
+  unset : {wanted : Wanted} {file : Text} {why : Refusal} → IsOfFile (FailsToSetUp holds (definitions_of wanted) (guarantees_of wanted)) file why → Fails holds wanted file why
   -- the certificates file is refused
   uncertified : {wanted : Wanted} {file : Text} {why : Refusal} (stated : Stated) (gs : List Guarantee) → SetsUp holds (definitions_of wanted) (guarantees_of wanted) stated gs
-      → FailsToCertify holds (certificates_of wanted) file why → Fails holds wanted file why
+      → IsOfFile (FailsToCertify holds (certificates_of wanted)) file why → Fails holds wanted file why
   -- a certificate is not accepted for its guarantee, or one of them has no partner
   unadmitted : {script file : Text} {definitions guarantees certificates : Option Text} (stated : Stated) (gs : List Guarantee) (cs : List Shown) (why : Refusal)
       → SetsUp holds definitions guarantees stated gs → CertifiesAt holds certificates cs → IsWhyUnadmitted stated.topology gs cs why

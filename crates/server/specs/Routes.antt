@@ -3,7 +3,7 @@ use Rattle.std.specs.Prelude.{◌≡◌, ◌++◌, ◌⊎◌, List, [], ◌∷�
 use Rattle.model.specs.Words.{Text}
 use Rattle.model.specs.Topology.{Topology, IsIn, queue_names, exchange_names}
 use Rattle.model.specs.Routing.{Routes, Picks}
-use Rattle.server.specs.Transcript.{line, name_word}
+use Rattle.scripts.specs.Transcript.{line, name_word}
 
 -- the exchange is the default one, or one of the file
 abbrev pub HasExchange : Topology → Text → Type 0

@@ -3,8 +3,8 @@
 ghost use Rattle.std.specs.Prelude.{◌≡◌, Some, map, option_map, MatchResult};
 ghost use Rattle.clap.specs.Words.{kind_of};
 ghost use Rattle.command_line.specs.CommandLine.{Check, Route, Verify, wanted_of};
-ghost use Rattle.server.specs.Files.{AreKept};
-ghost use Rattle.server.specs.Stated.{FailsToState};
+ghost use Rattle.named_files.specs.Files.{AreKept};
+ghost use Rattle.named_files.specs.Stated.{FailsToState};
 ghost use Rattle.server.specs.Streams.{change};
 ghost use Rattle.server.specs.Program.{
   Does,
@@ -19,20 +19,18 @@ ghost use Rattle.server.specs.Program.{
 };
 
 use crate::filing::write_out;
-use crate::judging::{Output, judge};
-use crate::refusals::{Refusal, Told, refuse_memory, tell};
+use crate::refusals::{Refusal, Told, refuse_memory, tell, told_of};
 use crate::replaying::{Named, replay};
 use crate::routes::routed;
-use crate::stated::{certificates_of, definitions_of, set_up};
-use crate::storage::Files;
 use crate::streams::{put, tried};
-use crate::verifying::verify;
 use clap::Error;
 use clap::error::ErrorKind;
 use command_line::{Asked, command};
+use named_files::{Files, RefusedFile, certificates_of, definitions_of, set_up};
 use std::alloc::Global;
 use std::convert::AsStr;
 use std::io::Write;
+use verdicts::{Output, judge, verify};
 
 /// `check DEFS GUARANTEES`: the verdict on each guarantee; the certificates are written where a file is named and all
 /// guarantees hold.
@@ -47,7 +45,7 @@ fn check<'a, F: Files>(
 {
     let setup = match set_up(alloc, Some(definitions), Some(guarantees), files) {
         Ok(setup) => setup,
-        Err(told) => return Err(told),
+        Err(refused) => return Err(told_of(refused)),
     };
     let (output, verdicts) = match judge(alloc, &setup.topology, setup.guarantees.as_slice()) {
         Ok(judged) => judged,
@@ -72,11 +70,11 @@ fn verify_files<'a, F: Files>(
 {
     let setup = match set_up(alloc, Some(definitions), Some(guarantees), files) {
         Ok(setup) => setup,
-        Err(told) => return Err(told),
+        Err(refused) => return Err(told_of(refused)),
     };
     let certificates = match certificates_of(alloc, Some(certificates), files) {
         Ok(certificates) => certificates,
-        Err(told) => return Err(told),
+        Err(refused) => return Err(told_of(refused)),
     };
     match verify(
         alloc,
@@ -96,13 +94,13 @@ fn routed_file<'a, F: Files>(
     exchange: &str,
     key: &str,
     files: &mut F,
-) -> Result<Option<Vec<u8>>, Told<'a>>
-    ensures lists { MatchResult result (λ listed. ListsFile (F.holds files.old file.now) exchange.now key.now (option_map (λ t. t.items) listed)) (λ told. FailsToState (F.holds files.old) (Some file.now) told.file.now told.why) }
+) -> Result<Option<Vec<u8>>, RefusedFile<'a>>
+    ensures lists { MatchResult result (λ listed. ListsFile (F.holds files.old file.now) exchange.now key.now (option_map (λ t. t.items) listed)) (λ refused. FailsToState (F.holds files.old) (Some file.now) refused.file.now refused.why) }
     ensures files { AreKept (F.holds files.old) (F.holds files.new) }
 {
     let definitions = match definitions_of(alloc, file, files) {
         Ok(definitions) => definitions,
-        Err(told) => return Err(told),
+        Err(refused) => return Err(refused),
     };
     match routed(
         alloc,
@@ -111,7 +109,7 @@ fn routed_file<'a, F: Files>(
         key.as_bytes(),
     ) {
         Ok(listed) => Ok(listed),
-        Err(error) => Err(Told::from(error)),
+        Err(error) => Err(RefusedFile::from(error)),
     }
 }
 
@@ -132,7 +130,7 @@ fn route<'a, F: Files>(
             file: definitions,
             why: Refusal::NoExchange,
         }),
-        Err(told) => Err(told),
+        Err(refused) => Err(told_of(refused)),
     }
 }
 

@@ -3,15 +3,15 @@
 ghost use Rattle.std.specs.Prelude.{◌≡◌, MatchResult, option_map, Some};
 ghost use Rattle.certificate_files.specs.Reads.{IsFile};
 ghost use Rattle.server.specs.Program.{IsFiled, WritesOut, IsUnwritten, IsUnfiled};
-ghost use Rattle.server.specs.Verdicts.{certificates_in, status_of_verdicts};
+ghost use Rattle.verdicts.specs.Verdicts.{certificates_in, status_of_verdicts};
 
-use crate::judging::certificates_in;
 use crate::refusals::{Refusal, Told};
-use crate::storage::Files;
 use certificate_check::Certificate;
 use certificate_files::{Unwritten, write_certificates};
 use guarantee_search::Verdict;
+use named_files::Files;
 use std::alloc::Global;
+use verdicts::certificates_in;
 
 /// The greatest file that is written, in bytes: no longer one is read.
 const LIMIT: usize = 16_777_216;

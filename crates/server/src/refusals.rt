@@ -1,12 +1,12 @@
 //! Why the program does not do what it is asked for, and how it tells so.
 
 ghost use Rattle.std.specs.Prelude.{◌≡◌, ◌++◌, ◌∷◌, [], codes, decimal, IfOk, string_bytes};
+ghost use Rattle.server.specs.Refusals.{of_refused};
 ghost use Rattle.server.specs.Program.{message, out_of_memory, status_of, told, Refuses};
 ghost use Rattle.server.specs.Streams.{Tries, change};
 
-use crate::storage;
 use crate::streams::{put, tried};
-use definitions::Bad;
+use named_files::{RefusedFile, Unread};
 use std::alloc::{AllocError, Global};
 use std::io::Write;
 
@@ -57,59 +57,33 @@ impl From<AllocError> for Refusal {
     }
 }
 
-impl From<storage::Unread> for Refusal {
+impl From<Unread> for Refusal {
     ghost use Rattle.std.specs.Prelude.{◌≡◌};
     ghost use Rattle.server.specs.Refusals.{of_file};
 
     ghost from_gives = { λ why r. r ≡ of_file why };
 
-    fn from(why: storage::Unread) -> Refusal {
+    fn from(why: Unread) -> Refusal {
         match why {
-            storage::Unread::Failed => Refusal::Unread,
-            storage::Unread::TooLong => Refusal::TooLong,
-            storage::Unread::Memory => Refusal::Memory,
+            Unread::Failed => Refusal::Unread,
+            Unread::TooLong => Refusal::TooLong,
+            Unread::Memory => Refusal::Memory,
         }
     }
 }
 
-impl From<Bad> for Refusal {
+impl From<named_files::Refusal> for Refusal {
     ghost use Rattle.std.specs.Prelude.{◌≡◌};
-    ghost use Rattle.server.specs.Refusals.{of_cause};
+    ghost use Rattle.server.specs.Refusals.{of_refused};
 
-    ghost from_gives = { λ cause r. r ≡ of_cause cause };
+    ghost from_gives = { λ why r. r ≡ of_refused why };
 
-    fn from(cause: Bad) -> Refusal {
-        match cause.number() {
-            14 => Refusal::Memory,
-            number => Refusal::Refused(number),
-        }
-    }
-}
-
-impl From<guarantees::Bad> for Refusal {
-    ghost use Rattle.std.specs.Prelude.{◌≡◌};
-    ghost use Rattle.server.specs.Refusals.{of_guarantees};
-
-    ghost from_gives = { λ cause r. r ≡ of_guarantees cause };
-
-    fn from(cause: guarantees::Bad) -> Refusal {
-        match cause.number() {
-            14 => Refusal::Memory,
-            number => Refusal::Refused(number),
-        }
-    }
-}
-
-impl From<certificate_files::Bad> for Refusal {
-    ghost use Rattle.std.specs.Prelude.{◌≡◌};
-    ghost use Rattle.server.specs.Refusals.{of_certificates};
-
-    ghost from_gives = { λ cause r. r ≡ of_certificates cause };
-
-    fn from(cause: certificate_files::Bad) -> Refusal {
-        match cause.number() {
-            14 => Refusal::Memory,
-            number => Refusal::Refused(number),
+    fn from(why: named_files::Refusal) -> Refusal {
+        match why {
+            named_files::Refusal::Refused(number) => Refusal::Refused(number),
+            named_files::Refusal::TooLong => Refusal::TooLong,
+            named_files::Refusal::Unread => Refusal::Unread,
+            named_files::Refusal::Memory => Refusal::Memory,
         }
     }
 }
@@ -125,6 +99,17 @@ impl<'a> From<AllocError> for Told<'a> {
             file: "",
             why: Refusal::Memory,
         }
+    }
+}
+
+/// What is told of a file that is refused.
+pub fn told_of(refused: RefusedFile<'_>) -> Told<'_>
+    ensures file { result.file.now ≡ refused.entry.file.now }
+    ensures why { result.why ≡ of_refused refused.entry.why }
+{
+    Told {
+        file: refused.file,
+        why: Refusal::from(refused.why),
     }
 }
 

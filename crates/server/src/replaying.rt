@@ -4,8 +4,8 @@ ghost use Rattle.std.specs.Prelude.{◌≡◌, ◌≤◌, List, length, MatchRes
 ghost use Rattle.certificate.specs.Certified.{AreCertified};
 ghost use Rattle.command_line.specs.CommandLine.{Replay};
 ghost use Rattle.engine.specs.Certified.{in_force};
-ghost use Rattle.server.specs.Files.{AreKept};
-ghost use Rattle.server.specs.Outcomes.{fault_number};
+ghost use Rattle.named_files.specs.Files.{AreKept};
+ghost use Rattle.verdicts.specs.Outcomes.{fault_number};
 ghost use Rattle.server.specs.Program.{
   Fails,
   IsInForce,
@@ -17,18 +17,16 @@ ghost use Rattle.server.specs.Program.{
   PrintsFile,
 };
 
-use crate::judging::Output;
-use crate::refusals::{Refusal, Told};
-use crate::script::{Fault, read_script};
-use crate::stated::{Setup, certificates_of, set_up};
-use crate::storage::Files;
-use crate::transcript::transcript_text;
+use crate::refusals::{Refusal, Told, told_of};
 use certificate::{Checked, admit};
 use certificate_check::{CertFault, Certificate};
 use exchange_graph::Topology;
 use guarantees::Guarantee;
 use model::User;
+use named_files::{Files, Setup, certificates_of, set_up};
+use scripts::{Fault, read_script, transcript_text};
 use std::alloc::Global;
+use verdicts::Output;
 
 /// What a script prints, over a topology with guarantees that hold of it, where these users may log in.
 pub fn replayed(
@@ -119,11 +117,11 @@ fn in_force<'a, F: Files>(
         guarantees,
     } = match set_up(alloc, named.definitions, named.guarantees, files) {
         Ok(setup) => setup,
-        Err(told) => return Err(told),
+        Err(refused) => return Err(told_of(refused)),
     };
     let certificates = match certificates_of(alloc, named.certificates, files) {
         Ok(certificates) => certificates,
-        Err(told) => return Err(told),
+        Err(refused) => return Err(told_of(refused)),
     };
     match admitted(alloc, topology, guarantees, certificates.as_slice()) {
         Ok(checked) => Ok((checked, users)),

@@ -18,12 +18,12 @@ ghost use Rattle.std.specs.List.{list_any};
 ghost use Rattle.std.specs.Str.{bytes_eq};
 ghost use Rattle.model.specs.Topology.{IsIn, exchange_names, queue_names};
 ghost use Rattle.exchange_graph.specs.Targets.{names_at};
-ghost use Rattle.server.specs.Transcript.{line, name_word};
+ghost use Rattle.scripts.specs.Transcript.{line, name_word};
 ghost use Rattle.server.specs.Routes.{name_lines, HasExchange, Lists, ListsRoutes};
 
-use crate::transcript::{name_word, put_line};
 use exchange_graph::Topology;
 use model::{DeclaredQueue, Exchange};
+use scripts::{name_word, put_line};
 use std::alloc::{AllocError, Global};
 
 /// Whether some exchange has this name.

@@ -1,8 +1,8 @@
 use Rattle.std.proofs.Common.{refl}
 use Rattle.engine.specs.Certified.{in_force}
-use Rattle.server.specs.Files.{Known}
+use Rattle.named_files.specs.Files.{Known}
 use Rattle.server.specs.Program.{IsWhy, PrintsFile, unplayed}
-use Rattle.server.proofs.Kept.{known_kept}
+use Rattle.named_files.proofs.Kept.{known_kept}
 use Rattle.server.proofs.replaying.replay.Goals as goal
 
 pub returns-in-Ok-replayed_file-clause-answers : goal.returns-in-Ok-replayed_file-clause-answers

@@ -1,0 +1,11 @@
+//! Files that a command names: how they are read and written, what they state, and why one is refused.
+#![tactic(auto)]
+
+mod builtin;
+mod refusals;
+mod stated;
+mod storage;
+
+pub use refusals::{Refusal, RefusedFile};
+pub use stated::{Setup, certificates_of, definitions_of, set_up};
+pub use storage::{Files, Unread, Unwritten};

@@ -1,0 +1,83 @@
+-- What is left of a script while its lines are taken.
+use Rattle.std.proofs.Common.{◌≡◌, ℕ, ◌+◌, ◌≤◌, ◌<◌, ◌++◌, List, [], ◌∷◌, Option, Some, None, Result, Ok, Err, Bool, true, false, cond, eqb, Bor, refl, length, arith, append_assoc, sym}
+use Rattle.std.specs.Prelude.{option_copied, IfSome, option_to_list, option_map, option_and_then, nat_lt, nat_le, ◌&&◌, codes}
+use Rattle.std.specs.Str.{bytes_eq}
+use Rattle.std.proofs.lemmas.List.{append-nil}
+use Rattle.std.proofs.lemmas.Bool.Decides.{nat_tests}
+use Rattle.model.specs.Words.{Text}
+use Rattle.model.specs.declared.events.Arrival.{Arrival}
+use Rattle.model.specs.declared.events.Arrival.TheVariants.{Ready, In}
+use Rattle.scripts.specs.Script.{cut, piece, number, connection, ready, bytes_in, by_word, line_of, arrivals_from, opened_after, onto, with_line}
+
+-- how much is left, counting one for a text that has no bytes
+abbrev pub left : Option Text → ℕ
+left None = 0
+left (Some rest) = length rest + 1
+
+-- what was found, put before what a line brings and the rest
+onto_line : (found : List Arrival) (number : ℕ) (a : Option Arrival) (rest : Result (List Arrival) ℕ)
+    → onto found (with_line number (Some a) rest) ≡ onto (found ++ option_to_list a) rest
+onto_line found number None (Ok rest) = rw append-nil refl
+onto_line found number None (Err n) = refl
+onto_line found number (Some a) (Ok rest) = rw append_assoc refl
+onto_line found number (Some a) (Err n) = refl
+
+-- one line more was taken
+pub taken : (number opened after : ℕ) (found new : List Arrival) (line : Text) (rest : List Text) (a : Option Arrival)
+    → line_of opened line ≡ Some a → new ≡ found ++ option_to_list a → after ≡ opened_after opened (line_of opened line)
+    → onto new (arrivals_from (number + 1) after rest) ≡ onto found (arrivals_from number opened (line ∷ rest))
+taken number opened after found new line rest a said n o =
+    let h : onto found (with_line number (line_of opened line) (arrivals_from (number + 1) after rest)) ≡ onto (found ++ option_to_list a) (arrivals_from (number + 1) after rest)
+    = rw said (onto_line found number a (arrivals_from (number + 1) after rest)) in
+    rw (n, ← o) (sym h)
+
+-- this line is at fault
+pub stopped : (number opened : ℕ) (found : List Arrival) (line : Text) (rest : List Text)
+    → line_of opened line ≡ None → onto found (arrivals_from number opened (line ∷ rest)) ≡ Err number
+stopped number opened found line rest said = rw said refl
+
+-- ---- at most 1,024 are opened
+
+ready_at : (opened n : ℕ) (v : Bool) → (nat_le 1 n && nat_le n 255 && nat_lt opened 1024) ≡ v → opened ≤ 1024
+    → opened_after opened (option_map (λ (x : Arrival). Some x) (cond v (Some (Ready n)) None)) ≤ 1024
+ready_at opened n false e h = h
+ready_at opened n true e h = grind (arith, nat_tests)
+
+ready_few : (opened : ℕ) (n : Option ℕ) → opened ≤ 1024
+    → opened_after opened (option_map (λ (x : Arrival). Some x) (option_and_then (λ k. cond (nat_le 1 k && nat_le k 255 && nat_lt opened 1024) (Some (Ready k)) None) n)) ≤ 1024
+ready_few opened None h = h
+ready_few opened (Some n) h = ready_at opened n (nat_le 1 n && nat_le n 255 && nat_lt opened 1024) refl h
+
+in_few : (opened : ℕ) (c : Option ℕ) (p : Option Text) → opened ≤ 1024
+    → opened_after opened (option_map (λ (x : Arrival). Some x) (option_and_then (λ (n : ℕ). option_map (λ (bytes : Text). In n bytes) p) c)) ≤ 1024
+in_few opened None p h = h
+in_few opened (Some n) None h = h
+in_few opened (Some n) (Some bytes) h = h
+
+cut_few : (opened : ℕ) (f : Option (Text × Text)) → opened ≤ 1024 → opened_after opened (option_map (λ (x : Arrival). Some x) (option_and_then (bytes_in opened) f)) ≤ 1024
+cut_few opened None h = h
+cut_few opened (Some f) h = in_few opened (connection opened f.0) (piece f.1) h
+
+word_at : (opened : ℕ) (f : Text × Text) (v w : Bool) → opened ≤ 1024
+    → opened_after opened (option_map (λ (x : Arrival). Some x) (cond v (ready opened f.1) (cond w (option_and_then (bytes_in opened) (cut f.1)) None))) ≤ 1024
+word_at opened f true w h = ready_few opened (number f.1) h
+word_at opened f false true h = cut_few opened (cut f.1) h
+word_at opened f false false h = h
+
+word_few : (opened : ℕ) (f : Option (Text × Text)) → opened ≤ 1024 → opened_after opened (option_map (λ (x : Arrival). Some x) (option_and_then (by_word opened) f)) ≤ 1024
+word_few opened None h = h
+word_few opened (Some f) h = word_at opened f (bytes_eq f.0 (codes "ready")) (bytes_eq f.0 (codes "in")) h
+
+line_at : (opened b : ℕ) (bs : Text) (v : Bool) → opened ≤ 1024
+    → opened_after opened (cond v (Some None) (option_map (λ (x : Arrival). Some x) (option_and_then (by_word opened) (cut (b ∷ bs))))) ≤ 1024
+line_at opened b bs true h = h
+line_at opened b bs false h = word_few opened (cut (b ∷ bs)) h
+
+pub line_few : (opened : ℕ) (line : Text) → opened ≤ 1024 → opened_after opened (line_of opened line) ≤ 1024
+line_few opened [] h = h
+line_few opened (b ∷ bs) h = line_at opened b bs (eqb b 35) h
+
+-- what is left after a line is shorter than the line with its rest
+pub left_less : (rest : Option (Bor (List ℕ))) (text : Text) → IfSome rest (λ r. length r.now < length text) → left (option_copied rest) ≤ length text
+left_less None text h = omega arith
+left_less (Some r) text h = omega (arith, h)

@@ -1,0 +1,109 @@
+-- Replay scripts (own): lines of ASCII text, each of which is one arrival. A connection is named by its number, counted from 1 in the order of the openings.
+use Rattle.std.specs.Prelude.{◌≡◌, ◌+◌, ◌-◌, ◌*◌, ◌^◌, ◌++◌, ◌==◌, ◌&&◌, nat_lt, nat_le, ℕ, List, [], ◌∷◌, length, take, drop, position, codes, Option, Some, None, option_map, option_and_then, Result, Ok, Err, if◌then◌else◌}
+use Rattle.std.specs.Str.{bytes_eq}
+use Rattle.hex.specs.Hex.{decode_of}
+use Rattle.model.specs.Words.{Text, onto_first}
+use Rattle.model.specs.declared.events.Arrival.{Arrival}
+use Rattle.model.specs.declared.events.Arrival.TheVariants.{Ready, In}
+use Rattle.scripts.specs.declared.script.Fault.{Fault}
+use Rattle.scripts.specs.declared.script.Fault.TheVariants.{Line, Memory}
+
+-- ---- fields
+
+-- what stands before the first space, and what stands after it
+abbrev pub cut : Text → Option (Text × Text)
+cut text = option_map (λ place. (take place text, drop (place + 1) text)) (position (λ b. b == 32) text)
+
+-- the number of these digits and of one more; a number is below 2^64
+abbrev pub with_digit : ℕ → ℕ → Option ℕ
+with_digit n b = if nat_le 48 b && nat_le b 57 && nat_lt (n * 10 + (b - 48)) (2 ^ 64) then Some (n * 10 + (b - 48)) else None
+
+-- the number that the digits write behind those of n
+abbrev pub digits_after : ℕ → Text → Option ℕ
+digits_after n [] = Some n
+digits_after n (b ∷ bs) = option_and_then (λ next. digits_after next bs) (with_digit n b)
+
+-- the number that a field writes: in decimal digits alone, the first of them no zero but for 0 itself
+abbrev pub number : Text → Option ℕ
+number [] = None
+number (b ∷ bs) = if b == 48 && nat_lt 0 (length bs) then None else digits_after 0 (b ∷ bs)
+
+-- the value, where there is one
+abbrev pub ok_of : {X E : Type 0} → Result X E → Option X
+ok_of (Ok x) = Some x
+ok_of (Err e) = None
+
+-- the bytes that a field writes in hex of either case, at least one
+abbrev pub piece : Text → Option Text
+piece [] = None
+piece (b ∷ bs) = ok_of (decode_of (b ∷ bs))
+
+-- ---- lines, where so many connections were opened before
+
+-- at most 1,024 connections are opened by a script
+abbrev pub most_openings : ℕ
+most_openings = 1024
+
+-- how many channels a connection may have from the first on
+abbrev pub most_ready : ℕ
+most_ready = 255
+
+-- `ready K`: a connection that runs at once, with channels 1 to K open
+abbrev pub ready : ℕ → Text → Option Arrival
+ready opened k = option_and_then (λ n. if nat_le 1 n && nat_le n most_ready && nat_lt opened most_openings then Some (Ready n) else None) (number k)
+
+-- the number of a connection that was opened
+abbrev pub connection : ℕ → Text → Option ℕ
+connection opened c = option_and_then (λ n. if nat_le 1 n && nat_le n opened then Some n else None) (number c)
+
+-- `in C HEX`: a piece of bytes from a connection
+abbrev pub bytes_in : ℕ → Text × Text → Option Arrival
+bytes_in opened f = option_and_then (λ c. option_map (λ bytes. In c bytes) (piece f.1)) (connection opened f.0)
+
+-- a line by its first field
+abbrev pub by_word : ℕ → Text × Text → Option Arrival
+by_word opened f = if bytes_eq f.0 (codes "ready") then ready opened f.1 else if bytes_eq f.0 (codes "in") then option_and_then (bytes_in opened) (cut f.1) else None
+
+-- A line is skipped, brings an arrival, or is at fault. Skipped are the empty line and those that begin with `#`.
+abbrev pub line_of : ℕ → Text → Option (Option Arrival)
+line_of opened [] = Some None
+line_of opened (b ∷ bs) = if b == 35 then Some None else option_map (λ a. Some a) (option_and_then (by_word opened) (cut (b ∷ bs)))
+
+-- ---- the whole script
+
+-- the lines of a text, which LF ends
+abbrev pub lines : Text → List Text
+lines [] = [] ∷ []
+lines (b ∷ bs) = if b == 10 then [] ∷ lines bs else onto_first b (lines bs)
+
+-- how many were opened, after a line
+abbrev pub opened_after : ℕ → Option (Option Arrival) → ℕ
+opened_after opened (Some (Some (Ready k))) = opened + 1
+opened_after opened line = opened
+
+-- these arrivals, and then the others
+abbrev pub onto : List Arrival → Result (List Arrival) ℕ → Result (List Arrival) ℕ
+onto found (Ok rest) = Ok (found ++ rest)
+onto found (Err number) = Err number
+
+-- a line with its number, and what the lines after it are
+abbrev pub with_line : ℕ → Option (Option Arrival) → Result (List Arrival) ℕ → Result (List Arrival) ℕ
+with_line number None rest = Err number
+with_line number (Some None) rest = rest
+with_line number (Some (Some a)) rest = onto (a ∷ []) rest
+
+-- the arrivals of these lines, of which the first has this number; or the number of the first line at fault
+abbrev pub arrivals_from : ℕ → ℕ → List Text → Result (List Arrival) ℕ
+arrivals_from number opened [] = Ok []
+arrivals_from number opened (l ∷ ls) = with_line number (line_of opened l) (arrivals_from (number + 1) (opened_after opened (line_of opened l)) ls)
+
+-- the arrivals of a script, or the number of its first line at fault, counted from 1
+abbrev pub script : Text → Result (List Arrival) ℕ
+script text = arrivals_from 1 0 (lines text)
+
+-- ---- what a reader answers
+
+-- why nothing was read; want of memory says nothing
+abbrev pub Refuses : Fault → Result (List Arrival) ℕ → Type 0
+Refuses (Line n) said = said ≡ Err n
+Refuses Memory said = Unit {0}

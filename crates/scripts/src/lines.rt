@@ -1,0 +1,194 @@
+//! One line of a script.
+
+ghost use Rattle.std.specs.Prelude.{◌≡◌, ◌∷◌, ◌<◌, ◌≤◌, ◌==◌, length, IfSome, option_copied, option_map, position};
+ghost use Rattle.std.specs.List.{position_from};
+ghost use Rattle.scripts.specs.Script.{lines, cut, with_digit, digits_after, number, piece, ready, connection, bytes_in, by_word, line_of};
+ghost use Rattle.scripts.specs.Lines.{Tells, lines_left};
+
+use hex::FromHexError;
+use model::{Arrival, Text};
+use std::alloc::{AllocError, AllocFailed, Global};
+
+/// How many connections a script opens at most.
+const MOST_OPENINGS: u64 = 1024;
+
+/// How many channels a connection has open from the first on, at most.
+const MOST_READY: u64 = 255;
+
+/// Why a line is not read.
+#[derive(Clone, Copy, PartialEq, Eq, Debug, Drop)]
+pub enum Bad {
+    /// It has another form.
+    Malformed,
+    /// A growth was refused.
+    Memory,
+}
+
+impl From<AllocError> for Bad {
+    ghost use Rattle.std.specs.Prelude.{◌≡◌};
+    ghost use Rattle.scripts.specs.declared.lines.Bad.TheVariants.{Memory};
+
+    ghost from_gives = { λ _ r. r ≡ Memory };
+
+    fn from(_: AllocError) -> Bad {
+        Bad::Memory
+    }
+}
+
+impl<T: Drop> From<AllocFailed<T>> for Bad {
+    ghost use Rattle.std.specs.Prelude.{◌≡◌};
+    ghost use Rattle.scripts.specs.declared.lines.Bad.TheVariants.{Memory};
+
+    ghost from_gives = { λ _ r. r ≡ Memory };
+
+    fn from(_: AllocFailed<T>) -> Bad {
+        Bad::Memory
+    }
+}
+
+/// The place of the first space.
+fn first_space(text: &[u8]) -> Option<usize>
+    ensures place { result ≡ position (λ b. b == 32) text.now }
+    ensures within { IfSome result (λ place. place < length text.now) }
+{
+    text.iter().position(|b| *b == b' ')
+}
+
+/// What stands before the first space, and what stands after it.
+fn cut(text: &[u8]) -> Option<(&[u8], &[u8])>
+    ensures { option_map (λ f. (f.0.now, f.1.now)) result ≡ cut text.now }
+{
+    match first_space(text) {
+        Some(place) => Some((text.split_at(place).0, text.split_at(place + 1).1)),
+        None => None,
+    }
+}
+
+/// A number with one more digit, where it stays below 2^64.
+fn with_digit(n: u64, b: u8) -> Option<u64>
+    ensures { result ≡ with_digit n b }
+{
+    if b < b'0' || b > b'9' {
+        return None;
+    }
+    n.checked_mul(10)?.checked_add(u64::from(b - b'0'))
+}
+
+/// The number that these digits write.
+fn digits(text: &[u8]) -> Option<u64>
+    ensures { result ≡ digits_after 0 text.now }
+{
+    let mut n = 0;
+    for b in text {
+        n = with_digit(n, *b)?;
+    }
+    Some(n)
+}
+
+/// A decimal number without sign or needless zero.
+fn number(text: &[u8]) -> Option<u64>
+    ensures { result ≡ number text.now }
+{
+    let (first, rest) = text.split_first()?;
+    if *first == b'0' && !rest.is_empty() {
+        return None;
+    }
+    digits(text)
+}
+
+/// The bytes of hex text, at least one.
+fn piece(alloc: Global, text: &[u8]) -> Result<Text, Bad>
+    ensures { Tells result (piece text.now) }
+{
+    if text.is_empty() {
+        return Err(Bad::Malformed);
+    }
+    match hex::decode(alloc, text) {
+        Ok(bytes) => Ok(Text::from_vec(bytes)?),
+        Err(FromHexError::OutOfMemory) => Err(Bad::Memory),
+        Err(_) => Err(Bad::Malformed),
+    }
+}
+
+/// `ready K`.
+fn ready(opened: u64, field: &[u8]) -> Option<Arrival>
+    ensures { result ≡ ready opened field.now }
+{
+    let channels = number(field)?;
+    if channels < 1 || channels > MOST_READY || opened >= MOST_OPENINGS {
+        return None;
+    }
+    Some(Arrival::Ready(channels as u8))
+}
+
+/// The number of a connection that was opened.
+fn connection(opened: u64, field: &[u8]) -> Option<u64>
+    ensures { result ≡ connection opened field.now }
+{
+    let c = number(field)?;
+    if c < 1 || c > opened {
+        return None;
+    }
+    Some(c)
+}
+
+/// The fields of `in C HEX` behind the word.
+fn bytes_in(alloc: Global, opened: u64, c: &[u8], hex: &[u8]) -> Result<Arrival, Bad>
+    ensures { Tells result (bytes_in opened (c.now, hex.now)) }
+{
+    match connection(opened, c) {
+        Some(c) => Ok(Arrival::In(c, piece(alloc, hex)?)),
+        None => Err(Bad::Malformed),
+    }
+}
+
+/// A line by its first field.
+fn by_word(alloc: Global, opened: u64, word: &[u8], rest: &[u8]) -> Result<Arrival, Bad>
+    ensures { Tells result (by_word opened (word.now, rest.now)) }
+{
+    if word == b"ready".as_slice() {
+        return ready(opened, rest).ok_or(Bad::Malformed);
+    }
+    if word == b"in".as_slice() {
+        return match cut(rest) {
+            Some((c, hex)) => bytes_in(alloc, opened, c, hex),
+            None => Err(Bad::Malformed),
+        };
+    }
+    Err(Bad::Malformed)
+}
+
+/// The arrival of a line, where `opened` connections were opened before it. An empty line and one that begins with
+/// `#` have none.
+pub fn line_of(alloc: Global, opened: u64, line: &[u8]) -> Result<Option<Arrival>, Bad>
+    ensures { Tells result (line_of opened line.now) }
+{
+    match line.first() {
+        None => return Ok(None),
+        Some(b'#') => return Ok(None),
+        Some(_) => {}
+    }
+    match cut(line) {
+        Some((word, rest)) => Ok(Some(by_word(alloc, opened, word, rest)?)),
+        None => Err(Bad::Malformed),
+    }
+}
+
+/// The place of the first LF.
+fn first_end(text: &[u8]) -> Option<usize>
+    ensures place { result ≡ position_from (λ b. b == 10) 0 text.now }
+    ensures within { IfSome result (λ end. end < length text.now) }
+{
+    text.iter().position(|b| *b == b'\n')
+}
+
+/// The bytes up to the first LF, and those after it.
+pub fn first_line(text: &[u8]) -> (&[u8], Option<&[u8]>)
+    ensures lines { lines text.now ≡ result.0.now ∷ lines_left (option_copied result.1) }
+    ensures shorter { IfSome result.1 (λ rest. length rest.now < length text.now) }
+{
+    match first_end(text) {
+        Some(end) => (text.split_at(end).0, Some(text.split_at(end + 1).1)),
+        None => (text, None),
+    }
+}

@@ -1,0 +1,74 @@
+-- What `check` prints (own): the verdict on each guarantee, a line each, and the status.
+use Rattle.std.specs.Prelude.{◌≡◌, ◌+◌, ◌++◌, ℕ, Bool, true, false, List, [], ◌∷◌, codes, decimal, length, if◌then◌else◌}
+use Rattle.std.specs.List.{list_any}
+use Rattle.model.specs.Words.{Text}
+use Rattle.model.specs.Topology.{Topology}
+use Rattle.model.specs.Guarantee.{Guarantee}
+use Rattle.model.specs.Certificates.{Certificate}
+use Rattle.guarantee_search.specs.Verdicts.{Finds}
+use Rattle.guarantee_search.specs.declared.verdicts.Cause.{Cause}
+use Rattle.guarantee_search.specs.declared.verdicts.Cause.TheVariants.{TooManyStates, KeyTooLong, Unfit}
+use Rattle.guarantee_search.specs.declared.verdicts.Verdict.{Verdict}
+use Rattle.guarantee_search.specs.declared.verdicts.Verdict.TheVariants.{Yes, No, Undecided}
+use Rattle.scripts.specs.Transcript.{line, name_word}
+
+-- P holds of each of the first list, its place counted from n, and what stands there in the second; they are of one length
+abbrev pub EachWith : {A B : Type 0} → (ℕ → A → B → Type 0) → ℕ → List A → List B → Type 0
+EachWith P n [] [] = Unit {0}
+EachWith P n [] (y ∷ ys) = ⊥
+EachWith P n (x ∷ xs) [] = ⊥
+EachWith P n (x ∷ xs) (y ∷ ys) = P n x y × EachWith P (n + 1) xs ys
+
+-- ---- verdicts
+
+-- a verdict on each guarantee: a certificate that is accepted, a key that breaks it, or why there is neither
+abbrev pub AreFound : Topology → List Guarantee → List Verdict → Type 0
+AreFound t gs vs = EachWith (λ place g v. Finds t g v) 0 gs vs
+
+-- it is broken
+abbrev pub is_no : Verdict → Bool
+is_no (Yes c) = false
+is_no (No r) = true
+is_no (Undecided why) = false
+
+-- it is not decided
+abbrev pub is_undecided : Verdict → Bool
+is_undecided (Yes c) = false
+is_undecided (No r) = false
+is_undecided (Undecided why) = true
+
+-- the exit status: 1 where some guarantee is broken, 2 where none is and some is undecided, 0 where all hold
+abbrev pub status_of_verdicts : List Verdict → ℕ
+status_of_verdicts vs = if list_any is_no vs then 1 else if list_any is_undecided vs then 2 else 0
+
+-- the certificates among the verdicts
+abbrev pub certificates_in : List Verdict → List Certificate
+certificates_in [] = []
+certificates_in (Yes c ∷ vs) = c ∷ certificates_in vs
+certificates_in (No r ∷ vs) = certificates_in vs
+certificates_in (Undecided why ∷ vs) = certificates_in vs
+
+-- ---- lines
+
+-- why it is undecided, in a word
+abbrev pub cause_word : Cause → Text
+cause_word TooManyStates = codes "states"
+cause_word KeyTooLong = codes "key"
+cause_word Unfit = codes "form"
+
+-- the line of a verdict on the guarantee of this number
+abbrev pub verdict_line : ℕ → Verdict → Text
+verdict_line number (Yes c) = line (decimal number ∷ codes "yes states" ∷ decimal (length c.states) ∷ [])
+verdict_line number (No r) = line (decimal number ∷ codes "no key" ∷ name_word r.key ∷ [])
+verdict_line number (Undecided why) = line (decimal number ∷ codes "undecided" ∷ cause_word why ∷ [])
+
+-- the lines of some verdicts, numbered from here on
+abbrev pub verdict_lines : ℕ → List Verdict → Text
+verdict_lines number [] = []
+verdict_lines number (v ∷ vs) = verdict_line number v ++ verdict_lines (number + 1) vs
+
+-- The text and the status tell of each guarantee that it holds, by a certificate, that it fails, by a key, or why neither was found.
+pub record Judges (t : Topology) (gs : List Guarantee) (verdicts : List Verdict) (text : Text) (status : ℕ) : Type 0 where
+  pub found : AreFound t gs verdicts
+  pub shown : text ≡ verdict_lines 1 verdicts
+  pub status_is : status ≡ status_of_verdicts verdicts

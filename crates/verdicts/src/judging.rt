@@ -1,0 +1,194 @@
+//! The verdicts on guarantees, as `check` prints them.
+
+ghost use Rattle.std.specs.Prelude.{◌≡◌, ◌++◌, ◌∷◌, [], codes, decimal, IfOk, OnOk, string_bytes};
+ghost use Rattle.std.specs.List.{list_any};
+ghost use Rattle.scripts.specs.Transcript.{line, name_word};
+ghost use Rattle.verdicts.specs.Verdicts.{
+  AreFound,
+  certificates_in,
+  cause_word,
+  is_no,
+  is_undecided,
+  Judges,
+  status_of_verdicts,
+  verdict_line,
+  verdict_lines,
+};
+
+use certificate_check::Certificate;
+use exchange_graph::Topology;
+use guarantee_search::{Cause, Verdict, search};
+use guarantees::Guarantee;
+use scripts::{name_word, put_line};
+use std::alloc::{AllocError, Global};
+
+/// What a command prints, and the status that it leaves.
+#[derive(Drop)]
+pub struct Output {
+    pub text: Vec<u8>,
+    pub status: u8,
+}
+
+/// The verdict on each guarantee, in their order.
+fn verdicts_on(
+    alloc: Global,
+    topology: &Topology,
+    guarantees: &[Guarantee],
+) -> Result<Vec<Verdict>, AllocError>
+    ensures { IfOk result (λ verdicts. AreFound topology.now guarantees.now verdicts.items) }
+{
+    let mut verdicts = Vec::new(alloc);
+    for guarantee in guarantees {
+        verdicts.push(search(alloc, topology, guarantee)?)?;
+    }
+    Ok(verdicts)
+}
+
+/// The line of a guarantee that holds.
+fn yes_line(alloc: Global, number: u64, states: usize) -> Result<String, AllocError>
+    ensures { IfOk result (λ text. string_bytes text ≡ line (decimal number ∷ codes "yes states" ∷ decimal states ∷ [])) }
+{
+    format!(in alloc; "{number} yes states {states}\n")
+}
+
+/// The line of a guarantee that a key breaks.
+fn no_line(alloc: Global, number: u64, key: &[u8]) -> Result<String, AllocError>
+    ensures { IfOk result (λ text. string_bytes text ≡ line (decimal number ∷ codes "no key" ∷ name_word key.now ∷ [])) }
+{
+    let key = name_word(alloc, key)?;
+    format!(in alloc; "{number} no key {key}\n")
+}
+
+/// Why a guarantee is not decided, in a word.
+fn cause_word(cause: Cause) -> &'static str
+    ensures { result.now ≡ cause_word cause }
+{
+    match cause {
+        Cause::TooManyStates => "states",
+        Cause::KeyTooLong => "key",
+        Cause::Unfit => "form",
+    }
+}
+
+/// The line of a guarantee that is not decided.
+fn undecided_line(alloc: Global, number: u64, cause: Cause) -> Result<String, AllocError>
+    ensures { IfOk result (λ text. string_bytes text ≡ line (decimal number ∷ codes "undecided" ∷ cause_word cause ∷ [])) }
+{
+    let cause = cause_word(cause);
+    format!(in alloc; "{number} undecided {cause}\n")
+}
+
+/// The line of a verdict.
+fn verdict_line(alloc: Global, number: u64, verdict: &Verdict) -> Result<String, AllocError>
+    ensures { IfOk result (λ text. string_bytes text ≡ verdict_line number verdict.now) }
+{
+    match verdict {
+        Verdict::Yes(certificate) => yes_line(alloc, number, certificate.states().len()),
+        Verdict::No(refutation) => no_line(alloc, number, refutation.key().as_bytes()),
+        Verdict::Undecided(cause) => undecided_line(alloc, number, *cause),
+    }
+}
+
+/// Appends the lines of the verdicts, numbered from 1.
+fn put_verdicts(alloc: Global, text: &mut Vec<u8>, verdicts: &[Verdict]) -> Result<(), AllocError>
+    ensures { OnOk result (text.new.items ≡ text.old.items ++ verdict_lines 1 verdicts.now) }
+{
+    let mut number = 1;
+    for verdict in verdicts {
+        put_line(text, verdict_line(alloc, number, verdict)?)?;
+        number += 1;
+    }
+    Ok(())
+}
+
+fn is_no(verdict: &Verdict) -> bool
+    ensures { result ≡ is_no verdict.now }
+{
+    match verdict {
+        Verdict::No(_) => true,
+        _ => false,
+    }
+}
+
+fn is_undecided(verdict: &Verdict) -> bool
+    ensures { result ≡ is_undecided verdict.now }
+{
+    match verdict {
+        Verdict::Undecided(_) => true,
+        _ => false,
+    }
+}
+
+fn has_no(verdicts: &[Verdict]) -> bool
+    ensures { result ≡ list_any is_no verdicts.now }
+{
+    verdicts.iter().any(|verdict| is_no(verdict))
+}
+
+fn has_undecided(verdicts: &[Verdict]) -> bool
+    ensures { result ≡ list_any is_undecided verdicts.now }
+{
+    verdicts.iter().any(|verdict| is_undecided(verdict))
+}
+
+/// The status that the verdicts leave.
+fn status_of(verdicts: &[Verdict]) -> u8
+    ensures { result ≡ status_of_verdicts verdicts.now }
+{
+    if has_no(verdicts) {
+        return 1;
+    }
+    if has_undecided(verdicts) {
+        return 2;
+    }
+    0
+}
+
+/// What is printed of the verdicts, and the status that they leave.
+fn output_of(alloc: Global, verdicts: &[Verdict]) -> Result<Output, AllocError>
+    ensures { IfOk result (λ o. (o.text.items ≡ verdict_lines 1 verdicts.now) × (o.status ≡ status_of_verdicts verdicts.now)) }
+{
+    let mut text = Vec::new(alloc);
+    put_verdicts(alloc, &mut text, verdicts)?;
+    Ok(Output {
+        text,
+        status: status_of(verdicts),
+    })
+}
+
+/// Appends the certificate of a verdict, if it has one.
+fn put_certificate(found: &mut Vec<Certificate>, verdict: Verdict) -> Result<(), AllocError>
+    ensures { OnOk result (found.new.items ≡ found.old.items ++ certificates_in (verdict ∷ [])) }
+{
+    match verdict {
+        Verdict::Yes(certificate) => Ok(found.push(certificate)?),
+        _ => Ok(()),
+    }
+}
+
+/// The certificates among the verdicts.
+pub fn certificates_in(
+    alloc: Global,
+    verdicts: Vec<Verdict>,
+) -> Result<Vec<Certificate>, AllocError>
+    ensures { IfOk result (λ found. found.items ≡ certificates_in verdicts.items) }
+{
+    let mut found = Vec::new(alloc);
+    for verdict in verdicts {
+        put_certificate(&mut found, verdict)?;
+    }
+    Ok(found)
+}
+
+/// What is printed of guarantees, and the verdicts on them.
+pub fn judge(
+    alloc: Global,
+    topology: &Topology,
+    guarantees: &[Guarantee],
+) -> Result<(Output, Vec<Verdict>), AllocError>
+    ensures { IfOk result (λ r. Judges topology.now guarantees.now r.1.items r.0.text.items r.0.status) }
+{
+    let verdicts = verdicts_on(alloc, topology, guarantees)?;
+    let output = output_of(alloc, verdicts.as_slice())?;
+    Ok((output, verdicts))
+}

@@ -1,0 +1,8 @@
+//! Verdicts on guarantees and on certificates, as they are printed.
+#![tactic(auto)]
+
+mod judging;
+mod verifying;
+
+pub use judging::{Output, certificates_in, judge};
+pub use verifying::verify;
