@@ -3,11 +3,11 @@ use Rattle.std.specs.Prelude.{◌≡◌, ◌+◌, ◌++◌, ℕ, Bool, true, fal
 use Rattle.std.specs.List.{list_any}
 use Rattle.model.specs.Words.{Text}
 use Rattle.model.specs.Topology.{Topology}
-use Rattle.model.specs.Guarantee.{Guarantee}
+use Rattle.model.specs.Guarantee.{Guarantee, AllHold}
 use Rattle.model.specs.Certificates.{Certificate}
 use Rattle.certificate_check.specs.declared.faults.CertFault.{CertFault}
 use Rattle.certificate_check.specs.declared.faults.CertFault.TheVariants.{Start, Open, Missed, Form, Memory}
-use Rattle.certificate.specs.Certified.{ChecksAt}
+use Rattle.certificate.specs.Certified.{ChecksAt, AreCertified}
 use Rattle.scripts.specs.Transcript.{line, name_word}
 use Rattle.verdicts.specs.Verdicts.{EachWith}
 
@@ -78,9 +78,14 @@ abbrev pub outcome_lines : ℕ → List Outcome → Text
 outcome_lines number [] = []
 outcome_lines number (o ∷ os) = outcome_line number o ++ outcome_lines (number + 1) os
 
+-- What the status 0 says: each guarantee has its certificate, there are no more, and so all of them hold.
+abbrev pub IsVouched : Topology → List Guarantee → List Certificate → ℕ → Type 0
+IsVouched t gs cs status = status ≡ 0 → AreCertified t gs cs × AllHold t gs
+
 -- The text and the status tell of each guarantee whether its certificate is accepted, and of the first certificate too many.
 pub record Verifies (t : Topology) (gs : List Guarantee) (cs : List Certificate) (text : Text) (status : ℕ) : Type 0 where
   pub outcomes : List Outcome
   pub are : AreOutcomes t gs cs outcomes
   pub shown : text ≡ outcome_lines 1 outcomes
   pub status_is : status ≡ status_of_outcomes outcomes
+  pub means : IsVouched t gs cs status

@@ -1,9 +1,9 @@
 -- What `check` prints (own): the verdict on each guarantee, a line each, and the status.
-use Rattle.std.specs.Prelude.{◌≡◌, ◌+◌, ◌++◌, ℕ, Bool, true, false, List, [], ◌∷◌, codes, decimal, length, if◌then◌else◌}
+use Rattle.std.specs.Prelude.{◌≡◌, ◌+◌, ◌++◌, ℕ, Bool, true, false, List, [], ◌∷◌, codes, decimal, length, if◌then◌else◌, Contains}
 use Rattle.std.specs.List.{list_any}
 use Rattle.model.specs.Words.{Text}
 use Rattle.model.specs.Topology.{Topology}
-use Rattle.model.specs.Guarantee.{Guarantee}
+use Rattle.model.specs.Guarantee.{Guarantee, Holds, AllHold}
 use Rattle.model.specs.Certificates.{Certificate}
 use Rattle.guarantee_search.specs.Verdicts.{Finds}
 use Rattle.guarantee_search.specs.declared.verdicts.Cause.{Cause}
@@ -67,8 +67,14 @@ abbrev pub verdict_lines : ℕ → List Verdict → Text
 verdict_lines number [] = []
 verdict_lines number (v ∷ vs) = verdict_line number v ++ verdict_lines (number + 1) vs
 
+-- What the status says of the guarantees, for every key of at most 255 bytes: 0 that all of them hold, 1 that one of them fails.
+pub record IsMeant (t : Topology) (gs : List Guarantee) (status : ℕ) : Type 0 where
+  pub hold : status ≡ 0 → AllHold t gs
+  pub fails : status ≡ 1 → (g : Guarantee) × Contains gs g × (Holds t g → ⊥)
+
 -- The text and the status tell of each guarantee that it holds, by a certificate, that it fails, by a key, or why neither was found.
 pub record Judges (t : Topology) (gs : List Guarantee) (verdicts : List Verdict) (text : Text) (status : ℕ) : Type 0 where
   pub found : AreFound t gs verdicts
   pub shown : text ≡ verdict_lines 1 verdicts
   pub status_is : status ≡ status_of_verdicts verdicts
+  pub means : IsMeant t gs status

@@ -180,7 +180,9 @@ pub fn certificates_in(
     Ok(found)
 }
 
-/// What is printed of guarantees, and the verdicts on them.
+/// What is printed of guarantees, and the verdicts on them. The status is 0 only where all of them hold, and 1 only where
+/// one of them fails.
+#[tactic(auto, using(crate::proofs::Meaning::verdicts_mean))]
 pub fn judge(
     alloc: Global,
     topology: &Topology,

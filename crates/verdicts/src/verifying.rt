@@ -151,7 +151,8 @@ fn status_of(outcomes: &[Outcome]) -> u8
     0
 }
 
-/// What is printed of the certificates of guarantees.
+/// What is printed of the certificates of guarantees. The status is 0 only where each has its certificate, and so holds.
+#[tactic(auto, using(crate::proofs::Meaning::outcomes_mean))]
 pub fn verify(
     alloc: Global,
     topology: &Topology,
