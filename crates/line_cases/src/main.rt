@@ -4,13 +4,8 @@
 #![tactic(auto)]
 
 mod counts;
-mod hex_words;
 mod parts;
-mod routing;
 mod running;
-mod unanswered;
-mod wire;
-mod words;
 
 use std::io;
 use std::process::ExitCode;

@@ -2,26 +2,29 @@
 
 use crate::counts::Count;
 use crate::parts::{Parts, is_silent, parts_of};
-use crate::unanswered::Unanswered;
-use crate::{routing, wire};
+use line_words::Unanswered;
 use std::process::ExitCode;
 use std::{fs, io};
 
 /// The answer to a line of this kind.
 fn answer(rt: &HostRuntime, kind: &str, asked: &str) -> Result<String, Unanswered> {
     match kind {
-        "pattern" | "match" | "places" | "words" => routing::of_patterns(rt, kind, asked),
-        "definitions"
+        "pattern"
+        | "match"
+        | "places"
+        | "words"
+        | "definitions"
         | "definitions-hex"
         | "counts"
         | "queue"
         | "exchange"
         | "user"
         | "route"
-        | "visited" => routing::of_definitions(rt, kind, asked),
-        "guarantees" | "guarantees-hex" | "guarantee" | "covers" => {
-            routing::of_guarantees(rt, kind, asked)
-        }
+        | "visited"
+        | "guarantees"
+        | "guarantees-hex"
+        | "guarantee"
+        | "covers" => routing_lines::answer(rt, kind, asked),
         "admit"
         | "admitted"
         | "check"
@@ -30,8 +33,8 @@ fn answer(rt: &HostRuntime, kind: &str, asked: &str) -> Result<String, Unanswere
         | "disprove"
         | "certificates"
         | "certificates-hex"
-        | "rewritten" => routing::of_certificates(rt, kind, asked),
-        _ => wire::answer(rt.alloc(), kind, asked),
+        | "rewritten" => certificate_lines::answer(rt, kind, asked),
+        _ => wire_lines::answer(rt.alloc(), kind, asked),
     }
 }
 
