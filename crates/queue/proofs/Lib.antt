@@ -1,4 +1,5 @@
 pub mod Freed
 pub mod Places
 pub mod Slotted
+pub mod Requeued
 pub mod Purging

@@ -12,29 +12,38 @@ use Rattle.model.specs.Message.{Message}
 use Rattle.model.specs.declared.messages.Holder.{Holder}
 use Rattle.model.specs.declared.messages.Mark.{Mark}
 use Rattle.model.specs.declared.messages.Mark.TheVariants.{Ready, Held}
-use Rattle.marks.specs.Places.{IsNext, Differs}
-use Rattle.queue.specs.Line.{is_under, is_held_as, held_as, change_first, without_first, requeued, ready_count, number_of}
+use Rattle.marks.specs.Places.{IsNext, Differs, bit_of}
+use Rattle.queue.specs.Line.{is_under, is_held_by, is_held_as, held_as, freed_now, change_first, without_first, requeued, ready_count, number_of}
 use Rattle.queue.specs.declared.slots.Slot.{Slot}
-use Rattle.queue.specs.Slots.{somes, has, changed, num, tally, AreMarked, Shows, HasPlaces, contents}
+use Rattle.queue.specs.Slots.{somes, has, changed, num, tally, is_held, Bits, SameBits, Turned, AreMarked, AreSigned, Shows, HasPlaces, contents}
 use Rattle.queue.proofs.Places.{num-some, num-none, within, FirstAt, change_at, remove_at, find_at, some_at, NonePasses, none_found, none_changed, none_removed, none_mapped, none_left_out, counted, tally-most, somes-most, count-set, length-set, somes-append, count-fewer, OnlyAt, only_first, only_mapped, only_left_out}
 
 -- ---- one entry
 
-pub ready_not_held : (h : Holder) (o : Option Entry) → has is_ready o ≡ true → has (is_held_as h) o ≡ false
-ready_not_held h None r = refl
-ready_not_held h (Some e) r = go e.mark r
+pub ready_not_held : (mine : Holder → Bool) (o : Option Entry) → has is_ready o ≡ true → has (is_held_by mine) o ≡ false
+ready_not_held mine None r = refl
+ready_not_held mine (Some e) r = go e.mark r
   where
-    go : (m : Mark) → elim m [ Ready ↦ true | Held g ↦ false ] ≡ true → elim m [ Ready ↦ false | Held g ↦ is_under h g ] ≡ false
+    go : (m : Mark) → elim m [ Ready ↦ true | Held g ↦ false ] ≡ true → elim m [ Ready ↦ false | Held g ↦ mine g ] ≡ false
     go Ready r = refl
     go (Held g) r = absurd (false≢true r)
 
-pub held_not_ready : (h : Holder) (o : Option Entry) → has (is_held_as h) o ≡ true → has is_ready o ≡ false
-held_not_ready h None r = refl
-held_not_ready h (Some e) r = go e.mark r
+pub held_not_ready : (mine : Holder → Bool) (o : Option Entry) → has (is_held_by mine) o ≡ true → has is_ready o ≡ false
+held_not_ready mine None r = refl
+held_not_ready mine (Some e) r = go e.mark r
   where
-    go : (m : Mark) → elim m [ Ready ↦ false | Held g ↦ is_under h g ] ≡ true → elim m [ Ready ↦ true | Held g ↦ false ] ≡ false
+    go : (m : Mark) → elim m [ Ready ↦ false | Held g ↦ mine g ] ≡ true → elim m [ Ready ↦ true | Held g ↦ false ] ≡ false
     go Ready r = absurd (false≢true r)
     go (Held g) r = refl
+
+-- what is not held by anyone is not held by these
+pub unheld : (mine : Holder → Bool) (o : Option Entry) → has is_held o ≡ false → has (is_held_by mine) o ≡ false
+unheld mine None h = refl
+unheld mine (Some e) h = ready_not_held mine (Some e) (go (is_ready e) h)
+  where
+    go : (b : Bool) → not b ≡ false → b ≡ true
+    go true h = refl
+    go false h = absurd (false≢true (sym h))
 
 some_of : {X : Type 0} (p : X → Bool) (o : Option X) → has p o ≡ true → is_some o ≡ true
 some_of p None h = absurd (false≢true h)
@@ -52,26 +61,40 @@ held_not_free : (holder : Holder) (o : Option Entry) → has is_ready (changed (
 held_not_free holder None = refl
 held_not_free holder (Some e) = refl
 
--- released
-abbrev freed_of : Entry → Entry
-freed_of e = record e { message = record e.message { redelivered = true }; mark = Ready }
+now_held : (holder : Holder) (o : Option Entry) → has is_ready o ≡ true → has is_held (changed (held_as holder) o) ≡ true
+now_held holder None r = absurd (false≢true r)
+now_held holder (Some e) r = refl
 
-freed_ready : (holder : Holder) (o : Option Entry) → has (is_held_as holder) o ≡ true → has is_ready (changed (freed (is_under holder)) o) ≡ true
-freed_ready holder None h = absurd (false≢true h)
-freed_ready holder (Some e) h = go e.mark h
+pub now_free : (p : Entry → Bool) (o : Option Entry) → has p o ≡ true → has is_ready (changed freed_now o) ≡ true
+now_free p None h = absurd (false≢true h)
+now_free p (Some e) h = refl
+
+pub freed_not_held : (o : Option Entry) → has is_held (changed freed_now o) ≡ false
+freed_not_held None = refl
+freed_not_held (Some e) = refl
+
+pub freed_there : (mine : Holder → Bool) (e : Entry) → is_held_by mine e ≡ true → freed mine e ≡ freed_now e
+freed_there mine e h = go e.mark h
   where
-    go : (m : Mark) → elim m [ Ready ↦ false | Held g ↦ is_under holder g ] ≡ true
-        → is_ready (elim m [ Ready ↦ e | Held g ↦ cond (is_under holder g) (freed_of e) e ]) ≡ true
+    go : (m : Mark) → elim m [ Ready ↦ false | Held g ↦ mine g ] ≡ true → elim m [ Ready ↦ e | Held g ↦ cond (mine g) (freed_now e) e ] ≡ freed_now e
     go Ready h = absurd (false≢true h)
     go (Held g) h = rw h refl
 
-pub freed_same : (holder : Holder) (e : Entry) → is_held_as holder e ≡ false → freed (is_under holder) e ≡ e
-freed_same holder e h = go e.mark h
+pub freed_same : (mine : Holder → Bool) (e : Entry) → is_held_by mine e ≡ false → freed mine e ≡ e
+freed_same mine e h = go e.mark h
   where
-    go : (m : Mark) → elim m [ Ready ↦ false | Held g ↦ is_under holder g ] ≡ false
-        → elim m [ Ready ↦ e | Held g ↦ cond (is_under holder g) (freed_of e) e ] ≡ e
+    go : (m : Mark) → elim m [ Ready ↦ false | Held g ↦ mine g ] ≡ false → elim m [ Ready ↦ e | Held g ↦ cond (mine g) (freed_now e) e ] ≡ e
     go Ready h = refl
     go (Held g) h = rw h refl
+
+-- what stands in a slot is freed, or stays
+pub slot_freed : (mine : Holder → Bool) (o : Option Entry) → has (is_held_by mine) o ≡ true → changed (freed mine) o ≡ changed freed_now o
+slot_freed mine None h = absurd (false≢true h)
+slot_freed mine (Some e) h = ap Some (freed_there mine e h)
+
+pub slot_same : (mine : Holder → Bool) (o : Option Entry) → has (is_held_by mine) o ≡ false → changed (freed mine) o ≡ o
+slot_same mine None h = refl
+slot_same mine (Some e) h = ap Some (freed_same mine e h)
 
 -- ---- one tag
 
@@ -112,18 +135,22 @@ not_found p (x ∷ xs) e = go (p x) refl (not_found p xs) e
 
 -- ---- the marks
 
-pub first_by_marks : (slots : List (Option Entry)) (bit : ℕ → ℕ) (i : ℕ) → AreMarked slots bit → IsNext bit 0 i → FirstAt is_ready slots i
-first_by_marks slots bit i m n = record { there = num-some _ (sym (m i) ∙ n.there); before = λ k lt. num-none _ (sym (m k) ∙ n.before k (omega arith) lt) }
+pub first_by_marks : (p : Entry → Bool) (slots : List (Option Entry)) (bit : ℕ → ℕ) (i : ℕ) → AreMarked p slots bit → IsNext bit 0 i → FirstAt p slots i
+first_by_marks p slots bit i m n = record { there = num-some _ (sym (m i) ∙ n.there); before = λ k lt. num-none _ (sym (m k) ∙ n.before k (omega arith) lt) }
 
-pub none_by_marks : (slots : List (Option Entry)) (bit : ℕ → ℕ) → AreMarked slots bit → ((k : ℕ) → bit k ≡ 0) → NonePasses is_ready slots
-none_by_marks slots bit m z = record { no = λ k. num-none _ (sym (m k) ∙ z k) }
+pub none_by_marks : (p : Entry → Bool) (slots : List (Option Entry)) (bit : ℕ → ℕ) → AreMarked p slots bit → ((k : ℕ) → bit k ≡ 0) → NonePasses p slots
+none_by_marks p slots bit m z = record { no = λ k. num-none _ (sym (m k) ∙ z k) }
 
-pub marked_set : (slots : List (Option Entry)) (v : Option Entry) (bit bit' : ℕ → ℕ) (i : ℕ) → i < length slots → AreMarked slots bit
-    → Differs bit bit' i (num (has is_ready v)) → AreMarked (set slots i v) bit'
-marked_set slots v bit bit' i lt m d j = elim (eqb_tells j i) [
-  | inl p ↦ ap bit' p.1 ∙ d.there ∙ ap (λ (o : Option Entry). num (has is_ready o)) (sym (get_or-set_same slots i v None lt) ∙ ap (λ (k : ℕ). get_or (set slots i v) k None) (sym p.1))
-  | inr p ↦ d.others j p.1 ∙ m j ∙ ap (λ (o : Option Entry). num (has is_ready o)) (sym (get_or-set_other slots i j v None p.1))
+marked_set : (p : Entry → Bool) (slots : List (Option Entry)) (v : Option Entry) (bit bit' : ℕ → ℕ) (i : ℕ) → i < length slots → AreMarked p slots bit
+    → Differs bit bit' i (num (has p v)) → AreMarked p (set slots i v) bit'
+marked_set p slots v bit bit' i lt m d j = elim (eqb_tells j i) [
+  | inl q ↦ ap bit' q.1 ∙ d.there ∙ ap (λ (o : Option Entry). num (has p o)) (sym (get_or-set_same slots i v None lt) ∙ ap (λ (k : ℕ). get_or (set slots i v) k None) (sym q.1))
+  | inr q ↦ d.others j q.1 ∙ m j ∙ ap (λ (o : Option Entry). num (has p o)) (sym (get_or-set_other slots i j v None q.1))
 ]
+
+pub signed_set : (slots : List (Option Entry)) (v : Option Entry) (bits bits' : Bits) (i : ℕ) → i < length slots → AreSigned slots bits
+    → Turned bits bits' i (num (has is_ready v)) (num (has is_held v)) → AreSigned (set slots i v) bits'
+signed_set slots v bits bits' i lt s t = record { ready = marked_set is_ready slots v _ _ i lt s.ready t.ready_bit; held = marked_set is_held slots v _ _ i lt s.held t.held_bit }
 
 at_end : (xs : List (Option Entry)) (v : Option Entry) → get_or (xs ++ v ∷ []) (length xs) None ≡ v
 at_end [] v = refl
@@ -135,27 +162,27 @@ not_end [] v (suc j) h = refl
 not_end (x ∷ xs) v zero h = refl
 not_end (x ∷ xs) v (suc j) h = not_end xs v j (λ e. h (ap suc e))
 
-pub marked_push : (slots : List (Option Entry)) (v : Option Entry) (bit bit' : ℕ → ℕ) → AreMarked slots bit
-    → Differs bit bit' (length slots) (num (has is_ready v)) → AreMarked (slots ++ v ∷ []) bit'
-marked_push slots v bit bit' m d j = elim (eqb_tells j (length slots)) [
-  | inl p ↦ ap bit' p.1 ∙ d.there ∙ ap (λ (o : Option Entry). num (has is_ready o)) (sym (at_end slots v) ∙ ap (λ (k : ℕ). get_or (slots ++ v ∷ []) k None) (sym p.1))
-  | inr p ↦ d.others j p.1 ∙ m j ∙ ap (λ (o : Option Entry). num (has is_ready o)) (sym (not_end slots v j p.1))
+marked_push : (p : Entry → Bool) (slots : List (Option Entry)) (v : Option Entry) (bit bit' : ℕ → ℕ) → AreMarked p slots bit
+    → Differs bit bit' (length slots) (num (has p v)) → AreMarked p (slots ++ v ∷ []) bit'
+marked_push p slots v bit bit' m d j = elim (eqb_tells j (length slots)) [
+  | inl q ↦ ap bit' q.1 ∙ d.there ∙ ap (λ (o : Option Entry). num (has p o)) (sym (at_end slots v) ∙ ap (λ (k : ℕ). get_or (slots ++ v ∷ []) k None) (sym q.1))
+  | inr q ↦ d.others j q.1 ∙ m j ∙ ap (λ (o : Option Entry). num (has p o)) (sym (not_end slots v j q.1))
 ]
 
 -- ---- one slot is written
 
 -- What was written, and how the counts changed.
-record Written (slots : List (Option Entry)) (v : Option Entry) (bit bit' : ℕ → ℕ) (ready ready' live live' i : ℕ) : Type 0 where
+record Written (slots : List (Option Entry)) (v : Option Entry) (bits bits' : Bits) (ready ready' live live' i : ℕ) : Type 0 where
   there : i < length slots
-  bits : Differs bit bit' i (num (has is_ready v))
+  turned : Turned bits bits' i (num (has is_ready v)) (num (has is_held v))
   ready_count : ready' + num (has is_ready (get_or slots i None)) ≡ ready + num (has is_ready v)
   live_count : live' + num (is_some (get_or slots i None)) ≡ live + num (is_some v)
   apart : (h : Holder) → tally (is_held_as h) (somes (set slots i v)) ≤ 1
 
-shows_set : (slots : List (Option Entry)) (v : Option Entry) (bit bit' : ℕ → ℕ) (ready ready' live live' i : ℕ) → Shows slots bit ready live
-    → Written slots v bit bit' ready ready' live live' i → Shows (set slots i v) bit' ready' live'
-shows_set slots v bit bit' ready ready' live live' i s w = record {
-  marked = marked_set slots v bit bit' i w.there s.marked w.bits;
+shows_set : (slots : List (Option Entry)) (v : Option Entry) (bits bits' : Bits) (ready ready' live live' i : ℕ) → Shows slots bits ready live
+    → Written slots v bits bits' ready ready' live live' i → Shows (set slots i v) bits' ready' live'
+shows_set slots v bits bits' ready ready' live live' i s w = record {
+  signed = signed_set slots v bits bits' i w.there s.signed w.turned;
   ready_count = (let a = s.ready_count in let b = w.ready_count in let c = count-set is_ready slots i v w.there in omega arith);
   live_count = (let a = s.live_count in let b = w.live_count in let c = length-set slots i v w.there in omega arith);
   apart = w.apart;
@@ -179,68 +206,74 @@ apart_held slots i holder h true e lt r f le =
 
 -- ---- the calls
 
-pub hold_shows : (slots now : List (Option Entry)) (bit bit' : ℕ → ℕ) (ready ready' live i : ℕ) (holder : Holder) → Shows slots bit ready live → IsNext bit 0 i
-    → Differs bit bit' i 0 → now ≡ set slots i (changed (held_as holder) (get_or slots i None)) → find (is_held_as holder) (somes slots) ≡ None → ready' + 1 ≡ ready
-    → Shows now bit' ready' live
-hold_shows slots now bit bit' ready ready' live i holder s n d e f r =
-    let v : Option Entry = changed (held_as holder) (get_or slots i None) in
-    let p : FirstAt is_ready slots i = first_by_marks slots bit i s.marked n in
+-- the bits of a slot whose entry is ready again
+pub freed_turned : (o : Option Entry) (bits bits' : Bits) (i : ℕ) → has is_ready (changed freed_now o) ≡ true → Turned bits bits' i 1 0
+    → Turned bits bits' i (num (has is_ready (changed freed_now o))) (num (has is_held (changed freed_now o)))
+freed_turned o bits bits' i f t = subst (λ (b : Bool). Turned bits bits' i (num b) (num (has is_held (changed freed_now o)))) (sym f) (subst (λ (b : Bool). Turned bits bits' i 1 (num b)) (sym (freed_not_held o)) t)
+
+pub hold_shows : (slots now : List (Option Entry)) (bits bits' : Bits) (ready ready' live i : ℕ) (holder : Holder) → Shows slots bits ready live → IsNext (bit_of bits.ready) 0 i
+    → Turned bits bits' i 0 1 → now ≡ set slots i (changed (held_as holder) (get_or slots i None)) → find (is_held_as holder) (somes slots) ≡ None → ready' + 1 ≡ ready
+    → Shows now bits' ready' live
+hold_shows slots now bits bits' ready ready' live i holder s n t e f r =
+    let o : Option Entry = get_or slots i None in
+    let v : Option Entry = changed (held_as holder) o in
+    let p : FirstAt is_ready slots i = first_by_marks is_ready slots (bit_of bits.ready) i s.signed.ready n in
     let lt : i < length slots = within is_ready slots i p.there in
-    subst (λ (xs : List (Option Entry)). Shows xs bit' ready' live) (sym e) (shows_set slots v bit bit' ready ready' live live i s (record {
+    subst (λ (xs : List (Option Entry)). Shows xs bits' ready' live) (sym e) (shows_set slots v bits bits' ready ready' live live i s (record {
       there = lt;
-      bits = subst (λ (b : Bool). Differs bit bit' i (num b)) (sym (held_not_free holder (get_or slots i None))) d;
-      ready_count = (let a = ap num p.there in let b = ap num (held_not_free holder (get_or slots i None)) in omega arith);
-      live_count = ap (λ (b : Bool). live + num b) (sym (still_some (held_as holder) (get_or slots i None)));
+      turned = subst (λ (b : Bool). Turned bits bits' i (num b) (num (has is_held v))) (sym (held_not_free holder o)) (subst (λ (b : Bool). Turned bits bits' i 0 (num b)) (sym (now_held holder o p.there)) t);
+      ready_count = (let a = ap num p.there in let b = ap num (held_not_free holder o) in omega arith);
+      live_count = ap (λ (b : Bool). live + num b) (sym (still_some (held_as holder) o));
       apart = λ h. apart_held slots i holder h (is_under h holder) refl lt p.there f (s.apart h);
     }))
 
-pub take_shows : (slots now : List (Option Entry)) (bit bit' : ℕ → ℕ) (ready ready' live live' i : ℕ) → Shows slots bit ready live → IsNext bit 0 i
-    → Differs bit bit' i 0 → now ≡ set slots i None → ready' + 1 ≡ ready → live' + 1 ≡ live → Shows now bit' ready' live'
-take_shows slots now bit bit' ready ready' live live' i s n d e r l =
-    let p : FirstAt is_ready slots i = first_by_marks slots bit i s.marked n in
+pub take_shows : (slots now : List (Option Entry)) (bits bits' : Bits) (ready ready' live live' i : ℕ) → Shows slots bits ready live → IsNext (bit_of bits.ready) 0 i
+    → Turned bits bits' i 0 0 → now ≡ set slots i None → ready' + 1 ≡ ready → live' + 1 ≡ live → Shows now bits' ready' live'
+take_shows slots now bits bits' ready ready' live live' i s n t e r l =
+    let p : FirstAt is_ready slots i = first_by_marks is_ready slots (bit_of bits.ready) i s.signed.ready n in
     let lt : i < length slots = within is_ready slots i p.there in
-    subst (λ (xs : List (Option Entry)). Shows xs bit' ready' live') (sym e) (shows_set slots None bit bit' ready ready' live live' i s (record {
+    subst (λ (xs : List (Option Entry)). Shows xs bits' ready' live') (sym e) (shows_set slots None bits bits' ready ready' live live' i s (record {
       there = lt;
-      bits = d;
+      turned = t;
       ready_count = (let a = ap num p.there in omega arith);
       live_count = (let a = ap num (some_of is_ready (get_or slots i None) p.there) in omega arith);
       apart = λ h. apart_less slots None i h lt (s.apart h) refl;
     }))
 
-pub release_shows : (slots now : List (Option Entry)) (bit bit' : ℕ → ℕ) (ready ready' live i : ℕ) (holder : Holder) → Shows slots bit ready live
-    → has (is_held_as holder) (get_or slots i None) ≡ true → Differs bit bit' i 1 → now ≡ set slots i (changed (freed (is_under holder)) (get_or slots i None)) → ready' ≡ ready + 1
-    → Shows now bit' ready' live
-release_shows slots now bit bit' ready ready' live i holder s t d e r =
-    let v : Option Entry = changed (freed (is_under holder)) (get_or slots i None) in
-    let lt : i < length slots = within (is_held_as holder) slots i t in
-    let f : has is_ready v ≡ true = freed_ready holder (get_or slots i None) t in
-    subst (λ (xs : List (Option Entry)). Shows xs bit' ready' live) (sym e) (shows_set slots v bit bit' ready ready' live live i s (record {
+pub release_shows : (slots now : List (Option Entry)) (bits bits' : Bits) (ready ready' live i : ℕ) (holder : Holder) → Shows slots bits ready live
+    → has (is_held_as holder) (get_or slots i None) ≡ true → Turned bits bits' i 1 0 → now ≡ set slots i (changed freed_now (get_or slots i None)) → ready' ≡ ready + 1
+    → Shows now bits' ready' live
+release_shows slots now bits bits' ready ready' live i holder s h t e r =
+    let o : Option Entry = get_or slots i None in
+    let v : Option Entry = changed freed_now o in
+    let lt : i < length slots = within (is_held_as holder) slots i h in
+    let f : has is_ready v ≡ true = now_free (is_held_as holder) o h in
+    subst (λ (xs : List (Option Entry)). Shows xs bits' ready' live) (sym e) (shows_set slots v bits bits' ready ready' live live i s (record {
       there = lt;
-      bits = subst (λ (b : Bool). Differs bit bit' i (num b)) (sym f) d;
-      ready_count = (let a = ap num (held_not_ready holder (get_or slots i None) t) in let b = ap num f in omega arith);
-      live_count = ap (λ (b : Bool). live + num b) (sym (still_some (freed (is_under holder)) (get_or slots i None)));
-      apart = λ h. apart_less slots v i h lt (s.apart h) (ready_not_held h v f);
+      turned = freed_turned o bits bits' i f t;
+      ready_count = (let a = ap num (held_not_ready (is_under holder) o h) in let b = ap num f in omega arith);
+      live_count = ap (λ (b : Bool). live + num b) (sym (still_some freed_now o));
+      apart = λ g. apart_less slots v i g lt (s.apart g) (ready_not_held (is_under g) v f);
     }))
 
-pub remove_shows : (slots now : List (Option Entry)) (bit : ℕ → ℕ) (ready live live' i : ℕ) (holder : Holder) → Shows slots bit ready live
-    → has (is_held_as holder) (get_or slots i None) ≡ true → now ≡ set slots i None → live' + 1 ≡ live → Shows now bit ready live'
-remove_shows slots now bit ready live live' i holder s t e l =
-    let lt : i < length slots = within (is_held_as holder) slots i t in
-    let no : has is_ready (get_or slots i None) ≡ false = held_not_ready holder (get_or slots i None) t in
-    subst (λ (xs : List (Option Entry)). Shows xs bit ready live') (sym e) (shows_set slots None bit bit ready ready live live' i s (record {
+pub remove_shows : (slots now : List (Option Entry)) (bits bits' : Bits) (ready live live' i : ℕ) (holder : Holder) → Shows slots bits ready live
+    → has (is_held_as holder) (get_or slots i None) ≡ true → Turned bits bits' i 0 0 → now ≡ set slots i None → live' + 1 ≡ live → Shows now bits' ready live'
+remove_shows slots now bits bits' ready live live' i holder s h t e l =
+    let lt : i < length slots = within (is_held_as holder) slots i h in
+    subst (λ (xs : List (Option Entry)). Shows xs bits' ready live') (sym e) (shows_set slots None bits bits' ready ready live live' i s (record {
       there = lt;
-      bits = record { there = s.marked i ∙ ap num no; others = λ k ne. refl };
-      ready_count = (let a = ap num no in omega arith);
-      live_count = (let a = ap num (some_of (is_held_as holder) (get_or slots i None) t) in omega arith);
-      apart = λ h. apart_less slots None i h lt (s.apart h) refl;
+      turned = t;
+      ready_count = (let a = ap num (held_not_ready (is_under holder) (get_or slots i None) h) in omega arith);
+      live_count = (let a = ap num (some_of (is_held_as holder) (get_or slots i None) h) in omega arith);
+      apart = λ g. apart_less slots None i g lt (s.apart g) refl;
     }))
 
-pub push_shows : (slots now : List (Option Entry)) (bit bit' : ℕ → ℕ) (ready ready' live live' : ℕ) (m : Message) → Shows slots bit ready live
-    → Differs bit bit' (length slots) 1 → now ≡ slots ++ Some (record { message = m; mark = Ready }) ∷ [] → ready' ≡ ready + 1 → live' ≡ live + 1 → Shows now bit' ready' live'
-push_shows slots now bit bit' ready ready' live live' m s d e r l =
+pub push_shows : (slots now : List (Option Entry)) (bits bits' : Bits) (ready ready' live live' : ℕ) (m : Message) → Shows slots bits ready live
+    → Turned bits bits' (length slots) 1 0 → now ≡ slots ++ Some (record { message = m; mark = Ready }) ∷ [] → ready' ≡ ready + 1 → live' ≡ live + 1 → Shows now bits' ready' live'
+push_shows slots now bits bits' ready ready' live live' m s t e r l =
     let v : Entry = record { message = m; mark = Ready } in
-    subst (λ (xs : List (Option Entry)). Shows xs bit' ready' live') (sym e) (record {
-      marked = marked_push slots (Some v) bit bit' s.marked d;
+    subst (λ (xs : List (Option Entry)). Shows xs bits' ready' live') (sym e) (record {
+      signed = record { ready = marked_push is_ready slots (Some v) _ _ s.signed.ready t.ready_bit; held = marked_push is_held slots (Some v) _ _ s.signed.held t.held_bit };
       ready_count = (let a = s.ready_count in let b = counted_end is_ready slots v in omega arith);
       live_count = (let a = s.live_count in let b = length_end slots v in omega arith);
       apart = λ h. (let a = s.apart h in let b = counted_end (is_held_as h) slots v in omega arith);
@@ -257,50 +290,42 @@ push_shows slots now bit bit' ready ready' live live' m s d e r l =
     length_end (Some y ∷ xs) x = let r = length_end xs x in omega arith
 
 -- the counts have room for a step
-pub ready_least : (slots : List (Option Entry)) (bit : ℕ → ℕ) (ready live i : ℕ) → Shows slots bit ready live → IsNext bit 0 i → (1 ≤ ready) × (1 ≤ live)
-ready_least slots bit ready live i s n =
-    let p : FirstAt is_ready slots i = first_by_marks slots bit i s.marked n in
+pub ready_least : (slots : List (Option Entry)) (bits : Bits) (ready live i : ℕ) → Shows slots bits ready live → IsNext (bit_of bits.ready) 0 i → (1 ≤ ready) × (1 ≤ live)
+ready_least slots bits ready live i s n =
+    let p : FirstAt is_ready slots i = first_by_marks is_ready slots (bit_of bits.ready) i s.signed.ready n in
     let c = counted is_ready slots i p.there in
     let m = tally-most is_ready (somes slots) in
     let a = s.ready_count in let b = s.live_count in
     (omega arith, omega arith)
 
-pub held_least : (slots : List (Option Entry)) (bit : ℕ → ℕ) (ready live i : ℕ) (holder : Holder) → Shows slots bit ready live
+pub held_least : (slots : List (Option Entry)) (bits : Bits) (ready live i : ℕ) (holder : Holder) → Shows slots bits ready live
     → has (is_held_as holder) (get_or slots i None) ≡ true → (1 ≤ live) × (ready < length slots)
-held_least slots bit ready live i holder s t =
+held_least slots bits ready live i holder s t =
     let c = counted (is_held_as holder) slots i t in
     let m = tally-most (is_held_as holder) (somes slots) in
-    let f = count-fewer is_ready slots i (within (is_held_as holder) slots i t) (held_not_ready holder (get_or slots i None) t) in
+    let f = count-fewer is_ready slots i (within (is_held_as holder) slots i t) (held_not_ready (is_under holder) (get_or slots i None) t) in
     let a = s.ready_count in let b = s.live_count in
     (omega arith, omega arith)
 
 -- what is held under a tag is the only such entry
-pub only_held : (slots : List (Option Entry)) (bit : ℕ → ℕ) (ready live i : ℕ) (holder : Holder) → Shows slots bit ready live
+pub only_held : (slots : List (Option Entry)) (bits : Bits) (ready live i : ℕ) (holder : Holder) → Shows slots bits ready live
     → has (is_held_as holder) (get_or slots i None) ≡ true → OnlyAt (is_held_as holder) slots i
-only_held slots bit ready live i holder s t = record { there = t; only = s.apart holder }
+only_held slots bits ready live i holder s t = record { there = t; only = s.apart holder }
 
 -- the counts are at most what there is
-pub counts_most : (slots : List (Option Entry)) (bit : ℕ → ℕ) (ready live : ℕ) → Shows slots bit ready live → (ready ≤ live) × (live ≤ length slots)
-counts_most slots bit ready live s =
+pub counts_most : (slots : List (Option Entry)) (bits : Bits) (ready live : ℕ) → Shows slots bits ready live → (ready ≤ live) × (live ≤ length slots)
+counts_most slots bits ready live s =
     let m = tally-most is_ready (somes slots) in let n = somes-most slots in
     let a = s.ready_count in let b = s.live_count in
     (omega arith, omega arith)
 
-pub same_places : (slots slots' capacity capacity' size size' places : ℕ) → HasPlaces slots capacity size places → slots' ≡ slots → capacity' ≡ capacity → size' ≡ size → HasPlaces slots' capacity' size' places
-same_places slots slots' capacity capacity' size size' places h a b c = record {
-  used = (let u = h.used in omega arith);
-  kept = (let k = h.kept in omega arith);
-  marked = (let m = h.marked in omega arith);
-}
+pub same_places : (slots slots' capacity capacity' places places' : ℕ) → HasPlaces slots capacity places → slots' ≡ slots → capacity' ≡ capacity → places' ≡ places → HasPlaces slots' capacity' places'
+same_places slots slots' capacity capacity' places places' h a b c = record { used = (let u = h.used in omega arith); kept = (let k = h.kept in omega arith) }
 
 -- one more of the places is used
-pub more_places : (slots slots' capacity capacity' size size' places : ℕ) → HasPlaces slots capacity size places → 0 < places - slots → slots' ≡ slots + 1 → capacity' ≡ capacity → size' ≡ size
-    → HasPlaces slots' capacity' size' places
-more_places slots slots' capacity capacity' size size' places h r a b c = record {
-  used = (let u = h.used in omega arith);
-  kept = (let k = h.kept in omega arith);
-  marked = (let m = h.marked in omega arith);
-}
+pub more_places : (slots slots' capacity capacity' places places' : ℕ) → HasPlaces slots capacity places → 0 < places - slots → slots' ≡ slots + 1 → capacity' ≡ capacity → places' ≡ places
+    → HasPlaces slots' capacity' places'
+more_places slots slots' capacity capacity' places places' h r a b c = record { used = (let u = h.used in omega arith); kept = (let k = h.kept in omega arith) }
 
 -- ---- slots and what stands in them
 
@@ -348,25 +373,37 @@ somes-dropped (s ∷ ss) = go (is_some s.entry) refl (somes-dropped ss)
 -- ---- bits set one after another
 
 -- The bits below a place are as their slots are, and those from `places` on are 0.
-pub record MarkedBelow (slots : List (Option Entry)) (bit : ℕ → ℕ) (place places : ℕ) : Type 0 where
-  pub below : (k : ℕ) → k < place → bit k ≡ num (has is_ready (get_or slots k None))
+pub record MarkedBelow (p : Entry → Bool) (slots : List (Option Entry)) (bit : ℕ → ℕ) (place places : ℕ) : Type 0 where
+  pub below : (k : ℕ) → k < place → bit k ≡ num (has p (get_or slots k None))
   pub above : (k : ℕ) → places ≤ k → bit k ≡ 0
 
-pub marked_more : (slots : List (Option Entry)) (bit bit' : ℕ → ℕ) (place places : ℕ) → place < places → MarkedBelow slots bit place places
-    → Differs bit bit' place (num (has is_ready (get_or slots place None))) → MarkedBelow slots bit' (place + 1) places
-marked_more slots bit bit' place places lt m d = record {
+marked_more : (p : Entry → Bool) (slots : List (Option Entry)) (bit bit' : ℕ → ℕ) (place places : ℕ) → place < places → MarkedBelow p slots bit place places
+    → Differs bit bit' place (num (has p (get_or slots place None))) → MarkedBelow p slots bit' (place + 1) places
+marked_more p slots bit bit' place places lt m d = record {
   below = λ k l. elim (eqb_tells k place) [
-    | inl p ↦ ap bit' p.1 ∙ d.there ∙ ap (λ (j : ℕ). num (has is_ready (get_or slots j None))) (sym p.1)
-    | inr p ↦ let ne = p.1 in d.others k p.1 ∙ m.below k (omega arith)
+    | inl q ↦ ap bit' q.1 ∙ d.there ∙ ap (λ (j : ℕ). num (has p (get_or slots j None))) (sym q.1)
+    | inr q ↦ let ne = q.1 in d.others k q.1 ∙ m.below k (omega arith)
   ];
   above = λ k ge. d.others k (λ e. absurd (omega arith)) ∙ m.above k ge;
 }
 
-pub marked_done : (slots : List Slot) (bit : ℕ → ℕ) (place places : ℕ) → places ≤ place → length slots ≤ places → MarkedBelow (contents slots) bit place places → AreMarked (contents slots) bit
-marked_done slots bit place places le len m k = elim (leb_tells places k) [
-  | inl p ↦ m.above k p.1 ∙ sym (ap num (contents-past is_ready slots k (let h = p.1 in omega arith)))
-  | inr p ↦ let h = p.1 in m.below k (omega arith)
+marked_done : (p : Entry → Bool) (slots : List Slot) (bit : ℕ → ℕ) (place places : ℕ) → places ≤ place → length slots ≤ places → MarkedBelow p (contents slots) bit place places → AreMarked p (contents slots) bit
+marked_done p slots bit place places le len m k = elim (leb_tells places k) [
+  | inl q ↦ m.above k q.1 ∙ sym (ap num (contents-past p slots k (let h = q.1 in omega arith)))
+  | inr q ↦ let h = q.1 in m.below k (omega arith)
 ]
+
+-- so it is with both bits
+pub record SignedBelow (slots : List (Option Entry)) (bits : Bits) (place places : ℕ) : Type 0 where
+  pub ready : MarkedBelow is_ready slots (bit_of bits.ready) place places
+  pub held : MarkedBelow is_held slots (bit_of bits.held) place places
+
+pub signed_more : (slots : List (Option Entry)) (bits bits' : Bits) (place places : ℕ) → place < places → SignedBelow slots bits place places
+    → Turned bits bits' place (num (has is_ready (get_or slots place None))) (num (has is_held (get_or slots place None))) → SignedBelow slots bits' (place + 1) places
+signed_more slots bits bits' place places lt s t = record { ready = marked_more is_ready slots _ _ place places lt s.ready t.ready_bit; held = marked_more is_held slots _ _ place places lt s.held t.held_bit }
+
+pub signed_done : (slots : List Slot) (bits : Bits) (place places : ℕ) → places ≤ place → length slots ≤ places → SignedBelow (contents slots) bits place places → AreSigned (contents slots) bits
+signed_done slots bits place places le len s = record { ready = marked_done is_ready slots _ place places le len s.ready; held = marked_done is_held slots _ place places le len s.held }
 
 -- ---- the ready ones taken out one by one
 

@@ -30,9 +30,17 @@ requeued mine entries = map (freed mine) entries
 abbrev pub is_under : Holder → Holder → Bool
 is_under holder h = by_channel holder.connection holder.channel h && h.tag == holder.tag
 
--- this entry is held so
+-- this entry is held by one of these
+abbrev pub is_held_by : (Holder → Bool) → Entry → Bool
+is_held_by mine e = elim e.mark [ Ready ↦ false | Held h ↦ mine h ]
+
+-- this entry is held under the same delivery tag
 abbrev pub is_held_as : Holder → Entry → Bool
-is_held_as holder e = elim e.mark [ Ready ↦ false | Held h ↦ is_under holder h ]
+is_held_as holder = is_held_by (is_under holder)
+
+-- this entry, ready again and marked redelivered
+abbrev pub freed_now : Entry → Entry
+freed_now e = record e { message = record e.message { redelivered = true }; mark = Ready }
 
 -- this entry, held from now on
 abbrev pub held_as : Holder → Entry → Entry

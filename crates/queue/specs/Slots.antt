@@ -1,8 +1,9 @@
 -- Slots in the order of arrival, of which some are empty (own).
-use Rattle.std.specs.Prelude.{◌≡◌, ℕ, ◌≤◌, ◌+◌, List, [], ◌∷◌, length, map, Bool, true, false, cond, Option, Some, None, get_or}
+use Rattle.std.specs.Prelude.{◌≡◌, ℕ, ◌≤◌, ◌+◌, List, [], ◌∷◌, length, map, Bool, true, false, cond, not, Option, Some, None, get_or}
 use Rattle.model.specs.Broker.{is_ready}
 use Rattle.model.specs.declared.messages.Entry.{Entry}
 use Rattle.model.specs.declared.messages.Holder.{Holder}
+use Rattle.marks.specs.Places.{bit_of, Differs}
 use Rattle.queue.specs.Line.{is_held_as}
 use Rattle.queue.specs.declared.slots.Slot.{Slot}
 
@@ -35,19 +36,44 @@ abbrev pub tally : {X : Type 0} → (X → Bool) → List X → ℕ
 tally p [] = 0
 tally p (x ∷ xs) = num (p x) + tally p xs
 
--- the bit of each slot says whether a ready entry stands in it
-abbrev pub AreMarked : List (Option Entry) → (ℕ → ℕ) → Type 0
-AreMarked slots bit = (i : ℕ) → bit i ≡ num (has is_ready (get_or slots i None))
+-- the message was given out and is not settled
+abbrev pub is_held : Entry → Bool
+is_held e = not (is_ready e)
+
+-- the words of the set of ready slots and of that of held ones, and how many slots both have room for
+pub record Bits : Type 0 where
+  pub ready : List ℕ
+  pub held : List ℕ
+  pub places : ℕ
+
+-- no bit differs
+pub record SameBits (old new : Bits) : Type 0 where
+  pub ready : (k : ℕ) → bit_of new.ready k ≡ bit_of old.ready k
+  pub held : (k : ℕ) → bit_of new.held k ≡ bit_of old.held k
+
+-- Only this slot's bits differ: they are these.
+pub record Turned (old new : Bits) (place ready held : ℕ) : Type 0 where
+  pub ready_bit : Differs (bit_of old.ready) (bit_of new.ready) place ready
+  pub held_bit : Differs (bit_of old.held) (bit_of new.held) place held
+  pub places : new.places ≡ old.places
+
+-- the bit of each slot says whether an entry stands in it that passes
+abbrev pub AreMarked : (Entry → Bool) → List (Option Entry) → (ℕ → ℕ) → Type 0
+AreMarked p slots bit = (i : ℕ) → bit i ≡ num (has p (get_or slots i None))
+
+-- The bits say of each slot what stands in it.
+pub record AreSigned (slots : List (Option Entry)) (bits : Bits) : Type 0 where
+  pub ready : AreMarked is_ready slots (bit_of bits.ready)
+  pub held : AreMarked is_held slots (bit_of bits.held)
 
 -- What is kept beside the slots is true of them, and no two messages are held under one tag.
-pub record Shows (slots : List (Option Entry)) (bit : ℕ → ℕ) (ready live : ℕ) : Type 0 where
-  pub marked : AreMarked slots bit
+pub record Shows (slots : List (Option Entry)) (bits : Bits) (ready live : ℕ) : Type 0 where
+  pub signed : AreSigned slots bits
   pub ready_count : ready ≡ tally is_ready (somes slots)
   pub live_count : live ≡ length (somes slots)
   pub apart : (holder : Holder) → tally (is_held_as holder) (somes slots) ≤ 1
 
--- There is room for so many slots, and a mark for each.
-pub record HasPlaces (slots capacity size places : ℕ) : Type 0 where
+-- There is room for so many slots, each with its bits.
+pub record HasPlaces (slots capacity places : ℕ) : Type 0 where
   pub used : slots ≤ places
   pub kept : places ≤ capacity
-  pub marked : places ≤ size

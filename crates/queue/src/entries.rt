@@ -3,7 +3,7 @@
 ghost use Rattle.std.specs.Prelude.{◌≡◌, ℕ, Option, Some, None, ◌+◌, count_by, vec_len, vec_capacity};
 ghost use Rattle.model.specs.Broker.{is_ready};
 ghost use Rattle.model.specs.Step.{freed};
-ghost use Rattle.queue.specs.Line.{ready_count, held_on, requeued};
+ghost use Rattle.queue.specs.Line.{ready_count, held_on, is_under, is_held_by, is_held_as, freed_now, requeued};
 
 use model::{Entry, Holder, Mark};
 
@@ -17,15 +17,54 @@ fn is_on(holder: &Holder, connection: u64, channel: Option<u16>) -> bool
     }
 }
 
+/// The message was given out under this delivery tag of this channel.
+fn is_same(holder: &Holder, other: &Holder) -> bool
+    ensures { result ≡ is_under holder.now other.now }
+{
+    is_on(other, holder.connection, Some(holder.channel)) && other.tag == holder.tag
+}
+
+/// The message can be given out.
+pub(crate) fn is_free(entry: &Entry) -> bool
+    ensures { result ≡ is_ready entry.now }
+{
+    matches!(entry.mark, Mark::Ready)
+}
+
+/// The message is held on this channel, or without one on this connection.
+pub(crate) fn is_held_on(entry: &Entry, connection: u64, channel: Option<u16>) -> bool
+    ensures { result ≡ is_held_by (held_on connection channel) entry.now }
+{
+    match &entry.mark {
+        Mark::Ready => false,
+        Mark::Held(holder) => is_on(holder, connection, channel),
+    }
+}
+
+/// The message is held under this delivery tag.
+pub(crate) fn is_held_under(entry: &Entry, holder: &Holder) -> bool
+    ensures { result ≡ is_held_as holder.now entry.now }
+{
+    match &entry.mark {
+        Mark::Ready => false,
+        Mark::Held(other) => is_same(holder, other),
+    }
+}
+
+/// The message is ready again, and marked redelivered.
+pub(crate) fn free(entry: &mut Entry)
+    ensures { entry.new ≡ freed_now entry.old }
+{
+    entry.mark = Mark::Ready;
+    entry.message.redeliver();
+}
+
 /// Makes the entry ready again if it is held there.
-fn free(entry: &mut Entry, connection: u64, channel: Option<u16>)
+fn free_if(entry: &mut Entry, connection: u64, channel: Option<u16>)
     ensures { entry.new ≡ freed (held_on connection channel) entry.old }
 {
-    if let Mark::Held(holder) = &entry.mark {
-        if is_on(holder, connection, channel) {
-            entry.mark = Mark::Ready;
-            entry.message.redeliver();
-        }
+    if is_held_on(entry, connection, channel) {
+        free(entry);
     }
 }
 
@@ -34,15 +73,8 @@ fn free_all(entries: &mut [Entry], connection: u64, channel: Option<u16>)
     ensures { entries.new ≡ requeued (held_on connection channel) entries.old }
 {
     for entry in entries.iter_mut() {
-        free(entry, connection, channel);
+        free_if(entry, connection, channel);
     }
-}
-
-/// The message can be given out.
-fn is_free(entry: &Entry) -> bool
-    ensures { result ≡ is_ready entry.now }
-{
-    matches!(entry.mark, Mark::Ready)
 }
 
 /// How many of the entries are ready.

@@ -1,27 +1,25 @@
-//! A queue in slots by arrival, of which the ready ones are marked.
+//! A queue in slots by arrival, of which the ready ones and those that are held are marked.
 
 ghost use Rattle.std.specs.Prelude.{◌≡◌, ◌+◌, ◌≤◌, ◌++◌, map, filter, not, vec_len, vec_capacity};
 ghost use Rattle.model.specs.Broker.{is_ready};
 ghost use Rattle.queue.specs.Line.{number_of, ready_count};
 
+use crate::signs::Signs;
 use crate::slots::{
-    Marks, Slot, append, close_gaps, entry_at, free_at, hold_at, place_held, take_at,
+    Slot, append, close_gaps, entry_at, free_at, hold_at, place_held, requeue_in, take_at,
 };
-use marks::{Flat, Over, Places};
 use model::{Entry, Holder, Mark, Message};
 use std::alloc::{AllocError, Global};
 use std::marker::Model;
 
 /// Messages in the order in which they came, ready or held.
 ///
-/// Each stands in a slot, which stays empty once it is gone; `reserve` closes the gaps. A mark for each slot says whether
-/// it is ready, so that the first ready message is found without a scan.
+/// Each stands in a slot, which stays empty once it is gone; `reserve` closes the gaps. Marks for each slot say whether it
+/// is ready or held, so that the first ready message, and all that are held, are found without a scan.
 #[derive(Drop)]
 pub struct Indexed {
     slots: Vec<Slot>,
-    ready: Marks,
-    /// How many slots there is room for, with a mark each.
-    places: usize,
+    signs: Signs,
     ready_count: usize,
     live: usize,
     /// How many messages came so far.
@@ -29,16 +27,15 @@ pub struct Indexed {
 }
 
 impl Model for Indexed {
-    ghost use Rattle.std.specs.Prelude.{◌-◌, ◌*◌, length, vec_len, vec_capacity};
-    ghost use Rattle.marks.specs.Places.{bit_of};
+    ghost use Rattle.std.specs.Prelude.{◌-◌, vec_len, vec_capacity};
     ghost use Rattle.queue.specs.Line.{Line};
     ghost use Rattle.queue.specs.Slots.{contents, somes, Shows, HasPlaces};
 
     ghost Value = { Line };
 
-    ghost view = { λ q. record { entries = somes (contents q.slots.items); room = q.places - vec_len q.slots } };
+    ghost view = { λ q. record { entries = somes (contents q.slots.items); room = q.signs.places - vec_len q.slots } };
 
-    ghost invariant = { λ q. Shows (contents q.slots.items) (bit_of q.ready) q.ready_count q.live × HasPlaces (vec_len q.slots) (vec_capacity q.slots) (length q.ready * 64) q.places };
+    ghost invariant = { λ q. Shows (contents q.slots.items) q.signs q.ready_count q.live × HasPlaces (vec_len q.slots) (vec_capacity q.slots) q.signs.places };
 }
 
 impl Indexed {
@@ -66,7 +63,8 @@ impl Indexed {
     };
     ghost use Rattle.model.specs.Broker.{is_at, is_ready};
     ghost use Rattle.model.specs.declared.messages.Mark.TheVariants.{Ready};
-    ghost use Rattle.queue.specs.Line.{ready_count, requeued, is_under, is_held_as, held_as, change_first, without_first, number_of};
+    ghost use Rattle.model.specs.Step.{by_channel, by_connection};
+    ghost use Rattle.queue.specs.Line.{ready_count, requeued, held_on, is_under, is_held_as, held_as, change_first, without_first, number_of};
 
     /// A queue with no message. It takes no memory.
     pub fn new(alloc: Global) -> Indexed
@@ -74,8 +72,7 @@ impl Indexed {
     {
         Indexed {
             slots: Vec::new(alloc),
-            ready: <Over<Over<Flat>>>::empty(alloc),
-            places: 0,
+            signs: Signs::empty(alloc),
             ready_count: 0,
             live: 0,
             arrived: 0,
@@ -89,15 +86,12 @@ impl Indexed {
         ensures room { OnOk result (more ≤ self.new.room) }
         ensures full { OnErr result (self.old.room < more) }
     {
-        if more <= self.places - self.slots.len() {
+        if more <= self.signs.places() - self.slots.len() {
             return Ok(());
         }
-        close_gaps(&mut self.slots, &mut self.ready, self.live);
+        close_gaps(&mut self.slots, &mut self.signs, self.live);
         self.slots.reserve(more)?;
-        let places = self.slots.capacity();
-        self.ready.grow(places)?;
-        self.places = places;
-        Ok(())
+        self.signs.grow(self.slots.capacity())
     }
 
     /// The message comes to the end of the queue and is ready. There is room for it.
@@ -106,7 +100,7 @@ impl Indexed {
         ensures entries { self.new.entries ≡ self.old.entries ++ record { message = message; mark = Ready } ∷ [] }
         ensures room { self.new.room + 1 ≡ self.old.room }
     {
-        self.ready.set(self.slots.len());
+        self.signs.set_ready(self.slots.len());
         append(
             &mut self.slots,
             self.arrived,
@@ -150,7 +144,7 @@ impl Indexed {
     pub fn first_ready(&self) -> Option<&Entry>
         ensures { option_map (λ e. e.now) result ≡ find is_ready self.now.entries }
     {
-        match self.ready.first() {
+        match self.signs.first_ready() {
             Some(place) => entry_at(&self.slots, place),
             None => None,
         }
@@ -164,10 +158,10 @@ impl Indexed {
         ensures entries { self.new.entries ≡ change_first is_ready (held_as holder) self.old.entries }
         ensures room { self.new.room ≡ self.old.room }
     {
-        match self.ready.first() {
+        match self.signs.first_ready() {
             None => None,
             Some(place) => {
-                self.ready.clear(place);
+                self.signs.set_held(place);
                 self.ready_count -= 1;
                 Some(hold_at(&mut self.slots, place, holder))
             }
@@ -180,10 +174,10 @@ impl Indexed {
         ensures entries { self.new.entries ≡ without_first is_ready self.old.entries }
         ensures room { self.new.room ≡ self.old.room }
     {
-        match self.ready.first() {
+        match self.signs.first_ready() {
             None => None,
             Some(place) => {
-                self.ready.clear(place);
+                self.signs.clear(place);
                 self.ready_count -= 1;
                 self.live -= 1;
                 take_at(&mut self.slots, place)
@@ -211,8 +205,8 @@ impl Indexed {
         match place_held(&self.slots, holder, arrival) {
             None => false,
             Some(place) => {
-                free_at(&mut self.slots, place, holder);
-                self.ready.set(place);
+                free_at(&mut self.slots, place);
+                self.signs.set_ready(place);
                 self.ready_count += 1;
                 true
             }
@@ -228,10 +222,37 @@ impl Indexed {
         match place_held(&self.slots, holder, arrival) {
             None => None,
             Some(place) => {
+                self.signs.clear(place);
                 self.live -= 1;
                 take_at(&mut self.slots, place)
             }
         }
+    }
+
+    /// What the channel of this connection held is ready again, each message in its place and marked redelivered. The
+    /// order and the number of messages stay. It takes no memory, no time for what is ready, and some for each message that
+    /// is held, on whatever channel.
+    pub fn requeue_channel(&mut self, connection: u64, channel: u16)
+        ensures entries { self.new.entries ≡ requeued (by_channel connection channel) self.old.entries }
+        ensures room { self.new.room ≡ self.old.room }
+    {
+        self.requeue(connection, Some(channel));
+    }
+
+    /// What this connection held, on whatever channel, is ready again as with `requeue_channel`.
+    pub fn requeue_connection(&mut self, connection: u64)
+        ensures entries { self.new.entries ≡ requeued (by_connection connection) self.old.entries }
+        ensures room { self.new.room ≡ self.old.room }
+    {
+        self.requeue(connection, None);
+    }
+
+    /// What was held on this channel, or without one on this connection, is ready again.
+    fn requeue(&mut self, connection: u64, channel: Option<u16>)
+        ensures entries { self.new.entries ≡ requeued (held_on connection channel) self.old.entries }
+        ensures room { self.new.room ≡ self.old.room }
+    {
+        self.ready_count += requeue_in(&mut self.slots, &mut self.signs, connection, channel);
     }
 
     /// Takes the ready messages out, and appends their publish numbers in the order of arrival. It takes time for each of

@@ -8,6 +8,7 @@
 mod entries;
 mod indexed;
 mod listed;
+mod signs;
 mod slots;
 
 pub use indexed::Indexed;

@@ -1,13 +1,14 @@
-//! Slots in the order of arrival, and which of them are ready.
+//! Slots in the order of arrival, and which of them are ready or held.
 
-ghost use Rattle.std.specs.Prelude.{◌≡◌, ◌+◌, ◌*◌, ◌<◌, ◌≤◌, ◌++◌, ◌∷◌, [], ℕ, false, true, length, get_or, vec_len, vec_capacity, slice_set, option_map, IfSome, IfNone, Some, None};
+ghost use Rattle.std.specs.Prelude.{◌≡◌, ◌+◌, ◌<◌, ◌≤◌, ◌++◌, ◌∷◌, [], ℕ, false, true, length, map, get_or, vec_len, vec_capacity, slice_set, option_map, IfSome, IfNone, Some, None};
 ghost use Rattle.model.specs.Broker.{is_ready};
 ghost use Rattle.model.specs.Step.{freed};
-ghost use Rattle.marks.specs.Places.{bit_of, Differs};
-ghost use Rattle.queue.specs.Line.{is_under, is_held_as, held_as};
-ghost use Rattle.queue.specs.Slots.{contents, somes, has, changed, num, AreMarked};
+ghost use Rattle.marks.specs.Places.{bit_of};
+ghost use Rattle.queue.specs.Line.{is_held_as, is_held_by, held_on, held_as, freed_now};
+ghost use Rattle.queue.specs.Slots.{contents, somes, has, changed, num, tally, is_held, AreSigned, Turned};
 
-use marks::{Flat, Over, Places};
+use crate::entries::{free, is_free, is_held_on, is_held_under};
+use crate::signs::Signs;
 use model::{Entry, Holder, Mark};
 
 /// One place of a queue: the number of the arrival there, and what arrived, until it goes.
@@ -17,53 +18,12 @@ pub(crate) struct Slot {
     pub(crate) entry: Option<Entry>,
 }
 
-/// A bit for each slot.
-pub(crate) type Marks = Over<Over<Flat>>;
-
-/// Whether the message was given out under this delivery tag of this channel.
-fn is_same(holder: &Holder, other: &Holder) -> bool
-    ensures { result ≡ is_under holder.now other.now }
-{
-    other.connection == holder.connection
-        && other.channel == holder.channel
-        && other.tag == holder.tag
-}
-
-/// Whether the entry is held so.
-fn is_held(entry: &Entry, holder: &Holder) -> bool
-    ensures { result ≡ is_held_as holder.now entry.now }
-{
-    match &entry.mark {
-        Mark::Ready => false,
-        Mark::Held(other) => is_same(holder, other),
-    }
-}
-
-/// Whether the entry is ready.
-fn is_free(entry: &Entry) -> bool
-    ensures { result ≡ is_ready entry.now }
-{
-    matches!(entry.mark, Mark::Ready)
-}
-
-/// Makes the entry ready again if it is held so.
-fn free_entry(entry: &mut Entry, holder: &Holder)
-    ensures { entry.new ≡ freed (is_under holder.now) entry.old }
-{
-    if let Mark::Held(other) = &entry.mark {
-        if is_same(holder, other) {
-            entry.mark = Mark::Ready;
-            entry.message.redeliver();
-        }
-    }
-}
-
-/// Makes what stands here ready again, if it is held so.
-fn free(entry: &mut Option<Entry>, holder: &Holder)
-    ensures { entry.new ≡ changed (freed (is_under holder.now)) entry.old }
+/// What stands here is ready again, and marked redelivered.
+fn free_here(entry: &mut Option<Entry>)
+    ensures { entry.new ≡ changed freed_now entry.old }
 {
     if let Some(entry) = entry {
-        free_entry(entry, holder);
+        free(entry);
     }
 }
 
@@ -76,36 +36,32 @@ fn hold(entry: &mut Option<Entry>, holder: Holder)
     }
 }
 
-/// What stands in this slot.
+/// What stands at this place, if anything does.
 pub(crate) fn entry_at(slots: &[Slot], place: usize) -> Option<&Entry>
-    requires { place < length slots.now }
     ensures { option_map (λ e. e.now) result ≡ get_or (contents slots.now) place None }
 {
-    slots[place].entry.as_ref()
-}
-
-/// Whether a ready entry stands at this place.
-fn is_ready_at(slots: &[Slot], place: usize) -> bool
-    ensures { result ≡ has is_ready (get_or (contents slots.now) place None) }
-{
     if place >= slots.len() {
-        return false;
+        return None;
     }
-    match entry_at(slots, place) {
-        Some(entry) => is_free(entry),
-        None => false,
-    }
+    slots[place].entry.as_ref()
 }
 
 /// Whether an entry that is held so stands at this place.
 fn is_held_at(slots: &[Slot], place: usize, holder: &Holder) -> bool
     ensures { result ≡ has (is_held_as holder.now) (get_or (contents slots.now) place None) }
 {
-    if place >= slots.len() {
-        return false;
-    }
     match entry_at(slots, place) {
-        Some(entry) => is_held(entry, holder),
+        Some(entry) => is_held_under(entry, holder),
+        None => false,
+    }
+}
+
+/// Whether an entry stands at this place that is held on this channel, or without one on this connection.
+fn is_on_at(slots: &[Slot], place: usize, connection: u64, channel: Option<u16>) -> bool
+    ensures { result ≡ has (is_held_by (held_on connection channel)) (get_or (contents slots.now) place None) }
+{
+    match entry_at(slots, place) {
+        Some(entry) => is_held_on(entry, connection, channel),
         None => false,
     }
 }
@@ -168,14 +124,14 @@ pub(crate) fn hold_at(slots: &mut Vec<Slot>, place: usize, holder: Holder) -> u6
     arrival_at(slots, place)
 }
 
-/// The entry in this slot is ready again, if it is held so.
-pub(crate) fn free_at(slots: &mut Vec<Slot>, place: usize, holder: &Holder)
+/// What stands in this slot is ready again, and marked redelivered.
+pub(crate) fn free_at(slots: &mut Vec<Slot>, place: usize)
     requires { place < vec_len slots.old }
-    ensures contents { contents slots.new.items ≡ slice_set (contents slots.old.items) place (changed (freed (is_under holder.now)) (get_or (contents slots.old.items) place None)) }
+    ensures contents { contents slots.new.items ≡ slice_set (contents slots.old.items) place (changed freed_now (get_or (contents slots.old.items) place None)) }
     ensures len { vec_len slots.new ≡ vec_len slots.old }
     ensures capacity { vec_capacity slots.new ≡ vec_capacity slots.old }
 {
-    free(&mut slots[place].entry, holder);
+    free_here(&mut slots[place].entry);
 }
 
 /// Empties this slot.
@@ -211,46 +167,104 @@ fn drop_empty(slots: &mut Vec<Slot>)
     slots.retain(|slot| slot.entry.is_some());
 }
 
-/// Sets the bit of this place as its slot is.
-fn mark(slots: &[Slot], ready: &mut Marks, place: usize)
-    requires { place < length ready.old * 64 }
-    ensures bit { Differs (bit_of ready.old) (bit_of ready.new) place (num (has is_ready (get_or (contents slots.now) place None))) }
-    ensures size { length ready.new ≡ length ready.old }
+/// Sets the bits of this place as its slot is.
+fn sign(slots: &[Slot], signs: &mut Signs, place: usize)
+    requires { place < signs.old.places }
+    ensures { Turned signs.old signs.new place (num (has is_ready (get_or (contents slots.now) place None))) (num (has is_held (get_or (contents slots.now) place None))) }
 {
-    if is_ready_at(slots, place) {
-        ready.set(place);
-    } else {
-        ready.clear(place);
+    match entry_at(slots, place) {
+        None => signs.clear(place),
+        Some(entry) => {
+            if is_free(entry) {
+                signs.set_ready(place);
+            } else {
+                signs.set_held(place);
+            }
+        }
     }
 }
 
 /// Sets the bits below `places` as their slots are.
-fn mark_all(slots: &[Slot], ready: &mut Marks, places: usize)
-    requires within { places ≤ length ready.old * 64 }
+fn sign_all(slots: &[Slot], signs: &mut Signs, places: usize)
+    requires within { places ≤ signs.old.places }
     requires slots { length slots.now ≤ places }
-    requires rest { (k : ℕ) → places ≤ k → bit_of ready.old k ≡ 0 }
-    ensures marked { AreMarked (contents slots.now) (bit_of ready.new) }
-    ensures size { length ready.new ≡ length ready.old }
+    requires ready { (k : ℕ) → places ≤ k → bit_of signs.old.ready k ≡ 0 }
+    requires held { (k : ℕ) → places ≤ k → bit_of signs.old.held k ≡ 0 }
+    ensures signed { AreSigned (contents slots.now) signs.new }
+    ensures places { signs.new.places ≡ signs.old.places }
 {
     for place in 0..places {
-        mark(slots, ready, place);
+        sign(slots, signs, place);
     }
 }
 
-/// Closes the gaps, where more than half of the slots are empty: then none is empty any more. Each has its bit.
-pub(crate) fn close_gaps(slots: &mut Vec<Slot>, ready: &mut Marks, live: usize)
-    requires within { vec_len slots.old ≤ length ready.old * 64 }
-    requires marked { AreMarked (contents slots.old.items) (bit_of ready.old) }
-    ensures marked { AreMarked (contents slots.new.items) (bit_of ready.new) }
+/// Closes the gaps, where more than half of the slots are empty: then none is empty any more. Each has its bits.
+pub(crate) fn close_gaps(slots: &mut Vec<Slot>, signs: &mut Signs, live: usize)
+    requires within { vec_len slots.old ≤ signs.old.places }
+    requires signed { AreSigned (contents slots.old.items) signs.old }
+    ensures signed { AreSigned (contents slots.new.items) signs.new }
     ensures entries { somes (contents slots.new.items) ≡ somes (contents slots.old.items) }
     ensures len { vec_len slots.new ≤ vec_len slots.old }
     ensures capacity { vec_capacity slots.new ≡ vec_capacity slots.old }
-    ensures size { length ready.new ≡ length ready.old }
+    ensures places { signs.new.places ≡ signs.old.places }
 {
     let places = slots.len();
     if live > places / 2 {
         return;
     }
     drop_empty(slots);
-    mark_all(slots, ready, places);
+    sign_all(slots, signs, places);
+}
+
+/// Makes what stands at this place ready again, if it is held there. Tells whether it is.
+fn free_on(
+    slots: &mut Vec<Slot>,
+    signs: &mut Signs,
+    place: usize,
+    connection: u64,
+    channel: Option<u16>,
+) -> bool
+    requires within { vec_len slots.old ≤ signs.old.places }
+    requires signed { AreSigned (contents slots.old.items) signs.old }
+    ensures contents { contents slots.new.items ≡ slice_set (contents slots.old.items) place (changed (freed (held_on connection channel)) (get_or (contents slots.old.items) place None)) }
+    ensures ready { tally is_ready (somes (contents slots.new.items)) ≡ tally is_ready (somes (contents slots.old.items)) + num result }
+    ensures signed { AreSigned (contents slots.new.items) signs.new }
+    ensures places { signs.new.places ≡ signs.old.places }
+    ensures len { vec_len slots.new ≡ vec_len slots.old }
+    ensures capacity { vec_capacity slots.new ≡ vec_capacity slots.old }
+{
+    if !is_on_at(slots, place, connection, channel) {
+        return false;
+    }
+    free_at(slots, place);
+    signs.set_ready(place);
+    true
+}
+
+/// Makes all ready again that is held on this channel, or without one on this connection. Tells how many there are. It
+/// takes time for each entry that is held by anyone, and none for those that are ready.
+pub(crate) fn requeue_in(
+    slots: &mut Vec<Slot>,
+    signs: &mut Signs,
+    connection: u64,
+    channel: Option<u16>,
+) -> usize
+    requires within { vec_len slots.old ≤ signs.old.places }
+    requires signed { AreSigned (contents slots.old.items) signs.old }
+    ensures contents { contents slots.new.items ≡ map (changed (freed (held_on connection channel))) (contents slots.old.items) }
+    ensures ready { tally is_ready (somes (contents slots.new.items)) ≡ tally is_ready (somes (contents slots.old.items)) + result }
+    ensures signed { AreSigned (contents slots.new.items) signs.new }
+    ensures places { signs.new.places ≡ signs.old.places }
+    ensures len { vec_len slots.new ≡ vec_len slots.old }
+    ensures capacity { vec_capacity slots.new ≡ vec_capacity slots.old }
+{
+    let mut count = 0;
+    let mut from = 0;
+    while let Some(place) = signs.next_held(from) {
+        if free_on(slots, signs, place, connection, channel) {
+            count += 1;
+        }
+        from = place + 1;
+    }
+    count
 }

@@ -8,5 +8,5 @@ pub loop-entry-preserved : goal.loop-entry-preserved
 loop-entry-preserved c =
     let same = c.loop-entry.auto.entries in
     let within : c.loop-entry.entry-index < length c.loop-entry.entries = omega arith in
-    changed_next (freed (held_on c.args.connection c.args.channel)) c.loop-entry.entries c.args.entries.now c.loop-entry.entry-index (c.loop-entry.entry-index + 1) c.free.new.entry c.entry-item.result
-    (omega arith) within c.entry-item.is c.loop-entry.invariant c.free.ensures
+    changed_next (freed (held_on c.args.connection c.args.channel)) c.loop-entry.entries c.args.entries.now c.loop-entry.entry-index (c.loop-entry.entry-index + 1) c.free_if.new.entry c.entry-item.result
+    (omega arith) within c.entry-item.is c.loop-entry.invariant c.free_if.ensures

@@ -5,9 +5,8 @@ use Rattle.model.specs.Step.{freed}
 use Rattle.model.specs.declared.messages.Entry.{Entry}
 use Rattle.model.specs.declared.messages.Mark.TheVariants.{Ready}
 use Rattle.queue.specs.Line.{Line, ready_count, requeued, is_under, is_held_as, held_as, change_first, without_first}
-use Rattle.queue.specs.Slots.{contents, somes, has, changed}
+use Rattle.queue.specs.Slots.{contents, somes, has, changed, Turned}
 use Rattle.queue.specs.declared.slots.Slot.{Slot}
-use Rattle.marks.specs.Places.{Differs, bit_of}
 use Rattle.queue.proofs.Places.{somes-append, tally-filter, change_at, remove_at, find_at, some_at, none_found, none_changed, none_removed, none_mapped, none_left_out, only_first, only_mapped, only_left_out}
 use Rattle.queue.proofs.Slotted.{more_places, first_by_marks, none_by_marks, hold_shows, take_shows, release_shows, remove_shows, push_shows, ready_least, held_least, only_held, counts_most, same_places, contents-length, freed_same}
 use Rattle.queue.proofs.indexed.Indexed.push.Goals as goal
@@ -31,8 +30,8 @@ pub invariant_of-self : goal.invariant_of-self
 invariant_of-self c =
     let l : vec_len c.self.inside.slots ≡ length c.self.inside.slots.items = search rules in
     let n : c.len.result ≡ length (contents c.self.inside.slots.items) = c.len.ensures ∙ l ∙ sym (contents-length c.self.inside.slots.items) in (
-      push_shows _ _ _ _ _ _ _ _ c.args.message c.self.invariant.0 (subst (λ (k : ℕ). Differs (bit_of c.self.inside.ready) (bit_of c.set.new.self) k 1) n c.set.ensures.set) c.append.ensures.contents refl refl,
-      more_places _ _ _ _ _ _ _ c.self.invariant.1 (subst (λ (l : Line). 0 < l.room) (sym c.self.view_is) c.requires) c.append.ensures.len c.append.ensures.capacity c.set.ensures.size,
+      push_shows _ _ _ _ _ _ _ _ c.args.message c.self.invariant.0 (subst (λ (k : ℕ). Turned c.self.inside.signs c.set_ready.new.self k 1 0) n c.set_ready.ensures) c.append.ensures.contents refl refl,
+      more_places _ _ _ _ _ _ c.self.invariant.1 (subst (λ (l : Line). 0 < l.room) (sym c.self.view_is) c.requires) c.append.ensures.len c.append.ensures.capacity c.set_ready.ensures.places,
     )
 
 pub returns-clause-entries : goal.returns-clause-entries

@@ -8,7 +8,8 @@ use Rattle.queue.specs.Line.{Line, ready_count, requeued, is_under, is_held_as, 
 use Rattle.queue.specs.Slots.{contents, somes, has, changed}
 use Rattle.queue.specs.declared.slots.Slot.{Slot}
 use Rattle.queue.proofs.Places.{tally-filter, change_at, remove_at, find_at, some_at, none_found, none_changed, none_removed, none_mapped, none_left_out, only_first, only_mapped, only_left_out}
-use Rattle.queue.proofs.Slotted.{first_by_marks, none_by_marks, hold_shows, take_shows, release_shows, remove_shows, push_shows, ready_least, held_least, only_held, counts_most, same_places, contents-length, freed_same}
+use Rattle.queue.proofs.Slotted.{first_by_marks, none_by_marks, hold_shows, take_shows, release_shows, remove_shows, push_shows, ready_least, held_least, only_held, counts_most, same_places, contents-length, freed_same, slot_freed}
+use Rattle.std.proofs.Math.ListN.{set}
 use Rattle.queue.proofs.Places.{NonePasses}
 use Rattle.queue.proofs.indexed.Indexed.release.Goals as goal
 
@@ -23,8 +24,8 @@ overflow_add-self c =
 pub invariant_of-self : goal.invariant_of-self
 invariant_of-self c =
     let t = subst (λ (ss : List Slot). has (is_held_as c.args.holder.now) (get_or (contents ss) c.in-Some.place None) ≡ true) c.deref.ensures.value c.in-Some.ensures.some in (
-      release_shows _ _ _ _ _ _ _ _ c.args.holder.now c.self.invariant.0 t c.set.ensures.set c.free_at.ensures.contents refl,
-      same_places _ _ _ _ _ _ _ c.self.invariant.1 c.free_at.ensures.len c.free_at.ensures.capacity c.set.ensures.size,
+      release_shows _ _ _ _ _ _ _ _ c.args.holder.now c.self.invariant.0 t c.set_ready.ensures c.free_at.ensures.contents refl,
+      same_places _ _ _ _ _ _ c.self.invariant.1 c.free_at.ensures.len c.free_at.ensures.capacity c.set_ready.ensures.places,
     )
 
 pub returns-in-None-clause-told : goal.returns-in-None-clause-told
@@ -37,7 +38,7 @@ pub returns-in-None-clause-entries : goal.returns-in-None-clause-entries
 returns-in-None-clause-entries c =
     let n : NonePasses (is_held_as c.args.holder.now) (contents c.deref.result.now) = record { no = c.in-None.ensures.none } in
     subst (λ (l : Line). l.entries ≡ requeued (is_under c.args.holder.now) l.entries) c.self.view_is
-    (sym (none_mapped _ _ (freed_same c.args.holder.now) _ (subst (λ (ss : List Slot). NonePasses (is_held_as c.args.holder.now) (contents ss)) c.deref.ensures.value n)))
+    (sym (none_mapped _ _ (freed_same (is_under c.args.holder.now)) _ (subst (λ (ss : List Slot). NonePasses (is_held_as c.args.holder.now) (contents ss)) c.deref.ensures.value n)))
 
 pub returns-in-Some-clause-told : goal.returns-in-Some-clause-told
 returns-in-Some-clause-told c =
@@ -49,4 +50,4 @@ pub returns-in-Some-clause-entries : goal.returns-in-Some-clause-entries
 returns-in-Some-clause-entries c =
     let t = subst (λ (ss : List Slot). has (is_held_as c.args.holder.now) (get_or (contents ss) c.in-Some.place None) ≡ true) c.deref.ensures.value c.in-Some.ensures.some in
     subst (λ (l : Line). somes (contents c.free_at.new.slots.items) ≡ requeued (is_under c.args.holder.now) l.entries) c.self.view_is
-    (ap somes c.free_at.ensures.contents ∙ sym (only_mapped _ _ (freed_same c.args.holder.now) _ _ (only_held _ _ _ _ _ c.args.holder.now c.self.invariant.0 t)))
+    (ap somes (c.free_at.ensures.contents ∙ ap (λ (o : Option Entry). set (contents c.self.inside.slots.items) c.in-Some.place o) (sym (slot_freed (is_under c.args.holder.now) _ t))) ∙ sym (only_mapped _ _ (freed_same (is_under c.args.holder.now)) _ _ (only_held _ _ _ _ _ c.args.holder.now c.self.invariant.0 t)))

@@ -20,22 +20,22 @@ overflow_sub-self-in-Some c = (ready_least _ _ _ _ _ c.self.invariant.0 c.in-Som
 pub invariant_of-self : goal.invariant_of-self
 invariant_of-self c =
     let least = ready_least _ _ _ _ _ c.self.invariant.0 c.in-Some.ensures.some in (
-      take_shows _ _ _ _ _ _ _ _ _ c.self.invariant.0 c.in-Some.ensures.some c.clear.ensures.cleared c.take_at.ensures.contents (omega (arith, least.0)) (omega (arith, least.1)),
-      same_places _ _ _ _ _ _ _ c.self.invariant.1 c.take_at.ensures.len c.take_at.ensures.capacity c.clear.ensures.size,
+      take_shows _ _ _ _ _ _ _ _ _ c.self.invariant.0 c.in-Some.ensures.some c.clear.ensures c.take_at.ensures.contents (omega (arith, least.0)) (omega (arith, least.1)),
+      same_places _ _ _ _ _ _ c.self.invariant.1 c.take_at.ensures.len c.take_at.ensures.capacity c.clear.ensures.places,
     )
 
 pub returns-in-None-clause-taken : goal.returns-in-None-clause-taken
 returns-in-None-clause-taken c = subst (λ (l : Line). ◌≡◌ {A = Option Entry} None (find is_ready l.entries)) c.self.view_is
-    (sym (none_found is_ready _ (none_by_marks _ _ c.self.invariant.0.marked c.in-None.ensures.none)))
+    (sym (none_found is_ready _ (none_by_marks is_ready _ _ c.self.invariant.0.signed.ready c.in-None.ensures.none)))
 
 pub returns-in-None-clause-entries : goal.returns-in-None-clause-entries
 returns-in-None-clause-entries c = subst (λ (l : Line). l.entries ≡ without_first is_ready l.entries) c.self.view_is
-    (sym (none_removed is_ready _ (none_by_marks _ _ c.self.invariant.0.marked c.in-None.ensures.none)))
+    (sym (none_removed is_ready _ (none_by_marks is_ready _ _ c.self.invariant.0.signed.ready c.in-None.ensures.none)))
 
 pub returns-in-Some-clause-taken : goal.returns-in-Some-clause-taken
 returns-in-Some-clause-taken c = subst (λ (l : Line). c.take_at.result ≡ find is_ready l.entries) c.self.view_is
-    (c.take_at.ensures.taken ∙ sym (find_at is_ready _ _ (first_by_marks _ _ _ c.self.invariant.0.marked c.in-Some.ensures.some)))
+    (c.take_at.ensures.taken ∙ sym (find_at is_ready _ _ (first_by_marks is_ready _ _ _ c.self.invariant.0.signed.ready c.in-Some.ensures.some)))
 
 pub returns-in-Some-clause-entries : goal.returns-in-Some-clause-entries
 returns-in-Some-clause-entries c = subst (λ (l : Line). somes (contents c.take_at.new.slots.items) ≡ without_first is_ready l.entries) c.self.view_is
-    (ap somes c.take_at.ensures.contents ∙ sym (remove_at is_ready _ _ (first_by_marks _ _ _ c.self.invariant.0.marked c.in-Some.ensures.some)))
+    (ap somes c.take_at.ensures.contents ∙ sym (remove_at is_ready _ _ (first_by_marks is_ready _ _ _ c.self.invariant.0.signed.ready c.in-Some.ensures.some)))

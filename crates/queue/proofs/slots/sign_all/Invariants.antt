@@ -1,0 +1,7 @@
+use Rattle.std.proofs.Common.{◌≡◌}
+use Rattle.queue.specs.Slots.{contents}
+use Rattle.queue.proofs.Slotted.{SignedBelow}
+use Rattle.queue.proofs.slots.sign_all.Given as goal
+
+abbrev pub invariant-loop-place : goal.invariant-loop-place
+invariant-loop-place l = SignedBelow (contents l.slots) l.signs l.place l.places × (l.signs.places ≡ l.initial.signs.places)

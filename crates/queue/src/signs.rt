@@ -1,0 +1,111 @@
+//! Which slots have a ready message, and which one that is held.
+
+ghost use Rattle.std.specs.Prelude.{◌≡◌};
+
+use marks::{Flat, Over, Places};
+use std::alloc::{AllocError, Global};
+use std::marker::Model;
+
+/// A bit for each slot.
+type Marks = Over<Over<Flat>>;
+
+/// Two sets of slots: those with a ready message, and those with one that is held.
+#[derive(Drop)]
+pub(crate) struct Signs {
+    ready: Marks,
+    held: Marks,
+    /// Both sets have room for the slots below this.
+    places: usize,
+}
+
+impl Model for Signs {
+    ghost use Rattle.std.specs.Prelude.{◌≤◌, ◌*◌, length};
+    ghost use Rattle.queue.specs.Slots.{Bits};
+
+    ghost Value = { Bits };
+
+    ghost view = { λ s. record { ready = s.ready; held = s.held; places = s.places } };
+
+    ghost invariant = { λ s. (s.places ≤ length s.ready * 64) × (s.places ≤ length s.held * 64) };
+}
+
+impl Signs {
+    ghost use Rattle.std.specs.Prelude.{◌≡◌, ◌<◌, ◌≤◌, ℕ, OnOk, OnErr, IfSome, IfNone};
+    ghost use Rattle.marks.specs.Places.{bit_of, IsNext};
+    ghost use Rattle.queue.specs.Slots.{SameBits, Turned};
+
+    /// Two empty sets, with room for no slot. It takes no memory.
+    pub(crate) fn empty(alloc: Global) -> Signs
+        ensures ready { (k : ℕ) → bit_of result.ready k ≡ 0 }
+        ensures held { (k : ℕ) → bit_of result.held k ≡ 0 }
+        ensures places { result.places ≡ 0 }
+    {
+        Signs {
+            ready: <Over<Over<Flat>>>::empty(alloc),
+            held: <Over<Over<Flat>>>::empty(alloc),
+            places: 0,
+        }
+    }
+
+    /// Makes room for the slots below this. What is in the sets stays, also where memory is wanting.
+    pub(crate) fn grow(&mut self, places: usize) -> Result<(), AllocError>
+        ensures same { SameBits self.old self.new }
+        ensures room { OnOk result (self.new.places ≡ places) }
+        ensures kept { OnErr result (self.new.places ≡ self.old.places) }
+    {
+        self.ready.grow(places)?;
+        self.held.grow(places)?;
+        self.places = places;
+        Ok(())
+    }
+
+    /// How many slots there is room for.
+    pub(crate) fn places(&self) -> usize
+        ensures { result ≡ self.now.places }
+    {
+        self.places
+    }
+
+    /// The first slot with a ready message.
+    pub(crate) fn first_ready(&self) -> Option<usize>
+        ensures some { IfSome result (λ place. IsNext (bit_of self.now.ready) 0 place) }
+        ensures none { IfNone result ((k : ℕ) → bit_of self.now.ready k ≡ 0) }
+    {
+        self.ready.first()
+    }
+
+    /// The first slot with a message that is held, of those from `from` on.
+    pub(crate) fn next_held(&self, from: usize) -> Option<usize>
+        ensures some { IfSome result (λ place. IsNext (bit_of self.now.held) from place) }
+        ensures none { IfNone result ((k : ℕ) → from ≤ k → bit_of self.now.held k ≡ 0) }
+    {
+        self.held.next(from)
+    }
+
+    /// A ready message stands in the slot.
+    pub(crate) fn set_ready(&mut self, place: usize)
+        requires { place < self.old.places }
+        ensures { Turned self.old self.new place 1 0 }
+    {
+        self.ready.set(place);
+        self.held.clear(place);
+    }
+
+    /// A message that is held stands in the slot.
+    pub(crate) fn set_held(&mut self, place: usize)
+        requires { place < self.old.places }
+        ensures { Turned self.old self.new place 0 1 }
+    {
+        self.ready.clear(place);
+        self.held.set(place);
+    }
+
+    /// Nothing stands in the slot.
+    pub(crate) fn clear(&mut self, place: usize)
+        requires { place < self.old.places }
+        ensures { Turned self.old self.new place 0 0 }
+    {
+        self.ready.clear(place);
+        self.held.clear(place);
+    }
+}
