@@ -1,6 +1,5 @@
 -- Slots made ready again one after another.
-use Rattle.std.proofs.Common.{◌≡◌, ℕ, zero, suc, ◌+◌, ◌-◌, ◌<◌, ◌≤◌, List, [], ◌∷◌, length, get_or, map, refl, sym, ap, ◌∙◌, subst, arith, Bool, true, false, Option, Some, None, inl, inr}
-use Rattle.std.proofs.lemmas.Bool.{false≢true}
+use Rattle.std.proofs.Common.{◌≡◌, ℕ, zero, suc, ◌+◌, ◌<◌, ◌≤◌, List, [], ◌∷◌, length, get_or, map, refl, sym, ap, ◌∙◌, subst, arith, Bool, true, false, Option, Some, None, inl, inr}
 use Rattle.std.proofs.lemmas.Bool.Decides.{eqb_tells, leb_tells}
 use Rattle.std.proofs.Math.ListN.{set}
 use Rattle.std.proofs.lemmas.List.{get_or-set_same, get_or-set_other}
@@ -9,10 +8,10 @@ use Rattle.model.specs.Step.{freed}
 use Rattle.model.specs.declared.messages.Entry.{Entry}
 use Rattle.model.specs.declared.messages.Holder.{Holder}
 use Rattle.marks.specs.Places.{IsNext, bit_of}
-use Rattle.queue.specs.Line.{is_under, is_held_by, is_held_as, freed_now}
-use Rattle.queue.specs.Slots.{somes, has, changed, num, tally, is_held, Bits, AreMarked, AreSigned, Shows}
+use Rattle.queue.specs.Line.{is_held_by, is_held_as, freed_now}
+use Rattle.queue.specs.Slots.{somes, has, changed, num, tally, is_held, Bits, AreSigned, Shows}
 use Rattle.queue.proofs.Places.{num-some, num-none, within, count-set}
-use Rattle.queue.proofs.Slotted.{freed_there, freed_same, slot_freed, slot_same, unheld, ready_not_held, held_not_ready, now_free}
+use Rattle.queue.proofs.Slotted.{freed_there, freed_same, slot_same, unheld, held_not_ready, now_free}
 
 -- ---- a change that, made twice, is as made once
 

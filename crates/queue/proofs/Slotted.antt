@@ -13,10 +13,10 @@ use Rattle.model.specs.declared.messages.Holder.{Holder}
 use Rattle.model.specs.declared.messages.Mark.{Mark}
 use Rattle.model.specs.declared.messages.Mark.TheVariants.{Ready, Held}
 use Rattle.marks.specs.Places.{IsNext, Differs, bit_of}
-use Rattle.queue.specs.Line.{is_under, is_held_by, is_held_as, held_as, freed_now, change_first, without_first, requeued, ready_count, number_of}
+use Rattle.queue.specs.Line.{is_under, is_held_by, is_held_as, held_as, freed_now, without_first, ready_count, number_of}
 use Rattle.queue.specs.declared.slots.Slot.{Slot}
-use Rattle.queue.specs.Slots.{somes, has, changed, num, tally, is_held, Bits, SameBits, Turned, AreMarked, AreSigned, Shows, HasPlaces, contents}
-use Rattle.queue.proofs.Places.{num-some, num-none, within, FirstAt, change_at, remove_at, find_at, some_at, NonePasses, none_found, none_changed, none_removed, none_mapped, none_left_out, counted, tally-most, somes-most, count-set, length-set, somes-append, count-fewer, OnlyAt, only_first, only_mapped, only_left_out}
+use Rattle.queue.specs.Slots.{somes, has, changed, num, tally, is_held, Bits, Turned, AreMarked, AreSigned, Shows, HasPlaces, contents}
+use Rattle.queue.proofs.Places.{num-some, num-none, within, FirstAt, NonePasses, counted, tally-most, somes-most, count-set, length-set, count-fewer, OnlyAt}
 
 -- ---- one entry
 

@@ -1,5 +1,5 @@
 -- Slots in the order of arrival, of which some are empty (own).
-use Rattle.std.specs.Prelude.{◌≡◌, ℕ, ◌≤◌, ◌+◌, List, [], ◌∷◌, length, map, Bool, true, false, cond, not, Option, Some, None, get_or}
+use Rattle.std.specs.Prelude.{◌≡◌, ℕ, ◌≤◌, ◌+◌, List, [], ◌∷◌, length, map, Bool, false, cond, not, Option, Some, None, get_or}
 use Rattle.model.specs.Broker.{is_ready}
 use Rattle.model.specs.declared.messages.Entry.{Entry}
 use Rattle.model.specs.declared.messages.Holder.{Holder}

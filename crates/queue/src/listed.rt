@@ -69,7 +69,7 @@ impl Queue {
     pub fn push(&mut self, message: Message)
         requires { 0 < self.old.room }
         ensures entries { self.new.entries ≡ self.old.entries ++ record { message = message; mark = Ready } ∷ [] }
-        ensures room { self.old.room ≤ self.new.room + 1 }
+        ensures room { self.new.room + 1 ≡ self.old.room }
     {
         self.entries.push_reserved(Entry {
             message,
@@ -100,7 +100,7 @@ impl Queue {
     /// order and the number of messages stay. It takes no memory, and no time where nothing is held.
     pub fn requeue_channel(&mut self, connection: u64, channel: u16)
         ensures entries { self.new.entries ≡ requeued (by_channel connection channel) self.old.entries }
-        ensures room { self.old.room ≤ self.new.room }
+        ensures room { self.new.room ≡ self.old.room }
     {
         self.held = requeue(&mut self.entries, self.held, connection, Some(channel));
     }
@@ -108,7 +108,7 @@ impl Queue {
     /// What this connection held, on whatever channel, is ready again as with `requeue_channel`.
     pub fn requeue_connection(&mut self, connection: u64)
         ensures entries { self.new.entries ≡ requeued (by_connection connection) self.old.entries }
-        ensures room { self.old.room ≤ self.new.room }
+        ensures room { self.new.room ≡ self.old.room }
     {
         self.held = requeue(&mut self.entries, self.held, connection, None);
     }

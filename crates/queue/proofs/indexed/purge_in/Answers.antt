@@ -1,7 +1,7 @@
-use Rattle.std.proofs.Common.{◌≡◌, ℕ, ◌∙◌, ◌++◌, ◌∷◌, [], ◌+◌, ◌<◌, sym, ap, arith, List, map, filter, not, None, find}
+use Rattle.std.proofs.Common.{◌≡◌, ℕ, ◌∙◌, ◌++◌, ◌∷◌, [], ◌<◌, sym, ap, arith, List, map, filter, not, None, find}
 use Rattle.model.specs.Broker.{is_ready}
 use Rattle.model.specs.declared.messages.Entry.{Entry}
-use Rattle.queue.specs.Line.{number_of, ready_count, without_first}
+use Rattle.queue.specs.Line.{number_of, ready_count}
 use Rattle.queue.proofs.Slotted.{purged_more, ready_less, rest_filtered, none_left}
 use Rattle.queue.proofs.Purging.{purged_all}
 use Rattle.queue.proofs.indexed.purge_in.Goals as goal

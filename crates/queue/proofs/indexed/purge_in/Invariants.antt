@@ -1,4 +1,4 @@
-use Rattle.std.proofs.Common.{◌≡◌, ◌++◌, ◌+◌, ◌≤◌, map, filter, not, length, vec_len, vec_capacity}
+use Rattle.std.proofs.Common.{◌≡◌, ◌++◌, ◌+◌, ◌≤◌, map, filter, not, vec_len, vec_capacity}
 use Rattle.model.specs.Broker.{is_ready}
 use Rattle.queue.specs.Line.{number_of, ready_count}
 use Rattle.queue.proofs.indexed.purge_in.Given as goal

@@ -1,4 +1,4 @@
-use Rattle.std.proofs.Common.{◌≡◌, ◌+◌, ◌∙◌, sym, ap, subst, rules, true, length, get_or, vec_len, None, List, Option}
+use Rattle.std.proofs.Common.{◌≡◌, ◌∙◌, sym, ap, subst, true, get_or, None, List, Option}
 use Rattle.model.specs.Broker.{is_ready}
 use Rattle.queue.specs.Line.{is_held_by, held_on}
 use Rattle.queue.specs.Slots.{contents, somes, has, tally, AreSigned}

@@ -1,4 +1,4 @@
-use Rattle.std.proofs.Common.{◌≡◌, ℕ, ◌+◌, ◌∙◌, sym, ap, subst, rules, arith, length, vec_len}
+use Rattle.std.proofs.Common.{◌≡◌, ◌+◌, ◌∙◌, ap, rules, arith, length, vec_len}
 use Rattle.model.specs.Broker.{is_ready}
 use Rattle.queue.specs.Slots.{contents, somes, num}
 use Rattle.queue.proofs.Places.{tally-most, somes-most}

@@ -1,7 +1,4 @@
-use Rattle.std.proofs.Common.{◌<◌, arith, rules, length, None}
-use Rattle.model.specs.Step.{freed}
-use Rattle.queue.specs.Line.{is_under, held_as}
-use Rattle.queue.specs.Slots.{changed}
+use Rattle.std.proofs.Common.{rules, None}
 use Rattle.queue.proofs.Slotted.{contents-written}
 use Rattle.queue.proofs.slots.take_at.Goals as goal
 

@@ -1,4 +1,4 @@
-use Rattle.std.proofs.Common.{◌≡◌, ◌+◌, ◌∙◌, sym, ap, subst, rules, arith, length, vec_len, refl}
+use Rattle.std.proofs.Common.{◌≡◌, ◌∙◌, ap, subst, rules, arith, length, vec_len, refl}
 use Rattle.queue.specs.Line.{Line, held_on, requeued}
 use Rattle.queue.specs.Slots.{contents, somes}
 use Rattle.model.specs.Broker.{is_ready}
@@ -19,9 +19,9 @@ overflow_add-self c =
 
 pub invariant_of-self : goal.invariant_of-self
 invariant_of-self c = (
-      requeue_shows (held_on c.args.connection c.args.channel) _ _ _ _ _ _ _ _ c.self.invariant.0 c.requeue_in.ensures.contents c.requeue_in.ensures.ready refl c.requeue_in.ensures.signed,
-      same_places _ _ _ _ _ _ c.self.invariant.1 c.requeue_in.ensures.len c.requeue_in.ensures.capacity c.requeue_in.ensures.places,
-    )
+  requeue_shows (held_on c.args.connection c.args.channel) _ _ _ _ _ _ _ _ c.self.invariant.0 c.requeue_in.ensures.contents c.requeue_in.ensures.ready refl c.requeue_in.ensures.signed,
+  same_places _ _ _ _ _ _ c.self.invariant.1 c.requeue_in.ensures.len c.requeue_in.ensures.capacity c.requeue_in.ensures.places,
+)
 
 pub returns-clause-entries : goal.returns-clause-entries
 returns-clause-entries c = subst (λ (l : Line). somes (contents c.requeue_in.new.slots.items) ≡ requeued (held_on c.args.connection c.args.channel) l.entries) c.self.view_is
