@@ -1,18 +1,18 @@
 -- What an open channel keeps of its deliveries.
 use Rattle.std.specs.Prelude.{◌≡◌, ◌<◌, ◌≤◌, ℕ, List, [], ◌∷◌, ◌++◌, length, filter, find, not, Bool, true, false, ◌==◌, ◌&&◌, if◌then◌else◌, ◌+◌, Option, Some, None, Result, Ok, Err}
-use Rattle.std.specs.Str.{bytes_eq}
 use Rattle.std.specs.List.{list_any}
 use Rattle.model.specs.Words.{Text}
 use Rattle.model.specs.Step.{greatest}
 use Rattle.model.specs.Prefetch.{may_hold, has_tag_left}
 use Rattle.model.specs.declared.messages.Taker.{Taker}
 use Rattle.channel.specs.Outstanding.{taker_of}
+use Rattle.channel.specs.Seats.{is_named}
 use Rattle.channel.specs.declared.pending.Outstanding.{Outstanding}
 use Rattle.channel.specs.declared.consumers.Consumer.{Consumer}
 use Rattle.channel.specs.declared.consumers.Refusal.{Refusal}
 use Rattle.channel.specs.declared.consumers.Refusal.TheVariants.{InUse, TooMany, Spent, Memory}
 
--- delivery tags, limits, consumers, what is outstanding, and how many messages more can be given out without memory
+-- delivery tags, limits, consumers, what is outstanding, and how many messages more can be given out, and how many consumers more be made, without memory
 pub record Given : Type 0 where
   pub next_tag : ℕ
   -- consumers are numbered as they are made, and no number is used again
@@ -24,6 +24,7 @@ pub record Given : Type 0 where
   -- in the order of their tags
   pub outstanding : List Outstanding
   pub room : ℕ
+  pub seats : ℕ
 
 -- a message is given out under the next tag, and is outstanding (AMQP 0-9-1, basic.deliver, basic.get-ok)
 abbrev pub with_given : Given → ℕ → ℕ → Taker → ℕ → Given
@@ -32,10 +33,6 @@ with_given g queue arrival by room = record g { next_tag = g.next_tag + 1; outst
 -- a limit is set: of all consumers of the channel together, or of each that is made later (RabbitMQ, "Consumer Prefetch", global)
 abbrev pub with_limit : Given → ℕ → Bool → Given
 with_limit g count global = if global then record g { limit = count } else record g { each_limit = count }
-
--- the consumer has this tag
-abbrev pub has_name : Text → Consumer → Bool
-has_name name c = bytes_eq c.tag name
 
 -- this consumer, if there is one, may be given one message more under this limit of the channel
 abbrev pub may_of : ℕ → List Outstanding → Option Consumer → Bool
@@ -47,17 +44,17 @@ abbrev pub may_take : Given → ℕ → Bool
 may_take g number = has_tag_left g.next_tag && may_of g.limit g.outstanding (find (λ (c : Consumer). c.number == number) g.consumers)
 
 -- one consumer more, under the next number and the limit set for each (AMQP 0-9-1, basic.consume)
-abbrev pub with_consumer : Given → Text → ℕ → Bool → Given
-with_consumer g name queue no_ack = record g { next_number = g.next_number + 1; consumers = g.consumers ++ record { number = g.next_number; tag = name; queue = queue; no_ack = no_ack; limit = g.each_limit } ∷ [] }
+abbrev pub with_consumer : Given → Text → ℕ → Bool → ℕ → Given
+with_consumer g name queue no_ack seats = record g { seats = seats; next_number = g.next_number + 1; consumers = g.consumers ++ record { number = g.next_number; tag = name; queue = queue; no_ack = no_ack; limit = g.each_limit } ∷ [] }
 
--- why a consumer was refused, in this order: its tag is in use on the channel; there are 256 (own); the numbers are spent
+-- why a consumer was refused, in this order: its tag is in use on the channel; there are 256 (own); the numbers are spent; memory was wanting, where there was no room for one more
 abbrev pub Refuses : Given → Text → Refusal → Type 0
-Refuses g name InUse = list_any (has_name name) g.consumers ≡ true
-Refuses g name TooMany = (list_any (has_name name) g.consumers ≡ false) × (256 ≤ length g.consumers)
-Refuses g name Spent = (list_any (has_name name) g.consumers ≡ false) × ((length g.consumers < 256) × (g.next_number ≡ greatest))
-Refuses g name Memory = (list_any (has_name name) g.consumers ≡ false) × ((length g.consumers < 256) × (g.next_number < greatest))
+Refuses g name InUse = list_any (is_named name) g.consumers ≡ true
+Refuses g name TooMany = (list_any (is_named name) g.consumers ≡ false) × (256 ≤ length g.consumers)
+Refuses g name Spent = (list_any (is_named name) g.consumers ≡ false) × ((length g.consumers < 256) × (g.next_number ≡ greatest))
+Refuses g name Memory = (list_any (is_named name) g.consumers ≡ false) × ((length g.consumers < 256) × ((g.next_number < greatest) × (g.seats ≡ 0)))
 
 -- A consumer was made, or refused: then nothing changed.
 abbrev pub Consumes : Given → Text → ℕ → Bool → Result ℕ Refusal → Given → Type 0
-Consumes old name queue no_ack (Ok number) new = (list_any (has_name name) old.consumers ≡ false) × ((length old.consumers < 256) × ((old.next_number < greatest) × ((number ≡ old.next_number) × (new ≡ with_consumer old name queue no_ack))))
+Consumes old name queue no_ack (Ok number) new = (list_any (is_named name) old.consumers ≡ false) × ((length old.consumers < 256) × ((old.next_number < greatest) × ((number ≡ old.next_number) × ((new ≡ with_consumer old name queue no_ack new.seats) × (old.seats ≤ new.seats + 1)))))
 Consumes old name queue no_ack (Err refusal) new = Refuses old name refusal × (new ≡ old)

@@ -1,2 +1,3 @@
 pub mod Outstanding
+pub mod Seats
 pub mod Deliveries

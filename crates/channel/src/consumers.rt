@@ -1,10 +1,10 @@
 //! The consumers of a channel, and what they may be given.
 
-ghost use Rattle.std.specs.Prelude.{◌≡◌, ◌<◌, ◌≤◌, ◌==◌, ◌++◌, ◌∷◌, [], length, find, filter, not, option_map, OnOk, OnErr};
-ghost use Rattle.std.specs.List.{list_any};
-ghost use Rattle.model.specs.Prefetch.{is_to, is_delivery, is_below, count_to, count_given, may_hold};
+ghost use Rattle.std.specs.Prelude.{cond, ◌≡◌, ◌<◌, ◌≤◌, ◌-◌, ◌^◌, map, find, filter, not, option_map, vec_len, vec_capacity};
+ghost use Rattle.std.specs.List.{list_any, All};
+ghost use Rattle.model.specs.Prefetch.{is_to, is_delivery, is_below, count_to, count_given};
 ghost use Rattle.channel.specs.Outstanding.{taker_of};
-ghost use Rattle.channel.specs.Deliveries.{has_name, may_of};
+ghost use Rattle.channel.specs.Seats.{is_of, has_name, counted_in, counted_out, may_held};
 
 use crate::pending::Outstanding;
 use model::{Taker, Text};
@@ -22,6 +22,13 @@ pub struct Consumer {
     pub limit: u16,
 }
 
+/// A consumer, and how many of the outstanding messages were given to it.
+#[derive(Drop)]
+pub struct Seat {
+    pub consumer: Consumer,
+    pub(crate) held: usize,
+}
+
 /// Why a consumer was not made.
 #[derive(Clone, Copy, PartialEq, Eq, Debug, Drop)]
 pub enum Refusal {
@@ -35,24 +42,26 @@ pub enum Refusal {
 }
 
 /// Some consumer has this tag.
-pub(crate) fn is_in_use(consumers: &[Consumer], tag: &[u8]) -> bool
-    ensures { result ≡ list_any (has_name tag.now) consumers.now }
+pub(crate) fn is_in_use(seats: &[Seat], tag: &[u8]) -> bool
+    ensures { result ≡ list_any (has_name tag.now) seats.now }
 {
-    consumers.iter().any(|c| c.tag.as_bytes() == tag)
+    seats.iter().any(|s| s.consumer.tag.as_bytes() == tag)
 }
 
-/// The consumer of this number.
-fn consumer_of(consumers: &[Consumer], number: u64) -> Option<&Consumer>
-    ensures { option_map (λ c. c.now) result ≡ find (λ (c : Consumer). c.number == number) consumers.now }
+/// The seat of the consumer of this number.
+fn seat_of(seats: &[Seat], number: u64) -> Option<&Seat>
+    ensures { option_map (λ s. s.now) result ≡ find (is_of number) seats.now }
 {
-    consumers.iter().find(|c| c.number == number)
+    seats.iter().find(|s| s.consumer.number == number)
 }
 
 /// Takes out the consumers of this tag.
-pub(crate) fn take_out(consumers: &mut Vec<Consumer>, tag: &[u8])
-    ensures { consumers.new.items ≡ filter (λ c. not (has_name tag.now c)) consumers.old.items }
+pub(crate) fn take_out(seats: &mut Vec<Seat>, tag: &[u8])
+    ensures seats { seats.new.items ≡ filter (λ s. not (has_name tag.now s)) seats.old.items }
+    ensures len { vec_len seats.new ≤ vec_len seats.old }
+    ensures capacity { vec_capacity seats.new ≡ vec_capacity seats.old }
 {
-    consumers.retain(|c| c.tag.as_bytes() != tag);
+    seats.retain(|s| s.consumer.tag.as_bytes() != tag);
 }
 
 /// It was given to the consumer of this number.
@@ -72,8 +81,15 @@ fn is_consumed(by: &Taker) -> bool
     matches!(by, Taker::Consumer(_))
 }
 
+/// 1 where it was given to some consumer, else 0.
+pub(crate) fn one_if_consumed(by: &Taker) -> usize
+    ensures { result ≡ cond (is_delivery by.now) 1 0 }
+{
+    if is_consumed(by) { 1 } else { 0 }
+}
+
 /// How many were given to the consumer of this number.
-fn given_to(given: &[Outstanding], number: u64) -> usize
+pub(crate) fn given_to(given: &[Outstanding], number: u64) -> usize
     ensures { result ≡ count_to taker_of number given.now }
 {
     let mut count = 0;
@@ -86,7 +102,7 @@ fn given_to(given: &[Outstanding], number: u64) -> usize
 }
 
 /// How many were given to consumers.
-fn given_to_all(given: &[Outstanding]) -> usize
+pub(crate) fn given_to_all(given: &[Outstanding]) -> usize
     ensures { result ≡ count_given taker_of given.now }
 {
     let mut count = 0;
@@ -98,39 +114,78 @@ fn given_to_all(given: &[Outstanding]) -> usize
     count
 }
 
-/// This limit leaves room for one message more to the consumer of this number.
-fn is_own_below(given: &[Outstanding], limit: u16, number: u64) -> bool
-    ensures { result ≡ is_below limit (count_to taker_of number given.now) }
+/// Counts a message that is given out, if it is given to this consumer.
+fn count_one_in(seat: &mut Seat, by: &Taker)
+    requires { seat.old.held < 2 ^ 64 - 1 }
+    ensures { seat.new ≡ counted_in by.now seat.old }
 {
-    limit == 0 || given_to(given, number) < limit as usize
+    if is_its(by, seat.consumer.number) {
+        seat.held += 1;
+    }
 }
 
-/// This limit leaves room for one message more to all consumers.
-fn is_all_below(given: &[Outstanding], limit: u16) -> bool
-    ensures { result ≡ is_below limit (count_given taker_of given.now) }
+/// Counts a message that is given out, at each seat.
+fn count_each_in(seats: &mut [Seat], by: &Taker)
+    requires { All (λ s. s.held < 2 ^ 64 - 1) seats.old }
+    ensures { seats.new ≡ map (counted_in by.now) seats.old }
 {
-    limit == 0 || given_to_all(given) < limit as usize
+    for seat in seats.iter_mut() {
+        count_one_in(seat, by);
+    }
 }
 
-/// This consumer may be given one message more, under this limit of its channel.
-fn may_be_given(consumer: &Consumer, limit: u16, given: &[Outstanding]) -> bool
-    ensures { result ≡ may_hold taker_of limit consumer.now.no_ack consumer.now.limit consumer.now.number given.now }
+/// Counts a message that is given out.
+pub(crate) fn count_in(seats: &mut Vec<Seat>, by: &Taker)
+    requires { All (λ s. s.held < 2 ^ 64 - 1) seats.old.items }
+    ensures seats { seats.new.items ≡ map (counted_in by.now) seats.old.items }
+    ensures len { vec_len seats.new ≡ vec_len seats.old }
+    ensures capacity { vec_capacity seats.new ≡ vec_capacity seats.old }
 {
-    consumer.no_ack
-        || (is_own_below(given, consumer.limit, consumer.number) && is_all_below(given, limit))
+    count_each_in(seats, by);
 }
 
-/// The consumer of this number is there, and may be given one message more.
-pub(crate) fn may_one(
-    consumers: &[Consumer],
-    number: u64,
-    limit: u16,
-    given: &[Outstanding],
-) -> bool
-    ensures { result ≡ may_of limit given.now (find (λ (c : Consumer). c.number == number) consumers.now) }
+/// Counts those no more that are settled and were given to this consumer.
+fn count_one_out(seat: &mut Seat, gone: &[Outstanding])
+    ensures { seat.new ≡ counted_out gone.now seat.old }
 {
-    match consumer_of(consumers, number) {
-        Some(consumer) => may_be_given(consumer, limit, given),
+    seat.held = seat.held.saturating_sub(given_to(gone, seat.consumer.number));
+}
+
+/// Counts those no more that are settled, at each seat.
+fn count_each_out(seats: &mut [Seat], gone: &[Outstanding])
+    ensures { seats.new ≡ map (counted_out gone.now) seats.old }
+{
+    for seat in seats.iter_mut() {
+        count_one_out(seat, gone);
+    }
+}
+
+/// Counts those no more that are settled.
+pub(crate) fn count_out(seats: &mut Vec<Seat>, gone: &[Outstanding])
+    ensures seats { seats.new.items ≡ map (counted_out gone.now) seats.old.items }
+    ensures len { vec_len seats.new ≡ vec_len seats.old }
+    ensures capacity { vec_capacity seats.new ≡ vec_capacity seats.old }
+{
+    count_each_out(seats, gone);
+}
+
+/// This limit leaves room for one message more beside so many.
+fn is_room(limit: u16, held: usize) -> bool
+    ensures { result ≡ is_below limit held }
+{
+    limit == 0 || held < limit as usize
+}
+
+/// The consumer of this number is there, and may be given one message more, where all consumers of the channel have `given`
+/// under this limit of theirs.
+pub(crate) fn may_one(seats: &[Seat], number: u64, limit: u16, given: usize) -> bool
+    ensures { result ≡ may_held limit given (find (is_of number) seats.now) }
+{
+    match seat_of(seats, number) {
+        Some(seat) => {
+            seat.consumer.no_ack
+                || (is_room(seat.consumer.limit, seat.held) && is_room(limit, given))
+        }
         None => false,
     }
 }

@@ -1,7 +1,8 @@
 //! Delivery tags, what is outstanding under them, and the consumers with their limits.
 
-use crate::consumers::{Consumer, Refusal, is_in_use, may_one, take_out};
+use crate::consumers::{Consumer, Refusal, Seat, given_to};
 use crate::pending::{Outstanding, Pending};
+use crate::seats::Seats;
 use model::{Taker, Text};
 use std::alloc::{AllocError, Global};
 use std::marker::Model;
@@ -10,7 +11,7 @@ use std::marker::Model;
 #[derive(Drop)]
 pub struct Deliveries {
     pending: Pending,
-    consumers: Vec<Consumer>,
+    seats: Seats,
     next_tag: u64,
     next_number: u64,
     each_limit: u16,
@@ -18,14 +19,15 @@ pub struct Deliveries {
 }
 
 impl Model for Deliveries {
-    ghost use Rattle.channel.specs.Deliveries.{Given};
     ghost use Rattle.channel.specs.Outstanding.{AreBefore};
+    ghost use Rattle.channel.specs.Seats.{AreCounted};
+    ghost use Rattle.channel.specs.Deliveries.{Given};
 
     ghost Value = { Given };
 
-    ghost view = { λ d. record { next_tag = d.next_tag; next_number = d.next_number; each_limit = d.each_limit; limit = d.limit; consumers = d.consumers.items; outstanding = d.pending.outstanding; room = d.pending.room } };
+    ghost view = { λ d. record { next_tag = d.next_tag; next_number = d.next_number; each_limit = d.each_limit; limit = d.limit; consumers = d.seats.consumers; outstanding = d.pending.outstanding; room = d.pending.room; seats = d.seats.room } };
 
-    ghost invariant = { λ d. AreBefore d.next_tag d.pending.outstanding };
+    ghost invariant = { λ d. AreBefore d.next_tag d.pending.outstanding × AreCounted d.seats d.pending.outstanding };
 }
 
 impl Deliveries {
@@ -33,15 +35,16 @@ impl Deliveries {
     ghost use Rattle.model.specs.Settling.{settled, kept};
     ghost use Rattle.model.specs.Prefetch.{has_tag_left};
     ghost use Rattle.channel.specs.Outstanding.{tag_of};
-    ghost use Rattle.channel.specs.Deliveries.{with_given, with_limit, may_take, has_name, Consumes};
+    ghost use Rattle.channel.specs.Seats.{consumers_of, is_named};
+    ghost use Rattle.channel.specs.Deliveries.{with_given, with_limit, may_take, Consumes};
 
     /// Nothing was given out, there is no consumer and no limit. It takes no memory.
     pub fn new(alloc: Global) -> Deliveries
-        ensures { result ≡ record { next_tag = 1; next_number = 1; each_limit = 0; limit = 0; consumers = []; outstanding = []; room = result.room } }
+        ensures { result ≡ record { next_tag = 1; next_number = 1; each_limit = 0; limit = 0; consumers = []; outstanding = []; room = result.room; seats = result.seats } }
     {
         Deliveries {
             pending: Pending::new(alloc),
-            consumers: Vec::new(alloc),
+            seats: Seats::new(alloc),
             next_tag: 1,
             next_number: 1,
             each_limit: 0,
@@ -71,6 +74,7 @@ impl Deliveries {
         ensures outstanding { self.new ≡ record self.old { outstanding = kept tag_of tag multiple self.old.outstanding; room = self.new.room } }
         ensures room { self.old.room ≤ self.new.room }
     {
+        self.seats.count_out(self.pending.gone(tag, multiple));
         self.pending.forget(tag, multiple);
     }
 
@@ -103,6 +107,7 @@ impl Deliveries {
             arrival,
             by,
         });
+        self.seats.count_in(&by);
         self.next_tag = tag + 1;
         tag
     }
@@ -134,22 +139,27 @@ impl Deliveries {
     pub fn may_take(&self, number: u64) -> bool
         ensures { result ≡ may_take self.now number }
     {
-        self.has_tag_left() && may_one(&self.consumers, number, self.limit, self.pending.all())
+        self.has_tag_left() && self.seats.may_take(number, self.limit)
     }
 
-    /// Makes a consumer of this tag. Tells its number.
+    /// Makes a consumer of this tag. Tells its number. Refused, in this order: where a consumer of the channel has the tag
+    /// (530), where the channel has 256 consumers (506), where the numbers are spent (541), and for want of memory, only where
+    /// there was no room for one more. Then nothing changes.
     pub fn consume(&mut self, tag: Text, queue: u16, no_ack: bool) -> Result<u64, Refusal>
         ensures { Consumes self.old tag queue no_ack result self.new }
     {
-        if is_in_use(&self.consumers, tag.as_bytes()) {
+        if self.seats.has(tag.as_bytes()) {
             return Err(Refusal::InUse);
         }
-        if self.consumers.len() >= 256 {
+        if self.seats.len() >= 256 {
             return Err(Refusal::TooMany);
         }
         let number = self.next_number;
         if number == u64::MAX {
             return Err(Refusal::Spent);
+        }
+        if self.seats.reserve().is_err() {
+            return Err(Refusal::Memory);
         }
         let consumer = Consumer {
             number,
@@ -158,24 +168,24 @@ impl Deliveries {
             no_ack,
             limit: self.each_limit,
         };
-        if self.consumers.push(consumer).is_err() {
-            return Err(Refusal::Memory);
-        }
+        let held = given_to(self.pending.all(), number);
+        self.seats.push(consumer, held);
         self.next_number = number + 1;
         Ok(number)
     }
 
     /// Takes the consumer of this tag out, if there is one. What it was given stays outstanding.
     pub fn cancel(&mut self, tag: &[u8])
-        ensures { self.new ≡ record self.old { consumers = filter (λ c. not (has_name tag.now c)) self.old.consumers } }
+        ensures consumers { self.new ≡ record self.old { consumers = filter (λ c. not (is_named tag.now c)) self.old.consumers; seats = self.new.seats } }
+        ensures seats { self.old.seats ≤ self.new.seats }
     {
-        take_out(&mut self.consumers, tag);
+        self.seats.take_out(tag);
     }
 
     /// The consumers, in the order in which they were made.
-    pub fn consumers(&self) -> &[Consumer]
-        ensures { result.now ≡ self.now.consumers }
+    pub fn consumers(&self) -> &[Seat]
+        ensures { consumers_of result.now ≡ self.now.consumers }
     {
-        &self.consumers
+        self.seats.all()
     }
 }

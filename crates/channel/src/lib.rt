@@ -8,9 +8,10 @@ mod channels;
 mod consumers;
 mod deliveries;
 mod pending;
+mod seats;
 mod tags;
 
 pub use channels::Channel;
-pub use consumers::{Consumer, Refusal};
+pub use consumers::{Consumer, Refusal, Seat};
 pub use deliveries::Deliveries;
 pub use pending::Outstanding;

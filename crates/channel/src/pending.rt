@@ -38,9 +38,10 @@ impl Model for Pending {
 }
 
 impl Pending {
-    ghost use Rattle.std.specs.Prelude.{◌≡◌, ◌+◌, ◌<◌, ◌≤◌, ◌++◌, ◌∷◌, [], ℕ, option_map, OnOk, OnErr, length, get_or};
+    ghost use Rattle.std.specs.Prelude.{◌≡◌, ◌+◌, ◌<◌, ◌≤◌, ◌^◌, ◌++◌, ◌∷◌, [], ℕ, option_map, OnOk, OnErr, length, get_or};
     ghost use Rattle.model.specs.Settling.{settled, kept, Rises};
     ghost use Rattle.channel.specs.Outstanding.{tag_of};
+    ghost use Rattle.channel.specs.Seats.{AreParts};
 
     /// Nothing is outstanding. It takes no memory.
     pub(crate) fn new(alloc: Global) -> Pending
@@ -65,6 +66,16 @@ impl Pending {
         ensures { option_map (λ s. s.now) result ≡ settled tag_of tag multiple self.now.outstanding }
     {
         settled_of(behind(&self.items, self.start), tag, multiple)
+    }
+
+    /// What a tag settles, in tag order; nothing where it is refused.
+    pub(crate) fn gone(&self, tag: u64, multiple: bool) -> &[Outstanding]
+        ensures { AreParts self.now.outstanding result.now (kept tag_of tag multiple self.now.outstanding) }
+    {
+        match self.settle(tag, multiple) {
+            Some(gone) => gone,
+            None => &[],
+        }
     }
 
     /// Takes out what a tag settles.
@@ -96,6 +107,7 @@ impl Pending {
         requires rises { (k : ℕ) (d : Outstanding) → k < length self.old.outstanding → (get_or self.old.outstanding k d).tag < given.tag }
         ensures outstanding { self.new.outstanding ≡ self.old.outstanding ++ given ∷ [] }
         ensures room { self.new.room + 1 ≡ self.old.room }
+        ensures bounded { length self.new.outstanding < 2 ^ 64 }
     {
         self.items.push_reserved(given);
     }

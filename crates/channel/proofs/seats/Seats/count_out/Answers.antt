@@ -1,0 +1,27 @@
+use Rattle.std.proofs.Common.{◌≡◌, cond, refl, ◌∙◌, ◌++◌, ◌∷◌, ◌≤◌, ◌<◌, ◌-◌, [], sym, ap, subst, arith, ℕ, List, ◌+◌, map, filter, not, rules}
+use Rattle.std.specs.List.{All}
+use Rattle.model.specs.Prefetch.{is_delivery, count_to, count_given}
+use Rattle.model.specs.declared.messages.Taker.{Taker}
+use Rattle.channel.specs.Outstanding.{taker_of}
+use Rattle.channel.specs.Seats.{Seated, AreCounted, AreParts, consumers_of, counts_of, counted_in, counted_out, is_named, has_name}
+use Rattle.channel.specs.declared.consumers.Consumer.{Consumer}
+use Rattle.channel.specs.declared.consumers.Seat.{Seat}
+use Rattle.channel.specs.declared.pending.Outstanding.{Outstanding}
+use Rattle.channel.proofs.Counting.{same_consumers, new_counts, in_consumer, step_in, step_out, one_more, held_small, seats_filtered, counts_filtered}
+use Rattle.channel.proofs.seats.Seats.count_out.Goals as goal
+
+pub returns-clause-consumers : goal.returns-clause-consumers
+returns-clause-consumers c = subst (λ (s : Seated). consumers_of c.count_out.new.seats.items ≡ s.consumers) c.self.view_is
+    (ap consumers_of c.count_out.ensures.seats ∙ same_consumers (counted_out c.args.gone.now) (λ s. refl) c.self.inside.seats.items)
+
+pub returns-clause-counted : goal.returns-clause-counted
+returns-clause-counted c given left parts k =
+    let was : AreCounted (record { consumers = consumers_of c.self.inside.seats.items; held = counts_of c.self.inside.seats.items; given = c.self.inside.given; room = _ }) given = subst (λ (s : Seated). AreCounted s given) (sym c.self.view_is) k in
+    let same = ap consumers_of c.count_out.ensures.seats ∙ same_consumers (counted_out c.args.gone.now) (λ s. refl) c.self.inside.seats.items in
+    let all = was.all in
+    let p : count_given taker_of given ≡ count_given taker_of c.args.gone.now + count_given taker_of left = parts (λ x. is_delivery (taker_of x)) in
+    record {
+      each = ap counts_of c.count_out.ensures.seats ∙ new_counts (counted_out c.args.gone.now) given left (step_out given c.args.gone.now left parts) c.self.inside.seats.items was.each
+          ∙ ap (λ (cs : List Consumer). map (λ (x : Consumer). count_to taker_of x.number left) cs) (sym same);
+      all = omega arith;
+    }

@@ -1,0 +1,23 @@
+use Rattle.std.proofs.Common.{◌≡◌, cond, refl, ◌∙◌, ◌++◌, ◌∷◌, ◌≤◌, ◌<◌, ◌-◌, [], sym, ap, subst, arith, ℕ, List, ◌+◌, map, filter, not, rules}
+use Rattle.std.specs.List.{All}
+use Rattle.model.specs.Prefetch.{is_delivery, count_to, count_given}
+use Rattle.model.specs.declared.messages.Taker.{Taker}
+use Rattle.channel.specs.Outstanding.{taker_of}
+use Rattle.channel.specs.Seats.{Seated, AreCounted, AreParts, consumers_of, counts_of, counted_in, counted_out, is_named, has_name}
+use Rattle.channel.specs.declared.consumers.Consumer.{Consumer}
+use Rattle.channel.specs.declared.consumers.Seat.{Seat}
+use Rattle.channel.specs.declared.pending.Outstanding.{Outstanding}
+use Rattle.channel.proofs.Counting.{same_consumers, new_counts, in_consumer, step_in, step_out, one_more, held_small, seats_filtered, counts_filtered}
+use Rattle.channel.proofs.seats.Seats.take_out.Goals as goal
+
+pub returns-clause-consumers : goal.returns-clause-consumers
+returns-clause-consumers c = subst (λ (s : Seated). consumers_of c.take_out.new.seats.items ≡ filter (λ x. not (is_named c.args.tag.now x)) s.consumers) c.self.view_is
+    (ap consumers_of c.take_out.ensures.seats ∙ seats_filtered (λ x. not (is_named c.args.tag.now x)) c.self.inside.seats.items)
+
+pub returns-clause-counted : goal.returns-clause-counted
+returns-clause-counted c given k =
+    let was : AreCounted (record { consumers = consumers_of c.self.inside.seats.items; held = counts_of c.self.inside.seats.items; given = c.self.inside.given; room = _ }) given = subst (λ (s : Seated). AreCounted s given) (sym c.self.view_is) k in
+    record {
+      each = subst (λ (ss : List Seat). counts_of ss ≡ map (λ (x : Consumer). count_to taker_of x.number given) (consumers_of ss)) (sym c.take_out.ensures.seats) (counts_filtered (λ s. not (has_name c.args.tag.now s)) c.self.inside.seats.items given was.each);
+      all = was.all;
+    }

@@ -1,0 +1,59 @@
+-- The consumers of a channel, each with the count of what it was given and is not settled (own).
+use Rattle.std.specs.Prelude.{◌≡◌, ◌<◌, ℕ, List, map, filter, not, Bool, true, false, ◌==◌, ◌&&◌, ◌||◌, if◌then◌else◌, ◌+◌, ◌-◌, Option, Some, None, count_by}
+use Rattle.std.specs.Str.{bytes_eq}
+use Rattle.model.specs.Words.{Text}
+use Rattle.model.specs.Prefetch.{is_to, is_below, count_to, count_given}
+use Rattle.model.specs.declared.messages.Taker.{Taker}
+use Rattle.channel.specs.Outstanding.{taker_of}
+use Rattle.channel.specs.declared.pending.Outstanding.{Outstanding}
+use Rattle.channel.specs.declared.consumers.Consumer.{Consumer}
+use Rattle.channel.specs.declared.consumers.Seat.{Seat}
+
+-- the consumers; what each was given, and what all were, that is not settled; and how many consumers more can be made without memory
+pub record Seated : Type 0 where
+  pub consumers : List Consumer
+  pub held : List ℕ
+  pub given : ℕ
+  pub room : ℕ
+
+-- the consumers, without their counts
+abbrev pub consumers_of : List Seat → List Consumer
+consumers_of seats = map (λ (s : Seat). s.consumer) seats
+
+-- their counts
+abbrev pub counts_of : List Seat → List ℕ
+counts_of seats = map (λ (s : Seat). s.held) seats
+
+-- the seat of the consumer of this number
+abbrev pub is_of : ℕ → Seat → Bool
+is_of number s = s.consumer.number == number
+
+-- the consumer has this tag
+abbrev pub is_named : Text → Consumer → Bool
+is_named name c = bytes_eq c.tag name
+
+-- the consumer there has this tag
+abbrev pub has_name : Text → Seat → Bool
+has_name name s = is_named name s.consumer
+
+-- one message more was given out
+abbrev pub counted_in : Taker → Seat → Seat
+counted_in by s = if is_to s.consumer.number by then record s { held = s.held + 1 } else s
+
+-- these were settled
+abbrev pub counted_out : List Outstanding → Seat → Seat
+counted_out gone s = record s { held = s.held - count_to taker_of s.consumer.number gone }
+
+-- this consumer, if there is one, may be given one message more beside what it has and what all have
+abbrev pub may_held : ℕ → ℕ → Option Seat → Bool
+may_held limit given None = false
+may_held limit given (Some s) = s.consumer.no_ack || (is_below s.consumer.limit s.held && is_below limit given)
+
+-- The counts are those of what is outstanding.
+pub record AreCounted (s : Seated) (outstanding : List Outstanding) : Type 0 where
+  pub each : s.held ≡ map (λ (c : Consumer). count_to taker_of c.number outstanding) s.consumers
+  pub all : s.given ≡ count_given taker_of outstanding
+
+-- What was outstanding is what is gone and what is left: each kind of taker has as many in both as there were.
+abbrev pub AreParts : List Outstanding → List Outstanding → List Outstanding → Type 0
+AreParts outstanding gone left = (p : Outstanding → Bool) → count_by p outstanding ≡ count_by p gone + count_by p left

@@ -1,0 +1,130 @@
+//! The consumers of a channel, with kept counts of what they were given.
+
+ghost use Rattle.std.specs.Prelude.{◌≡◌};
+
+use crate::consumers::{
+    Consumer, Seat, count_in, count_out, given_to_all, is_in_use, may_one, one_if_consumed, take_out,
+};
+use crate::pending::Outstanding;
+use model::Taker;
+use std::alloc::{AllocError, Global};
+use std::marker::Model;
+
+/// Consumers in the order in which they were made. Each has a count of what was given to it and is not settled, and one
+/// more counts what was given to any, cancelled ones too.
+#[derive(Drop)]
+pub(crate) struct Seats {
+    seats: Vec<Seat>,
+    given: usize,
+}
+
+impl Model for Seats {
+    ghost use Rattle.std.specs.Prelude.{◌-◌, vec_len, vec_capacity};
+    ghost use Rattle.channel.specs.Seats.{Seated, consumers_of, counts_of};
+
+    ghost Value = { Seated };
+
+    ghost view = { λ s. record { consumers = consumers_of s.seats.items; held = counts_of s.seats.items; given = s.given; room = vec_capacity s.seats - vec_len s.seats } };
+}
+
+impl Seats {
+    ghost use Rattle.std.specs.Prelude.{◌≡◌, ◌+◌, ◌-◌, ◌<◌, ◌≤◌, ◌^◌, ◌++◌, ◌∷◌, [], ℕ, List, length, find, filter, not, ◌==◌, OnOk, OnErr};
+    ghost use Rattle.std.specs.List.{list_any, All};
+    ghost use Rattle.model.specs.Prefetch.{count_to};
+    ghost use Rattle.channel.specs.Outstanding.{taker_of};
+    ghost use Rattle.channel.specs.Seats.{AreCounted, AreParts, consumers_of, is_named};
+    ghost use Rattle.channel.specs.Deliveries.{may_of};
+    ghost use Rattle.channel.specs.declared.consumers.Consumer.{Consumer as One};
+    ghost use Rattle.channel.specs.declared.pending.Outstanding.{Outstanding as Given};
+
+    /// No consumer, and nothing counted. It takes no memory.
+    pub(crate) fn new(alloc: Global) -> Seats
+        ensures consumers { result.consumers ≡ [] }
+        ensures counted { AreCounted result [] }
+    {
+        Seats {
+            seats: Vec::new(alloc),
+            given: 0,
+        }
+    }
+
+    /// All of them.
+    pub(crate) fn all(&self) -> &[Seat]
+        ensures { consumers_of result.now ≡ self.now.consumers }
+    {
+        &self.seats
+    }
+
+    /// How many there are.
+    pub(crate) fn len(&self) -> usize
+        ensures { result ≡ length self.now.consumers }
+    {
+        self.seats.len()
+    }
+
+    /// Whether some consumer has this tag.
+    pub(crate) fn has(&self, tag: &[u8]) -> bool
+        ensures { result ≡ list_any (is_named tag.now) self.now.consumers }
+    {
+        is_in_use(&self.seats, tag)
+    }
+
+    /// Whether the consumer of this number is there and may be given one message more, under this limit of all.
+    pub(crate) fn may_take(&self, number: u64, limit: u16) -> bool
+        ensures { (given : List Given) → AreCounted self.now given → result ≡ may_of limit given (find (λ (c : One). c.number == number) self.now.consumers) }
+    {
+        may_one(&self.seats, number, limit, self.given)
+    }
+
+    /// Makes room for one more. Nothing else changes, also where memory is wanting.
+    pub(crate) fn reserve(&mut self) -> Result<(), AllocError>
+        ensures same { self.new ≡ record self.old { room = self.new.room } }
+        ensures kept { self.old.room ≤ self.new.room }
+        ensures room { OnOk result (0 < self.new.room) }
+        ensures full { OnErr result (self.old.room ≡ 0) }
+        ensures err { OnErr result (self.new.room ≡ self.old.room) }
+    {
+        self.seats.reserve(1)
+    }
+
+    /// A consumer more, who has been given so many already.
+    pub(crate) fn push(&mut self, consumer: Consumer, held: usize)
+        requires { 0 < self.old.room }
+        ensures consumers { self.new.consumers ≡ self.old.consumers ++ consumer ∷ [] }
+        ensures room { self.new.room + 1 ≡ self.old.room }
+        ensures counted { (given : List Given) → AreCounted self.old given → held ≡ count_to taker_of consumer.number given → AreCounted self.new given }
+    {
+        self.seats.push_reserved(Seat { consumer, held });
+    }
+
+    /// Takes out the consumers of this tag. What they were given counts on for all.
+    pub(crate) fn take_out(&mut self, tag: &[u8])
+        ensures consumers { self.new.consumers ≡ filter (λ c. not (is_named tag.now c)) self.old.consumers }
+        ensures room { self.old.room ≤ self.new.room }
+        ensures counted { (given : List Given) → AreCounted self.old given → AreCounted self.new given }
+    {
+        take_out(&mut self.seats, tag);
+    }
+
+    /// Counts a message that is given out.
+    pub(crate) fn count_in(&mut self, by: &Taker)
+        requires each { All (λ n. n < 2 ^ 64 - 1) self.old.held }
+        requires all { self.old.given < 2 ^ 64 - 1 }
+        ensures consumers { self.new.consumers ≡ self.old.consumers }
+        ensures room { self.new.room ≡ self.old.room }
+        ensures counted { (given : List Given) (o : Given) → o.by ≡ by.now → AreCounted self.old given → AreCounted self.new (given ++ o ∷ []) }
+    {
+        count_in(&mut self.seats, by);
+        self.given += one_if_consumed(by);
+    }
+
+    /// Counts those no more that are settled.
+    pub(crate) fn count_out(&mut self, gone: &[Outstanding])
+        ensures consumers { self.new.consumers ≡ self.old.consumers }
+        ensures room { self.new.room ≡ self.old.room }
+        ensures counted { (given left : List Given) → AreParts given gone.now left → AreCounted self.old given → AreCounted self.new left }
+    {
+        count_out(&mut self.seats, gone);
+        self.given = self.given.saturating_sub(given_to_all(gone));
+    }
+}
