@@ -1,10 +1,10 @@
 -- What a tag takes of outstanding deliveries whose tags rise.
-use Rattle.std.proofs.Common.{◌≡◌, ℕ, ◌+◌, ◌-◌, ◌<◌, ◌≤◌, List, [], ◌∷◌, ◌++◌, length, get_or, take, drop, refl, sym, ap, ◌∙◌, subst, arith, Bool, true, false, cond, not, Option, Some, None, leb, eqb, eq-eqb, inl, inr}
-use Rattle.std.specs.Prelude.{filter, ◌⊎◌, nat_le, ◌==◌, ◌&&◌}
+use Rattle.std.proofs.Common.{◌≡◌, ℕ, ◌+◌, ◌<◌, ◌≤◌, List, ◌++◌, length, get_or, take, drop, refl, sym, ap, ◌∙◌, arith, Bool, true, false, cond, not, Some, leb, eqb, eq-eqb, inl, inr}
+use Rattle.std.specs.Prelude.{filter, ◌⊎◌, ◌==◌, ◌&&◌}
 use Rattle.std.specs.List.{list_any}
 use Rattle.std.proofs.lemmas.Bool.Decides.{eqb_tells, leb_tells}
 use Rattle.std.proofs.lemmas.List.Kept.{AllPairs-filter}
-use Rattle.channel.proofs.Runs.{none_pass, all_pass, none_any, one_any, PassWithin, passed, failed}
+use Rattle.channel.proofs.Runs.{none_any, one_any, PassWithin, passed, failed}
 use Rattle.model.specs.Settling.{has_tag, takes, is_refused, settled, kept, Rises}
 use Rattle.std.proofs.lemmas.List.Elements.{All-filter}
 use Rattle.channel.specs.Outstanding.{tag_of, AreBefore}

@@ -1,5 +1,5 @@
 -- The consumers of a channel, each with the count of what it was given and is not settled (own).
-use Rattle.std.specs.Prelude.{◌≡◌, ◌<◌, ℕ, List, map, filter, not, Bool, true, false, ◌==◌, ◌&&◌, ◌||◌, if◌then◌else◌, ◌+◌, ◌-◌, Option, Some, None, count_by}
+use Rattle.std.specs.Prelude.{◌≡◌, ℕ, List, map, Bool, false, ◌==◌, ◌&&◌, ◌||◌, if◌then◌else◌, ◌+◌, ◌-◌, Option, Some, None, count_by}
 use Rattle.std.specs.Str.{bytes_eq}
 use Rattle.model.specs.Words.{Text}
 use Rattle.model.specs.Prefetch.{is_to, is_below, count_to, count_given}

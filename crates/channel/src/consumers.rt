@@ -148,7 +148,9 @@ pub(crate) fn count_in(seats: &mut Vec<Seat>, by: &Taker)
 fn count_one_out(seat: &mut Seat, gone: &[Outstanding])
     ensures { seat.new ≡ counted_out gone.now seat.old }
 {
-    seat.held = seat.held.saturating_sub(given_to(gone, seat.consumer.number));
+    seat.held = seat
+        .held
+        .saturating_sub(given_to(gone, seat.consumer.number));
 }
 
 /// Counts those no more that are settled, at each seat.

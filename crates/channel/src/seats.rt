@@ -3,7 +3,8 @@
 ghost use Rattle.std.specs.Prelude.{◌≡◌};
 
 use crate::consumers::{
-    Consumer, Seat, count_in, count_out, given_to_all, is_in_use, may_one, one_if_consumed, take_out,
+    Consumer, Seat, count_in, count_out, given_to_all, is_in_use, may_one, one_if_consumed,
+    take_out,
 };
 use crate::pending::Outstanding;
 use model::Taker;

@@ -1,6 +1,6 @@
 use Rattle.std.proofs.Common.{◌<◌, ◌+◌, length, arith}
 use Rattle.channel.specs.Seats.{counted_in}
-use Rattle.channel.proofs.Counting.{next_was, changed_next}
+use Rattle.channel.proofs.Counting.{changed_next}
 use Rattle.channel.proofs.consumers.count_each_in.Goals as goal
 
 pub loop-seat-preserved : goal.loop-seat-preserved

@@ -1,5 +1,5 @@
 use Rattle.std.proofs.Common.{◌≡◌, ◌≤◌, take, count_by}
-use Rattle.model.specs.Prefetch.{is_to, is_delivery}
+use Rattle.model.specs.Prefetch.{is_delivery}
 use Rattle.channel.specs.Outstanding.{taker_of}
 use Rattle.channel.proofs.consumers.given_to_all.Given as goal
 

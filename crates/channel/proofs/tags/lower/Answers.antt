@@ -1,4 +1,4 @@
-use Rattle.std.proofs.Common.{arith, sym, ◌≤◌, ◌<◌, subst}
+use Rattle.std.proofs.Common.{arith}
 use Rattle.channel.proofs.Settlement.{up_to, from_on}
 use Rattle.channel.proofs.tags.lower.Goals as goal
 

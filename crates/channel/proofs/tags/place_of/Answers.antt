@@ -1,7 +1,5 @@
-use Rattle.std.proofs.Common.{arith, ap, ◌<◌, inl, inr}
-use Rattle.std.proofs.lemmas.Bool.Decides.{eqb_tells}
+use Rattle.std.proofs.Common.{arith}
 use Rattle.channel.proofs.Settlement.{absent_by}
-use Rattle.channel.specs.declared.pending.Outstanding.{Outstanding}
 use Rattle.channel.proofs.tags.place_of.Goals as goal
 use Rattle.channel.proofs.tags.place_of.Goals.{else-i-given-via-then-i-given+else-tag_at-tag, else-i-given-via-else-i-given}
 

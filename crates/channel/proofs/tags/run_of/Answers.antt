@@ -1,5 +1,5 @@
-use Rattle.std.proofs.Common.{◌≡◌, sym, ◌∙◌, inl, inr, Bool, true, false}
-use Rattle.channel.proofs.Settlement.{settle_all, settle_many, settle_one, IsTagAt}
+use Rattle.std.proofs.Common.{inl, inr}
+use Rattle.channel.proofs.Settlement.{settle_all, settle_many, settle_one}
 use Rattle.channel.proofs.tags.run_of.Goals as goal
 
 pub returns-then-tag-eq0-clause-run : goal.returns-then-tag-eq0-clause-run

@@ -1,4 +1,4 @@
-use Rattle.std.proofs.Common.{◌≡◌, ◌<◌, ◌+◌, ◌^◌, ◌-◌, ℕ, List, ap, sym, subst, arith, length, length-append}
+use Rattle.std.proofs.Common.{◌<◌, ℕ, List, ap, sym, subst, arith, length, length-append}
 use Rattle.std.specs.List.{All}
 use Rattle.channel.proofs.Counting.{counts_small}
 use Rattle.channel.specs.declared.pending.Outstanding.{Outstanding}

@@ -1,4 +1,4 @@
-use Rattle.std.proofs.Common.{◌≡◌, sym, subst}
+use Rattle.std.proofs.Common.{sym, subst}
 use Rattle.channel.proofs.Settlement.{kept_rises}
 use Rattle.model.specs.Settling.{Rises}
 use Rattle.channel.specs.Outstanding.{tag_of}

@@ -1,4 +1,3 @@
-use Rattle.std.proofs.Common.{sym, ap, ◌∙◌}
 use Rattle.channel.proofs.Counting.{settled_parts, refused_parts}
 use Rattle.channel.proofs.pending.Pending.gone.Goals as goal
 

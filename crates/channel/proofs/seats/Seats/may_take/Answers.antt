@@ -10,4 +10,4 @@ use Rattle.channel.proofs.seats.Seats.may_take.Goals as goal
 pub returns : goal.returns
 returns c given = subst (λ (s : Seated). AreCounted s given → c.may_one.result ≡ may_of c.args.limit given (find (λ (x : Consumer). x.number == c.args.number) s.consumers)) c.self.view_is
     (λ k. c.may_one.ensures ∙ ap (λ (ss : List Seat). may_held c.args.limit c.self.inside.given (find (is_of c.args.number) ss)) c.deref.ensures.value
-      ∙ may_kept c.args.limit c.self.inside.given c.args.number c.self.inside.seats.items given k.each k.all)
+    ∙ may_kept c.args.limit c.self.inside.given c.args.number c.self.inside.seats.items given k.each k.all)

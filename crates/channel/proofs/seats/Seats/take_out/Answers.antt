@@ -1,13 +1,10 @@
-use Rattle.std.proofs.Common.{◌≡◌, cond, refl, ◌∙◌, ◌++◌, ◌∷◌, ◌≤◌, ◌<◌, ◌-◌, [], sym, ap, subst, arith, ℕ, List, ◌+◌, map, filter, not, rules}
-use Rattle.std.specs.List.{All}
-use Rattle.model.specs.Prefetch.{is_delivery, count_to, count_given}
-use Rattle.model.specs.declared.messages.Taker.{Taker}
+use Rattle.std.proofs.Common.{◌≡◌, ◌∙◌, sym, ap, subst, List, map, filter, not}
+use Rattle.model.specs.Prefetch.{count_to}
 use Rattle.channel.specs.Outstanding.{taker_of}
-use Rattle.channel.specs.Seats.{Seated, AreCounted, AreParts, consumers_of, counts_of, counted_in, counted_out, is_named, has_name}
+use Rattle.channel.specs.Seats.{Seated, AreCounted, consumers_of, counts_of, is_named, has_name}
 use Rattle.channel.specs.declared.consumers.Consumer.{Consumer}
 use Rattle.channel.specs.declared.consumers.Seat.{Seat}
-use Rattle.channel.specs.declared.pending.Outstanding.{Outstanding}
-use Rattle.channel.proofs.Counting.{same_consumers, new_counts, in_consumer, step_in, step_out, one_more, held_small, seats_filtered, counts_filtered}
+use Rattle.channel.proofs.Counting.{seats_filtered, counts_filtered}
 use Rattle.channel.proofs.seats.Seats.take_out.Goals as goal
 
 pub returns-clause-consumers : goal.returns-clause-consumers
