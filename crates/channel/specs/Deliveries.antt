@@ -1,5 +1,5 @@
 -- What an open channel keeps of its deliveries.
-use Rattle.std.specs.Prelude.{◌≡◌, ◌<◌, ◌≤◌, ℕ, List, [], ◌∷◌, ◌++◌, length, find, Bool, true, false, ◌==◌, ◌&&◌, if◌then◌else◌, ◌+◌, Option, Some, None, Result, Ok, Err}
+use Rattle.std.specs.Prelude.{◌⊎◌, ◌≡◌, ◌<◌, ◌≤◌, ℕ, List, [], ◌∷◌, ◌++◌, length, find, Bool, true, false, ◌==◌, ◌&&◌, if◌then◌else◌, ◌+◌, Option, Some, None, Result, Ok, Err}
 use Rattle.std.specs.List.{list_any}
 use Rattle.model.specs.Words.{Text}
 use Rattle.model.specs.Step.{greatest}
@@ -7,6 +7,7 @@ use Rattle.model.specs.Prefetch.{may_hold, has_tag_left}
 use Rattle.model.specs.declared.messages.Taker.{Taker}
 use Rattle.channel.specs.Outstanding.{taker_of}
 use Rattle.channel.specs.Seats.{is_named}
+use Rattle.channel.specs.Names.{server_name, IsNextName, AreNamesSpent}
 use Rattle.channel.specs.declared.pending.Outstanding.{Outstanding}
 use Rattle.channel.specs.declared.consumers.Consumer.{Consumer}
 use Rattle.channel.specs.declared.consumers.Refusal.{Refusal}
@@ -17,6 +18,8 @@ pub record Given : Type 0 where
   pub next_tag : ℕ
   -- consumers are numbered as they are made, and no number is used again
   pub next_number : ℕ
+  -- the number of the next consumer tag that the server makes
+  pub next_name : ℕ
   -- the limit of consumers made later, and that of all of them together; 0 is none (RabbitMQ, "Consumer Prefetch")
   pub each_limit : ℕ
   pub limit : ℕ
@@ -58,3 +61,20 @@ Refuses g name Memory = (list_any (is_named name) g.consumers ≡ false) × ((le
 abbrev pub Consumes : Given → Text → ℕ → Bool → Result ℕ Refusal → Given → Type 0
 Consumes old name queue no_ack (Ok number) new = (list_any (is_named name) old.consumers ≡ false) × ((length old.consumers < 256) × ((old.next_number < greatest) × ((number ≡ old.next_number) × ((new ≡ with_consumer old name queue no_ack new.seats) × (old.seats ≤ new.seats + 1)))))
 Consumes old name queue no_ack (Err refusal) new = Refuses old name refusal × (new ≡ old)
+
+-- why a consumer without a tag of its own was refused, in this order: there are 256; the numbers or the names are spent; memory was wanting
+abbrev pub RefusesUnnamed : Given → Refusal → Type 0
+RefusesUnnamed g InUse = ⊥
+RefusesUnnamed g TooMany = 256 ≤ length g.consumers
+RefusesUnnamed g Spent = (length g.consumers < 256) × ((g.next_number ≡ greatest) ⊎ AreNamesSpent g.consumers g.next_name)
+RefusesUnnamed g Memory = (length g.consumers < 256) × (g.next_number < greatest)
+
+-- A consumer was made under the next name, of this number.
+pub record IsMadeUnder (old : Given) (queue : ℕ) (no_ack : Bool) (new : Given) (n : ℕ) : Type 0 where
+  pub next : IsNextName old.consumers old.next_name n
+  pub made : new ≡ record (with_consumer old (server_name n) queue no_ack new.seats) { next_name = n + 1 }
+
+-- A consumer was made under the next name that is not in use, or refused: then nothing changed.
+abbrev pub ConsumesUnnamed : Given → ℕ → Bool → Result ℕ Refusal → Given → Type 0
+ConsumesUnnamed old queue no_ack (Ok number) new = (length old.consumers < 256) × ((old.next_number < greatest) × ((number ≡ old.next_number) × ((old.seats ≤ new.seats + 1) × ((n : ℕ) × IsMadeUnder old queue no_ack new n))))
+ConsumesUnnamed old queue no_ack (Err refusal) new = RefusesUnnamed old refusal × (new ≡ old)

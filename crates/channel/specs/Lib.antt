@@ -1,3 +1,4 @@
 pub mod Outstanding
 pub mod Seats
+pub mod Names
 pub mod Deliveries

@@ -1,6 +1,7 @@
 //! Delivery tags, what is outstanding under them, and the consumers with their limits.
 
 use crate::consumers::{Consumer, Refusal, Seat, given_to};
+use crate::names::next_name;
 use crate::pending::{Outstanding, Pending};
 use crate::seats::Seats;
 use model::{Taker, Text};
@@ -14,6 +15,7 @@ pub struct Deliveries {
     seats: Seats,
     next_tag: u64,
     next_number: u64,
+    next_name: u64,
     each_limit: u16,
     limit: u16,
 }
@@ -25,7 +27,7 @@ impl Model for Deliveries {
 
     ghost Value = { Given };
 
-    ghost view = { λ d. record { next_tag = d.next_tag; next_number = d.next_number; each_limit = d.each_limit; limit = d.limit; consumers = d.seats.consumers; outstanding = d.pending.outstanding; room = d.pending.room; seats = d.seats.room } };
+    ghost view = { λ d. record { next_tag = d.next_tag; next_number = d.next_number; next_name = d.next_name; each_limit = d.each_limit; limit = d.limit; consumers = d.seats.consumers; outstanding = d.pending.outstanding; room = d.pending.room; seats = d.seats.room } };
 
     ghost invariant = { λ d. AreBefore d.next_tag d.pending.outstanding × AreCounted d.seats d.pending.outstanding };
 }
@@ -36,17 +38,18 @@ impl Deliveries {
     ghost use Rattle.model.specs.Prefetch.{has_tag_left};
     ghost use Rattle.channel.specs.Outstanding.{tag_of};
     ghost use Rattle.channel.specs.Seats.{consumers_of, is_named};
-    ghost use Rattle.channel.specs.Deliveries.{with_given, with_limit, may_take, Consumes};
+    ghost use Rattle.channel.specs.Deliveries.{with_given, with_limit, may_take, Consumes, ConsumesUnnamed};
 
     /// Nothing was given out, there is no consumer and no limit. It takes no memory.
     pub fn new(alloc: Global) -> Deliveries
-        ensures { result ≡ record { next_tag = 1; next_number = 1; each_limit = 0; limit = 0; consumers = []; outstanding = []; room = result.room; seats = result.seats } }
+        ensures { result ≡ record { next_tag = 1; next_number = 1; next_name = 1; each_limit = 0; limit = 0; consumers = []; outstanding = []; room = result.room; seats = result.seats } }
     {
         Deliveries {
             pending: Pending::new(alloc),
             seats: Seats::new(alloc),
             next_tag: 1,
             next_number: 1,
+            next_name: 1,
             each_limit: 0,
             limit: 0,
         }
@@ -172,6 +175,33 @@ impl Deliveries {
         self.seats.push(consumer, held);
         self.next_number = number + 1;
         Ok(number)
+    }
+
+    /// Makes a consumer for whom the client gave no tag: its tag is `amq.ctag-N`, N counted from 1 on the channel, past those
+    /// in use. Refused as with `consume`, and where the names are spent (541).
+    pub fn consume_unnamed(
+        &mut self,
+        alloc: Global,
+        queue: u16,
+        no_ack: bool,
+    ) -> Result<u64, Refusal>
+        ensures { ConsumesUnnamed self.old queue no_ack result self.new }
+    {
+        if self.seats.len() >= 256 {
+            return Err(Refusal::TooMany);
+        }
+        if self.next_number == u64::MAX {
+            return Err(Refusal::Spent);
+        }
+        match next_name(alloc, &self.seats, self.next_name) {
+            Err(_) => Err(Refusal::Memory),
+            Ok(None) => Err(Refusal::Spent),
+            Ok(Some(name)) => {
+                let number = self.consume(name.tag, queue, no_ack)?;
+                self.next_name = name.number + 1;
+                Ok(number)
+            }
+        }
     }
 
     /// Takes the consumer of this tag out, if there is one. What it was given stays outstanding.

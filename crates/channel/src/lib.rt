@@ -7,6 +7,7 @@
 mod channels;
 mod consumers;
 mod deliveries;
+mod names;
 mod pending;
 mod seats;
 mod tags;

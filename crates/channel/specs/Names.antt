@@ -1,0 +1,29 @@
+-- Consumer tags that the server makes where a client gives none (AMQP 0-9-1, basic.consume, "consumer-tag"; their form is own).
+use Rattle.std.specs.Prelude.{◌≡◌, ◌<◌, ◌≤◌, ℕ, List, ◌++◌, codes, decimal, true, false, Option, Some, None, Result, Ok, Err}
+use Rattle.std.specs.List.{list_any}
+use Rattle.std.specs.declared.alloc.AllocError.{AllocError}
+use Rattle.model.specs.Words.{Text}
+use Rattle.model.specs.Step.{greatest}
+use Rattle.channel.specs.Seats.{is_named}
+use Rattle.channel.specs.declared.consumers.Consumer.{Consumer}
+use Rattle.channel.specs.declared.names.Name.{Name}
+
+-- `amq.ctag-` and the number
+abbrev pub server_name : ℕ → Text
+server_name n = codes "amq.ctag-" ++ decimal n
+
+-- Of the names from this number on, it is the first that no consumer has.
+pub record IsNextName (consumers : List Consumer) (from n : ℕ) : Type 0 where
+  pub least : from ≤ n
+  pub free : list_any (is_named (server_name n)) consumers ≡ false
+  pub before : (k : ℕ) → from ≤ k → k < n → list_any (is_named (server_name k)) consumers ≡ true
+
+-- Consumers have all names from this number on.
+abbrev pub AreNamesSpent : List Consumer → ℕ → Type 0
+AreNamesSpent consumers from = (k : ℕ) → from ≤ k → k < greatest → list_any (is_named (server_name k)) consumers ≡ true
+
+-- The next name was made, or none is left, or memory was wanting.
+abbrev pub Finds : List Consumer → ℕ → Result (Option Name) AllocError → Type 0
+Finds consumers from (Ok (Some name)) = IsNextName consumers from name.number × ((name.tag ≡ server_name name.number) × (name.number < greatest))
+Finds consumers from (Ok None) = AreNamesSpent consumers from
+Finds consumers from (Err e) = Unit {0}
