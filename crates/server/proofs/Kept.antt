@@ -13,8 +13,8 @@ use Rattle.server.specs.declared.refusals.Refusal.{Refusal}
 use Rattle.server.specs.declared.refusals.Refusal.TheVariants.{Line, Refused, TooLong, Unread, Unwritten, NoExchange, Certificate as OfCertificate, Memory}
 use Rattle.command_line.specs.CommandLine.{Wanted, Check}
 use Rattle.named_files.specs.Files.{Known, AreKept}
-use Rattle.named_files.specs.Stated.{SetsUp}
-use Rattle.named_files.proofs.Kept.{kept_then, kept_but_then}
+use Rattle.named_files.specs.Stated.{SetsUp, FailsToCertify, IsWhyUncertified}
+use Rattle.named_files.proofs.Kept.{kept_then, kept_but_then, why_kept}
 use Rattle.verdicts.specs.Verdicts.{AreFound, status_of_verdicts}
 use Rattle.named_files.specs.declared.refusals.Refusal.{Refusal as FileRefusal}
 use Rattle.server.specs.Refusals.{of_refused, IsOfFile}
@@ -36,7 +36,12 @@ left_of_kept before after file Memory h = h
 -- the refusal of a file, as the command tells it
 pub told_as : (IsRefused : Text → FileRefusal → Type 0) (file told : Text) (cause : FileRefusal) (why : Refusal)
     → told ≡ file → why ≡ of_refused cause → IsRefused file cause → IsOfFile IsRefused told why
-told_as IsRefused file told cause why same is h = (cause, (is, subst (λ (name : Text). IsRefused name cause) (sym same) h))
+told_as IsRefused file told cause why same is h = (cause, is, subst (λ (name : Text). IsRefused name cause) (sym same) h)
+
+-- the same of a certificates file, which is read after files that were kept
+pub told_uncertified : (a b : Text → Known) (named : Option Text) (file told : Text) (cause : FileRefusal) (why : Refusal) → AreKept a b
+    → told ≡ file → why ≡ of_refused cause → FailsToCertify b named file cause → IsOfFile (FailsToCertify a named) told why
+told_uncertified a b named file told cause why k same is h = told_as (FailsToCertify a named) file told cause why same is (why_kept a b IsWhyUncertified named file cause k h)
 
 -- ---- guarantees
 

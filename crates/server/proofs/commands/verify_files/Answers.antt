@@ -1,7 +1,6 @@
-use Rattle.named_files.specs.Stated.{FailsToSetUp, FailsToCertify, IsWhyUncertified}
-use Rattle.named_files.proofs.Kept.{why_kept}
+use Rattle.named_files.specs.Stated.{FailsToSetUp}
 use Rattle.server.specs.Program.{unset, uncertified, wanting}
-use Rattle.server.proofs.Kept.{told_as}
+use Rattle.server.proofs.Kept.{told_as, told_uncertified}
 use Rattle.server.proofs.commands.verify_files.Goals as goal
 
 pub returns-in-Err-clause-answers : goal.returns-in-Err-clause-answers
@@ -11,7 +10,7 @@ pub returns-in-Err-certificates_of-clause-answers :
     goal.returns-in-Err-certificates_of-clause-answers
 returns-in-Err-certificates_of-clause-answers g c =
     uncertified (record { topology = c.in-Ok.setup.topology; users = c.in-Ok.setup.users.items }) c.in-Ok.setup.guarantees.items c.in-Ok.ensures.states
-    (told_as (FailsToCertify _ _) _ _ _ _ c.told_of.ensures.file c.told_of.ensures.why (why_kept _ _ IsWhyUncertified _ _ _ c.in-Ok.ensures.files c.in-Err-certificates_of.ensures.states))
+    (told_uncertified _ _ _ _ _ _ _ c.in-Ok.ensures.files c.told_of-in-Err-certificates_of.ensures.file c.told_of-in-Err-certificates_of.ensures.why c.in-Err-certificates_of.ensures.states)
 
 pub returns-clause-answers : goal.returns-clause-answers
 returns-clause-answers g c = rw c.from.ensures wanting

@@ -1,7 +1,7 @@
-use Rattle.named_files.specs.Stated.{FailsToSetUp, FailsToCertify, IsWhyUncertified}
-use Rattle.named_files.proofs.Kept.{why_kept, certifies_kept, few_promised}
+use Rattle.named_files.specs.Stated.{FailsToSetUp}
+use Rattle.named_files.proofs.Kept.{certifies_kept, few_promised}
 use Rattle.server.specs.Program.{unset, uncertified, unadmitted}
-use Rattle.server.proofs.Kept.{told_as}
+use Rattle.server.proofs.Kept.{told_as, told_uncertified}
 use Rattle.server.proofs.replaying.in_force.Goals as goal
 
 pub returns-in-Err-clause-force : goal.returns-in-Err-clause-force
@@ -10,7 +10,7 @@ returns-in-Err-clause-force g c = λ script. unset (told_as (FailsToSetUp _ _ _)
 pub returns-in-Err-certificates_of-clause-force : goal.returns-in-Err-certificates_of-clause-force
 returns-in-Err-certificates_of-clause-force g c =
     λ script. uncertified (record { topology = c.in-Ok.setup.topology; users = c.in-Ok.setup.users.items }) c.in-Ok.setup.guarantees.items c.in-Ok.ensures.states
-    (told_as (FailsToCertify _ _) _ _ _ _ c.told_of.ensures.file c.told_of.ensures.why (why_kept _ _ IsWhyUncertified _ _ _ c.in-Ok.ensures.files c.in-Err-certificates_of.ensures.states))
+    (told_uncertified _ _ _ _ _ _ _ c.in-Ok.ensures.files c.told_of-in-Err-certificates_of.ensures.file c.told_of-in-Err-certificates_of.ensures.why c.in-Err-certificates_of.ensures.states)
 
 pub admitted-requires : goal.admitted-requires
 admitted-requires g c = few_promised _ _ _ _ c.in-Ok.ensures.states.promises
