@@ -1,5 +1,5 @@
 -- What the program does (own): what it answers, its messages and its status.
-use Rattle.std.specs.Prelude.{◌≡◌, ◌+◌, ◌⊎◌, ◌++◌, ℕ, Bool, List, [], ◌∷◌, Option, Some, None, Ok, Err, codes, decimal, ⊤}
+use Rattle.std.specs.Prelude.{◌≡◌, ◌+◌, ◌⊎◌, ◌++◌, ◌≤◌, ℕ, Bool, List, [], ◌∷◌, Option, Some, None, Ok, Err, codes, decimal, length, ⊤}
 use Rattle.model.specs.Words.{Text}
 use Rattle.model.specs.Topology.{Topology}
 use Rattle.model.specs.State.{Config}
@@ -22,7 +22,7 @@ use Rattle.server.specs.Refusals.{IsOfFile}
 use Rattle.scripts.specs.Script.{script}
 use Rattle.scripts.specs.Transcript.{transcript_text}
 use Rattle.server.specs.Routes.{Lists}
-use Rattle.named_files.specs.Files.{Known, HasText, IsTooLong, IsClosed, AreKept, AreKeptBut}
+use Rattle.named_files.specs.Files.{Known, HasText, IsTooLong, IsClosed, AreKept, AreKeptBut, most_bytes}
 use Rattle.server.specs.Streams.{Stream, GetsNothing, Puts, Tries, tried}
 use Rattle.named_files.specs.Stated.{States, Certifies, CertifiesAt, SetsUp, FailsToSetUp, FailsToCertify}
 use Rattle.verdicts.specs.Verdicts.{AreFound, Judges, certificates_in, status_of_verdicts}
@@ -64,11 +64,16 @@ ListsFile known exchange key listed = (stated : Stated) × States known stated �
 
 -- ---- certificates that are written
 
--- the file has these certificates and is read back as exactly these, and no other file is known to have changed
+-- a text that is read back as exactly these certificates: it states them, and is no longer than any that is read
+pub record ReadsBack (text : Text) (cs : List Shown) : Type 0 where
+  pub short : length text ≤ most_bytes
+  pub states : IsFile text cs
+
+-- the file is read back as exactly these certificates, and no other file is known to have changed
 pub record IsFiled (before after : Text → Known) (file : Text) (cs : List Shown) : Type 0 where
   pub text : Text
   pub has : HasText (after file) text
-  pub read_back : IsFile text cs
+  pub read_back : ReadsBack text cs
   pub others : AreKeptBut file before after
 
 -- a command that prints nothing leaves all files as they are, but one that it could not write

@@ -1,8 +1,7 @@
 //! Certificates that `check` writes to a file.
 
 ghost use Rattle.std.specs.Prelude.{◌≡◌, MatchResult, option_map, Some};
-ghost use Rattle.certificate_files.specs.Reads.{IsFile};
-ghost use Rattle.server.specs.Program.{IsFiled, WritesOut, IsUnwritten, IsUnfiled};
+ghost use Rattle.server.specs.Program.{IsFiled, WritesOut, IsUnwritten, IsUnfiled, ReadsBack};
 ghost use Rattle.verdicts.specs.Verdicts.{certificates_in, status_of_verdicts};
 
 use crate::refusals::{Refusal, Told};
@@ -16,9 +15,9 @@ use verdicts::certificates_in;
 /// The greatest file that is written, in bytes: no longer one is read.
 const LIMIT: usize = 16_777_216;
 
-/// The file of these certificates, where one may be that long.
+/// The file of these certificates, where one may be that long to be read back.
 fn text_of(alloc: Global, certificates: &[Certificate]) -> Result<Vec<u8>, Refusal>
-    ensures { MatchResult result (λ text. IsFile text.items certificates.now) IsUnwritten }
+    ensures { MatchResult result (λ text. ReadsBack text.items certificates.now) IsUnwritten }
 {
     match write_certificates(alloc, certificates) {
         Ok(text) if text.len() <= LIMIT => Ok(text),
