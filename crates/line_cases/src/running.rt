@@ -6,35 +6,47 @@ use line_words::Unanswered;
 use std::process::ExitCode;
 use std::{fs, io};
 
-/// The answer to a line of this kind.
+/// The kinds of lines about routing.
+const OF_ROUTING: [&str; 16] = [
+    "pattern",
+    "match",
+    "places",
+    "words",
+    "definitions",
+    "definitions-hex",
+    "counts",
+    "queue",
+    "exchange",
+    "user",
+    "route",
+    "visited",
+    "guarantees",
+    "guarantees-hex",
+    "guarantee",
+    "covers",
+];
+
+/// The kinds of lines about certificates.
+const OF_CERTIFICATES: [&str; 9] = [
+    "admit",
+    "admitted",
+    "check",
+    "search",
+    "certificate",
+    "disprove",
+    "certificates",
+    "certificates-hex",
+    "rewritten",
+];
+
+/// The answer to a line of this kind. One that is neither about routing nor about certificates is about the wire.
 fn answer(rt: &HostRuntime, kind: &str, asked: &str) -> Result<String, Unanswered> {
-    match kind {
-        "pattern"
-        | "match"
-        | "places"
-        | "words"
-        | "definitions"
-        | "definitions-hex"
-        | "counts"
-        | "queue"
-        | "exchange"
-        | "user"
-        | "route"
-        | "visited"
-        | "guarantees"
-        | "guarantees-hex"
-        | "guarantee"
-        | "covers" => routing_lines::answer(rt, kind, asked),
-        "admit"
-        | "admitted"
-        | "check"
-        | "search"
-        | "certificate"
-        | "disprove"
-        | "certificates"
-        | "certificates-hex"
-        | "rewritten" => certificate_lines::answer(rt, kind, asked),
-        _ => wire_lines::answer(rt.alloc(), kind, asked),
+    if OF_ROUTING.contains(&kind) {
+        routing_lines::answer(rt, kind, asked)
+    } else if OF_CERTIFICATES.contains(&kind) {
+        certificate_lines::answer(rt, kind, asked)
+    } else {
+        wire_lines::answer(rt.alloc(), kind, asked)
     }
 }
 
