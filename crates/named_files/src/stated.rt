@@ -51,7 +51,10 @@ fn read_definitions_of<F: Files>(
     Ok(read_definitions(alloc, text.as_slice())?)
 }
 
-/// What the definitions of a file state.
+/// What the definitions of a file state. The file is read whole, and none is changed.
+///
+/// Refused, with the name of the file, where it cannot be read or is too long, by the least cause that stands in it, or for
+/// want of memory.
 pub fn definitions_of<'a, F: Files>(
     alloc: Global,
     file: &'a str,
@@ -115,7 +118,11 @@ fn topology_of<'a, F: Files>(
     }
 }
 
-/// What definitions and guarantees state together, where each is named or not.
+/// What definitions and guarantees state together, where each is named or not. No file is changed.
+///
+/// Where no definitions are named, the built-in topology is taken, and nobody may log in; where no guarantees are, there are
+/// none. The definitions are judged first: the guarantees are refused only over definitions that are good. Where memory is
+/// wanting the file may be left unnamed.
 pub fn set_up<'a, F: Files>(
     alloc: Global,
     definitions: Option<&'a str>,
@@ -152,7 +159,7 @@ fn read_certificates_of<F: Files>(
     Ok(read_certificates(alloc, text.as_slice())?)
 }
 
-/// The certificates of a file, where one is named.
+/// The certificates of a file, where one is named, and else none. No file is changed. Refused as definitions are.
 pub fn certificates_of<'a, F: Files>(
     alloc: Global,
     file: Option<&'a str>,

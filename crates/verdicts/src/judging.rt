@@ -166,7 +166,7 @@ fn put_certificate(found: &mut Vec<Certificate>, verdict: Verdict) -> Result<(),
     }
 }
 
-/// The certificates among the verdicts.
+/// The certificates among the verdicts, in their order. The one error is want of memory.
 pub fn certificates_in(
     alloc: Global,
     verdicts: Vec<Verdict>,
@@ -180,8 +180,8 @@ pub fn certificates_in(
     Ok(found)
 }
 
-/// What is printed of guarantees, and the verdicts on them. The status is 0 only where all of them hold, and 1 only where
-/// one of them fails.
+/// What is printed of guarantees, a line each, numbered from 1, with the status; and the verdicts, in the same order. The
+/// status is 0 only where all guarantees hold, and 1 only where one of them fails. The one error is want of memory.
 #[tactic(auto, using(crate::proofs::Meaning::verdicts_mean))]
 pub fn judge(
     alloc: Global,

@@ -151,7 +151,9 @@ fn status_of(outcomes: &[Outcome]) -> u8
     0
 }
 
-/// What is printed of the certificates of guarantees. The status is 0 only where each has its certificate, and so holds.
+/// What is printed of the certificates of guarantees, a line each, numbered from 1, with the status. The certificate of a
+/// guarantee is the one at its place; where it has none that is fault 5, and fault 5 is told once more where there are
+/// certificates too many. The status is 0 only where each has its certificate, and so holds. The one error is want of memory.
 #[tactic(auto, using(crate::proofs::Meaning::outcomes_mean))]
 pub fn verify(
     alloc: Global,
