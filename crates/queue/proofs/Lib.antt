@@ -3,3 +3,4 @@ pub mod Places
 pub mod Slotted
 pub mod Requeued
 pub mod Purging
+pub mod Firsts

@@ -1,9 +1,10 @@
 //! What a queue does with the entries that it keeps.
 
-ghost use Rattle.std.specs.Prelude.{◌≡◌, ℕ, Option, Some, None, ◌+◌, count_by, vec_len, vec_capacity};
+ghost use Rattle.std.specs.Prelude.{◌≡◌, ◌<◌, ◌≤◌, ℕ, Option, Some, None, ◌+◌, ◌++◌, take, drop, get_or, find, filter, not, is_some, option_map, length, count_by, vec_len, vec_capacity};
+ghost use Rattle.std.specs.List.{position_from};
 ghost use Rattle.model.specs.Broker.{is_ready};
 ghost use Rattle.model.specs.Step.{freed};
-ghost use Rattle.queue.specs.Line.{ready_count, held_on, is_under, is_held_by, is_held_as, freed_now, requeued};
+ghost use Rattle.queue.specs.Line.{ready_count, held_on, is_under, is_held_by, is_held_as, freed_now, held_as, change_first, without_first, requeued};
 
 use model::{Entry, Holder, Mark};
 
@@ -108,4 +109,79 @@ pub(crate) fn requeue(
     }
     free_all(entries, connection, channel);
     entries.len() - count_ready(entries)
+}
+
+/// How many of the entries are held.
+pub(crate) fn count_held(entries: &[Entry]) -> usize
+    ensures { result + ready_count entries.now ≡ length entries.now }
+{
+    entries.len() - count_ready(entries)
+}
+
+/// The first entry that can be given out.
+pub(crate) fn first_free(entries: &[Entry]) -> Option<&Entry>
+    ensures { option_map (λ e. e.now) result ≡ find is_ready entries.now }
+{
+    entries.iter().find(|e| is_free(e))
+}
+
+/// The first entry that is held under this tag.
+pub(crate) fn first_held<'a>(entries: &'a [Entry], holder: &Holder) -> Option<&'a Entry>
+    ensures { option_map (λ e. e.now) result ≡ find (is_held_as holder.now) entries.now }
+{
+    entries.iter().find(|e| is_held_under(e, holder))
+}
+
+/// The place of the first entry that can be given out.
+fn place_free(entries: &[Entry]) -> Option<usize>
+    ensures { result ≡ position_from is_ready 0 entries.now }
+{
+    entries.iter().position(|e| is_free(e))
+}
+
+/// The entry is held from now on.
+fn hold(entry: &mut Entry, holder: Holder)
+    ensures { entry.new ≡ held_as holder entry.old }
+{
+    entry.mark = Mark::Held(holder);
+}
+
+/// Gives the first entry out that can be. Tells whether there is one.
+pub(crate) fn hold_first(entries: &mut Vec<Entry>, holder: Holder) -> bool
+    ensures told { result ≡ is_some (find is_ready entries.old.items) }
+    ensures entries { entries.new.items ≡ change_first is_ready (held_as holder) entries.old.items }
+    ensures len { vec_len entries.new ≡ vec_len entries.old }
+    ensures capacity { vec_capacity entries.new ≡ vec_capacity entries.old }
+{
+    match place_free(entries) {
+        None => false,
+        Some(place) => {
+            hold(&mut entries[place], holder);
+            true
+        }
+    }
+}
+
+/// Takes the entry at this place out.
+fn take_at(entries: &mut Vec<Entry>, place: usize) -> Entry
+    requires { place < vec_len entries.old }
+    ensures entry { result ≡ get_or entries.old.items place result }
+    ensures entries { entries.new.items ≡ take place entries.old.items ++ drop (place + 1) entries.old.items }
+    ensures len { vec_len entries.new ≤ vec_len entries.old }
+    ensures capacity { vec_capacity entries.new ≡ vec_capacity entries.old }
+{
+    entries.remove(place)
+}
+
+/// Takes the first entry out that can be given out.
+pub(crate) fn take_free(entries: &mut Vec<Entry>) -> Option<Entry>
+    ensures taken { result ≡ find is_ready entries.old.items }
+    ensures entries { entries.new.items ≡ without_first is_ready entries.old.items }
+    ensures len { vec_len entries.new ≤ vec_len entries.old }
+    ensures capacity { vec_capacity entries.new ≡ vec_capacity entries.old }
+{
+    match place_free(entries) {
+        None => None,
+        Some(place) => Some(take_at(entries, place)),
+    }
 }

@@ -8,6 +8,7 @@ use crate::signs::Signs;
 use crate::slots::{
     Slot, append, close_gaps, entry_at, free_at, hold_at, place_held, requeue_in, take_at,
 };
+use crate::store::Store;
 use model::{Entry, Holder, Mark, Message};
 use std::alloc::{AllocError, Global};
 use std::marker::Model;
@@ -265,6 +266,58 @@ impl Indexed {
         ensures room { self.new.room ≡ self.old.room }
     {
         purge_in(self, numbers);
+    }
+}
+
+impl Store for Indexed {
+    ghost line = { λ q. q };
+
+    fn new(alloc: Global) -> Indexed {
+        Indexed::new(alloc)
+    }
+
+    fn reserve(&mut self, more: usize) -> Result<(), AllocError> {
+        Indexed::reserve(self, more)
+    }
+
+    fn push(&mut self, message: Message) {
+        Indexed::push(self, message);
+    }
+
+    fn len(&self) -> usize {
+        Indexed::len(self)
+    }
+
+    fn ready(&self) -> usize {
+        Indexed::ready(self)
+    }
+
+    fn is_full(&self, limit: Option<u32>, size: usize) -> bool {
+        Indexed::is_full(self, limit, size)
+    }
+
+    fn first_ready(&self) -> Option<&Entry> {
+        Indexed::first_ready(self)
+    }
+
+    fn hold(&mut self, holder: Holder) -> Option<u64> {
+        Indexed::hold(self, holder)
+    }
+
+    fn take_first(&mut self) -> Option<Entry> {
+        Indexed::take_first(self)
+    }
+
+    fn held(&self, holder: &Holder, arrival: u64) -> Option<&Entry> {
+        Indexed::held(self, holder, arrival)
+    }
+
+    fn requeue_channel(&mut self, connection: u64, channel: u16) {
+        Indexed::requeue_channel(self, connection, channel);
+    }
+
+    fn requeue_connection(&mut self, connection: u64) {
+        Indexed::requeue_connection(self, connection);
     }
 }
 

@@ -2,8 +2,9 @@
 
 ghost use Rattle.std.specs.Prelude.{◌≡◌};
 
-use crate::entries::requeue;
-use model::{Entry, Mark, Message};
+use crate::entries::{count_held, first_free, first_held, hold_first, requeue, take_free};
+use crate::store::Store;
+use model::{Entry, Holder, Mark, Message};
 use std::alloc::{AllocError, Global};
 use std::marker::Model;
 
@@ -39,11 +40,14 @@ impl Queue {
       Some,
       None,
       length,
+      find,
+      is_some,
+      option_map,
     };
-    ghost use Rattle.model.specs.Broker.{is_at};
+    ghost use Rattle.model.specs.Broker.{is_at, is_ready};
     ghost use Rattle.model.specs.Step.{by_channel, by_connection};
     ghost use Rattle.model.specs.declared.messages.Mark.TheVariants.{Ready};
-    ghost use Rattle.queue.specs.Line.{ready_count, requeued};
+    ghost use Rattle.queue.specs.Line.{ready_count, requeued, is_held_as, held_as, change_first, without_first};
 
     /// A queue with no message. It takes no memory.
     pub fn new(alloc: Global) -> Queue
@@ -96,6 +100,51 @@ impl Queue {
         }
     }
 
+    /// How many messages the queue has, ready or held.
+    pub fn len(&self) -> usize
+        ensures { result ≡ length self.now.entries }
+    {
+        self.entries.len()
+    }
+
+    /// The first message that can be given out.
+    pub fn first_ready(&self) -> Option<&Entry>
+        ensures { option_map (λ e. e.now) result ≡ find is_ready self.now.entries }
+    {
+        first_free(&self.entries)
+    }
+
+    /// Gives the first ready message out, if there is one: it is held from now on. Tells 0, since arrivals have no numbers
+    /// here.
+    pub fn hold(&mut self, holder: Holder) -> Option<u64>
+        ensures told { is_some result ≡ is_some (find is_ready self.old.entries) }
+        ensures entries { self.new.entries ≡ change_first is_ready (held_as holder) self.old.entries }
+        ensures room { self.new.room ≡ self.old.room }
+    {
+        let is_given = hold_first(&mut self.entries, holder);
+        self.held = count_held(&self.entries);
+        if is_given { Some(0) } else { None }
+    }
+
+    /// Takes the first ready message out, if there is one.
+    pub fn take_first(&mut self) -> Option<Entry>
+        ensures taken { result ≡ find is_ready self.old.entries }
+        ensures entries { self.new.entries ≡ without_first is_ready self.old.entries }
+        ensures room { self.old.room ≤ self.new.room }
+    {
+        let entry = take_free(&mut self.entries);
+        self.held = count_held(&self.entries);
+        entry
+    }
+
+    /// The message that is held under this tag.
+    pub fn held(&self, holder: &Holder, arrival: u64) -> Option<&Entry>
+        ensures { option_map (λ e. e.now) result ≡ find (is_held_as holder.now) self.now.entries }
+    {
+        let _ = arrival;
+        first_held(&self.entries, holder)
+    }
+
     /// What the channel of this connection held is ready again, each message in its place and marked redelivered. The
     /// order and the number of messages stay. It takes no memory, and no time where nothing is held.
     pub fn requeue_channel(&mut self, connection: u64, channel: u16)
@@ -111,5 +160,57 @@ impl Queue {
         ensures room { self.new.room ≡ self.old.room }
     {
         self.held = requeue(&mut self.entries, self.held, connection, None);
+    }
+}
+
+impl Store for Queue {
+    ghost line = { λ q. q };
+
+    fn new(alloc: Global) -> Queue {
+        Queue::new(alloc)
+    }
+
+    fn reserve(&mut self, more: usize) -> Result<(), AllocError> {
+        Queue::reserve(self, more)
+    }
+
+    fn push(&mut self, message: Message) {
+        Queue::push(self, message);
+    }
+
+    fn len(&self) -> usize {
+        Queue::len(self)
+    }
+
+    fn ready(&self) -> usize {
+        Queue::ready(self)
+    }
+
+    fn is_full(&self, limit: Option<u32>, size: usize) -> bool {
+        Queue::is_full(self, limit, size)
+    }
+
+    fn first_ready(&self) -> Option<&Entry> {
+        Queue::first_ready(self)
+    }
+
+    fn hold(&mut self, holder: Holder) -> Option<u64> {
+        Queue::hold(self, holder)
+    }
+
+    fn take_first(&mut self) -> Option<Entry> {
+        Queue::take_first(self)
+    }
+
+    fn held(&self, holder: &Holder, arrival: u64) -> Option<&Entry> {
+        Queue::held(self, holder, arrival)
+    }
+
+    fn requeue_channel(&mut self, connection: u64, channel: u16) {
+        Queue::requeue_channel(self, connection, channel);
+    }
+
+    fn requeue_connection(&mut self, connection: u64) {
+        Queue::requeue_connection(self, connection);
     }
 }

@@ -1,0 +1,79 @@
+//! What a queue does, whatever way its entries are kept.
+
+ghost use Rattle.std.specs.Prelude.{◌≡◌, ◌+◌, ◌<◌, ◌≤◌, ◌∷◌, ◌++◌, [], OnOk, OnErr, Some, None, length, find, is_some, option_map};
+ghost use Rattle.model.specs.Broker.{is_at, is_ready};
+ghost use Rattle.model.specs.Step.{by_channel, by_connection};
+ghost use Rattle.model.specs.declared.messages.Mark.TheVariants.{Ready};
+ghost use Rattle.queue.specs.Line.{Line, ready_count, requeued, is_held_as, held_as, change_first, without_first};
+
+use model::{Entry, Holder, Message};
+use std::alloc::{AllocError, Global};
+
+/// Messages in the order in which they came, ready or held. Room is made by `reserve` alone; no other call takes memory.
+pub trait Store: Drop {
+    /// The entries in arrival order, and how many pushes need no memory.
+    ghost line: { Self → Line };
+
+    /// A queue with no message.
+    fn new(alloc: Global) -> Self
+        ensures { (line result).entries ≡ [] };
+
+    /// Makes room for so many messages more. The entries stay as they are, also where memory is wanting.
+    fn reserve(&mut self, more: usize) -> Result<(), AllocError>
+        ensures entries { (line self.new).entries ≡ (line self.old).entries }
+        ensures kept { (line self.old).room ≤ (line self.new).room }
+        ensures room { OnOk result (more ≤ (line self.new).room) }
+        ensures full { OnErr result ((line self.old).room < more) };
+
+    /// The message comes to the end of the queue and is ready. There is room for it.
+    fn push(&mut self, message: Message)
+        requires { 0 < (line self.old).room }
+        ensures entries { (line self.new).entries ≡ (line self.old).entries ++ record { message = message; mark = Ready } ∷ [] }
+        ensures room { (line self.new).room + 1 ≡ (line self.old).room };
+
+    /// How many messages the queue has, ready or held.
+    fn len(&self) -> usize
+        ensures { result ≡ length (line self.now).entries };
+
+    /// How many messages can be given out.
+    fn ready(&self) -> usize
+        ensures { result ≡ ready_count (line self.now).entries };
+
+    /// Whether the queue, under this limit of ready messages, refuses a message with a body of `size` bytes: so it does
+    /// where it has a limit and at least as many ready messages. Source: RabbitMQ, "Queue Length Limit", reject-publish.
+    fn is_full(&self, limit: Option<u32>, size: usize) -> bool
+        ensures { result ≡ is_at limit (ready_count (line self.now).entries) };
+
+    /// The first message that can be given out.
+    fn first_ready(&self) -> Option<&Entry>
+        ensures { option_map (λ e. e.now) result ≡ find is_ready (line self.now).entries };
+
+    /// Gives the first ready message out, if there is one: it is held from now on. Tells the number of its arrival, by which
+    /// it may be found again sooner. Nothing is held under this tag yet.
+    fn hold(&mut self, holder: Holder) -> Option<u64>
+        requires { find (is_held_as holder) (line self.old).entries ≡ None }
+        ensures told { is_some result ≡ is_some (find is_ready (line self.old).entries) }
+        ensures entries { (line self.new).entries ≡ change_first is_ready (held_as holder) (line self.old).entries }
+        ensures room { (line self.new).room ≡ (line self.old).room };
+
+    /// Takes the first ready message out, if there is one.
+    fn take_first(&mut self) -> Option<Entry>
+        ensures taken { result ≡ find is_ready (line self.old).entries }
+        ensures entries { (line self.new).entries ≡ without_first is_ready (line self.old).entries }
+        ensures room { (line self.old).room ≤ (line self.new).room };
+
+    /// The message that is held under this tag.
+    fn held(&self, holder: &Holder, arrival: u64) -> Option<&Entry>
+        ensures { option_map (λ e. e.now) result ≡ find (is_held_as holder.now) (line self.now).entries };
+
+    /// What the channel of this connection held is ready again, each message in its place and marked redelivered. The
+    /// order and the number of messages stay.
+    fn requeue_channel(&mut self, connection: u64, channel: u16)
+        ensures entries { (line self.new).entries ≡ requeued (by_channel connection channel) (line self.old).entries }
+        ensures room { (line self.new).room ≡ (line self.old).room };
+
+    /// What this connection held, on whatever channel, is ready again as with `requeue_channel`.
+    fn requeue_connection(&mut self, connection: u64)
+        ensures entries { (line self.new).entries ≡ requeued (by_connection connection) (line self.old).entries }
+        ensures room { (line self.new).room ≡ (line self.old).room };
+}
