@@ -1,5 +1,5 @@
 -- The first of a list that passes, by its place.
-use Rattle.std.proofs.Common.{◌≡◌, ℕ, zero, suc, ◌+◌, ◌-◌, ◌<◌, ◌≤◌, List, [], ◌∷◌, ◌++◌, length, get_or, set, take, drop, filter, find, refl, sym, ap, ◌∙◌, subst, arith, Bool, true, false, cond, not, Option, Some, None}
+use Rattle.std.proofs.Common.{◌≡◌, ℕ, suc, ◌+◌, ◌<◌, List, [], ◌∷◌, ◌++◌, length, get_or, set, take, drop, find, refl, sym, ap, subst, arith, Bool, true, false, cond, Option, Some, None}
 use Rattle.std.specs.List.{position_from}
 use Rattle.queue.specs.Line.{change_first, without_first}
 

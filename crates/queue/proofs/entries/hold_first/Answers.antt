@@ -1,9 +1,9 @@
-use Rattle.std.proofs.Common.{◌≡◌, ◌∙◌, ◌<◌, ◌+◌, ◌++◌, arith, ap, sym, subst, refl, is_some, find, List, Option, Some, None, ℕ, get_or, set, take, drop, length, vec_len, rules}
+use Rattle.std.proofs.Common.{◌≡◌, ◌∙◌, arith, ap, sym, subst, is_some, List, Option, Some, None, ℕ, set, length, vec_len, rules}
 use Rattle.std.specs.List.{position_from}
 use Rattle.model.specs.Broker.{is_ready}
 use Rattle.model.specs.declared.messages.Entry.{Entry}
-use Rattle.queue.specs.Line.{held_as, change_first, without_first}
-use Rattle.queue.proofs.Firsts.{IsFirstAt, IsNowhere, first_at, nowhere}
+use Rattle.queue.specs.Line.{held_as}
+use Rattle.queue.proofs.Firsts.{first_at, nowhere}
 use Rattle.queue.proofs.entries.hold_first.Goals as goal
 
 pub index_mut-requires : goal.index_mut-requires

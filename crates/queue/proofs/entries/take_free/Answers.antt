@@ -1,9 +1,8 @@
-use Rattle.std.proofs.Common.{◌≡◌, ◌∙◌, ◌<◌, ◌+◌, ◌++◌, arith, ap, sym, subst, refl, is_some, find, List, Option, Some, None, ℕ, get_or, set, take, drop, length, vec_len, rules, suc}
+use Rattle.std.proofs.Common.{◌≡◌, ◌∙◌, ◌+◌, ◌++◌, arith, ap, sym, subst, List, Option, Some, None, ℕ, take, drop, length, vec_len, rules, suc}
 use Rattle.std.specs.List.{position_from}
 use Rattle.model.specs.Broker.{is_ready}
 use Rattle.model.specs.declared.messages.Entry.{Entry}
-use Rattle.queue.specs.Line.{held_as, change_first, without_first}
-use Rattle.queue.proofs.Firsts.{IsFirstAt, IsNowhere, first_at, nowhere}
+use Rattle.queue.proofs.Firsts.{first_at, nowhere}
 use Rattle.queue.proofs.entries.take_free.Goals as goal
 
 pub take_at-requires : goal.take_at-requires
