@@ -1,6 +1,6 @@
 //! Bytes that are put in at the back and taken from the front.
 
-ghost use Rattle.std.specs.Prelude.{◌≡◌, ◌≤◌, [], ◌++◌, length, drop, OnOk, OnErr, vec_len};
+ghost use Rattle.std.specs.Prelude.{◌≡◌, ◌+◌, ◌≤◌, [], ◌++◌, length, take, drop, OnOk, OnErr, vec_len};
 
 use std::alloc::{AllocError, Global};
 use std::marker::Model;
@@ -69,9 +69,24 @@ impl Unread {
     }
 }
 
+/// Takes `n` bytes from the front, no less than what is left, which moves there at once.
 fn drop_front(bytes: &mut Vec<u8>, n: usize)
-    requires { n ≤ vec_len bytes.old }
+    requires within { n ≤ vec_len bytes.old }
+    requires half { vec_len bytes.old ≤ n + n }
     ensures { bytes.new.items ≡ drop n bytes.old.items }
 {
-    bytes.drain(..n);
+    let left = bytes.len() - n;
+    move_to_front(bytes, n, left);
+    bytes.truncate(left);
+}
+
+/// Copies the bytes behind the first `n`, of which there are `left`, to the front.
+fn move_to_front(bytes: &mut [u8], n: usize, left: usize)
+    requires within { n + left ≡ length bytes.old }
+    requires apart { left ≤ n }
+    ensures len { length bytes.new ≡ length bytes.old }
+    ensures moved { take left bytes.new ≡ drop n bytes.old }
+{
+    let (taken, waiting) = bytes.split_at_mut(n);
+    taken[..left].copy_from_slice(waiting);
 }
