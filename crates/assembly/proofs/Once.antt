@@ -1,5 +1,5 @@
 -- A stream has one next command, or one end.
-use Rattle.std.proofs.Common.{◌≡◌, ◌==◌, ◌<◌, ◌^◌, ◌+◌, ℕ, zero, Bool, true, false, List, [], ◌∷◌, ◌++◌, length, MatchBool, Option, Some, None, Result, Ok, Err, sym, ap, subst, refl, ◌∙◌, append-nil}
+use Rattle.std.proofs.Common.{◌≡◌, ◌==◌, ◌<◌, ◌^◌, ℕ, Bool, true, false, List, [], MatchBool, Option, Some, None, Result, Ok, Err, sym, ap, subst, refl, ◌∙◌, append-nil}
 use Rattle.model.specs.Frames.{Frame, Begins, IsBroken}
 use Rattle.model.specs.Commands.{Stream, Pending, Nothing, Wants_header, Wants_body, Drops, Taken, Goes_on, Makes, Breaks, TakesOn, TakesPayload, TakesSized, is_too_large, taken_method, taken_header, taken_dropped, taken_heartbeat, is_on_wrong_channel, awaited, after_frame, Takes, Yields, now, later, Ends, short, broken, faulty, beyond}
 use Rattle.model.specs.Headers.{Header, SaysHeader}

@@ -1,8 +1,8 @@
 -- A stream goes on frame by frame.
-use Rattle.std.proofs.Common.{◌≡◌, ◌+◌, ◌<◌, ◌≤◌, ℕ, List, [], ◌∷◌, ◌++◌, length, drop, Option, Some, None, Result, Ok, Err, sym, ap, subst, refl, ◌∙◌, arith, length-append}
+use Rattle.std.proofs.Common.{◌≡◌, ◌+◌, ◌≤◌, ℕ, List, ◌++◌, length, drop, Option, Some, None, Ok, Err, sym, ap, subst, refl, arith, length-append}
 use Rattle.model.specs.Broker.{with_one}
 use Rattle.model.specs.Frames.{Frame, frame_bytes, Begins, IsBroken}
-use Rattle.model.specs.Commands.{Stream, Pending, Nothing, Taken, Goes_on, Makes, Breaks, TakesOn, Takes, pending_after, Yields, now, later, Ends, short, broken, faulty, beyond, GoesOn, stays, goes, IsCommand}
+use Rattle.model.specs.Commands.{Stream, Pending, Nothing, Taken, Goes_on, Makes, Breaks, TakesOn, Takes, pending_after, Yields, now, later, Ends, short, broken, faulty, beyond, GoesOn, stays, goes}
 use Rattle.model.specs.declared.events.Command.{Command}
 use Rattle.frame.specs.Reading.{IsUnfinished}
 use Rattle.assembly.specs.declared.faults.Fault.{Fault}

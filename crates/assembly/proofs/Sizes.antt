@@ -1,5 +1,5 @@
 -- A header declares one size, or is refused.
-use Rattle.std.proofs.Common.{◌≡◌, ◌≤◌, ℕ, List, length, Result, Ok, Err, inl, inr, refl, arith}
+use Rattle.std.proofs.Common.{◌≡◌, ◌≤◌, ℕ, List, length, Result, inl, inr, refl, arith}
 use Rattle.model.specs.Grammar.{class_at}
 use Rattle.model.specs.Headers.{SaysSize, IsNoHeader, weight_at, size, no_header}
 

@@ -1,5 +1,5 @@
 -- What a stream says of its bytes holds whatever comes behind them.
-use Rattle.std.proofs.Common.{◌≡◌, ◌≤◌, ◌+◌, ℕ, List, [], ◌∷◌, ◌++◌, length, Option, Some, None, sym, ap, subst, refl, ◌∙◌, append_assoc, arith, length-append}
+use Rattle.std.proofs.Common.{ℕ, List, ◌++◌, Option, Some, None, ap, subst, ◌∙◌, append_assoc, arith, length-append}
 use Rattle.model.specs.Frames.{Frame, frame_bytes, Begins, IsBroken}
 use Rattle.model.specs.Commands.{Stream, Pending, Taken, Goes_on, Takes, Yields, now, later, Ends, short, broken, faulty, beyond, GoesOn, stays, goes, heard}
 use Rattle.model.specs.declared.events.Command.{Command}

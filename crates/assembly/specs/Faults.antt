@@ -1,5 +1,5 @@
 -- Why a stream gives no command.
-use Rattle.std.specs.Prelude.{◌≡◌, ℕ, List, Err, ⊤}
+use Rattle.std.specs.Prelude.{ℕ, List, Err, ⊤}
 use Rattle.model.specs.Grammar.{SaysMethod}
 use Rattle.model.specs.Headers.{SaysSize, SaysHeader}
 use Rattle.methods.specs.declared.refusals.Refusal as methods_refusal

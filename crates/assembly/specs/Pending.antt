@@ -1,5 +1,5 @@
 -- What a channel has begun and not completed, as the stream's definitions see it.
-use Rattle.std.specs.Prelude.{◌≡◌, ◌≤◌, ℕ, List, slice_index_or, ⊤}
+use Rattle.std.specs.Prelude.{◌≤◌, ℕ, List, slice_index_or, ⊤}
 use Rattle.model.specs.Grammar.{IsMethod}
 use Rattle.model.specs.Commands
 use Rattle.model.specs.Commands.{Wants_header, Wants_body}

@@ -1,13 +1,9 @@
 -- What taking one frame does.
-use Rattle.std.specs.Prelude.{◌≡◌, ℕ, List, Option, Some, None, Result, Ok, Err}
+use Rattle.std.specs.Prelude.{◌≡◌, ℕ, Option, Some, None, Result, Ok, Err}
 use Rattle.model.specs.Broker.{with_one}
-use Rattle.model.specs.Frames
 use Rattle.model.specs.Commands
 use Rattle.model.specs.Commands.{Taken, Goes_on, Makes, Breaks, IsCommand}
 use Rattle.model.specs.declared.events.Command.{Command}
-use Rattle.model.specs.declared.methods.Publish.{Publish}
-use Rattle.model.specs.declared.methods.Method.{Method}
-use Rattle.model.specs.declared.methods.Method.TheVariants.{BasicPublish}
 use Rattle.assembly.specs.declared.faults.Fault.{Fault}
 use Rattle.assembly.specs.Faults.{IsFault}
 

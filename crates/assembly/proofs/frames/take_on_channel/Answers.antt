@@ -1,4 +1,4 @@
-use Rattle.std.proofs.Common.{◌≡◌, ◌<◌, ◌==◌, MatchBool, length, rules}
+use Rattle.std.proofs.Common.{◌≡◌, ◌==◌, MatchBool, rules}
 use Rattle.model.specs.Commands.{Breaks, TakesPayload, awaited}
 use Rattle.frame.specs.Reading.{seen}
 use Rattle.assembly.proofs.Places.{does_there, spelled_there, spelled_back}
