@@ -1,8 +1,8 @@
 -- Faults carry facts, a method is a publish or a command, and a header may be of a content that is too large.
-use Rattle.std.proofs.Common.{◌≡◌, ℕ, true, Option, Some, None, sym, ap, subst, Result, Ok, Err, refl}
+use Rattle.std.proofs.Common.{◌≡◌, ℕ, List, true, Option, Some, None, ap, subst, Result, Ok, Err}
 use Rattle.model.specs.Commands
 use Rattle.model.specs.Commands.{Taken, Goes_on, Makes, Breaks, Wants_header, TakesPayload, is_too_large, taken_method, taken_dropped}
-use Rattle.model.specs.Grammar.{split}
+use Rattle.model.specs.Grammar.{IsMethod, SaysMethod, said, split}
 use Rattle.model.specs.Frames.{Frame}
 use Rattle.model.specs.Headers.{SaysSize}
 use Rattle.model.specs.declared.events.Command.{Command}
@@ -30,6 +30,10 @@ IsValue (Err e) = ⊥
 pub plain : (h : ℕ) (m n : Method) → split m ≡ Err n → (n ≡ m) × (Makes (Plain h n) ≡ taken_method h (Ok m))
 plain h (BasicPublish p) n e = absurd (subst IsValue e tt)
 plain h m n e = let same : n ≡ m = cc in (same, ap (λ x. Makes (Plain h x)) same)
+
+-- a method that is read has a spelling
+pub fits : {payload : List ℕ} {m : Method} → SaysMethod payload (Ok m) → IsMethod m
+fits (said i s) = i
 
 -- what follows for each effect follows for what was done
 pub does_wider : (E F : Taken → Type 0) (old new : Commands.Pending) (r : Result (Option Command) Fault) → ((t : Taken) → E t → F t) → Does E old r new → Does F old r new

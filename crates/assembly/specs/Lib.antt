@@ -1,5 +1,6 @@
 pub mod Faults
 pub mod Pending
+pub mod Names
 pub mod Taking
 pub mod Held
 pub mod Onward

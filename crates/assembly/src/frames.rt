@@ -10,6 +10,7 @@ ghost use Rattle.assembly.specs.Taking.{DoesAt};
 
 use crate::contents::Pending;
 use crate::faults::Fault;
+use crate::names::Names;
 use crate::taking::take_awaited;
 use frame::Frame;
 use model::Command;
@@ -19,6 +20,7 @@ use std::mem;
 /// Takes a whole frame: the command that it ends, or none where its channel goes on.
 pub(crate) fn take_frame(
     alloc: Global,
+    names: &mut Names,
     contents: &mut Vec<Pending>,
     frame: &Frame<'_>,
 ) -> Result<Option<Command>, Fault>
@@ -34,7 +36,7 @@ pub(crate) fn take_frame(
     }
     let channel = usize::from(frame.channel);
     reach(contents, channel)?;
-    take_on_channel(alloc, contents, channel, frame)
+    take_on_channel(alloc, names, contents, channel, frame)
 }
 
 /// A heartbeat is empty and on channel 0, and does nothing.
@@ -69,6 +71,7 @@ fn reach(contents: &mut Vec<Pending>, channel: usize) -> Result<(), AllocError>
 /// Takes a frame that is no heartbeat, on a channel that may have it.
 fn take_on_channel(
     alloc: Global,
+    names: &mut Names,
     contents: &mut Vec<Pending>,
     channel: usize,
     frame: &Frame<'_>,
@@ -79,7 +82,7 @@ fn take_on_channel(
     ensures does { DoesAt (λ t. MatchBool (frame.now.kind == awaited (pending_at contents.old.items channel)) (TakesPayload (pending_at contents.old.items channel) (seen frame.now) t) (t ≡ Breaks 505)) channel (pending_at contents.old.items) result (pending_at contents.new.items) }
 {
     let was = mem::replace(&mut contents[channel], Pending::Nothing);
-    let (now, answer) = take_awaited(alloc, was, frame);
+    let (now, answer) = take_awaited(alloc, names, was, frame);
     contents[channel] = now;
     answer
 }

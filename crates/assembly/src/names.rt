@@ -1,98 +1,212 @@
-//! Names that came before: one that comes again shares their bytes.
+//! What came before on a stream: a name that comes again shares its bytes, and a publish that comes again is not read again.
 //!
-//! Nothing rests on what is kept here: a name that is given back has the bytes of the one that was handed in.
+//! Nothing rests on what is kept here: what is given back is what the bytes say.
 
-ghost use Rattle.std.specs.Prelude.{◌≡◌};
+ghost use Rattle.std.specs.Prelude.{◌≡◌, IfSome};
+ghost use Rattle.assembly.specs.Names.{IsPublish, IsRight, AreRight};
 
-use model::{Command, Publish, Text};
+use model::{Publish, Text};
 use std::alloc::Global;
+use std::marker::Model;
 
 /// How many names are kept at most.
-const MOST_KEPT: usize = 64;
+const MOST_NAMES: usize = 64;
 
-/// The names that came last, each in the place that its bytes choose. There are none before the first publish.
+/// How many publishes are kept at most.
+const MOST_PUBLISHES: usize = 32;
+
+/// A publish, and the payload that spells it.
+#[derive(Drop)]
+pub(crate) struct Known {
+    pub(crate) payload: Vec<u8>,
+    pub(crate) publish: Publish,
+}
+
+/// The names and the publishes that came last, each in the place that its bytes choose. There are none before the first
+/// publish.
 #[derive(Drop)]
 pub(crate) struct Names {
-    kept: Vec<Text>,
+    names: Vec<Text>,
+    publishes: Vec<Option<Known>>,
+}
+
+impl Model for Names {
+    ghost use Rattle.std.specs.Prelude.{List, Option};
+    ghost use Rattle.assembly.specs.declared.names.Known.{Known as Seen};
+    ghost use Rattle.assembly.specs.Names.{AreRight};
+
+    ghost Value = { List (Option Seen) };
+
+    ghost view = { λ n. n.publishes.items };
+
+    ghost invariant = { λ n. AreRight n.publishes.items };
 }
 
 impl Names {
-    /// No name came before. It takes no memory.
+    ghost use Rattle.std.specs.Prelude.{◌≡◌, IfSome};
+    ghost use Rattle.assembly.specs.Names.{IsPublish};
+
+    /// Nothing came before. It takes no memory.
     pub(crate) fn new(alloc: Global) -> Names {
         Names {
-            kept: Vec::new(alloc),
+            names: Vec::new(alloc),
+            publishes: Vec::new(alloc),
         }
     }
 
-    /// The same name, sharing the bytes of one that came before where one is kept. Where memory is refused it is the name
-    /// that was handed in.
-    fn shared(&mut self, name: Text) -> Text
-        ensures { result ≡ name }
+    /// The publish that this payload spells, if it came before and is kept.
+    pub(crate) fn publish_of(&self, payload: &[u8]) -> Option<Publish>
+        ensures { IfSome result (λ p. IsPublish payload.now p) }
     {
-        if self.kept.is_empty() {
-            make_places(&mut self.kept);
-        }
-        match self.kept.get_mut(place_of(name.as_bytes())) {
-            Some(place) => share(place, name),
-            None => name,
-        }
+        publish_in(&self.publishes, payload)
     }
 
-    /// The same command, where the names of a publish share the bytes of those that came before.
-    pub(crate) fn named(&mut self, command: Command) -> Command
-        ensures { result ≡ command }
-    {
-        match command {
-            Command::Full {
-                channel,
-                publish,
-                content,
-            } => Command::Full {
-                channel,
-                publish: self.published(publish),
-                content,
-            },
-            command => command,
-        }
-    }
-
-    /// The same publish.
-    fn published(&mut self, publish: Publish) -> Publish
+    /// The same publish, which this payload spells. It is kept, and shares the names that came before.
+    pub(crate) fn learn(&mut self, alloc: Global, payload: &[u8], publish: Publish) -> Publish
+        requires { IsPublish payload.now publish }
         ensures { result ≡ publish }
     {
-        let Publish {
-            reserved,
+        let publish = sharing(&mut self.names, publish);
+        keep_in(alloc, &mut self.publishes, payload, &publish);
+        publish
+    }
+}
+
+/// The publish that this payload spells, if it is kept.
+fn publish_in(slots: &[Option<Known>], payload: &[u8]) -> Option<Publish>
+    requires { AreRight slots.now }
+    ensures { IfSome result (λ p. IsPublish payload.now p) }
+{
+    let place = place_of(payload) % MOST_PUBLISHES;
+    if place < slots.len() {
+        known_at(&slots[place], payload)
+    } else {
+        None
+    }
+}
+
+/// The publish that this payload spells, if it is the one that stands here.
+fn known_at(slot: &Option<Known>, payload: &[u8]) -> Option<Publish>
+    requires { IsRight slot.now }
+    ensures { IfSome result (λ p. IsPublish payload.now p) }
+{
+    match slot {
+        Some(known) => {
+            if known.payload.as_slice() == payload {
+                copy_of(&known.publish)
+            } else {
+                None
+            }
+        }
+        None => None,
+    }
+}
+
+/// The same publish, sharing its names. None where memory is refused.
+fn copy_of(publish: &Publish) -> Option<Publish>
+    ensures { IfSome result (λ p. p ≡ publish.now) }
+{
+    match (publish.exchange.clone(), publish.routing_key.clone()) {
+        (Ok(exchange), Ok(routing_key)) => Some(Publish {
+            reserved: publish.reserved,
             exchange,
             routing_key,
-            mandatory,
-            immediate,
-        } = publish;
-        Publish {
-            reserved,
-            exchange: self.shared(exchange),
-            routing_key: self.shared(routing_key),
-            mandatory,
-            immediate,
+            mandatory: publish.mandatory,
+            immediate: publish.immediate,
+        }),
+        _ => None,
+    }
+}
+
+/// Keeps this publish, which the payload spells, unless memory is refused.
+fn keep_in(alloc: Global, slots: &mut Vec<Option<Known>>, payload: &[u8], publish: &Publish)
+    requires kept { AreRight slots.old.items }
+    requires spelled { IsPublish payload.now publish.now }
+    ensures { AreRight slots.new.items }
+{
+    if slots.is_empty() {
+        make_slots(slots);
+    }
+    let place = place_of(payload) % MOST_PUBLISHES;
+    if place < slots.len() {
+        slots[place] = known_of(alloc, payload, publish);
+    }
+}
+
+/// This publish and the payload that spells it. None where memory is refused.
+fn known_of(alloc: Global, payload: &[u8], publish: &Publish) -> Option<Known>
+    requires { IsPublish payload.now publish.now }
+    ensures { IsRight result }
+{
+    match (copy_of(publish), Vec::from_slice(alloc, payload)) {
+        (Some(publish), Ok(payload)) => Some(Known { payload, publish }),
+        _ => None,
+    }
+}
+
+/// Makes places of publishes, or some of them where memory is refused.
+fn make_slots(slots: &mut Vec<Option<Known>>)
+    requires { AreRight slots.old.items }
+    ensures { AreRight slots.new.items }
+{
+    for _ in 0..MOST_PUBLISHES {
+        match slots.push(None) {
+            Ok(()) => {}
+            Err(_) => return,
         }
+    }
+}
+
+/// The same publish, sharing the bytes of names that came before.
+fn sharing(names: &mut Vec<Text>, publish: Publish) -> Publish
+    ensures { result ≡ publish }
+{
+    let Publish {
+        reserved,
+        exchange,
+        routing_key,
+        mandatory,
+        immediate,
+    } = publish;
+    Publish {
+        reserved,
+        exchange: shared(names, exchange),
+        routing_key: shared(names, routing_key),
+        mandatory,
+        immediate,
+    }
+}
+
+/// The same name, sharing the bytes of one that came before where one is kept. Where memory is refused it is the name
+/// that was handed in.
+fn shared(names: &mut Vec<Text>, name: Text) -> Text
+    ensures { result ≡ name }
+{
+    if names.is_empty() {
+        make_places(names);
+    }
+    match names.get_mut(place_of(name.as_bytes()) % MOST_NAMES) {
+        Some(place) => share(place, name),
+        None => name,
     }
 }
 
 /// Makes the places of names, or some of them where memory is refused.
-fn make_places(kept: &mut Vec<Text>) {
-    for _ in 0..MOST_KEPT {
-        if kept.push(Text::empty()).is_err() {
+fn make_places(names: &mut Vec<Text>) {
+    for _ in 0..MOST_NAMES {
+        if names.push(Text::empty()).is_err() {
             return;
         }
     }
 }
 
-/// The place that these bytes choose.
-fn place_of(name: &[u8]) -> usize {
+/// A number that these bytes choose.
+fn place_of(bytes: &[u8]) -> usize {
     let mut mixed = 0u32;
-    for byte in name {
+    for byte in bytes {
         mixed = mixed.wrapping_mul(31).wrapping_add(u32::from(*byte));
     }
-    (mixed % 64) as usize
+    mixed as usize
 }
 
 /// The name that stands here where it is the same, or else this name, which stands here from now on.

@@ -9,6 +9,7 @@ use crate::buffers::Unread;
 use crate::contents::Pending;
 use crate::faults::Fault;
 use crate::frames::take_frame;
+use crate::names::Names;
 use frame::{Read, read_frame};
 use model::Command;
 use std::alloc::Global;
@@ -28,6 +29,7 @@ pub(crate) enum Step {
 fn read_one(
     alloc: Global,
     max: u32,
+    names: &mut Names,
     contents: &mut Vec<Pending>,
     unread: &mut Unread,
 ) -> Result<Step, Fault>
@@ -39,7 +41,7 @@ fn read_one(
     match read_frame(unread.bytes(), max) {
         Read::More => Ok(Step::Ended),
         Read::Fault(code) => Err(Fault::Broken(code)),
-        Read::Whole(frame, size) => match take_frame(alloc, contents, &frame) {
+        Read::Whole(frame, size) => match take_frame(alloc, names, contents, &frame) {
             Ok(made) => {
                 unread.take(size);
                 Ok(step_of(made))
@@ -63,6 +65,7 @@ fn step_of(made: Option<Command>) -> Step
 pub(crate) fn next_command(
     alloc: Global,
     max: u32,
+    names: &mut Names,
     contents: &mut Vec<Pending>,
     unread: &mut Unread,
 ) -> Result<Option<Command>, Fault>
@@ -72,7 +75,7 @@ pub(crate) fn next_command(
     ensures answers { Answers (stream max contents.old.items unread.old) result (stream max contents.new.items unread.new) }
 {
     'frames: loop {
-        match read_one(alloc, max, contents, unread) {
+        match read_one(alloc, max, names, contents, unread) {
             Ok(step) => match step {
                 Step::Ended => return Ok(None),
                 Step::On => {}

@@ -77,11 +77,13 @@ impl Stream {
     pub fn next(&mut self) -> Result<Option<Command>, Fault>
         ensures { Answers (stream_of self.old) result (stream_of self.new) }
     {
-        match next_command(self.alloc, self.max, &mut self.contents, &mut self.unread) {
-            Ok(Some(command)) => Ok(Some(self.names.named(command))),
-            Ok(None) => Ok(None),
-            Err(fault) => Err(fault),
-        }
+        next_command(
+            self.alloc,
+            self.max,
+            &mut self.names,
+            &mut self.contents,
+            &mut self.unread,
+        )
     }
 
     /// How many bytes were fed and are not yet read.

@@ -1,20 +1,22 @@
 //! What one frame does to the channel that awaits it.
 
-ghost use Rattle.std.specs.Prelude.{◌≡◌, ◌+◌, ◌==◌, ◌++◌, ℕ, length, MatchBool, Result, Ok};
+ghost use Rattle.std.specs.Prelude.{◌≡◌, ◌+◌, ◌==◌, ◌++◌, ℕ, length, MatchBool, Result, Ok, None};
 ghost use Rattle.model.specs.Commands;
 ghost use Rattle.model.specs.Commands.{Breaks, TakesPayload, awaited, taken_body, taken_header, taken_method};
 ghost use Rattle.model.specs.Headers.{Header, SaysHeader};
-ghost use Rattle.model.specs.Grammar.{IsMethod};
+ghost use Rattle.model.specs.Grammar.{IsMethod, SaysMethod};
 ghost use Rattle.model.specs.declared.methods.Method.TheVariants.{BasicPublish};
 ghost use Rattle.frame.specs.Reading.{seen};
 ghost use Rattle.assembly.specs.Pending.{pending_of, IsSpelled};
-ghost use Rattle.assembly.specs.declared.contents.Pending.TheVariants.{WantsBody};
+ghost use Rattle.assembly.specs.declared.contents.Pending.TheVariants.{WantsHeader, WantsBody};
+ghost use Rattle.assembly.specs.Names.{IsPublish};
 ghost use Rattle.assembly.specs.Taking.{Does};
 
 use crate::bodies::Body;
 use crate::contents::{Gathering, Pending};
 use crate::dropping::{begin_dropping, drop_piece, is_too_large};
 use crate::faults::{Fault, of_header, of_method, of_size};
+use crate::names::Names;
 use frame::Frame;
 use headers::{read_header, read_size};
 use methods::read_method;
@@ -25,7 +27,12 @@ use std::alloc::Global;
 pub(crate) type Taking = (Pending, Result<Option<Command>, Fault>);
 
 /// Takes a frame that is no heartbeat, on a channel that may have it: one of a type that is not awaited is out of place.
-pub(crate) fn take_awaited(alloc: Global, was: Pending, frame: &Frame<'_>) -> Taking
+pub(crate) fn take_awaited(
+    alloc: Global,
+    names: &mut Names,
+    was: Pending,
+    frame: &Frame<'_>,
+) -> Taking
     requires { IsSpelled was }
     ensures spelled { IsSpelled result.0 }
     ensures does { Does (λ t. MatchBool (frame.now.kind == awaited (pending_of was)) (TakesPayload (pending_of was) (seen frame.now) t) (t ≡ Breaks 505)) (pending_of was) result.1 (pending_of result.0) }
@@ -34,7 +41,7 @@ pub(crate) fn take_awaited(alloc: Global, was: Pending, frame: &Frame<'_>) -> Ta
         return (was, Err(Fault::Broken(505)));
     }
     match was {
-        Pending::Nothing => take_method(alloc, frame),
+        Pending::Nothing => take_method(alloc, names, frame),
         Pending::WantsHeader(publish) => take_header(alloc, publish, frame),
         Pending::WantsBody(gathering) => take_body(gathering, frame),
         Pending::Drops(dropping) => drop_piece(frame.channel, dropping, frame.payload.len()),
@@ -54,29 +61,45 @@ fn awaited_kind(was: &Pending) -> u8
 }
 
 /// A method is a command, but a publish waits for its content.
-fn take_method(alloc: Global, frame: &Frame<'_>) -> Taking
+fn take_method(alloc: Global, names: &mut Names, frame: &Frame<'_>) -> Taking
     ensures spelled { IsSpelled result.0 }
     ensures does { Does (TakesPayload Commands.Nothing (seen frame.now)) Commands.Nothing result.1 (pending_of result.0) }
 {
+    if let Some(publish) = names.publish_of(frame.payload) {
+        return (Pending::WantsHeader(publish), Ok(None));
+    }
     match read_method(alloc, frame.payload) {
-        Ok(method) => begin(frame.channel, method),
+        Ok(method) => begin(alloc, names, frame, method),
         Err(refusal) => (Pending::Nothing, Err(of_method(refusal))),
     }
 }
 
 /// A method that was read is a command, but a publish waits for its content.
-fn begin(channel: u16, method: Method) -> Taking
-    requires { IsMethod method }
+fn begin(alloc: Global, names: &mut Names, frame: &Frame<'_>, method: Method) -> Taking
+    requires { SaysMethod frame.now.payload.now (Ok method) }
     ensures spelled { IsSpelled result.0 }
-    ensures does { Does (λ t. t ≡ taken_method channel (Ok method)) Commands.Nothing result.1 (pending_of result.0) }
+    ensures does { Does (λ t. t ≡ taken_method frame.now.channel (Ok method)) Commands.Nothing result.1 (pending_of result.0) }
 {
     match method.into_publish() {
-        Ok(publish) => (Pending::WantsHeader(publish), Ok(None)),
-        Err(method) => (
-            Pending::Nothing,
-            Ok(Some(Command::Plain { channel, method })),
-        ),
+        Ok(publish) => begin_publish(alloc, names, frame.payload, publish),
+        Err(method) => {
+            let channel = frame.channel;
+            (
+                Pending::Nothing,
+                Ok(Some(Command::Plain { channel, method })),
+            )
+        }
     }
+}
+
+/// A publish that was read waits for its content.
+fn begin_publish(alloc: Global, names: &mut Names, payload: &[u8], publish: Publish) -> Taking
+    requires { IsPublish payload.now publish }
+    ensures pending { result.0 ≡ WantsHeader publish }
+    ensures answer { result.1 ≡ Ok None }
+{
+    let publish = names.learn(alloc, payload, publish);
+    (Pending::WantsHeader(publish), Ok(None))
 }
 
 /// A header declares the body of the publish before it. Of a content that is too large nothing else is read.
