@@ -1,6 +1,6 @@
 //! Whether a pattern matches, from its last token to its first.
 
-ghost use Rattle.std.specs.Prelude.{Decides, IfOk, List, ◌≡◌, ◌+◌, ◌<◌, ◌∷◌, [], length, false, replicate};
+ghost use Rattle.std.specs.Prelude.{Decides, IfOk, IsTrue, List, ◌≡◌, ◌+◌, ◌<◌, ◌∷◌, [], length, false, replicate};
 ghost use Rattle.model.specs.Words.{Matches, tokens, words};
 ghost use Rattle.model.specs.declared.texts.Token.{Token as Letter};
 ghost use Rattle.topic_match.specs.Rows.{IsMoved, IsRow, IsShifted, IsSpread, takes};
@@ -98,10 +98,23 @@ fn first_row(alloc: Global, words: &[Text]) -> Result<Vec<bool>, AllocError>
     Ok(row)
 }
 
+/// The first token is a word, and not the first of these words. It takes no memory to see.
+fn is_other_first(tokens: &[Token], words: &[Text]) -> bool
+    ensures { IsTrue result → Matches tokens.now words.now → ⊥ }
+{
+    match (tokens.first(), words.first()) {
+        (Some(Token::Word(word)), Some(first)) => word.as_bytes() != first.as_bytes(),
+        _ => false,
+    }
+}
+
 /// Whether a pattern matches these words.
 pub fn matches(alloc: Global, tokens: &[Token], words: &[Text]) -> Result<bool, AllocError>
     ensures { IfOk result (λ yes. Decides yes (Matches tokens.now words.now)) }
 {
+    if is_other_first(tokens, words) {
+        return Ok(false);
+    }
     let mut row = first_row(alloc, words)?;
     let yes = matches_words(tokens, words, row.as_mut_slice());
     Ok(yes)
