@@ -5,7 +5,8 @@ use Rattle.std.specs.Str.{bytes_eq}
 use Rattle.model.specs.Words.{Text}
 use Rattle.model.specs.Topology.{Topology, queue_names}
 use Rattle.model.specs.Broker.{Broker, Channel, Connection, listed, with_one, with_row}
-use Rattle.model.specs.Step.{Performs, Decides, OnConnection, Refusal, Ignored, Of_connection, Is, channel_or_new, refusal_of_publish, refusal_to, refusal_of_count, or_else, IsPublish, with_gone, with_freed, with_channel, freed, by_channel, by_connection, refusal, refusal_of_large, next_of, confirm_sends, confirm_notes, answer_of, returned_sends, returned_notes, entry_notes, is_none, is_some_full}
+use Rattle.model.specs.Step.{Performs, Decides, OnConnection, Refusal, Ignored, Of_connection, Is, channel_or_new, refusal_of_publish, refusal_to, refusal_of_count, or_else, IsPublish, with_gone, with_freed, with_channel, refusal, refusal_of_large, next_of, confirm_sends, confirm_notes, answer_of, returned_sends, returned_notes, entry_notes, is_none, is_some_full}
+use Rattle.model.specs.Entries.{freed, by_channel, by_connection}
 use Rattle.model.specs.declared.messages.Entry.{Entry}
 use Rattle.model.specs.declared.messages.Holder.{Holder}
 use Rattle.model.specs.declared.contents.Content.{Content}

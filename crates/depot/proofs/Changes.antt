@@ -60,3 +60,8 @@ changed_all f xs start i h is =
 -- one queue is written whose entries stay
 pub same_write : (lines : List Line) (i : ℕ) (l d : Line) → l.entries ≡ (get_or lines i d).entries → entries_of (set lines i l) ≡ entries_of lines
 same_write lines i l d h = map-set_same (λ (m : Line). m.entries) lines i l d h
+
+-- one queue is written whose entries are changed
+pub changed_write : (f : List Entry → List Entry) (lines : List Line) (i : ℕ) (l d : Line) → i < length lines → l.entries ≡ f (get_or lines i d).entries
+    → entries_of (set lines i l) ≡ set (entries_of lines) i (f (get_or (entries_of lines) i []))
+changed_write f lines i l d lt new = entries_of-set lines i l (f (get_or (entries_of lines) i [])) (new ∙ ap f (sym (entries_of-at lines i d lt)))

@@ -34,7 +34,7 @@ pub names-length : (qs : List DeclaredQueue) → length (queue_names qs) ≡ len
 names-length [] = refl
 names-length (q ∷ qs) = ap suc (names-length qs)
 
-is_in : (names : List Text) (i : ℕ) → i < length names → IsIn (get_or names i []) names
+pub is_in : (names : List Text) (i : ℕ) → i < length names → IsIn (get_or names i []) names
 is_in [] i lt = absurd (omega arith)
 is_in (n ∷ ns) zero lt = inl refl
 is_in (n ∷ ns) (suc i) lt = inr (is_in ns i (omega arith))
@@ -42,7 +42,7 @@ is_in (n ∷ ns) (suc i) lt = inr (is_in ns i (omega arith))
 same_name : (a : Text) → bytes_eq a a ≡ true
 same_name a = (bytes_eq-Decides a a).1 refl
 
-other_name : (a b : Text) → (a ≡ b → ⊥) → bytes_eq a b ≡ false
+pub other_name : (a b : Text) → (a ≡ b → ⊥) → bytes_eq a b ≡ false
 other_name a b ne = go (bytes_eq a b) refl
   where
     go : (v : Bool) → bytes_eq a b ≡ v → v ≡ false

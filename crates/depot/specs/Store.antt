@@ -1,7 +1,7 @@
 -- All queues of a topology, and how many publishes there were.
-use Rattle.std.specs.Prelude.{ℕ, List, map, Bool}
+use Rattle.std.specs.Prelude.{◌≡◌, ℕ, List, [], length, map, Bool, slice_index_or, slice_set}
 use Rattle.model.specs.Words.{Text}
-use Rattle.model.specs.Topology.{Topology, queue_names}
+use Rattle.model.specs.Topology.{Topology, queue_names, IsWellFormed}
 use Rattle.model.specs.Broker.{listed}
 use Rattle.model.specs.declared.messages.Entry.{Entry}
 use Rattle.model.specs.declared.messages.Holder.{Holder}
@@ -16,6 +16,19 @@ pub record Store : Type 0 where
 -- the entries of the queue of this name
 abbrev pub queue_of : Store → Text → List Entry
 queue_of s q = listed (queue_names s.topology.queues) s.queues q
+
+-- the entries of the queue at this place in the file
+abbrev pub queue_at : Store → ℕ → List Entry
+queue_at s place = slice_index_or s.queues place []
+
+-- the queue at this place has these entries, and all else is as it was
+abbrev pub with_queue : Store → ℕ → List Entry → Store
+with_queue s place entries = record s { queues = slice_set s.queues place entries }
+
+-- What every depot keeps: names apart, and a list for each queue of the topology.
+pub record IsWhole (s : Store) : Type 0 where
+  pub formed : IsWellFormed s.topology
+  pub len : length s.queues ≡ length s.topology.queues
 
 -- each queue's entries
 abbrev pub entries_of : List Line → List (List Entry)

@@ -1,14 +1,15 @@
-//! Publishes, requeueing, and what the queues hold.
+//! Publishes, requeueing, what the queues hold, and what is given out and settled.
 
 ghost use Rattle.std.specs.Prelude.{◌≡◌, [], IfOk, map, replicate};
-ghost use Rattle.model.specs.Step.{by_channel, by_connection};
+ghost use Rattle.model.specs.Entries.{by_channel, by_connection};
 ghost use Rattle.queue.specs.Line.{requeued};
 ghost use Rattle.depot.specs.Store.{entries_of};
 
+use crate::places::{hold_at, purge_at, queue_at, release_at, remove_at, take_first_at};
 use crate::publishing::{note_of, publish_in};
 use exchange_graph::Topology;
 use kept_routes::Router;
-use model::{Content, Note, Publish};
+use model::{Content, Entry, Holder, Note, Publish};
 use queue::Queue;
 use std::alloc::{AllocError, Global};
 use std::marker::Model;
@@ -68,24 +69,32 @@ impl Depot {
       ◌+◌,
       ◌<◌,
       ◌≤◌,
+      ◌++◌,
       [],
       length,
       map,
+      filter,
+      find,
+      not,
       replicate,
       IfOk,
       IfSome,
       OnOk,
       OnErr,
+      Some,
+      None,
+      is_some,
       vec_len,
       vec_capacity,
       option_map,
       position,
     };
     ghost use Rattle.std.specs.Str.{bytes_eq};
-    ghost use Rattle.model.specs.Broker.{queue_named};
-    ghost use Rattle.model.specs.Step.{by_channel, by_connection, greatest};
-    ghost use Rattle.queue.specs.Line.{ready_count};
-    ghost use Rattle.depot.specs.Store.{queue_of, with_requeued};
+    ghost use Rattle.model.specs.Broker.{is_ready, queue_named};
+    ghost use Rattle.model.specs.Step.{greatest};
+    ghost use Rattle.model.specs.Entries.{by_channel, by_connection, is_under, is_held_as, held_as, change_first, without_first, number_of};
+    ghost use Rattle.queue.specs.Line.{ready_count, requeued};
+    ghost use Rattle.depot.specs.Store.{queue_of, queue_at, with_queue, with_requeued, IsWhole};
     ghost use Rattle.depot.specs.Publishing.{Publishing};
 
     /// The depot of this topology: each queue is there and has no message.
@@ -187,6 +196,90 @@ impl Depot {
         let topology = self.router.topology();
         let place = topology.queue_at(name)?;
         Some(self.queues[place].ready())
+    }
+
+    /// What every depot keeps.
+    pub fn is_whole(&self)
+        ensures { IsWhole self.now }
+    {
+        self.router.topology().is_well_formed();
+    }
+
+    /// How many messages of the queue at this place can be given out.
+    pub fn ready_at(&self, place: usize) -> usize
+        requires { place < length self.now.topology.queues }
+        ensures { result ≡ ready_count (queue_at self.now place) }
+    {
+        queue_at(&self.queues, place).ready()
+    }
+
+    /// The first message of the queue at this place that can be given out.
+    pub fn first_ready(&self, place: usize) -> Option<&Entry>
+        requires { place < length self.now.topology.queues }
+        ensures { option_map (λ e. e.now) result ≡ find is_ready (queue_at self.now place) }
+    {
+        queue_at(&self.queues, place).first_ready()
+    }
+
+    /// Gives the first ready message of the queue at this place out, if there is one: it is held from now on. Tells the
+    /// number of its arrival there, by which it is found again at once. Nothing is held there under this tag yet. It takes
+    /// no memory.
+    pub fn hold(&mut self, place: usize, holder: Holder) -> Option<u64>
+        requires within { place < length self.old.topology.queues }
+        requires unused { find (is_held_as holder) (queue_at self.old place) ≡ None }
+        ensures told { is_some result ≡ is_some (find is_ready (queue_at self.old place)) }
+        ensures store { self.new ≡ with_queue self.old place (change_first is_ready (held_as holder) (queue_at self.old place)) }
+    {
+        hold_at(&mut self.queues, place, holder)
+    }
+
+    /// Takes the first ready message of the queue at this place out, if there is one. It takes no memory.
+    pub fn take_first(&mut self, place: usize) -> Option<Entry>
+        requires { place < length self.old.topology.queues }
+        ensures taken { result ≡ find is_ready (queue_at self.old place) }
+        ensures store { self.new ≡ with_queue self.old place (without_first is_ready (queue_at self.old place)) }
+    {
+        take_first_at(&mut self.queues, place)
+    }
+
+    /// The message of the queue at this place that is held under this tag. It is found at once by the number of its arrival,
+    /// as `hold` told it.
+    pub fn held(&self, place: usize, holder: &Holder, arrival: u64) -> Option<&Entry>
+        requires { place < length self.now.topology.queues }
+        ensures { option_map (λ e. e.now) result ≡ find (is_held_as holder.now) (queue_at self.now place) }
+    {
+        queue_at(&self.queues, place).held(holder, arrival)
+    }
+
+    /// The message of the queue at this place that is held under this tag is ready again, in its place and marked
+    /// redelivered. Tells whether there is one. It takes no memory.
+    pub fn release(&mut self, place: usize, holder: &Holder, arrival: u64) -> bool
+        requires { place < length self.old.topology.queues }
+        ensures told { result ≡ is_some (find (is_held_as holder.now) (queue_at self.old place)) }
+        ensures store { self.new ≡ with_queue self.old place (requeued (is_under holder.now) (queue_at self.old place)) }
+    {
+        release_at(&mut self.queues, place, holder, arrival)
+    }
+
+    /// Takes the message of the queue at this place out that is held under this tag, if there is one. It takes no memory.
+    pub fn remove(&mut self, place: usize, holder: &Holder, arrival: u64) -> Option<Entry>
+        requires { place < length self.old.topology.queues }
+        ensures taken { result ≡ find (is_held_as holder.now) (queue_at self.old place) }
+        ensures store { self.new ≡ with_queue self.old place (filter (λ e. not (is_held_as holder.now e)) (queue_at self.old place)) }
+    {
+        remove_at(&mut self.queues, place, holder, arrival)
+    }
+
+    /// Takes the ready messages of the queue at this place out, and appends their publish numbers in the order of arrival.
+    /// What is held stays. There is room for the numbers, so it takes no memory.
+    pub fn purge(&mut self, place: usize, numbers: &mut Vec<u64>)
+        requires within { place < length self.old.topology.queues }
+        requires room { vec_len numbers.old + ready_count (queue_at self.old place) ≤ vec_capacity numbers.old }
+        ensures numbers { numbers.new.items ≡ numbers.old.items ++ map number_of (filter is_ready (queue_at self.old place)) }
+        ensures capacity { vec_capacity numbers.new ≡ vec_capacity numbers.old }
+        ensures store { self.new ≡ with_queue self.old place (filter (λ e. not (is_ready e)) (queue_at self.old place)) }
+    {
+        purge_at(&mut self.queues, place, numbers);
     }
 }
 

@@ -5,6 +5,7 @@
 #![tactic(auto)]
 
 mod depots;
+mod places;
 mod publishing;
 mod turns;
 

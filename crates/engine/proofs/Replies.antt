@@ -10,7 +10,7 @@ use Rattle.model.specs.Step.{Acts, OnConnection, OnLarge, Refuses, empty_publish
 use Rattle.model.specs.declared.contents.Content.{Content}
 use Rattle.model.specs.declared.methods.Publish.{Publish}
 use Rattle.model.specs.declared.methods.Method.{Method}
-use Rattle.model.specs.declared.methods.Method.TheVariants.{ConnectionClose, ConnectionCloseOk, ChannelClose, ChannelCloseOk, BasicPublish, BasicAck, BasicNack, ConfirmSelect, ConfirmSelectOk}
+use Rattle.model.specs.declared.methods.Method.TheVariants.{ConnectionClose, ConnectionCloseOk, ChannelClose, ChannelCloseOk, QueuePurge, BasicQos, BasicPublish, BasicGet, BasicAck, BasicReject, BasicRecover, BasicNack, ConfirmSelect, ConfirmSelectOk}
 use Rattle.model.specs.declared.notes.Answer.{Answer}
 use Rattle.model.specs.declared.notes.Answer.TheVariants as answer
 use Rattle.model.specs.declared.notes.Note.{Note}
@@ -69,6 +69,40 @@ on_open t b (Some ch) p e = no_flag p.immediate p.mandatory (Of_connection 540) 
 not_mandatory : (t : Topology) (b : Broker) (conn : Connection) (h : ℕ) (p : Publish) (ch : Option Channel) → refusal t b conn h (BasicPublish p) ch ≡ None → p.mandatory ≡ false
 not_mandatory t b conn h p ch e = on_open t b ch p (past_if _ (Of_connection 504) _ (past_if _ (Of_connection 503) _ (past_if _ Ignored _ e)))
 
+-- ---- what is not built yet is refused
+
+-- a command that is refused so far
+abbrev is_later : Method → Bool
+is_later (QueuePurge m) = true
+is_later (BasicQos m) = true
+is_later (BasicGet m) = true
+is_later (BasicAck m) = true
+is_later (BasicReject m) = true
+is_later (BasicRecover requeue) = true
+is_later (BasicNack m) = true
+is_later m = false
+
+later_on : (t : Topology) (b : Broker) (ch : Option Channel) (m : Method) → is_later m ≡ true → refusal_on t b ch m ≡ None → ⊥
+later_on t b None m is e = false≢true (sym (ap is_some e))
+later_on t b (Some ch) (QueuePurge m) is e = false≢true (sym (ap is_some e))
+later_on t b (Some ch) (BasicQos m) is e = false≢true (sym (ap is_some e))
+later_on t b (Some ch) (BasicGet m) is e = false≢true (sym (ap is_some e))
+later_on t b (Some ch) (BasicAck m) is e = false≢true (sym (ap is_some e))
+later_on t b (Some ch) (BasicReject m) is e = false≢true (sym (ap is_some e))
+later_on t b (Some ch) (BasicRecover requeue) is e = false≢true (sym (ap is_some e))
+later_on t b (Some ch) (BasicNack m) is e = false≢true (sym (ap is_some e))
+later_on t b (Some ch) _ is e = false≢true is
+
+not_later : (t : Topology) (b : Broker) (conn : Connection) (h : ℕ) (m : Method) (ch : Option Channel) → refusal t b conn h m ch ≡ None → is_later m ≡ false
+not_later t b conn h (QueuePurge m) ch e = absurd (later_on t b ch (QueuePurge m) refl (past_if _ (Of_connection 504) _ (past_if _ (Of_connection 503) _ (past_if _ Ignored _ e))))
+not_later t b conn h (BasicQos m) ch e = absurd (later_on t b ch (BasicQos m) refl (past_if _ (Of_connection 504) _ (past_if _ (Of_connection 503) _ (past_if _ Ignored _ e))))
+not_later t b conn h (BasicGet m) ch e = absurd (later_on t b ch (BasicGet m) refl (past_if _ (Of_connection 504) _ (past_if _ (Of_connection 503) _ (past_if _ Ignored _ e))))
+not_later t b conn h (BasicAck m) ch e = absurd (later_on t b ch (BasicAck m) refl (past_if _ (Of_connection 504) _ (past_if _ (Of_connection 503) _ (past_if _ Ignored _ e))))
+not_later t b conn h (BasicReject m) ch e = absurd (later_on t b ch (BasicReject m) refl (past_if _ (Of_connection 504) _ (past_if _ (Of_connection 503) _ (past_if _ Ignored _ e))))
+not_later t b conn h (BasicRecover requeue) ch e = absurd (later_on t b ch (BasicRecover requeue) refl (past_if _ (Of_connection 504) _ (past_if _ (Of_connection 503) _ (past_if _ Ignored _ e))))
+not_later t b conn h (BasicNack m) ch e = absurd (later_on t b ch (BasicNack m) refl (past_if _ (Of_connection 504) _ (past_if _ (Of_connection 503) _ (past_if _ Ignored _ e))))
+not_later t b conn h _ ch e = refl
+
 -- ---- case by case
 
 few_confirm : (c h : ℕ) (o : Option ℕ) (a : Answer) → IsFew (confirm_sends c h o a)
@@ -81,15 +115,22 @@ few_select c h true = tt
 few_select c h false = (refl, refl)
 
 few_performs : (t : Topology) (old new : Broker) (c h : ℕ) (ch : Channel) (m : Method) (content : Option Content) (sends : List Send) (notes : List Note)
-    → ((p : Publish) → m ≡ BasicPublish p → p.mandatory ≡ false) → Performs t old c h ch m content sends notes new → IsFew sends
-few_performs t old new c h ch (ConfirmSelect no_wait) content sends notes not by = subst IsFew (sym by.sent) (few_select c h no_wait)
-few_performs t old new c h ch (BasicPublish p) content sends notes not by =
+    → is_later m ≡ false → ((p : Publish) → m ≡ BasicPublish p → p.mandatory ≡ false) → Performs t old c h ch m content sends notes new → IsFew sends
+few_performs t old new c h ch (ConfirmSelect no_wait) content sends notes built not by = subst IsFew (sym by.sent) (few_select c h no_wait)
+few_performs t old new c h ch (BasicPublish p) content sends notes built not by =
     subst IsFew (sym (by.sent ∙ ap (λ (b : Bool). returned_sends c h p (content_or_none content) (b && is_none by.targets) ++ confirm_sends c h (next_of ch.confirm) (answer_of (is_some_full t old.queue (content_or_none content) by.targets))) (not p refl)))
     (few_confirm c h (next_of ch.confirm) (answer_of (is_some_full t old.queue (content_or_none content) by.targets)))
-few_performs t old new c h ch (ChannelClose x) content sends notes not by = subst IsFew (sym by.sent) (refl, refl)
-few_performs t old new c h ch ChannelCloseOk content sends notes not by = subst IsFew (sym by.sent) tt
-few_performs t old new c h ch (ConnectionClose x) content sends notes not by = subst IsFew (sym by.sent) (refl, refl)
-few_performs t old new c h ch _ content sends notes not by = absurd by
+few_performs t old new c h ch (ChannelClose x) content sends notes built not by = subst IsFew (sym by.sent) (refl, refl)
+few_performs t old new c h ch ChannelCloseOk content sends notes built not by = subst IsFew (sym by.sent) tt
+few_performs t old new c h ch (ConnectionClose x) content sends notes built not by = subst IsFew (sym by.sent) (refl, refl)
+few_performs t old new c h ch (QueuePurge x) content sends notes built not by = absurd (false≢true (sym built))
+few_performs t old new c h ch (BasicQos x) content sends notes built not by = absurd (false≢true (sym built))
+few_performs t old new c h ch (BasicGet x) content sends notes built not by = absurd (false≢true (sym built))
+few_performs t old new c h ch (BasicAck x) content sends notes built not by = absurd (false≢true (sym built))
+few_performs t old new c h ch (BasicReject x) content sends notes built not by = absurd (false≢true (sym built))
+few_performs t old new c h ch (BasicRecover requeue) content sends notes built not by = absurd (false≢true (sym built))
+few_performs t old new c h ch (BasicNack x) content sends notes built not by = absurd (false≢true (sym built))
+few_performs t old new c h ch _ content sends notes built not by = absurd by
 
 few_refuses : (old new : Broker) (c h : ℕ) (cause : Ids) (r : Refusal) (sends : List Send) (notes : List Note) → Refuses old c h cause r sends notes new → IsFew sends
 few_refuses old new c h cause Ignored sends notes by = subst IsFew (sym by.sent) tt
@@ -97,15 +138,15 @@ few_refuses old new c h cause (Of_channel code) sends notes by = subst IsFew (sy
 few_refuses old new c h cause (Of_connection code) sends notes by = subst IsFew (sym by.sent) (refl, refl)
 
 few_decides : (t : Topology) (old new : Broker) (c h : ℕ) (m : Method) (content : Option Content) (r : Option Refusal) (sends : List Send) (notes : List Note)
-    → (r ≡ None → (p : Publish) → m ≡ BasicPublish p → p.mandatory ≡ false) → Decides t old c h m content r sends notes new → IsFew sends
-few_decides t old new c h m content None sends notes not by = few_performs t old new c h (channel_or_new (old.channel c h)) m content sends notes (not refl) by
-few_decides t old new c h m content (Some r) sends notes not by = few_refuses old new c h (ids_of m) r sends notes by
+    → (r ≡ None → is_later m ≡ false) → (r ≡ None → (p : Publish) → m ≡ BasicPublish p → p.mandatory ≡ false) → Decides t old c h m content r sends notes new → IsFew sends
+few_decides t old new c h m content None sends notes built not by = few_performs t old new c h (channel_or_new (old.channel c h)) m content sends notes (built refl) (not refl) by
+few_decides t old new c h m content (Some r) sends notes built not by = few_refuses old new c h (ids_of m) r sends notes by
 
 few_on : (t : Topology) (old new : Broker) (c h : ℕ) (m : Method) (content : Option Content) (sends : List Send) (notes : List Note) (o : Option Connection)
     → OnConnection t old c h m content sends notes new o → IsFew sends
 few_on t old new c h m content sends notes None by = subst IsFew (sym by.sent) tt
 few_on t old new c h m content sends notes (Some conn) by =
-    few_decides t old new c h m content (refusal t old conn h m (old.channel c h)) sends notes
+    few_decides t old new c h m content (refusal t old conn h m (old.channel c h)) sends notes (not_later t old conn h m (old.channel c h))
     (λ none p is. not_mandatory t old conn h p (old.channel c h) (subst (λ (x : Method). refusal t old conn h x (old.channel c h) ≡ None) is none)) by
 
 few_large : (old new : Broker) (c h : ℕ) (sends : List Send) (notes : List Note) (o : Option Connection) → OnLarge old c h sends notes new o → IsFew sends

@@ -68,7 +68,7 @@ one_ack p gs c (Some m) false ack e = go (p.c == c) ack (e ∙ ap (λ b. b || fa
 
 step_acks : (t : Topology) (old new : Broker) (e : Event) (sends : List Send) (notes : List Note) → Seen t old new e sends notes → (gs : List Guarantee) (c : ℕ)
     → acks_to c sends ≡ map ack_for (filter_map (acked_as gs c notes) notes)
-step_acks t old new e sends notes (inl q) gs c = acks_to_none c sends (reply_all IsNoAck (λ d h m content is. reply_is_no_ack h m is) sends q.few) ∙ ap (map ack_for) (sym (nothing_acked gs c notes notes q.noted))
+step_acks t old new e sends notes (inl q) gs c = acks_to_none c sends (reply_all IsNoAck (λ d h m content is. reply_is_no_ack h m is) sends q.few) ∙ ap (map ack_for) (sym (nothing_acked gs c notes q))
 step_acks t old new e sends notes (inr p) gs c =
     let back = returned_sends p.c p.h p.publish (content p) (is_returned p) in
     let answers = confirm_sends p.c p.h (confirm p) (answer_of (some_full p)) in

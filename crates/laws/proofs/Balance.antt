@@ -21,7 +21,7 @@ use Rattle.model.specs.declared.notes.Note.{Note}
 use Rattle.model.specs.declared.notes.Note.TheVariants.{Published, Entered, Refused, Returned, Confirmed}
 use Rattle.model.specs.declared.notes.Answer.{Answer}
 use Rattle.model.specs.declared.notes.Way.TheVariants as way
-use Rattle.laws.proofs.View.{Publishes, Seen, seen_at}
+use Rattle.laws.proofs.View.{Publishes, Seen, seen_at, leavings}
 use Rattle.laws.proofs.Counts.{count-append, count-cons, count-cons_no, count_none, all-append}
 
 -- ---- what a publish notes
@@ -118,7 +118,10 @@ publish_balances t old new e sends notes p n q =
     omega (arith, entered, left, came, there)
 
 step_balances : (t : Topology) (old new : Broker) (e : Event) (sends : List Send) (notes : List Note) → Seen t old new e sends notes → Balances old notes new
-step_balances t old new e sends notes (inl a) n q = rw (a.noted, a.kept n q) (omega arith)
+step_balances t old new e sends notes (inl a) n q =
+    let entered : count_by (is_entered n q) notes ≡ 0 = count_none (is_entered n q) notes (leavings (λ (note : Note). is_entered n q note ≡ false) (λ m r cause. refl) a) in
+    let kept = a.kept n q in
+    omega (arith, entered, kept)
 step_balances t old new e sends notes (inr p) n q = publish_balances t old new e sends notes p n q
 
 -- In every run each event balances by its own notes.
@@ -159,7 +162,10 @@ counted_by_publish t old new e sends notes p counted n q lt =
     omega (arith, entered, balance, none)
 
 counted_step : (t : Topology) (old new : Broker) (e : Event) (sends : List Send) (notes : List Note) → Seen t old new e sends notes → AreCounted old → AreCounted new
-counted_step t old new e sends notes (inl a) counted = λ n q lt. a.kept n q ∙ counted n q (subst (λ (k : ℕ). k < n) a.same lt)
+counted_step t old new e sends notes (inl a) counted = λ n q lt.
+    let kept = a.kept n q in
+    let none = counted n q (subst (λ (k : ℕ). k < n) a.same lt) in
+    omega (arith, kept, none)
 counted_step t old new e sends notes (inr p) counted = counted_by_publish t old new e sends notes p counted
 
 pub counted_at : (h : Happening) → Step h.config h.before h.event h.sends h.notes h.after → AreCounted h.before.broker → AreCounted h.after.broker

@@ -1,5 +1,8 @@
 pub mod Counts
 pub mod Keys
+pub mod Leaving
+pub mod Agreement
+pub mod Agreed
 pub mod View
 pub mod Balance
 pub mod Once

@@ -10,16 +10,17 @@ use Rattle.model.specs.Guarantee.{Guarantee, Covers, Keeps, Holds}
 use Rattle.model.specs.State.{State}
 use Rattle.model.specs.Arrivals.{IsSaid}
 use Rattle.model.specs.Run.{Happening, Run, AreCounted, has_number, notes_of}
-use Rattle.model.specs.Headline.{IsSound, IsNoted, WasSentTo, IsAllowed, AreAllowed, AreAllowedIn, HasCause, HaveCauses, KeepsEvents}
+use Rattle.model.specs.Headline.{IsSound, IsNoted, WasSentTo, IsAllowed, AreAllowed, AreAllowedIn, IsCauseAt, HasCause, HaveCauses, KeepsEvents}
 use Rattle.model.specs.declared.topologies.Mode.{Mode}
 use Rattle.model.specs.declared.topologies.Mode.TheVariants.{Never}
 use Rattle.model.specs.declared.messages.Entry.{Entry}
 use Rattle.model.specs.declared.notes.Note.{Note}
-use Rattle.model.specs.declared.notes.Note.TheVariants.{Published, Entered}
+use Rattle.model.specs.declared.notes.Note.TheVariants.{Published, Entered, Left}
 use Rattle.model.specs.declared.notes.Way.TheVariants as way
 use Rattle.laws.specs.Promises.{AreSound, AreSaid}
-use Rattle.laws.proofs.Counts.{all_in, in-append, count-cons, count-cons_yes}
-use Rattle.laws.proofs.View.{Publishes, Seen, seen_at}
+use Rattle.laws.proofs.Leaving.{OfLeft}
+use Rattle.laws.proofs.Counts.{all_each, all_in, in-append, count-cons, count-cons_yes}
+use Rattle.laws.proofs.View.{Publishes, Seen, seen_at, leavings}
 use Rattle.laws.proofs.Balance.{number, first_note, entry_part, answer_part, noted, others_all, run_stays, counted_at}
 use Rattle.laws.proofs.Once.{is_of_publish, AreOfOthers, Placed, places, key_is_short, run_entered_once}
 
@@ -103,7 +104,7 @@ picked q (pass np r) i = picked q r i
 allowed_where : (h : Happening) (Sent : ℕ → Text → Text → Type 0) → Seen h.config.topology h.before.broker h.after.broker h.event h.sends h.notes
     → ((p : Publishes h.config.topology h.before.broker h.after.broker h.event h.sends h.notes) (x key : Text) → Sent (number p) x key → IsItsOwn h p x key)
     → IsSound h.config → IsSaid h.event → AllByRecursion (IsAllowed h.config.guarantees Sent) h.notes
-allowed_where h Sent (inl quiet) own sound said = subst (AllByRecursion (IsAllowed h.config.guarantees Sent)) (sym quiet.noted) tt
+allowed_where h Sent (inl quiet) own sound said = leavings (IsAllowed h.config.guarantees Sent) (λ m r cause. tt) quiet
 allowed_where h Sent (inr p) own sound said = subst (AllByRecursion (IsAllowed h.config.guarantees Sent)) (sym (noted p)) (tt, others_all p _ (λ r. tt) entered tt (λ a. tt))
   where
     entered : (r : Text) → IsIn r p.is.targets → IsAllowed h.config.guarantees Sent (Entered (number p) r way.Publish)
@@ -133,7 +134,11 @@ run_allowed (h ∷ hs) old new sound said counted (e, s, r) =
 -- ---- causes
 
 step_causes : (h : Happening) → Seen h.config.topology h.before.broker h.after.broker h.event h.sends h.notes → HaveCauses h
-step_causes h (inl q) = subst (AllByRecursion (HasCause h)) (sym q.noted) tt
+step_causes h (inl q) = all_each _ (HasCause h) caused h.notes q.caused
+  where
+    caused : (note : Note) → OfLeft (IsCauseAt h.before.broker h.event) note → HasCause h note
+    caused (Left n r cause) is = is
+    caused _ is = tt
 step_causes h (inr p) = subst (AllByRecursion (HasCause h)) (sym (noted p)) (tt, others_all p _ (λ r. tt) (λ r i. tt) tt (λ a. tt))
 
 -- In every run a message left a queue only by an event that takes it out.

@@ -30,7 +30,7 @@ use Rattle.model.specs.declared.notes.Note.TheVariants.{Published, Entered}
 use Rattle.model.specs.declared.notes.Way.TheVariants as way
 use Rattle.laws.specs.Promises.{AreSound, AreSaid}
 use Rattle.laws.proofs.Counts.{count-append, count-cons, count-cons_yes, count-cons_no, count_none, any_none, filter_map_none, all-append, all_each, in_from_contains, in-map}
-use Rattle.laws.proofs.View.{Publishes, Seen, seen_at}
+use Rattle.laws.proofs.View.{Publishes, Seen, seen_at, AddsNothing, leavings}
 use Rattle.laws.proofs.Balance.{number, content, confirm, some_full, is_returned, first_note, entry_part, answer_part, noted, returned_all, entry_all, answers_all, others_all}
 
 -- ---- numbers tell publishes apart
@@ -47,7 +47,7 @@ AreOfOthers n notes = AllByRecursion (λ (note : Note). is_of_publish n note ≡
 
 -- an event notes only the publish that it counts
 step_of_others : (t : Topology) (old new : Broker) (e : Event) (sends : List Send) (notes : List Note) → Seen t old new e sends notes → (n : ℕ) → (n ≤ old.published) ⊎ (new.published < n) → AreOfOthers n notes
-step_of_others t old new e sends notes (inl q) n out = subst (AreOfOthers n) (sym q.noted) tt
+step_of_others t old new e sends notes (inl q) n out = leavings (λ (note : Note). is_of_publish n note ≡ false) (λ m r cause. refl) q
 step_of_others t old new e sends notes (inr p) n out =
     let made : new.published ≡ old.published + 1 = p.is.left.counted in
     let ne : eqb (old.published + 1) n ≡ false = ne_eqb (old.published + 1) n (λ e. elim out [ inl le ↦ omega arith | inr lt ↦ omega arith ]) in
@@ -110,8 +110,8 @@ acked_is p gs c all None = refl
 acked_is p gs c all (Some m) = refl
 
 -- what an event counts as acked is its own publish, if it is one
-pub nothing_acked : (gs : List Guarantee) (c : ℕ) (all notes : List Note) → notes ≡ [] → filter_map (acked_as gs c all) notes ≡ []
-nothing_acked gs c all notes e = ap (filter_map (acked_as gs c all)) e
+pub nothing_acked : {old new : Broker} {e : Event} {sends : List Send} {notes : List Note} (gs : List Guarantee) (c : ℕ) (all : List Note) → AddsNothing old new e sends notes → filter_map (acked_as gs c all) notes ≡ []
+nothing_acked {notes = notes} gs c all a = filter_map_none (acked_as gs c all) notes (leavings (λ (note : Note). acked_as gs c all note ≡ None) (λ m r cause. refl) a)
 
 pub publish_acked : {t : Topology} {old new : Broker} {e : Event} {sends : List Send} {notes : List Note} (p : Publishes t old new e sends notes) (gs : List Guarantee) (c : ℕ) (all : List Note)
     → filter_map (acked_as gs c all) notes ≡ cons_option (acked_if p gs (confirm p) (p.c == c) (list_any (is_ack_of (number p)) all)) []
@@ -232,7 +232,7 @@ each_entered_once : (all : List Note) (h : Happening) → Placed all h → IsSou
 each_entered_once all h at sound said c = by at.step
   where
     by : Seen h.config.topology h.before.broker h.after.broker h.event h.sends h.notes → AllByRecursion (EnteredOnce all) (acked_at c h)
-    by (inl quiet) = subst (AllByRecursion (EnteredOnce all)) (sym (nothing_acked h.config.guarantees c h.notes h.notes quiet.noted)) tt
+    by (inl quiet) = subst (AllByRecursion (EnteredOnce all)) (sym (nothing_acked h.config.guarantees c h.notes quiet)) tt
     by (inr p) = subst (AllByRecursion (EnteredOnce all)) (sym (publish_acked p h.config.guarantees c h.notes)) (one (confirm p) (p.c == c) (list_any (is_ack_of (number p)) h.notes) refl)
       where
         one : (o : Option ℕ) (mine ack : Bool) → list_any (is_ack_of (number p)) h.notes ≡ ack → AllByRecursion (EnteredOnce all) (cons_option (acked_if p h.config.guarantees o mine ack) [])

@@ -1,16 +1,20 @@
 -- The ways in which a step can go. Here alone all cases of `Step` are walked over: a new command is a new line here.
-use Rattle.std.proofs.Common.{◌≡◌, ℕ, ◌⊎◌, List, [], ◌∷◌, ◌++◌, Bool, true, false, cond, eqb, refl, sym, ap, subst, ◌∙◌, map, Option, Some, None, inl, inr}
+use Rattle.std.proofs.Common.{◌≡◌, ℕ, ◌+◌, filter, arith, ◌⊎◌, List, [], ◌∷◌, ◌++◌, Bool, true, false, cond, eqb, refl, sym, ap, subst, ◌∙◌, map, Option, Some, None, inl, inr}
 use Rattle.std.specs.Prelude.{count_by, ◌==◌, if◌then◌else◌}
 use Rattle.std.specs.List.{AllByRecursion}
 use Rattle.std.proofs.lemmas.Bool.{eqb-true, false≢true}
 use Rattle.model.specs.Words.{Text}
-use Rattle.model.specs.Topology.{Topology}
-use Rattle.model.specs.Broker.{Channel, Connection, Broker, with_one}
-use Rattle.model.specs.Step.{Refusal, Ignored, Of_channel, Of_connection, Does, IsPublish, Performs, Refuses, Decides, OnConnection, OnLarge, Acts, empty_publish, refusal_of_large, freed, by_channel, by_connection, with_channel, with_freed, reply, content_or_none, returned_sends, confirm_sends, is_some_full, next_of, answer_of, refusal, channel_or_new, opened, paused}
+use Rattle.model.specs.Topology.{Topology, IsIn}
+use Rattle.model.specs.Broker.{Outstanding, Channel, Connection, Broker, is_ready, with_one}
+use Rattle.model.specs.Step.{Refusal, Ignored, Of_channel, Of_connection, Does, Makes, Gets, Settles, tag_of, get_ok, purge_sends, IsPublish, Performs, Refuses, Decides, OnConnection, OnLarge, Acts, empty_publish, refusal_of_large, with_channel, with_freed, reply, content_or_none, returned_sends, confirm_sends, is_some_full, next_of, answer_of, refusal, channel_or_new, opened, paused}
+use Rattle.model.specs.Entries.{freed, by_channel, by_connection, is_held_as}
 use Rattle.model.specs.Grammar.{Ids, ids_of}
 use Rattle.model.specs.Phases.{Session, Move, running_session, no_session, is_running, after_sends, stays_in, to_phase, while_closing, answer, faulted}
 use Rattle.model.specs.State.{Config, State, Moves, OfCommand, OfLarge, OfFault, Step}
-use Rattle.model.specs.Run.{Happening, has_number}
+use Rattle.model.specs.Run.{Happening, has_number, is_left}
+use Rattle.model.specs.Headline.{WasGiven, IsCauseIn, IsCauseAt}
+use Rattle.model.specs.Settling.{takes}
+use Rattle.model.specs.Deliveries.{Settlement, Leaves, Returns, of_rejected, AreSettled, first_ready, ready_in, holder_of, after_delivery, delivery_notes, after_purge, purge_notes}
 use Rattle.model.specs.Message.{Message}
 use Rattle.model.specs.declared.messages.Holder.{Holder}
 use Rattle.model.specs.declared.messages.Mark.{Mark}
@@ -25,21 +29,34 @@ use Rattle.model.specs.declared.events.Event.{Event}
 use Rattle.model.specs.declared.events.Event.TheVariants.{Running, Command, TooLarge, Fault, Lose, Pause, Resume}
 use Rattle.model.specs.declared.methods.Publish.{Publish}
 use Rattle.model.specs.declared.methods.Method.{Method}
-use Rattle.model.specs.declared.methods.Method.TheVariants.{ConnectionClose, ConnectionCloseOk, ChannelClose, ChannelCloseOk, BasicPublish, ConfirmSelect, ConfirmSelectOk}
+use Rattle.model.specs.declared.methods.Get.{Get}
+use Rattle.model.specs.declared.methods.Ack.{Ack}
+use Rattle.model.specs.declared.methods.Purge.{Purge}
+use Rattle.model.specs.declared.methods.Method.TheVariants.{ConnectionClose, ConnectionCloseOk, ChannelClose, ChannelCloseOk, QueuePurge, QueuePurgeOk, BasicQos, BasicQosOk, BasicPublish, BasicGet, BasicGetOk, BasicGetEmpty, BasicAck, BasicReject, BasicNack, BasicRecover, BasicRecoverOk, ConfirmSelect, ConfirmSelectOk}
+use Rattle.model.specs.declared.messages.Taker.TheVariants as taker
+use Rattle.model.specs.declared.notes.Cause.{Cause}
+use Rattle.model.specs.declared.notes.Cause.TheVariants.{Acked, Auto, Rejected}
 use Rattle.model.specs.declared.notes.Note.{Note}
+use Rattle.model.specs.declared.notes.Note.TheVariants.{Left}
 use Rattle.model.specs.declared.notes.Answer.{Answer}
 use Rattle.model.specs.declared.notes.Answer.TheVariants as answered
-use Rattle.laws.proofs.Counts.{count-map}
+use Rattle.laws.proofs.Counts.{count-map, all_each}
+use Rattle.laws.proofs.Leaving.{is_leaving, OfLeft, at_queue, count_change, freed_number, taken_balances, left_balances, are_leaving, left_causes, returned_counts, settled_are, purge_balances, purge_leaving, purge_causes}
 
 -- ---- what is sent
 
--- a close, its answer, or the answer to confirm.select
+-- a close, or an answer to a command other than a publish
 abbrev pub is_reply : Method → Bool
 is_reply (ConnectionClose m) = true
 is_reply ConnectionCloseOk = true
 is_reply (ChannelClose m) = true
 is_reply ChannelCloseOk = true
 is_reply ConfirmSelectOk = true
+is_reply BasicQosOk = true
+is_reply (QueuePurgeOk count) = true
+is_reply (BasicGetEmpty reserved) = true
+is_reply (BasicGetOk m) = true
+is_reply BasicRecoverOk = true
 is_reply m = false
 
 -- nothing, or one reply
@@ -65,12 +82,21 @@ with_same f n a e d = go (d == n) refl
 
 -- ---- the ways of the broker
 
--- no publish is counted and nothing is noted, each queue has the messages that it had, and one reply at most is sent
-pub record AddsNothing (old new : Broker) (sends : List Send) (notes : List Note) : Type 0 where
+-- no publish is counted, what is noted is that messages left their queues, each queue has all others that it had, and one reply at most is sent
+pub record AddsNothing (old new : Broker) (e : Event) (sends : List Send) (notes : List Note) : Type 0 where
   pub same : new.published ≡ old.published
-  pub noted : notes ≡ []
-  pub kept : (n : ℕ) (q : Text) → count_by (has_number n) (new.queue q) ≡ count_by (has_number n) (old.queue q)
+  pub noted : AllByRecursion (λ (note : Note). is_leaving note ≡ true) notes
+  pub kept : (n : ℕ) (q : Text) → count_by (has_number n) (old.queue q) ≡ count_by (is_left n q) notes + count_by (has_number n) (new.queue q)
+  pub caused : AllByRecursion (OfLeft (IsCauseAt old e)) notes
   pub few : IsReplyAtMost sends
+
+-- of what is true of each note of a leaving, each of these notes is
+pub leavings : {old new : Broker} {e : Event} {sends : List Send} {notes : List Note} (P : Note → Type 0) → ((n : ℕ) (q : Text) (cause : Cause) → P (Left n q cause)) → AddsNothing old new e sends notes → AllByRecursion P notes
+leavings {notes = notes} P each a = all_each _ P (only P each) notes a.noted
+  where
+    only : (P : Note → Type 0) → ((n : ℕ) (q : Text) (cause : Cause) → P (Left n q cause)) → (note : Note) → is_leaving note ≡ true → P note
+    only P each (Left n q cause) e = each n q cause
+    only P each _ e = absurd (false≢true e)
 
 -- the event is a publish, of a connection that runs, and is not refused
 pub record Publishes (t : Topology) (old new : Broker) (e : Event) (sends : List Send) (notes : List Note) : Type 0 where
@@ -85,7 +111,7 @@ pub record Publishes (t : Topology) (old new : Broker) (e : Event) (sends : List
   pub is : IsPublish t old c h ch publish (content_or_none given) sends notes new
 
 abbrev pub Seen : Topology → Broker → Broker → Event → List Send → List Note → Type 0
-Seen t old new e sends notes = AddsNothing old new sends notes ⊎ Publishes t old new e sends notes
+Seen t old new e sends notes = AddsNothing old new e sends notes ⊎ Publishes t old new e sends notes
 
 -- the connection of an event
 abbrev pub connection_of : Event → ℕ
@@ -120,25 +146,17 @@ pub record Acted (t : Topology) (old new : Broker) (e : Event) (sends : List Sen
   pub connections : (d : ℕ) → new.connection d ≡ with_one old.connection (connection_of e) (connection_after old e sends) d
 
 -- one that adds nothing, after which its connection is this one
-record Quiet (old new : Broker) (c : ℕ) (after : List Send → Option Connection) (sends : List Send) (notes : List Note) : Type 0 where
-  adds : AddsNothing old new sends notes
+record Quiet (old new : Broker) (e : Event) (c : ℕ) (after : List Send → Option Connection) (sends : List Send) (notes : List Note) : Type 0 where
+  adds : AddsNothing old new e sends notes
   connections : IsAlone old c (after sends) new
 
-quiet_acts : (t : Topology) (old new : Broker) (e : Event) (sends : List Send) (notes : List Note) → Quiet old new (connection_of e) (connection_after old e) sends notes → Acted t old new e sends notes
+quiet_acts : (t : Topology) (old new : Broker) (e : Event) (sends : List Send) (notes : List Note) → Quiet old new e (connection_of e) (connection_after old e) sends notes → Acted t old new e sends notes
 quiet_acts t old new e sends notes q = record { seen = inl q.adds; connections = q.connections }
 
 -- this state has the messages of the other, and the count of its publishes
 record Keeps (old made : Broker) : Type 0 where
   same : made.published ≡ old.published
   kept : (n : ℕ) (q : Text) → count_by (has_number n) (made.queue q) ≡ count_by (has_number n) (old.queue q)
-
--- freeing keeps numbers
-freed_number : (n : ℕ) (mine : Holder → Bool) (e : Entry) → has_number n (freed mine e) ≡ has_number n e
-freed_number n mine e = go e.message e.mark
-  where
-    go : (m : Message) (k : Mark) → has_number n (freed mine (record { message = m; mark = k })) ≡ eqb m.number n
-    go m Ready = refl
-    go m (Held holder) = elim (mine holder) as (λ v. has_number n (if v then record { message = record m { redelivered = true }; mark = Ready } else record { message = m; mark = Held holder }) ≡ eqb m.number n) [ true ↦ refl | false ↦ refl ]
 
 freed_count : (b : Broker) (mine : Holder → Bool) (n : ℕ) (q : Text) → count_by (has_number n) (map (freed mine) (b.queue q)) ≡ count_by (has_number n) (b.queue q)
 freed_count b mine n q = count-map (has_number n) (freed mine) (freed_number n mine) (b.queue q)
@@ -147,17 +165,31 @@ freed_count b mine n q = count-map (has_number n) (freed mine) (freed_number n m
 stay : (old : Broker) (c : ℕ) → IsAlone old c (old.connection c) old
 stay old c d = sym (with_same old.connection c (old.connection c) refl d)
 
-quiet : (old new made : Broker) (c : ℕ) (after : List Send → Option Connection) (sends wanted : List Send) (notes : List Note)
-    → Does sends notes new wanted made → IsReplyAtMost wanted → Keeps old made → IsAlone old c (after wanted) made → Quiet old new c after sends notes
-quiet old new made c after sends wanted notes d few k alone = record {
+-- one that notes that these messages left
+noting : (old new made : Broker) (e : Event) (c : ℕ) (after : List Send → Option Connection) (sends wanted : List Send) (notes left : List Note)
+    → Makes sends notes new wanted left made → IsReplyAtMost wanted → IsAlone old c (after wanted) made → made.published ≡ old.published
+    → AllByRecursion (λ (note : Note). is_leaving note ≡ true) left → ((n : ℕ) (q : Text) → count_by (has_number n) (old.queue q) ≡ count_by (is_left n q) left + count_by (has_number n) (made.queue q))
+    → AllByRecursion (OfLeft (IsCauseAt old e)) left → Quiet old new e c after sends notes
+noting old new made e c after sends wanted notes left d few alone same leaving kept caused = record {
   adds = record {
-    same = d.left.counted ∙ k.same;
-    noted = d.noted;
-    kept = λ n q. ap (count_by (has_number n)) (d.left.queues q) ∙ k.kept n q;
+    same = d.left.counted ∙ same;
+    noted = subst (AllByRecursion (λ (note : Note). is_leaving note ≡ true)) (sym d.noted) leaving;
+    kept = λ n q. kept n q ∙ sym (ap (λ (ns : List Note). count_by (is_left n q) ns + count_by (has_number n) (new.queue q)) d.noted ∙ ap (λ (es : List Entry). count_by (is_left n q) left + count_by (has_number n) es) (d.left.queues q));
+    caused = subst (AllByRecursion (OfLeft (IsCauseAt old e))) (sym d.noted) caused;
     few = subst IsReplyAtMost (sym d.sent) few;
   };
   connections = λ x. d.left.connections x ∙ subst (λ (s : List Send). made.connection x ≡ with_one old.connection c (after s) x) (sym d.sent) (alone x);
 }
+
+-- without a note each queue has what it had
+none_left : (n : ℕ) (q : Text) (x y : ℕ) → x ≡ y → x ≡ count_by (is_left n q) [] + y
+none_left n q x y e = let z : count_by (is_left n q) [] ≡ 0 = refl in omega (arith, z, e)
+
+-- one that notes nothing
+quiet : (old new made : Broker) (e : Event) (c : ℕ) (after : List Send → Option Connection) (sends wanted : List Send) (notes : List Note)
+    → Does sends notes new wanted made → IsReplyAtMost wanted → Keeps old made → IsAlone old c (after wanted) made → Quiet old new e c after sends notes
+quiet old new made e c after sends wanted notes d few k alone =
+    noting old new made e c after sends wanted notes [] (record { sent = d.sent; noted = d.noted; left = d.left }) few alone k.same tt (λ n q. none_left n q _ _ (sym (k.kept n q))) tt
 
 -- a publish sends what leaves its connection running
 publish_runs : (c h : ℕ) (p : Publish) (content : Content) (b : Bool) (o : Option ℕ) (a : Answer) → is_running (after_sends (returned_sends c h p content b ++ confirm_sends c h o a)) ≡ true
@@ -176,52 +208,180 @@ publish_stays t old new c h ch p content sends notes is d =
 -- ---- the walk over all cases
 
 module _ (t : Topology) (old new : Broker) (sends : List Send) (notes : List Note) where
-  -- a command that is no publish
-  still : (c : ℕ) (wanted : List Send) (made : Broker) → Does sends notes new wanted made → IsReplyAtMost wanted → Keeps old made → IsAlone old c (kept_after old c wanted) made → Quiet old new c (kept_after old c) sends notes
-  still c wanted made = quiet old new made c (kept_after old c) sends wanted notes
+  -- an event of connection c that is no publish, and notes nothing
+  still : (e : Event) (c : ℕ) (wanted : List Send) (made : Broker) → Does sends notes new wanted made → IsReplyAtMost wanted → Keeps old made → IsAlone old c (kept_after old c wanted) made → Quiet old new e c (kept_after old c) sends notes
+  still e c wanted made = quiet old new made e c (kept_after old c) sends wanted notes
 
-  closes : (c h : ℕ) (v : Bool) → Does sends notes new (reply c h ChannelCloseOk ∷ []) (if v then old else with_freed (with_channel old c h None) (by_channel c h)) → Quiet old new c (kept_after old c) sends notes
-  closes c h true p = still c _ _ p (refl, refl) (record { same = refl; kept = λ n q. refl }) (stay old c)
-  closes c h false p = still c _ _ p (refl, refl) (record { same = refl; kept = freed_count old (by_channel c h) }) (stay old c)
+  closes : (e : Event) (c h : ℕ) (v : Bool) → Does sends notes new (reply c h ChannelCloseOk ∷ []) (if v then old else with_freed (with_channel old c h None) (by_channel c h)) → Quiet old new e c (kept_after old c) sends notes
+  closes e c h true p = still e c _ _ p (refl, refl) (record { same = refl; kept = λ n q. refl }) (stay old c)
+  closes e c h false p = still e c _ _ p (refl, refl) (record { same = refl; kept = freed_count old (by_channel c h) }) (stay old c)
 
-  performs : (c h : ℕ) (ch : Channel) (m : Method) (content : Option Content) (conn : Connection) → refusal t old conn h m (old.channel c h) ≡ None → Performs t old c h ch m content sends notes new → Acted t old new (Command c h m content) sends notes
-  performs c h ch (ConfirmSelect true) content conn accepted p = quiet_acts t old new _ sends notes (still c _ _ p tt (record { same = refl; kept = λ n q. refl }) (stay old c))
-  performs c h ch (ConfirmSelect false) content conn accepted p = quiet_acts t old new _ sends notes (still c _ _ p (refl, refl) (record { same = refl; kept = λ n q. refl }) (stay old c))
-  performs c h ch (BasicPublish publish) content conn accepted p = record {
-    seen = inr (record { c = c; h = h; ch = ch; publish = publish; given = content; event = refl; connection = conn; accepted = accepted; is = p });
-    connections = publish_stays t old new c h ch publish (content_or_none content) sends notes p;
+  -- ---- a get
+
+  given : (c h : ℕ) (ch : Channel) (m : Get) (content : Option Content) (e : Entry) (no_ack : Bool) → m.no_ack ≡ no_ack → first_ready (old.queue m.queue) ≡ Some e
+      → Makes sends notes new (get_ok c h ch.next_tag e (ready_in ((after_delivery old c h ch no_ack m.queue taker.Get).queue m.queue)) ∷ []) (delivery_notes no_ack e.message.number m.queue) (after_delivery old c h ch no_ack m.queue taker.Get)
+      → Quiet old new (Command c h (BasicGet m) content) c (kept_after old c) sends notes
+  given c h ch m content e true is found p =
+      noting old new _ _ c (kept_after old c) sends _ notes _ p (refl, refl) (stay old c) refl (refl, tt) (taken_balances is_ready old.queue m.queue Auto e found)
+      ((is, refl, record { entry = e; first = found; number = refl }), tt)
+  given c h ch m content e false is found p =
+      noting old new _ _ c (kept_after old c) sends _ notes _ p (refl, refl) (stay old c) refl tt
+      (λ n q. none_left n q _ _ (sym (at_queue (λ (r : Text) (es : List Entry). count_by (has_number n) es ≡ count_by (has_number n) (old.queue r)) old.queue m.queue _ (count_change (has_number n) is_ready _ (λ x. refl) (old.queue m.queue)) (λ r other. refl) q))) tt
+
+  gets : (c h : ℕ) (ch : Channel) (m : Get) (content : Option Content) (o : Option Entry) → first_ready (old.queue m.queue) ≡ o → Gets old c h ch m o sends notes new → Quiet old new (Command c h (BasicGet m) content) c (kept_after old c) sends notes
+  gets c h ch m content None is p = noting old new _ _ c (kept_after old c) sends _ notes [] p (refl, refl) (stay old c) refl tt (λ n q. none_left n q _ _ refl) tt
+  gets c h ch m content (Some e) is p = given c h ch m content e m.no_ack refl is p
+
+  -- ---- what a tag settles
+
+  -- what is outstanding there, where the channel is open or a new one stands for it
+  settles : (how : Settlement) (e : Event) (c h : ℕ) (ch : Channel) (tag : ℕ) (multiple : Bool) (wanted : List Send) → Settles how old c h ch tag multiple wanted sends notes new → IsReplyAtMost wanted → is_running (after_sends wanted) ≡ true
+      → ((cause : Cause) → how ≡ Leaves cause → (o : Outstanding) (entry : Entry) → IsIn o ch.outstanding → takes tag_of tag multiple o ≡ true → IsIn entry (old.queue o.queue) → is_held_as (holder_of c h o) entry ≡ true → IsCauseAt old e entry.message.number o.queue cause)
+      → Quiet old new e c (kept_after old c) sends notes
+  settles how e c h ch tag multiple wanted p few runs cause = record {
+    adds = record {
+      same = p.counted;
+      noted = leaving how p.queues;
+      kept = kept how p.queues;
+      caused = caused how refl p.queues;
+      few = subst IsReplyAtMost (sym p.sent) few;
+    };
+    connections = λ d. p.connections d ∙ sym (with_same old.connection c _ (ap (λ (s : List Send). cond (is_running (after_sends s)) (old.connection c) None) p.sent ∙ ap (λ (b : Bool). cond b (old.connection c) None) runs) d);
   }
-  performs c h ch (ChannelClose m) content conn accepted p = quiet_acts t old new _ sends notes (closes c h ch.is_closing p)
-  performs c h ch ChannelCloseOk content conn accepted p = quiet_acts t old new _ sends notes (still c _ _ p tt (record { same = refl; kept = λ n q. refl }) (stay old c))
-  performs c h ch (ConnectionClose m) content conn accepted p = quiet_acts t old new _ sends notes (still c _ _ p (refl, refl) (record { same = refl; kept = freed_count old (by_connection c) }) (λ d. refl))
-  performs c h ch _ content conn accepted p = absurd p
+    where
+      leaving : (s : Settlement) → AreSettled s c h p.gone old.queue notes new.queue → AllByRecursion (λ (note : Note). is_leaving note ≡ true) notes
+      leaving (Leaves why) a = are_leaving why c h p.gone old.queue notes new.queue a
+      leaving Returns a = subst (AllByRecursion (λ (note : Note). is_leaving note ≡ true)) (sym a.0) tt
 
-  refuses : (c h : ℕ) (cause : Ids) (r : Refusal) → Refuses old c h cause r sends notes new → Quiet old new c (kept_after old c) sends notes
-  refuses c h cause Ignored p = still c _ _ p tt (record { same = refl; kept = λ n q. refl }) (stay old c)
-  refuses c h cause (Of_channel code) p = still c _ _ p (refl, refl) (record { same = refl; kept = freed_count old (by_channel c h) }) (stay old c)
-  refuses c h cause (Of_connection code) p = still c _ _ p (refl, refl) (record { same = refl; kept = freed_count old (by_connection c) }) (λ d. refl)
+      kept : (s : Settlement) → AreSettled s c h p.gone old.queue notes new.queue → (n : ℕ) (q : Text) → count_by (has_number n) (old.queue q) ≡ count_by (is_left n q) notes + count_by (has_number n) (new.queue q)
+      kept (Leaves why) a n q = left_balances why c h p.gone old.queue notes new.queue a n q
+      kept Returns a n q =
+          let z : count_by (is_left n q) notes ≡ 0 = ap (count_by (is_left n q)) a.0 in
+          let same = returned_counts c h p.gone old.queue new.queue a.1 n q in
+          omega (arith, z, same)
+
+      caused : (s : Settlement) → how ≡ s → AreSettled s c h p.gone old.queue notes new.queue → AllByRecursion (OfLeft (IsCauseAt old e)) notes
+      caused (Leaves why) is a = left_causes (IsCauseAt old e) why c h p.gone old.queue notes new.queue a each
+        where
+          each : (o : Outstanding) (entry : Entry) → IsIn o p.gone → IsIn entry (old.queue o.queue) → is_held_as (holder_of c h o) entry ≡ true → IsCauseAt old e entry.message.number o.queue why
+          each o entry i there held = let at = settled_are tag_of tag multiple ch.outstanding p.gone p.settled_are o i in cause why is o entry at.0 at.1 there held
+      caused Returns is a = subst (AllByRecursion (OfLeft (IsCauseAt old e))) (sym a.0) tt
+
+  -- what is outstanding on a channel is outstanding on one that is open
+  opened_if : (o : Option Channel) (x : Outstanding) → IsIn x (channel_or_new o).outstanding → o ≡ Some (channel_or_new o)
+  opened_if None x i = absurd i
+  opened_if (Some ch) x i = refl
+
+  was_given : (c h tag : ℕ) (multiple : Bool) (o : Outstanding) (entry : Entry) → IsIn o (channel_or_new (old.channel c h)).outstanding → takes tag_of tag multiple o ≡ true → IsIn entry (old.queue o.queue) → is_held_as (holder_of c h o) entry ≡ true → WasGiven old c h tag multiple entry.message.number o.queue
+  was_given c h tag multiple o entry i taken there held = record { channel = channel_or_new (old.channel c h); there = opened_if (old.channel c h) o i; delivery = o; outstanding = i; settled = taken; of_queue = refl; entry = entry; stands = there; held = held; number = refl }
+
+  -- it leaves by a rejection that does not requeue
+  rejected_is : (requeue : Bool) (cause : Cause) → of_rejected requeue ≡ Leaves cause → (requeue ≡ false) × (cause ≡ Rejected)
+  rejected_is true cause e = absurd (false≢true (ap is_leaving_how e))
+    where
+      is_leaving_how : Settlement → Bool
+      is_leaving_how (Leaves why) = true
+      is_leaving_how Returns = false
+  rejected_is false cause e = (refl, sym (ap cause_of e))
+    where
+      cause_of : Settlement → Cause
+      cause_of (Leaves why) = why
+      cause_of Returns = Rejected
+
+  rejects : (c h tag : ℕ) (multiple requeue : Bool) (m : Method) (content : Option Content)
+      → ((n : ℕ) (q : Text) → requeue ≡ false → WasGiven old c h tag multiple n q → IsCauseIn old c h m n q Rejected)
+      → Settles (of_rejected requeue) old c h (channel_or_new (old.channel c h)) tag multiple [] sends notes new → Quiet old new (Command c h m content) c (kept_after old c) sends notes
+  rejects c h tag multiple requeue m content by p = settles (of_rejected requeue) (Command c h m content) c h (channel_or_new (old.channel c h)) tag multiple [] p tt refl cause
+    where
+      cause : (why : Cause) → of_rejected requeue ≡ Leaves why → (o : Outstanding) (entry : Entry) → IsIn o (channel_or_new (old.channel c h)).outstanding → takes tag_of tag multiple o ≡ true → IsIn entry (old.queue o.queue) → is_held_as (holder_of c h o) entry ≡ true → IsCauseIn old c h m entry.message.number o.queue why
+      cause why is o entry i taken there held =
+          let r = rejected_is requeue why is in
+          subst (λ (z : Cause). IsCauseIn old c h m entry.message.number o.queue z) (sym r.1) (by entry.message.number o.queue r.0 (was_given c h tag multiple o entry i taken there held))
+
+  acknowledges : (c h : ℕ) (m : Ack) (content : Option Content)
+      → Settles (Leaves Acked) old c h (channel_or_new (old.channel c h)) m.delivery_tag m.multiple [] sends notes new → Quiet old new (Command c h (BasicAck m) content) c (kept_after old c) sends notes
+  acknowledges c h m content p = settles (Leaves Acked) (Command c h (BasicAck m) content) c h (channel_or_new (old.channel c h)) m.delivery_tag m.multiple [] p tt refl cause
+    where
+      cause : (why : Cause) → Leaves Acked ≡ Leaves why → (o : Outstanding) (entry : Entry) → IsIn o (channel_or_new (old.channel c h)).outstanding → takes tag_of m.delivery_tag m.multiple o ≡ true → IsIn entry (old.queue o.queue) → is_held_as (holder_of c h o) entry ≡ true → IsCauseIn old c h (BasicAck m) entry.message.number o.queue why
+      cause why is o entry i taken there held = subst (λ (z : Cause). IsCauseIn old c h (BasicAck m) entry.message.number o.queue z) (ap cause_of is) (was_given c h m.delivery_tag m.multiple o entry i taken there held)
+        where
+          cause_of : Settlement → Cause
+          cause_of (Leaves why) = why
+          cause_of Returns = Acked
+
+  recovers : (c h : ℕ) (requeue : Bool) (content : Option Content)
+      → Settles Returns old c h (channel_or_new (old.channel c h)) 0 true (reply c h BasicRecoverOk ∷ []) sends notes new → Quiet old new (Command c h (BasicRecover requeue) content) c (kept_after old c) sends notes
+  recovers c h requeue content p = settles Returns (Command c h (BasicRecover requeue) content) c h (channel_or_new (old.channel c h)) 0 true _ p (refl, refl) refl cause
+    where
+      cause : (why : Cause) → Returns ≡ Leaves why → (o : Outstanding) (entry : Entry) → IsIn o (channel_or_new (old.channel c h)).outstanding → takes tag_of 0 true o ≡ true → IsIn entry (old.queue o.queue) → is_held_as (holder_of c h o) entry ≡ true → IsCauseIn old c h (BasicRecover requeue) entry.message.number o.queue why
+      cause why is o entry i taken there held = absurd (false≢true (ap is_leaving_how is))
+        where
+          is_leaving_how : Settlement → Bool
+          is_leaving_how (Leaves why) = true
+          is_leaving_how Returns = false
+
+  -- ---- a purge
+
+  purged : (c h : ℕ) (m : Purge) (content : Option Content) (no_wait : Bool)
+      → Makes sends notes new (purge_sends c h no_wait (ready_in (old.queue m.queue))) (purge_notes m.queue (filter is_ready (old.queue m.queue))) (after_purge old m.queue)
+      → Quiet old new (Command c h (QueuePurge m) content) c (kept_after old c) sends notes
+  purged c h m content no_wait p =
+      noting old new _ _ c (kept_after old c) sends _ notes _ p (few no_wait) (alone no_wait) refl (purge_leaving m.queue _) (purge_balances old.queue m.queue)
+      (purge_causes (IsCauseAt old (Command c h (QueuePurge m) content)) m.queue (old.queue m.queue) _ (λ e i. i) (λ e i ready. (refl, record { entry = e; stands = i; ready = ready; number = refl })))
+    where
+      few : (b : Bool) → IsReplyAtMost (purge_sends c h b (ready_in (old.queue m.queue)))
+      few true = tt
+      few false = (refl, refl)
+
+      alone : (b : Bool) → IsAlone old c (kept_after old c (purge_sends c h b (ready_in (old.queue m.queue)))) (after_purge old m.queue)
+      alone true d = stay old c d
+      alone false d = stay old c d
+
+  performs : (c h : ℕ) (m : Method) (content : Option Content) (conn : Connection) → refusal t old conn h m (old.channel c h) ≡ None → Performs t old c h (channel_or_new (old.channel c h)) m content sends notes new → Acted t old new (Command c h m content) sends notes
+  performs c h (ConfirmSelect true) content conn accepted p = quiet_acts t old new _ sends notes (still _ c _ _ p tt (record { same = refl; kept = λ n q. refl }) (stay old c))
+  performs c h (ConfirmSelect false) content conn accepted p = quiet_acts t old new _ sends notes (still _ c _ _ p (refl, refl) (record { same = refl; kept = λ n q. refl }) (stay old c))
+  performs c h (BasicPublish publish) content conn accepted p = record {
+    seen = inr (record { c = c; h = h; ch = channel_or_new (old.channel c h); publish = publish; given = content; event = refl; connection = conn; accepted = accepted; is = p });
+    connections = publish_stays t old new c h (channel_or_new (old.channel c h)) publish (content_or_none content) sends notes p;
+  }
+  performs c h (ChannelClose m) content conn accepted p = quiet_acts t old new _ sends notes (closes _ c h (channel_or_new (old.channel c h)).is_closing p)
+  performs c h ChannelCloseOk content conn accepted p = quiet_acts t old new _ sends notes (still _ c _ _ p tt (record { same = refl; kept = λ n q. refl }) (stay old c))
+  performs c h (ConnectionClose m) content conn accepted p = quiet_acts t old new _ sends notes (still _ c _ _ p (refl, refl) (record { same = refl; kept = freed_count old (by_connection c) }) (λ d. refl))
+  performs c h (BasicQos m) content conn accepted p = quiet_acts t old new _ sends notes (still _ c _ _ p (refl, refl) (record { same = refl; kept = λ n q. refl }) (stay old c))
+  performs c h (BasicGet m) content conn accepted p = quiet_acts t old new _ sends notes (gets c h (channel_or_new (old.channel c h)) m content (first_ready (old.queue m.queue)) refl p)
+  performs c h (BasicAck m) content conn accepted p = quiet_acts t old new _ sends notes (acknowledges c h m content p)
+  performs c h (BasicReject m) content conn accepted p = quiet_acts t old new _ sends notes (rejects c h m.delivery_tag false m.requeue (BasicReject m) content (λ n q e g. (e, g)) p)
+  performs c h (BasicNack m) content conn accepted p = quiet_acts t old new _ sends notes (rejects c h m.delivery_tag m.multiple m.requeue (BasicNack m) content (λ n q e g. (e, g)) p)
+  performs c h (BasicRecover requeue) content conn accepted p = quiet_acts t old new _ sends notes (recovers c h requeue content p)
+  performs c h (QueuePurge m) content conn accepted p = quiet_acts t old new _ sends notes (purged c h m content m.no_wait p)
+  performs c h _ content conn accepted p = absurd p
+
+  refuses : (e : Event) (c h : ℕ) (cause : Ids) (r : Refusal) → Refuses old c h cause r sends notes new → Quiet old new e c (kept_after old c) sends notes
+  refuses e c h cause Ignored p = still e c _ _ p tt (record { same = refl; kept = λ n q. refl }) (stay old c)
+  refuses e c h cause (Of_channel code) p = still e c _ _ p (refl, refl) (record { same = refl; kept = freed_count old (by_channel c h) }) (stay old c)
+  refuses e c h cause (Of_connection code) p = still e c _ _ p (refl, refl) (record { same = refl; kept = freed_count old (by_connection c) }) (λ d. refl)
 
   decides : (c h : ℕ) (m : Method) (content : Option Content) (conn : Connection) (r : Option Refusal) → refusal t old conn h m (old.channel c h) ≡ r → Decides t old c h m content r sends notes new → Acted t old new (Command c h m content) sends notes
-  decides c h m content conn None is p = performs c h (channel_or_new (old.channel c h)) m content conn is p
-  decides c h m content conn (Some r) is p = quiet_acts t old new _ sends notes (refuses c h (ids_of m) r p)
+  decides c h m content conn None is p = performs c h m content conn is p
+  decides c h m content conn (Some r) is p = quiet_acts t old new _ sends notes (refuses _ c h (ids_of m) r p)
 
   commanded : (c h : ℕ) (m : Method) (content : Option Content) (o : Option Connection) → OnConnection t old c h m content sends notes new o → Acted t old new (Command c h m content) sends notes
-  commanded c h m content None p = quiet_acts t old new _ sends notes (still c _ _ p tt (record { same = refl; kept = λ n q. refl }) (stay old c))
+  commanded c h m content None p = quiet_acts t old new _ sends notes (still _ c _ _ p tt (record { same = refl; kept = λ n q. refl }) (stay old c))
   commanded c h m content (Some conn) p = decides c h m content conn (refusal t old conn h m (old.channel c h)) refl p
 
-  too_large : (c h : ℕ) (o : Option Connection) → OnLarge old c h sends notes new o → Quiet old new c (kept_after old c) sends notes
-  too_large c h None p = still c _ _ p tt (record { same = refl; kept = λ n q. refl }) (stay old c)
-  too_large c h (Some conn) p = refuses c h (ids_of empty_publish) (refusal_of_large conn h (old.channel c h)) p
+  too_large : (c h : ℕ) (o : Option Connection) → OnLarge old c h sends notes new o → Quiet old new (TooLarge c h) c (kept_after old c) sends notes
+  too_large c h None p = still _ c _ _ p tt (record { same = refl; kept = λ n q. refl }) (stay old c)
+  too_large c h (Some conn) p = refuses _ c h (ids_of empty_publish) (refusal_of_large conn h (old.channel c h)) p
 
   -- Each event of the broker goes one of these ways.
   pub acted : (e : Event) → Acts t old e sends notes new → Acted t old new e sends notes
-  acted (Running c max k) p = quiet_acts t old new _ sends notes (quiet old new _ c _ sends _ notes p tt (record { same = refl; kept = λ n q. refl }) (λ d. refl))
+  acted (Running c max k) p = quiet_acts t old new _ sends notes (quiet old new _ _ c _ sends _ notes p tt (record { same = refl; kept = λ n q. refl }) (λ d. refl))
   acted (Command c h m content) p = commanded c h m content (old.connection c) p
   acted (TooLarge c h) p = quiet_acts t old new _ sends notes (too_large c h (old.connection c) p)
-  acted (Fault c code) p = quiet_acts t old new _ sends notes (quiet old new _ c _ sends _ notes p (refl, refl) (record { same = refl; kept = freed_count old (by_connection c) }) (λ d. refl))
-  acted (Lose c) p = quiet_acts t old new _ sends notes (quiet old new _ c _ sends _ notes p tt (record { same = refl; kept = freed_count old (by_connection c) }) (λ d. refl))
-  acted (Pause c) p = quiet_acts t old new _ sends notes (quiet old new _ c _ sends _ notes p tt (record { same = refl; kept = λ n q. refl }) (λ d. refl))
-  acted (Resume c) p = quiet_acts t old new _ sends notes (quiet old new _ c _ sends _ notes p tt (record { same = refl; kept = λ n q. refl }) (λ d. refl))
+  acted (Fault c code) p = quiet_acts t old new _ sends notes (quiet old new _ _ c _ sends _ notes p (refl, refl) (record { same = refl; kept = freed_count old (by_connection c) }) (λ d. refl))
+  acted (Lose c) p = quiet_acts t old new _ sends notes (quiet old new _ _ c _ sends _ notes p tt (record { same = refl; kept = freed_count old (by_connection c) }) (λ d. refl))
+  acted (Pause c) p = quiet_acts t old new _ sends notes (quiet old new _ _ c _ sends _ notes p tt (record { same = refl; kept = λ n q. refl }) (λ d. refl))
+  acted (Resume c) p = quiet_acts t old new _ sends notes (quiet old new _ _ c _ sends _ notes p tt (record { same = refl; kept = λ n q. refl }) (λ d. refl))
 
 -- ---- the ways of a whole step
 
@@ -298,13 +458,21 @@ module _ (f : Config) (old new : State) (sends : List Send) (notes : List Note) 
   goes (Resume c) s = inl (record { runs = λ r. absurd (false≢true r); acts = s.acts; sessions = λ d. s.session d ∙ sym (with_same old.session c (old.session c) refl d) })
 
   -- a move to Running leaves the publishes and the queues as they are, as any other
-  answered_adds : (e : Event) → Answered old e sends notes new → AddsNothing old.broker new.broker sends notes
+  answered_adds : (e : Event) → Answered old e sends notes new → AddsNothing old.broker new.broker e sends notes
   answered_adds e a = record {
     same = a.moves.broker.counted ∙ (elim (is_running a.move.next.phase) as (λ v. (if v then opened old.broker (connection_of e) a.move.next.channel_max 0 else old.broker).published ≡ old.broker.published) [ true ↦ refl | false ↦ refl ]);
-    noted = a.moves.noted;
-    kept = λ n q. ap (count_by (has_number n)) (a.moves.broker.queues q ∙ (elim (is_running a.move.next.phase) as (λ v. (if v then opened old.broker (connection_of e) a.move.next.channel_max 0 else old.broker).queue q ≡ old.broker.queue q) [ true ↦ refl | false ↦ refl ]));
+    noted = subst (AllByRecursion (λ (note : Note). is_leaving note ≡ true)) (sym a.moves.noted) tt;
+    kept = λ n q.
+        let z : count_by (is_left n q) notes ≡ 0 = ap (count_by (is_left n q)) a.moves.noted in
+        let same : count_by (has_number n) (new.broker.queue q) ≡ count_by (has_number n) (old.broker.queue q) = ap (count_by (has_number n)) (a.moves.broker.queues q) ∙ moved n q (is_running a.move.next.phase) in
+        omega (arith, z, same);
+    caused = subst (AllByRecursion (OfLeft (IsCauseAt old.broker e))) (sym a.moves.noted) tt;
     few = subst IsReplyAtMost (sym a.moves.sent) a.few;
   }
+    where
+      moved : (n : ℕ) (q : Text) (v : Bool) → count_by (has_number n) ((if v then opened old.broker (connection_of e) a.move.next.channel_max 0 else old.broker).queue q) ≡ count_by (has_number n) (old.broker.queue q)
+      moved n q true = refl
+      moved n q false = refl
 
   -- Each step adds nothing, or is a publish.
   pub seen : (e : Event) → Step f old e sends notes new → Seen f.topology old.broker new.broker e sends notes

@@ -5,3 +5,4 @@ pub mod Streams
 pub mod Delivery
 pub mod Rows
 pub mod Consistency
+pub mod Agreeing

@@ -5,6 +5,7 @@
 #![tactic(auto)]
 
 ghost use Rattle.std.specs.Prelude.{◌≡◌};
+ghost use Rattle.laws.specs.Agreeing.{BrokersStayAgreed};
 ghost use Rattle.laws.specs.Alone.{SoundForWords};
 ghost use Rattle.laws.specs.Consistency.{PlaysStayConsistent, WorldsStayConsistent};
 ghost use Rattle.laws.specs.Delivery.{OneReading, HeadlineHolds, TurnsKeep};
@@ -87,6 +88,12 @@ pub fn faults_stay()
 pub fn worlds_stay_consistent()
     ensures worlds { WorldsStayConsistent }
     ensures plays { PlaysStayConsistent }
+{}
+
+/// Whatever happens, each message that is held in a queue is outstanding on the channel that holds it, under a tag of its
+/// own that is below the next one.
+pub fn brokers_stay_agreed()
+    ensures { BrokersStayAgreed }
 {}
 
 /// A client reads an output in one way.

@@ -1,5 +1,5 @@
 -- Certified delivery: what is promised of a whole run, in the words of a client and of the topology's owner (own).
-use Rattle.std.specs.Prelude.{◌≡◌, ◌+◌, ◌%◌, ◌⊎◌, ℕ, List, [], ◌∷◌, take, drop, map, filter_map, flat_map, ◌≢◌, count_by, Bool, false, Option, Some, None, ◌==◌, ◌&&◌, if◌then◌else◌, Contains, slice_get, slice_index_or}
+use Rattle.std.specs.Prelude.{◌≡◌, ◌+◌, ◌%◌, ◌⊎◌, ℕ, List, [], ◌∷◌, take, drop, map, filter_map, flat_map, ◌≢◌, count_by, Bool, true, false, Option, Some, None, ◌==◌, ◌&&◌, if◌then◌else◌, Contains, slice_get, slice_index_or}
 use Rattle.std.specs.Int.{w64, from_be_bytes}
 use Rattle.std.specs.List.{list_any, AllByRecursion}
 use Rattle.std.specs.Str.{bytes_eq}
@@ -8,14 +8,23 @@ use Rattle.model.specs.Topology.{IsIn, IsWellFormed}
 use Rattle.model.specs.Guarantee.{Guarantee, Covers, AllHold}
 use Rattle.model.specs.Frames.{Frame, AreFrames}
 use Rattle.model.specs.Spelling.{eight_bytes}
-use Rattle.model.specs.Broker.{Broker}
+use Rattle.model.specs.Broker.{Outstanding, Channel, Broker, is_ready}
+use Rattle.model.specs.Entries.{is_held_as}
+use Rattle.model.specs.Settling.{takes}
+use Rattle.model.specs.Step.{tag_of}
+use Rattle.model.specs.Deliveries.{first_ready, holder_of}
 use Rattle.model.specs.State.{Config}
 use Rattle.model.specs.Run.{Happening, notes_of, Stays, empty_broker}
 use Rattle.model.specs.Arrivals.{World, new_world, Plays, Shows, Seen, Shown}
 use Rattle.model.specs.declared.topologies.Mode.TheVariants.{Reaches, Never}
 use Rattle.model.specs.declared.events.Arrival.{Arrival}
 use Rattle.model.specs.declared.messages.Entry.{Entry}
+use Rattle.model.specs.declared.methods.Method.{Method}
+use Rattle.model.specs.declared.methods.Method.TheVariants.{QueuePurge, BasicGet, BasicAck, BasicReject, BasicNack}
+use Rattle.model.specs.declared.events.Event.{Event}
+use Rattle.model.specs.declared.events.Event.TheVariants.{Command}
 use Rattle.model.specs.declared.notes.Cause.{Cause}
+use Rattle.model.specs.declared.notes.Cause.TheVariants.{Acked as Acknowledged, Auto, Rejected, Purged}
 use Rattle.model.specs.declared.notes.Note.{Note}
 use Rattle.model.specs.declared.notes.Note.TheVariants.{Published, Entered, Confirmed, Left}
 use Rattle.model.specs.declared.notes.Answer.TheVariants as answer
@@ -132,9 +141,68 @@ AreAllowedIn notes h = AllByRecursion (IsAllowed h.config.guarantees (IsNoted no
 
 -- ---- causes
 
--- By this event a message of this number may leave this queue for this cause, as the state before it says; so far no command takes a message out.
+-- A message of this number was given out on channel h of connection c, is outstanding there under a tag that this one settles, and stands in this queue.
+pub record WasGiven (b : Broker) (c h tag : ℕ) (multiple : Bool) (n : ℕ) (q : Text) : Type 0 where
+  pub channel : Channel
+  pub there : b.channel c h ≡ Some channel
+  pub delivery : Outstanding
+  pub outstanding : IsIn delivery channel.outstanding
+  pub settled : takes tag_of tag multiple delivery ≡ true
+  pub of_queue : delivery.queue ≡ q
+  pub entry : Entry
+  pub stands : IsIn entry (b.queue q)
+  pub held : is_held_as (holder_of c h delivery) entry ≡ true
+  pub number : entry.message.number ≡ n
+
+-- A message of this number can be given out of this queue.
+pub record IsReadyIn (b : Broker) (n : ℕ) (q : Text) : Type 0 where
+  pub entry : Entry
+  pub stands : IsIn entry (b.queue q)
+  pub ready : is_ready entry ≡ true
+  pub number : entry.message.number ≡ n
+
+-- A message of this number is the first that can be given out of this queue.
+pub record IsFirstIn (b : Broker) (n : ℕ) (q : Text) : Type 0 where
+  pub entry : Entry
+  pub first : first_ready (b.queue q) ≡ Some entry
+  pub number : entry.message.number ≡ n
+
+-- an acknowledgement takes out what it settles (AMQP 0-9-1, basic.ack)
+abbrev pub ByAck : Broker → ℕ → ℕ → Method → ℕ → Text → Type 0
+ByAck b c h (BasicAck m) n q = WasGiven b c h m.delivery_tag m.multiple n q
+ByAck b c h m n q = ⊥
+
+-- a rejection that does not requeue takes out what it settles (AMQP 0-9-1, basic.reject; RabbitMQ, basic.nack)
+abbrev pub ByRejection : Broker → ℕ → ℕ → Method → ℕ → Text → Type 0
+ByRejection b c h (BasicReject m) n q = (m.requeue ≡ false) × WasGiven b c h m.delivery_tag false n q
+ByRejection b c h (BasicNack m) n q = (m.requeue ≡ false) × WasGiven b c h m.delivery_tag m.multiple n q
+ByRejection b c h m n q = ⊥
+
+-- a get without acknowledgement takes out the first ready message of its queue (AMQP 0-9-1, basic.get, no-ack)
+abbrev pub ByGiving : Broker → Method → ℕ → Text → Type 0
+ByGiving b (BasicGet m) n q = (m.no_ack ≡ true) × (m.queue ≡ q) × IsFirstIn b n q
+ByGiving b m n q = ⊥
+
+-- a purge takes out the ready messages of its queue (AMQP 0-9-1, queue.purge)
+abbrev pub ByPurge : Broker → Method → ℕ → Text → Type 0
+ByPurge b (QueuePurge m) n q = (m.queue ≡ q) × IsReadyIn b n q
+ByPurge b m n q = ⊥
+
+-- By this command, in this state, a message of this number may leave this queue for this cause.
+abbrev pub IsCauseIn : Broker → ℕ → ℕ → Method → ℕ → Text → Cause → Type 0
+IsCauseIn b c h m n q Acknowledged = ByAck b c h m n q
+IsCauseIn b c h m n q Auto = ByGiving b m n q
+IsCauseIn b c h m n q Rejected = ByRejection b c h m n q
+IsCauseIn b c h m n q Purged = ByPurge b m n q
+
+-- By this event, in this state: no event but a command takes a message out.
+abbrev pub IsCauseAt : Broker → Event → ℕ → Text → Cause → Type 0
+IsCauseAt b (Command c h m content) n q cause = IsCauseIn b c h m n q cause
+IsCauseAt b e n q cause = ⊥
+
+-- By this event a message of this number may leave this queue for this cause, as the state before it says.
 abbrev pub IsCause : Happening → ℕ → Text → Cause → Type 0
-IsCause h n q cause = ⊥
+IsCause h n q cause = IsCauseAt h.before.broker h.event n q cause
 
 -- where the note says that a message left a queue, it left by this event for the cause that is noted
 abbrev pub HasCause : Happening → Note → Type 0

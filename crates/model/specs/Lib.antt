@@ -13,6 +13,8 @@ pub mod Grammar
 pub mod Headers
 pub mod Message
 pub mod Broker
+pub mod Entries
+pub mod Deliveries
 pub mod Settling
 pub mod Prefetch
 pub mod Commands
@@ -25,3 +27,6 @@ pub mod Run
 pub mod Arrivals
 pub mod Headline
 pub mod Consistent
+pub mod Agreement
+pub mod Login
+pub mod Opening

@@ -1,12 +1,16 @@
 -- What the broker does at one event of a connection that runs. Each case names all that changes: what it doesn't name stays.
 -- Source: AMQP 0-9-1, its XML's rules of the channel and basic classes; RabbitMQ, "Consumer Acknowledgements and Publisher Confirms".
-use Rattle.std.specs.Prelude.{◌≡◌, ◌+◌, ℕ, List, [], ◌∷◌, ◌++◌, length, map, Bool, true, false, nat_lt, nat_le, not, ◌==◌, ◌&&◌, ◌||◌, if◌then◌else◌, Option, Some, None, find}
+use Rattle.std.specs.Prelude.{◌≡◌, ◌+◌, ℕ, List, [], ◌∷◌, ◌++◌, length, map, filter, Bool, true, false, nat_lt, nat_le, not, ◌==◌, ◌&&◌, ◌||◌, if◌then◌else◌, Option, Some, None, find, is_some}
 use Rattle.std.specs.List.{list_any}
 use Rattle.std.specs.Str.{bytes_eq}
 use Rattle.model.specs.Words.{Text}
 use Rattle.model.specs.Topology.{Topology, queue_names}
 use Rattle.model.specs.Routing.{Routes, Picks}
-use Rattle.model.specs.Broker.{Channel, Connection, Broker, new_channel, is_full, with_one, with_pair, with_row}
+use Rattle.model.specs.Broker.{Outstanding, Channel, Connection, Broker, new_channel, queue_named, is_full, is_ready, with_one, with_pair, with_row}
+use Rattle.model.specs.Entries.{freed, by_channel, by_connection}
+use Rattle.model.specs.Settling.{is_refused, settled, kept}
+use Rattle.model.specs.Prefetch.{has_tag_left}
+use Rattle.model.specs.Deliveries.{Settlement, Leaves, Returns, of_rejected, AreSettled, first_ready, ready_in, written_count, after_giving, after_delivery, delivery_notes, after_purge, purge_notes}
 use Rattle.model.specs.Grammar.{Ids, ids, ids_of}
 use Rattle.model.specs.Headers.{no_properties}
 use Rattle.model.specs.Codes.{code_text}
@@ -19,8 +23,13 @@ use Rattle.model.specs.declared.contents.Content.{Content}
 use Rattle.model.specs.declared.events.Send.{Send}
 use Rattle.model.specs.declared.events.Send.TheVariants as send
 use Rattle.model.specs.declared.methods.Publish.{Publish}
+use Rattle.model.specs.declared.methods.Get.{Get}
+use Rattle.model.specs.declared.methods.Purge.{Purge}
+use Rattle.model.specs.declared.methods.Qos.{Qos}
 use Rattle.model.specs.declared.methods.Method.{Method}
-use Rattle.model.specs.declared.methods.Method.TheVariants.{ConnectionClose, ConnectionCloseOk, ChannelOpenOk, ChannelFlowOk, ChannelClose, ChannelCloseOk, ExchangeDeclareOk, QueueDeclareOk, QueuePurgeOk, BasicQosOk, BasicConsumeOk, BasicCancelOk, BasicPublish, BasicReturn, BasicDeliver, BasicGetOk, BasicGetEmpty, BasicAck, BasicRecoverOk, BasicNack, ConfirmSelect, ConfirmSelectOk}
+use Rattle.model.specs.declared.methods.Method.TheVariants.{ConnectionClose, ConnectionCloseOk, ChannelOpenOk, ChannelFlowOk, ChannelClose, ChannelCloseOk, ExchangeDeclareOk, QueueDeclareOk, QueuePurge, QueuePurgeOk, BasicQos, BasicQosOk, BasicConsumeOk, BasicCancelOk, BasicPublish, BasicReturn, BasicDeliver, BasicGet, BasicGetOk, BasicGetEmpty, BasicAck, BasicReject, BasicRecover, BasicRecoverOk, BasicNack, ConfirmSelect, ConfirmSelectOk}
+use Rattle.model.specs.declared.messages.Taker.TheVariants as taker
+use Rattle.model.specs.declared.notes.Cause.TheVariants.{Acked}
 use Rattle.model.specs.declared.notes.Note.{Note}
 use Rattle.model.specs.declared.notes.Note.TheVariants.{Published, Entered, Refused, Returned, Confirmed}
 use Rattle.model.specs.declared.notes.Answer.{Answer}
@@ -77,6 +86,37 @@ or_else (Some r) other = Some r
 abbrev pub refusal_of_publish : Topology → Broker → Channel → Publish → Option Refusal
 refusal_of_publish t b ch p =
     if p.immediate || p.mandatory then Some (Of_connection 540) else or_else (refusal_to t p.exchange) (refusal_of_count b ch)
+
+-- ---- refusals of commands on queues and deliveries
+
+-- the tag of a delivery
+abbrev pub tag_of : Outstanding → ℕ
+tag_of o = o.tag
+
+-- the queue of this name must be there (AMQP 0-9-1, not-found)
+abbrev pub refusal_in : Topology → Text → Option Refusal
+refusal_in t name = if is_some (queue_named t.queues name) then None else Some (Of_channel 404)
+
+-- a delivery tag must be left where a message is given out
+abbrev pub refusal_of_tags : Channel → Option Entry → Option Refusal
+refusal_of_tags ch None = None
+refusal_of_tags ch (Some e) = if has_tag_left ch.next_tag then None else Some (Of_connection 541)
+
+-- a get: the queue must be there, and a tag left for its message
+abbrev pub refusal_of_get : Topology → Broker → Channel → Get → Option Refusal
+refusal_of_get t b ch m = or_else (refusal_in t m.queue) (refusal_of_tags ch (first_ready (b.queue m.queue)))
+
+-- a tag that is not outstanding is refused (AMQP 0-9-1, precondition-failed)
+abbrev pub refusal_of_settling : Channel → ℕ → Bool → Option Refusal
+refusal_of_settling ch tag multiple = if is_refused tag_of tag multiple ch.outstanding then Some (Of_channel 406) else None
+
+-- a limit by the size of messages is not implemented
+abbrev pub refusal_of_qos : Qos → Option Refusal
+refusal_of_qos m = if m.prefetch_size == 0 then None else Some (Of_connection 540)
+
+-- nor is a recovery without requeueing
+abbrev pub refusal_of_recover : Bool → Option Refusal
+refusal_of_recover requeue = if requeue then None else Some (Of_connection 540)
 
 -- the connection class
 abbrev pub is_of_connection : Method → Bool
@@ -144,21 +184,9 @@ with_channel b c h ch = record b { channel = with_pair b.channel c h ch }
 abbrev pub without_connection : Broker → ℕ → Broker
 without_connection b c = record b { connection = with_one b.connection c None; channel = with_row b.channel c (λ h. None) }
 
--- an entry that these held is ready again in its place, and redelivered
-abbrev pub freed : (Holder → Bool) → Entry → Entry
-freed mine e = elim e.mark [ Ready ↦ e | Held holder ↦ if mine holder then record e { message = record e.message { redelivered = true }; mark = Ready } else e ]
-
 -- every entry that these held is ready again, in its place in its queue
 abbrev pub with_freed : Broker → (Holder → Bool) → Broker
 with_freed b mine = record b { queue = λ q. map (freed mine) (b.queue q) }
-
--- channel h of connection c holds it
-abbrev pub by_channel : ℕ → ℕ → Holder → Bool
-by_channel c h holder = (holder.connection == c) && (holder.channel == h)
-
--- some channel of connection c holds it
-abbrev pub by_connection : ℕ → Holder → Bool
-by_connection c holder = holder.connection == c
 
 -- what a closed channel held is requeued, and nothing is left on it but that close-ok is awaited
 abbrev pub with_closing : Broker → ℕ → ℕ → Broker
@@ -292,6 +320,51 @@ select_sends c h no_wait = if no_wait then [] else reply c h ConfirmSelectOk ∷
 abbrev pub after_close : Broker → ℕ → ℕ → Channel → Broker
 after_close b c h ch = if ch.is_closing then b else with_freed (with_channel b c h None) (by_channel c h)
 
+-- ---- messages that are given out and settled
+
+-- A step with these sends and notes, and the state that it leaves.
+pub record Makes (sends : List Send) (notes : List Note) (new : Broker) (wanted_sends : List Send) (wanted_notes : List Note) (made : Broker) : Type 0 where
+  pub sent : sends ≡ wanted_sends
+  pub noted : notes ≡ wanted_notes
+  pub left : Is made new
+
+-- a message as the answer to a get, with its content and the number of ready messages that remain (AMQP 0-9-1, basic.get-ok)
+abbrev pub get_ok : ℕ → ℕ → ℕ → Entry → ℕ → Send
+get_ok c h tag e remaining =
+    send.Command c h (BasicGetOk (record { delivery_tag = tag; redelivered = e.message.redelivered; exchange = e.message.exchange; routing_key = e.message.key; message_count = written_count remaining })) (Some e.message.content)
+
+-- What a get does: the first ready message of the queue is given out, or there is none (AMQP 0-9-1, basic.get).
+abbrev pub Gets : Broker → ℕ → ℕ → Channel → Get → Option Entry → List Send → List Note → Broker → Type 0
+Gets old c h ch m None sends notes new = Makes sends notes new (reply c h (BasicGetEmpty []) ∷ []) [] old
+Gets old c h ch m (Some e) sends notes new =
+    Makes sends notes new
+    (get_ok c h ch.next_tag e (ready_in ((after_delivery old c h ch m.no_ack m.queue taker.Get).queue m.queue)) ∷ [])
+    (delivery_notes m.no_ack e.message.number m.queue)
+    (after_delivery old c h ch m.no_ack m.queue taker.Get)
+
+-- What an acknowledgement or a rejection does on a channel of this record: what its tag settles is taken out or requeued, in the order of tags.
+pub record Settles (how : Settlement) (old : Broker) (c h : ℕ) (ch : Channel) (tag : ℕ) (multiple : Bool) (wanted_sends : List Send) (sends : List Send) (notes : List Note) (new : Broker) : Type 0 where
+  pub gone : List Outstanding
+  pub settled_are : settled tag_of tag multiple ch.outstanding ≡ Some gone
+  pub queues : AreSettled how c h gone old.queue notes new.queue
+  pub sent : sends ≡ wanted_sends
+  pub counted : new.published ≡ old.published
+  pub connections : (d : ℕ) → new.connection d ≡ old.connection d
+  pub channels : (d k : ℕ) → new.channel d k ≡ with_pair old.channel c h (Some (record ch { outstanding = kept tag_of tag multiple ch.outstanding })) d k
+
+-- a purge is answered by the number of messages that it took out, unless its no-wait bit says not to (AMQP 0-9-1, queue.purge-ok)
+abbrev pub purge_sends : ℕ → ℕ → Bool → ℕ → List Send
+purge_sends c h no_wait count = if no_wait then [] else reply c h (QueuePurgeOk (written_count count)) ∷ []
+
+-- What a purge does.
+abbrev pub Purges : Broker → ℕ → ℕ → Purge → List Send → List Note → Broker → Type 0
+Purges old c h m sends notes new =
+    Makes sends notes new (purge_sends c h m.no_wait (ready_in (old.queue m.queue))) (purge_notes m.queue (filter is_ready (old.queue m.queue))) (after_purge old m.queue)
+
+-- the channel with the limit that a qos sets: of all its consumers together, or of each that is made later (RabbitMQ, "Consumer Prefetch", global)
+abbrev pub limited : Channel → Qos → Channel
+limited ch m = if m.global then record ch { limit = m.prefetch_count } else record ch { each_limit = m.prefetch_count }
+
 -- a publish without a content counts as one with none of it
 abbrev pub content_or_none : Option Content → Content
 content_or_none (Some content) = content
@@ -309,6 +382,20 @@ Performs t old c h ch ChannelCloseOk content sends notes new =
     Does sends notes new [] (with_channel old c h None)
 Performs t old c h ch (ConnectionClose m) content sends notes new =
     Does sends notes new (reply c 0 ConnectionCloseOk ∷ []) (with_gone old c)
+Performs t old c h ch (BasicQos m) content sends notes new =
+    Does sends notes new (reply c h BasicQosOk ∷ []) (with_channel old c h (Some (limited ch m)))
+Performs t old c h ch (BasicGet m) content sends notes new =
+    Gets old c h ch m (first_ready (old.queue m.queue)) sends notes new
+Performs t old c h ch (BasicAck m) content sends notes new =
+    Settles (Leaves Acked) old c h ch m.delivery_tag m.multiple [] sends notes new
+Performs t old c h ch (BasicReject m) content sends notes new =
+    Settles (of_rejected m.requeue) old c h ch m.delivery_tag false [] sends notes new
+Performs t old c h ch (BasicNack m) content sends notes new =
+    Settles (of_rejected m.requeue) old c h ch m.delivery_tag m.multiple [] sends notes new
+Performs t old c h ch (BasicRecover requeue) content sends notes new =
+    Settles Returns old c h ch 0 true (reply c h BasicRecoverOk ∷ []) sends notes new
+Performs t old c h ch (QueuePurge m) content sends notes new =
+    Purges old c h m sends notes new
 Performs t old c h ch _ content sends notes new = ⊥
 
 -- What a refused command does: the close of its code names the method that caused it, and what was held is ready again.

@@ -1,7 +1,8 @@
 -- The first of a list that passes, by its place.
-use Rattle.std.proofs.Common.{◌≡◌, ℕ, suc, ◌+◌, ◌<◌, List, [], ◌∷◌, ◌++◌, length, get_or, set, take, drop, find, refl, sym, ap, subst, arith, Bool, true, false, cond, Option, Some, None}
+use Rattle.std.proofs.Common.{◌≡◌, ℕ, suc, ◌+◌, ◌<◌, List, [], ◌∷◌, ◌++◌, length, get_or, set, take, drop, find, filter, refl, sym, ap, subst, arith, Bool, true, false, cond, Option, Some, None}
+use Rattle.std.specs.Prelude.{not}
 use Rattle.std.specs.List.{position_from}
-use Rattle.queue.specs.Line.{change_first, without_first}
+use Rattle.model.specs.Entries.{change_first, without_first}
 
 -- It stands at this place.
 pub record IsFirstAt {X : Type 0} (p : X → Bool) (xs : List X) (i : ℕ) : Type 0 where
@@ -62,3 +63,13 @@ nowhere {X = X} p k (x ∷ xs) e = go (p x) refl (nowhere p (k + 1) xs) e
     go : (b : Bool) → p x ≡ b → (◌≡◌ {A = Option ℕ} None (position_from p (k + 1) xs) → IsNowhere p xs) → ◌≡◌ {A = Option ℕ} None (cond b (Some k) (position_from p (k + 1) xs)) → IsNowhere p (x ∷ xs)
     go true h r q = absurd (cc)
     go false h r q = on h (r q)
+
+-- without it, those that don't pass are the same
+pub rest_filtered : {X : Type 0} (p : X → Bool) (xs : List X) → filter (λ x. not (p x)) (without_first p xs) ≡ filter (λ x. not (p x)) xs
+rest_filtered p [] = refl
+rest_filtered {X = X} p (x ∷ xs) = go (p x) refl (rest_filtered p xs)
+  where
+    go : (b : Bool) → p x ≡ b → filter (λ y. not (p y)) (without_first p xs) ≡ filter (λ y. not (p y)) xs
+        → filter (λ y. not (p y)) (cond b xs (x ∷ without_first p xs)) ≡ cond (not b) (x ∷ filter (λ y. not (p y)) xs) (filter (λ y. not (p y)) xs)
+    go true i r = refl
+    go false i r = rw i (ap (λ (ys : List X). x ∷ ys) r)

@@ -2,7 +2,7 @@
 use Rattle.std.proofs.Common.{◌≡◌, ℕ, zero, suc, ◌+◌, ◌<◌, ◌≤◌, List, [], ◌∷◌, ◌++◌, length, get_or, map, filter, refl, ap, ◌∙◌, arith, Bool, true, false, cond, not, Option, Some, None, find, is_some}
 use Rattle.std.proofs.lemmas.Bool.{false≢true}
 use Rattle.std.proofs.Math.ListN.{set}
-use Rattle.queue.specs.Line.{change_first, without_first}
+use Rattle.model.specs.Entries.{change_first, without_first}
 use Rattle.queue.specs.Slots.{somes, has, changed, num, tally}
 
 pub num-some : (b : Bool) → num b ≡ 1 → b ≡ true

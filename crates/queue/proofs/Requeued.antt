@@ -4,11 +4,10 @@ use Rattle.std.proofs.lemmas.Bool.Decides.{eqb_tells, leb_tells}
 use Rattle.std.proofs.Math.ListN.{set}
 use Rattle.std.proofs.lemmas.List.{get_or-set_same, get_or-set_other}
 use Rattle.model.specs.Broker.{is_ready}
-use Rattle.model.specs.Step.{freed}
+use Rattle.model.specs.Entries.{freed, is_held_by, is_held_as, freed_now}
 use Rattle.model.specs.declared.messages.Entry.{Entry}
 use Rattle.model.specs.declared.messages.Holder.{Holder}
 use Rattle.marks.specs.Places.{IsNext, bit_of}
-use Rattle.queue.specs.Line.{is_held_by, is_held_as, freed_now}
 use Rattle.queue.specs.Slots.{somes, has, changed, num, tally, is_held, Bits, AreSigned, Shows}
 use Rattle.queue.proofs.Places.{num-some, num-none, within, count-set}
 use Rattle.queue.proofs.Slotted.{freed_there, freed_same, slot_same, unheld, held_not_ready, now_free}

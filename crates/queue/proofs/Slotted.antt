@@ -6,14 +6,14 @@ use Rattle.std.proofs.lemmas.Bool.Decides.{eqb_tells, leb_tells}
 use Rattle.std.proofs.Math.ListN.{set}
 use Rattle.std.proofs.lemmas.List.{get_or-set_same, get_or-set_other, map-set}
 use Rattle.model.specs.Broker.{is_ready}
-use Rattle.model.specs.Step.{freed}
+use Rattle.model.specs.Entries.{freed, is_under, is_held_by, is_held_as, held_as, freed_now, without_first, number_of}
 use Rattle.model.specs.declared.messages.Entry.{Entry}
 use Rattle.model.specs.Message.{Message}
 use Rattle.model.specs.declared.messages.Holder.{Holder}
 use Rattle.model.specs.declared.messages.Mark.{Mark}
 use Rattle.model.specs.declared.messages.Mark.TheVariants.{Ready, Held}
 use Rattle.marks.specs.Places.{IsNext, Differs, bit_of}
-use Rattle.queue.specs.Line.{is_under, is_held_by, is_held_as, held_as, freed_now, without_first, ready_count, number_of}
+use Rattle.queue.specs.Line.{ready_count}
 use Rattle.queue.specs.declared.slots.Slot.{Slot}
 use Rattle.queue.specs.Slots.{somes, has, changed, num, tally, is_held, Bits, Turned, AreMarked, AreSigned, Shows, HasPlaces, contents}
 use Rattle.queue.proofs.Places.{num-some, num-none, within, FirstAt, NonePasses, counted, tally-most, somes-most, count-set, length-set, count-fewer, OnlyAt}
@@ -418,15 +418,6 @@ first_filtered (x ∷ xs) e h = go (is_ready x) refl (first_filtered xs e) h
         some_is : (x e : Entry) → Some x ≡ Some e → x ≡ e
         some_is x e h = cc
     go false i r h = rw i (r h)
-
-pub rest_filtered : (es : List Entry) → filter (λ e. not (is_ready e)) (without_first is_ready es) ≡ filter (λ e. not (is_ready e)) es
-rest_filtered [] = refl
-rest_filtered (x ∷ xs) = go (is_ready x) refl (rest_filtered xs)
-  where
-    go : (b : Bool) → is_ready x ≡ b → filter (λ e. not (is_ready e)) (without_first is_ready xs) ≡ filter (λ e. not (is_ready e)) xs
-        → filter (λ e. not (is_ready e)) (cond b xs (x ∷ without_first is_ready xs)) ≡ cond (not b) (x ∷ filter (λ e. not (is_ready e)) xs) (filter (λ e. not (is_ready e)) xs)
-    go true i r = refl
-    go false i r = rw i (ap (λ (ys : List Entry). x ∷ ys) r)
 
 pub none_filtered : (es : List Entry) → find is_ready es ≡ None → filter is_ready es ≡ []
 none_filtered [] h = refl

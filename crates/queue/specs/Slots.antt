@@ -4,7 +4,7 @@ use Rattle.model.specs.Broker.{is_ready}
 use Rattle.model.specs.declared.messages.Entry.{Entry}
 use Rattle.model.specs.declared.messages.Holder.{Holder}
 use Rattle.marks.specs.Places.{bit_of, Differs}
-use Rattle.queue.specs.Line.{is_held_as}
+use Rattle.model.specs.Entries.{is_held_as}
 use Rattle.queue.specs.declared.slots.Slot.{Slot}
 
 -- what stands in each slot

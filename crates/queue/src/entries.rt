@@ -1,10 +1,10 @@
 //! What a queue does with the entries that it keeps.
 
-ghost use Rattle.std.specs.Prelude.{◌≡◌, ◌<◌, ◌≤◌, ℕ, Option, Some, None, ◌+◌, ◌++◌, take, drop, get_or, find, filter, not, is_some, option_map, length, count_by, vec_len, vec_capacity};
+ghost use Rattle.std.specs.Prelude.{◌≡◌, ◌<◌, ◌≤◌, ℕ, Option, Some, None, ◌+◌, ◌∷◌, ◌++◌, [], take, drop, get_or, find, filter, map, not, is_some, option_map, length, count_by, vec_len, vec_capacity};
 ghost use Rattle.std.specs.List.{position_from};
 ghost use Rattle.model.specs.Broker.{is_ready};
-ghost use Rattle.model.specs.Step.{freed};
-ghost use Rattle.queue.specs.Line.{ready_count, held_on, is_under, is_held_by, is_held_as, freed_now, held_as, change_first, without_first, requeued};
+ghost use Rattle.model.specs.Entries.{freed, is_under, is_held_by, is_held_as, freed_now, held_as, change_first, without_first, number_of};
+ghost use Rattle.queue.specs.Line.{ready_count, held_on, requeued};
 
 use model::{Entry, Holder, Mark};
 
@@ -184,4 +184,119 @@ pub(crate) fn take_free(entries: &mut Vec<Entry>) -> Option<Entry>
         None => None,
         Some(place) => Some(take_at(entries, place)),
     }
+}
+
+/// The place of the first entry that is held under this tag.
+fn place_held(entries: &[Entry], holder: &Holder) -> Option<usize>
+    ensures { result ≡ position_from (is_held_as holder.now) 0 entries.now }
+{
+    entries.iter().position(|e| is_held_under(e, holder))
+}
+
+/// Takes the first entry out that is held under this tag.
+fn take_held(entries: &mut Vec<Entry>, holder: &Holder) -> Option<Entry>
+    ensures taken { result ≡ find (is_held_as holder.now) entries.old.items }
+    ensures entries { entries.new.items ≡ without_first (is_held_as holder.now) entries.old.items }
+    ensures len { vec_len entries.new ≤ vec_len entries.old }
+    ensures capacity { vec_capacity entries.new ≡ vec_capacity entries.old }
+{
+    match place_held(entries, holder) {
+        None => None,
+        Some(place) => Some(take_at(entries, place)),
+    }
+}
+
+/// Drops all entries that are held under this tag.
+fn drop_held(entries: &mut Vec<Entry>, holder: &Holder)
+    ensures entries { entries.new.items ≡ filter (λ e. not (is_held_as holder.now e)) entries.old.items }
+    ensures len { vec_len entries.new ≤ vec_len entries.old }
+    ensures capacity { vec_capacity entries.new ≡ vec_capacity entries.old }
+{
+    entries.retain(|e| !is_held_under(e, holder));
+}
+
+/// Takes all entries out that are held under this tag, and gives the first of them. Nothing here asks that there is but one.
+pub(crate) fn remove(entries: &mut Vec<Entry>, holder: &Holder) -> Option<Entry>
+    ensures taken { result ≡ find (is_held_as holder.now) entries.old.items }
+    ensures entries { entries.new.items ≡ filter (λ e. not (is_held_as holder.now e)) entries.old.items }
+    ensures len { vec_len entries.new ≤ vec_len entries.old }
+    ensures capacity { vec_capacity entries.new ≡ vec_capacity entries.old }
+{
+    let entry = take_held(entries, holder);
+    drop_held(entries, holder);
+    entry
+}
+
+/// Makes the entry ready again if it is held under this tag.
+fn free_under(entry: &mut Entry, holder: &Holder)
+    ensures { entry.new ≡ freed (is_under holder.now) entry.old }
+{
+    if is_held_under(entry, holder) {
+        free(entry);
+    }
+}
+
+/// Makes all entries ready again that are held under this tag.
+fn free_all_under(entries: &mut [Entry], holder: &Holder)
+    ensures { entries.new ≡ requeued (is_under holder.now) entries.old }
+{
+    for entry in entries.iter_mut() {
+        free_under(entry, holder);
+    }
+}
+
+/// Makes ready again what is held under this tag. Tells whether there is anything.
+pub(crate) fn release(entries: &mut Vec<Entry>, holder: &Holder) -> bool
+    ensures told { result ≡ is_some (find (is_held_as holder.now) entries.old.items) }
+    ensures entries { entries.new.items ≡ requeued (is_under holder.now) entries.old.items }
+    ensures len { vec_len entries.new ≡ vec_len entries.old }
+    ensures capacity { vec_capacity entries.new ≡ vec_capacity entries.old }
+{
+    let is_held = first_held(entries, holder).is_some();
+    free_all_under(entries, holder);
+    is_held
+}
+
+/// Appends the publish number of the entry if it is ready. There is room for it.
+fn append_number(entry: &Entry, numbers: &mut Vec<u64>)
+    requires { vec_len numbers.old + ready_count (entry.now ∷ []) ≤ vec_capacity numbers.old }
+    ensures numbers { numbers.new.items ≡ numbers.old.items ++ map number_of (filter is_ready (entry.now ∷ [])) }
+    ensures capacity { vec_capacity numbers.new ≡ vec_capacity numbers.old }
+{
+    if is_free(entry) {
+        numbers.push_reserved(entry.message.number());
+    }
+}
+
+/// Appends the publish numbers of the ready entries, in order. There is room for them.
+fn append_numbers(entries: &[Entry], numbers: &mut Vec<u64>)
+    requires { vec_len numbers.old + ready_count entries.now ≤ vec_capacity numbers.old }
+    ensures numbers { numbers.new.items ≡ numbers.old.items ++ map number_of (filter is_ready entries.now) }
+    ensures capacity { vec_capacity numbers.new ≡ vec_capacity numbers.old }
+{
+    for entry in entries {
+        append_number(entry, numbers);
+    }
+}
+
+/// Drops the ready entries.
+fn drop_free(entries: &mut Vec<Entry>)
+    ensures entries { entries.new.items ≡ filter (λ e. not (is_ready e)) entries.old.items }
+    ensures len { vec_len entries.new ≤ vec_len entries.old }
+    ensures capacity { vec_capacity entries.new ≡ vec_capacity entries.old }
+{
+    entries.retain(|e| !is_free(e));
+}
+
+/// Takes the ready entries out, and appends their publish numbers. There is room for them.
+pub(crate) fn purge(entries: &mut Vec<Entry>, numbers: &mut Vec<u64>)
+    requires { vec_len numbers.old + ready_count entries.old.items ≤ vec_capacity numbers.old }
+    ensures entries { entries.new.items ≡ filter (λ e. not (is_ready e)) entries.old.items }
+    ensures numbers { numbers.new.items ≡ numbers.old.items ++ map number_of (filter is_ready entries.old.items) }
+    ensures len { vec_len entries.new ≤ vec_len entries.old }
+    ensures capacity { vec_capacity entries.new ≡ vec_capacity entries.old }
+    ensures numbers_capacity { vec_capacity numbers.new ≡ vec_capacity numbers.old }
+{
+    append_numbers(entries, numbers);
+    drop_free(entries);
 }

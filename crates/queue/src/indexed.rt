@@ -2,7 +2,8 @@
 
 ghost use Rattle.std.specs.Prelude.{◌≡◌, ◌+◌, ◌≤◌, ◌++◌, map, filter, not, vec_len, vec_capacity};
 ghost use Rattle.model.specs.Broker.{is_ready};
-ghost use Rattle.queue.specs.Line.{number_of, ready_count};
+ghost use Rattle.queue.specs.Line.{ready_count};
+ghost use Rattle.model.specs.Entries.{number_of};
 
 use crate::signs::Signs;
 use crate::slots::{
@@ -64,8 +65,8 @@ impl Indexed {
     };
     ghost use Rattle.model.specs.Broker.{is_at, is_ready};
     ghost use Rattle.model.specs.declared.messages.Mark.TheVariants.{Ready};
-    ghost use Rattle.model.specs.Step.{by_channel, by_connection};
-    ghost use Rattle.queue.specs.Line.{ready_count, requeued, held_on, is_under, is_held_as, held_as, change_first, without_first, number_of};
+    ghost use Rattle.model.specs.Entries.{by_channel, by_connection, is_under, is_held_as, held_as, change_first, without_first, number_of};
+    ghost use Rattle.queue.specs.Line.{ready_count, requeued, held_on};
 
     /// A queue with no message. It takes no memory.
     pub fn new(alloc: Global) -> Indexed
@@ -312,12 +313,24 @@ impl Store for Indexed {
         Indexed::held(self, holder, arrival)
     }
 
+    fn release(&mut self, holder: &Holder, arrival: u64) -> bool {
+        Indexed::release(self, holder, arrival)
+    }
+
+    fn remove(&mut self, holder: &Holder, arrival: u64) -> Option<Entry> {
+        Indexed::remove(self, holder, arrival)
+    }
+
     fn requeue_channel(&mut self, connection: u64, channel: u16) {
         Indexed::requeue_channel(self, connection, channel);
     }
 
     fn requeue_connection(&mut self, connection: u64) {
         Indexed::requeue_connection(self, connection);
+    }
+
+    fn purge(&mut self, numbers: &mut Vec<u64>) {
+        Indexed::purge(self, numbers);
     }
 }
 

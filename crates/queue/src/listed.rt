@@ -2,7 +2,9 @@
 
 ghost use Rattle.std.specs.Prelude.{◌≡◌};
 
-use crate::entries::{count_held, first_free, first_held, hold_first, requeue, take_free};
+use crate::entries::{
+    count_held, first_free, first_held, hold_first, purge, release, remove, requeue, take_free,
+};
 use crate::store::Store;
 use model::{Entry, Holder, Mark, Message};
 use std::alloc::{AllocError, Global};
@@ -41,13 +43,18 @@ impl Queue {
       None,
       length,
       find,
+      filter,
+      map,
+      not,
       is_some,
       option_map,
+      vec_len,
+      vec_capacity,
     };
     ghost use Rattle.model.specs.Broker.{is_at, is_ready};
-    ghost use Rattle.model.specs.Step.{by_channel, by_connection};
+    ghost use Rattle.model.specs.Entries.{by_channel, by_connection, is_under, is_held_as, held_as, change_first, without_first, number_of};
     ghost use Rattle.model.specs.declared.messages.Mark.TheVariants.{Ready};
-    ghost use Rattle.queue.specs.Line.{ready_count, requeued, is_held_as, held_as, change_first, without_first};
+    ghost use Rattle.queue.specs.Line.{ready_count, requeued};
 
     /// A queue with no message. It takes no memory.
     pub fn new(alloc: Global) -> Queue
@@ -145,6 +152,31 @@ impl Queue {
         first_held(&self.entries, holder)
     }
 
+    /// The message that is held under this tag is ready again, in its place and marked redelivered. Tells whether there is
+    /// one. It takes no memory.
+    pub fn release(&mut self, holder: &Holder, arrival: u64) -> bool
+        ensures told { result ≡ is_some (find (is_held_as holder.now) self.old.entries) }
+        ensures entries { self.new.entries ≡ requeued (is_under holder.now) self.old.entries }
+        ensures room { self.new.room ≡ self.old.room }
+    {
+        let _ = arrival;
+        let is_held = release(&mut self.entries, holder);
+        self.held = count_held(&self.entries);
+        is_held
+    }
+
+    /// Takes the message out that is held under this tag, if there is one.
+    pub fn remove(&mut self, holder: &Holder, arrival: u64) -> Option<Entry>
+        ensures taken { result ≡ find (is_held_as holder.now) self.old.entries }
+        ensures entries { self.new.entries ≡ filter (λ e. not (is_held_as holder.now e)) self.old.entries }
+        ensures room { self.old.room ≤ self.new.room }
+    {
+        let _ = arrival;
+        let entry = remove(&mut self.entries, holder);
+        self.held = count_held(&self.entries);
+        entry
+    }
+
     /// What the channel of this connection held is ready again, each message in its place and marked redelivered. The
     /// order and the number of messages stay. It takes no memory, and no time where nothing is held.
     pub fn requeue_channel(&mut self, connection: u64, channel: u16)
@@ -160,6 +192,19 @@ impl Queue {
         ensures room { self.new.room ≡ self.old.room }
     {
         self.held = requeue(&mut self.entries, self.held, connection, None);
+    }
+
+    /// Takes the ready messages out, and appends their publish numbers in the order of arrival. There is room for the
+    /// numbers.
+    pub fn purge(&mut self, numbers: &mut Vec<u64>)
+        requires { vec_len numbers.old + ready_count self.old.entries ≤ vec_capacity numbers.old }
+        ensures entries { self.new.entries ≡ filter (λ e. not (is_ready e)) self.old.entries }
+        ensures numbers { numbers.new.items ≡ numbers.old.items ++ map number_of (filter is_ready self.old.entries) }
+        ensures capacity { vec_capacity numbers.new ≡ vec_capacity numbers.old }
+        ensures room { self.old.room ≤ self.new.room }
+    {
+        purge(&mut self.entries, numbers);
+        self.held = count_held(&self.entries);
     }
 }
 
@@ -206,11 +251,23 @@ impl Store for Queue {
         Queue::held(self, holder, arrival)
     }
 
+    fn release(&mut self, holder: &Holder, arrival: u64) -> bool {
+        Queue::release(self, holder, arrival)
+    }
+
+    fn remove(&mut self, holder: &Holder, arrival: u64) -> Option<Entry> {
+        Queue::remove(self, holder, arrival)
+    }
+
     fn requeue_channel(&mut self, connection: u64, channel: u16) {
         Queue::requeue_channel(self, connection, channel);
     }
 
     fn requeue_connection(&mut self, connection: u64) {
         Queue::requeue_connection(self, connection);
+    }
+
+    fn purge(&mut self, numbers: &mut Vec<u64>) {
+        Queue::purge(self, numbers);
     }
 }

@@ -2,9 +2,9 @@
 
 ghost use Rattle.std.specs.Prelude.{◌≡◌, ◌+◌, ◌<◌, ◌≤◌, ◌++◌, ◌∷◌, [], ℕ, false, true, length, map, get_or, vec_len, vec_capacity, slice_set, option_map, IfSome, IfNone, Some, None};
 ghost use Rattle.model.specs.Broker.{is_ready};
-ghost use Rattle.model.specs.Step.{freed};
+ghost use Rattle.model.specs.Entries.{freed, is_held_as, is_held_by, held_as, freed_now};
 ghost use Rattle.marks.specs.Places.{bit_of};
-ghost use Rattle.queue.specs.Line.{is_held_as, is_held_by, held_on, held_as, freed_now};
+ghost use Rattle.queue.specs.Line.{held_on};
 ghost use Rattle.queue.specs.Slots.{contents, somes, has, changed, num, tally, is_held, AreSigned, Turned};
 
 use crate::entries::{free, is_free, is_held_on, is_held_under};

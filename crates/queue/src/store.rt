@@ -1,10 +1,10 @@
 //! What a queue does, whatever way its entries are kept.
 
-ghost use Rattle.std.specs.Prelude.{◌≡◌, ◌+◌, ◌<◌, ◌≤◌, ◌∷◌, ◌++◌, [], OnOk, OnErr, Some, None, length, find, is_some, option_map};
+ghost use Rattle.std.specs.Prelude.{◌≡◌, ◌+◌, ◌<◌, ◌≤◌, ◌∷◌, ◌++◌, [], OnOk, OnErr, Some, None, length, find, filter, map, not, is_some, option_map, vec_len, vec_capacity};
 ghost use Rattle.model.specs.Broker.{is_at, is_ready};
-ghost use Rattle.model.specs.Step.{by_channel, by_connection};
+ghost use Rattle.model.specs.Entries.{by_channel, by_connection, is_under, is_held_as, held_as, change_first, without_first, number_of};
 ghost use Rattle.model.specs.declared.messages.Mark.TheVariants.{Ready};
-ghost use Rattle.queue.specs.Line.{Line, ready_count, requeued, is_held_as, held_as, change_first, without_first};
+ghost use Rattle.queue.specs.Line.{Line, ready_count, requeued};
 
 use model::{Entry, Holder, Message};
 use std::alloc::{AllocError, Global};
@@ -66,6 +66,19 @@ pub trait Store: Drop {
     fn held(&self, holder: &Holder, arrival: u64) -> Option<&Entry>
         ensures { option_map (λ e. e.now) result ≡ find (is_held_as holder.now) (line self.now).entries };
 
+    /// The message that is held under this tag is ready again, in its place and marked redelivered. Tells whether there is
+    /// one.
+    fn release(&mut self, holder: &Holder, arrival: u64) -> bool
+        ensures told { result ≡ is_some (find (is_held_as holder.now) (line self.old).entries) }
+        ensures entries { (line self.new).entries ≡ requeued (is_under holder.now) (line self.old).entries }
+        ensures room { (line self.new).room ≡ (line self.old).room };
+
+    /// Takes the message out that is held under this tag, if there is one.
+    fn remove(&mut self, holder: &Holder, arrival: u64) -> Option<Entry>
+        ensures taken { result ≡ find (is_held_as holder.now) (line self.old).entries }
+        ensures entries { (line self.new).entries ≡ filter (λ e. not (is_held_as holder.now e)) (line self.old).entries }
+        ensures room { (line self.old).room ≤ (line self.new).room };
+
     /// What the channel of this connection held is ready again, each message in its place and marked redelivered. The
     /// order and the number of messages stay.
     fn requeue_channel(&mut self, connection: u64, channel: u16)
@@ -76,4 +89,13 @@ pub trait Store: Drop {
     fn requeue_connection(&mut self, connection: u64)
         ensures entries { (line self.new).entries ≡ requeued (by_connection connection) (line self.old).entries }
         ensures room { (line self.new).room ≡ (line self.old).room };
+
+    /// Takes the ready messages out, and appends their publish numbers in the order of arrival. There is room for the
+    /// numbers.
+    fn purge(&mut self, numbers: &mut Vec<u64>)
+        requires { vec_len numbers.old + ready_count (line self.old).entries ≤ vec_capacity numbers.old }
+        ensures entries { (line self.new).entries ≡ filter (λ e. not (is_ready e)) (line self.old).entries }
+        ensures numbers { numbers.new.items ≡ numbers.old.items ++ map number_of (filter is_ready (line self.old).entries) }
+        ensures capacity { vec_capacity numbers.new ≡ vec_capacity numbers.old }
+        ensures room { (line self.old).room ≤ (line self.new).room };
 }

@@ -12,6 +12,7 @@ impl Broker {
     ghost use Rattle.std.specs.Prelude.{◌≡◌, ◌∷◌, [], None, IsSome, IfOk, IsOk, OnErr};
     ghost use Rattle.model.specs.Grammar.{ids};
     ghost use Rattle.model.specs.Step as said;
+    ghost use Rattle.model.specs.Entries.{by_channel};
     ghost use Rattle.model.specs.Step.{Does, Is, Refuses, with_gone, with_closing, with_channel, after_close, reply, channel_or_new};
     ghost use Rattle.model.specs.declared.methods.Method.TheVariants.{ChannelCloseOk};
     ghost use Rattle.broker.specs.State.{broker_of, topology_of};
@@ -39,7 +40,7 @@ impl Broker {
     /// What the channel held is ready again, and this stands in its place.
     fn clear(&mut self, connection: u64, number: u16, channel: Option<Channel>)
         requires { IsSome ((broker_of self.old).channel connection number) }
-        ensures cleared { Is (said.with_freed (with_channel (broker_of self.old) connection number channel) (said.by_channel connection number)) (broker_of self.new) }
+        ensures cleared { Is (said.with_freed (with_channel (broker_of self.old) connection number channel) (by_channel connection number)) (broker_of self.new) }
         ensures topology { topology_of self.new ≡ topology_of self.old }
     {
         self.depot.requeue_channel(connection, number);

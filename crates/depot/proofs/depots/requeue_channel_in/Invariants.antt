@@ -1,5 +1,5 @@
 use Rattle.std.proofs.Common.{◌≡◌, ◌++◌, map, take, drop}
-use Rattle.model.specs.Step.{by_channel}
+use Rattle.model.specs.Entries.{by_channel}
 use Rattle.queue.specs.Line.{requeued}
 use Rattle.depot.specs.Store.{entries_of}
 use Rattle.depot.proofs.depots.requeue_channel_in.Given as goal

@@ -1,5 +1,5 @@
 use Rattle.std.proofs.Common.{◌<◌, ◌+◌, length, arith}
-use Rattle.model.specs.Step.{by_connection}
+use Rattle.model.specs.Entries.{by_connection}
 use Rattle.queue.specs.Line.{requeued}
 use Rattle.depot.specs.Store.{entries_of}
 use Rattle.depot.proofs.Changes.{changed_next, changed_all, entries_of-length}

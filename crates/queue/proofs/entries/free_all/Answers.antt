@@ -1,5 +1,5 @@
 use Rattle.std.proofs.Common.{◌<◌, ◌+◌, length, arith}
-use Rattle.model.specs.Step.{freed}
+use Rattle.model.specs.Entries.{freed}
 use Rattle.queue.specs.Line.{held_on}
 use Rattle.queue.proofs.Freed.{changed_next}
 use Rattle.queue.proofs.entries.free_all.Goals as goal

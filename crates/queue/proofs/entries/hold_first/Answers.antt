@@ -2,7 +2,7 @@ use Rattle.std.proofs.Common.{◌≡◌, ◌∙◌, arith, ap, sym, subst, is_so
 use Rattle.std.specs.List.{position_from}
 use Rattle.model.specs.Broker.{is_ready}
 use Rattle.model.specs.declared.messages.Entry.{Entry}
-use Rattle.queue.specs.Line.{held_as}
+use Rattle.model.specs.Entries.{held_as}
 use Rattle.queue.proofs.Firsts.{first_at, nowhere}
 use Rattle.queue.proofs.entries.hold_first.Goals as goal
 

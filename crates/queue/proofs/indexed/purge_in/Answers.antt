@@ -1,8 +1,10 @@
 use Rattle.std.proofs.Common.{◌≡◌, ℕ, ◌∙◌, ◌++◌, ◌∷◌, [], ◌<◌, sym, ap, arith, List, map, filter, not, None, find}
 use Rattle.model.specs.Broker.{is_ready}
 use Rattle.model.specs.declared.messages.Entry.{Entry}
-use Rattle.queue.specs.Line.{number_of, ready_count}
-use Rattle.queue.proofs.Slotted.{purged_more, ready_less, rest_filtered, none_left}
+use Rattle.queue.specs.Line.{ready_count}
+use Rattle.model.specs.Entries.{number_of}
+use Rattle.queue.proofs.Firsts.{rest_filtered}
+use Rattle.queue.proofs.Slotted.{purged_more, ready_less, none_left}
 use Rattle.queue.proofs.Purging.{purged_all}
 use Rattle.queue.proofs.indexed.purge_in.Goals as goal
 
@@ -30,7 +32,7 @@ loop-entry-preserved c =
           ∙ ap (λ (es : List Entry). (c.loop-entry.numbers.items ++ number_of c.in-Some.entry ∷ []) ++ map number_of (filter is_ready es)) q
           ∙ purged_more c.loop-entry.numbers.items c.loop-entry.queue.entries c.in-Some.entry c.in-Some.ensures.taken ∙ i.0,
       (
-        ap (filter (λ e. not (is_ready e))) q ∙ rest_filtered c.loop-entry.queue.entries ∙ i.1.0,
+        ap (filter (λ e. not (is_ready e))) q ∙ rest_filtered is_ready c.loop-entry.queue.entries ∙ i.1.0,
         (
           omega arith,
           (k ∙ i.1.1.1.0, c.in-Some.ensures.room ∙ i.1.1.1.1),

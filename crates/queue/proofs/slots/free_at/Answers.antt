@@ -1,5 +1,5 @@
 use Rattle.std.proofs.Common.{rules, None}
-use Rattle.queue.specs.Line.{freed_now}
+use Rattle.model.specs.Entries.{freed_now}
 use Rattle.queue.specs.Slots.{changed}
 use Rattle.queue.proofs.Slotted.{contents-written}
 use Rattle.queue.proofs.slots.free_at.Goals as goal

@@ -1,6 +1,7 @@
 use Rattle.std.proofs.Common.{◌≡◌, ◌∙◌, sym, ap, subst, true, get_or, None, List, Option}
 use Rattle.model.specs.Broker.{is_ready}
-use Rattle.queue.specs.Line.{is_held_by, held_on}
+use Rattle.queue.specs.Line.{held_on}
+use Rattle.model.specs.Entries.{is_held_by}
 use Rattle.queue.specs.Slots.{contents, somes, has, tally, AreSigned}
 use Rattle.queue.specs.declared.slots.Slot.{Slot}
 use Rattle.model.specs.declared.messages.Entry.{Entry}

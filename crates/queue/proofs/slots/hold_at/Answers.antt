@@ -1,5 +1,5 @@
 use Rattle.std.proofs.Common.{rules, None}
-use Rattle.queue.specs.Line.{held_as}
+use Rattle.model.specs.Entries.{held_as}
 use Rattle.queue.specs.Slots.{changed}
 use Rattle.queue.proofs.Slotted.{contents-written}
 use Rattle.queue.proofs.slots.hold_at.Goals as goal

@@ -1,5 +1,5 @@
 use Rattle.std.proofs.Common.{◌≡◌, ℕ, ◌<◌, get_or, false, None}
-use Rattle.queue.specs.Line.{is_held_as}
+use Rattle.model.specs.Entries.{is_held_as}
 use Rattle.queue.specs.Slots.{contents, has}
 use Rattle.queue.proofs.slots.search.Given as goal
 

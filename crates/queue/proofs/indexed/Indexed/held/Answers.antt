@@ -1,7 +1,8 @@
 use Rattle.std.proofs.Common.{◌≡◌, ◌∙◌, sym, ap, subst, List, true, Option, None, find, get_or}
 use Rattle.std.specs.Prelude.{option_map}
 use Rattle.model.specs.declared.messages.Entry.{Entry}
-use Rattle.queue.specs.Line.{Line, is_held_as}
+use Rattle.queue.specs.Line.{Line}
+use Rattle.model.specs.Entries.{is_held_as}
 use Rattle.queue.specs.Slots.{contents, has}
 use Rattle.queue.specs.declared.slots.Slot.{Slot}
 use Rattle.queue.proofs.Places.{find_at, none_found, only_first}

@@ -1,6 +1,7 @@
 use Rattle.std.proofs.Common.{◌≡◌, ◌∙◌, sym, ap, subst, arith, true, false, None, find, is_some}
 use Rattle.model.specs.Broker.{is_ready}
-use Rattle.queue.specs.Line.{Line, is_held_as, held_as, change_first}
+use Rattle.queue.specs.Line.{Line}
+use Rattle.model.specs.Entries.{is_held_as, held_as, change_first}
 use Rattle.queue.specs.Slots.{contents, somes}
 use Rattle.queue.proofs.Places.{change_at, some_at, none_found, none_changed}
 use Rattle.queue.proofs.Slotted.{first_by_marks, none_by_marks, hold_shows, ready_least, same_places}

@@ -1,6 +1,7 @@
 use Rattle.std.proofs.Common.{◌≡◌, ◌∙◌, sym, ap, refl, subst, arith, rules, List, length, true, false, Option, None, find, is_some, get_or, vec_len}
 use Rattle.model.specs.declared.messages.Entry.{Entry}
-use Rattle.queue.specs.Line.{Line, requeued, is_under, is_held_as}
+use Rattle.queue.specs.Line.{Line, requeued}
+use Rattle.model.specs.Entries.{is_under, is_held_as}
 use Rattle.queue.specs.Slots.{contents, somes, has}
 use Rattle.queue.specs.declared.slots.Slot.{Slot}
 use Rattle.queue.proofs.Places.{some_at, none_found, none_mapped, only_first, only_mapped}

@@ -1,6 +1,7 @@
 use Rattle.std.proofs.Common.{◌≡◌, ◌∙◌, sym, ap, subst, arith, List, true, not, filter, Option, None, find, get_or}
 use Rattle.model.specs.declared.messages.Entry.{Entry}
-use Rattle.queue.specs.Line.{Line, is_held_as}
+use Rattle.queue.specs.Line.{Line}
+use Rattle.model.specs.Entries.{is_held_as}
 use Rattle.queue.specs.Slots.{contents, somes, has}
 use Rattle.queue.specs.declared.slots.Slot.{Slot}
 use Rattle.queue.proofs.Places.{find_at, none_found, none_left_out, only_first, only_left_out}

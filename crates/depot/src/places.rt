@@ -1,0 +1,76 @@
+//! What is done to one queue, by its place.
+
+ghost use Rattle.std.specs.Prelude.{◌≡◌, ◌+◌, ◌<◌, ◌≤◌, ◌++◌, [], Some, None, length, map, filter, find, not, is_some, vec_len, vec_capacity, slice_index_or, slice_set};
+ghost use Rattle.model.specs.Broker.{is_ready};
+ghost use Rattle.queue.specs.Line.{ready_count, requeued};
+ghost use Rattle.model.specs.Entries.{is_under, is_held_as, held_as, change_first, without_first, number_of};
+ghost use Rattle.depot.specs.Store.{entries_of};
+
+use model::{Entry, Holder};
+use queue::Queue;
+
+/// The queue at this place.
+pub(crate) fn queue_at(queues: &[Queue], place: usize) -> &Queue
+    requires { place < length queues.now }
+    ensures { result.now.entries ≡ slice_index_or (entries_of queues.now) place [] }
+{
+    &queues[place]
+}
+
+/// Gives the first ready message out, if there is one. Tells the number of its arrival. Nothing is held under this tag yet.
+pub(crate) fn hold_at(queues: &mut [Queue], place: usize, holder: Holder) -> Option<u64>
+    requires within { place < length queues.old }
+    requires unused { find (is_held_as holder) (slice_index_or (entries_of queues.old) place []) ≡ None }
+    ensures told { is_some result ≡ is_some (find is_ready (slice_index_or (entries_of queues.old) place [])) }
+    ensures entries { entries_of queues.new ≡ slice_set (entries_of queues.old) place (change_first is_ready (held_as holder) (slice_index_or (entries_of queues.old) place [])) }
+{
+    queues[place].hold(holder)
+}
+
+/// Takes the first ready message out, if there is one.
+pub(crate) fn take_first_at(queues: &mut [Queue], place: usize) -> Option<Entry>
+    requires { place < length queues.old }
+    ensures taken { result ≡ find is_ready (slice_index_or (entries_of queues.old) place []) }
+    ensures entries { entries_of queues.new ≡ slice_set (entries_of queues.old) place (without_first is_ready (slice_index_or (entries_of queues.old) place [])) }
+{
+    queues[place].take_first()
+}
+
+/// Makes the message ready again that is held under this tag. Tells whether there is one.
+pub(crate) fn release_at(
+    queues: &mut [Queue],
+    place: usize,
+    holder: &Holder,
+    arrival: u64,
+) -> bool
+    requires { place < length queues.old }
+    ensures told { result ≡ is_some (find (is_held_as holder.now) (slice_index_or (entries_of queues.old) place [])) }
+    ensures entries { entries_of queues.new ≡ slice_set (entries_of queues.old) place (requeued (is_under holder.now) (slice_index_or (entries_of queues.old) place [])) }
+{
+    queues[place].release(holder, arrival)
+}
+
+/// Takes the message out that is held under this tag, if there is one.
+pub(crate) fn remove_at(
+    queues: &mut [Queue],
+    place: usize,
+    holder: &Holder,
+    arrival: u64,
+) -> Option<Entry>
+    requires { place < length queues.old }
+    ensures taken { result ≡ find (is_held_as holder.now) (slice_index_or (entries_of queues.old) place []) }
+    ensures entries { entries_of queues.new ≡ slice_set (entries_of queues.old) place (filter (λ e. not (is_held_as holder.now e)) (slice_index_or (entries_of queues.old) place [])) }
+{
+    queues[place].remove(holder, arrival)
+}
+
+/// Takes the ready messages out, and appends their publish numbers. There is room for them.
+pub(crate) fn purge_at(queues: &mut [Queue], place: usize, numbers: &mut Vec<u64>)
+    requires within { place < length queues.old }
+    requires room { vec_len numbers.old + ready_count (slice_index_or (entries_of queues.old) place []) ≤ vec_capacity numbers.old }
+    ensures numbers { numbers.new.items ≡ numbers.old.items ++ map number_of (filter is_ready (slice_index_or (entries_of queues.old) place [])) }
+    ensures capacity { vec_capacity numbers.new ≡ vec_capacity numbers.old }
+    ensures entries { entries_of queues.new ≡ slice_set (entries_of queues.old) place (filter (λ e. not (is_ready e)) (slice_index_or (entries_of queues.old) place [])) }
+{
+    queues[place].purge(numbers);
+}

@@ -1,0 +1,581 @@
+-- Every event of the broker leaves what is held and what is outstanding in agreement.
+use Rattle.std.proofs.Common.{◌≡◌, ℕ, zero, suc, ◌+◌, ◌<◌, ◌≤◌, ◌⊎◌, List, [], ◌∷◌, ◌++◌, Bool, true, false, cond, eqb, refl, sym, ap, subst, ◌∙◌, map, filter, length, get_or, not, arith, Option, Some, None, inl, inr}
+use Rattle.std.specs.Prelude.{count_by, find, is_some, nat_le, nat_lt, ◌==◌, ◌&&◌, if◌then◌else◌}
+use Rattle.std.specs.List.{AllByRecursion, AllPairs}
+use Rattle.std.specs.Str.{bytes_eq}
+use Rattle.std.proofs.lemmas.Bool.{eqb-true, eqb-false, eq-eqb, false≢true}
+use Rattle.std.proofs.lemmas.Option.{same_Some}
+use Rattle.std.proofs.lemmas.List.Kept.{AllPairs-filter}
+use Rattle.std.proofs.lemmas.List.Quantifiers.{all_pairs_push}
+use Rattle.model.specs.Words.{Text}
+use Rattle.model.specs.Topology.{Topology, IsIn}
+use Rattle.model.specs.Grammar.{Ids, ids_of}
+use Rattle.model.specs.Broker.{Outstanding, Channel, Connection, Broker, new_channel, is_full, is_ready, with_pair, with_row}
+use Rattle.model.specs.Entries.{is_under, is_held_as, by_channel, by_connection, freed, held_as, change_first, without_first}
+use Rattle.model.specs.Settling.{Rises, is_refused, settled, kept, takes}
+use Rattle.model.specs.Prefetch.{has_tag_left}
+use Rattle.model.specs.Deliveries.{Settlement, Leaves, Returns, AreSettled, with_queue, first_ready, holder_of, after_delivery, channel_after, after_purge}
+use Rattle.model.specs.Step.{tag_of, Refusal, Ignored, Of_channel, Of_connection, Acts, Does, Makes, Gets, Settles, Performs, Refuses, Decides, OnConnection, OnLarge, IsPublish, Is, channel_or_new, channels_up_to, comes_to, empty_publish, refusal, refusal_of_large, reply, with_freed, with_channel, is_awaiting}
+use Rattle.model.specs.Run.{empty_broker}
+use Rattle.model.specs.Agreement.{IsOutstanding, IsAgreed}
+use Rattle.model.specs.Message.{Message}
+use Rattle.model.specs.declared.messages.Entry.{Entry}
+use Rattle.model.specs.declared.messages.Holder.{Holder}
+use Rattle.model.specs.declared.messages.Mark.TheVariants.{Ready, Held}
+use Rattle.model.specs.declared.messages.Taker.{Taker}
+use Rattle.model.specs.declared.messages.Taker.TheVariants as taker
+use Rattle.model.specs.declared.contents.Content.{Content}
+use Rattle.model.specs.declared.events.Send.{Send}
+use Rattle.model.specs.declared.events.Event.{Event}
+use Rattle.model.specs.declared.events.Event.TheVariants.{Running, Command, TooLarge, Fault, Lose, Pause, Resume}
+use Rattle.model.specs.declared.methods.Get.{Get}
+use Rattle.model.specs.declared.methods.Method.{Method}
+use Rattle.model.specs.declared.methods.Method.TheVariants.{ConnectionClose, ChannelClose, ChannelCloseOk, QueuePurge, BasicQos, BasicPublish, BasicGet, BasicAck, BasicReject, BasicNack, BasicRecover, ConfirmSelect}
+use Rattle.model.specs.declared.notes.Note.{Note}
+use Rattle.laws.specs.Agreeing.{IsNewIn, BrokersStayAgreed}
+use Rattle.laws.proofs.Counts.{count-append, count-cons, in-append, all_in, all-append, all_each}
+use Rattle.model.specs.declared.messages.Mark.{Mark}
+use Rattle.laws.proofs.Agreement.{Passes, number, HeldIn, Shrinks, shrinks_same, shrinks_freed, shrinks_without, shrinks_filter, left_shrinks, returned_shrinks, left_clear, returned_clear, in_freed, held_here, counted_in, find_counted, ready_not_held, same_holder, self_under, at_own, here_eq, shrinks_on}
+use Rattle.laws.proofs.Leaving.{at_queue}
+
+-- ---- channels
+
+-- tags rise, none is as great as the next one, and none is there where close-ok is awaited
+abbrev IsGood : Channel → Type 0
+IsGood ch = Rises tag_of ch.outstanding × AllByRecursion (λ (o : Outstanding). o.tag < ch.next_tag) ch.outstanding × (ch.is_closing ≡ true → ch.outstanding ≡ [])
+
+good_new : IsGood new_channel
+good_new = (λ i j x y lt. absurd (omega arith), tt, λ e. refl)
+
+good_closing : IsGood (record new_channel { is_closing = true })
+good_closing = (λ i j x y lt. absurd (omega arith), tt, λ e. refl)
+
+-- those of a broker that agrees are so, and so is one that stands for a channel that is not open
+good_or_new : (old : Broker) → IsAgreed old → (c h : ℕ) → IsGood (channel_or_new (old.channel c h))
+good_or_new old a c h = go (old.channel c h) refl
+  where
+    go : (o : Option Channel) → old.channel c h ≡ o → IsGood (channel_or_new o)
+    go None e = good_new
+    go (Some ch) e = (a.rising c h ch e, a.before c h ch e, a.closed c h ch e)
+
+-- the channel where a delivery is outstanding
+own_of : (old : Broker) (q : Text) (holder : Holder) (o : IsOutstanding old q holder) (c h : ℕ) → holder.connection ≡ c → holder.channel ≡ h → channel_or_new (old.channel c h) ≡ o.channel
+own_of old q holder o c h e f = ap channel_or_new (ap (λ (d : ℕ). old.channel d h) (sym e) ∙ ap (old.channel holder.connection) (sym f) ∙ o.there)
+
+-- ---- a broker from another
+
+agreed_by : (old new : Broker) → IsAgreed old → Shrinks old.queue new.queue
+    → ((q : Text) (holder : Holder) → HeldIn (new.queue q) holder → IsOutstanding old q holder → IsOutstanding new q holder)
+    → ((c h : ℕ) (ch : Channel) → new.channel c h ≡ Some ch → IsGood ch) → IsAgreed new
+agreed_by old new a s keep good = record {
+  held = λ q e holder i is.
+      let was = s.held q e holder i is in
+      keep q holder (record { entry = e; there = i; mark = is }) (a.held q was.entry holder was.there was.mark);
+  apart = λ q holder. let x = s.fewer q holder in let y = a.apart q holder in omega (arith, x, y);
+  rising = λ c h ch e. (good c h ch e).0;
+  before = λ c h ch e. (good c h ch e).1;
+  closed = λ c h ch e. (good c h ch e).2;
+}
+
+-- the channels are as they were
+keeps_same : (old new : Broker) → ((c h : ℕ) → new.channel c h ≡ old.channel c h) → (q : Text) (holder : Holder) → IsOutstanding old q holder → IsOutstanding new q holder
+keeps_same old new same q holder o = record { channel = o.channel; there = same holder.connection holder.channel ∙ o.there; delivery = o.delivery; outstanding = o.outstanding; tag = o.tag; queue = o.queue }
+
+good_same : (old new : Broker) → IsAgreed old → ((c h : ℕ) → new.channel c h ≡ old.channel c h) → (c h : ℕ) (ch : Channel) → new.channel c h ≡ Some ch → IsGood ch
+good_same old new a same c h ch e = let was = sym (same c h) ∙ e in (a.rising c h ch was, a.before c h ch was, a.closed c h ch was)
+
+agreed_same : (old new : Broker) → IsAgreed old → Shrinks old.queue new.queue → ((c h : ℕ) → new.channel c h ≡ old.channel c h) → IsAgreed new
+agreed_same old new a s same = agreed_by old new a s (λ q holder i o. keeps_same old new same q holder o) (good_same old new a same)
+
+-- one channel is another: it is this one, or one of the others
+data At (A : Type 0) (f : ℕ → ℕ → A) (c h : ℕ) (x : A) (d k : ℕ) : Type 0 where
+  own : d ≡ c → k ≡ h → with_pair f c h x d k ≡ x → At A f c h x d k
+  other : with_pair f c h x d k ≡ f d k → At A f c h x d k
+
+pair_at : {A : Type 0} (f : ℕ → ℕ → A) (c h : ℕ) (x : A) (d k : ℕ) → At A f c h x d k
+pair_at {A = A} f c h x d k = go (d == c) refl (k == h) refl
+  where
+    go : (v : Bool) → (d == c) ≡ v → (w : Bool) → (k == h) ≡ w → At A f c h x d k
+    go true e true g = own (eqb-true d c e) (eqb-true k h g) (ap (λ (b : Bool). if b && (k == h) then x else f d k) e ∙ ap (λ (b : Bool). if true && b then x else f d k) g)
+    go true e false g = other (ap (λ (b : Bool). if b && (k == h) then x else f d k) e ∙ ap (λ (b : Bool). if true && b then x else f d k) g)
+    go false e w g = other (ap (λ (b : Bool). if b && (k == h) then x else f d k) e)
+
+keeps_with : (old new : Broker) (c h : ℕ) (x : Option Channel) → ((d k : ℕ) → new.channel d k ≡ with_pair old.channel c h x d k) → (q : Text) (holder : Holder) → IsOutstanding old q holder
+    → (holder.connection ≡ c → holder.channel ≡ h → new.channel holder.connection holder.channel ≡ x → IsOutstanding new q holder) → IsOutstanding new q holder
+keeps_with old new c h x are q holder o here = go (pair_at old.channel c h x holder.connection holder.channel)
+  where
+    go : At (Option Channel) old.channel c h x holder.connection holder.channel → IsOutstanding new q holder
+    go (own e f is) = here e f (are holder.connection holder.channel ∙ is)
+    go (other is) = record { channel = o.channel; there = are holder.connection holder.channel ∙ is ∙ o.there; delivery = o.delivery; outstanding = o.outstanding; tag = o.tag; queue = o.queue }
+
+good_with : (old new : Broker) (c h : ℕ) (x : Option Channel) → IsAgreed old → ((d k : ℕ) → new.channel d k ≡ with_pair old.channel c h x d k) → ((ch : Channel) → x ≡ Some ch → IsGood ch) → (d k : ℕ) (ch : Channel) → new.channel d k ≡ Some ch → IsGood ch
+good_with old new c h x a are good d k ch e = go (pair_at old.channel c h x d k)
+  where
+    go : At (Option Channel) old.channel c h x d k → IsGood ch
+    go (own f g is) = good ch (sym is ∙ sym (are d k) ∙ e)
+    go (other is) = let was = sym is ∙ sym (are d k) ∙ e in (a.rising d k ch was, a.before d k ch was, a.closed d k ch was)
+
+-- one channel is another, on which what is still held is outstanding
+agreed_with : (old new : Broker) (c h : ℕ) (ch : Channel) → IsAgreed old → Shrinks old.queue new.queue → ((d k : ℕ) → new.channel d k ≡ with_pair old.channel c h (Some ch) d k) → IsGood ch
+    → ((q : Text) (holder : Holder) → HeldIn (new.queue q) holder → holder.connection ≡ c → holder.channel ≡ h → (o : Outstanding) → IsIn o (channel_or_new (old.channel c h)).outstanding → o.tag ≡ holder.tag → o.queue ≡ q → IsIn o ch.outstanding)
+    → IsAgreed new
+agreed_with old new c h ch a s are good stays = agreed_by old new a s keep (good_with old new c h (Some ch) a are (λ x e. subst IsGood (same_Some ch x e) good))
+  where
+    keep : (q : Text) (holder : Holder) → HeldIn (new.queue q) holder → IsOutstanding old q holder → IsOutstanding new q holder
+    keep q holder i o = keeps_with old new c h (Some ch) are q holder o (λ e f is. record {
+      channel = ch;
+      there = is;
+      delivery = o.delivery;
+      outstanding = stays q holder i e f o.delivery (subst (λ (x : Channel). IsIn o.delivery x.outstanding) (sym (own_of old q holder o c h e f)) o.outstanding) o.tag o.queue;
+      tag = o.tag;
+      queue = o.queue;
+    })
+
+-- and nothing is held on one that is closed, or has nothing on it
+agreed_cleared : (old new : Broker) (c h : ℕ) (x : Option Channel) → IsAgreed old → ((q : Text) → new.queue q ≡ map (freed (by_channel c h)) (old.queue q)) → ((d k : ℕ) → new.channel d k ≡ with_pair old.channel c h x d k)
+    → ((ch : Channel) → x ≡ Some ch → IsGood ch) → IsAgreed new
+agreed_cleared old new c h x a is are good = agreed_by old new a (shrinks_freed (by_channel c h) old.queue new.queue is) keep (good_with old new c h x a are good)
+  where
+    keep : (q : Text) (holder : Holder) → HeldIn (new.queue q) holder → IsOutstanding old q holder → IsOutstanding new q holder
+    keep q holder i o = keeps_with old new c h x are q holder o (λ e f there. absurd (false≢true (sym (in_freed (by_channel c h) i.entry (old.queue q) holder (subst (IsIn i.entry) (is q) i.there) i.mark).1 ∙ mine e f)))
+      where
+        mine : holder.connection ≡ c → holder.channel ≡ h → by_channel c h holder ≡ true
+        mine e f = ap (λ (b : Bool). b && (holder.channel == h)) (eq-eqb holder.connection c e) ∙ ap (λ (b : Bool). true && b) (eq-eqb holder.channel h f)
+
+-- all channels of a connection are gone, or new where it had none
+agreed_row : (old new : Broker) (c : ℕ) (row : ℕ → Option Channel) → IsAgreed old → Shrinks old.queue new.queue → ((d k : ℕ) → new.channel d k ≡ with_row old.channel c row d k)
+    → ((k : ℕ) (ch : Channel) → row k ≡ Some ch → IsGood ch) → ((q : Text) (holder : Holder) → HeldIn (new.queue q) holder → IsOutstanding old q holder → holder.connection ≡ c → ⊥) → IsAgreed new
+agreed_row old new c row a s are good none = agreed_by old new a s keep goods
+  where
+    keep : (q : Text) (holder : Holder) → HeldIn (new.queue q) holder → IsOutstanding old q holder → IsOutstanding new q holder
+    keep q holder i o = go (holder.connection == c) refl
+      where
+        go : (v : Bool) → (holder.connection == c) ≡ v → IsOutstanding new q holder
+        go true e = absurd (none q holder i o (eqb-true holder.connection c e))
+        go false e = record { channel = o.channel; there = are holder.connection holder.channel ∙ ap (λ (b : Bool). if b then row holder.channel else old.channel holder.connection holder.channel) e ∙ o.there; delivery = o.delivery; outstanding = o.outstanding; tag = o.tag; queue = o.queue }
+
+    goods : (d k : ℕ) (ch : Channel) → new.channel d k ≡ Some ch → IsGood ch
+    goods d k ch is = go (d == c) refl
+      where
+        go : (v : Bool) → (d == c) ≡ v → IsGood ch
+        go true e = good k ch (sym (are d k ∙ ap (λ (b : Bool). if b then row k else old.channel d k) e) ∙ is)
+        go false e = let was = sym (are d k ∙ ap (λ (b : Bool). if b then row k else old.channel d k) e) ∙ is in (a.rising d k ch was, a.before d k ch was, a.closed d k ch was)
+
+-- a connection is gone, and what it held is ready again
+agreed_gone : (old new : Broker) (c : ℕ) → IsAgreed old → ((q : Text) → new.queue q ≡ map (freed (by_connection c)) (old.queue q)) → ((d k : ℕ) → new.channel d k ≡ with_row old.channel c (λ h. None) d k) → IsAgreed new
+agreed_gone old new c a is are = agreed_row old new c (λ h. None) a (shrinks_freed (by_connection c) old.queue new.queue is) are (λ k ch e. absurd (false≢true (ap is_some e)))
+    (λ q holder i o e. false≢true (sym (in_freed (by_connection c) i.entry (old.queue q) holder (subst (IsIn i.entry) (is q) i.there) i.mark).1 ∙ eq-eqb holder.connection c e))
+
+-- ---- what a publish brings
+
+in_arrivals : (t : Topology) (entries : Text → List Entry) (m : Message) (q : Text) (e : Entry) (rs : List Text) → IsIn e (comes_to t entries m q rs) → e.mark ≡ Ready
+in_arrivals t entries m q e [] i = absurd i
+in_arrivals t entries m q e (r ∷ rs) i = go (bytes_eq r q && not (is_full t entries r (length m.content.body))) (in_arrivals t entries m q e rs) i
+  where
+    go : (v : Bool) → (IsIn e (comes_to t entries m q rs) → e.mark ≡ Ready) → IsIn e (if v then record { message = m; mark = Ready } ∷ comes_to t entries m q rs else comes_to t entries m q rs) → e.mark ≡ Ready
+    go true more (inl is) = ap (λ (z : Entry). z.mark) is
+    go true more (inr j) = more j
+    go false more j = more j
+
+none_arrives_held : (t : Topology) (entries : Text → List Entry) (m : Message) (q : Text) (holder : Holder) (rs : List Text) → count_by (is_held_as holder) (comes_to t entries m q rs) ≡ zero
+none_arrives_held t entries m q holder [] = omega arith
+none_arrives_held t entries m q holder (r ∷ rs) = go (bytes_eq r q && not (is_full t entries r (length m.content.body))) (none_arrives_held t entries m q holder rs)
+  where
+    rest : List Entry
+    rest = comes_to t entries m q rs
+
+    go : (v : Bool) → count_by (is_held_as holder) rest ≡ zero → count_by (is_held_as holder) (if v then record { message = m; mark = Ready } ∷ rest else rest) ≡ zero
+    go true e = let one = count-cons (is_held_as holder) (record { message = m; mark = Ready }) rest in omega (arith, one, e)
+    go false e = e
+
+shrinks_arrivals : (t : Topology) (old new : Text → List Entry) (entries : Text → List Entry) (m : Message) (rs : List Text) → ((q : Text) → new q ≡ old q ++ comes_to t entries m q rs) → Shrinks old new
+shrinks_arrivals t old new entries m rs is = record {
+  held = λ q e holder i mark. go q e holder mark (in-append e (old q) (comes_to t entries m q rs) (subst (IsIn e) (is q) i));
+  fewer = λ q holder.
+      let all = ap (count_by (is_held_as holder)) (is q) in
+      let split = count-append (is_held_as holder) (old q) (comes_to t entries m q rs) in
+      let none = none_arrives_held t entries m q holder rs in
+      omega (arith, all, split, none);
+}
+  where
+    go : (q : Text) (e : Entry) (holder : Holder) → e.mark ≡ Held holder → IsIn e (old q) ⊎ IsIn e (comes_to t entries m q rs) → HeldIn (old q) holder
+    go q e holder mark (inl i) = record { entry = e; there = i; mark = mark }
+    go q e holder mark (inr i) = ready_not_held _ (sym (in_arrivals t entries m q e rs i) ∙ mark)
+
+-- ---- what is settled
+
+-- a delivery that is not settled stays
+in_kept : (p : Outstanding → Bool) (o : Outstanding) (os : List Outstanding) → IsIn o os → p o ≡ false → IsIn o (filter (λ x. not (p x)) os)
+in_kept p o [] i e = i
+in_kept p o (x ∷ xs) i e = go (p x) refl (in_kept p o xs) i
+  where
+    go : (v : Bool) → p x ≡ v → (IsIn o xs → p o ≡ false → IsIn o (filter (λ x. not (p x)) xs)) → IsIn o (x ∷ xs) → IsIn o (cond (not v) (x ∷ filter (λ x. not (p x)) xs) (filter (λ x. not (p x)) xs))
+    go true is more (inl same) = absurd (false≢true (sym e ∙ ap p same ∙ is))
+    go true is more (inr j) = more j e
+    go false is more (inl same) = inl same
+    go false is more (inr j) = inr (more j e)
+
+in_gone : (p : Outstanding → Bool) (o : Outstanding) (os : List Outstanding) → IsIn o os → p o ≡ true → IsIn o (filter p os)
+in_gone p o [] i e = i
+in_gone p o (x ∷ xs) i e = go (p x) refl (in_gone p o xs) i
+  where
+    go : (v : Bool) → p x ≡ v → (IsIn o xs → p o ≡ true → IsIn o (filter p xs)) → IsIn o (x ∷ xs) → IsIn o (cond v (x ∷ filter p xs) (filter p xs))
+    go true is more (inl same) = inl same
+    go true is more (inr j) = inr (more j e)
+    go false is more (inl same) = absurd (false≢true (sym is ∙ sym (ap p same) ∙ e))
+    go false is more (inr j) = more j e
+
+all_kept : (P : Outstanding → Type 0) (p : Outstanding → Bool) (os : List Outstanding) → AllByRecursion P os → AllByRecursion P (filter p os)
+all_kept P p [] a = tt
+all_kept P p (x ∷ xs) a = go (p x) (all_kept P p xs a.1)
+  where
+    go : (v : Bool) → AllByRecursion P (filter p xs) → AllByRecursion P (cond v (x ∷ filter p xs) (filter p xs))
+    go true r = (a.0, r)
+    go false r = r
+
+good_kept : (ch : Channel) (tag : ℕ) (multiple : Bool) → IsGood ch → IsGood (record ch { outstanding = kept tag_of tag multiple ch.outstanding })
+good_kept ch tag multiple g = go (is_refused tag_of tag multiple ch.outstanding)
+  where
+    stay : List Outstanding
+    stay = filter (λ x. not (takes tag_of tag multiple x)) ch.outstanding
+
+    go : (v : Bool) → IsGood (record ch { outstanding = if v then ch.outstanding else stay })
+    go true = g
+    go false = (
+      AllPairs-filter (λ (a b : Outstanding). a.tag < b.tag) (λ x. not (takes tag_of tag multiple x)) ch.outstanding g.0,
+      all_kept (λ (o : Outstanding). o.tag < ch.next_tag) (λ x. not (takes tag_of tag multiple x)) ch.outstanding g.1,
+      λ e. ap (filter (λ x. not (takes tag_of tag multiple x))) (g.2 e),
+    )
+
+module _ (old new : Broker) (c h : ℕ) (tag : ℕ) (multiple : Bool) (gone : List Outstanding) (a : IsAgreed old) where
+  abbrev mine : Channel
+  mine = channel_or_new (old.channel c h)
+
+  -- where nothing is held any more under what is gone, what is still held stays outstanding
+  still_outstanding : settled tag_of tag multiple mine.outstanding ≡ Some gone → ((o : Outstanding) → IsIn o gone → count_by (is_held_as (holder_of c h o)) (new.queue o.queue) ≡ zero)
+      → (q : Text) (holder : Holder) → HeldIn (new.queue q) holder → holder.connection ≡ c → holder.channel ≡ h → (o : Outstanding) → IsIn o mine.outstanding → o.tag ≡ holder.tag → o.queue ≡ q → IsIn o (kept tag_of tag multiple mine.outstanding)
+  still_outstanding is clear q holder i e f o there same at = go (is_refused tag_of tag multiple mine.outstanding) is
+    where
+      -- it is held under its own tag
+      held : is_held_as (holder_of c h o) i.entry ≡ true
+      held = under (held_here i.entry holder i.mark)
+        where
+          -- the holder's own connection, channel and tag
+          at_connection : is_held_as (record { connection = c; channel = h; tag = o.tag; by = o.by }) i.entry ≡ is_held_as (record { connection = holder.connection; channel = h; tag = o.tag; by = o.by }) i.entry
+          at_connection = ap (λ (d : ℕ). is_held_as (record { connection = d; channel = h; tag = o.tag; by = o.by }) i.entry) (sym e)
+
+          at_channel : is_held_as (record { connection = holder.connection; channel = h; tag = o.tag; by = o.by }) i.entry ≡ is_held_as (record { connection = holder.connection; channel = holder.channel; tag = o.tag; by = o.by }) i.entry
+          at_channel = ap (λ (d : ℕ). is_held_as (record { connection = holder.connection; channel = d; tag = o.tag; by = o.by }) i.entry) (sym f)
+
+          at_tag : is_held_as (record { connection = holder.connection; channel = holder.channel; tag = o.tag; by = o.by }) i.entry ≡ is_held_as (record { connection = holder.connection; channel = holder.channel; tag = holder.tag; by = o.by }) i.entry
+          at_tag = ap (λ (d : ℕ). is_held_as (record { connection = holder.connection; channel = holder.channel; tag = d; by = o.by }) i.entry) same
+
+          under : is_held_as holder i.entry ≡ true → is_held_as (holder_of c h o) i.entry ≡ true
+          under t = at_connection ∙ at_channel ∙ at_tag ∙ t
+
+      not_gone : IsIn o gone → ⊥
+      not_gone j =
+          let none = clear o j in
+          let some = counted_in (is_held_as (holder_of c h o)) i.entry (new.queue o.queue) (subst (λ (r : Text). IsIn i.entry (new.queue r)) (sym at) i.there) held in
+          omega (arith, none, some)
+
+      stays : filter (takes tag_of tag multiple) mine.outstanding ≡ gone → (v : Bool) → takes tag_of tag multiple o ≡ v → IsIn o (filter (λ x. not (takes tag_of tag multiple x)) mine.outstanding)
+      stays all true t = absurd (not_gone (subst (IsIn o) all (in_gone (takes tag_of tag multiple) o mine.outstanding there t)))
+      stays all false t = in_kept (takes tag_of tag multiple) o mine.outstanding there t
+
+      go : (v : Bool) → (if v then None else Some (filter (takes tag_of tag multiple) mine.outstanding)) ≡ Some gone → IsIn o (if v then mine.outstanding else filter (λ x. not (takes tag_of tag multiple x)) mine.outstanding)
+      go true s = there
+      go false s = stays (same_Some _ gone s) (takes tag_of tag multiple o) refl
+
+settles_agree : (how : Settlement) (old new : Broker) (c h tag : ℕ) (multiple : Bool) (wanted sends : List Send) (notes : List Note) → IsAgreed old
+    → Settles how old c h (channel_or_new (old.channel c h)) tag multiple wanted sends notes new → IsAgreed new
+settles_agree how old new c h tag multiple wanted sends notes a p = agreed_with old new c h _ a (shrinks how p.queues) p.channels (good_kept (channel_or_new (old.channel c h)) tag multiple (good_or_new old a c h))
+    (still_outstanding old new c h tag multiple p.gone a p.settled_are (clear how p.queues))
+  where
+    shrinks : (s : Settlement) → AreSettled s c h p.gone old.queue notes new.queue → Shrinks old.queue new.queue
+    shrinks (Leaves cause) q = left_shrinks cause c h p.gone old.queue notes new.queue q
+    shrinks Returns q = returned_shrinks c h p.gone old.queue new.queue q.1
+
+    clear : (s : Settlement) → AreSettled s c h p.gone old.queue notes new.queue → (o : Outstanding) → IsIn o p.gone → count_by (is_held_as (holder_of c h o)) (new.queue o.queue) ≡ zero
+    clear (Leaves cause) q o i = left_clear cause c h p.gone old.queue notes new.queue q a.apart o i
+    clear Returns q o i = returned_clear c h p.gone old.queue new.queue q.1 o i
+
+-- ---- what is given out
+
+-- one more delivery, under the next tag
+good_given : (ch : Channel) (no_ack : Bool) (queue : Text) (by : Taker) → ch.is_closing ≡ false → IsGood ch → IsGood (channel_after no_ack queue by ch)
+good_given ch true queue by open_still g = (g.0, all_each _ _ (λ o lt. omega (arith, lt)) ch.outstanding g.1, g.2)
+good_given ch false queue by open_still g = (
+  all_pairs_push (λ (a b : Outstanding). a.tag < b.tag) ch.outstanding (record { tag = ch.next_tag; queue = queue; by = by }) g.0 (λ k d lt. all_in _ (get_or ch.outstanding k d) ch.outstanding g.1 (in_at ch.outstanding k d lt)),
+  all-append (λ (o : Outstanding). o.tag < ch.next_tag + 1) ch.outstanding _ (all_each _ _ (λ o lt. omega (arith, lt)) ch.outstanding g.1) (omega arith, tt),
+  λ e. absurd (false≢true (sym open_still ∙ e)),
+)
+  where
+    in_at : (os : List Outstanding) (k : ℕ) (d : Outstanding) → k < length os → IsIn (get_or os k d) os
+    in_at [] k d lt = absurd (omega arith)
+    in_at (o ∷ os) zero d lt = inl refl
+    in_at (o ∷ os) (suc k) d lt = inr (in_at os k d (omega arith))
+
+in_front : {A : Type 0} (x : A) (xs ys : List A) → IsIn x xs → IsIn x (xs ++ ys)
+in_front x [] ys i = absurd i
+in_front x (y ∷ xs) ys (inl e) = inl e
+in_front x (y ∷ xs) ys (inr i) = inr (in_front x xs ys i)
+
+in_end : {A : Type 0} (x : A) (xs : List A) → IsIn x (xs ++ x ∷ [])
+in_end x [] = inl refl
+in_end x (y ∷ xs) = inr (in_end x xs)
+
+-- what is in the changed list was in it before, or is what was changed
+in_change : (p : Entry → Bool) (g : Holder) (x : Entry) (xs : List Entry) (holder : Holder) → IsIn x (change_first p (held_as g) xs) → x.mark ≡ Held holder → HeldIn xs holder ⊎ (g ≡ holder)
+in_change p g x [] holder i is = absurd i
+in_change p g x (y ∷ ys) holder i is = go (p y) (in_change p g x ys holder) i
+  where
+    go : (v : Bool) → (IsIn x (change_first p (held_as g) ys) → x.mark ≡ Held holder → HeldIn ys holder ⊎ (g ≡ holder)) → IsIn x (cond v (held_as g y ∷ ys) (y ∷ change_first p (held_as g) ys)) → HeldIn (y ∷ ys) holder ⊎ (g ≡ holder)
+    go true more (inl e) = inr (same_holder g holder (sym (ap (λ (z : Entry). z.mark) e) ∙ is))
+    go true more (inr j) = inl (record { entry = x; there = inr j; mark = is })
+    go false more (inl e) = inl (record { entry = x; there = inl e; mark = is })
+    go false more (inr j) = elim (more j is) [ inl w ↦ inl (record { entry = w.entry; there = inr w.there; mark = w.mark }) | inr w ↦ inr w ]
+
+-- one more at most is held under a tag, and only under that of the new holder
+count_change : (p : Entry → Bool) (g holder : Holder) (xs : List Entry) → count_by (is_held_as holder) (change_first p (held_as g) xs) ≤ count_by (is_held_as holder) xs + number (is_under holder g)
+count_change p g holder [] = omega arith
+count_change p g holder (y ∷ ys) = go (p y) (count_change p g holder ys)
+  where
+    go : (v : Bool) → count_by (is_held_as holder) (change_first p (held_as g) ys) ≤ count_by (is_held_as holder) ys + number (is_under holder g)
+        → count_by (is_held_as holder) (cond v (held_as g y ∷ ys) (y ∷ change_first p (held_as g) ys)) ≤ count_by (is_held_as holder) (y ∷ ys) + number (is_under holder g)
+    go true le =
+        let one = count-cons (is_held_as holder) (held_as g y) ys in
+        let two = count-cons (is_held_as holder) y ys in
+        omega (arith, one, two)
+    go false le =
+        let one = count-cons (is_held_as holder) y (change_first p (held_as g) ys) in
+        let two = count-cons (is_held_as holder) y ys in
+        omega (arith, one, two, le)
+
+-- under the parts of a holder that are known
+under_parts : (holder g : Holder) → is_under holder g ≡ true → (g.connection ≡ holder.connection) × (g.channel ≡ holder.channel) × (g.tag ≡ holder.tag)
+under_parts holder g e = go (g.connection == holder.connection) refl (g.channel == holder.channel) refl (g.tag == holder.tag) refl e
+  where
+    go : (u : Bool) → (g.connection == holder.connection) ≡ u → (v : Bool) → (g.channel == holder.channel) ≡ v → (w : Bool) → (g.tag == holder.tag) ≡ w → ((u && v) && w) ≡ true → (g.connection ≡ holder.connection) × (g.channel ≡ holder.channel) × (g.tag ≡ holder.tag)
+    go true a true b true c e = (eqb-true g.connection holder.connection a, eqb-true g.channel holder.channel b, eqb-true g.tag holder.tag c)
+    go true a true b false c e = absurd (false≢true e)
+    go true a false b w c e = absurd (false≢true e)
+    go false a v b w c e = absurd (false≢true e)
+
+-- Nothing is held under a tag that is still to be given on its channel.
+pub none_under_next : (old : Broker) → IsAgreed old → (c h : ℕ) (by : Taker) (q : Text) (holder : Holder) → is_under holder (record { connection = c; channel = h; tag = (channel_or_new (old.channel c h)).next_tag; by = by }) ≡ true
+    → count_by (is_held_as holder) (old.queue q) ≡ zero
+none_under_next old a c h by q holder under = go (count_by (is_held_as holder) (old.queue q)) refl
+  where
+    none : 1 ≤ count_by (is_held_as holder) (old.queue q) → ⊥
+    none le = at (found.one.mark) refl
+      where
+        found : Passes (is_held_as holder) (old.queue q)
+        found = find_counted (is_held_as holder) (old.queue q) le
+
+        at : (m : Mark) → found.one.mark ≡ m → ⊥
+        at Ready e = false≢true (sym (ap (λ (m : Mark). is_held_as holder (record { message = found.one.message; mark = m })) e) ∙ found.passes)
+        at (Held g) e =
+            let same : is_under holder g ≡ true = sym (ap (λ (m : Mark). is_held_as holder (record { message = found.one.message; mark = m })) e) ∙ found.passes in
+            let parts = under_parts holder g same in
+            let wanted = under_parts holder (record { connection = c; channel = h; tag = (channel_or_new (old.channel c h)).next_tag; by = by }) under in
+            let o = a.held q found.one g found.there e in
+            let it : channel_or_new (old.channel c h) ≡ o.channel = own_of old q g o c h (parts.0 ∙ sym wanted.0) (parts.1 ∙ sym wanted.1) in
+            let before = all_in (λ (x : Outstanding). x.tag < o.channel.next_tag) o.delivery o.channel.outstanding (a.before g.connection g.channel o.channel o.there) o.outstanding in
+            let next : (channel_or_new (old.channel c h)).next_tag ≡ o.channel.next_tag = ap (λ (x : Channel). x.next_tag) it in
+            let tag = o.tag in
+            let t = parts.2 in
+            let w = wanted.2 in
+            omega (arith, before, next, tag, t, w)
+
+    go : (n : ℕ) → count_by (is_held_as holder) (old.queue q) ≡ n → count_by (is_held_as holder) (old.queue q) ≡ zero
+    go zero e = e
+    go (suc n) e = absurd (none (omega (arith, e)))
+
+-- A delivery: the first ready message of a queue is held under the next tag, or leaves the queue.
+delivery_agrees : (old new : Broker) (c h : ℕ) (no_ack : Bool) (queue : Text) (by : Taker) → (channel_or_new (old.channel c h)).is_closing ≡ false → IsAgreed old → Is (after_delivery old c h (channel_or_new (old.channel c h)) no_ack queue by) new → IsAgreed new
+delivery_agrees old new c h true queue by open_still a is = agreed_with old new c h _ a
+    (shrinks_on old.queue _ new.queue (shrinks_without is_ready old.queue queue) (shrinks_same _ new.queue is.queues)) is.channels
+    (good_given (channel_or_new (old.channel c h)) true queue by open_still (good_or_new old a c h)) (λ q holder i e f o there same at. there)
+delivery_agrees old new c h false queue by open_still a is = record {
+  held = λ q e holder i mark. at_queue (λ (r : Text) (es : List Entry). new.queue r ≡ es → IsIn e es → IsOutstanding new r holder) old.queue queue _ (λ same j. here e holder j mark) (λ r other same j. old_one r holder (a.held r e holder j mark)) q (is.queues q) (subst (IsIn e) (is.queues q) i);
+  apart = λ q holder. subst (λ (es : List Entry). count_by (is_held_as holder) es ≤ 1) (sym (is.queues q)) (at_queue (λ (r : Text) (es : List Entry). count_by (is_held_as holder) es ≤ 1) old.queue queue _ (few holder (is_under holder (record { connection = c; channel = h; tag = (channel_or_new (old.channel c h)).next_tag; by = by })) refl) (λ r other. a.apart r holder) q);
+  rising = λ d k x e. (goods d k x e).0;
+  before = λ d k x e. (goods d k x e).1;
+  closed = λ d k x e. (goods d k x e).2;
+}
+  where
+    goods : (d k : ℕ) (x : Channel) → new.channel d k ≡ Some x → IsGood x
+    goods = good_with old new c h (Some (channel_after false queue by (channel_or_new (old.channel c h)))) a is.channels (λ x e. subst IsGood (same_Some _ x e) (good_given (channel_or_new (old.channel c h)) false queue by open_still (good_or_new old a c h)))
+
+    -- what was outstanding is so still
+    old_one : (q : Text) (holder : Holder) → IsOutstanding old q holder → IsOutstanding new q holder
+    old_one q holder o = keeps_with old new c h (Some (channel_after false queue by (channel_or_new (old.channel c h)))) is.channels q holder o (λ e f there. record {
+      channel = channel_after false queue by (channel_or_new (old.channel c h));
+      there = there;
+      delivery = o.delivery;
+      outstanding = in_front o.delivery (channel_or_new (old.channel c h)).outstanding _ (subst (λ (x : Channel). IsIn o.delivery x.outstanding) (sym (own_of old q holder o c h e f)) o.outstanding);
+      tag = o.tag;
+      queue = o.queue;
+    })
+
+    new_one : (holder : Holder) → record { connection = c; channel = h; tag = (channel_or_new (old.channel c h)).next_tag; by = by } ≡ holder → IsOutstanding new queue holder
+    new_one holder same = subst (λ (g : Holder). IsOutstanding new queue g) same (record {
+      channel = channel_after false queue by (channel_or_new (old.channel c h));
+      there = is.channels c h ∙ ap (λ (b : Bool). if b && (h == h) then Some (channel_after false queue by (channel_or_new (old.channel c h))) else old.channel c h) (eq-eqb c c refl) ∙ ap (λ (b : Bool). if true && b then Some (channel_after false queue by (channel_or_new (old.channel c h))) else old.channel c h) (eq-eqb h h refl);
+      delivery = record { tag = (channel_or_new (old.channel c h)).next_tag; queue = queue; by = by };
+      outstanding = in_end _ (channel_or_new (old.channel c h)).outstanding;
+      tag = refl;
+      queue = refl;
+    })
+
+    here : (e : Entry) (holder : Holder) → IsIn e (change_first is_ready (held_as (record { connection = c; channel = h; tag = (channel_or_new (old.channel c h)).next_tag; by = by })) (old.queue queue)) → e.mark ≡ Held holder → IsOutstanding new queue holder
+    here e holder j mark = elim (in_change is_ready _ e (old.queue queue) holder j mark) [ inl was ↦ old_one queue holder (a.held queue was.entry holder was.there was.mark) | inr same ↦ new_one holder same ]
+
+    few : (holder : Holder) (v : Bool) → is_under holder (record { connection = c; channel = h; tag = (channel_or_new (old.channel c h)).next_tag; by = by }) ≡ v
+        → count_by (is_held_as holder) (change_first is_ready (held_as (record { connection = c; channel = h; tag = (channel_or_new (old.channel c h)).next_tag; by = by })) (old.queue queue)) ≤ 1
+    few holder true e =
+        let le = count_change is_ready (record { connection = c; channel = h; tag = (channel_or_new (old.channel c h)).next_tag; by = by }) holder (old.queue queue) in
+        let one : number (is_under holder (record { connection = c; channel = h; tag = (channel_or_new (old.channel c h)).next_tag; by = by })) ≡ 1 = ap number e in
+        let none = none_under_next old a c h by queue holder e in
+        omega (arith, le, one, none)
+    few holder false e =
+        let le = count_change is_ready (record { connection = c; channel = h; tag = (channel_or_new (old.channel c h)).next_tag; by = by }) holder (old.queue queue) in
+        let zero_of : number (is_under holder (record { connection = c; channel = h; tag = (channel_or_new (old.channel c h)).next_tag; by = by })) ≡ 0 = ap number e in
+        let was = a.apart queue holder in
+        omega (arith, le, zero_of, was)
+
+-- ---- all cases
+
+-- the record of one channel changed, and neither its next tag nor what is outstanding there
+agreed_record : (old new : Broker) (c h : ℕ) (ch : Channel) → IsAgreed old → Shrinks old.queue new.queue → ((d k : ℕ) → new.channel d k ≡ with_pair old.channel c h (Some ch) d k)
+    → ch.outstanding ≡ (channel_or_new (old.channel c h)).outstanding → ch.next_tag ≡ (channel_or_new (old.channel c h)).next_tag → ch.is_closing ≡ (channel_or_new (old.channel c h)).is_closing → IsAgreed new
+agreed_record old new c h ch a s are same next closing = agreed_with old new c h ch a s are good (λ q holder i e f o there tag at. subst (IsIn o) (sym same) there)
+  where
+    good : IsGood ch
+    good =
+        let g = good_or_new old a c h in (
+          subst (λ (os : List Outstanding). Rises tag_of os) (sym same) g.0,
+          subst (λ (os : List Outstanding). AllByRecursion (λ (o : Outstanding). o.tag < ch.next_tag) os) (sym same) (subst (λ (n : ℕ). AllByRecursion (λ (o : Outstanding). o.tag < n) (channel_or_new (old.channel c h)).outstanding) (sym next) g.1),
+          λ e. same ∙ g.2 (sym closing ∙ e),
+        )
+
+module _ (t : Topology) (old new : Broker) (a : IsAgreed old) where
+  nothing : (sends wanted : List Send) (notes : List Note) → Does sends notes new wanted old → IsAgreed new
+  nothing sends wanted notes p = agreed_same old new a (shrinks_same old.queue new.queue p.left.queues) p.left.channels
+
+  goes : (sends wanted : List Send) (notes : List Note) (c : ℕ) → Does sends notes new wanted (Rattle.model.specs.Step.with_gone old c) → IsAgreed new
+  goes sends wanted notes c p = agreed_gone old new c a p.left.queues p.left.channels
+
+  closes : (sends : List Send) (notes : List Note) (c h : ℕ) (v : Bool) → Does sends notes new (reply c h Rattle.model.specs.declared.methods.Method.TheVariants.ChannelCloseOk ∷ []) (if v then old else with_freed (with_channel old c h None) (by_channel c h)) → IsAgreed new
+  closes sends notes c h true p = nothing sends _ notes p
+  closes sends notes c h false p = agreed_cleared old new c h None a p.left.queues p.left.channels (λ ch e. absurd (false≢true (ap is_some e)))
+
+  gets : (sends : List Send) (notes : List Note) (c h : ℕ) (m : Get) (o : Option Entry) → (channel_or_new (old.channel c h)).is_closing ≡ false → Gets old c h (channel_or_new (old.channel c h)) m o sends notes new → IsAgreed new
+  gets sends notes c h m None open_still p = agreed_same old new a (shrinks_same old.queue new.queue p.left.queues) p.left.channels
+  gets sends notes c h m (Some e) open_still p = delivery_agrees old new c h m.no_ack m.queue taker.Get open_still a p.left
+
+  refuses : (sends : List Send) (notes : List Note) (c h : ℕ) (cause : Ids) (r : Refusal) → Refuses old c h cause r sends notes new → IsAgreed new
+  refuses sends notes c h cause Ignored p = nothing sends _ notes p
+  refuses sends notes c h cause (Of_channel code) p = agreed_cleared old new c h _ a p.left.queues p.left.channels (λ ch e. subst IsGood (same_Some _ ch e) good_closing)
+  refuses sends notes c h cause (Of_connection code) p = goes sends _ notes c p
+
+  -- on a channel that awaits close-ok nothing is outstanding
+  closing_has_none : (c h : ℕ) → is_awaiting (old.channel c h) ≡ true → (q : Text) (holder : Holder) → IsOutstanding old q holder → holder.connection ≡ c → holder.channel ≡ h → ⊥
+  closing_has_none c h awaits q holder o e f =
+      let it : old.channel c h ≡ Some o.channel = ap (λ (d : ℕ). old.channel d h) (sym e) ∙ ap (old.channel holder.connection) (sym f) ∙ o.there in
+      let none = a.closed c h o.channel it (sym (ap is_awaiting it) ∙ awaits) in
+      subst (IsIn o.delivery) none o.outstanding
+
+  -- a close-ok is taken only where it is awaited
+  ends : (sends : List Send) (notes : List Note) (c h : ℕ) → is_awaiting (old.channel c h) ≡ true → Does sends notes new [] (with_channel old c h None) → IsAgreed new
+  ends sends notes c h awaits p = agreed_by old new a (shrinks_same old.queue new.queue p.left.queues)
+      (λ q holder i o. keeps_with old new c h None p.left.channels q holder o (λ e f there. absurd (closing_has_none c h awaits q holder o e f)))
+      (good_with old new c h None a p.left.channels (λ ch e. absurd (false≢true (ap is_some e))))
+
+  limits : (sends wanted : List Send) (notes : List Note) (c h count : ℕ) (v : Bool) → Does sends notes new wanted (with_channel old c h (Some (if v then record (channel_or_new (old.channel c h)) { limit = count } else record (channel_or_new (old.channel c h)) { each_limit = count }))) → IsAgreed new
+  limits sends wanted notes c h count true d = agreed_record old new c h _ a (shrinks_same old.queue new.queue d.left.queues) d.left.channels refl refl refl
+  limits sends wanted notes c h count false d = agreed_record old new c h _ a (shrinks_same old.queue new.queue d.left.queues) d.left.channels refl refl refl
+
+  -- what a channel that awaits close-ok takes, and what it doesn't
+  awaited : (conn : Connection) (h : ℕ) (ch : Option Channel) → refusal t old conn h ChannelCloseOk ch ≡ None → is_awaiting ch ≡ true
+  awaited conn h None e = by (h == 0) (nat_lt conn.channel_max h) e
+    where
+      by : (u v : Bool) → (if u then Some (Of_connection 503) else if v then Some (Of_connection 504) else Some (Of_connection 504)) ≡ None → false ≡ true
+      by true v e = absurd (false≢true (sym (ap is_some e)))
+      by false true e = absurd (false≢true (sym (ap is_some e)))
+      by false false e = absurd (false≢true (sym (ap is_some e)))
+  awaited conn h (Some ch) e = by ch.is_closing (h == 0) (nat_lt conn.channel_max h) e
+    where
+      by : (w u v : Bool) → (if w then None else if u then Some (Of_connection 503) else if v then Some (Of_connection 504) else Some (Of_connection 503)) ≡ None → w ≡ true
+      by true u v e = refl
+      by false true v e = absurd (false≢true (sym (ap is_some e)))
+      by false false true e = absurd (false≢true (sym (ap is_some e)))
+      by false false false e = absurd (false≢true (sym (ap is_some e)))
+
+  not_awaited : (conn : Connection) (h : ℕ) (m : Get) (ch : Option Channel) → refusal t old conn h (BasicGet m) ch ≡ None → (channel_or_new ch).is_closing ≡ false
+  not_awaited conn h m None e = refl
+  not_awaited conn h m (Some ch) e = by ch.is_closing _ e
+    where
+      by : (w : Bool) (rest : Option Refusal) → (if w then Some Ignored else rest) ≡ None → w ≡ false
+      by true rest e = absurd (false≢true (sym (ap is_some e)))
+      by false rest e = refl
+
+  performs : (sends : List Send) (notes : List Note) (c h : ℕ) (m : Method) (content : Option Content) (conn : Connection) → refusal t old conn h m (old.channel c h) ≡ None → Performs t old c h (channel_or_new (old.channel c h)) m content sends notes new → IsAgreed new
+  performs sends notes c h (ConfirmSelect no_wait) content conn accepted p = agreed_record old new c h _ a (shrinks_same old.queue new.queue p.left.queues) p.left.channels refl refl refl
+  performs sends notes c h (BasicPublish publish) content conn accepted p = agreed_record old new c h _ a (shrinks_arrivals t old.queue new.queue old.queue _ p.targets p.left.queues) p.left.channels refl refl refl
+  performs sends notes c h (ChannelClose m) content conn accepted p = closes sends notes c h (channel_or_new (old.channel c h)).is_closing p
+  performs sends notes c h ChannelCloseOk content conn accepted p = ends sends notes c h (awaited conn h (old.channel c h) accepted) p
+  performs sends notes c h (ConnectionClose m) content conn accepted p = goes sends _ notes c p
+  performs sends notes c h (BasicQos m) content conn accepted p = limits sends _ notes c h m.prefetch_count m.global p
+  performs sends notes c h (BasicGet m) content conn accepted p = gets sends notes c h m (first_ready (old.queue m.queue)) (not_awaited conn h m (old.channel c h) accepted) p
+  performs sends notes c h (BasicAck m) content conn accepted p = settles_agree _ old new c h m.delivery_tag m.multiple [] sends notes a p
+  performs sends notes c h (BasicReject m) content conn accepted p = settles_agree _ old new c h m.delivery_tag false [] sends notes a p
+  performs sends notes c h (BasicNack m) content conn accepted p = settles_agree _ old new c h m.delivery_tag m.multiple [] sends notes a p
+  performs sends notes c h (BasicRecover requeue) content conn accepted p = settles_agree _ old new c h 0 true _ sends notes a p
+  performs sends notes c h (QueuePurge m) content conn accepted p =
+      agreed_same old new a (shrinks_on old.queue _ new.queue (shrinks_filter (λ e. not (is_ready e)) old.queue m.queue) (shrinks_same _ new.queue p.left.queues)) p.left.channels
+  performs sends notes c h _ content conn accepted p = absurd p
+
+  decides : (sends : List Send) (notes : List Note) (c h : ℕ) (m : Method) (content : Option Content) (conn : Connection) (r : Option Refusal) → refusal t old conn h m (old.channel c h) ≡ r → Decides t old c h m content r sends notes new → IsAgreed new
+  decides sends notes c h m content conn None e p = performs sends notes c h m content conn e p
+  decides sends notes c h m content conn (Some r) e p = refuses sends notes c h (ids_of m) r p
+
+  commanded : (sends : List Send) (notes : List Note) (c h : ℕ) (m : Method) (content : Option Content) (o : Option Connection) → OnConnection t old c h m content sends notes new o → IsAgreed new
+  commanded sends notes c h m content None p = nothing sends _ notes p
+  commanded sends notes c h m content (Some conn) p = decides sends notes c h m content conn (refusal t old conn h m (old.channel c h)) refl p
+
+  too_large : (sends : List Send) (notes : List Note) (c h : ℕ) (o : Option Connection) → OnLarge old c h sends notes new o → IsAgreed new
+  too_large sends notes c h None p = nothing sends _ notes p
+  too_large sends notes c h (Some conn) p = refuses sends notes c h (ids_of empty_publish) (refusal_of_large conn h (old.channel c h)) p
+
+  row_good : (k n : ℕ) (ch : Channel) → channels_up_to k n ≡ Some ch → IsGood ch
+  row_good k n ch e = by (nat_le 1 n && nat_le n k) e
+    where
+      by : (v : Bool) → (if v then Some new_channel else None) ≡ Some ch → IsGood ch
+      by true e = subst IsGood (same_Some new_channel ch e) good_new
+      by false e = absurd (false≢true (ap is_some e))
+
+  -- Each event keeps the agreement.
+  pub onward : (e : Event) (sends : List Send) (notes : List Note) → IsNewIn old e → Acts t old e sends notes new → IsAgreed new
+  onward (Running c max k) sends notes fresh p = agreed_row old new c (channels_up_to k) a (shrinks_same old.queue new.queue p.left.queues) p.left.channels (row_good k)
+      (λ q holder i o e. false≢true (ap is_some (sym (ap (λ (d : ℕ). old.channel d holder.channel) e ∙ fresh holder.channel) ∙ o.there)))
+  onward (Command c h m content) sends notes fresh p = commanded sends notes c h m content (old.connection c) p
+  onward (TooLarge c h) sends notes fresh p = too_large sends notes c h (old.connection c) p
+  onward (Fault c code) sends notes fresh p = goes sends _ notes c p
+  onward (Lose c) sends notes fresh p = goes sends _ notes c p
+  onward (Pause c) sends notes fresh p = agreed_same old new a (shrinks_same old.queue new.queue p.left.queues) p.left.channels
+  onward (Resume c) sends notes fresh p = agreed_same old new a (shrinks_same old.queue new.queue p.left.queues) p.left.channels
+
+-- in the empty broker nothing is held
+none_held : IsAgreed empty_broker
+none_held = record {
+  held = λ q e holder i is. absurd i;
+  apart = λ q holder. omega arith;
+  rising = λ c h ch e. absurd (false≢true (ap is_some e));
+  before = λ c h ch e. absurd (false≢true (ap is_some e));
+  closed = λ c h ch e. absurd (false≢true (ap is_some e));
+}
+
+pub stay_agreed : BrokersStayAgreed
+stay_agreed = record { empty = none_held; acts = λ t old new e sends notes fresh a p. onward t old new a e sends notes fresh p }

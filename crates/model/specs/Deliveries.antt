@@ -1,0 +1,116 @@
+-- Messages that are given out on a channel, and what becomes of them when they are settled.
+-- Source: AMQP 0-9-1, section 1.5, basic.get, basic.ack, basic.reject and basic.recover; RabbitMQ, basic.nack.
+use Rattle.std.specs.Prelude.{◌≡◌, ◌+◌, ℕ, List, [], ◌∷◌, ◌++◌, length, filter, map, find, Bool, true, false, not, nat_le, if◌then◌else◌, Option, Some, None}
+use Rattle.std.specs.Str.{bytes_eq}
+use Rattle.model.specs.Words.{Text}
+use Rattle.model.specs.Broker.{Outstanding, Channel, Broker, is_ready, with_pair}
+use Rattle.model.specs.Entries.{is_under, is_held_as, freed, held_as, change_first, without_first}
+use Rattle.model.specs.declared.messages.Entry.{Entry}
+use Rattle.model.specs.declared.messages.Holder.{Holder}
+use Rattle.model.specs.declared.messages.Taker.{Taker}
+use Rattle.model.specs.declared.notes.Cause.{Cause}
+use Rattle.model.specs.declared.notes.Cause.TheVariants.{Auto, Rejected, Purged}
+use Rattle.model.specs.declared.notes.Note.{Note}
+use Rattle.model.specs.declared.notes.Note.TheVariants.{Left}
+
+-- ---- one queue
+
+-- the queues, of which the one of this name has these entries now
+abbrev pub with_queue : (Text → List Entry) → Text → List Entry → Text → List Entry
+with_queue queues name entries q = if bytes_eq name q then entries else queues q
+
+-- the first message of the queue that can be given out
+abbrev pub first_ready : List Entry → Option Entry
+first_ready entries = find is_ready entries
+
+-- how many messages of the queue can be given out
+abbrev pub ready_in : List Entry → ℕ
+ready_in entries = length (filter is_ready entries)
+
+-- a count as it is written, which is at most the greatest number of four octets (own)
+abbrev pub written_count : ℕ → ℕ
+written_count n = if nat_le n 4294967295 then n else 4294967295
+
+-- ---- giving out
+
+-- the queue's entries after its first ready message was given out: it is held, or gone where it needs no acknowledgement
+abbrev pub after_giving : Bool → Holder → List Entry → List Entry
+after_giving no_ack holder entries = if no_ack then without_first is_ready entries else change_first is_ready (held_as holder) entries
+
+-- what is outstanding after a message of this queue was given out under this tag
+abbrev pub outstanding_after : Bool → ℕ → Text → Taker → List Outstanding → List Outstanding
+outstanding_after no_ack tag queue by given = if no_ack then given else given ++ record { tag = tag; queue = queue; by = by } ∷ []
+
+-- the channel after a message of this queue was given out on it, under its next tag
+abbrev pub channel_after : Bool → Text → Taker → Channel → Channel
+channel_after no_ack queue by ch = record ch { next_tag = ch.next_tag + 1; outstanding = outstanding_after no_ack ch.next_tag queue by ch.outstanding }
+
+-- the state after the first ready message of this queue was given out on channel h of connection c
+abbrev pub after_delivery : Broker → ℕ → ℕ → Channel → Bool → Text → Taker → Broker
+after_delivery b c h ch no_ack queue by = record b {
+  queue = with_queue b.queue queue (after_giving no_ack (record { connection = c; channel = h; tag = ch.next_tag; by = by }) (b.queue queue));
+  channel = with_pair b.channel c h (Some (channel_after no_ack queue by ch));
+}
+
+-- a message that needs no acknowledgement leaves its queue as it is given out
+abbrev pub delivery_notes : Bool → ℕ → Text → List Note
+delivery_notes no_ack number queue = if no_ack then Left number queue Auto ∷ [] else []
+
+-- ---- settling
+
+-- who holds what is outstanding there
+abbrev pub holder_of : ℕ → ℕ → Outstanding → Holder
+holder_of c h o = record { connection = c; channel = h; tag = o.tag; by = o.by }
+
+-- the message that is outstanding there, where it stands in its queue
+abbrev pub given_in : ℕ → ℕ → (Text → List Entry) → Outstanding → Option Entry
+given_in c h queues o = find (is_held_as (holder_of c h o)) (queues o.queue)
+
+-- the queues without it
+abbrev pub without_given : ℕ → ℕ → (Text → List Entry) → Outstanding → Text → List Entry
+without_given c h queues o = with_queue queues o.queue (without_first (is_held_as (holder_of c h o)) (queues o.queue))
+
+-- the queues with it ready again, in its place and redelivered
+abbrev pub with_returned : ℕ → ℕ → (Text → List Entry) → Outstanding → Text → List Entry
+with_returned c h queues o = with_queue queues o.queue (map (freed (is_under (holder_of c h o))) (queues o.queue))
+
+-- it is noted of a message that is there, that it left its queue for this cause
+abbrev pub left_note : Cause → Text → Option Entry → List Note
+left_note cause queue None = []
+left_note cause queue (Some e) = Left e.message.number queue cause ∷ []
+
+-- What is done with each message that is settled: it leaves its queue, or is ready there again.
+pub data Settlement : Type 0 where
+  Leaves : (cause : Cause) → Settlement
+  Returns : Settlement
+
+-- a rejected message is requeued, or leaves its queue
+abbrev pub of_rejected : Bool → Settlement
+of_rejected requeue = if requeue then Returns else Leaves Rejected
+
+-- These deliveries of channel h of connection c leave their queues, one after another in the order of their tags, and it is noted of each.
+abbrev pub AreLeft : Cause → ℕ → ℕ → List Outstanding → (Text → List Entry) → List Note → (Text → List Entry) → Type 0
+AreLeft cause c h [] old notes new = (notes ≡ []) × ((q : Text) → new q ≡ old q)
+AreLeft cause c h (o ∷ os) old notes new =
+    (mid : Text → List Entry) × (rest : List Note) × ((q : Text) → mid q ≡ without_given c h old o q)
+    × (notes ≡ left_note cause o.queue (given_in c h old o) ++ rest) × AreLeft cause c h os mid rest new
+
+-- These deliveries are ready again, each in its place.
+abbrev pub AreReturned : ℕ → ℕ → List Outstanding → (Text → List Entry) → (Text → List Entry) → Type 0
+AreReturned c h [] old new = (q : Text) → new q ≡ old q
+AreReturned c h (o ∷ os) old new = (mid : Text → List Entry) × ((q : Text) → mid q ≡ with_returned c h old o q) × AreReturned c h os mid new
+
+-- These deliveries are settled so.
+abbrev pub AreSettled : Settlement → ℕ → ℕ → List Outstanding → (Text → List Entry) → List Note → (Text → List Entry) → Type 0
+AreSettled (Leaves cause) c h os old notes new = AreLeft cause c h os old notes new
+AreSettled Returns c h os old notes new = (notes ≡ []) × AreReturned c h os old new
+
+-- ---- purging
+
+-- it is noted of each of these messages that it left its queue by a purge
+abbrev pub purge_notes : Text → List Entry → List Note
+purge_notes queue gone = map (λ (e : Entry). Left e.message.number queue Purged) gone
+
+-- the state after a purge: exactly the ready messages are gone from the queue (AMQP 0-9-1, queue.purge)
+abbrev pub after_purge : Broker → Text → Broker
+after_purge b queue = record b { queue = with_queue b.queue queue (filter (λ e. not (is_ready e)) (b.queue queue)) }

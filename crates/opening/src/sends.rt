@@ -1,0 +1,92 @@
+//! What the server says before a connection runs.
+
+ghost use Rattle.std.specs.Prelude.{◌≡◌, [], ◌∷◌, ℕ, IfOk};
+ghost use Rattle.model.specs.Grammar.{ids_of};
+ghost use Rattle.model.specs.Step.{reply, connection_close};
+ghost use Rattle.model.specs.Opening as said;
+ghost use Rattle.model.specs.declared.events.Send.TheVariants as send;
+ghost use Rattle.opening.specs.Answers.{Fits};
+ghost use Rattle.opening.specs.Short.{AreShort};
+
+use model::{Close, Method, Send, Start, Table, Text, Tuning, reply_text};
+use std::alloc::{AllocError, Global};
+
+/// The pairs of the table in start: what the server can do beside AMQP, and its name.
+const PROPERTIES: &[u8] =
+    b"\x0ccapabilitiesF\x00\x00\x00\x3f\x12publisher_confirmst\x01\x1aexchange_exchange_bindingst\x01\x0abasic.nackt\x01\x07productS\x00\x00\x00\x06warren";
+
+/// connection.start.
+pub(crate) fn start() -> Method
+    ensures is { result ≡ said.start }
+    ensures fits { Fits result }
+{
+    Method::ConnectionStart(Start {
+        version_major: 0,
+        version_minor: 9,
+        server_properties: Table::from_pairs(Text::fixed(PROPERTIES)),
+        mechanisms: Text::fixed(b"PLAIN"),
+        locales: Text::fixed(b"en_US"),
+    })
+}
+
+/// connection.tune.
+pub(crate) fn tune() -> Method
+    ensures is { result ≡ said.tune }
+    ensures fits { Fits result }
+{
+    Method::ConnectionTune(Tuning {
+        channel_max: 255,
+        frame_max: 131_072,
+        heartbeat: 0,
+    })
+}
+
+/// connection.open-ok.
+pub(crate) fn open_ok() -> Method
+    ensures is { result ≡ said.open_ok }
+    ensures fits { Fits result }
+{
+    Method::ConnectionOpenOk {
+        reserved: Text::empty(),
+    }
+}
+
+/// connection.close with this reply code, for the method that caused it.
+pub(crate) fn close(code: u16, cause: &Method) -> Method
+    ensures is { (c : ℕ) → reply c 0 result ≡ connection_close c code (ids_of cause.now) }
+    ensures fits { Fits result }
+{
+    let ids = cause.ids();
+    Method::ConnectionClose(Close {
+        reply_code: code,
+        reply_text: reply_text(code),
+        class_id: ids.class,
+        method_id: ids.method,
+    })
+}
+
+/// One method on channel 0, which carries no content.
+pub(crate) fn one(alloc: Global, connection: u64, method: Method) -> Result<Vec<Send>, AllocError>
+    requires { Fits method }
+    ensures sends { IfOk result (λ sends. sends.items ≡ reply connection 0 method ∷ []) }
+    ensures short { IfOk result (λ sends. AreShort connection sends.items) }
+{
+    let mut sends = Vec::new(alloc);
+    sends.push(Send::Command {
+        connection,
+        channel: 0,
+        method,
+        content: None,
+    })?;
+    Ok(sends)
+}
+
+/// The protocol header.
+pub(crate) fn greeting(alloc: Global, connection: u64) -> Result<Vec<Send>, AllocError>
+    ensures sends { IfOk result (λ sends. sends.items ≡ send.Greeting connection ∷ []) }
+    ensures short { IfOk result (λ sends. AreShort connection sends.items) }
+{
+    let mut sends = Vec::new(alloc);
+    sends.push(Send::Greeting { connection })?;
+    Ok(sends)
+}
