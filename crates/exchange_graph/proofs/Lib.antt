@@ -1,4 +1,5 @@
 pub mod Indices
+pub mod Keying
 pub mod Passing
 pub mod Marking
 pub mod Naming

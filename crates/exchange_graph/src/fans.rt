@@ -14,28 +14,50 @@ ghost use Rattle.exchange_graph.specs.Fans.{
   patterns_of,
   topics_of,
 };
+ghost use Rattle.exchange_graph.specs.Keyed.{IsIndexed};
 
-use crate::ends::{End, Way};
+use crate::ends::{End, KeyedEnds, Way};
+use crate::keyed::{ends_under, keyed};
 use crate::places::{exchange_place, ways_from};
 use model::{Binding, DeclaredQueue, Exchange, ExchangeKind};
 use std::alloc::{AllocError, Global};
 use std::marker::Model;
 use topic_match::{Matcher, Pattern, Plain};
 
-/// The bindings of one exchange, the patterns of a topic exchange, and its alternate exchange.
+/// The bindings of one exchange, their ends by key of a direct exchange, the patterns of a topic exchange, and the alternate
+/// exchange.
 #[derive(Drop)]
 pub struct Fan {
     list: Vec<Way>,
+    by_key: Option<KeyedEnds>,
     topics: Plain,
     alternate: Option<usize>,
 }
 
 impl Model for Fan {
     ghost use Rattle.exchange_graph.specs.Fans.{Fan as Leading};
+    ghost use Rattle.exchange_graph.specs.Keyed.{IsIndexed};
 
     ghost Value = { Leading };
 
     ghost view = { λ f. record { list = f.list.items; topics = f.topics; alternate = f.alternate } };
+
+    ghost invariant = { λ f. IsIndexed f.list.items f.by_key };
+}
+
+/// The ends by key of a direct exchange; another has none.
+fn index_of(
+    alloc: Global,
+    kind: ExchangeKind,
+    ways: &[Way],
+) -> Result<Option<KeyedEnds>, AllocError>
+    ensures { IfOk result (IsIndexed ways.now) }
+{
+    match kind {
+        ExchangeKind::Direct => Ok(Some(keyed(alloc, ways)?)),
+        ExchangeKind::Fanout => Ok(None),
+        ExchangeKind::Topic => Ok(None),
+    }
 }
 
 /// The keys of these ways as topic patterns.
@@ -84,9 +106,11 @@ pub fn fan_of(
     ensures { IfOk result (λ made. made ≡ fan_of (record { exchanges = exchanges.now; queues = queues.now; bindings = bindings.now }) exchange.now) }
 {
     let list = ways_from(alloc, exchanges, queues, exchange.name.as_bytes(), bindings)?;
+    let by_key = index_of(alloc, exchange.kind, list.as_slice())?;
     let topics = topics_of(alloc, exchange.kind, list.as_slice())?;
     Ok(Fan {
         list,
+        by_key,
         topics,
         alternate: alternate_of(exchanges, exchange),
     })
@@ -118,6 +142,24 @@ fn ends_by_key(alloc: Global, ways: &[Way], key: &[u8]) -> Result<Vec<End>, Allo
             ends.push(way.end)?;
         }
     }
+    Ok(ends)
+}
+
+/// The ends of the ways with this key, found by their index if there is one.
+fn ends_of_key(
+    alloc: Global,
+    by_key: &Option<KeyedEnds>,
+    ways: &[Way],
+    key: &[u8],
+) -> Result<Vec<End>, AllocError>
+    requires { IsIndexed ways.now by_key.now }
+    ensures { IfOk result (λ ends. ends.items ≡ ends_by_key key.now ways.now) }
+{
+    let Some(keyed) = by_key else {
+        return ends_by_key(alloc, ways, key);
+    };
+    let mut ends = Vec::new(alloc);
+    ends.extend_from_slice(ends_under(keyed, key))?;
     Ok(ends)
 }
 
@@ -162,15 +204,17 @@ fn ends_by_topic(
 fn passing(
     alloc: Global,
     kind: ExchangeKind,
+    by_key: &Option<KeyedEnds>,
     topics: &Plain,
     ways: &[Way],
     key: &[u8],
 ) -> Result<Vec<End>, AllocError>
-    requires { topics.now ≡ topics_of kind ways.now }
+    requires indexed { IsIndexed ways.now by_key.now }
+    requires patterns { topics.now ≡ topics_of kind ways.now }
     ensures { IfOk result (λ ends. ArePassing kind key.now ways.now ends.items) }
 {
     match kind {
-        ExchangeKind::Direct => ends_by_key(alloc, ways, key),
+        ExchangeKind::Direct => ends_of_key(alloc, by_key, ways, key),
         ExchangeKind::Fanout => ends_of(alloc, ways),
         ExchangeKind::Topic => ends_by_topic(alloc, topics, ways, key),
     }
@@ -199,7 +243,14 @@ impl Fan {
         requires { self.now.topics ≡ topics_of kind self.now.list }
         ensures { IfOk result (λ ends. LeadOn kind key.now self.now ends.items) }
     {
-        let mut ends = passing(alloc, kind, &self.topics, self.list.as_slice(), key)?;
+        let mut ends = passing(
+            alloc,
+            kind,
+            &self.by_key,
+            &self.topics,
+            self.list.as_slice(),
+            key,
+        )?;
         or_alternate(self.alternate, &mut ends)?;
         Ok(ends)
     }

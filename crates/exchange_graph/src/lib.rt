@@ -5,6 +5,7 @@ mod copies;
 mod edges;
 mod ends;
 mod fans;
+mod keyed;
 mod marks;
 mod places;
 mod reach;

@@ -1,4 +1,4 @@
 pub mod Cuts
 pub mod Loops
-pub mod Rowing
+pub mod Taken
 pub mod Some

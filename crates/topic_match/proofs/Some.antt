@@ -5,8 +5,7 @@ use Rattle.std.proofs.lemmas.Bool.{ltb-true, ltb-false}
 use Rattle.model.specs.Words.{Text, words, Matches}
 use Rattle.model.specs.Topology.{IsIn}
 use Rattle.model.specs.declared.texts.Token.{Token}
-use Rattle.topic_match.specs.Places.{AreMatches}
-use Rattle.topic_match.specs.Rows.{AreSome}
+use Rattle.topic_match.specs.Places.{AreMatches, AreSome}
 
 pub some_none : (ps : List (List Token)) (ws : List Text) → AreSome ps ws 0 []
 some_none ps ws = record {

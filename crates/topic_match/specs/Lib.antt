@@ -1,3 +1,4 @@
 pub mod Patterns
 pub mod Places
-pub mod Rows
+pub mod Taking
+pub mod Attempts

@@ -1,14 +1,15 @@
 //! Words of keys, topic patterns, and which of them match.
 #![tactic(auto)]
 
+mod attempts;
 mod matchers;
+mod matching;
 mod patterns;
 mod pieces;
 mod plain;
-mod rows;
 
 pub use matchers::Matcher;
+pub use matching::covers_key;
 pub use patterns::{Bad, Pattern, is_pattern};
 pub use pieces::split;
 pub use plain::Plain;
-pub use rows::covers_key;

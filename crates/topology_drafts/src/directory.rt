@@ -1,6 +1,6 @@
 //! Names in the order of their list, and where each stands.
 
-ghost use Rattle.std.specs.Prelude.{◌≡◌, ◌<◌, [], List, ℕ, length, Decides, IfOk, IfSome, MatchOption, map, position};
+ghost use Rattle.std.specs.Prelude.{◌≡◌, ◌<◌, [], List, ℕ, length, Decides, IfOk, IfSome, MatchOption, OnErr, map, position};
 ghost use Rattle.std.specs.Str.{bytes_eq};
 ghost use Rattle.model.specs.Topology.{AreApart, IsIn};
 ghost use Rattle.topology_drafts.specs.Naming.{AreNames, Enters};
@@ -56,7 +56,7 @@ impl Model for Names {
 
 impl Names {
     /// No names.
-    fn none(alloc: Global) -> Names
+    pub fn none(alloc: Global) -> Names
         ensures { result ≡ [] }
     {
         Names {
@@ -64,9 +64,11 @@ impl Names {
         }
     }
 
-    /// Puts a name behind the others, and tells whether it is a new one.
-    fn enter(&mut self, alloc: Global, name: &[u8]) -> Result<bool, AllocError>
-        ensures { IfOk result (λ new. Enters name.now self.old self.new new) }
+    /// Puts a name behind the others, unless it is among them, and tells whether it is a new one. Where memory is wanting,
+    /// the names are as before.
+    pub fn enter(&mut self, alloc: Global, name: &[u8]) -> Result<bool, AllocError>
+        ensures entered { IfOk result (λ new. Enters name.now self.old self.new new) }
+        ensures same { OnErr result (self.new ≡ self.old) }
     {
         let key = name.to_vec(alloc)?;
         let new = self.set.insert(key)?;

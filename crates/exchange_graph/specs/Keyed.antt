@@ -1,0 +1,37 @@
+-- The ends of ways, found by their keys.
+use Rattle.std.specs.Prelude.{◌≡◌, List, [], ◌∷◌, ◌++◌, Option, Some, None, length, if◌then◌else◌}
+use Rattle.std.specs.Str.{bytes_eq}
+use Rattle.model.specs.Words.{Text}
+use Rattle.exchange_graph.specs.declared.ends.End.{End}
+use Rattle.exchange_graph.specs.declared.ends.Way.{Way}
+use Rattle.exchange_graph.specs.declared.ends.KeyedEnds.{KeyedEnds}
+use Rattle.exchange_graph.specs.Fans.{ends_by_key}
+
+-- what stands beside the first of these keys that is this one
+abbrev pub ends_beside : Text → List Text → List (List End) → List End
+ends_beside key [] lists = []
+ends_beside key (k ∷ ks) [] = []
+ends_beside key (k ∷ ks) (es ∷ lists) = if bytes_eq key k then es else ends_beside key ks lists
+
+-- the ends under this key
+abbrev pub ends_under : Text → KeyedEnds → List End
+ends_under key keyed = ends_beside key keyed.keys keyed.lists.items
+
+-- there is a list of ends for each key
+abbrev pub IsEven : KeyedEnds → Type 0
+IsEven keyed = length keyed.keys ≡ length keyed.lists.items
+
+-- Under each key stand the ends of the ways with this key.
+pub record AreKeyed (ways : List Way) (keyed : KeyedEnds) : Type 0 where
+  pub even : IsEven keyed
+  pub told : (key : Text) → ends_under key keyed ≡ ends_by_key key ways
+
+-- An end was put behind those that stood under its key.
+pub record Puts (key : Text) (end : End) (old new : KeyedEnds) : Type 0 where
+  pub even : IsEven new
+  pub told : (other : Text) → ends_under other new ≡ ends_under other old ++ (if bytes_eq key other then end ∷ [] else [])
+
+-- the index, if there is one, is that of these ways
+abbrev pub IsIndexed : List Way → Option KeyedEnds → Type 0
+IsIndexed ways None = Unit {0}
+IsIndexed ways (Some keyed) = AreKeyed ways keyed

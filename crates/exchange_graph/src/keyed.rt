@@ -1,0 +1,66 @@
+//! The ends of ways, found by the keys of the ways.
+
+ghost use Rattle.std.specs.Prelude.{◌≡◌, ◌<◌, ◌∷◌, ◌++◌, [], length, IfOk, OnOk, slice_index_or, slice_set};
+ghost use Rattle.model.specs.Topology.{IsIn};
+ghost use Rattle.exchange_graph.specs.Keyed.{AreKeyed, IsEven, Puts, ends_under};
+
+use crate::ends::{End, Ends, KeyedEnds, Way};
+use std::alloc::{AllocError, Global};
+use topology_drafts::Names;
+
+/// One end more in the list at this place.
+fn push_at(lists: &mut Vec<Ends>, place: usize, end: End) -> Result<(), AllocError>
+    requires { place < length lists.old.items }
+    ensures { OnOk result (lists.new.items ≡ slice_set lists.old.items place (slice_index_or lists.old.items place [] ++ end ∷ [])) }
+{
+    lists[place].push(end)
+}
+
+/// Puts an end under a key that is a new one.
+fn put_new(keyed: &mut KeyedEnds, alloc: Global, key: &[u8], end: End) -> Result<(), AllocError>
+    requires even { IsEven keyed.old }
+    requires is_new { IsIn key.now keyed.old.keys → ⊥ }
+    ensures { OnOk result (Puts key.now end keyed.old keyed.new) }
+{
+    let ends = Ends::of(alloc, end)?;
+    keyed.lists.push(ends)?;
+    keyed.keys.enter(alloc, key)?;
+    Ok(())
+}
+
+/// Puts an end behind those that stand under its key.
+fn put(keyed: &mut KeyedEnds, alloc: Global, key: &[u8], end: End) -> Result<(), AllocError>
+    requires { IsEven keyed.old }
+    ensures { OnOk result (Puts key.now end keyed.old keyed.new) }
+{
+    let Some(place) = keyed.keys.place(key) else {
+        return put_new(keyed, alloc, key, end);
+    };
+    push_at(&mut keyed.lists, place, end)?;
+    Ok(())
+}
+
+/// The ends of these ways by their keys.
+pub fn keyed(alloc: Global, ways: &[Way]) -> Result<KeyedEnds, AllocError>
+    ensures { IfOk result (AreKeyed ways.now) }
+{
+    let mut keyed = KeyedEnds {
+        keys: Names::none(alloc),
+        lists: Vec::new(alloc),
+    };
+    for way in ways {
+        put(&mut keyed, alloc, way.key.as_bytes(), way.end)?;
+    }
+    Ok(keyed)
+}
+
+/// The ends of the ways with this key.
+pub fn ends_under<'a>(keyed: &'a KeyedEnds, key: &[u8]) -> &'a [End]
+    requires { IsEven keyed.now }
+    ensures { result.now ≡ ends_under key.now keyed.now }
+{
+    match keyed.keys.place(key) {
+        Some(place) => keyed.lists[place].as_slice(),
+        None => &[],
+    }
+}
