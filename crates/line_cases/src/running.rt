@@ -1,52 +1,16 @@
 //! Files of lines are answered, and the answers compared.
 
+use crate::answers::{Answer, Unanswered};
 use crate::counts::Count;
 use crate::parts::{Parts, is_silent, parts_of};
-use line_words::Unanswered;
+use crate::{certificates, routing, wire};
 use std::process::ExitCode;
 use std::{fs, io};
 
-/// The kinds of lines about routing.
-const OF_ROUTING: [&str; 16] = [
-    "pattern",
-    "match",
-    "places",
-    "words",
-    "definitions",
-    "definitions-hex",
-    "counts",
-    "queue",
-    "exchange",
-    "user",
-    "route",
-    "visited",
-    "guarantees",
-    "guarantees-hex",
-    "guarantee",
-    "covers",
-];
-
-/// The kinds of lines about certificates.
-const OF_CERTIFICATES: [&str; 9] = [
-    "admit",
-    "admitted",
-    "check",
-    "search",
-    "certificate",
-    "disprove",
-    "certificates",
-    "certificates-hex",
-    "rewritten",
-];
-
-/// The answer to a line of this kind. One that is neither about routing nor about certificates is about the wire.
-fn answer(rt: &HostRuntime, kind: &str, asked: &str) -> Result<String, Unanswered> {
-    if OF_ROUTING.contains(&kind) {
-        routing_lines::answer(rt, kind, asked)
-    } else if OF_CERTIFICATES.contains(&kind) {
-        certificate_lines::answer(rt, kind, asked)
-    } else {
-        wire_lines::answer(rt.alloc(), kind, asked)
+/// Answers a line of this kind. One that is neither about routing nor about certificates is about the wire.
+fn put_answer(out: &mut Answer, rt: &HostRuntime, kind: &str, asked: &str) {
+    if !routing::answer(out, rt, kind, asked) && !certificates::answer(out, rt, kind, asked) {
+        wire::answer(out, kind, asked);
     }
 }
 
@@ -73,11 +37,13 @@ fn is_wanted(
 
 /// Whether a line with these parts is answered as it wants.
 fn is_answered(rt: &HostRuntime, file: &str, line: &str, parts: Parts<'_>) -> io::Result<bool> {
-    match answer(rt, parts.kind, parts.asked) {
-        Ok(got) => is_wanted(rt, file, line, got.as_str(), parts.wanted),
-        Err(Unanswered::Form) => differs(rt, file, line, "has no answer: its form"),
-        Err(Unanswered::File) => differs(rt, file, line, "has no answer: its file"),
-        Err(Unanswered::Memory) => differs(rt, file, line, "has no answer: memory"),
+    let mut answer = Answer::new(rt.alloc());
+    put_answer(&mut answer, rt, parts.kind, parts.asked);
+    match answer.lack() {
+        None => is_wanted(rt, file, line, answer.text(), parts.wanted),
+        Some(Unanswered::Form) => differs(rt, file, line, "has no answer: its form"),
+        Some(Unanswered::File) => differs(rt, file, line, "has no answer: its file"),
+        Some(Unanswered::Memory) => differs(rt, file, line, "has no answer: memory"),
     }
 }
 

@@ -1,0 +1,166 @@
+//! The files that lines name, and edits of them.
+//!
+//! A line `repeat FROM TO TEXT` of a file stands for TEXT once for each number from FROM up to TO, which is not among them,
+//! with commas between and the number in place of the first `%`, if it has one.
+
+use crate::answers::{Answer, Unanswered};
+use crate::words::{cut, number_of};
+use std::fs;
+
+/// Appends a text with a number in it, if it has a place for one.
+fn put_numbered(file: &mut Answer, text: &str, number: u32) {
+    match text.split_once('%') {
+        Some((before, after)) => {
+            file.put(before);
+            file.put_number(u64::from(number));
+            file.put(after);
+        }
+        None => file.put(text),
+    }
+}
+
+/// Appends what `FROM TO TEXT` stands for.
+fn put_repeated(file: &mut Answer, repeat: &str) {
+    let (from, rest) = cut(file, repeat);
+    let (to, text) = cut(file, rest);
+    let from = number_of(file, from);
+    for number in from..number_of(file, to) {
+        if number > from {
+            file.put(",");
+        }
+        put_numbered(file, text, number);
+    }
+}
+
+/// Appends a line, written out if it is a repeat.
+fn put_line(file: &mut Answer, line: &str) {
+    match line.strip_prefix("repeat ") {
+        Some(repeat) => put_repeated(file, repeat),
+        None => file.put(line),
+    }
+    file.put("\n");
+}
+
+/// The text with its repeats written out.
+fn written_out(out: &mut Answer, text: &str) -> String {
+    let mut file = Answer::new(out.alloc());
+    for line in text.lines() {
+        put_line(&mut file, line);
+    }
+    file.into_part_of(out)
+}
+
+/// The file of this name, its repeats written out. `File` says that it is not there.
+pub fn file_of(out: &mut Answer, rt: &HostRuntime, name: &str) -> String {
+    match fs::read_to_string(rt, name) {
+        Ok(text) => written_out(out, text.as_str()),
+        Err(_) => {
+            out.fail(Unanswered::File);
+            String::new(out.alloc())
+        }
+    }
+}
+
+/// What an edit takes out, and what it puts in its place.
+fn old_and_new<'a>(out: &mut Answer, edit: &'a str) -> (&'a str, &'a str) {
+    match edit.split_once(" =>") {
+        Some((old, new)) => (old, new.strip_prefix(' ').unwrap_or(new)),
+        None => {
+            out.fail(Unanswered::Form);
+            ("", "")
+        }
+    }
+}
+
+/// Appends the text with `new` at the first place where `old` stands. `File` says that it stands nowhere.
+fn put_edited(file: &mut Answer, text: &str, old: &str, new: &str) {
+    match text.split_once(old) {
+        Some((before, after)) => {
+            file.put(before);
+            file.put(new);
+            file.put(after);
+        }
+        None => file.fail(Unanswered::File),
+    }
+}
+
+/// The text with `OLD => NEW` done at the first place where OLD stands.
+fn edited_once(out: &mut Answer, text: &str, edit: &str) -> String {
+    let (old, new) = old_and_new(out, edit);
+    let mut file = Answer::new(out.alloc());
+    put_edited(&mut file, text, old, new);
+    file.into_part_of(out)
+}
+
+/// The text with these edits, one after another.
+fn edited(out: &mut Answer, text: String, edits: &str) -> String {
+    let mut text = text;
+    for edit in edits.split(" | ") {
+        text = edited_once(out, text.as_str(), edit);
+    }
+    text
+}
+
+/// The file that `FILE | OLD => NEW | OLD => NEW` names, with its edits. `File` says that it is not there, or has no place
+/// where an edit's OLD stands.
+pub fn source_of(out: &mut Answer, rt: &HostRuntime, asked: &str) -> String {
+    match asked.split_once(" | ") {
+        None => file_of(out, rt, asked),
+        Some((name, edits)) => {
+            let text = file_of(out, rt, name);
+            edited(out, text, edits)
+        }
+    }
+}
+
+/// Does an edit in the last text in which its OLD stands.
+fn edit_last(out: &mut Answer, texts: &mut [String], edit: &str) {
+    let (old, _) = old_and_new(out, edit);
+    for text in texts.iter_mut().rev() {
+        if text.contains(old) {
+            *text = edited_once(out, text.as_str(), edit);
+            return;
+        }
+    }
+    out.fail(Unanswered::File);
+}
+
+/// Appends the file of this name.
+fn put_file(out: &mut Answer, rt: &HostRuntime, files: &mut Vec<String>, name: &str) {
+    let file = file_of(out, rt, name);
+    if files.push(file).is_err() {
+        out.fail(Unanswered::Memory);
+    }
+}
+
+/// The files of these names, with edits if there are some, each of the last file in which its OLD stands.
+pub fn sources_of(
+    out: &mut Answer,
+    rt: &HostRuntime,
+    names: &[&str],
+    edits: Option<&str>,
+) -> Vec<String> {
+    let mut files = Vec::new(out.alloc());
+    for name in names {
+        put_file(out, rt, &mut files, name);
+    }
+    if let Some(edits) = edits {
+        edit_all(out, files.as_mut_slice(), edits);
+    }
+    files
+}
+
+/// Does edits one after another.
+fn edit_all(out: &mut Answer, texts: &mut [String], edits: &str) {
+    for edit in edits.split(" | ") {
+        edit_last(out, texts, edit);
+    }
+}
+
+/// What a line names, and its edits if it has some.
+pub fn named_and_edits(asked: &str) -> (&str, Option<&str>) {
+    match asked.split_once(" | ") {
+        Some((named, edits)) => (named, Some(edits)),
+        None => (asked, None),
+    }
+}

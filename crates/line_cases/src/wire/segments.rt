@@ -1,0 +1,64 @@
+//! Lines about frames.
+
+use crate::answers::{Answer, Unanswered};
+use crate::hex_words::bytes_of;
+use crate::words::cut;
+use frame::{Frame, Read, read_frame, write_frame};
+
+/// The longest payload that stands in a line, in bytes.
+const LONGEST: usize = 131_072;
+
+/// Appends what a frame of so many bytes has.
+fn put_whole(out: &mut Answer, frame: &Frame<'_>, size: usize) {
+    out.put_number(size as u64);
+    out.put(" bytes, type ");
+    out.put_number(u64::from(frame.kind));
+    out.put(", channel ");
+    out.put_number(u64::from(frame.channel));
+    if !frame.payload.is_empty() {
+        out.put(", payload ");
+        out.put_hex(frame.payload);
+    }
+}
+
+/// Appends what stands at the front of the bytes: a frame, `more`, or the reply code.
+pub fn put_front(out: &mut Answer, bytes: &[u8]) {
+    match read_frame(bytes, 4096) {
+        Read::Whole(frame, size) => put_whole(out, &frame, size),
+        Read::More => out.put("more"),
+        Read::Fault(code) => out.put_number(u64::from(code)),
+    }
+}
+
+/// Appends a frame in hex. `Form` says that its payload is too long for a line.
+pub fn put_frame(out: &mut Answer, frame: &Frame<'_>) {
+    if frame.payload.len() > LONGEST {
+        return out.fail(Unanswered::Form);
+    }
+    let mut bytes = Vec::new(out.alloc());
+    match write_frame(&mut bytes, frame) {
+        Ok(()) => out.put_hex(bytes.as_slice()),
+        Err(_) => out.fail(Unanswered::Memory),
+    }
+}
+
+/// Appends the frame of a type, a channel and a payload.
+pub fn put_written(out: &mut Answer, asked: &str) {
+    let (kind, rest) = cut(out, asked);
+    let (channel, payload) = cut(out, rest);
+    let payload = bytes_of(out, payload);
+    match (kind.parse::<u8>(), channel.parse::<u16>()) {
+        (Ok(kind), Ok(channel)) => {
+            let payload = payload.as_slice();
+            put_frame(
+                out,
+                &Frame {
+                    kind,
+                    channel,
+                    payload,
+                },
+            );
+        }
+        _ => out.fail(Unanswered::Form),
+    }
+}

@@ -1,0 +1,251 @@
+//! Lines about streams of frames.
+
+use super::segments::put_frame;
+use crate::answers::{Answer, Unanswered};
+use crate::hex_words::bytes_of;
+use assembly::{Fault, Stream};
+use frame::Frame;
+use headers::write_header;
+use methods::write_method;
+use model::{Command, Content, Method};
+
+/// How many commands are taken at a time, at most.
+const MOST: u8 = 100;
+
+/// What a stream gave when it was asked for its next command.
+#[derive(Clone, Copy, Drop)]
+enum Took {
+    Command,
+    Nothing,
+    Fault,
+}
+
+/// Appends the frame of a method.
+fn put_method(out: &mut Answer, channel: u16, method: &Method) {
+    let mut payload = Vec::new(out.alloc());
+    if write_method(&mut payload, method).is_err() {
+        return out.fail(Unanswered::Form);
+    }
+    let payload = payload.as_slice();
+    put_frame(
+        out,
+        &Frame {
+            kind: 1,
+            channel,
+            payload,
+        },
+    );
+}
+
+/// Appends the frame of a content's header.
+fn put_header(out: &mut Answer, channel: u16, content: &Content) {
+    let mut payload = Vec::new(out.alloc());
+    let size = content.body.len() as u64;
+    if write_header(&mut payload, size, &content.properties).is_err() {
+        return out.fail(Unanswered::Form);
+    }
+    let payload = payload.as_slice();
+    put_frame(
+        out,
+        &Frame {
+            kind: 2,
+            channel,
+            payload,
+        },
+    );
+}
+
+/// Appends a body in one frame, if it has bytes.
+fn put_body(out: &mut Answer, channel: u16, content: &Content) {
+    let payload = content.body.as_bytes();
+    if !payload.is_empty() {
+        put_frame(
+            out,
+            &Frame {
+                kind: 3,
+                channel,
+                payload,
+            },
+        );
+    }
+}
+
+/// Appends the frames of a publish and its content.
+fn put_publish(out: &mut Answer, channel: u16, publish: &Method, content: &Content) {
+    put_method(out, channel, publish);
+    put_header(out, channel, content);
+    put_body(out, channel, content);
+}
+
+/// Appends that a content is too large.
+fn put_too_large(out: &mut Answer, channel: u16) {
+    out.put("too large on ");
+    out.put_number(u64::from(channel));
+}
+
+/// Appends a command as it is spelled.
+fn put_command(out: &mut Answer, command: Command) {
+    match command {
+        Command::Plain { channel, method } => put_method(out, channel, &method),
+        Command::Full {
+            channel,
+            publish,
+            content,
+        } => put_publish(out, channel, &Method::BasicPublish(publish), &content),
+        Command::TooLarge { channel } => put_too_large(out, channel),
+    }
+}
+
+/// Appends a fault by its reply code.
+fn put_fault(out: &mut Answer, fault: Fault) {
+    match fault {
+        Fault::Broken(code) => out.put_number(u64::from(code)),
+        Fault::Memory => out.fail(Unanswered::Memory),
+    }
+}
+
+/// Appends the next command, or the fault that stands in its place.
+fn take_one(out: &mut Answer, stream: &mut Stream) -> Took {
+    match stream.next() {
+        Ok(None) => Took::Nothing,
+        Ok(Some(command)) => {
+            put_command(out, command);
+            Took::Command
+        }
+        Err(fault) => {
+            put_fault(out, fault);
+            Took::Fault
+        }
+    }
+}
+
+/// Appends the commands that are there, and a fault behind them. Tells whether there is none.
+fn take_all(out: &mut Answer, stream: &mut Stream) -> bool {
+    for _ in 0..MOST {
+        match take_one(out, stream) {
+            Took::Command => {}
+            Took::Nothing => return true,
+            Took::Fault => return false,
+        }
+    }
+    out.fail(Unanswered::Form);
+    false
+}
+
+/// Hands a piece to a stream.
+fn feed(out: &mut Answer, stream: &mut Stream, piece: &[u8]) {
+    if stream.feed(piece).is_err() {
+        out.fail(Unanswered::Memory);
+    }
+}
+
+/// Hands the pieces of one group to a stream.
+fn feed_group(out: &mut Answer, stream: &mut Stream, group: &str) {
+    for piece in group.split(" + ") {
+        let bytes = bytes_of(out, piece);
+        feed(out, stream, bytes.as_slice());
+    }
+}
+
+/// Appends what is said after a group.
+fn put_said(out: &mut Answer, stream: &mut Stream) {
+    let before = out.len();
+    let is_sound = take_all(out, stream);
+    if out.len() == before {
+        out.put("nothing");
+    }
+    let left = stream.unread();
+    if is_sound && left > 0 {
+        out.put(", ");
+        out.put_number(left as u64);
+        out.put(" left");
+    }
+}
+
+/// Appends what is said after one more group.
+fn put_group(out: &mut Answer, stream: &mut Stream, group: &str) {
+    feed_group(out, stream, group);
+    if out.len() != 0 {
+        out.put(" / ");
+    }
+    put_said(out, stream);
+}
+
+/// Appends what is said after each group of pieces.
+pub fn put_stream(out: &mut Answer, asked: &str) {
+    let mut stream = Stream::running(out.alloc());
+    for group in asked.split(" / ") {
+        put_group(out, &mut stream, group);
+    }
+}
+
+/// Appends the commands that are there once a piece was heard.
+fn hear(out: &mut Answer, stream: &mut Stream, piece: &[u8]) {
+    feed(out, stream, piece);
+    take_all(out, stream);
+}
+
+/// The commands of two pieces.
+fn heard(out: &mut Answer, first: &[u8], second: &[u8]) -> String {
+    let mut stream = Stream::running(out.alloc());
+    let mut said = Answer::new(out.alloc());
+    hear(&mut said, &mut stream, first);
+    hear(&mut said, &mut stream, second);
+    said.into_part_of(out)
+}
+
+/// The commands of single bytes.
+fn heard_by_bytes(out: &mut Answer, bytes: &[u8]) -> String {
+    let mut stream = Stream::running(out.alloc());
+    let mut said = Answer::new(out.alloc());
+    for byte in bytes {
+        hear(&mut said, &mut stream, &[*byte]);
+    }
+    said.into_part_of(out)
+}
+
+/// The place of a cut in two at which the commands are others, if there is one.
+fn odd_cut(out: &mut Answer, bytes: &[u8], whole: &str) -> Option<usize> {
+    for cut in 0..bytes.len() {
+        let (first, second) = bytes.split_at(cut);
+        if heard(out, first, second).as_str() != whole {
+            return Some(cut);
+        }
+    }
+    None
+}
+
+/// Appends `read`, where the commands are spelled as the bytes are, and else the commands.
+fn put_spelled_again(out: &mut Answer, bytes: &[u8], whole: &str) {
+    let mut given = Answer::new(out.alloc());
+    given.put_hex(bytes);
+    let given = given.into_part_of(out);
+    out.put(if given.as_str() == whole {
+        "read"
+    } else {
+        whole
+    });
+}
+
+/// Appends the commands of the bytes, or at which place they are others if the bytes are cut there.
+fn put_uncut(out: &mut Answer, bytes: &[u8], whole: &str) {
+    match odd_cut(out, bytes, whole) {
+        Some(cut) => {
+            out.put("others when cut behind byte ");
+            out.put_number(cut as u64);
+        }
+        None => put_spelled_again(out, bytes, whole),
+    }
+}
+
+/// Appends the commands of the bytes, whole, in single bytes and cut in two at every place: `read`, where they are spelled
+/// as the bytes are.
+pub fn put_commands(out: &mut Answer, bytes: &[u8]) {
+    let whole = heard(out, bytes, &[]);
+    let single = heard_by_bytes(out, bytes);
+    if single.as_str() == whole.as_str() {
+        put_uncut(out, bytes, whole.as_str());
+    } else {
+        out.put("others in single bytes");
+    }
+}
