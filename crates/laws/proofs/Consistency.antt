@@ -1,10 +1,11 @@
 -- Whatever arrives, the world keeps what every world keeps.
 use Rattle.std.proofs.Common.{◌≡◌, ◌≢◌, ◌+◌, ℕ, List, [], ◌∷◌, Bool, true, false, cond, refl, sym, ap, subst, ◌∙◌}
-use Rattle.std.specs.Prelude.{◌&&◌, ◌==◌, not, MatchBool}
+use Rattle.std.specs.Prelude.{◌&&◌, ◌==◌, not}
 use Rattle.std.proofs.lemmas.Bool.{ne_eqb, eqb-true, eqb-false, false≢true}
-use Rattle.model.specs.Broker.{with_one}
+use Rattle.model.specs.Broker.{Broker, with_one}
 use Rattle.model.specs.State.{Config, State}
-use Rattle.model.specs.Run.{Happening}
+use Rattle.model.specs.Run.{Happening, AreCounted}
+use Rattle.model.specs.Sending.{AreCarried}
 use Rattle.model.specs.Commands.{Stream}
 use Rattle.model.specs.Arrivals.{World, Wire, new_world, is_over, is_paused, is_past_bound, is_gone, can_open, Same, Turns, Waits, Works, none_more, one_more, WorksOff, Takes_off, Opens, Loses, Answers, Plays, with_heard}
 use Rattle.model.specs.Consistent.{IsConsistent}
@@ -14,16 +15,26 @@ use Rattle.model.specs.declared.events.Event.TheVariants as event
 use Rattle.laws.specs.Consistency.{WorldsStayConsistent}
 use Rattle.laws.proofs.Counts.{from_either}
 use Rattle.laws.proofs.Balance.{run_counts}
+use Rattle.laws.proofs.Carried.{run_carries}
 use Rattle.laws.proofs.Linked.{Agrees, with_here, read_agrees, settled_agrees, step_agrees}
-use Rattle.laws.proofs.Plays.{told_turns, told_taken, told_opens, told_loses}
+use Rattle.laws.proofs.Plays.{Told, said_each, told_turns, told_taken, told_opens, told_loses}
 
 agreed : (w : World) → IsConsistent w → Agrees w.state.broker w.state.session (is_paused w)
 agreed w c = record { running = c.running; paused = c.paused }
 
+-- what happened leaves messages that were counted and can be given out
+record Messages (b : Broker) : Type 0 where
+  counted : AreCounted b
+  carried : AreCarried b
+
+told_messages : (hs : List Happening) (old new : World) → IsConsistent old → Told old hs new → Messages new.state.broker
+told_messages hs old new k t = record { counted = run_counts hs old.state new.state t.run k.counted; carried = run_carries hs old.state new.state (said_each old.config hs t.each) t.run k.carried }
+
 -- where nothing of the state changes, and no output
 pub consistent_same : (old new : World) → IsConsistent old → new.state ≡ old.state → ((d : ℕ) → (new.wire d).output ≡ (old.wire d).output) → IsConsistent new
 consistent_same old new k state outputs = record {
-  counted = subst (λ (z : State). Rattle.model.specs.Run.AreCounted z.broker) (sym state) k.counted;
+  counted = subst (λ (z : State). AreCounted z.broker) (sym state) k.counted;
+  carried = subst (λ (z : State). AreCarried z.broker) (sym state) k.carried;
   running = subst (λ (z : State). (c : ℕ) → Rattle.std.specs.Prelude.is_some (z.broker.connection c) ≡ Rattle.model.specs.Phases.is_running (z.session c).phase) (sym state) k.running;
   paused = λ c conn e. k.paused c conn (ap (λ (z : State). z.broker.connection c) (sym state) ∙ e) ∙ ap is_past_bound (sym (outputs c));
 }
@@ -47,7 +58,8 @@ turns_consistent old new c hs k t =
     read_agrees c (old.wire c).kept (old.wire c).stream t.next t.event old.config old.state p.mid p.h.sends p.h.notes (is_paused old) t.read (agreed old k) (is_awake_still (is_over old c) (is_paused old c) t.awake) p.happens.stepped in
     let after : Agrees new.state.broker new.state.session (is_paused new) =
     settled_agrees old.config p.mid new.state c (is_paused old c) (is_paused new c) p.rest (is_paused old) (is_paused new) p.settled mid refl refl (λ d ne. ap (λ (w : Wire). is_past_bound w.output) (p.others d ne)) in
-    record { counted = run_counts hs old.state new.state (told_turns old new c hs t).run k.counted; running = after.running; paused = after.paused }
+    let messages = told_messages hs old new k (told_turns old new c hs t) in
+    record { counted = messages.counted; carried = messages.carried; running = after.running; paused = after.paused }
 
 pub waits_consistent : (old new : World) (c : ℕ) → IsConsistent old → Waits old c new → IsConsistent new
 waits_consistent old new c k v = consistent_same old new k v.state (others_and_own old new c (λ d ne. ap (λ (w : Wire). w.output) (v.others d ne)) v.output)
@@ -64,7 +76,8 @@ takes_consistent old new c n hs k t =
     let after : Agrees new.state.broker new.state.session (is_paused new) =
     settled_agrees old.config old.state new.state c (is_paused old c) (is_paused new c) hs (is_paused old) (is_paused new) t.settled (agreed old k) refl refl
     (λ d ne. ap (λ (w : Wire). is_past_bound w.output) (t.wires d ∙ wire_changed old.wire c d _ ne)) in
-    record { counted = run_counts hs old.state new.state (told_taken c n old new hs t).run k.counted; running = after.running; paused = after.paused }
+    let messages = told_messages hs old new k (told_taken c n old new hs t) in
+    record { counted = messages.counted; carried = messages.carried; running = after.running; paused = after.paused }
 
 pub opens_consistent : (old new : World) (k : ℕ) (s : Stream) (hs : List Happening) → IsConsistent old → Opens old (event.Running (old.given + 1) 255 k) s hs new → IsConsistent new
 opens_consistent old new k s hs is o =
@@ -72,17 +85,19 @@ opens_consistent old new k s hs is o =
     let after : Agrees new.state.broker new.state.session (is_paused new) =
     step_agrees old.config old.state new.state (event.Running c 255 k) o.h.sends o.h.notes (is_paused old) (is_paused new) (agreed old is)
     (λ d ne. ap (λ (w : Wire). is_past_bound w.output) (o.wires d ∙ wire_changed old.wire c d _ ne)) (ap (λ (w : Wire). is_past_bound w.output) (o.wires c ∙ with_here old.wire c _)) o.happens.stepped in
-    record { counted = run_counts hs old.state new.state (told_opens old new c k s hs o).run is.counted; running = after.running; paused = after.paused }
+    let messages = told_messages hs old new is (told_opens old new c k s hs o) in
+    record { counted = messages.counted; carried = messages.carried; running = after.running; paused = after.paused }
 
 pub loses_consistent : (old new : World) (c : ℕ) (hs : List Happening) → IsConsistent old → Loses old c hs new → IsConsistent new
 loses_consistent old new c hs k o =
     let after : Agrees new.state.broker new.state.session (is_paused new) =
     step_agrees old.config old.state new.state (event.Lose c) o.h.sends o.h.notes (is_paused old) (is_paused new) (agreed old k)
     (λ d ne. ap (λ (w : Wire). is_past_bound w.output) (o.wires d ∙ wire_changed old.wire c d _ ne)) tt o.happens.stepped in
-    record { counted = run_counts hs old.state new.state (told_loses old new c hs o).run k.counted; running = after.running; paused = after.paused }
+    let messages = told_messages hs old new k (told_loses old new c hs o) in
+    record { counted = messages.counted; carried = messages.carried; running = after.running; paused = after.paused }
 
 pub new_is_consistent : (f : Config) → IsConsistent (new_world f)
-new_is_consistent f = record { counted = λ n q lt. refl; running = λ c. refl; paused = λ c conn e. absurd (false≢true (ap Rattle.std.specs.Prelude.is_some e)) }
+new_is_consistent f = record { counted = λ n q lt. refl; carried = λ q. tt; running = λ c. refl; paused = λ c conn e. absurd (false≢true (ap Rattle.std.specs.Prelude.is_some e)) }
 
 pub stay_consistent : WorldsStayConsistent
 stay_consistent = record {

@@ -52,7 +52,7 @@ at_queue P queues name entries here others q = go (bytes_eq name q) refl
 
 -- ---- lists of entries
 
-find_in : {A : Type 0} (p : A → Bool) (x : A) (xs : List A) → find p xs ≡ Some x → IsIn x xs × (p x ≡ true)
+pub find_in : {A : Type 0} (p : A → Bool) (x : A) (xs : List A) → find p xs ≡ Some x → IsIn x xs × (p x ≡ true)
 find_in p x [] e = absurd (false≢true (ap Rattle.std.specs.Prelude.is_some e))
 find_in {A = A} p x (y ∷ ys) e = go (p y) refl (find_in p x ys) e
   where

@@ -4,6 +4,9 @@ pub mod Leaving
 pub mod Agreement
 pub mod Agreed
 pub mod View
+pub mod Carried
+pub mod Sizes
+pub mod Sent
 pub mod Balance
 pub mod Once
 pub mod Acks

@@ -95,7 +95,7 @@ places hs old new r = places_from (notes_of hs) hs old new [] r refl (λ n lt. t
 -- a key that was said is short
 pub key_is_short : {t : Topology} {old new : Broker} {e : Event} {sends : List Send} {notes : List Note} (p : Publishes t old new e sends notes) → IsSaid e → length p.publish.routing_key ≤ 255
 key_is_short p said =
-    let m : IsMethod (BasicPublish p.publish) = subst IsSaid p.event said in
+    let m : IsMethod (BasicPublish p.publish) = (subst IsSaid p.event said).0 in
     let short : length p.publish.routing_key < 256 = m.1.1.0 in
     omega arith
 

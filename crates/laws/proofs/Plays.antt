@@ -57,6 +57,10 @@ pub record IsTold (f : Config) (h : Happening) : Type 0 where
   pub said : IsSaid h.event
   pub put : IsPut h
 
+pub said_each : (f : Config) (hs : List Happening) → AllByRecursion (IsTold f) hs → AllByRecursion (λ (h : Happening). IsSaid h.event) hs
+said_each f [] a = tt
+said_each f (h ∷ hs) a = (a.0.said, said_each f hs a.1)
+
 pub record Told (old : World) (hs : List Happening) (new : World) : Type 0 where
   pub run : Run old.state hs new.state
   pub each : AllByRecursion (IsTold old.config) hs

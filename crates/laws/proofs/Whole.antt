@@ -10,7 +10,7 @@ use Rattle.model.specs.Consistent.{IsConsistent}
 use Rattle.model.specs.State.{Config, State}
 use Rattle.model.specs.Run.{Happening, Run, sends_of, put_out, empty_state}
 use Rattle.model.specs.Spelling.{frames_of, send_bytes, spelling, receiver, sends_to}
-use Rattle.model.specs.Arrivals.{World, new_world, Turns, Plays, Shows, Shown, Seen, shown, IsSaid}
+use Rattle.model.specs.Arrivals.{World, new_world, Turns, Plays, Shows, Shown, Seen, shown}
 use Rattle.model.specs.Headline.{Ack, acks_in, IsSound, KeepsEvents, KeepsPromises, HasAcksOf, acked}
 use Rattle.model.specs.declared.events.Send.{Send}
 use Rattle.model.specs.declared.events.Send.TheVariants as send
@@ -18,17 +18,13 @@ use Rattle.model.specs.declared.events.Arrival.{Arrival}
 use Rattle.laws.specs.Promises.{ack_sent}
 use Rattle.laws.proofs.Counts.{all-append, filter_all}
 use Rattle.laws.proofs.Reading.{sent_acks, frames_each}
-use Rattle.laws.proofs.Plays.{AreCommandSends, IsPut, IsTold, told_turns, told_plays}
+use Rattle.laws.proofs.Plays.{AreCommandSends, IsPut, IsTold, said_each, told_turns, told_plays}
 use Rattle.laws.proofs.Never.{run_keeps}
 use Rattle.laws.proofs.Acks.{run_acks}
 
 sound_each : (f : Config) (hs : List Happening) → IsSound f → AllByRecursion (IsTold f) hs → AllByRecursion (λ (h : Happening). IsSound h.config) hs
 sound_each f [] s a = tt
 sound_each f (h ∷ hs) s a = (subst IsSound (sym a.0.under) s, sound_each f hs s a.1)
-
-said_each : (f : Config) (hs : List Happening) → AllByRecursion (IsTold f) hs → AllByRecursion (λ (h : Happening). IsSaid h.event) hs
-said_each f [] a = tt
-said_each f (h ∷ hs) a = (a.0.said, said_each f hs a.1)
 
 -- ---- the output of one connection, as frames
 

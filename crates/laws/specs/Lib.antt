@@ -6,3 +6,4 @@ pub mod Delivery
 pub mod Rows
 pub mod Consistency
 pub mod Agreeing
+pub mod Carrying

@@ -7,6 +7,7 @@
 ghost use Rattle.std.specs.Prelude.{◌≡◌};
 ghost use Rattle.laws.specs.Agreeing.{BrokersStayAgreed};
 ghost use Rattle.laws.specs.Alone.{SoundForWords};
+ghost use Rattle.laws.specs.Carrying.{MessagesStayCarried, SendsAreOwn};
 ghost use Rattle.laws.specs.Consistency.{PlaysStayConsistent, WorldsStayConsistent};
 ghost use Rattle.laws.specs.Delivery.{OneReading, HeadlineHolds, TurnsKeep};
 ghost use Rattle.laws.specs.OneStep.{EveryRunBalances, EveryRunCounts, EveryRunStays};
@@ -84,7 +85,7 @@ pub fn faults_stay()
 {}
 
 /// Whatever is done, the broker has the connections that run, knows those as paused whose output is past the bound, and
-/// holds messages of publishes alone that it counted.
+/// holds messages of publishes alone that it counted, each of which can be given out.
 pub fn worlds_stay_consistent()
     ensures worlds { WorldsStayConsistent }
     ensures plays { PlaysStayConsistent }
@@ -94,6 +95,17 @@ pub fn worlds_stay_consistent()
 /// own that is below the next one.
 pub fn brokers_stay_agreed()
     ensures { BrokersStayAgreed }
+{}
+
+/// Whatever happens, each message that stands in a queue can be given out: it is made of a publish whose content is not too
+/// large.
+pub fn messages_stay_carried()
+    ensures { MessagesStayCarried }
+{}
+
+/// What is sent at one event can be put out, and is spelled by 1,060,000 bytes at most.
+pub fn sends_can_be_put_out()
+    ensures { SendsAreOwn }
 {}
 
 /// A client reads an output in one way.

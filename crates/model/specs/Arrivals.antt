@@ -6,7 +6,7 @@ use Rattle.model.specs.State.{Config, State, Step}
 use Rattle.model.specs.Grammar.{IsMethod}
 use Rattle.model.specs.Run.{Happening, notes_of, put_out, empty_state}
 use Rattle.model.specs.Spelling.{spelling, receiver, IsSpelled}
-use Rattle.model.specs.Commands.{Stream, Yields, Ends, GoesOn, running_stream, heard}
+use Rattle.model.specs.Commands.{Stream, Yields, Ends, GoesOn, HasWithin, running_stream, heard}
 use Rattle.model.specs.declared.events.Phase.{Phase}
 use Rattle.model.specs.declared.events.Phase.TheVariants as phase
 use Rattle.model.specs.declared.events.Command.{Command}
@@ -99,9 +99,9 @@ pub data SameToCome : Option Command → Stream → Option Command → Stream �
   waits : {s new : Stream} → GoesOn s new → SameToCome None s None new
   kept : {m : Command} {s next : Stream} → Yields s m next → SameToCome None s (Some m) next
 
--- a command of a connection is a method that has a spelling
+-- a command of a connection is a method that has a spelling, and its content is not too large
 abbrev pub IsSaid : Event → Type 0
-IsSaid (event.Command c h m content) = IsMethod m
+IsSaid (event.Command c h m content) = IsMethod m × HasWithin content
 IsSaid e = Unit {0}
 
 -- ---- events

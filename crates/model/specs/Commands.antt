@@ -1,11 +1,12 @@
 -- What the bytes of one connection say: frames, and contents put together per channel.
 -- Source: AMQP 0-9-1, section 4.2.6, "Content Framing", and section 2.3.5, "Frame Details".
-use Rattle.std.specs.Prelude.{◌≡◌, ℕ, List, [], ◌∷◌, ◌++◌, length, Bool, nat_lt, ◌==◌, ◌+◌, ◌&&◌, ◌||◌, not, if◌then◌else◌, Option, Some, None, Result, Ok, Err, MatchBool}
+use Rattle.std.specs.Prelude.{◌≡◌, ◌≤◌, ℕ, List, [], ◌∷◌, ◌++◌, length, Bool, nat_lt, ◌==◌, ◌+◌, ◌&&◌, ◌||◌, not, if◌then◌else◌, Option, Some, None, Result, Ok, Err, MatchBool}
 use Rattle.model.specs.Words.{Text}
 use Rattle.model.specs.Broker.{with_one}
 use Rattle.model.specs.Frames.{Frame, Begins, IsBroken}
 use Rattle.model.specs.Grammar.{IsMethod, SaysMethod}
-use Rattle.model.specs.Headers.{Header, SaysSize, SaysHeader}
+use Rattle.model.specs.Headers.{Header, AreProperties, header_bytes, SaysSize, SaysHeader}
+use Rattle.model.specs.declared.contents.Content.{Content}
 use Rattle.model.specs.declared.contents.Fields.{Fields as Properties}
 use Rattle.model.specs.declared.events.Command.{Command}
 use Rattle.model.specs.declared.events.Command.TheVariants.{Plain, Full, TooLarge}
@@ -37,6 +38,17 @@ most_header = 3400
 -- a header of this payload, which declares so many bytes, has a content that is too large (own)
 abbrev pub is_too_large : List ℕ → ℕ → Bool
 is_too_large payload size = nat_lt most_body size || nat_lt most_header (length payload)
+
+-- a content that is not too large: its properties have a spelling, and neither its body nor the payload of its header is larger than what is taken
+pub record IsWithin (content : Content) : Type 0 where
+  pub properties : AreProperties content.properties
+  pub body : length content.body ≤ most_body
+  pub header : length (header_bytes (length content.body) content.properties) ≤ most_header
+
+-- where there is a content, it is not too large
+abbrev pub HasWithin : Option Content → Type 0
+HasWithin None = Unit {0}
+HasWithin (Some content) = IsWithin content
 
 -- what a frame does: its channel goes on with this pending, a command is complete, or the stream breaks with a reply code
 pub data Taken : Type 0 where
@@ -162,8 +174,8 @@ running_stream = record { max = 131072; pending = λ h. Nothing; unread = [] }
 abbrev pub heard : Stream → List ℕ → Stream
 heard s bytes = record s { unread = s.unread ++ bytes }
 
--- the command, if it has a method, is made of one that has a spelling
+-- the command, if it has a method, is made of one that has a spelling, and its content is not too large
 abbrev pub IsCommand : Command → Type 0
 IsCommand (Plain h m) = IsMethod m
-IsCommand (Full h p content) = IsMethod (BasicPublish p)
+IsCommand (Full h p content) = IsMethod (BasicPublish p) × IsWithin content
 IsCommand (TooLarge h) = Unit {0}

@@ -4,11 +4,14 @@ use Rattle.model.specs.Broker.{Connection}
 use Rattle.model.specs.Phases.{is_running}
 use Rattle.model.specs.Run.{AreCounted}
 use Rattle.model.specs.Arrivals.{World, is_paused}
+use Rattle.model.specs.Sending.{AreCarried}
 
--- Three truths that stand in two places each:
+-- What stands in two places is the same in both, and what stands in a queue can be sent:
 pub record IsConsistent (w : World) : Type 0 where
   -- a message in a queue is of a publish that was counted
   pub counted : AreCounted w.state.broker
+  -- and can be given out
+  pub carried : AreCarried w.state.broker
   -- a connection is one of the broker's exactly while its phase is Running
   pub running : (c : ℕ) → is_some (w.state.broker.connection c) ≡ is_running (w.state.session c).phase
   -- and the broker knows it as paused exactly where its output is past the bound

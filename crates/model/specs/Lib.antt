@@ -21,6 +21,7 @@ pub mod Commands
 pub mod Codes
 pub mod Step
 pub mod Spelling
+pub mod Sending
 pub mod Phases
 pub mod State
 pub mod Run

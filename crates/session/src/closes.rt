@@ -1,20 +1,27 @@
 //! The closes that a session sends.
 
-ghost use Rattle.std.specs.Prelude.{◌≡◌, ◌<◌, ◌≤◌, ℕ, true, [], ◌∷◌, length, IfOk};
+ghost use Rattle.std.specs.Prelude.{◌≡◌, ◌≤◌, ℕ, [], ◌∷◌, length, IfOk};
 ghost use Rattle.model.specs.Grammar.{ids, IsMethod, method_bytes};
+ghost use Rattle.model.specs.Sending.{AreOwn};
 ghost use Rattle.model.specs.Step.{reply, connection_close};
-ghost use Rattle.session.specs.Replies.{AreReplies, is_answer};
 
 use model::{Close, Method, Send, reply_text};
 use std::alloc::{AllocError, Global};
 
+/// Nothing at all. It takes no memory.
+pub(crate) fn nothing(alloc: Global) -> Vec<Send>
+    ensures sends { result.items ≡ [] }
+    ensures own { (c : ℕ) → AreOwn c result.items }
+{
+    Vec::new(alloc)
+}
+
 /// One method on channel 0, which carries no content.
 pub(crate) fn one(alloc: Global, connection: u64, method: Method) -> Result<Vec<Send>, AllocError>
-    requires answer { is_answer method ≡ true }
     requires spelled { IsMethod method }
     requires size { length (method_bytes method) ≤ 4088 }
     ensures sends { IfOk result (λ sends. sends.items ≡ reply connection 0 method ∷ []) }
-    ensures short { IfOk result (λ sends. AreReplies connection sends.items) }
+    ensures own { IfOk result (λ sends. AreOwn connection sends.items) }
 {
     let mut sends = Vec::new(alloc);
     sends.push(Send::Command {
@@ -29,7 +36,6 @@ pub(crate) fn one(alloc: Global, connection: u64, method: Method) -> Result<Vec<
 /// connection.close with this reply code, which no method caused.
 pub(crate) fn close(code: u16) -> Method
     ensures close { (c : ℕ) → reply c 0 result ≡ connection_close c code (ids 0 0) }
-    ensures answer { is_answer result ≡ true }
     ensures spelled { IsMethod result }
     ensures size { length (method_bytes result) ≤ 4088 }
 {

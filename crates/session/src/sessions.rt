@@ -5,7 +5,7 @@ ghost use Rattle.model.specs.Phases.{after_sends};
 ghost use Rattle.model.specs.Phases as said;
 ghost use Rattle.model.specs.declared.events.Send as sent;
 
-use crate::closes::{close, one};
+use crate::closes::{close, nothing, one};
 use model::{Method, Phase, Publish, Send, Text};
 use std::alloc::{AllocError, Global};
 use std::marker::Model;
@@ -69,7 +69,7 @@ impl Session {
     ghost use Rattle.model.specs.Arrivals.{is_ended};
     ghost use Rattle.model.specs.Step.{empty_publish};
     ghost use Rattle.model.specs.declared.events.Phase.TheVariants as phase;
-    ghost use Rattle.session.specs.Replies.{AreReplies};
+    ghost use Rattle.model.specs.Sending.{AreOwn};
 
     /// One that runs at once, with channels up to 255 and frames of at most 131,072 bytes.
     pub fn running() -> Session
@@ -137,22 +137,22 @@ impl Session {
         channel: u16,
         method: &Method,
     ) -> Result<Vec<Send>, AllocError>
-        ensures short { IfOk result (λ sends. AreReplies connection sends.items) }
+        ensures own { IfOk result (λ sends. AreOwn connection sends.items) }
         ensures quiet { (answer connection self.old self.old.phase channel method.now).sends ≡ [] → IsOk result }
         ensures sends { IfOk result (λ sends. sends.items ≡ (answer connection self.old self.old.phase channel method.now).sends) }
         ensures ok { OnOk result (self.new ≡ (answer connection self.old self.old.phase channel method.now).next) }
         ensures err { OnErr result (self.new ≡ self.old) }
     {
         if !matches!(self.phase, Phase::Closing) || channel != 0 {
-            return Ok(Vec::new(alloc));
+            return Ok(nothing(alloc));
         }
         match method {
             Method::ConnectionClose(_) => one(alloc, connection, Method::ConnectionCloseOk),
             Method::ConnectionCloseOk => {
                 self.end();
-                Ok(Vec::new(alloc))
+                Ok(nothing(alloc))
             }
-            _ => Ok(Vec::new(alloc)),
+            _ => Ok(nothing(alloc)),
         }
     }
 
@@ -164,7 +164,7 @@ impl Session {
         connection: u64,
         channel: u16,
     ) -> Result<Vec<Send>, AllocError>
-        ensures short { IfOk result (λ sends. AreReplies connection sends.items) }
+        ensures own { IfOk result (λ sends. AreOwn connection sends.items) }
         ensures always { IsOk result }
         ensures sends { IfOk result (λ sends. sends.items ≡ (answer connection self.old self.old.phase channel empty_publish).sends) }
         ensures ok { OnOk result (self.new ≡ (answer connection self.old self.old.phase channel empty_publish).next) }
@@ -193,7 +193,7 @@ impl Session {
         connection: u64,
         code: u16,
     ) -> Result<Vec<Send>, AllocError>
-        ensures short { IfOk result (λ sends. AreReplies connection sends.items) }
+        ensures own { IfOk result (λ sends. AreOwn connection sends.items) }
         ensures quiet { (faulted connection self.old self.old.phase code).sends ≡ [] → IsOk result }
         ensures sends { IfOk result (λ sends. sends.items ≡ (faulted connection self.old self.old.phase code).sends) }
         ensures ok { OnOk result (self.new ≡ (faulted connection self.old self.old.phase code).next) }
@@ -202,9 +202,9 @@ impl Session {
         match self.phase {
             Phase::Closing => {
                 self.end();
-                Ok(Vec::new(alloc))
+                Ok(nothing(alloc))
             }
-            Phase::Over => Ok(Vec::new(alloc)),
+            Phase::Over => Ok(nothing(alloc)),
             _ => {
                 let sends = one(alloc, connection, close(code))?;
                 self.end();

@@ -1,0 +1,53 @@
+-- What may be sent at one event, and which messages may stand in queues so that each can be given out (own).
+use Rattle.std.specs.Prelude.{◌≡◌, ◌≤◌, ◌<◌, ◌^◌, ℕ, List, length}
+use Rattle.std.specs.List.{AllByRecursion}
+use Rattle.model.specs.Words.{Text}
+use Rattle.model.specs.Grammar.{IsMethod, method_bytes}
+use Rattle.model.specs.Message.{Message}
+use Rattle.model.specs.Broker.{Broker}
+use Rattle.model.specs.Commands.{IsWithin, HasWithin}
+use Rattle.model.specs.Spelling.{spelling}
+use Rattle.model.specs.declared.messages.Entry.{Entry}
+use Rattle.model.specs.declared.events.Send.{Send}
+use Rattle.model.specs.declared.events.Send.TheVariants.{Greeting, Command}
+
+-- ---- messages
+
+-- a message that can be given out: its exchange and its key have a spelling, and its content is not too large
+pub record IsCarried (m : Message) : Type 0 where
+  pub exchange : length m.exchange < 256
+  pub key : length m.key < 256
+  pub content : IsWithin m.content
+
+-- each message that stands in a queue can be given out
+abbrev pub AreCarried : Broker → Type 0
+AreCarried b = (q : Text) → AllByRecursion (λ (e : Entry). IsCarried e.message) (b.queue q)
+
+-- ---- sends
+
+-- the most bytes that the sends of one event are spelled by (own)
+abbrev pub most_sent : ℕ
+most_sent = 1060000
+
+-- the longest payload of a method that fits the least frame, of 4,096 bytes
+abbrev pub most_method : ℕ
+most_method = 4088
+
+-- it goes to connection c, on a channel that a frame can name, and its method has a spelling; of its content nothing is said
+abbrev pub IsAddressed : ℕ → Send → Type 0
+IsAddressed c (Greeting d) = d ≡ c
+IsAddressed c (Command d h m content) = (d ≡ c) × (h < 2 ^ 16) × IsMethod m
+
+-- its method fits the least frame, and its content is not too large
+abbrev pub IsFitting : Send → Type 0
+IsFitting (Greeting d) = Unit {0}
+IsFitting (Command d h m content) = (length (method_bytes m) ≤ most_method) × HasWithin content
+
+-- it can be put out for connection c, whatever size of frames is agreed on
+abbrev pub IsOwn : ℕ → Send → Type 0
+IsOwn c s = IsAddressed c s × IsFitting s
+
+-- Each of them can be put out for connection c, and all together are spelled by few enough bytes, whatever size of frames is agreed on.
+pub record AreOwn (c : ℕ) (sends : List Send) : Type 0 where
+  pub each : AllByRecursion (IsOwn c) sends
+  pub size : (max : ℕ) → 4096 ≤ max → length (spelling max sends) ≤ most_sent
