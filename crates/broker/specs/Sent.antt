@@ -1,5 +1,5 @@
 -- What is said of every send: whom it goes to, and that it can be spelled.
-use Rattle.std.specs.Prelude.{◌≡◌, ◌<◌, ◌^◌, ℕ, List, Option, None}
+use Rattle.std.specs.Prelude.{◌≡◌, ◌<◌, ◌^◌, ℕ, List, None}
 use Rattle.std.specs.List.{AllByRecursion}
 use Rattle.model.specs.Grammar.{IsMethod}
 use Rattle.model.specs.declared.events.Send.{Send}

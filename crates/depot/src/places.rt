@@ -37,12 +37,7 @@ pub(crate) fn take_first_at(queues: &mut [Queue], place: usize) -> Option<Entry>
 }
 
 /// Makes the message ready again that is held under this tag. Tells whether there is one.
-pub(crate) fn release_at(
-    queues: &mut [Queue],
-    place: usize,
-    holder: &Holder,
-    arrival: u64,
-) -> bool
+pub(crate) fn release_at(queues: &mut [Queue], place: usize, holder: &Holder, arrival: u64) -> bool
     requires { place < length queues.old }
     ensures told { result ≡ is_some (find (is_held_as holder.now) (slice_index_or (entries_of queues.old) place [])) }
     ensures entries { entries_of queues.new ≡ slice_set (entries_of queues.old) place (requeued (is_under holder.now) (slice_index_or (entries_of queues.old) place [])) }
