@@ -1,13 +1,15 @@
 -- What is decided of a command, from the first test that holds.
-use Rattle.std.proofs.Common.{◌≡◌, ◌≢◌, ◌<◌, ℕ, Bool, true, false, Option, Some, None, Result, arith, refl, subst, sym, nat_eq, nat_lt}
-use Rattle.std.proofs.lemmas.Grind.{common_steps}
+use Rattle.std.proofs.Common.{◌≡◌, ◌≢◌, ◌<◌, ℕ, Bool, true, false, ◌||◌, Option, Some, None, Result, arith, refl, subst, sym, ap, ◌∙◌, nat_eq, nat_lt, if◌then◌else◌}
+use Rattle.std.specs.Prelude.{◌==◌}
 use Rattle.std.proofs.lemmas.Bool.Decides.{nat_tests}
 use Rattle.model.specs.Topology.{Topology}
 use Rattle.model.specs.Broker.{Broker, Channel, Connection}
-use Rattle.model.specs.Step.{Refusal, is_awaiting, is_of_connection, refusal, refusal_while_closing, refusal_on_zero, refusal_on, refusal_of}
+use Rattle.model.specs.Step.{Refusal, Of_connection, greatest, is_spent, or_else, refusal_to, refusal_of_count, refusal_of_publish, is_awaiting, is_of_connection, refusal, refusal_while_closing, refusal_on_zero, refusal_of}
 use Rattle.model.specs.declared.methods.Method.{Method}
-use Rattle.broker.specs.Judged.{Judges}
+use Rattle.model.specs.declared.methods.Publish.{Publish}
+use Rattle.broker.specs.Judged.{Judges, HasChannel}
 use Rattle.broker.specs.declared.refusals.Refusal as declared
+use Rattle.broker.specs.declared.refusals.Refusal.TheVariants as refused
 use Rattle.broker.specs.declared.refusals.Act as wanted
 
 pub closing_judged : (t : Topology) (b : Broker) (conn : Connection) (h : ℕ) (m : Method) (r : Result wanted.Act declared.Refusal) (ch : Option Channel)
@@ -31,3 +33,17 @@ open_judged t b conn h m r k e z n l f =
     let within : nat_lt conn.channel_max h ≡ false = grind (arith, nat_tests) in
     let same : refusal t b conn h m (Some k) ≡ refusal_of t b k m = rw (e, zero, n, within) refl in
     subst (λ (x : Option Refusal). Judges t b (Some k) m x r) (sym same) f
+
+-- any refusal can be made on an open channel
+pub has_open : (r : declared.Refusal) (ch : Channel) → HasChannel r (Some ch)
+has_open refused.Ignored ch = tt
+has_open (refused.Channel code) ch = refl
+has_open (refused.Connection code) ch = tt
+
+-- what is neither immediate nor mandatory is refused for its exchange, then for its counters
+pub publish_judged : (t : Topology) (b : Broker) (ch : Channel) (p : Publish) (spent : Bool) → p.immediate || p.mandatory ≡ false → refusal_to t p.exchange ≡ None
+    → spent ≡ ((b.published == greatest) || is_spent ch.confirm) → refusal_of_publish t b ch p ≡ (if spent then Some (Of_connection 541) else None)
+publish_judged t b ch p spent flags to e =
+    ap (λ (x : Bool). if x then Some (Of_connection 540) else or_else (refusal_to t p.exchange) (refusal_of_count b ch)) flags
+    ∙ ap (λ (r : Option Refusal). or_else r (refusal_of_count b ch)) to
+    ∙ ap (λ (x : Bool). if x then Some (Of_connection 541) else None) (sym e)

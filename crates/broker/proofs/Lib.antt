@@ -1,3 +1,4 @@
 mod Exchanges
 mod Judging
+mod Opening
 mod Stepping

@@ -1,11 +1,12 @@
 -- What the parts of a step leave, as the model's state.
-use Rattle.std.proofs.Common.{◌≡◌, ◌+◌, ◌++◌, ◌∷◌, [], ℕ, zero, suc, List, Bool, true, false, ◌&&◌, ◌||◌, IsSome, Result, Ok, Err, Option, Some, None, map, length, replicate, refl, sym, ap, subst, ◌∙◌, if◌then◌else◌}
+use Rattle.std.proofs.Common.{◌≡◌, ◌+◌, ◌++◌, ◌∷◌, [], ℕ, zero, suc, List, Bool, true, false, ◌&&◌, ◌||◌, ◌==◌, IsSome, Result, Ok, Err, Option, Some, None, map, length, replicate, refl, sym, ap, subst, ◌∙◌, if◌then◌else◌}
+use Rattle.std.specs.Prelude.{option_map}
 use Rattle.std.proofs.lemmas.List.{append-nil}
 use Rattle.std.specs.Str.{bytes_eq}
 use Rattle.model.specs.Words.{Text}
 use Rattle.model.specs.Topology.{Topology, queue_names}
-use Rattle.model.specs.Broker.{Broker, Channel, Connection, listed, with_one, with_row}
-use Rattle.model.specs.Step.{Performs, Decides, OnConnection, Refusal, Ignored, Of_connection, Is, channel_or_new, refusal_of_publish, refusal_to, refusal_of_count, or_else, IsPublish, with_gone, with_freed, with_channel, refusal, refusal_of_large, next_of, confirm_sends, confirm_notes, answer_of, returned_sends, returned_notes, entry_notes, is_none, is_some_full}
+use Rattle.model.specs.Broker.{Broker, Channel, Connection, listed, with_one, with_row, with_pair}
+use Rattle.model.specs.Step.{Performs, Decides, OnConnection, Refusal, Ignored, Of_connection, Is, channel_or_new, refusal_of_publish, refusal_to, refusal_of_count, or_else, is_spent, greatest, IsPublish, with_gone, with_freed, with_channel, refusal, refusal_of_large, next_of, confirm_sends, confirm_notes, answer_of, returned_sends, returned_notes, entry_notes, is_none, is_some_full}
 use Rattle.model.specs.Entries.{freed, by_channel, by_connection}
 use Rattle.model.specs.declared.messages.Entry.{Entry}
 use Rattle.model.specs.declared.messages.Holder.{Holder}
@@ -19,8 +20,9 @@ use Rattle.model.specs.declared.notes.Way.TheVariants as way
 use Rattle.depot.specs.Store.{Store, with_requeued, queue_of}
 use Rattle.depot.specs.Publishing.{Publishes}
 use Rattle.depot.specs.declared.depots.Routed.{Routed}
-use Rattle.broker.specs.Links.{Linked, link_in, channel_in, limits_of, connection_at, channel_at, connection_of, channel_of, AreLinks, Puts}
-use Rattle.broker.specs.State.{Kept, broker_of, topology_of}
+use Rattle.channel.specs.Open.{Open, open_in}
+use Rattle.broker.specs.Links.{Linked, link_in, channel_seen, limits_of, connection_at, channel_at, connection_of, channel_of, seen_in, CanCount, AreLinks, Puts}
+use Rattle.broker.specs.State.{Kept, broker_of, topology_of, names_of}
 use Rattle.broker.specs.Judged.{seen, HasChannel, IsIgnored, IsLargeIgnored, Judges, JudgesOn, JudgesLarge}
 use Rattle.broker.specs.declared.refusals.Refusal as declared
 use Rattle.broker.specs.declared.refusals.Act as wanted
@@ -46,6 +48,27 @@ listed_requeued mine (name ∷ names) (entries ∷ lists) q = chosen (bytes_eq n
     chosen true x y x' y' e e' = e
     chosen false x y x' y' e e' = e'
 
+-- a channel that is seen through names is seen so in each case
+seen_if : (names : List Text) (b : Bool) (x y : Option Open) → option_map (open_in names) (if b then x else y) ≡ (if b then option_map (open_in names) x else option_map (open_in names) y)
+seen_if names true x y = refl
+seen_if names false x y = refl
+
+-- the same names, in another list that equals it
+seen_by : (names others : List Text) (o : Option Open) → others ≡ names → option_map (open_in others) o ≡ option_map (open_in names) o
+seen_by names others o e = ap (λ (z : List Text). option_map (open_in z) o) e
+
+-- one channel is another
+pub seen_put : (names others : List Text) (old new : List (ℕ × Linked)) (c h : ℕ) (ch : Option Open) → others ≡ names → Puts old c h ch new
+    → (d k : ℕ) → seen_in others new d k ≡ with_pair (seen_in names old) c h (option_map (open_in names) ch) d k
+seen_put names others old new c h ch e l d k =
+    seen_by names others (channel_of new d k) e ∙ ap (option_map (open_in names)) (l.channels d k) ∙ seen_if names (d == c && k == h) ch (channel_of old d k)
+
+-- the channels of one connection are gone
+pub seen_gone : (names others : List Text) (old new : List (ℕ × Linked)) (c : ℕ) → others ≡ names → ((d k : ℕ) → channel_of new d k ≡ with_row (channel_of old) c (λ h. None) d k)
+    → (d k : ℕ) → seen_in others new d k ≡ with_row (seen_in names old) c (λ h. None) d k
+seen_gone names others old new c e l d k =
+    seen_by names others (channel_of new d k) e ∙ ap (option_map (open_in names)) (l d k) ∙ seen_if names (d == c) None (channel_of old d k)
+
 -- a connection is gone, and what it held is requeued
 pub gone_is : (old new : Kept) (c : ℕ) → new.store ≡ with_requeued old.store (by_connection c)
     → AreLinks new.links (with_one (connection_of old.links) c None) (with_row (channel_of old.links) c (λ h. None))
@@ -54,51 +77,51 @@ gone_is old new c e l = record {
   counted = ap (λ (s : Store). s.published) e;
   queues = λ q. ap (λ (s : Store). queue_of s q) e ∙ listed_requeued (by_connection c) (queue_names old.store.topology.queues) old.store.queues q;
   connections = l.connections_are;
-  channels = l.channels_are;
+  channels = seen_gone (names_of old) (names_of new) old.links new.links c (ap (λ (s : Store). queue_names s.topology.queues) e) l.channels_are;
 }
 
 -- a channel is another, and what it held is requeued
-pub cleared_is : (old new : Kept) (c h : ℕ) (ch : Option Channel) → new.store ≡ with_requeued old.store (by_channel c h) → Puts old.links c h ch new.links
-    → Is (with_freed (with_channel (broker_of old) c h ch) (by_channel c h)) (broker_of new)
+pub cleared_is : (old new : Kept) (c h : ℕ) (ch : Option Open) → new.store ≡ with_requeued old.store (by_channel c h) → Puts old.links c h ch new.links
+    → Is (with_freed (with_channel (broker_of old) c h (option_map (open_in (names_of old)) ch)) (by_channel c h)) (broker_of new)
 cleared_is old new c h ch e l = record {
   counted = ap (λ (s : Store). s.published) e;
   queues = λ q. ap (λ (s : Store). queue_of s q) e ∙ listed_requeued (by_channel c h) (queue_names old.store.topology.queues) old.store.queues q;
   connections = l.connections;
-  channels = l.channels;
+  channels = seen_put (names_of old) (names_of new) old.links new.links c h ch (ap (λ (s : Store). queue_names s.topology.queues) e) l;
 }
 
 -- a channel is another, and nothing else changes
-pub put_is : (old new : Kept) (c h : ℕ) (ch : Option Channel) → new.store ≡ old.store → Puts old.links c h ch new.links
-    → Is (with_channel (broker_of old) c h ch) (broker_of new)
+pub put_is : (old new : Kept) (c h : ℕ) (ch : Option Open) → new.store ≡ old.store → Puts old.links c h ch new.links
+    → Is (with_channel (broker_of old) c h (option_map (open_in (names_of old)) ch)) (broker_of new)
 put_is old new c h ch e l = record {
   counted = ap (λ (s : Store). s.published) e;
   queues = λ q. ap (λ (s : Store). queue_of s q) e;
   connections = l.connections;
-  channels = l.channels;
+  channels = seen_put (names_of old) (names_of new) old.links new.links c h ch (ap (λ (s : Store). queue_names s.topology.queues) e) l;
 }
 
 -- what is judged by the connection that stands there is judged by the broker's state
 pub judged_on : (kept : Kept) (c h : ℕ) (m : Method) (r : Result wanted.Act declared.Refusal) (l : Linked) → link_in kept.links c ≡ Some l
-    → Judges (topology_of kept) (broker_of kept) (channel_in l h) m (refusal (topology_of kept) (broker_of kept) (limits_of l) h m (channel_in l h)) r
+    → Judges (topology_of kept) (broker_of kept) (channel_seen (names_of kept) l h) m (refusal (topology_of kept) (broker_of kept) (limits_of l) h m (channel_seen (names_of kept) l h)) r
     → JudgesOn (topology_of kept) (broker_of kept) c h m (Some r)
 judged_on kept c h m r l e j = (
   limits_of l,
   ap connection_at e,
-  subst (λ (x : Option Linked). Judges (topology_of kept) (broker_of kept) (channel_at x h) m (refusal (topology_of kept) (broker_of kept) (limits_of l) h m (channel_at x h)) r) (sym e) j,
+  subst (λ (x : Option Linked). Judges (topology_of kept) (broker_of kept) (option_map (open_in (names_of kept)) (channel_at x h)) m (refusal (topology_of kept) (broker_of kept) (limits_of l) h m (option_map (open_in (names_of kept)) (channel_at x h))) r) (sym e) j,
 )
 
 -- the same of a content that is too large
 pub large_judged : (kept : Kept) (c h : ℕ) (r : declared.Refusal) (l : Linked) → link_in kept.links c ≡ Some l
-    → seen r ≡ refusal_of_large (limits_of l) h (channel_in l h) → HasChannel r (channel_in l h)
+    → seen r ≡ refusal_of_large (limits_of l) h (channel_seen (names_of kept) l h) → HasChannel r (channel_seen (names_of kept) l h)
     → JudgesLarge (broker_of kept) c h (Some r)
 large_judged kept c h r l e is has = (
   limits_of l,
   ap connection_at e,
-  subst (λ (x : Option Linked). seen r ≡ refusal_of_large (limits_of l) h (channel_at x h)) (sym e) is,
-  subst (λ (x : Option Linked). HasChannel r (channel_at x h)) (sym e) has,
+  subst (λ (x : Option Linked). seen r ≡ refusal_of_large (limits_of l) h (option_map (open_in (names_of kept)) (channel_at x h))) (sym e) is,
+  subst (λ (x : Option Linked). HasChannel r (option_map (open_in (names_of kept)) (channel_at x h))) (sym e) has,
 )
 
-some_same : {A : Type 0} (x y : A) → Some x ≡ Some y → x ≡ y
+pub some_same : {A : Type 0} (x y : A) → Some x ≡ Some y → x ≡ y
 some_same x y e = cc
 
 -- what is refused where the command is ignored is only ignored
@@ -118,11 +141,11 @@ pub large_ignored_by : (b : Broker) (c h : ℕ) (e : declared.Refusal) → Judge
 large_ignored_by b c h e (conn, at, judged, has) is = judged ∙ subst (λ (o : Option Connection). IsLargeIgnored b c h o) at is
 
 -- a publish of the depot, counted on the channel and confirmed, is one of the broker
-pub published_is : (old new : Kept) (c h : ℕ) (ch : Channel) (p : Publish) (content : Content) (noted : List Note) (routed : Routed)
+pub published_is : (old new : Kept) (c h : ℕ) (ch : Open) (p : Publish) (content : Content) (noted : List Note) (routed : Routed)
     → p.mandatory ≡ false
     → Publishes old.store c h p content (next_of ch.confirm) noted routed new.store
     → Puts old.links c h (Some (record ch { confirm = next_of ch.confirm })) new.links
-    → IsPublish (topology_of old) (broker_of old) c h ch p content (confirm_sends c h (next_of ch.confirm) (answer_of routed.is_some_full))
+    → IsPublish (topology_of old) (broker_of old) c h (open_in (names_of old) ch) p content (confirm_sends c h (next_of ch.confirm) (answer_of routed.is_some_full))
     (noted ++ confirm_notes (old.store.published + 1) (next_of ch.confirm) (answer_of routed.is_some_full)) (broker_of new)
 published_is old new c h ch p content noted routed man made put =
     let n = old.store.published + 1 in
@@ -138,13 +161,55 @@ published_is old new c h ch p content noted routed man made put =
           ∙ ap (λ (b : Bool). (front ++ returned_notes n (b && is_none made.targets)) ++ confirm_notes n (next_of ch.confirm) (answer_of full)) (sym man);
       sent = ap (λ (f : Bool). confirm_sends c h (next_of ch.confirm) (answer_of f)) made.full
           ∙ ap (λ (b : Bool). returned_sends c h p content (b && is_none made.targets) ++ confirm_sends c h (next_of ch.confirm) (answer_of full)) (sym man);
-      left = record { counted = made.counted; queues = made.queues; connections = put.connections; channels = put.channels };
+      left = record {
+        counted = made.counted;
+        queues = made.queues;
+        connections = put.connections;
+        channels = seen_put (names_of old) (names_of new) old.links new.links c h (Some (record ch { confirm = next_of ch.confirm })) (ap (λ (t : Topology). queue_names t.queues) made.topology) put;
+      };
     }
 
--- an open channel is the one that is meant
-pub some_channel : (ch : Option Channel) → IsSome ch → ch ≡ Some (channel_or_new ch)
-some_channel None h = cc
-some_channel (Some k) h = refl
+-- a channel that is seen is kept
+pub open_there : (names : List Text) (o : Option Open) → IsSome (option_map (open_in names) o) → (ch : Open) × (o ≡ Some ch)
+open_there names None h = absurd (let e : false ≡ true = h in cc)
+open_there names (Some ch) h = (ch, refl)
+
+pub is_there : (names : List Text) (o : Option Open) → IsSome (option_map (open_in names) o) → IsSome o
+is_there names None h = h
+is_there names (Some ch) h = refl
+
+pub kept_there : (old kept : Kept) (c h : ℕ) → old ≡ kept → IsSome ((broker_of kept).channel c h) → IsSome (channel_of old.links c h)
+kept_there old kept c h e some = is_there (names_of old) (channel_of old.links c h) (subst (λ (k : Kept). IsSome ((broker_of k).channel c h)) (sym e) some)
+
+-- a channel that is seen is one that is kept
+pub record IsSeen (names : List Text) (o : Option Open) (ch : Channel) : Type 0 where
+  pub kept : Open
+  pub there : o ≡ Some kept
+  pub same : open_in names kept ≡ ch
+
+pub seen_there : (names : List Text) (o : Option Open) (ch : Channel) → option_map (open_in names) o ≡ Some ch → IsSeen names o ch
+seen_there names None ch e = absurd (let none : None ≡ Some ch = e in cc)
+seen_there names (Some k) ch e = record { kept = k; there = refl; same = some_same (open_in names k) ch e }
+
+past : (i m : Bool) (rest : Option Refusal) → (if i || m then Some (Of_connection 540) else rest) ≡ None → rest ≡ None
+past true m rest e = cc
+past false true rest e = cc
+past false false rest e = e
+
+past_first : (first rest : Option Refusal) → or_else first rest ≡ None → rest ≡ None
+past_first None rest e = e
+past_first (Some r) rest e = cc
+
+unspent : (counted spent : Bool) → (if counted || spent then Some (Of_connection 541) else None) ≡ None → spent ≡ false
+unspent true spent e = cc
+unspent false true e = cc
+unspent false false e = refl
+
+-- the confirm number of a publish that is accepted can rise
+pub can_count : (t : Topology) (b : Broker) (names : List Text) (o : Option Open) (p : Publish) → refusal_of_publish t b (channel_or_new (option_map (open_in names) o)) p ≡ None → CanCount o
+can_count t b names o p h k e =
+    let accepted : refusal_of_publish t b (open_in names k) p ≡ None = subst (λ (x : Option Open). refusal_of_publish t b (channel_or_new (option_map (open_in names) x)) p ≡ None) e h in
+    unspent (b.published == greatest) (is_spent k.confirm) (past_first (refusal_to t p.exchange) (refusal_of_count b (open_in names k)) (past p.immediate p.mandatory (or_else (refusal_to t p.exchange) (refusal_of_count b (open_in names k))) accepted))
 
 -- what is accepted is not mandatory
 pub not_mandatory : (t : Topology) (b : Broker) (ch : Channel) (p : Publish) → refusal_of_publish t b ch p ≡ None → p.mandatory ≡ false

@@ -1,18 +1,24 @@
 -- The connections that run, each with its open channels, as they are kept.
-use Rattle.std.specs.Prelude.{◌≡◌, false, ℕ, List, [], ◌∷◌, Bool, Option, Some, None, nat_eq, slice_index_or}
+use Rattle.std.specs.Prelude.{◌≡◌, false, ℕ, List, Bool, Option, Some, None, nat_eq, slice_index_or, option_map}
 use Rattle.std.specs.Map.{lookup}
-use Rattle.model.specs.Step.{is_spent}
-use Rattle.model.specs.Broker.{Channel, Connection, with_one, with_pair}
+use Rattle.model.specs.Words.{Text}
+use Rattle.model.specs.Step.{is_spent, channels_up_to}
+use Rattle.model.specs.Broker.{Channel, Connection, with_one, with_row, with_pair}
+use Rattle.channel.specs.Open.{Open, open_in}
 
 -- a connection that runs; its channels stand at their numbers
 pub record Linked : Type 0 where
   pub channel_max : ℕ
   pub is_paused : Bool
-  pub channels : List (Option Channel)
+  pub channels : List (Option Open)
 
 -- the open channel of this number
-abbrev pub channel_in : Linked → ℕ → Option Channel
+abbrev pub channel_in : Linked → ℕ → Option Open
 channel_in l h = slice_index_or l.channels h None
+
+-- as the model has it, where queues have these names in the order of their places
+abbrev pub channel_seen : List Text → Linked → ℕ → Option Channel
+channel_seen names l h = option_map (open_in names) (channel_in l h)
 
 -- the connection of this number, where each stands beside its number
 abbrev pub link_in : List (ℕ × Linked) → ℕ → Option Linked
@@ -28,7 +34,7 @@ connection_at None = None
 connection_at (Some l) = Some (limits_of l)
 
 -- the open channel of this number, where the connection is there
-abbrev pub channel_at : Option Linked → ℕ → Option Channel
+abbrev pub channel_at : Option Linked → ℕ → Option Open
 channel_at None h = None
 channel_at (Some l) h = channel_in l h
 
@@ -36,30 +42,39 @@ channel_at (Some l) h = channel_in l h
 abbrev pub connection_of : List (ℕ × Linked) → ℕ → Option Connection
 connection_of links c = connection_at (link_in links c)
 
--- and what it says of their channels
-abbrev pub channel_of : List (ℕ × Linked) → ℕ → ℕ → Option Channel
+-- their channels
+abbrev pub channel_of : List (ℕ × Linked) → ℕ → ℕ → Option Open
 channel_of links c h = channel_at (link_in links c) h
 
+-- and what the model says of those
+abbrev pub seen_in : List Text → List (ℕ × Linked) → ℕ → ℕ → Option Channel
+seen_in names links c h = option_map (open_in names) (channel_of links c h)
+
 -- the channel's confirm number can rise, where there are a channel and a number
-abbrev pub CanCount : Option Channel → Type 0
-CanCount ch = (k : Channel) → ch ≡ Some k → is_spent k.confirm ≡ false
+abbrev pub CanCount : Option Open → Type 0
+CanCount ch = (k : Open) → ch ≡ Some k → is_spent k.confirm ≡ false
 
 -- this channel stands at h now, and the others as before
-abbrev pub IsSet : List (Option Channel) → ℕ → Option Channel → List (Option Channel) → Type 0
+abbrev pub IsSet : List (Option Open) → ℕ → Option Open → List (Option Open) → Type 0
 IsSet old h ch new = (k : ℕ) → slice_index_or new k None ≡ with_one (λ (i : ℕ). slice_index_or old i None) h ch k
 
 -- the same in a connection, of which all else stays
-pub record PutsIn (old : Linked) (h : ℕ) (ch : Option Channel) (new : Linked) : Type 0 where
+pub record PutsIn (old : Linked) (h : ℕ) (ch : Option Open) (new : Linked) : Type 0 where
   pub max : new.channel_max ≡ old.channel_max
   pub pause : new.is_paused ≡ old.is_paused
   pub channels : (k : ℕ) → channel_in new k ≡ with_one (channel_in old) h ch k
 
 -- This stands at the channel h of the connection c now, and everything else stays.
-pub record Puts (old : List (ℕ × Linked)) (c h : ℕ) (ch : Option Channel) (new : List (ℕ × Linked)) : Type 0 where
+pub record Puts (old : List (ℕ × Linked)) (c h : ℕ) (ch : Option Open) (new : List (ℕ × Linked)) : Type 0 where
   pub connections : (d : ℕ) → connection_of new d ≡ connection_of old d
   pub channels : (d k : ℕ) → channel_of new d k ≡ with_pair (channel_of old) c h ch d k
 
 -- These connections and channels are there now.
-pub record AreLinks (new : List (ℕ × Linked)) (connections : ℕ → Option Connection) (channels : ℕ → ℕ → Option Channel) : Type 0 where
+pub record AreLinks (new : List (ℕ × Linked)) (connections : ℕ → Option Connection) (channels : ℕ → ℕ → Option Open) : Type 0 where
   pub connections_are : (d : ℕ) → connection_of new d ≡ connections d
   pub channels_are : (d k : ℕ) → channel_of new d k ≡ channels d k
+
+-- The connection c runs now, with this channel-max, and its channels 1 to k are open and new.
+pub record Opens (old : List (ℕ × Linked)) (c max k : ℕ) (new : List (ℕ × Linked)) : Type 0 where
+  pub connections_are : (d : ℕ) → connection_of new d ≡ with_one (connection_of old) c (Some (record { channel_max = max; is_paused = false })) d
+  pub channels_are : (names : List Text) (d h : ℕ) → seen_in names new d h ≡ with_row (seen_in names old) c (channels_up_to k) d h

@@ -1,9 +1,10 @@
 -- What is kept, as the broker's state.
 use Rattle.std.specs.Prelude.{ℕ, List, [], None}
+use Rattle.model.specs.Words.{Text}
 use Rattle.model.specs.Topology.{Topology, queue_names}
 use Rattle.model.specs.Broker.{Broker, listed}
 use Rattle.depot.specs.Store.{Store}
-use Rattle.broker.specs.Links.{Linked, connection_of, channel_of}
+use Rattle.broker.specs.Links.{Linked, connection_of, seen_in}
 
 -- the queues with their entries, and the connections that run beside their numbers
 pub record Kept : Type 0 where
@@ -14,13 +15,17 @@ pub record Kept : Type 0 where
 abbrev pub topology_of : Kept → Topology
 topology_of kept = kept.store.topology
 
+-- the names of its queues, in the order of their places
+abbrev pub names_of : Kept → List Text
+names_of kept = queue_names kept.store.topology.queues
+
 -- the state that the broker is in
 abbrev pub broker_of : Kept → Broker
 broker_of kept = record {
   published = kept.store.published;
-  queue = listed (queue_names kept.store.topology.queues) kept.store.queues;
+  queue = listed (names_of kept) kept.store.queues;
   connection = connection_of kept.links;
-  channel = channel_of kept.links;
+  channel = seen_in (names_of kept) kept.links;
 }
 
 -- the state of a broker that nothing was asked of yet

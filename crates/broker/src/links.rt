@@ -18,14 +18,20 @@ ghost use Rattle.std.specs.Prelude.{
   slice_set,
   slice_index_or,
   length,
+  List,
+  map,
+  option_map,
 };
 ghost use Rattle.std.specs.Option.{option_copied};
-ghost use Rattle.model.specs.Broker.{new_channel, with_one, with_row};
-ghost use Rattle.model.specs.Broker as seen;
-ghost use Rattle.model.specs.Step.{started, next_of, channels_up_to, paused};
+ghost use Rattle.model.specs.Words.{Text as Name};
+ghost use Rattle.model.specs.Broker.{new_channel};
+ghost use Rattle.model.specs.Step.{started, next_of};
+ghost use Rattle.model.specs.declared.methods.Qos.{Qos as Limit};
+ghost use Rattle.channel.specs.Open.{Open, open_in, limited};
 ghost use Rattle.broker.specs.Links.{CanCount, IsSet};
 
 use channel::Channel;
+use model::Qos;
 use std::alloc::{AllocError, Global};
 use std::collections::HashMap;
 use std::marker::Model;
@@ -49,20 +55,20 @@ impl Model for Link {
 
 /// Room for the channels 0 to `count`, where all but 0 are open and new.
 fn open_channels(alloc: Global, count: u16) -> Result<Vec<Option<Channel>>, AllocError>
-    ensures { IfOk result (λ channels. channels.items ≡ None ∷ replicate count (Some new_channel)) }
+    ensures { IfOk result (λ channels. (names : List Name) → map (option_map (open_in names)) channels.items ≡ None ∷ replicate count (Some new_channel)) }
 {
     let mut channels = Vec::new(alloc);
     channels.reserve(count as usize + 1)?;
     channels.push_reserved(None);
     for number in 0..count {
-        channels.push_reserved(Some(Channel::new()));
+        channels.push_reserved(Some(Channel::new(alloc)));
     }
     Ok(channels)
 }
 
 /// Publishes on this channel are confirmed from now on.
 fn select_in(slot: &mut Option<Channel>)
-    ensures { (ch : seen.Channel) → slot.old ≡ Some ch → slot.new ≡ Some (record ch { confirm = started ch.confirm }) }
+    ensures { (ch : Open) → slot.old ≡ Some ch → slot.new ≡ Some (record ch { confirm = started ch.confirm }) }
 {
     if let Some(channel) = slot {
         channel.select();
@@ -72,16 +78,25 @@ fn select_in(slot: &mut Option<Channel>)
 /// One publish more on this channel.
 fn count_in(slot: &mut Option<Channel>)
     requires { CanCount slot.old }
-    ensures { (ch : seen.Channel) → slot.old ≡ Some ch → slot.new ≡ Some (record ch { confirm = next_of ch.confirm }) }
+    ensures { (ch : Open) → slot.old ≡ Some ch → slot.new ≡ Some (record ch { confirm = next_of ch.confirm }) }
 {
     if let Some(channel) = slot {
         channel.count_publish();
     }
 }
 
+/// The limit that a qos sets is this channel's.
+fn limit_in(slot: &mut Option<Channel>, qos: &Qos)
+    ensures { (ch : Open) → slot.old ≡ Some ch → slot.new ≡ Some (limited ch qos.now) }
+{
+    if let Some(channel) = slot {
+        channel.limit(qos);
+    }
+}
+
 /// The same of the channel of this number.
 fn select_at(channels: &mut [Option<Channel>], number: u16)
-    ensures { (ch : seen.Channel) → slice_index_or channels.old number None ≡ Some ch → IsSet channels.old number (Some (record ch { confirm = started ch.confirm })) channels.new }
+    ensures { (ch : Open) → slice_index_or channels.old number None ≡ Some ch → IsSet channels.old number (Some (record ch { confirm = started ch.confirm })) channels.new }
 {
     let at = number as usize;
     if at < channels.len() {
@@ -92,11 +107,21 @@ fn select_at(channels: &mut [Option<Channel>], number: u16)
 /// The same of the channel of this number.
 fn count_at(channels: &mut [Option<Channel>], number: u16)
     requires { CanCount (slice_index_or channels.old number None) }
-    ensures { (ch : seen.Channel) → slice_index_or channels.old number None ≡ Some ch → IsSet channels.old number (Some (record ch { confirm = next_of ch.confirm })) channels.new }
+    ensures { (ch : Open) → slice_index_or channels.old number None ≡ Some ch → IsSet channels.old number (Some (record ch { confirm = next_of ch.confirm })) channels.new }
 {
     let at = number as usize;
     if at < channels.len() {
         count_in(&mut channels[at]);
+    }
+}
+
+/// The same of the channel of this number.
+fn limit_at(channels: &mut [Option<Channel>], number: u16, qos: &Qos)
+    ensures { (ch : Open) → slice_index_or channels.old number None ≡ Some ch → IsSet channels.old number (Some (limited ch qos.now)) channels.new }
+{
+    let at = number as usize;
+    if at < channels.len() {
+        limit_in(&mut channels[at], qos);
     }
 }
 
@@ -112,18 +137,19 @@ fn put_at(channels: &mut [Option<Channel>], number: u16, channel: Option<Channel
 }
 
 impl Link {
-    ghost use Rattle.std.specs.Prelude.{◌≡◌, ◌+◌, ◌<◌, ◌^◌, ℕ, None, Some, false, IsSome, IfSome, IfOk};
+    ghost use Rattle.std.specs.Prelude.{◌≡◌, ◌+◌, ◌<◌, ◌^◌, ℕ, List, None, Some, false, IsSome, IfSome, IfOk, option_map};
     ghost use Rattle.std.specs.Option.{option_copied};
-    ghost use Rattle.model.specs.Broker as seen;
-    ghost use Rattle.model.specs.Broker.{with_one};
+    ghost use Rattle.model.specs.Words.{Text as Name};
     ghost use Rattle.model.specs.Step.{started, next_of, channels_up_to};
+    ghost use Rattle.model.specs.declared.methods.Qos.{Qos as Limit};
+    ghost use Rattle.channel.specs.Open.{Open, open_in, limited};
     ghost use Rattle.broker.specs.Links.{channel_in, PutsIn, CanCount};
 
     /// A connection with channels 1 to `channels` open and new.
     fn new(alloc: Global, channel_max: u16, channels: u16) -> Result<Link, AllocError>
         ensures max { IfOk result (λ l. l.channel_max ≡ channel_max) }
         ensures paused { IfOk result (λ l. l.is_paused ≡ false) }
-        ensures channels { IfOk result (λ l. (h : ℕ) → channel_in l h ≡ channels_up_to channels h) }
+        ensures channels { IfOk result (λ l. (names : List Name) (h : ℕ) → option_map (open_in names) (channel_in l h) ≡ channels_up_to channels h) }
     {
         Ok(Link {
             channel_max,
@@ -152,7 +178,7 @@ impl Link {
     /// The confirm number of the next publish on this channel, where publishes are confirmed there.
     fn next_confirm(&self, number: u16) -> Option<u64>
         requires { CanCount (channel_in self.now number) }
-        ensures { (ch : seen.Channel) → channel_in self.now number ≡ Some ch → result ≡ next_of ch.confirm }
+        ensures { (ch : Open) → channel_in self.now number ≡ Some ch → result ≡ next_of ch.confirm }
     {
         match self.channel(number) {
             Some(channel) => channel.next_confirm(),
@@ -162,7 +188,7 @@ impl Link {
 
     /// Publishes on this channel are confirmed from now on.
     fn select(&mut self, number: u16)
-        ensures { (ch : seen.Channel) → channel_in self.old number ≡ Some ch → PutsIn self.old number (Some (record ch { confirm = started ch.confirm })) self.new }
+        ensures { (ch : Open) → channel_in self.old number ≡ Some ch → PutsIn self.old number (Some (record ch { confirm = started ch.confirm })) self.new }
     {
         select_at(&mut self.channels, number);
     }
@@ -170,9 +196,16 @@ impl Link {
     /// One publish more on this channel.
     fn count_publish(&mut self, number: u16)
         requires { CanCount (channel_in self.old number) }
-        ensures { (ch : seen.Channel) → channel_in self.old number ≡ Some ch → PutsIn self.old number (Some (record ch { confirm = next_of ch.confirm })) self.new }
+        ensures { (ch : Open) → channel_in self.old number ≡ Some ch → PutsIn self.old number (Some (record ch { confirm = next_of ch.confirm })) self.new }
     {
         count_at(&mut self.channels, number);
+    }
+
+    /// The limit that a qos sets is this channel's.
+    fn limit(&mut self, number: u16, qos: &Qos)
+        ensures { (ch : Open) → channel_in self.old number ≡ Some ch → PutsIn self.old number (Some (limited ch qos.now)) self.new }
+    {
+        limit_at(&mut self.channels, number, qos);
     }
 
     /// This stands at the channel of this number from now on.
@@ -223,10 +256,11 @@ impl Links {
       OnErr,
     };
     ghost use Rattle.std.specs.Option.{option_copied};
-    ghost use Rattle.model.specs.Broker as seen;
     ghost use Rattle.model.specs.Broker.{with_one, with_row};
-    ghost use Rattle.model.specs.Step.{started, next_of, channels_up_to, paused};
-    ghost use Rattle.broker.specs.Links.{link_in, connection_of, channel_of, CanCount, Puts, AreLinks};
+    ghost use Rattle.model.specs.Step.{started, next_of, paused};
+    ghost use Rattle.model.specs.declared.methods.Qos.{Qos as Limit};
+    ghost use Rattle.channel.specs.Open.{Open, limited};
+    ghost use Rattle.broker.specs.Links.{link_in, connection_of, channel_of, CanCount, Puts, Opens, AreLinks};
 
     /// No connection runs. It takes no memory.
     pub fn new(alloc: Global) -> Links
@@ -252,7 +286,7 @@ impl Links {
         channel_max: u16,
         channels: u16,
     ) -> Result<(), AllocError>
-        ensures ok { OnOk result (AreLinks self.new (with_one (connection_of self.old) connection (Some (record { channel_max = channel_max; is_paused = false }))) (with_row (channel_of self.old) connection (channels_up_to channels))) }
+        ensures ok { OnOk result (Opens self.old connection channel_max channels self.new) }
         ensures err { OnErr result (self.new ≡ self.old) }
     {
         let link = Link::new(alloc, channel_max, channels)?;
@@ -281,7 +315,7 @@ impl Links {
     /// The confirm number of the next publish on this channel, where publishes are confirmed there.
     pub fn next_confirm(&self, connection: u64, channel: u16) -> Option<u64>
         requires { CanCount (channel_of self.now connection channel) }
-        ensures { (ch : seen.Channel) → channel_of self.now connection channel ≡ Some ch → result ≡ next_of ch.confirm }
+        ensures { (ch : Open) → channel_of self.now connection channel ≡ Some ch → result ≡ next_of ch.confirm }
     {
         match self.get(connection) {
             Some(link) => link.next_confirm(channel),
@@ -292,7 +326,7 @@ impl Links {
     /// Publishes on this channel are confirmed from now on.
     pub fn select(&mut self, connection: u64, channel: u16)
         requires { IsSome (channel_of self.old connection channel) }
-        ensures { (ch : seen.Channel) → channel_of self.old connection channel ≡ Some ch → Puts self.old connection channel (Some (record ch { confirm = started ch.confirm })) self.new }
+        ensures { (ch : Open) → channel_of self.old connection channel ≡ Some ch → Puts self.old connection channel (Some (record ch { confirm = started ch.confirm })) self.new }
     {
         if let Some(link) = self.links.get_mut(&connection) {
             link.select(channel);
@@ -303,10 +337,20 @@ impl Links {
     pub fn count_publish(&mut self, connection: u64, channel: u16)
         requires there { IsSome (channel_of self.old connection channel) }
         requires room { CanCount (channel_of self.old connection channel) }
-        ensures { (ch : seen.Channel) → channel_of self.old connection channel ≡ Some ch → Puts self.old connection channel (Some (record ch { confirm = next_of ch.confirm })) self.new }
+        ensures { (ch : Open) → channel_of self.old connection channel ≡ Some ch → Puts self.old connection channel (Some (record ch { confirm = next_of ch.confirm })) self.new }
     {
         if let Some(link) = self.links.get_mut(&connection) {
             link.count_publish(channel);
+        }
+    }
+
+    /// The limit that a qos sets is this channel's.
+    pub fn limit(&mut self, connection: u64, channel: u16, qos: &Qos)
+        requires { IsSome (channel_of self.old connection channel) }
+        ensures { (ch : Open) → channel_of self.old connection channel ≡ Some ch → Puts self.old connection channel (Some (limited ch qos.now)) self.new }
+    {
+        if let Some(link) = self.links.get_mut(&connection) {
+            link.limit(channel, qos);
         }
     }
 

@@ -2,15 +2,18 @@
 //!
 //! Source: AMQP 0-9-1, section 1.1, "reply-code", and the rules of its XML.
 
-ghost use Rattle.std.specs.Prelude.{◌≡◌, Some, None, true, false, Option, IsSome, if◌then◌else◌};
+ghost use Rattle.std.specs.Prelude.{◌≡◌, ◌==◌, ◌||◌, List, Some, None, true, false, Option, IsSome, option_map};
 ghost use Rattle.std.specs.Option.{option_copied};
+ghost use Rattle.model.specs.Words.{Text as Name};
 ghost use Rattle.model.specs.Broker.{Broker};
 ghost use Rattle.model.specs.Broker.{Channel as Seen};
 ghost use Rattle.model.specs.Topology.{Topology as Handed};
 ghost use Rattle.model.specs.Step as said;
+ghost use Rattle.model.specs.Step.{greatest};
 ghost use Rattle.model.specs.declared.methods.Method.TheVariants.{BasicPublish};
 ghost use Rattle.broker.specs.Judged.{seen, seen_if, HasChannel, Judges};
-ghost use Rattle.broker.specs.Links.{channel_in, limits_of};
+ghost use Rattle.channel.specs.Open.{open_in};
+ghost use Rattle.broker.specs.Links.{limits_of, channel_seen};
 
 use crate::links::Link;
 use channel::Channel;
@@ -55,7 +58,7 @@ fn refusal_to(router: &Router, publish: &Publish) -> Option<Refusal>
 
 /// Whether a counter of publishes can't rise any more.
 fn is_spent(published: u64, channel: &Channel) -> bool
-    ensures { (b : Broker) → b.published ≡ published → said.refusal_of_count b channel.now ≡ (if result then Some (said.Of_connection 541) else None) }
+    ensures { result ≡ ((published == greatest) || said.is_spent channel.now.confirm) }
 {
     published == u64::MAX || channel.confirm() == Some(u64::MAX)
 }
@@ -67,7 +70,7 @@ fn refusal_of_publish(
     channel: &Channel,
     publish: &Publish,
 ) -> Option<Refusal>
-    ensures { (b : Broker) → b.published ≡ published → seen_if result ≡ said.refusal_of_publish router.now b channel.now publish.now }
+    ensures { (b : Broker) (names : List Name) → b.published ≡ published → seen_if result ≡ said.refusal_of_publish router.now b (open_in names channel.now) publish.now }
 {
     if publish.immediate || publish.mandatory {
         return Some(Refusal::Connection(540));
@@ -110,7 +113,7 @@ fn judge_publish<'a>(
     channel: &Channel,
     publish: &'a Publish,
 ) -> Result<Act<'a>, Refusal>
-    ensures { (b : Broker) → b.published ≡ published → Judges router.now b (Some channel.now) (BasicPublish publish.now) (said.refusal_of_publish router.now b channel.now publish.now) result }
+    ensures { (b : Broker) (names : List Name) → b.published ≡ published → Judges router.now b (Some (open_in names channel.now)) (BasicPublish publish.now) (said.refusal_of_publish router.now b (open_in names channel.now) publish.now) result }
 {
     match refusal_of_publish(router, published, channel, publish) {
         None => Ok(Act::Publish(publish)),
@@ -126,7 +129,7 @@ fn judge_on_open<'a>(
     method: &'a Method,
 ) -> Result<Act<'a>, Refusal>
     requires { channel.now.is_closing ≡ false }
-    ensures { (b : Broker) → b.published ≡ published → Judges router.now b (Some channel.now) method.now (said.refusal_of router.now b channel.now method.now) result }
+    ensures { (b : Broker) (names : List Name) → b.published ≡ published → Judges router.now b (Some (open_in names channel.now)) method.now (said.refusal_of router.now b (open_in names channel.now) method.now) result }
 {
     match method {
         Method::ConfirmSelect { no_wait } => Ok(Act::Select(*no_wait)),
@@ -167,8 +170,8 @@ fn judge_on_number<'a>(
     number: u16,
     method: &'a Method,
 ) -> Result<Act<'a>, Refusal>
-    requires { said.is_awaiting (channel_in link.now number) ≡ false }
-    ensures { (b : Broker) → b.published ≡ published → Judges router.now b (channel_in link.now number) method.now (said.refusal router.now b (limits_of link.now) number method.now (channel_in link.now number)) result }
+    requires { (names : List Name) → said.is_awaiting (channel_seen names link.now number) ≡ false }
+    ensures { (b : Broker) (names : List Name) → b.published ≡ published → Judges router.now b (channel_seen names link.now number) method.now (said.refusal router.now b (limits_of link.now) number method.now (channel_seen names link.now number)) result }
 {
     if number == 0 {
         return judge_on_zero(method);
@@ -187,7 +190,7 @@ fn judge_on_number<'a>(
 
 /// Whether a close was sent on the channel and close-ok is awaited.
 fn is_awaiting(channel: Option<&Channel>) -> bool
-    ensures { result ≡ said.is_awaiting (option_copied channel.entry) }
+    ensures { (names : List Name) → result ≡ said.is_awaiting (option_map (open_in names) (option_copied channel.entry)) }
 {
     match channel {
         None => false,
@@ -203,7 +206,7 @@ pub(crate) fn judge<'a>(
     number: u16,
     method: &'a Method,
 ) -> Result<Act<'a>, Refusal>
-    ensures { (b : Broker) → b.published ≡ published → Judges router.now b (channel_in link.now number) method.now (said.refusal router.now b (limits_of link.now) number method.now (channel_in link.now number)) result }
+    ensures { (b : Broker) (names : List Name) → b.published ≡ published → Judges router.now b (channel_seen names link.now number) method.now (said.refusal router.now b (limits_of link.now) number method.now (channel_seen names link.now number)) result }
 {
     if is_awaiting(link.channel(number)) {
         judge_while_closing(method)
@@ -214,8 +217,8 @@ pub(crate) fn judge<'a>(
 
 /// A publish whose content is too large, of a connection that runs: no channel takes it, and one that is open is closed.
 pub(crate) fn judge_large(link: &Link, number: u16) -> Refusal
-    ensures is { seen result ≡ said.refusal_of_large (limits_of link.now) number (channel_in link.now number) }
-    ensures channel { HasChannel result (channel_in link.now number) }
+    ensures is { (names : List Name) → seen result ≡ said.refusal_of_large (limits_of link.now) number (channel_seen names link.now number) }
+    ensures channel { (names : List Name) → HasChannel result (channel_seen names link.now number) }
 {
     if is_awaiting(link.channel(number)) {
         return Refusal::Ignored;

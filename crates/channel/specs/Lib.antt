@@ -2,3 +2,4 @@ pub mod Outstanding
 pub mod Seats
 pub mod Names
 pub mod Deliveries
+pub mod Open

@@ -1,9 +1,12 @@
 //! What is kept of an open channel.
 
-ghost use Rattle.std.specs.Prelude.{◌≡◌, true, false};
-ghost use Rattle.model.specs.Broker.{new_channel};
+ghost use Rattle.std.specs.Prelude.{◌≡◌, None, true, false};
 ghost use Rattle.model.specs.Step.{started, next_of, is_spent};
+ghost use Rattle.channel.specs.Open.{nothing_given, limited};
 
+use crate::deliveries::Deliveries;
+use model::Qos;
+use std::alloc::Global;
 use std::marker::Model;
 
 /// What is kept of an open channel. Source: AMQP 0-9-1, section 1.5, "channel"; RabbitMQ, "Publisher Confirms".
@@ -13,34 +16,38 @@ pub struct Channel {
     confirm: Option<u64>,
     /// A close was sent, and close-ok is awaited.
     is_closing: bool,
+    deliveries: Deliveries,
 }
 
 impl Model for Channel {
-    ghost use Rattle.model.specs.Broker.{Channel as Seen, new_channel};
+    ghost use Rattle.channel.specs.Open.{Open};
 
-    ghost Value = { Seen };
+    ghost Value = { Open };
 
-    ghost view = { λ c. record new_channel { confirm = c.confirm; is_closing = c.is_closing } };
+    ghost view = { λ c. record { confirm = c.confirm; is_closing = c.is_closing; given = c.deliveries } };
 }
 
 impl Channel {
-    /// A channel with nothing on it: publishes are not confirmed.
-    pub fn new() -> Channel
-        ensures { result ≡ new_channel }
+    /// A channel with nothing on it: publishes are not confirmed. It takes no memory.
+    pub fn new(alloc: Global) -> Channel
+        ensures { result ≡ record { confirm = None; is_closing = false; given = nothing_given result.given.room result.given.seats } }
     {
         Channel {
             confirm: None,
             is_closing: false,
+            deliveries: Deliveries::new(alloc),
         }
     }
 
-    /// What is left of a channel once a close was sent on it: everything but a close and close-ok is ignored.
-    pub fn closing() -> Channel
-        ensures { result ≡ record new_channel { is_closing = true } }
+    /// What is left of a channel once a close was sent on it: everything but a close and close-ok is ignored. It takes no
+    /// memory.
+    pub fn closing(alloc: Global) -> Channel
+        ensures { result ≡ record { confirm = None; is_closing = true; given = nothing_given result.given.room result.given.seats } }
     {
         Channel {
             confirm: None,
             is_closing: true,
+            deliveries: Deliveries::new(alloc),
         }
     }
 
@@ -84,5 +91,13 @@ impl Channel {
         ensures { self.new ≡ record self.old { confirm = next_of self.old.confirm } }
     {
         self.confirm = self.next_confirm();
+    }
+
+    /// Sets the limit that a qos sets: of all its consumers together, or of each that is made later. Source: AMQP 0-9-1,
+    /// basic.qos; RabbitMQ, "Consumer Prefetch".
+    pub fn limit(&mut self, qos: &Qos)
+        ensures { self.new ≡ limited self.old qos.now }
+    {
+        self.deliveries.limit(qos.prefetch_count, qos.global);
     }
 }

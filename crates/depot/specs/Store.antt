@@ -3,8 +3,10 @@ use Rattle.std.specs.Prelude.{◌≡◌, ℕ, List, [], length, map, Bool, slice
 use Rattle.model.specs.Words.{Text}
 use Rattle.model.specs.Topology.{Topology, queue_names, IsWellFormed}
 use Rattle.model.specs.Broker.{listed}
+use Rattle.model.specs.Deliveries as seen
 use Rattle.model.specs.declared.messages.Entry.{Entry}
 use Rattle.model.specs.declared.messages.Holder.{Holder}
+use Rattle.exchange_graph.specs.Marks.{queue_name}
 use Rattle.queue.specs.Line.{Line, requeued}
 
 -- the topology, the entries of each of its queues in the order of the file, and the number of publishes
@@ -37,3 +39,8 @@ entries_of lines = map (λ (l : Line). l.entries) lines
 -- every queue with what these held ready again in its place
 abbrev pub with_requeued : Store → (Holder → Bool) → Store
 with_requeued s mine = record s { queues = map (requeued mine) s.queues }
+
+-- The queue at this place of the file is that of its name: it has those entries, and what it has instead that name has.
+pub record IsNamed (s : Store) (place : ℕ) : Type 0 where
+  pub entries_are : queue_of s (queue_name s.topology place) ≡ queue_at s place
+  pub changed : (entries : List Entry) (q : Text) → queue_of (with_queue s place entries) q ≡ seen.with_queue (queue_of s) (queue_name s.topology place) entries q

@@ -94,7 +94,7 @@ impl Depot {
     ghost use Rattle.model.specs.Step.{greatest};
     ghost use Rattle.model.specs.Entries.{by_channel, by_connection, is_under, is_held_as, held_as, change_first, without_first, number_of};
     ghost use Rattle.queue.specs.Line.{ready_count, requeued};
-    ghost use Rattle.depot.specs.Store.{queue_of, queue_at, with_queue, with_requeued, IsWhole};
+    ghost use Rattle.depot.specs.Store.{queue_of, queue_at, with_queue, with_requeued, IsWhole, IsNamed};
     ghost use Rattle.depot.specs.Publishing.{Publishing};
 
     /// The depot of this topology: each queue is there and has no message.
@@ -203,6 +203,14 @@ impl Depot {
         ensures { IsWhole self.now }
     {
         self.router.topology().is_well_formed();
+    }
+
+    /// What stands at a place of the file stands under its name.
+    pub fn is_named(&self, place: usize)
+        requires { place < length self.now.topology.queues }
+        ensures { IsNamed self.now place }
+    {
+        self.is_whole();
     }
 
     /// How many messages of the queue at this place can be given out.

@@ -1,7 +1,7 @@
 use Rattle.std.proofs.Common.{◌≡◌, ◌∙◌, ap, sym, Some}
 use Rattle.std.specs.Option.{option_copied}
 use Rattle.broker.specs.Links.{link_in}
-use Rattle.broker.specs.State.{Kept}
+use Rattle.broker.specs.State.{Kept, names_of}
 use Rattle.broker.proofs.Stepping.{large_judged}
 use Rattle.broker.proofs.brokers.Broker.judge_large.Goals as goal
 
@@ -11,4 +11,4 @@ returns-in-Some c =
     let link = c.in-Some.link.now in
     let there : link_in kept.links c.args.connection ≡ Some link =
     sym (c.get.ensures ∙ ap (λ (k : Kept). link_in k.links c.args.connection) c.self.view_is) ∙ ap option_copied c.in-Some.is in
-    large_judged kept c.args.connection c.args.channel c.judge_large.result link there c.judge_large.ensures.is c.judge_large.ensures.channel
+    large_judged kept c.args.connection c.args.channel c.judge_large.result link there (c.judge_large.ensures.is (names_of kept)) (c.judge_large.ensures.channel (names_of kept))

@@ -1,8 +1,6 @@
-use Rattle.std.proofs.Common.{◌≡◌, ◌∙◌, ap, refl, length, [], None}
-use Rattle.model.specs.Broker.{Connection, Channel}
+use Rattle.std.proofs.Common.{◌∙◌, ap, refl, length}
 use Rattle.model.specs.Topology.{queue_names}
 use Rattle.depot.specs.Store.{Store, queue_of}
-use Rattle.broker.specs.Links.{connection_of, channel_of}
 use Rattle.broker.proofs.Stepping.{listed_none}
 use Rattle.broker.proofs.brokers.Broker.new.Goals as goal
 

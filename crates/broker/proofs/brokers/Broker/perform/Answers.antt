@@ -1,4 +1,4 @@
-use Rattle.std.proofs.Common.{◌≡◌, subst, Result, Ok, Err, Some}
+use Rattle.std.proofs.Common.{subst, Result, Ok, Some}
 use Rattle.std.proofs.lemmas.Result.{IfOk-weaker}
 use Rattle.model.specs.Step.{refusal}
 use Rattle.broker.specs.State.{broker_of, topology_of}

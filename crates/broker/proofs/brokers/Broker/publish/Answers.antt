@@ -1,12 +1,14 @@
-use Rattle.std.proofs.Common.{◌≡◌, ◌+◌, ◌++◌, ◌∙◌, ap, sym, subst, ℕ, List, Option, Some, None, false, IsSome}
+use Rattle.std.proofs.Common.{◌≡◌, ◌+◌, ◌++◌, ◌∙◌, ap, sym, subst, ℕ, List, Option, Some, None, IsSome}
+use Rattle.std.specs.Prelude.{option_map}
 use Rattle.model.specs.Broker.{Channel}
 use Rattle.model.specs.Step.{IsPublish, channel_or_new, next_of, answer_of, confirm_sends, confirm_notes, refusal_of_publish}
 use Rattle.model.specs.declared.events.Send.{Send}
 use Rattle.model.specs.declared.notes.Note.{Note}
 use Rattle.depot.specs.Publishing.{Publishes}
+use Rattle.channel.specs.Open.{Open, open_in}
 use Rattle.broker.specs.Links.{channel_of}
-use Rattle.broker.specs.State.{Kept, broker_of, topology_of}
-use Rattle.broker.proofs.Stepping.{published_is, some_channel, not_mandatory}
+use Rattle.broker.specs.State.{Kept, broker_of, topology_of, names_of}
+use Rattle.broker.proofs.Stepping.{published_is, open_there, not_mandatory}
 use Rattle.broker.proofs.brokers.Broker.publish.Goals as goal
 
 pub returns-clause-ok : goal.returns-clause-ok
@@ -15,11 +17,14 @@ returns-clause-ok c =
     let number = c.args.channel in
     let old : Kept = record { store = c.self.inside.depot; links = c.self.inside.links } in
     let new : Kept = record { store = c.publish.new.self; links = c.count_publish.new.self } in
-    let ch : Channel = channel_or_new (channel_of old.links connection number) in
-    let there : IsSome (channel_of old.links connection number) = subst (λ (k : Kept). IsSome (channel_of k.links connection number)) (sym c.self.view_is) c.requires.there in
-    let is : channel_of old.links connection number ≡ Some ch = some_channel (channel_of old.links connection number) there in
-    let accepted : refusal_of_publish (topology_of old) (broker_of old) ch c.args.publish.now ≡ None =
-    subst (λ (k : Kept). refusal_of_publish (topology_of k) (broker_of k) (channel_or_new (channel_of k.links connection number)) c.args.publish.now ≡ None) (sym c.self.view_is) c.requires.accepted in
+    let there : IsSome ((broker_of old).channel connection number) = subst (λ (k : Kept). IsSome ((broker_of k).channel connection number)) (sym c.self.view_is) c.requires.there in
+    let kept = open_there (names_of old) (channel_of old.links connection number) there in
+    let ch : Open = kept.0 in
+    let is : channel_of old.links connection number ≡ Some ch = kept.1 in
+    let seen : Channel = channel_or_new ((broker_of old).channel connection number) in
+    let same : open_in (names_of old) ch ≡ seen = ap (λ (o : Option Open). channel_or_new (option_map (open_in (names_of old)) o)) (sym is) in
+    let accepted : refusal_of_publish (topology_of old) (broker_of old) seen c.args.publish.now ≡ None =
+    subst (λ (k : Kept). refusal_of_publish (topology_of k) (broker_of k) (channel_or_new ((broker_of k).channel connection number)) c.args.publish.now ≡ None) (sym c.self.view_is) c.requires.accepted in
     let confirm : c.next_confirm-confirm.result ≡ next_of ch.confirm = c.next_confirm-confirm.ensures ch is in
     let done = c.in_ok-routed.ensures.ok in
     let answer = answer_of c.in_ok-routed.routed.is_some_full in
@@ -34,5 +39,6 @@ returns-clause-ok c =
     ∙ ap (λ (z : List Note). z ++ confirm_notes (c.published-number.result + 1) c.next_confirm-confirm.result answer) (done.appended ∙ ap (λ (z : List Note). z ++ done.noted) c.nothing-step.ensures.notes)
     ∙ ap (λ (n : ℕ). done.noted ++ confirm_notes (n + 1) c.next_confirm-confirm.result answer) c.published-number.ensures
     ∙ ap (λ (o : Option ℕ). done.noted ++ confirm_notes (old.store.published + 1) o answer) confirm in
-    subst (λ (k : Kept). IsPublish (topology_of k) (broker_of k) connection number (channel_or_new (channel_of k.links connection number)) c.args.publish.now c.args.content.now c.confirm.new.self.sends.items c.confirm.new.self.notes.items (broker_of new)) c.self.view_is
-    (rw (sends, notes) (published_is old new connection number ch c.args.publish.now c.args.content.now done.noted c.in_ok-routed.routed (not_mandatory (topology_of old) (broker_of old) ch c.args.publish.now accepted) made (c.count_publish.ensures ch is)))
+    subst (λ (k : Kept). IsPublish (topology_of k) (broker_of k) connection number (channel_or_new ((broker_of k).channel connection number)) c.args.publish.now c.args.content.now c.confirm.new.self.sends.items c.confirm.new.self.notes.items (broker_of new)) c.self.view_is
+    (subst (λ (x : Channel). IsPublish (topology_of old) (broker_of old) connection number x c.args.publish.now c.args.content.now c.confirm.new.self.sends.items c.confirm.new.self.notes.items (broker_of new)) same
+    (rw (sends, notes) (published_is old new connection number ch c.args.publish.now c.args.content.now done.noted c.in_ok-routed.routed (not_mandatory (topology_of old) (broker_of old) seen c.args.publish.now accepted) made (c.count_publish.ensures ch is))))
