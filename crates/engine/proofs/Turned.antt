@@ -38,14 +38,14 @@ asks_command c (Full h p content) = refl
 asks_command c (TooLarge h) = refl
 
 says_command : (c : ℕ) (m : Command) → IsCommand m → IsSaid (event_of c m)
-says_command c (Plain h m) is = is
+says_command c (Plain h m) is = (is, tt)
 says_command c (Full h p content) is = is
 says_command c (TooLarge h) is = is
 
 pub asks_made : (c : ℕ) (e : Event) → IsMade c e → IsAsked c e
 asks_made c e is = subst (λ (x : Event). IsAsked c x) (sym is.made) (asks_command c is.command)
 
-says_made : (c : ℕ) (e : Event) → IsMade c e → IsSaid e
+pub says_made : (c : ℕ) (e : Event) → IsMade c e → IsSaid e
 says_made c e is = subst (λ (x : Event). IsSaid x) (sym is.made) (says_command c is.command is.said)
 
 kept_made : (c : ℕ) (e : Event) (is : IsMade c e) → kept_of (Some e) ≡ Some is.command

@@ -15,6 +15,7 @@ ghost use Rattle.std.specs.Prelude.{
   IfOk,
 };
 ghost use Rattle.model.specs.Arrivals.{is_ended};
+ghost use Rattle.model.specs.Sending.{AreCarried};
 ghost use Rattle.broker.specs.State.{topology_of, broker_of};
 ghost use Rattle.engine.specs.Reading.{IsKept};
 ghost use Rattle.engine.specs.Turning.{LinkTook, LinkWaits};
@@ -37,8 +38,8 @@ use crate::turning::{Turn, turn_with_room};
 use broker::Broker;
 use std::alloc::{AllocError, Global};
 
-/// How many bytes one event sends at most: one method, in the least frame.
-const MOST_SENT: usize = 4_096;
+/// How many bytes spell what one event sends, at most.
+const MOST_SENT: usize = 1_060_000;
 
 /// An output of so many bytes pauses its connection.
 const BOUND: usize = 1_048_576;
@@ -62,7 +63,8 @@ fn turn_link(
     scratch: &mut Scratch,
     link: &mut Link,
 ) -> Result<Turn, AllocError>
-    requires { IsKept link.old.number link.old.kept }
+    requires kept { IsKept link.old.number link.old.kept }
+    requires carried { AreCarried (broker_of broker.old) }
     ensures ok { IfOk result (λ t. LinkTook (topology_of broker.old) (broker_of broker.old) link.old t (broker_of broker.new) link.new) }
     ensures err { OnErr result (LinkWaits (broker_of broker.old) link.old (broker_of broker.new) link.new) }
     ensures kept { IsKept link.new.number link.new.kept }
@@ -99,6 +101,7 @@ pub(crate) fn turn_at(
 ) -> Result<Turn, AllocError>
     requires within { place < length links.old.items }
     requires kept { (l : seen_link.Link) → get_or links.old.items place l ≡ l → IsKept l.number l.kept }
+    requires carried { AreCarried (broker_of broker.old) }
     ensures took { LinksTook (topology_of broker.old) (broker_of broker.old) links.old.items place result (broker_of broker.new) links.new.items }
     ensures topology { topology_of broker.new ≡ topology_of broker.old }
 {

@@ -2,7 +2,8 @@
 
 ghost use Rattle.std.specs.Prelude.{◌≡◌, ℕ, [], true, false, IfOk, OnErr, OnOk};
 ghost use Rattle.model.specs.Broker as seen;
-ghost use Rattle.session.specs.Replies.{AreReplies};
+ghost use Rattle.model.specs.Arrivals.{IsSaid};
+ghost use Rattle.model.specs.Sending.{AreCarried, AreOwn};
 ghost use Rattle.broker.specs.State.{topology_of, broker_of};
 ghost use Rattle.engine.specs.Performing.{IsAsked, session_after, move_of, ByBroker, ByPhase, Decides, PausesOr};
 
@@ -29,9 +30,11 @@ fn by_broker(
     session: &mut Session,
     event: &Event,
 ) -> Result<Step, AllocError>
-    requires { IsAsked c event.now }
+    requires asked { IsAsked c event.now }
+    requires said { IsSaid event.now }
+    requires carried { AreCarried (broker_of broker.old) }
     ensures ok { IfOk result (λ d. ByBroker (topology_of broker.old) (broker_of broker.old) session.old event.now d.sends.items d.notes.items (broker_of broker.new) session.new) }
-    ensures replies { IfOk result (λ d. AreReplies c d.sends.items) }
+    ensures own { IfOk result (λ d. AreOwn c d.sends.items) }
     ensures broker_kept { OnErr result (broker.new ≡ broker.old) }
     ensures session_kept { OnErr result (session.new ≡ session.old) }
     ensures topology { topology_of broker.new ≡ topology_of broker.old }
@@ -50,7 +53,7 @@ fn sends_of(
 ) -> Result<Vec<Send>, AllocError>
     requires { IsAsked c event.now }
     ensures sends { IfOk result (λ sends. sends.items ≡ (move_of session.old.phase session.old event.now).sends) }
-    ensures replies { IfOk result (λ sends. AreReplies c sends.items) }
+    ensures own { IfOk result (λ sends. AreOwn c sends.items) }
     ensures ok { OnOk result (session.new ≡ (move_of session.old.phase session.old event.now).next) }
     ensures err { OnErr result (session.new ≡ session.old) }
 {
@@ -70,7 +73,7 @@ fn sends_of(
 fn by_phase(c: u64, alloc: Global, session: &mut Session, event: &Event) -> Result<Step, AllocError>
     requires { IsAsked c event.now }
     ensures ok { IfOk result (λ d. (b : seen.Broker) → ByPhase session.old.phase b session.old event.now d.sends.items d.notes.items b session.new) }
-    ensures replies { IfOk result (λ d. AreReplies c d.sends.items) }
+    ensures own { IfOk result (λ d. AreOwn c d.sends.items) }
     ensures err { OnErr result (session.new ≡ session.old) }
 {
     let sends = sends_of(c, alloc, session, event)?;
@@ -88,9 +91,11 @@ pub(crate) fn perform(
     session: &mut Session,
     event: &Event,
 ) -> Result<Step, AllocError>
-    requires { IsAsked c event.now }
+    requires asked { IsAsked c event.now }
+    requires said { IsSaid event.now }
+    requires carried { AreCarried (broker_of broker.old) }
     ensures ok { IfOk result (λ d. Decides session.old.phase (topology_of broker.old) (broker_of broker.old) session.old event.now d.sends.items d.notes.items (broker_of broker.new) session.new) }
-    ensures replies { IfOk result (λ d. AreReplies c d.sends.items) }
+    ensures own { IfOk result (λ d. AreOwn c d.sends.items) }
     ensures broker_kept { OnErr result (broker.new ≡ broker.old) }
     ensures session_kept { OnErr result (session.new ≡ session.old) }
     ensures topology { topology_of broker.new ≡ topology_of broker.old }

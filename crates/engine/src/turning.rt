@@ -1,7 +1,8 @@
 //! One turn of one connection.
 
 ghost use Rattle.std.specs.Prelude.{◌≡◌, ◌≤◌, Some, None, false, IfOk, OnErr};
-ghost use Rattle.model.specs.Arrivals.{is_ended, is_past_bound};
+ghost use Rattle.model.specs.Arrivals.{IsSaid, is_ended, is_past_bound};
+ghost use Rattle.model.specs.Sending.{AreCarried, most_sent};
 ghost use Rattle.model.specs.declared.events.Event as event;
 ghost use Rattle.model.specs.declared.events.Event.TheVariants as happens;
 ghost use Rattle.broker.specs.State.{topology_of, broker_of};
@@ -44,7 +45,9 @@ fn do_event(
     event: &Event,
 ) -> Result<Vec<Note>, AllocError>
     requires asked { IsAsked c event.now }
-    requires room { 4096 ≤ output.old.room }
+    requires said { IsSaid event.now }
+    requires carried { AreCarried (broker_of broker.old) }
+    requires room { most_sent ≤ output.old.room }
     ensures ok { IfOk result (λ notes. Performed (topology_of broker.old) (broker_of broker.old) c session.old output.old.bytes event.now notes.items (broker_of broker.new) session.new output.new.bytes) }
     ensures broker_kept { OnErr result (broker.new ≡ broker.old) }
     ensures session_kept { OnErr result (session.new ≡ session.old) }
@@ -66,8 +69,9 @@ fn do_kept(
     scratch: &mut Scratch,
     link: &mut Link,
 ) -> Result<Turn, AllocError>
-    requires kept { (e : event.Event) × (link.old.kept ≡ Some e) × IsAsked link.old.number e }
-    requires room { 4096 ≤ link.old.output.room }
+    requires kept { (e : event.Event) × (link.old.kept ≡ Some e) × IsAsked link.old.number e × IsSaid e }
+    requires carried { AreCarried (broker_of broker.old) }
+    requires room { most_sent ≤ link.old.output.room }
     ensures ok { IfOk result (λ t. (e : event.Event) → link.old.kept ≡ Some e → DidEvent (topology_of broker.old) (broker_of broker.old) link.old e t (broker_of broker.new) link.new) }
     ensures broker_kept { OnErr result (broker.new ≡ broker.old) }
     ensures link_kept { OnErr result (link.new ≡ link.old) }
@@ -103,7 +107,8 @@ fn do_fault(
     code: u16,
 ) -> Result<Turn, AllocError>
     requires kept { link.old.kept ≡ None }
-    requires room { 4096 ≤ link.old.output.room }
+    requires carried { AreCarried (broker_of broker.old) }
+    requires room { most_sent ≤ link.old.output.room }
     ensures ok { IfOk result (λ t. DidEvent (topology_of broker.old) (broker_of broker.old) link.old (happens.Fault link.old.number code) t (broker_of broker.new) link.new) }
     ensures broker_kept { OnErr result (broker.new ≡ broker.old) }
     ensures link_kept { OnErr result (link.new ≡ link.old) }
@@ -135,7 +140,8 @@ pub(crate) fn turn_with_room(
     link: &mut Link,
 ) -> Result<Turn, AllocError>
     requires kept { IsKept link.old.number link.old.kept }
-    requires room { 4096 ≤ link.old.output.room }
+    requires carried { AreCarried (broker_of broker.old) }
+    requires room { most_sent ≤ link.old.output.room }
     requires open { is_ended link.old.session.phase ≡ false }
     requires below { is_past_bound link.old.output.bytes ≡ false }
     ensures ok { IfOk result (λ t. LinkTook (topology_of broker.old) (broker_of broker.old) link.old t (broker_of broker.new) link.new) }

@@ -13,7 +13,7 @@ returns-in_default c =
     record {
       ok = ok_map c.by_phase.result _ (λ d. Decides s.phase t b s e d.sends.items d.notes.items b c.by_phase.new.session)
           (λ d by. decides_elsewhere s.phase t b s e d.sends.items d.notes.items b c.by_phase.new.session (λ is. c.in_default.not-Running (c.phase.ensures ∙ is)) (by b)) c.by_phase.ensures.ok;
-      replies = c.by_phase.ensures.replies;
+      own = c.by_phase.ensures.own;
       broker_kept = on_err c.by_phase.result _ refl;
       session_kept = c.by_phase.ensures.err;
       topology = refl;
