@@ -1,2 +1,4 @@
 pub mod Limits
 pub mod Replies
+pub mod Answers
+pub mod Rows

@@ -4,12 +4,15 @@ use Rattle.std.specs.List.{AllByRecursion}
 use Rattle.model.specs.Grammar.{IsMethod, method_bytes}
 use Rattle.model.specs.declared.contents.Content.{Content}
 use Rattle.model.specs.declared.methods.Method.{Method}
-use Rattle.model.specs.declared.methods.Method.TheVariants.{ConnectionClose, ConnectionCloseOk, ChannelClose, ChannelCloseOk, ConfirmSelectOk, BasicAck, BasicNack}
+use Rattle.model.specs.declared.methods.Method.TheVariants.{ConnectionStart, ConnectionTune, ConnectionOpenOk, ConnectionClose, ConnectionCloseOk, ChannelClose, ChannelCloseOk, ConfirmSelectOk, BasicAck, BasicNack}
 use Rattle.model.specs.declared.events.Send.{Send}
 use Rattle.model.specs.declared.events.Send.TheVariants.{Greeting, Command}
 
--- a close, its answer, an answer to confirm.select, or a confirm
+-- what the server says before a connection runs, a close, its answer, an answer to confirm.select, or a confirm
 abbrev pub is_answer : Method → Bool
+is_answer (ConnectionStart m) = true
+is_answer (ConnectionTune m) = true
+is_answer (ConnectionOpenOk reserved) = true
 is_answer (ConnectionClose m) = true
 is_answer ConnectionCloseOk = true
 is_answer (ChannelClose m) = true
@@ -28,9 +31,9 @@ pub record IsShort (c d h : ℕ) (m : Method) (content : Option Content) : Type 
   pub none : content ≡ None
   pub size : length (method_bytes m) ≤ 4088
 
--- it is a short method for connection c; the protocol header answers no event
+-- it is a short method for connection c, or the protocol header
 abbrev pub IsReply : ℕ → Send → Type 0
-IsReply c (Greeting d) = ⊥
+IsReply c (Greeting d) = d ≡ c
 IsReply c (Command d h m content) = IsShort c d h m content
 
 -- at most one is sent

@@ -11,11 +11,11 @@ use Rattle.model.specs.declared.events.Phase.TheVariants as phase
 use Rattle.model.specs.declared.methods.Close.{Close}
 use Rattle.model.specs.declared.methods.Method.{Method}
 use Rattle.model.specs.declared.methods.Method.TheVariants.{ConnectionStartOk, ConnectionClose, ConnectionCloseOk}
-use Rattle.opening.specs.Answers.{Fits, awaited_move}
+use Rattle.session.specs.Answers.{Fits, awaited_move}
 
 -- connection.start has a spelling of 128 bytes
 pub start_fits : Fits start
-start_fits = record { method = (lit< tt, (lit< tt, (table, (lit< tt, (lit< tt, tt))))); size = lit≤ tt }
+start_fits = record { answer = refl; method = (lit< tt, (lit< tt, (table, (lit< tt, (lit< tt, tt))))); size = lit≤ tt }
   where
     table : IsTable (pairs_bytes server_properties)
     table = record {
