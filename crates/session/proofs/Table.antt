@@ -15,7 +15,7 @@ use Rattle.session.specs.Answers.{Fits, awaited_move}
 
 -- connection.start has a spelling of 128 bytes
 pub start_fits : Fits start
-start_fits = record { answer = refl; method = (lit< tt, (lit< tt, (table, (lit< tt, (lit< tt, tt))))); size = lit≤ tt }
+start_fits = record { method = (lit< tt, (lit< tt, (table, (lit< tt, (lit< tt, tt))))); size = lit≤ tt }
   where
     table : IsTable (pairs_bytes server_properties)
     table = record {

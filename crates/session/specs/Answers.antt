@@ -1,12 +1,11 @@
 -- What a phase answers, before room is made for it.
-use Rattle.std.specs.Prelude.{◌≡◌, ◌≤◌, ℕ, [], length, Bool, true, ⊤}
+use Rattle.std.specs.Prelude.{◌≤◌, ℕ, [], length, Bool, ⊤}
 use Rattle.model.specs.Grammar.{IsMethod, method_bytes}
 use Rattle.model.specs.Phases.{Session, Move, stays_in}
 use Rattle.model.specs.Opening.{answers_with, at_start, at_tune, at_open}
 use Rattle.model.specs.declared.events.Phase.{Phase}
 use Rattle.model.specs.declared.events.Phase.TheVariants as phase
 use Rattle.model.specs.declared.methods.Method.{Method}
-use Rattle.session.specs.Replies.{is_answer}
 use Rattle.session.specs.declared.answers.Answer.{Answer}
 use Rattle.session.specs.declared.answers.Answer.TheVariants.{Nothing, Tunes, Says}
 
@@ -16,9 +15,8 @@ move_of c s Nothing = stays_in s
 move_of c s (Tunes channel_max frame_max) = record { sends = []; next = record { phase = phase.Open; channel_max = channel_max; frame_max = frame_max } }
 move_of c s (Says m p) = answers_with c s m p
 
--- the method is one that a session sends, and has a spelling that fits the least frame
+-- the method has a spelling that fits the least frame
 pub record Fits (m : Method) : Type 0 where
-  pub answer : is_answer m ≡ true
   pub method : IsMethod m
   pub size : length (method_bytes m) ≤ 4088
 

@@ -1,4 +1,3 @@
 pub mod Limits
-pub mod Replies
 pub mod Answers
 pub mod Rows

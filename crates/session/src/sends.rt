@@ -6,7 +6,7 @@ ghost use Rattle.model.specs.Step.{reply, connection_close};
 ghost use Rattle.model.specs.Opening as said;
 ghost use Rattle.model.specs.declared.events.Send.TheVariants as send;
 ghost use Rattle.session.specs.Answers.{Fits};
-ghost use Rattle.session.specs.Replies.{AreReplies};
+ghost use Rattle.model.specs.Sending.{AreOwn};
 
 use model::{Close, Ids, Method, Send, Start, Table, Text, Tuning, reply_text};
 use std::alloc::{AllocError, Global};
@@ -64,11 +64,19 @@ pub(crate) fn close(code: u16, cause: Ids) -> Method
     })
 }
 
+/// Nothing at all. It takes no memory.
+pub(crate) fn nothing(alloc: Global) -> Vec<Send>
+    ensures sends { result.items ≡ [] }
+    ensures own { (c : ℕ) → AreOwn c result.items }
+{
+    Vec::new(alloc)
+}
+
 /// One method on channel 0, which carries no content.
 pub(crate) fn one(alloc: Global, connection: u64, method: Method) -> Result<Vec<Send>, AllocError>
     requires { Fits method }
     ensures sends { IfOk result (λ sends. sends.items ≡ reply connection 0 method ∷ []) }
-    ensures short { IfOk result (λ sends. AreReplies connection sends.items) }
+    ensures own { IfOk result (λ sends. AreOwn connection sends.items) }
 {
     let mut sends = Vec::new(alloc);
     sends.push(Send::Command {
@@ -83,7 +91,7 @@ pub(crate) fn one(alloc: Global, connection: u64, method: Method) -> Result<Vec<
 /// The protocol header.
 pub(crate) fn greeting(alloc: Global, connection: u64) -> Result<Vec<Send>, AllocError>
     ensures sends { IfOk result (λ sends. sends.items ≡ send.Greeting connection ∷ []) }
-    ensures short { IfOk result (λ sends. AreReplies connection sends.items) }
+    ensures own { IfOk result (λ sends. AreOwn connection sends.items) }
 {
     let mut sends = Vec::new(alloc);
     sends.push(Send::Greeting { connection })?;

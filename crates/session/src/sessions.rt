@@ -6,7 +6,7 @@ ghost use Rattle.model.specs.Phases as said;
 ghost use Rattle.model.specs.declared.events.Send as sent;
 
 use crate::answers::{Answer, answer_to, logs_in};
-use crate::sends::{close, greeting, one, start};
+use crate::sends::{close, greeting, nothing, one, start};
 use model::{Ids, Method, Phase, Publish, Send, Text, User};
 use std::alloc::{AllocError, Global};
 use std::marker::Model;
@@ -71,7 +71,7 @@ impl Session {
     ghost use Rattle.model.specs.Arrivals.{is_ended};
     ghost use Rattle.model.specs.Step.{empty_publish};
     ghost use Rattle.model.specs.declared.events.Phase.TheVariants as phase;
-    ghost use Rattle.session.specs.Replies.{AreReplies};
+    ghost use Rattle.model.specs.Sending.{AreOwn};
 
     /// One whose first eight bytes are awaited. Until limits are agreed on, a frame has at most 4,096 bytes.
     pub fn new() -> Session
@@ -163,14 +163,14 @@ impl Session {
         connection: u64,
         bytes: &[u8; 8],
     ) -> Result<Vec<Send>, AllocError>
-        ensures short { IfOk result (λ sends. AreReplies connection sends.items) }
+        ensures own { IfOk result (λ sends. AreOwn connection sends.items) }
         ensures quiet { (first_move connection self.old self.old.phase bytes.now).sends ≡ [] → IsOk result }
         ensures sends { IfOk result (λ sends. sends.items ≡ (first_move connection self.old self.old.phase bytes.now).sends) }
         ensures ok { OnOk result (self.new ≡ (first_move connection self.old self.old.phase bytes.now).next) }
         ensures err { OnErr result (self.new ≡ self.old) }
     {
         if !matches!(self.phase, Phase::Header) {
-            return Ok(Vec::new(alloc));
+            return Ok(nothing(alloc));
         }
         if bytes.as_slice() == b"AMQP\x00\x00\x09\x01".as_slice() {
             let sends = one(alloc, connection, start())?;
@@ -192,21 +192,21 @@ impl Session {
         channel: u16,
         method: &Method,
     ) -> Result<Vec<Send>, AllocError>
-        ensures short { IfOk result (λ sends. AreReplies connection sends.items) }
+        ensures own { IfOk result (λ sends. AreOwn connection sends.items) }
         ensures quiet { (while_closing connection self.old channel method.now).sends ≡ [] → IsOk result }
         ensures answered { IfOk result (λ sends. record { sends = sends.items; next = self.new } ≡ while_closing connection self.old channel method.now) }
         ensures err { OnErr result (self.new ≡ self.old) }
     {
         if channel != 0 {
-            return Ok(Vec::new(alloc));
+            return Ok(nothing(alloc));
         }
         match method {
             Method::ConnectionClose(_) => one(alloc, connection, Method::ConnectionCloseOk),
             Method::ConnectionCloseOk => {
                 self.end();
-                Ok(Vec::new(alloc))
+                Ok(nothing(alloc))
             }
-            _ => Ok(Vec::new(alloc)),
+            _ => Ok(nothing(alloc)),
         }
     }
 
@@ -219,14 +219,14 @@ impl Session {
         method: &Method,
         users: &[User],
     ) -> Result<Vec<Send>, AllocError>
-        ensures short { IfOk result (λ sends. AreReplies connection sends.items) }
+        ensures own { IfOk result (λ sends. AreOwn connection sends.items) }
         ensures quiet { (move : Move) → Opens users.now connection self.old channel method.now move → move.sends ≡ [] → IsOk result }
         ensures opens { IfOk result (λ sends. Opens users.now connection self.old channel method.now (record { sends = sends.items; next = self.new })) }
         ensures err { OnErr result (self.new ≡ self.old) }
     {
         let is_user = logs_in(users, self.phase, method);
         match answer_to(self.phase, channel, method, is_user) {
-            Answer::Nothing => Ok(Vec::new(alloc)),
+            Answer::Nothing => Ok(nothing(alloc)),
             Answer::Tunes {
                 channel_max,
                 frame_max,
@@ -234,7 +234,7 @@ impl Session {
                 self.phase = Phase::Open;
                 self.channel_max = channel_max;
                 self.frame_max = frame_max;
-                Ok(Vec::new(alloc))
+                Ok(nothing(alloc))
             }
             Answer::Says {
                 method: said,
@@ -260,7 +260,7 @@ impl Session {
         method: &Method,
         users: &[User],
     ) -> Result<Vec<Send>, AllocError>
-        ensures short { IfOk result (λ sends. AreReplies connection sends.items) }
+        ensures own { IfOk result (λ sends. AreOwn connection sends.items) }
         ensures quiet { (move : Move) → IsAnswered users.now connection self.old self.old.phase channel method.now move → move.sends ≡ [] → IsOk result }
         ensures answered { IfOk result (λ sends. IsAnswered users.now connection self.old self.old.phase channel method.now (record { sends = sends.items; next = self.new })) }
         ensures err { OnErr result (self.new ≡ self.old) }
@@ -281,7 +281,7 @@ impl Session {
         channel: u16,
         users: &[User],
     ) -> Result<Vec<Send>, AllocError>
-        ensures short { IfOk result (λ sends. AreReplies connection sends.items) }
+        ensures own { IfOk result (λ sends. AreOwn connection sends.items) }
         ensures quiet { (move : Move) → IsAnswered users.now connection self.old self.old.phase channel empty_publish move → move.sends ≡ [] → IsOk result }
         ensures answered { IfOk result (λ sends. IsAnswered users.now connection self.old self.old.phase channel empty_publish (record { sends = sends.items; next = self.new })) }
         ensures err { OnErr result (self.new ≡ self.old) }
@@ -309,7 +309,7 @@ impl Session {
         connection: u64,
         code: u16,
     ) -> Result<Vec<Send>, AllocError>
-        ensures short { IfOk result (λ sends. AreReplies connection sends.items) }
+        ensures own { IfOk result (λ sends. AreOwn connection sends.items) }
         ensures quiet { (faulted connection self.old self.old.phase code).sends ≡ [] → IsOk result }
         ensures sends { IfOk result (λ sends. sends.items ≡ (faulted connection self.old self.old.phase code).sends) }
         ensures ok { OnOk result (self.new ≡ (faulted connection self.old self.old.phase code).next) }
@@ -318,9 +318,9 @@ impl Session {
         match self.phase {
             Phase::Closing => {
                 self.end();
-                Ok(Vec::new(alloc))
+                Ok(nothing(alloc))
             }
-            Phase::Over => Ok(Vec::new(alloc)),
+            Phase::Over => Ok(nothing(alloc)),
             _ => {
                 let cause = Ids {
                     class: 0,
