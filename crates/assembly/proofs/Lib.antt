@@ -1,5 +1,6 @@
 pub mod Codes
 pub mod Sizes
+pub mod Limits
 pub mod Places
 pub mod Onwards
 pub mod Staying

@@ -1,8 +1,11 @@
 -- What a channel has begun and not completed, as the stream's definitions see it.
-use Rattle.std.specs.Prelude.{◌≤◌, ℕ, List, slice_index_or, ⊤}
+use Rattle.std.specs.Prelude.{◌≤◌, ℕ, List, length, slice_index_or, ⊤}
 use Rattle.model.specs.Grammar.{IsMethod}
+use Rattle.model.specs.Headers.{AreProperties, header_bytes}
 use Rattle.model.specs.Commands
-use Rattle.model.specs.Commands.{Wants_header, Wants_body}
+use Rattle.model.specs.Commands.{Wants_header, Wants_body, most_body, most_header}
+use Rattle.model.specs.declared.contents.Fields.{Fields as Properties}
+use Rattle.model.specs.declared.methods.Publish.{Publish}
 use Rattle.model.specs.declared.methods.Method.TheVariants.{BasicPublish}
 use Rattle.assembly.specs.declared.contents.Pending.{Pending}
 use Rattle.assembly.specs.declared.contents.Pending.TheVariants.{Nothing, WantsHeader, WantsBody, Drops}
@@ -14,11 +17,18 @@ pending_of (WantsHeader publish) = Wants_header publish
 pending_of (WantsBody g) = Wants_body g.publish g.properties g.size g.body
 pending_of (Drops d) = Commands.Drops d.size d.count
 
--- its publish, if there is one, has a spelling, and no more is dropped than was declared
+-- A publish whose body comes in, of so many bytes: it and its properties have a spelling, and its content is not too large.
+pub record IsBegun (publish : Publish) (properties : Properties) (size : ℕ) : Type 0 where
+  pub method : IsMethod (BasicPublish publish)
+  pub spelled : AreProperties properties
+  pub body : size ≤ most_body
+  pub header : length (header_bytes size properties) ≤ most_header
+
+-- its publish and its content, if there are any, can be sent again, and no more is dropped than was declared
 abbrev pub IsSpelled : Pending → Type 0
 IsSpelled Nothing = ⊤
 IsSpelled (WantsHeader publish) = IsMethod (BasicPublish publish)
-IsSpelled (WantsBody g) = IsMethod (BasicPublish g.publish)
+IsSpelled (WantsBody g) = IsBegun g.publish g.properties g.size
 IsSpelled (Drops d) = d.count ≤ d.size
 
 -- the element of a channel, in a list by channel number

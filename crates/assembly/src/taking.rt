@@ -1,13 +1,14 @@
 //! What one frame does to the channel that awaits it.
 
-ghost use Rattle.std.specs.Prelude.{◌≡◌, ◌+◌, ◌==◌, ◌++◌, ℕ, length, MatchBool, Result, Ok, None};
+ghost use Rattle.std.specs.Prelude.{◌≡◌, ◌+◌, ◌==◌, ◌++◌, ℕ, length, false, MatchBool, Result, Ok, None};
 ghost use Rattle.model.specs.Commands;
-ghost use Rattle.model.specs.Commands.{Breaks, TakesPayload, awaited, taken_body, taken_header, taken_method};
-ghost use Rattle.model.specs.Headers.{Header, SaysHeader};
+ghost use Rattle.model.specs.Commands.{Breaks, TakesPayload, awaited, is_too_large as exceeds, taken_body, taken_header, taken_method};
+ghost use Rattle.model.specs.Headers.{Header, SaysHeader, size_at};
 ghost use Rattle.model.specs.Grammar.{IsMethod, SaysMethod};
+ghost use Rattle.model.specs.declared.events.Command.TheVariants as command;
 ghost use Rattle.model.specs.declared.methods.Method.TheVariants.{BasicPublish};
 ghost use Rattle.frame.specs.Reading.{seen};
-ghost use Rattle.assembly.specs.Pending.{pending_of, IsSpelled};
+ghost use Rattle.assembly.specs.Pending.{pending_of, IsSpelled, IsBegun};
 ghost use Rattle.assembly.specs.declared.contents.Pending.TheVariants.{WantsHeader, WantsBody};
 ghost use Rattle.assembly.specs.Names.{IsPublish};
 ghost use Rattle.assembly.specs.Taking.{Does};
@@ -20,7 +21,7 @@ use crate::names::Names;
 use frame::Frame;
 use headers::{read_header, read_size};
 use methods::read_method;
-use model::{Command, Content, Method, Publish, Text};
+use model::{Command, Content, Method, Properties, Publish, Text};
 use std::alloc::Global;
 
 /// What a frame did: what its channel awaits now, and the command that it ended, if it ended one.
@@ -121,25 +122,16 @@ fn take_header(alloc: Global, publish: Publish, frame: &Frame<'_>) -> Taking
 
 /// A header that is not too large. A body of no bytes is whole.
 fn begin_content(alloc: Global, publish: Publish, frame: &Frame<'_>) -> Taking
-    requires { IsMethod (BasicPublish publish) }
+    requires spelled { IsMethod (BasicPublish publish) }
+    requires small { exceeds frame.now.payload.now (size_at frame.now.payload.now) ≡ false }
     ensures spelled { IsSpelled result.0 }
     ensures does { Does (λ t. (r : Result Header ℕ) × SaysHeader frame.now.payload.now r × (t ≡ taken_header frame.now.channel publish r)) (Commands.Wants_header publish) result.1 (pending_of result.0) }
 {
     match read_header(alloc, frame.payload) {
         Ok(header) => {
             if header.size == 0 {
-                let content = Content {
-                    properties: header.properties,
-                    body: Text::empty(),
-                };
-                return (
-                    Pending::Nothing,
-                    Ok(Some(Command::Full {
-                        channel: frame.channel,
-                        publish,
-                        content,
-                    })),
-                );
+                let whole = full(frame.channel, publish, header.properties, Text::empty());
+                return (Pending::Nothing, Ok(Some(whole)));
             }
             let gathering = Gathering {
                 publish,
@@ -153,9 +145,20 @@ fn begin_content(alloc: Global, publish: Publish, frame: &Frame<'_>) -> Taking
     }
 }
 
+/// A publish with its whole content.
+fn full(channel: u16, publish: Publish, properties: Properties, body: Text) -> Command
+    ensures { result ≡ command.Full channel publish (record { properties = properties; body = body }) }
+{
+    Command::Full {
+        channel,
+        publish,
+        content: Content { properties, body },
+    }
+}
+
 /// A piece of a body. Past the declared size it is a fault, and at it the publish is a command.
 fn take_body(gathering: Gathering, frame: &Frame<'_>) -> Taking
-    requires { IsMethod (BasicPublish gathering.publish) }
+    requires { IsBegun gathering.publish gathering.properties gathering.size }
     ensures spelled { IsSpelled result.0 }
     ensures does { Does (λ t. t ≡ taken_body frame.now.channel gathering.publish gathering.properties gathering.size (gathering.body ++ frame.now.payload.now)) (pending_of (WantsBody gathering)) result.1 (pending_of result.0) }
 {
@@ -175,7 +178,7 @@ fn take_body(gathering: Gathering, frame: &Frame<'_>) -> Taking
 
 /// The last piece of a body.
 fn finish_body(gathering: Gathering, frame: &Frame<'_>) -> Taking
-    requires spelled { IsMethod (BasicPublish gathering.publish) }
+    requires begun { IsBegun gathering.publish gathering.properties gathering.size }
     requires last { length gathering.body + length frame.now.payload.now ≡ gathering.size }
     ensures spelled { IsSpelled result.0 }
     ensures does { Does (λ t. t ≡ taken_body frame.now.channel gathering.publish gathering.properties gathering.size (gathering.body ++ frame.now.payload.now)) (pending_of (WantsBody gathering)) result.1 (pending_of result.0) }

@@ -1,4 +1,5 @@
 pub mod Waiting
+pub mod Sending
 pub mod Reading
 pub mod Performing
 pub mod Turning

@@ -1,5 +1,5 @@
 -- Bytes that wait to be taken.
-use Rattle.std.specs.Prelude.{ℕ, List}
+use Rattle.std.specs.Prelude.{◌≡◌, ◌≤◌, ◌+◌, ℕ, List, ◌++◌, length}
 
 -- bytes put in at the end and taken from the front, and the room made for more
 pub record Waiting : Type 0 where
@@ -7,3 +7,8 @@ pub record Waiting : Type 0 where
   pub bytes : List ℕ
   -- how many more go in with no growth
   pub room : ℕ
+
+-- These bytes were put in, and no more room is gone than they take.
+pub record Puts (old : Waiting) (more : List ℕ) (new : Waiting) : Type 0 where
+  pub bytes : new.bytes ≡ old.bytes ++ more
+  pub room : old.room ≤ new.room + length more

@@ -1,15 +1,17 @@
-//! A place to spell one method.
+//! A place to spell one method, or the header of one content.
 
-ghost use Rattle.std.specs.Prelude.{◌≡◌, ◌≤◌, [], length, true, vec_len, vec_capacity, IfOk};
+ghost use Rattle.std.specs.Prelude.{◌≡◌, ◌≤◌, [], length, vec_len, vec_capacity, IfOk};
 ghost use Rattle.model.specs.Grammar.{IsMethod, method_bytes};
-ghost use Rattle.session.specs.Replies.{is_answer};
+ghost use Rattle.model.specs.Headers.{header_bytes};
+ghost use Rattle.model.specs.Commands.{IsWithin};
 
+use headers::put_header;
 use methods::put_method;
-use model::Method;
+use model::{Content, Method};
 use std::alloc::{AllocError, Global};
 use std::marker::Model;
 
-/// Room for the bytes of a method that fits the least frame. It is used again for each.
+/// Room for the payload of a method or of a header that fits the least frame. It is used again for each.
 #[derive(Drop)]
 pub(crate) struct Scratch {
     bytes: Vec<u8>,
@@ -32,14 +34,21 @@ impl Scratch {
         })
     }
 
-    /// Spells this answer in place of what stands here.
+    /// Spells this method in place of what stands here.
     pub(crate) fn spell(&mut self, method: &Method)
-        requires answer { is_answer method.now ≡ true }
         requires fits { IsMethod method.now }
         requires size { length (method_bytes method.now) ≤ 4088 }
         ensures { self.new ≡ method_bytes method.now }
     {
         spell_into(&mut self.bytes, method);
+    }
+
+    /// Spells the header of this content in place of what stands here.
+    pub(crate) fn spell_header(&mut self, content: &Content)
+        requires { IsWithin content.now }
+        ensures { self.new ≡ header_bytes (length content.now.body) content.now.properties }
+    {
+        header_into(&mut self.bytes, content);
     }
 
     pub(crate) fn bytes(&self) -> &[u8]
@@ -50,7 +59,6 @@ impl Scratch {
 }
 
 fn spell_into(bytes: &mut Vec<u8>, method: &Method)
-    requires answer { is_answer method.now ≡ true }
     requires fits { IsMethod method.now }
     requires size { length (method_bytes method.now) ≤ 4088 }
     requires room { 4096 ≤ vec_capacity bytes.old }
@@ -59,4 +67,14 @@ fn spell_into(bytes: &mut Vec<u8>, method: &Method)
 {
     bytes.clear();
     put_method(bytes, method);
+}
+
+fn header_into(bytes: &mut Vec<u8>, content: &Content)
+    requires within { IsWithin content.now }
+    requires room { 4096 ≤ vec_capacity bytes.old }
+    ensures items { bytes.new.items ≡ header_bytes (length content.now.body) content.now.properties }
+    ensures room { 4096 ≤ vec_capacity bytes.new }
+{
+    bytes.clear();
+    put_header(bytes, content.body.len() as u64, &content.properties);
 }

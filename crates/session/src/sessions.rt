@@ -95,6 +95,17 @@ impl Session {
         }
     }
 
+    /// One that stands where this one does, with its limits.
+    pub fn copied(&self) -> Session
+        ensures { result ≡ self.now }
+    {
+        Session {
+            phase: self.phase,
+            channel_max: self.channel_max,
+            frame_max: self.frame_max,
+        }
+    }
+
     /// Where the connection stands.
     pub fn phase(&self) -> Phase
         ensures { result ≡ self.now.phase }

@@ -3,6 +3,7 @@ use Rattle.model.specs.Commands.{Wants_header, TakesPayload, taken_dropped}
 use Rattle.frame.specs.Reading.{seen}
 use Rattle.assembly.specs.Pending.{pending_of}
 use Rattle.assembly.proofs.Codes.{map_fault, does_wider, takes_large}
+use Rattle.assembly.proofs.Limits.{small_at}
 use Rattle.assembly.proofs.taking.take_header.Goals as goal
 
 pub returns-then-is_too_large-clause-does : goal.returns-then-is_too_large-clause-does
@@ -15,3 +16,6 @@ returns-then-is_too_large-clause-does c =
 pub returns-in-Err-clause-does : goal.returns-in-Err-clause-does
 returns-in-Err-clause-does c =
     (map_fault _ _ c.of_size.result (λ code s. (Err code, s, refl)) (c.of_size.ensures c.args.frame.now.payload.now c.in-Err.ensures), refl)
+
+pub begin_content-requires-clause-small : goal.begin_content-requires-clause-small
+begin_content-requires-clause-small c = small_at c.args.frame.now.payload.now c.in-Ok.size c.in-Ok.ensures (sym c.is_too_large.ensures ∙ c.if-is_too_large.false)

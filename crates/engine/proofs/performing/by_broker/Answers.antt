@@ -1,12 +1,12 @@
 use Rattle.broker.specs.State.{topology_of, broker_of}
-use Rattle.engine.proofs.Replies.{broker_replies}
+use Rattle.engine.proofs.Replies.{broker_sends}
 use Rattle.engine.proofs.performing.by_broker.Goals as goal
 
 pub returns : goal.returns
 returns c = record {
   ok = record { acts = c.in_ok-step.ensures.ok; session = rw (← c.deref.ensures.value) c.learn.ensures };
-  replies = broker_replies (topology_of c.args.broker.now) (broker_of c.args.broker.now) (broker_of c.step.new.self) c.args.c c.args.event.now c.in_ok-step.step.sends.items c.in_ok-step.step.notes.items
-      c.requires c.in_ok-step.ensures.ok c.in_ok-step.ensures.own;
+  own = broker_sends (topology_of c.args.broker.now) (broker_of c.args.broker.now) (broker_of c.step.new.self) c.args.c c.args.event.now c.in_ok-step.step.sends.items c.in_ok-step.step.notes.items
+      c.requires.asked c.requires.said c.requires.carried c.in_ok-step.ensures.ok c.in_ok-step.ensures.own;
   broker_kept = tt;
   session_kept = tt;
   topology = c.step.ensures.topology;
