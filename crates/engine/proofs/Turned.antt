@@ -37,7 +37,7 @@ asks_command c (Full h p content) = refl
 asks_command c (TooLarge h) = refl
 
 says_command : (c : ℕ) (m : Command) → IsCommand m → IsSaid (event_of c m)
-says_command c (Plain h m) is = is
+says_command c (Plain h m) is = (is, tt)
 says_command c (Full h p content) is = is
 says_command c (TooLarge h) is = is
 

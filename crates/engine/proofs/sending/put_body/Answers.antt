@@ -1,7 +1,6 @@
-use Rattle.std.proofs.Common.{◌+◌, ◌≤◌, List, ℕ, length, refl, sym, ap, subst}
+use Rattle.std.proofs.Common.{◌+◌, ◌≤◌, List, ℕ, length, sym, ap, subst}
 use Rattle.std.proofs.lemmas.Bool.{eqb-true}
 use Rattle.model.specs.Spelling.{body_frame}
-use Rattle.engine.specs.Waiting.{Waiting}
 use Rattle.engine.proofs.Putting.{Putting, putting_none, putting_fits, putting_more, putting_all, puts_frame, some_left}
 use Rattle.engine.proofs.sending.put_body.Goals as goal
 
