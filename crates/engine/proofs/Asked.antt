@@ -1,9 +1,9 @@
 -- What is asked next, and what is decided of it.
 use Rattle.std.specs.Prelude.{Result, Ok, Err, IfOk, IsOk, OnErr}
-use Rattle.model.specs.Step.{Does}
-use Rattle.std.proofs.Common.{◌≢◌, List, [], refl}
+use Rattle.model.specs.Step.{Does, Is}
+use Rattle.model.specs.State.{after_move}
+use Rattle.std.proofs.Common.{◌≡◌, ◌≢◌, ℕ, List, [], refl}
 use Rattle.std.proofs.lemmas.Bool.{false≢true}
-use Rattle.model.specs.Topology.{Topology}
 use Rattle.model.specs.Broker.{Broker}
 use Rattle.model.specs.Phases.{Session}
 use Rattle.model.specs.declared.events.Phase.{Phase}
@@ -11,17 +11,17 @@ use Rattle.model.specs.declared.events.Phase.TheVariants as phase
 use Rattle.model.specs.declared.events.Send.{Send}
 use Rattle.model.specs.declared.events.Event.{Event}
 use Rattle.model.specs.declared.notes.Note.{Note}
-use Rattle.engine.specs.Performing.{ByPhase, Decides}
+use Rattle.engine.specs.Performing.{Rules, ByPhase, Decides}
 
-pub decides_elsewhere : (p : Phase) (t : Topology) (b : Broker) (s : Session) (e : Event) (sends : List Send) (notes : List Note) (new_b : Broker) (new_s : Session)
-    → p ≢ phase.Running → ByPhase p b s e sends notes new_b new_s → Decides p t b s e sends notes new_b new_s
-decides_elsewhere phase.Header t b s e sends notes new_b new_s ne by = by
-decides_elsewhere phase.Start t b s e sends notes new_b new_s ne by = by
-decides_elsewhere phase.Tune t b s e sends notes new_b new_s ne by = by
-decides_elsewhere phase.Open t b s e sends notes new_b new_s ne by = by
-decides_elsewhere phase.Running t b s e sends notes new_b new_s ne by = absurd (ne refl)
-decides_elsewhere phase.Closing t b s e sends notes new_b new_s ne by = by
-decides_elsewhere phase.Over t b s e sends notes new_b new_s ne by = by
+pub decides_elsewhere : (c : ℕ) (p : Phase) (r : Rules) (b : Broker) (s : Session) (e : Event) (sends : List Send) (notes : List Note) (new_b : Broker) (new_s : Session)
+    → p ≢ phase.Running → ByPhase r.users c p b s e sends notes new_b new_s → Decides c p r b s e sends notes new_b new_s
+decides_elsewhere c phase.Header r b s e sends notes new_b new_s ne by = by
+decides_elsewhere c phase.Start r b s e sends notes new_b new_s ne by = by
+decides_elsewhere c phase.Tune r b s e sends notes new_b new_s ne by = by
+decides_elsewhere c phase.Open r b s e sends notes new_b new_s ne by = by
+decides_elsewhere c phase.Running r b s e sends notes new_b new_s ne by = absurd (ne refl)
+decides_elsewhere c phase.Closing r b s e sends notes new_b new_s ne by = by
+decides_elsewhere c phase.Over r b s e sends notes new_b new_s ne by = by
 
 pub ok_map : {T F : Type 0} (r : Result T F) (P Q : T → Type 0) → ((x : T) → P x → Q x) → IfOk r P → IfOk r Q
 ok_map (Ok x) P Q f p = f x p
@@ -38,3 +38,16 @@ quiet sends notes new made d = record { sent = refl; noted = refl; left = d.left
 pub ok_then : {T F : Type 0} (r : Result T F) (P : T → Type 0) (Q : Type 0) → ((x : T) → P x → Q) → IsOk r → IfOk r P → Q
 ok_then (Ok x) P Q f ok p = f x p
 ok_then (Err e) P Q f ok p = absurd (false≢true ok)
+
+is_same : (b : Broker) → Is b b
+is_same b = record { counted = refl; queues = λ q. refl; connections = λ c. refl; channels = λ c h. refl }
+
+-- by a move that leads elsewhere than to Running, nothing changes in the broker
+pub unmoved : (b : Broker) (c : ℕ) (p : Phase) (s : Session) → s.phase ≡ p → p ≢ phase.Running → Is (after_move b c s) b
+unmoved b c phase.Header s e ne = rw e (is_same b)
+unmoved b c phase.Start s e ne = rw e (is_same b)
+unmoved b c phase.Tune s e ne = rw e (is_same b)
+unmoved b c phase.Open s e ne = rw e (is_same b)
+unmoved b c phase.Running s e ne = absurd (ne refl)
+unmoved b c phase.Closing s e ne = rw e (is_same b)
+unmoved b c phase.Over s e ne = rw e (is_same b)

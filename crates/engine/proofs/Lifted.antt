@@ -4,15 +4,17 @@ use Rattle.std.specs.Prelude.{◌==◌, ◌&&◌, not, if◌then◌else◌, Matc
 use Rattle.std.proofs.lemmas.Bool.{eq-eqb}
 use Rattle.model.specs.Broker.{Broker, with_one}
 use Rattle.model.specs.Commands.{Stream, Ends, stays, running_stream, heard}
-use Rattle.model.specs.Phases.{Session, Move, stays_in, is_running, while_closing, to_phase, after_sends, answer, faulted}
-use Rattle.model.specs.State.{Config, State, after_move, Step, Steps, Moves, OfCommand, OfLarge, OfFault}
-use Rattle.model.specs.Step.{Acts, Is, empty_publish, opened, reply}
+use Rattle.model.specs.Phases.{Session, Move, to_phase, after_sends, faulted}
+use Rattle.model.specs.Opening.{IsAnswered}
+use Rattle.model.specs.declared.messages.User.{User}
+use Rattle.model.specs.State.{Config, State, Step, Steps, Moves, OfCommand, OfLarge, OfFault}
+use Rattle.model.specs.Step.{Acts, empty_publish}
 use Rattle.model.specs.Spelling.{spelling}
 use Rattle.model.specs.Run.{Happening, notes_of}
 use Rattle.model.specs.Arrivals.{Wire, Turns, Settles, Reads, again, fresh, fault, event_of, is_over, is_paused, is_ended, is_past_bound, wire_after, new_wire, Waits, Same, SameToCome, still, waits, IsIdle, Takes_off, Loses, with_heard}
 use Rattle.model.specs.declared.contents.Content.{Content}
 use Rattle.model.specs.declared.methods.Method.{Method}
-use Rattle.model.specs.declared.methods.Method.TheVariants.{BasicPublish, ConnectionClose, ConnectionCloseOk}
+use Rattle.model.specs.declared.methods.Method.TheVariants.{BasicPublish}
 use Rattle.model.specs.declared.notes.Note.{Note}
 use Rattle.model.specs.declared.events.Send.{Send}
 use Rattle.model.specs.declared.events.Phase.{Phase}
@@ -23,7 +25,7 @@ use Rattle.model.specs.declared.events.Event.{Event}
 use Rattle.model.specs.declared.events.Event.TheVariants as event
 use Rattle.assembly.specs.Held.{stream_of}
 use Rattle.broker.specs.State.{topology_of, broker_of}
-use Rattle.engine.specs.Performing.{Decides, ByBroker, ByPhase, session_after, move_of, PausesOr}
+use Rattle.engine.specs.Performing.{rules_of, Decides, ByBroker, ByPhase, session_after, PausesOr}
 use Rattle.engine.specs.Reading.{kept_of}
 use Rattle.engine.specs.Turning.{LinkDid, LinkWaits}
 use Rattle.engine.specs.Waiting.{Waiting}
@@ -34,49 +36,11 @@ use Rattle.runs.proofs.Worlds.{world_same}
 use Rattle.runs.specs.Opened.{Hears}
 use Rattle.engine.specs.declared.links.Link.{Link}
 
-is_same : (b new : Broker) → new ≡ b → Is b new
-is_same b new e = subst (λ (z : Broker). Is b z) (sym e) (record { counted = refl; queues = λ q. refl; connections = λ c. refl; channels = λ c h. refl })
-
--- by a move that leads elsewhere than to Running, nothing changes in the broker
-unmoved : (b new : Broker) (c : ℕ) (next : Session) → is_running next.phase ≡ false → new ≡ b → Is (after_move b c next) new
-unmoved b new c next idle e = subst (λ (v : Bool). Is (if v then opened b c next.channel_max 0 else b) new) (sym idle) (is_same b new e)
-
--- no phase but Running answers so that the connection runs
-idle_closing : (c : ℕ) (s : Session) (h : ℕ) (m : Method) → is_running s.phase ≡ false → is_running (while_closing c s h m).next.phase ≡ false
-idle_closing c s h (ConnectionClose m) idle = go (h == 0)
-  where
-    go : (v : Bool) → is_running (if v then record { sends = reply c 0 ConnectionCloseOk ∷ []; next = s } else stays_in s).next.phase ≡ false
-    go true = idle
-    go false = idle
-idle_closing c s h ConnectionCloseOk idle = go (h == 0)
-  where
-    go : (v : Bool) → is_running (if v then record { sends = []; next = to_phase s phase.Over } else stays_in s).next.phase ≡ false
-    go true = refl
-    go false = idle
-idle_closing c s h _ idle = idle
-
-idle_answer : (c : ℕ) (s : Session) (p : Phase) (h : ℕ) (m : Method) → is_running s.phase ≡ false → is_running (answer c s p h m).next.phase ≡ false
-idle_answer c s phase.Closing h m idle = idle_closing c s h m idle
-idle_answer c s _ h m idle = idle
-
-idle_fault : (c : ℕ) (s : Session) (p : Phase) (code : ℕ) → is_running s.phase ≡ false → is_running (faulted c s p code).next.phase ≡ false
-idle_fault c s phase.Closing code idle = refl
-idle_fault c s phase.Over code idle = idle
-idle_fault c s _ code idle = refl
-
 -- ---- what one connection does is a step
 
-moved : (s : State) (c : ℕ) (sess sess' : Session) (e : Event) (p : Phase) (sends : List Send) (notes : List Note) (mid : Broker) (move : Session → Move)
-    → s.session c ≡ sess → is_running (move (s.session c)).next.phase ≡ false → ByPhase p s.broker sess e sends notes mid sess' → ((z : Session) → move_of p z e ≡ move z)
-    → Moves s c (move (s.session c)) sends notes (record { broker = mid; session = with_one s.session c sess' })
-moved s c sess sess' e p sends notes mid move eq idle by is =
-    let same : move_of p sess e ≡ move (s.session c) = is sess ∙ ap move (sym eq) in
-    record {
-      sent = by.sent ∙ ap (λ z. z.sends) same;
-      noted = by.noted;
-      session = λ k. ap (λ (z : Session). with_one s.session c z k) (by.session ∙ ap (λ z. z.next) same);
-      broker = unmoved s.broker mid c (move (s.session c)).next idle by.broker;
-    }
+moved : (users : List User) (s : State) (c : ℕ) (sess sess' : Session) (e : Event) (p : Phase) (sends : List Send) (notes : List Note) (mid : Broker)
+    → ByPhase users c p s.broker sess e sends notes mid sess' → Moves s c (record { sends = sends; next = sess' }) sends notes (record { broker = mid; session = with_one s.session c sess' })
+moved users s c sess sess' e p sends notes mid by = record { sent = refl; noted = by.noted; session = λ k. refl; broker = by.broker }
 
 stepped_by : (f : Config) (s : State) (c : ℕ) (sess sess' : Session) (e : Event) (sends : List Send) (notes : List Note) (mid : Broker) (after : Session)
     → ByBroker f.topology s.broker sess e sends notes mid sess' → session_after sess e sends ≡ after
@@ -84,40 +48,40 @@ stepped_by : (f : Config) (s : State) (c : ℕ) (sess sess' : Session) (e : Even
 stepped_by f s c sess sess' e sends notes mid after by is = record { acts = by.acts; session = λ k. ap (λ (z : Session). with_one s.session c z k) (by.session ∙ is) }
 
 of_command : (p : Phase) (f : Config) (s : State) (c h : ℕ) (m : Method) (content : Option Content) (sess sess' : Session) (sends : List Send) (notes : List Note) (mid : Broker)
-    → s.session c ≡ sess → sess.phase ≡ p → Decides p f.topology s.broker sess (event.Command c h m content) sends notes mid sess'
+    → s.session c ≡ sess → sess.phase ≡ p → Decides c p (rules_of f.topology f.users) s.broker sess (event.Command c h m content) sends notes mid sess'
     → OfCommand f s p c h m content sends notes (record { broker = mid; session = with_one s.session c sess' })
 of_command phase.Running f s c h m content sess sess' sends notes mid eq at by = stepped_by f s c sess sess' _ sends notes mid _ by (ap (λ (z : Session). to_phase z (after_sends sends)) (sym eq))
-of_command phase.Header f s c h m content sess sess' sends notes mid eq at by = moved s c sess sess' _ phase.Header sends notes mid (λ z. answer c z phase.Header h m) eq (idle_answer c (s.session c) phase.Header h m (ap (λ (z : Session). is_running z.phase) eq ∙ ap is_running at)) by (λ z. refl)
-of_command phase.Start f s c h m content sess sess' sends notes mid eq at by = moved s c sess sess' _ phase.Start sends notes mid (λ z. answer c z phase.Start h m) eq (idle_answer c (s.session c) phase.Start h m (ap (λ (z : Session). is_running z.phase) eq ∙ ap is_running at)) by (λ z. refl)
-of_command phase.Tune f s c h m content sess sess' sends notes mid eq at by = moved s c sess sess' _ phase.Tune sends notes mid (λ z. answer c z phase.Tune h m) eq (idle_answer c (s.session c) phase.Tune h m (ap (λ (z : Session). is_running z.phase) eq ∙ ap is_running at)) by (λ z. refl)
-of_command phase.Open f s c h m content sess sess' sends notes mid eq at by = moved s c sess sess' _ phase.Open sends notes mid (λ z. answer c z phase.Open h m) eq (idle_answer c (s.session c) phase.Open h m (ap (λ (z : Session). is_running z.phase) eq ∙ ap is_running at)) by (λ z. refl)
-of_command phase.Closing f s c h m content sess sess' sends notes mid eq at by = moved s c sess sess' _ phase.Closing sends notes mid (λ z. answer c z phase.Closing h m) eq (idle_answer c (s.session c) phase.Closing h m (ap (λ (z : Session). is_running z.phase) eq ∙ ap is_running at)) by (λ z. refl)
-of_command phase.Over f s c h m content sess sess' sends notes mid eq at by = moved s c sess sess' _ phase.Over sends notes mid (λ z. answer c z phase.Over h m) eq (idle_answer c (s.session c) phase.Over h m (ap (λ (z : Session). is_running z.phase) eq ∙ ap is_running at)) by (λ z. refl)
+of_command phase.Header f s c h m content sess sess' sends notes mid eq at by = record { move = record { sends = sends; next = sess' }; answered = subst (λ (z : Session). IsAnswered f.users c z phase.Header h m (record { sends = sends; next = sess' })) (sym eq) by.answered; moves = moved f.users s c sess sess' _ phase.Header sends notes mid by }
+of_command phase.Start f s c h m content sess sess' sends notes mid eq at by = record { move = record { sends = sends; next = sess' }; answered = subst (λ (z : Session). IsAnswered f.users c z phase.Start h m (record { sends = sends; next = sess' })) (sym eq) by.answered; moves = moved f.users s c sess sess' _ phase.Start sends notes mid by }
+of_command phase.Tune f s c h m content sess sess' sends notes mid eq at by = record { move = record { sends = sends; next = sess' }; answered = subst (λ (z : Session). IsAnswered f.users c z phase.Tune h m (record { sends = sends; next = sess' })) (sym eq) by.answered; moves = moved f.users s c sess sess' _ phase.Tune sends notes mid by }
+of_command phase.Open f s c h m content sess sess' sends notes mid eq at by = record { move = record { sends = sends; next = sess' }; answered = subst (λ (z : Session). IsAnswered f.users c z phase.Open h m (record { sends = sends; next = sess' })) (sym eq) by.answered; moves = moved f.users s c sess sess' _ phase.Open sends notes mid by }
+of_command phase.Closing f s c h m content sess sess' sends notes mid eq at by = record { move = record { sends = sends; next = sess' }; answered = subst (λ (z : Session). IsAnswered f.users c z phase.Closing h m (record { sends = sends; next = sess' })) (sym eq) by.answered; moves = moved f.users s c sess sess' _ phase.Closing sends notes mid by }
+of_command phase.Over f s c h m content sess sess' sends notes mid eq at by = record { move = record { sends = sends; next = sess' }; answered = subst (λ (z : Session). IsAnswered f.users c z phase.Over h m (record { sends = sends; next = sess' })) (sym eq) by.answered; moves = moved f.users s c sess sess' _ phase.Over sends notes mid by }
 
 of_fault : (p : Phase) (f : Config) (s : State) (c code : ℕ) (sess sess' : Session) (sends : List Send) (notes : List Note) (mid : Broker)
-    → s.session c ≡ sess → sess.phase ≡ p → Decides p f.topology s.broker sess (event.Fault c code) sends notes mid sess'
+    → s.session c ≡ sess → sess.phase ≡ p → Decides c p (rules_of f.topology f.users) s.broker sess (event.Fault c code) sends notes mid sess'
     → OfFault f s p c code sends notes (record { broker = mid; session = with_one s.session c sess' })
 of_fault phase.Running f s c code sess sess' sends notes mid eq at by = stepped_by f s c sess sess' _ sends notes mid _ by (ap (λ (z : Session). to_phase z phase.Over) (sym eq))
-of_fault phase.Header f s c code sess sess' sends notes mid eq at by = moved s c sess sess' _ phase.Header sends notes mid (λ z. faulted c z phase.Header code) eq (idle_fault c (s.session c) phase.Header code (ap (λ (z : Session). is_running z.phase) eq ∙ ap is_running at)) by (λ z. refl)
-of_fault phase.Start f s c code sess sess' sends notes mid eq at by = moved s c sess sess' _ phase.Start sends notes mid (λ z. faulted c z phase.Start code) eq (idle_fault c (s.session c) phase.Start code (ap (λ (z : Session). is_running z.phase) eq ∙ ap is_running at)) by (λ z. refl)
-of_fault phase.Tune f s c code sess sess' sends notes mid eq at by = moved s c sess sess' _ phase.Tune sends notes mid (λ z. faulted c z phase.Tune code) eq (idle_fault c (s.session c) phase.Tune code (ap (λ (z : Session). is_running z.phase) eq ∙ ap is_running at)) by (λ z. refl)
-of_fault phase.Open f s c code sess sess' sends notes mid eq at by = moved s c sess sess' _ phase.Open sends notes mid (λ z. faulted c z phase.Open code) eq (idle_fault c (s.session c) phase.Open code (ap (λ (z : Session). is_running z.phase) eq ∙ ap is_running at)) by (λ z. refl)
-of_fault phase.Closing f s c code sess sess' sends notes mid eq at by = moved s c sess sess' _ phase.Closing sends notes mid (λ z. faulted c z phase.Closing code) eq (idle_fault c (s.session c) phase.Closing code (ap (λ (z : Session). is_running z.phase) eq ∙ ap is_running at)) by (λ z. refl)
-of_fault phase.Over f s c code sess sess' sends notes mid eq at by = moved s c sess sess' _ phase.Over sends notes mid (λ z. faulted c z phase.Over code) eq (idle_fault c (s.session c) phase.Over code (ap (λ (z : Session). is_running z.phase) eq ∙ ap is_running at)) by (λ z. refl)
+of_fault phase.Header f s c code sess sess' sends notes mid eq at by = subst (λ (x : Move). Moves s c x sends notes (record { broker = mid; session = with_one s.session c sess' })) (by.answered ∙ ap (λ (z : Session). faulted c z phase.Header code) (sym eq)) (moved f.users s c sess sess' _ phase.Header sends notes mid by)
+of_fault phase.Start f s c code sess sess' sends notes mid eq at by = subst (λ (x : Move). Moves s c x sends notes (record { broker = mid; session = with_one s.session c sess' })) (by.answered ∙ ap (λ (z : Session). faulted c z phase.Start code) (sym eq)) (moved f.users s c sess sess' _ phase.Start sends notes mid by)
+of_fault phase.Tune f s c code sess sess' sends notes mid eq at by = subst (λ (x : Move). Moves s c x sends notes (record { broker = mid; session = with_one s.session c sess' })) (by.answered ∙ ap (λ (z : Session). faulted c z phase.Tune code) (sym eq)) (moved f.users s c sess sess' _ phase.Tune sends notes mid by)
+of_fault phase.Open f s c code sess sess' sends notes mid eq at by = subst (λ (x : Move). Moves s c x sends notes (record { broker = mid; session = with_one s.session c sess' })) (by.answered ∙ ap (λ (z : Session). faulted c z phase.Open code) (sym eq)) (moved f.users s c sess sess' _ phase.Open sends notes mid by)
+of_fault phase.Closing f s c code sess sess' sends notes mid eq at by = subst (λ (x : Move). Moves s c x sends notes (record { broker = mid; session = with_one s.session c sess' })) (by.answered ∙ ap (λ (z : Session). faulted c z phase.Closing code) (sym eq)) (moved f.users s c sess sess' _ phase.Closing sends notes mid by)
+of_fault phase.Over f s c code sess sess' sends notes mid eq at by = subst (λ (x : Move). Moves s c x sends notes (record { broker = mid; session = with_one s.session c sess' })) (by.answered ∙ ap (λ (z : Session). faulted c z phase.Over code) (sym eq)) (moved f.users s c sess sess' _ phase.Over sends notes mid by)
 
 of_large : (p : Phase) (f : Config) (s : State) (c h : ℕ) (sess sess' : Session) (sends : List Send) (notes : List Note) (mid : Broker)
-    → s.session c ≡ sess → sess.phase ≡ p → Decides p f.topology s.broker sess (event.TooLarge c h) sends notes mid sess'
+    → s.session c ≡ sess → sess.phase ≡ p → Decides c p (rules_of f.topology f.users) s.broker sess (event.TooLarge c h) sends notes mid sess'
     → OfLarge f s p c h sends notes (record { broker = mid; session = with_one s.session c sess' })
 of_large phase.Running f s c h sess sess' sends notes mid eq at by = stepped_by f s c sess sess' _ sends notes mid _ by (ap (λ (z : Session). to_phase z (after_sends sends)) (sym eq))
-of_large phase.Header f s c h sess sess' sends notes mid eq at by = moved s c sess sess' _ phase.Header sends notes mid (λ z. answer c z phase.Header h empty_publish) eq (idle_answer c (s.session c) phase.Header h empty_publish (ap (λ (z : Session). is_running z.phase) eq ∙ ap is_running at)) by (λ z. refl)
-of_large phase.Start f s c h sess sess' sends notes mid eq at by = moved s c sess sess' _ phase.Start sends notes mid (λ z. answer c z phase.Start h empty_publish) eq (idle_answer c (s.session c) phase.Start h empty_publish (ap (λ (z : Session). is_running z.phase) eq ∙ ap is_running at)) by (λ z. refl)
-of_large phase.Tune f s c h sess sess' sends notes mid eq at by = moved s c sess sess' _ phase.Tune sends notes mid (λ z. answer c z phase.Tune h empty_publish) eq (idle_answer c (s.session c) phase.Tune h empty_publish (ap (λ (z : Session). is_running z.phase) eq ∙ ap is_running at)) by (λ z. refl)
-of_large phase.Open f s c h sess sess' sends notes mid eq at by = moved s c sess sess' _ phase.Open sends notes mid (λ z. answer c z phase.Open h empty_publish) eq (idle_answer c (s.session c) phase.Open h empty_publish (ap (λ (z : Session). is_running z.phase) eq ∙ ap is_running at)) by (λ z. refl)
-of_large phase.Closing f s c h sess sess' sends notes mid eq at by = moved s c sess sess' _ phase.Closing sends notes mid (λ z. answer c z phase.Closing h empty_publish) eq (idle_answer c (s.session c) phase.Closing h empty_publish (ap (λ (z : Session). is_running z.phase) eq ∙ ap is_running at)) by (λ z. refl)
-of_large phase.Over f s c h sess sess' sends notes mid eq at by = moved s c sess sess' _ phase.Over sends notes mid (λ z. answer c z phase.Over h empty_publish) eq (idle_answer c (s.session c) phase.Over h empty_publish (ap (λ (z : Session). is_running z.phase) eq ∙ ap is_running at)) by (λ z. refl)
+of_large phase.Header f s c h sess sess' sends notes mid eq at by = record { move = record { sends = sends; next = sess' }; answered = subst (λ (z : Session). IsAnswered f.users c z phase.Header h empty_publish (record { sends = sends; next = sess' })) (sym eq) by.answered; moves = moved f.users s c sess sess' _ phase.Header sends notes mid by }
+of_large phase.Start f s c h sess sess' sends notes mid eq at by = record { move = record { sends = sends; next = sess' }; answered = subst (λ (z : Session). IsAnswered f.users c z phase.Start h empty_publish (record { sends = sends; next = sess' })) (sym eq) by.answered; moves = moved f.users s c sess sess' _ phase.Start sends notes mid by }
+of_large phase.Tune f s c h sess sess' sends notes mid eq at by = record { move = record { sends = sends; next = sess' }; answered = subst (λ (z : Session). IsAnswered f.users c z phase.Tune h empty_publish (record { sends = sends; next = sess' })) (sym eq) by.answered; moves = moved f.users s c sess sess' _ phase.Tune sends notes mid by }
+of_large phase.Open f s c h sess sess' sends notes mid eq at by = record { move = record { sends = sends; next = sess' }; answered = subst (λ (z : Session). IsAnswered f.users c z phase.Open h empty_publish (record { sends = sends; next = sess' })) (sym eq) by.answered; moves = moved f.users s c sess sess' _ phase.Open sends notes mid by }
+of_large phase.Closing f s c h sess sess' sends notes mid eq at by = record { move = record { sends = sends; next = sess' }; answered = subst (λ (z : Session). IsAnswered f.users c z phase.Closing h empty_publish (record { sends = sends; next = sess' })) (sym eq) by.answered; moves = moved f.users s c sess sess' _ phase.Closing sends notes mid by }
+of_large phase.Over f s c h sess sess' sends notes mid eq at by = record { move = record { sends = sends; next = sess' }; answered = subst (λ (z : Session). IsAnswered f.users c z phase.Over h empty_publish (record { sends = sends; next = sess' })) (sym eq) by.answered; moves = moved f.users s c sess sess' _ phase.Over sends notes mid by }
 
 commanded : (m : Command) (f : Config) (s : State) (c : ℕ) (sess sess' : Session) (sends : List Send) (notes : List Note) (mid : Broker)
-    → s.session c ≡ sess → Decides sess.phase f.topology s.broker sess (event_of c m) sends notes mid sess'
+    → s.session c ≡ sess → Decides c sess.phase (rules_of f.topology f.users) s.broker sess (event_of c m) sends notes mid sess'
     → Step f s (event_of c m) sends notes (record { broker = mid; session = with_one s.session c sess' })
 commanded (Plain h m) f s c sess sess' sends notes mid eq by =
     subst (λ (z : Session). OfCommand f s z.phase c h m None sends notes (record { broker = mid; session = with_one s.session c sess' })) (sym eq) (of_command sess.phase f s c h m None sess sess' sends notes mid eq refl by)
@@ -127,7 +91,7 @@ commanded (TooLarge h) f s c sess sess' sends notes mid eq by =
     subst (λ (z : Session). OfLarge f s z.phase c h sends notes (record { broker = mid; session = with_one s.session c sess' })) (sym eq) (of_large sess.phase f s c h sess sess' sends notes mid eq refl by)
 
 pub asked_steps : (c : ℕ) (k : Option Command) (st nx : Stream) (e : Event) (f : Config) (s : State) (sess sess' : Session) (sends : List Send) (notes : List Note) (mid : Broker)
-    → Reads c k st e nx → s.session c ≡ sess → Decides sess.phase f.topology s.broker sess e sends notes mid sess'
+    → Reads c k st e nx → s.session c ≡ sess → Decides c sess.phase (rules_of f.topology f.users) s.broker sess e sends notes mid sess'
     → Step f s e sends notes (record { broker = mid; session = with_one s.session c sess' })
 asked_steps c k st nx e f s sess sess' sends notes mid (again {m = m}) eq by = commanded m f s c sess sess' sends notes mid eq by
 asked_steps c k st nx e f s sess sess' sends notes mid (fresh {m = m} y) eq by = commanded m f s c sess sess' sends notes mid eq by
@@ -180,7 +144,7 @@ wire_left false l next k (inr f) = absurd (Rattle.std.proofs.lemmas.Bool.false�
 
 pub turned : (old new : Parts) (l l' : Link) (notes : List Note) → Becomes old l l' new → link_in old.links l.number ≡ Some l
     → is_ended l.session.phase ≡ false → is_past_bound l.output.bytes ≡ false
-    → LinkDid (topology_of old.broker) (broker_of old.broker) l notes (broker_of new.broker) l'
+    → LinkDid (rules_of (topology_of old.broker) old.users) (broker_of old.broker) l notes (broker_of new.broker) l'
     → (hs : List Happening) × (notes ≡ notes_of hs) × Turns (world_of old) l.number hs (world_of new)
 turned old new l l' notes b found open_still below did =
     let c = l.number in

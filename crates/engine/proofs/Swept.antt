@@ -1,7 +1,7 @@
 -- A connection that changed in its place, and is taken out where it is gone.
 use Rattle.std.proofs.Common.{◌≡◌, ◌<◌, ℕ, zero, suc, List, [], ◌∷◌, cond, Result, Ok, Err, get_or, set, length, remove, refl, ap, ◌∙◌, arith}
 use Rattle.std.specs.Prelude.{IfOk, OnErr}
-use Rattle.model.specs.Topology.{Topology}
+use Rattle.engine.specs.Performing.{Rules}
 use Rattle.model.specs.Broker.{Broker}
 use Rattle.engine.specs.Reading.{IsKept}
 use Rattle.engine.specs.Turning.{LinkTook, LinkWaits}
@@ -33,6 +33,6 @@ changes_swept ls i old new new_ls lt here number kept swept =
       over = s.over;
     }
 
-pub took_or : {E : Type 0} (r : Result Turn E) (t : Topology) (b : Broker) (old : Link) (new_b : Broker) (new : Link) → IfOk r (λ x. LinkTook t b old x new_b new) → OnErr r (LinkWaits b old new_b new) → LinkTookOr t b old r new_b new
+pub took_or : {E : Type 0} (r : Result Turn E) (t : Rules) (b : Broker) (old : Link) (new_b : Broker) (new : Link) → IfOk r (λ x. LinkTook t b old x new_b new) → OnErr r (LinkWaits b old new_b new) → LinkTookOr t b old r new_b new
 took_or (Ok x) t b old new_b new ok err = ok
 took_or (Err e) t b old new_b new ok err = err

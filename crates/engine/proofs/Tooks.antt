@@ -4,6 +4,7 @@ use Rattle.std.specs.Prelude.{IsOk, IfOk, OnOk, OnErr, MatchBool, ◌==◌}
 use Rattle.std.proofs.lemmas.Bool.{false≢true}
 use Rattle.model.specs.Broker.{Broker}
 use Rattle.model.specs.Topology.{Topology}
+use Rattle.engine.specs.Performing.{Rules, rules_of}
 use Rattle.model.specs.Step.{Acts}
 use Rattle.model.specs.Run.{Happening}
 use Rattle.model.specs.Headline.{IsSound}
@@ -85,7 +86,7 @@ left_less true m n f = omega arith
 left_less false m n (inl lt) = omega (arith, lt)
 left_less false m n (inr e) = absurd (false≢true e)
 
-did_less : (t : Topology) (b new_b : Broker) (l l' : Link) (notes : List Note) → is_ended l.session.phase ≡ false → LinkDid t b l notes new_b l' → left_of l' < left_of l
+did_less : (t : Rules) (b new_b : Broker) (l l' : Link) (notes : List Note) → is_ended l.session.phase ≡ false → LinkDid t b l notes new_b l' → left_of l' < left_of l
 did_less t b new_b l l' notes open_still did =
     let reads : to_read (kept_of l'.kept) (stream_of l'.stream) ≡ to_read None (stream_of l'.stream) = ap (λ (k : Option Event). to_read (kept_of k) (stream_of l'.stream)) did.none_kept in
     let was : left_of l ≡ to_read (kept_of l.kept) (stream_of l.stream) + 1 = ap (λ (v : Bool). cond v 0 (to_read (kept_of l.kept) (stream_of l.stream) + 1)) open_still in
@@ -103,14 +104,14 @@ over_is : (p : Parts) (l : Link) → link_in p.links l.number ≡ Some l → is_
 over_is p l found = ap (λ (o : Option Link). is_ended (session_of o).phase) found
 
 outcome : {E : Type 0} (old new : Parts) (i : ℕ) (l l' : Link) (what : Result Turn E) → IsEngine old → Stays old new → Changes old.links i l l' new.links
-    → LinkTookOr (topology_of old.broker) (broker_of old.broker) l what (broker_of new.broker) l' → Outcome old new l.number what
+    → LinkTookOr (rules_of (topology_of old.broker) old.users) (broker_of old.broker) l what (broker_of new.broker) l' → Outcome old new l.number what
 outcome old new i l l' (Ok (turn.Did notes)) e st ch t =
     let b = becomes old new i l l' st e.links.rising ch in
     let found = link_in-place 0 old.links i l e.links.rising ch.within ch.here in
     let done = turned old new l l' notes.items b found t.0 t.1 t.2 in
     record {
       ok = record { happenings = done.0; noted = done.1; turns = done.2; promises = turn_keeps (world_of old) (world_of new) l.number done.0 (sound old e) e.consistent done.2 };
-      fewer = left_change old.links i l l' new.links ch (did_less (topology_of old.broker) (broker_of old.broker) (broker_of new.broker) l l' notes.items t.0 t.2);
+      fewer = left_change old.links i l l' new.links ch (did_less (rules_of (topology_of old.broker) old.users) (broker_of old.broker) (broker_of new.broker) l l' notes.items t.0 t.2);
       err = tt;
     }
 outcome old new i l l' (Ok turn.Idle) e st ch t =
@@ -134,12 +135,12 @@ number_is : (ls : List Link) (c i : ℕ) (l : Link) → IsPlaceOf ls c (Some i) 
 number_is ls c i l place here = sym (ap (λ (z : Link). z.number) here) ∙ place.1 l
 
 pub took : {E : Type 0} (old new : Parts) (c i : ℕ) (what : Result Turn E) → IsEngine old → Stays old new → IsPlaceOf old.links c (Some i)
-    → LinksTook (topology_of old.broker) (broker_of old.broker) old.links i what (broker_of new.broker) new.links → Outcome old new c what
+    → LinksTook (rules_of (topology_of old.broker) old.users) (broker_of old.broker) old.links i what (broker_of new.broker) new.links → Outcome old new c what
 took old new c i what e st place t =
     subst (λ (n : ℕ). Outcome old new n what) (number_is old.links c i t.old place t.changes.here) (outcome old new i t.old t.new what e st t.changes t.took)
 
 pub took_engine : {E : Type 0} (old new : Parts) (i : ℕ) (what : Result Turn E) → IsEngine old → Stays old new
-    → LinksTook (topology_of old.broker) (broker_of old.broker) old.links i what (broker_of new.broker) new.links → IsEngine new
+    → LinksTook (rules_of (topology_of old.broker) old.users) (broker_of old.broker) old.links i what (broker_of new.broker) new.links → IsEngine new
 took_engine old new i what e st t =
     let out = outcome old new i t.old t.new what e st t.changes t.took in
     engine_change old new i t.old t.new e st t.changes (turn_agrees what (world_of old) (world_of new) t.old.number e.consistent out.ok out.err)

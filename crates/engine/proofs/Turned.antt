@@ -2,9 +2,8 @@
 use Rattle.std.proofs.Common.{◌≡◌, ◌<◌, ◌≤◌, ◌+◌, inl, inr, ℕ, List, true, false, Option, Some, None, length, refl, sym, ap, subst, ◌∙◌, arith}
 use Rattle.std.specs.Prelude.{is_some, Result, Ok, Err, IfOk, OnErr}
 use Rattle.std.proofs.lemmas.Bool.{false≢true}
-use Rattle.model.specs.Topology.{Topology}
 use Rattle.model.specs.Broker.{Broker}
-use Rattle.model.specs.Phases.{Session}
+use Rattle.model.specs.Phases.{Session, Move}
 use Rattle.model.specs.Commands.{Stream, Yields, Ends, GoesOn, IsCommand, stays}
 use Rattle.model.specs.Arrivals.{Reads, again, fresh, fault, SameToCome, still, waits, kept, IsSaid, event_of, is_ended, is_past_bound}
 use Rattle.model.specs.declared.events.Phase.{Phase}
@@ -17,7 +16,7 @@ use Rattle.model.specs.declared.events.Event.TheVariants as event
 use Rattle.model.specs.declared.notes.Note.{Note}
 use Rattle.assembly.specs.Held.{stream_of}
 use Rattle.engine.specs.Reading.{kept_of, IsMade, IsKept, Has, Comes, to_read}
-use Rattle.engine.specs.Performing.{IsAsked, Decides}
+use Rattle.engine.specs.Performing.{Rules, IsAsked, Decides}
 use Rattle.engine.specs.Turning.{Performed, LinkPerformed, DidEvent, LinkTook, LinkWaits}
 use Rattle.engine.specs.declared.reading.Next.{Next}
 use Rattle.engine.specs.declared.reading.Next.TheVariants as next
@@ -87,15 +86,15 @@ not_some (Some x) e = absurd (false≢true (sym e))
 
 -- ---- after a fault a connection is over
 
-over_after : (p : Phase) (t : Topology) (b : Broker) (s : Session) (c code : ℕ) (sends : List Send) (notes : List Note) (new_b : Broker) (new_s : Session)
-    → s.phase ≡ p → Decides p t b s (event.Fault c code) sends notes new_b new_s → is_ended new_s.phase ≡ true
-over_after phase.Header t b s c code sends notes new_b new_s at by = ap (λ (z : Session). is_ended z.phase) by.session
-over_after phase.Start t b s c code sends notes new_b new_s at by = ap (λ (z : Session). is_ended z.phase) by.session
-over_after phase.Tune t b s c code sends notes new_b new_s at by = ap (λ (z : Session). is_ended z.phase) by.session
-over_after phase.Open t b s c code sends notes new_b new_s at by = ap (λ (z : Session). is_ended z.phase) by.session
-over_after phase.Running t b s c code sends notes new_b new_s at by = ap (λ (z : Session). is_ended z.phase) by.session
-over_after phase.Closing t b s c code sends notes new_b new_s at by = ap (λ (z : Session). is_ended z.phase) by.session
-over_after phase.Over t b s c code sends notes new_b new_s at by = ap (λ (z : Session). is_ended z.phase) by.session ∙ ap is_ended at
+over_after : (p : Phase) (r : Rules) (b : Broker) (s : Session) (c code : ℕ) (sends : List Send) (notes : List Note) (new_b : Broker) (new_s : Session)
+    → s.phase ≡ p → Decides c p r b s (event.Fault c code) sends notes new_b new_s → is_ended new_s.phase ≡ true
+over_after phase.Header r b s c code sends notes new_b new_s at by = ap (λ (z : Move). is_ended z.next.phase) by.answered
+over_after phase.Start r b s c code sends notes new_b new_s at by = ap (λ (z : Move). is_ended z.next.phase) by.answered
+over_after phase.Tune r b s c code sends notes new_b new_s at by = ap (λ (z : Move). is_ended z.next.phase) by.answered
+over_after phase.Open r b s c code sends notes new_b new_s at by = ap (λ (z : Move). is_ended z.next.phase) by.answered
+over_after phase.Running r b s c code sends notes new_b new_s at by = ap (λ (z : Session). is_ended z.phase) by.session
+over_after phase.Closing r b s c code sends notes new_b new_s at by = ap (λ (z : Move). is_ended z.next.phase) by.answered
+over_after phase.Over r b s c code sends notes new_b new_s at by = ap (λ (z : Move). is_ended z.next.phase) by.answered ∙ ap is_ended at
 
 -- ---- the turns
 
@@ -105,7 +104,7 @@ pub record IsRead (old mid : Link) : Type 0 where
   pub session : mid.session ≡ old.session
   pub output : mid.output.bytes ≡ old.output.bytes
 
-performed_of : (t : Topology) (b new_b : Broker) (old mid new : Link) (e : Event) (notes : List Note) → IsRead old mid
+performed_of : (t : Rules) (b new_b : Broker) (old mid new : Link) (e : Event) (notes : List Note) → IsRead old mid
     → Performed t b mid.number mid.session mid.output.bytes e notes new_b new.session new.output.bytes
     → Performed t b old.number old.session old.output.bytes e notes new_b new.session new.output.bytes
 performed_of t b new_b old mid new e notes read p =
@@ -113,7 +112,7 @@ performed_of t b new_b old mid new e notes read p =
     (subst (λ (s : Session). Performed t b mid.number s old.output.bytes e notes new_b new.session new.output.bytes) read.session
     (subst (λ (o : List ℕ). Performed t b mid.number mid.session o e notes new_b new.session new.output.bytes) read.output p))
 
-pub did_kept : (t : Topology) (b new_b : Broker) (old mid new : Link) (what : Turn) → is_ended old.session.phase ≡ false → is_past_bound old.output.bytes ≡ false → IsRead old mid
+pub did_kept : (t : Rules) (b new_b : Broker) (old mid new : Link) (what : Turn) → is_ended old.session.phase ≡ false → is_past_bound old.output.bytes ≡ false → IsRead old mid
     → (h : Has old.number old.kept (stream_of old.stream) mid.kept (stream_of mid.stream)) → DidEvent t b mid h.event what new_b new → LinkTook t b old what new_b new
 did_kept t b new_b old mid new (turn.Did notes) open_still below read h did = (
   open_still,
@@ -134,7 +133,7 @@ did_kept t b new_b old mid new turn.Idle open_still below read h did = absurd di
 did_kept t b new_b old mid new turn.Paused open_still below read h did = absurd did
 did_kept t b new_b old mid new turn.Over open_still below read h did = absurd did
 
-pub did_fault : (t : Topology) (b new_b : Broker) (old mid new : Link) (code : ℕ) (what : Turn) → is_ended old.session.phase ≡ false → is_past_bound old.output.bytes ≡ false → IsRead old mid
+pub did_fault : (t : Rules) (b new_b : Broker) (old mid new : Link) (code : ℕ) (what : Turn) → is_ended old.session.phase ≡ false → is_past_bound old.output.bytes ≡ false → IsRead old mid
     → old.kept ≡ None → Ends (stream_of old.stream) (Some code) → DidEvent t b mid (event.Fault mid.number code) what new_b new → LinkTook t b old what new_b new
 did_fault t b new_b old mid new code (turn.Did notes) open_still below read none ends did =
     let over = over_after mid.session.phase t b mid.session mid.number code did.performed.sends notes.items did.performed.mid new.session refl did.performed.decides in (
@@ -176,20 +175,20 @@ pub comes_nothing : (c : ℕ) (k left : Option Event) (s new : Stream) (n : Next
 comes_nothing c k left s new n e h = subst (λ (x : Next). Comes c k s x left new) e h
 
 -- one turn, whatever it answered
-pub record Whole {E : Type 0} (t : Topology) (b : Broker) (old : Link) (what : Result Turn E) (new_b : Broker) (new : Link) : Type 0 where
+pub record Whole {E : Type 0} (t : Rules) (b : Broker) (old : Link) (what : Result Turn E) (new_b : Broker) (new : Link) : Type 0 where
   pub ok : IfOk what (λ x. LinkTook t b old x new_b new)
   pub err : OnErr what (LinkWaits b old new_b new)
   pub kept : IsKept new.number new.kept
   pub number : new.number ≡ old.number
 
 -- nothing is kept after what was performed
-did_keeps : (t : Topology) (b new_b : Broker) (mid new : Link) (e : Event) (what : Turn) → DidEvent t b mid e what new_b new → IsKept new.number new.kept × (new.number ≡ mid.number)
+did_keeps : (t : Rules) (b new_b : Broker) (mid new : Link) (e : Event) (what : Turn) → DidEvent t b mid e what new_b new → IsKept new.number new.kept × (new.number ≡ mid.number)
 did_keeps t b new_b mid new e (turn.Did notes) did = (subst (λ (k : Option Event). IsKept new.number k) (sym did.none_kept) tt, did.number)
 did_keeps t b new_b mid new e turn.Idle did = absurd did
 did_keeps t b new_b mid new e turn.Paused did = absurd did
 did_keeps t b new_b mid new e turn.Over did = absurd did
 
-pub after_kept : {E : Type 0} (r : Result Turn E) (t : Topology) (b new_b : Broker) (old mid new : Link) → is_ended old.session.phase ≡ false → is_past_bound old.output.bytes ≡ false → IsRead old mid
+pub after_kept : {E : Type 0} (r : Result Turn E) (t : Rules) (b new_b : Broker) (old mid new : Link) → is_ended old.session.phase ≡ false → is_past_bound old.output.bytes ≡ false → IsRead old mid
     → Has old.number old.kept (stream_of old.stream) mid.kept (stream_of mid.stream)
     → IfOk r (λ x. (e : Event) → mid.kept ≡ Some e → DidEvent t b mid e x new_b new) → OnErr r (new_b ≡ b) → OnErr r (new ≡ mid) → Whole t b old r new_b new
 after_kept (Ok x) t b new_b old mid new open_still below read h did broker link =
@@ -203,7 +202,7 @@ after_kept (Err x) t b new_b old mid new open_still below read h did broker link
   number = ap (λ (z : Link). z.number) link ∙ read.number;
 }
 
-pub after_fault : {E : Type 0} (r : Result Turn E) (t : Topology) (b new_b : Broker) (old mid new : Link) (code : ℕ) → is_ended old.session.phase ≡ false → is_past_bound old.output.bytes ≡ false → IsRead old mid
+pub after_fault : {E : Type 0} (r : Result Turn E) (t : Rules) (b new_b : Broker) (old mid new : Link) (code : ℕ) → is_ended old.session.phase ≡ false → is_past_bound old.output.bytes ≡ false → IsRead old mid
     → (mid.kept ≡ None) × (old.kept ≡ None) × Ends (stream_of old.stream) (Some code) × GoesOn (stream_of old.stream) (stream_of mid.stream)
     → IfOk r (λ x. DidEvent t b mid (event.Fault mid.number code) x new_b new) → OnErr r (new_b ≡ b) → OnErr r (new ≡ mid) → Whole t b old r new_b new
 after_fault (Ok x) t b new_b old mid new code open_still below read h did broker link =
@@ -216,7 +215,7 @@ after_fault (Err x) t b new_b old mid new code open_still below read h did broke
   number = ap (λ (z : Link). z.number) link ∙ read.number;
 }
 
-pub after_nothing : (t : Topology) (b : Broker) (old mid : Link) → is_ended old.session.phase ≡ false → IsRead old mid
+pub after_nothing : (t : Rules) (b : Broker) (old mid : Link) → is_ended old.session.phase ≡ false → IsRead old mid
     → (mid.kept ≡ None) × (old.kept ≡ None) × Ends (stream_of old.stream) None × GoesOn (stream_of old.stream) (stream_of mid.stream)
     → LinkTook t b old turn.Idle b mid
 after_nothing t b old mid open_still read h = (
@@ -229,7 +228,7 @@ after_nothing t b old mid open_still read h = (
 )
 
 -- the event is the one that is kept
-pub performed_is : (t : Topology) (b new_b : Broker) (old new : Link) (x e : Event) (notes : List Note) (k : Option Event) → k ≡ Some x → k ≡ Some e → LinkPerformed t b old x notes new_b new → LinkPerformed t b old e notes new_b new
+pub performed_is : (t : Rules) (b new_b : Broker) (old new : Link) (x e : Event) (notes : List Note) (k : Option Event) → k ≡ Some x → k ≡ Some e → LinkPerformed t b old x notes new_b new → LinkPerformed t b old e notes new_b new
 performed_is t b new_b old new x e notes k is other p = subst (λ (z : Event). LinkPerformed t b old z notes new_b new) (some_same x e (sym is ∙ other)) p
   where
     some_same : (x y : Event) → Some x ≡ Some y → x ≡ y

@@ -12,7 +12,7 @@ use Rattle.model.specs.declared.notes.Note.{Note}
 use Rattle.assembly.specs.Held.{stream_of}
 use Rattle.broker.specs.State.{topology_of}
 use Rattle.engine.specs.Reading.{IsKept, kept_of, to_read}
-use Rattle.engine.specs.Performing.{PausesOr}
+use Rattle.engine.specs.Performing.{Rules, PausesOr}
 use Rattle.engine.specs.Turning.{LinkTook, LinkWaits}
 use Rattle.engine.specs.World.{Parts, link_in, session_of, wire_of, is_link_gone}
 use Rattle.engine.specs.declared.links.Link.{Link}
@@ -31,9 +31,9 @@ left_in [] = 0
 left_in (l ∷ ls) = left_of l + left_in ls
 
 -- The turn of one connection is right, or memory was wanting and nothing was performed.
-abbrev pub LinkTookOr : {E : Type 0} → Topology → Broker → Link → Result Turn E → Broker → Link → Type 0
-LinkTookOr t b old (Ok what) new_b new = LinkTook t b old what new_b new
-LinkTookOr t b old (Err e) new_b new = LinkWaits b old new_b new
+abbrev pub LinkTookOr : {E : Type 0} → Rules → Broker → Link → Result Turn E → Broker → Link → Type 0
+LinkTookOr r b old (Ok what) new_b new = LinkTook r b old what new_b new
+LinkTookOr r b old (Err e) new_b new = LinkWaits b old new_b new
 
 -- So many bytes of the output were taken, and the resumption that this brings is known.
 pub record LinkSent (t : Topology) (b : Broker) (old : Link) (n : ℕ) (new_b : Broker) (new : Link) : Type 0 where
@@ -80,11 +80,11 @@ pub record Changes (ls : List Link) (i : ℕ) (old new : Link) (new_ls : List Li
   pub over : is_link_gone new ≡ true → new.session ≡ no_session
 
 -- One turn of the connection at this place.
-pub record LinksTook {E : Type 0} (t : Topology) (b : Broker) (ls : List Link) (i : ℕ) (what : Result Turn E) (new_b : Broker) (new_ls : List Link) : Type 0 where
+pub record LinksTook {E : Type 0} (r : Rules) (b : Broker) (ls : List Link) (i : ℕ) (what : Result Turn E) (new_b : Broker) (new_ls : List Link) : Type 0 where
   pub old : Link
   pub new : Link
   pub changes : Changes ls i old new new_ls
-  pub took : LinkTookOr t b old what new_b new
+  pub took : LinkTookOr r b old what new_b new
 
 -- Output of the connection at this place was taken.
 pub record LinksSent (t : Topology) (b : Broker) (ls : List Link) (i n : ℕ) (new_b : Broker) (new_ls : List Link) : Type 0 where

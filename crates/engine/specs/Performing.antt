@@ -2,8 +2,11 @@
 use Rattle.std.specs.Prelude.{◌≡◌, ℕ, List, [], Bool, true, false}
 use Rattle.model.specs.Topology.{Topology}
 use Rattle.model.specs.Broker.{Broker}
-use Rattle.model.specs.Step.{Acts, empty_publish}
-use Rattle.model.specs.Phases.{Session, Move, answer, faulted, stays_in, after_sends, to_phase}
+use Rattle.model.specs.Step.{Acts, Is, empty_publish}
+use Rattle.model.specs.Phases.{Session, Move, faulted, after_sends, to_phase}
+use Rattle.model.specs.Opening.{IsAnswered}
+use Rattle.model.specs.State.{after_move}
+use Rattle.model.specs.declared.messages.User.{User}
 use Rattle.model.specs.declared.events.Phase.{Phase}
 use Rattle.model.specs.declared.events.Phase.TheVariants as phase
 use Rattle.model.specs.declared.events.Send.{Send}
@@ -23,29 +26,38 @@ abbrev pub session_after : Session → Event → List Send → Session
 session_after s (Fault c code) sends = to_phase s phase.Over
 session_after s e sends = to_phase s (after_sends sends)
 
--- what a phase other than Running answers
-abbrev pub move_of : Phase → Session → Event → Move
-move_of p s (Command c h m content) = answer c s p h m
-move_of p s (TooLarge c h) = answer c s p h empty_publish
-move_of p s (Fault c code) = faulted c s p code
-move_of p s e = stays_in s
+-- what is in force for a connection: the topology that the broker runs, and who may log in
+pub record Rules : Type 0 where
+  pub topology : Topology
+  pub users : List User
+
+-- this topology, for these users
+abbrev pub rules_of : Topology → List User → Rules
+rules_of t users = record { topology = t; users = users }
+
+-- what a phase other than Running answers to a command or a fault, where these are the users
+abbrev pub IsAnswerTo : List User → Phase → Session → Event → Move → Type 0
+IsAnswerTo users p s (Command c h m content) move = IsAnswered users c s p h m move
+IsAnswerTo users p s (TooLarge c h) move = IsAnswered users c s p h empty_publish move
+IsAnswerTo users p s (Fault c code) move = move ≡ faulted c s p code
+IsAnswerTo users p s e move = ⊥
 
 -- The broker performs the event, and the phase follows what was sent.
 pub record ByBroker (t : Topology) (b : Broker) (s : Session) (e : Event) (sends : List Send) (notes : List Note) (new_b : Broker) (new_s : Session) : Type 0 where
   pub acts : Acts t b e sends notes new_b
   pub session : new_s ≡ session_after s e sends
 
--- The phase answers the event by itself: nothing is noted, and the broker is as it was.
-pub record ByPhase (p : Phase) (b : Broker) (s : Session) (e : Event) (sends : List Send) (notes : List Note) (new_b : Broker) (new_s : Session) : Type 0 where
-  pub sent : sends ≡ (move_of p s e).sends
+-- The phase answers the event of connection c by itself: nothing is noted, and the broker has one connection more where this one runs from now on.
+pub record ByPhase (users : List User) (c : ℕ) (p : Phase) (b : Broker) (s : Session) (e : Event) (sends : List Send) (notes : List Note) (new_b : Broker) (new_s : Session) : Type 0 where
+  pub asked : IsAsked c e
+  pub answered : IsAnswerTo users p s e (record { sends = sends; next = new_s })
   pub noted : notes ≡ []
-  pub session : new_s ≡ (move_of p s e).next
-  pub broker : new_b ≡ b
+  pub broker : Is (after_move b c new_s) new_b
 
--- An event of a connection in this phase: in Running the broker performs it, in any other the phase answers.
-abbrev pub Decides : Phase → Topology → Broker → Session → Event → List Send → List Note → Broker → Session → Type 0
-Decides phase.Running t b s e sends notes new_b new_s = ByBroker t b s e sends notes new_b new_s
-Decides p t b s e sends notes new_b new_s = ByPhase p b s e sends notes new_b new_s
+-- An event of connection c in this phase: in Running the broker performs it, in any other the phase answers.
+abbrev pub Decides : ℕ → Phase → Rules → Broker → Session → Event → List Send → List Note → Broker → Session → Type 0
+Decides c phase.Running r b s e sends notes new_b new_s = ByBroker r.topology b s e sends notes new_b new_s
+Decides c p r b s e sends notes new_b new_s = ByPhase r.users c p b s e sends notes new_b new_s
 
 -- the broker learns of a pause, and of its end
 pub record IsPause (t : Topology) (c : ℕ) (b new : Broker) : Type 0 where

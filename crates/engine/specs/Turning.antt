@@ -1,7 +1,6 @@
 -- What a turn does to the broker and to one connection.
 use Rattle.std.specs.Prelude.{◌≡◌, ◌⊎◌, ◌≤◌, ◌<◌, ◌++◌, ℕ, List, true, false, None}
 use Rattle.std.specs.List.{AllByRecursion}
-use Rattle.model.specs.Topology.{Topology}
 use Rattle.model.specs.Broker.{Broker}
 use Rattle.model.specs.Phases.{Session}
 use Rattle.model.specs.Commands.{Stream, Ends}
@@ -11,36 +10,36 @@ use Rattle.model.specs.declared.events.Send.{Send}
 use Rattle.model.specs.declared.events.Event.{Event}
 use Rattle.model.specs.declared.notes.Note.{Note}
 use Rattle.assembly.specs.Held.{stream_of}
-use Rattle.engine.specs.Performing.{Decides, PausesOr}
+use Rattle.engine.specs.Performing.{Rules, Decides, PausesOr}
 use Rattle.engine.specs.Reading.{kept_of, to_read}
 use Rattle.engine.specs.declared.links.Link.{Link}
 use Rattle.engine.specs.declared.turning.Turn.{Turn}
 use Rattle.engine.specs.declared.turning.Turn.TheVariants as turn
 
 -- An event of the connection c was performed, what it sent is put out, and the pause that this brings is known.
-pub record Performed (t : Topology) (b : Broker) (c : ℕ) (s : Session) (output : List ℕ) (event : Event) (notes : List Note) (new_b : Broker) (new_s : Session) (new_output : List ℕ) : Type 0 where
+pub record Performed (r : Rules) (b : Broker) (c : ℕ) (s : Session) (output : List ℕ) (event : Event) (notes : List Note) (new_b : Broker) (new_s : Session) (new_output : List ℕ) : Type 0 where
   pub sends : List Send
   pub mid : Broker
-  pub decides : Decides s.phase t b s event sends notes mid new_s
+  pub decides : Decides c s.phase r b s event sends notes mid new_s
   pub own : AllByRecursion (λ s. receiver s ≡ c) sends
   pub bounded : s.frame_max ≤ 131072
   pub spelled : AllByRecursion (IsSpelled s.frame_max) sends
   pub put : new_output ≡ output ++ spelling s.frame_max sends
-  pub pauses : PausesOr t c false (is_past_bound new_output) mid new_b
+  pub pauses : PausesOr r.topology c false (is_past_bound new_output) mid new_b
 
 -- The event was performed, nothing is kept, and nothing more is read.
-pub record LinkPerformed (t : Topology) (b : Broker) (old : Link) (event : Event) (notes : List Note) (new_b : Broker) (new : Link) : Type 0 where
-  pub performed : Performed t b old.number old.session old.output.bytes event notes new_b new.session new.output.bytes
+pub record LinkPerformed (r : Rules) (b : Broker) (old : Link) (event : Event) (notes : List Note) (new_b : Broker) (new : Link) : Type 0 where
+  pub performed : Performed r b old.number old.session old.output.bytes event notes new_b new.session new.output.bytes
   pub number : new.number ≡ old.number
   pub none_kept : new.kept ≡ None
   pub stream : new.stream ≡ old.stream
 
 -- the turn performed this event
-abbrev pub DidEvent : Topology → Broker → Link → Event → Turn → Broker → Link → Type 0
-DidEvent t b old event (turn.Did notes) new_b new = LinkPerformed t b old event notes.items new_b new
-DidEvent t b old event turn.Idle new_b new = ⊥
-DidEvent t b old event turn.Paused new_b new = ⊥
-DidEvent t b old event turn.Over new_b new = ⊥
+abbrev pub DidEvent : Rules → Broker → Link → Event → Turn → Broker → Link → Type 0
+DidEvent r b old event (turn.Did notes) new_b new = LinkPerformed r b old event notes.items new_b new
+DidEvent r b old event turn.Idle new_b new = ⊥
+DidEvent r b old event turn.Paused new_b new = ⊥
+DidEvent r b old event turn.Over new_b new = ⊥
 
 -- Nothing was performed, and the same is still to come.
 pub record LinkWaits (b : Broker) (old : Link) (new_b : Broker) (new : Link) : Type 0 where
@@ -51,12 +50,12 @@ pub record LinkWaits (b : Broker) (old : Link) (new_b : Broker) (new : Link) : T
   pub coming : SameToCome (kept_of old.kept) (stream_of old.stream) (kept_of new.kept) (stream_of new.stream)
 
 -- What was read was performed; nothing is kept, and what follows is what the stream says next.
-pub record LinkDid (t : Topology) (b : Broker) (old : Link) (notes : List Note) (new_b : Broker) (new : Link) : Type 0 where
+pub record LinkDid (r : Rules) (b : Broker) (old : Link) (notes : List Note) (new_b : Broker) (new : Link) : Type 0 where
   pub event : Event
   pub next : Stream
   pub read : Reads old.number (kept_of old.kept) (stream_of old.stream) event next
   pub said : IsSaid event
-  pub performed : Performed t b old.number old.session old.output.bytes event notes new_b new.session new.output.bytes
+  pub performed : Performed r b old.number old.session old.output.bytes event notes new_b new.session new.output.bytes
   pub number : new.number ≡ old.number
   pub none_kept : new.kept ≡ None
   -- after a fault the connection is over
@@ -75,8 +74,8 @@ pub record LinkSame (b : Broker) (old : Link) (new_b : Broker) (new : Link) : Ty
   pub link : new ≡ old
 
 -- The turn of one connection is right: what was performed, or why nothing was.
-abbrev pub LinkTook : Topology → Broker → Link → Turn → Broker → Link → Type 0
-LinkTook t b old (turn.Did notes) new_b new = (is_ended old.session.phase ≡ false) × (is_past_bound old.output.bytes ≡ false) × LinkDid t b old notes.items new_b new
-LinkTook t b old turn.Idle new_b new = (is_ended old.session.phase ≡ false) × LinkIdle b old new_b new
-LinkTook t b old turn.Paused new_b new = (is_ended old.session.phase ≡ false) × (is_past_bound old.output.bytes ≡ true) × LinkSame b old new_b new
-LinkTook t b old turn.Over new_b new = (is_ended old.session.phase ≡ true) × LinkSame b old new_b new
+abbrev pub LinkTook : Rules → Broker → Link → Turn → Broker → Link → Type 0
+LinkTook r b old (turn.Did notes) new_b new = (is_ended old.session.phase ≡ false) × (is_past_bound old.output.bytes ≡ false) × LinkDid r b old notes.items new_b new
+LinkTook r b old turn.Idle new_b new = (is_ended old.session.phase ≡ false) × LinkIdle b old new_b new
+LinkTook r b old turn.Paused new_b new = (is_ended old.session.phase ≡ false) × (is_past_bound old.output.bytes ≡ true) × LinkSame b old new_b new
+LinkTook r b old turn.Over new_b new = (is_ended old.session.phase ≡ true) × LinkSame b old new_b new

@@ -18,6 +18,7 @@ ghost use Rattle.model.specs.Arrivals.{is_ended};
 ghost use Rattle.model.specs.Sending.{AreCarried};
 ghost use Rattle.broker.specs.State.{topology_of, broker_of};
 ghost use Rattle.engine.specs.Reading.{IsKept};
+ghost use Rattle.engine.specs.Performing.{rules_of};
 ghost use Rattle.engine.specs.Turning.{LinkTook, LinkWaits};
 ghost use Rattle.engine.specs.World.{AreRising};
 ghost use Rattle.engine.specs.Engines.{
@@ -36,6 +37,7 @@ use crate::performing::resume_if;
 use crate::scratch::Scratch;
 use crate::turning::{Turn, turn_with_room};
 use broker::Broker;
+use model::User;
 use std::alloc::{AllocError, Global};
 
 /// How many bytes spell what one event sends, at most.
@@ -59,13 +61,14 @@ pub(crate) fn place_of(links: &[Link], number: u64) -> Option<usize>
 /// One turn of one connection, with room made for the greatest step.
 fn turn_link(
     alloc: Global,
+    users: &[User],
     broker: &mut Broker,
     scratch: &mut Scratch,
     link: &mut Link,
 ) -> Result<Turn, AllocError>
     requires kept { IsKept link.old.number link.old.kept }
     requires carried { AreCarried (broker_of broker.old) }
-    ensures ok { IfOk result (λ t. LinkTook (topology_of broker.old) (broker_of broker.old) link.old t (broker_of broker.new) link.new) }
+    ensures ok { IfOk result (λ t. LinkTook (rules_of (topology_of broker.old) users.now) (broker_of broker.old) link.old t (broker_of broker.new) link.new) }
     ensures err { OnErr result (LinkWaits (broker_of broker.old) link.old (broker_of broker.new) link.new) }
     ensures kept { IsKept link.new.number link.new.kept }
     ensures number { link.new.number ≡ link.old.number }
@@ -78,7 +81,7 @@ fn turn_link(
         return Ok(Turn::Paused);
     }
     link.output.reserve(MOST_SENT)?;
-    turn_with_room(alloc, broker, scratch, link)
+    turn_with_room(alloc, users, broker, scratch, link)
 }
 
 /// Takes the connection at this place out, where it is over with no output left.
@@ -94,6 +97,7 @@ fn sweep(links: &mut Vec<Link>, place: usize)
 /// One turn of the connection at this place, which is taken out where it is gone by then.
 pub(crate) fn turn_at(
     alloc: Global,
+    users: &[User],
     broker: &mut Broker,
     scratch: &mut Scratch,
     links: &mut Vec<Link>,
@@ -102,10 +106,10 @@ pub(crate) fn turn_at(
     requires within { place < length links.old.items }
     requires kept { (l : seen_link.Link) → get_or links.old.items place l ≡ l → IsKept l.number l.kept }
     requires carried { AreCarried (broker_of broker.old) }
-    ensures took { LinksTook (topology_of broker.old) (broker_of broker.old) links.old.items place result (broker_of broker.new) links.new.items }
+    ensures took { LinksTook (rules_of (topology_of broker.old) users.now) (broker_of broker.old) links.old.items place result (broker_of broker.new) links.new.items }
     ensures topology { topology_of broker.new ≡ topology_of broker.old }
 {
-    let turn = turn_link(alloc, broker, scratch, &mut links[place]);
+    let turn = turn_link(alloc, users, broker, scratch, &mut links[place]);
     sweep(links, place);
     turn
 }

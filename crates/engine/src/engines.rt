@@ -144,6 +144,7 @@ impl Engine {
         match place_of(&self.links, c) {
             Some(place) => turn_at(
                 alloc,
+                self.users.as_slice(),
                 &mut self.broker,
                 &mut self.scratch,
                 &mut self.links,

@@ -1,14 +1,15 @@
 //! One event of one connection.
 
 ghost use Rattle.std.specs.Prelude.{◌≡◌, ℕ, [], true, false, IfOk, OnErr, OnOk};
-ghost use Rattle.model.specs.Broker as seen;
+ghost use Rattle.model.specs.Step.{Is};
+ghost use Rattle.model.specs.State.{after_move};
 ghost use Rattle.model.specs.Arrivals.{IsSaid};
 ghost use Rattle.model.specs.Sending.{AreCarried, AreOwn};
 ghost use Rattle.broker.specs.State.{topology_of, broker_of};
-ghost use Rattle.engine.specs.Performing.{IsAsked, session_after, move_of, ByBroker, ByPhase, Decides, PausesOr};
+ghost use Rattle.engine.specs.Performing.{IsAsked, session_after, rules_of, IsAnswerTo, ByBroker, ByPhase, Decides, PausesOr};
 
 use broker::{Broker, Step};
-use model::{Event, Phase, Send};
+use model::{Event, Phase, Send, User};
 use session::Session;
 use std::alloc::{AllocError, Global};
 
@@ -48,35 +49,64 @@ fn by_broker(
 fn sends_of(
     c: u64,
     alloc: Global,
+    users: &[User],
     session: &mut Session,
     event: &Event,
 ) -> Result<Vec<Send>, AllocError>
     requires { IsAsked c event.now }
-    ensures sends { IfOk result (λ sends. sends.items ≡ (move_of session.old.phase session.old event.now).sends) }
+    ensures answered { IfOk result (λ sends. IsAnswerTo users.now session.old.phase session.old event.now (record { sends = sends.items; next = session.new })) }
     ensures own { IfOk result (λ sends. AreOwn c sends.items) }
-    ensures ok { OnOk result (session.new ≡ (move_of session.old.phase session.old event.now).next) }
-    ensures err { OnErr result (session.new ≡ session.old) }
 {
     match event {
         Event::Command {
             channel,
             method,
             ..
-        } => session.take(alloc, c, *channel, method),
-        Event::TooLarge { channel, .. } => session.take_large(alloc, c, *channel),
+        } => session.take(alloc, c, *channel, method, users),
+        Event::TooLarge { channel, .. } => session.take_large(alloc, c, *channel, users),
         Event::Fault { code, .. } => session.fault(alloc, c, *code),
         _ => unreachable!(),
     }
 }
 
-/// An event of the connection `c`, which runs no more.
-fn by_phase(c: u64, alloc: Global, session: &mut Session, event: &Event) -> Result<Step, AllocError>
-    requires { IsAsked c event.now }
-    ensures ok { IfOk result (λ d. (b : seen.Broker) → ByPhase session.old.phase b session.old event.now d.sends.items d.notes.items b session.new) }
-    ensures own { IfOk result (λ d. AreOwn c d.sends.items) }
-    ensures err { OnErr result (session.new ≡ session.old) }
+/// The connection `c` is one of the broker's from now on, with no channel open, where it runs now.
+fn open_if(
+    c: u64,
+    alloc: Global,
+    broker: &mut Broker,
+    session: &Session,
+) -> Result<(), AllocError>
+    ensures ok { OnOk result (Is (after_move (broker_of broker.old) c session.now) (broker_of broker.new)) }
+    ensures err { OnErr result (broker.new ≡ broker.old) }
+    ensures topology { topology_of broker.new ≡ topology_of broker.old }
 {
-    let sends = sends_of(c, alloc, session, event)?;
+    match session.phase() {
+        Phase::Running => broker.open(alloc, c, session.channel_max(), 0),
+        _ => Ok(()),
+    }
+}
+
+/// An event of the connection `c`, which does not run. Where memory is wanting the session is as before: it moves on once the
+/// broker has the connection.
+fn by_phase(
+    c: u64,
+    alloc: Global,
+    users: &[User],
+    broker: &mut Broker,
+    session: &mut Session,
+    event: &Event,
+) -> Result<Step, AllocError>
+    requires asked { IsAsked c event.now }
+    ensures ok { IfOk result (λ d. ByPhase users.now c session.old.phase (broker_of broker.old) session.old event.now d.sends.items d.notes.items (broker_of broker.new) session.new) }
+    ensures own { IfOk result (λ d. AreOwn c d.sends.items) }
+    ensures broker_kept { OnErr result (broker.new ≡ broker.old) }
+    ensures session_kept { OnErr result (session.new ≡ session.old) }
+    ensures topology { topology_of broker.new ≡ topology_of broker.old }
+{
+    let mut next = session.copied();
+    let sends = sends_of(c, alloc, users, &mut next, event)?;
+    open_if(c, alloc, broker, &next)?;
+    *session = next;
     Ok(Step {
         sends,
         notes: Vec::new(alloc),
@@ -87,6 +117,7 @@ fn by_phase(c: u64, alloc: Global, session: &mut Session, event: &Event) -> Resu
 pub(crate) fn perform(
     c: u64,
     alloc: Global,
+    users: &[User],
     broker: &mut Broker,
     session: &mut Session,
     event: &Event,
@@ -94,7 +125,7 @@ pub(crate) fn perform(
     requires asked { IsAsked c event.now }
     requires said { IsSaid event.now }
     requires carried { AreCarried (broker_of broker.old) }
-    ensures ok { IfOk result (λ d. Decides session.old.phase (topology_of broker.old) (broker_of broker.old) session.old event.now d.sends.items d.notes.items (broker_of broker.new) session.new) }
+    ensures ok { IfOk result (λ d. Decides c session.old.phase (rules_of (topology_of broker.old) users.now) (broker_of broker.old) session.old event.now d.sends.items d.notes.items (broker_of broker.new) session.new) }
     ensures own { IfOk result (λ d. AreOwn c d.sends.items) }
     ensures broker_kept { OnErr result (broker.new ≡ broker.old) }
     ensures session_kept { OnErr result (session.new ≡ session.old) }
@@ -102,7 +133,7 @@ pub(crate) fn perform(
 {
     match session.phase() {
         Phase::Running => by_broker(c, alloc, broker, session, event),
-        _ => by_phase(c, alloc, session, event),
+        _ => by_phase(c, alloc, users, broker, session, event),
     }
 }
 

@@ -7,7 +7,7 @@ ghost use Rattle.model.specs.declared.events.Event as event;
 ghost use Rattle.model.specs.declared.events.Event.TheVariants as happens;
 ghost use Rattle.broker.specs.State.{topology_of, broker_of};
 ghost use Rattle.engine.specs.Reading.{IsKept, IsMade};
-ghost use Rattle.engine.specs.Performing.{IsAsked};
+ghost use Rattle.engine.specs.Performing.{IsAsked, rules_of};
 ghost use Rattle.engine.specs.Turning.{Performed, DidEvent, LinkTook, LinkWaits};
 
 use crate::links::Link;
@@ -17,7 +17,7 @@ use crate::reading::{Next, forget, read_next};
 use crate::scratch::Scratch;
 use crate::sending::put_sends;
 use broker::Broker;
-use model::{Event, Note};
+use model::{Event, Note, User};
 use session::Session;
 use std::alloc::{AllocError, Global};
 
@@ -38,6 +38,7 @@ pub enum Turn {
 fn do_event(
     c: u64,
     alloc: Global,
+    users: &[User],
     broker: &mut Broker,
     scratch: &mut Scratch,
     session: &mut Session,
@@ -48,14 +49,14 @@ fn do_event(
     requires said { IsSaid event.now }
     requires carried { AreCarried (broker_of broker.old) }
     requires room { most_sent ≤ output.old.room }
-    ensures ok { IfOk result (λ notes. Performed (topology_of broker.old) (broker_of broker.old) c session.old output.old.bytes event.now notes.items (broker_of broker.new) session.new output.new.bytes) }
+    ensures ok { IfOk result (λ notes. Performed (rules_of (topology_of broker.old) users.now) (broker_of broker.old) c session.old output.old.bytes event.now notes.items (broker_of broker.new) session.new output.new.bytes) }
     ensures broker_kept { OnErr result (broker.new ≡ broker.old) }
     ensures session_kept { OnErr result (session.new ≡ session.old) }
     ensures output_kept { OnErr result (output.new ≡ output.old) }
     ensures topology { topology_of broker.new ≡ topology_of broker.old }
 {
     let max = session.frame_max();
-    let step = perform(c, alloc, broker, session, event)?;
+    let step = perform(c, alloc, users, broker, session, event)?;
     put_sends(c, output, scratch, max, &step.sends);
     let is_past = output.bytes().len() >= 1_048_576;
     pause_if(broker, c, is_past);
@@ -65,6 +66,7 @@ fn do_event(
 /// The command that is kept, which stays so where memory is refused.
 fn do_kept(
     alloc: Global,
+    users: &[User],
     broker: &mut Broker,
     scratch: &mut Scratch,
     link: &mut Link,
@@ -72,7 +74,7 @@ fn do_kept(
     requires kept { (e : event.Event) × (link.old.kept ≡ Some e) × IsAsked link.old.number e × IsSaid e }
     requires carried { AreCarried (broker_of broker.old) }
     requires room { most_sent ≤ link.old.output.room }
-    ensures ok { IfOk result (λ t. (e : event.Event) → link.old.kept ≡ Some e → DidEvent (topology_of broker.old) (broker_of broker.old) link.old e t (broker_of broker.new) link.new) }
+    ensures ok { IfOk result (λ t. (e : event.Event) → link.old.kept ≡ Some e → DidEvent (rules_of (topology_of broker.old) users.now) (broker_of broker.old) link.old e t (broker_of broker.new) link.new) }
     ensures broker_kept { OnErr result (broker.new ≡ broker.old) }
     ensures link_kept { OnErr result (link.new ≡ link.old) }
     ensures topology { topology_of broker.new ≡ topology_of broker.old }
@@ -81,6 +83,7 @@ fn do_kept(
         Some(event) => do_event(
             link.number,
             alloc,
+            users,
             broker,
             scratch,
             &mut link.session,
@@ -101,6 +104,7 @@ fn do_kept(
 /// A fault of the stream, which the stream answers again where memory is refused.
 fn do_fault(
     alloc: Global,
+    users: &[User],
     broker: &mut Broker,
     scratch: &mut Scratch,
     link: &mut Link,
@@ -109,7 +113,7 @@ fn do_fault(
     requires kept { link.old.kept ≡ None }
     requires carried { AreCarried (broker_of broker.old) }
     requires room { most_sent ≤ link.old.output.room }
-    ensures ok { IfOk result (λ t. DidEvent (topology_of broker.old) (broker_of broker.old) link.old (happens.Fault link.old.number code) t (broker_of broker.new) link.new) }
+    ensures ok { IfOk result (λ t. DidEvent (rules_of (topology_of broker.old) users.now) (broker_of broker.old) link.old (happens.Fault link.old.number code) t (broker_of broker.new) link.new) }
     ensures broker_kept { OnErr result (broker.new ≡ broker.old) }
     ensures link_kept { OnErr result (link.new ≡ link.old) }
     ensures topology { topology_of broker.new ≡ topology_of broker.old }
@@ -119,6 +123,7 @@ fn do_fault(
     let done = do_event(
         connection,
         alloc,
+        users,
         broker,
         scratch,
         &mut link.session,
@@ -135,6 +140,7 @@ fn do_fault(
 /// One turn of a connection that is awake, where there is room for what it sends.
 pub(crate) fn turn_with_room(
     alloc: Global,
+    users: &[User],
     broker: &mut Broker,
     scratch: &mut Scratch,
     link: &mut Link,
@@ -144,15 +150,15 @@ pub(crate) fn turn_with_room(
     requires room { most_sent ≤ link.old.output.room }
     requires open { is_ended link.old.session.phase ≡ false }
     requires below { is_past_bound link.old.output.bytes ≡ false }
-    ensures ok { IfOk result (λ t. LinkTook (topology_of broker.old) (broker_of broker.old) link.old t (broker_of broker.new) link.new) }
+    ensures ok { IfOk result (λ t. LinkTook (rules_of (topology_of broker.old) users.now) (broker_of broker.old) link.old t (broker_of broker.new) link.new) }
     ensures err { OnErr result (LinkWaits (broker_of broker.old) link.old (broker_of broker.new) link.new) }
     ensures kept { IsKept link.new.number link.new.kept }
     ensures number { link.new.number ≡ link.old.number }
     ensures topology { topology_of broker.new ≡ topology_of broker.old }
 {
     match read_next(link.number, &mut link.stream, &mut link.kept)? {
-        Next::Command => do_kept(alloc, broker, scratch, link),
-        Next::Fault(code) => do_fault(alloc, broker, scratch, link, code),
+        Next::Command => do_kept(alloc, users, broker, scratch, link),
+        Next::Fault(code) => do_fault(alloc, users, broker, scratch, link, code),
         Next::Nothing => Ok(Turn::Idle),
     }
 }

@@ -11,7 +11,7 @@ use Rattle.model.specs.Step.{returned_sends, confirm_sends, confirm_method}
 use Rattle.model.specs.declared.contents.Content.{Content}
 use Rattle.model.specs.declared.methods.Publish.{Publish}
 use Rattle.model.specs.declared.methods.Method.{Method}
-use Rattle.model.specs.declared.methods.Method.TheVariants.{ConnectionClose, ConnectionCloseOk, ChannelClose, ChannelCloseOk, QueuePurgeOk, BasicQosOk, BasicReturn, BasicGetOk, BasicGetEmpty, BasicRecoverOk, ConfirmSelectOk}
+use Rattle.model.specs.declared.methods.Method.TheVariants.{ConnectionTune, ConnectionOpenOk, ConnectionClose, ConnectionCloseOk, ChannelClose, ChannelCloseOk, QueuePurgeOk, BasicQosOk, BasicReturn, BasicGetOk, BasicGetEmpty, BasicRecoverOk, ConfirmSelectOk}
 use Rattle.model.specs.declared.notes.Answer.{Answer}
 use Rattle.model.specs.declared.notes.Answer.TheVariants as answer
 use Rattle.model.specs.declared.events.Send.{Send}
@@ -24,6 +24,8 @@ use Rattle.laws.proofs.View.{is_reply, IsReplyAtMost, acted}
 -- ---- no method that is sent is long
 
 short_reply : (m : Method) → is_reply m ≡ true → IsMethod m → length (method_bytes m) ≤ 4088
+short_reply (ConnectionTune m) e is = grind (arith, common_steps, is)
+short_reply (ConnectionOpenOk reserved) e is = grind (arith, common_steps, is)
 short_reply (ConnectionClose m) e is = grind (arith, common_steps, is)
 short_reply ConnectionCloseOk e is = omega arith
 short_reply (ChannelClose m) e is = grind (arith, common_steps, is)

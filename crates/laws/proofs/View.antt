@@ -1,6 +1,7 @@
 -- The ways in which a step can go. Here alone all cases of `Step` are walked over: a new command is a new line here.
 use Rattle.std.proofs.Common.{◌≡◌, ℕ, ◌+◌, filter, arith, ◌⊎◌, List, [], ◌∷◌, ◌++◌, Bool, true, false, cond, eqb, refl, sym, ap, subst, ◌∙◌, map, Option, Some, None, inl, inr}
-use Rattle.std.specs.Prelude.{count_by, ◌==◌, if◌then◌else◌}
+use Rattle.std.specs.Prelude.{codes, count_by, ◌==◌, if◌then◌else◌}
+use Rattle.std.specs.Str.{bytes_eq}
 use Rattle.std.specs.List.{AllByRecursion}
 use Rattle.std.proofs.lemmas.Bool.{eqb-true, false≢true}
 use Rattle.model.specs.Words.{Text}
@@ -9,8 +10,10 @@ use Rattle.model.specs.Broker.{Outstanding, Channel, Connection, Broker, is_read
 use Rattle.model.specs.Step.{Refusal, Ignored, Of_channel, Of_connection, Does, Makes, Gets, Settles, tag_of, get_ok, purge_sends, IsPublish, Performs, Refuses, Decides, OnConnection, OnLarge, Acts, empty_publish, refusal_of_large, with_channel, with_freed, reply, content_or_none, returned_sends, confirm_sends, is_some_full, next_of, answer_of, refusal, channel_or_new, opened, paused}
 use Rattle.model.specs.Entries.{freed, by_channel, by_connection, is_held_as}
 use Rattle.model.specs.Grammar.{Ids, ids_of}
-use Rattle.model.specs.Phases.{Session, Move, running_session, no_session, is_running, after_sends, stays_in, to_phase, while_closing, answer, faulted}
-use Rattle.model.specs.State.{Config, State, Moves, OfCommand, OfLarge, OfFault, Step}
+use Rattle.model.specs.Phases.{Session, Move, running_session, no_session, is_running, after_sends, stays_in, to_phase, while_closing, faulted}
+use Rattle.model.specs.Opening.{IsAnswered, Opens, opening_move, on_zero, or_closed, at_start, at_tune, at_open, answers_with, closes_with, is_taken, tuned, tune, open_ok}
+use Rattle.model.specs.State.{Config, State, Moves, AnswersBy, OfCommand, OfLarge, OfFault, Step}
+use Rattle.model.specs.declared.messages.User.{User}
 use Rattle.model.specs.Run.{Happening, has_number, is_left}
 use Rattle.model.specs.Headline.{WasGiven, IsCauseIn, IsCauseAt}
 use Rattle.model.specs.Settling.{takes}
@@ -32,7 +35,7 @@ use Rattle.model.specs.declared.methods.Method.{Method}
 use Rattle.model.specs.declared.methods.Get.{Get}
 use Rattle.model.specs.declared.methods.Ack.{Ack}
 use Rattle.model.specs.declared.methods.Purge.{Purge}
-use Rattle.model.specs.declared.methods.Method.TheVariants.{ConnectionClose, ConnectionCloseOk, ChannelClose, ChannelCloseOk, QueuePurge, QueuePurgeOk, BasicQos, BasicQosOk, BasicPublish, BasicGet, BasicGetOk, BasicGetEmpty, BasicAck, BasicReject, BasicNack, BasicRecover, BasicRecoverOk, ConfirmSelect, ConfirmSelectOk}
+use Rattle.model.specs.declared.methods.Method.TheVariants.{ConnectionStartOk, ConnectionTune, ConnectionTuneOk, ConnectionOpen, ConnectionOpenOk, ConnectionClose, ConnectionCloseOk, ChannelClose, ChannelCloseOk, QueuePurge, QueuePurgeOk, BasicQos, BasicQosOk, BasicPublish, BasicGet, BasicGetOk, BasicGetEmpty, BasicAck, BasicReject, BasicNack, BasicRecover, BasicRecoverOk, ConfirmSelect, ConfirmSelectOk}
 use Rattle.model.specs.declared.messages.Taker.TheVariants as taker
 use Rattle.model.specs.declared.notes.Cause.{Cause}
 use Rattle.model.specs.declared.notes.Cause.TheVariants.{Acked, Auto, Rejected}
@@ -45,8 +48,10 @@ use Rattle.laws.proofs.Leaving.{is_leaving, OfLeft, at_queue, count_change, free
 
 -- ---- what is sent
 
--- a close, or an answer to a command other than a publish
+-- a close, or an answer to a method other than a publish
 abbrev pub is_reply : Method → Bool
+is_reply (ConnectionTune m) = true
+is_reply (ConnectionOpenOk reserved) = true
 is_reply (ConnectionClose m) = true
 is_reply ConnectionCloseOk = true
 is_reply (ChannelClose m) = true
@@ -425,9 +430,42 @@ closing_few c s h (ConnectionClose m) = either_few (h == 0) (record { sends = re
 closing_few c s h ConnectionCloseOk = either_few (h == 0) (record { sends = []; next = to_phase s phase.Over }) (stays_in s) tt tt
 closing_few c s h _ = tt
 
-answer_few : (c : ℕ) (s : Session) (p : Phase) (h : ℕ) (m : Method) → IsReplyAtMost (answer c s p h m).sends
-answer_few c s phase.Closing h m = closing_few c s h m
-answer_few c s _ h m = tt
+start_few : (c : ℕ) (is_user : Bool) (s : Session) (m : Method) → IsReplyAtMost (at_start c is_user s m).sends
+start_few c is_user s (ConnectionStartOk m) = either_few is_user (answers_with c s tune phase.Tune) (closes_with c s 403 (ConnectionStartOk m)) (refl, refl) (refl, refl)
+start_few c is_user s _ = (refl, refl)
+
+tune_few : (c : ℕ) (s : Session) (m : Method) → IsReplyAtMost (at_tune c s m).sends
+tune_few c s (ConnectionTuneOk m) = either_few (is_taken m) (record { sends = []; next = tuned m }) (closes_with c s 530 (ConnectionTuneOk m)) tt (refl, refl)
+tune_few c s _ = (refl, refl)
+
+open_few : (c : ℕ) (s : Session) (m : Method) → IsReplyAtMost (at_open c s m).sends
+open_few c s (ConnectionOpen m) = either_few (bytes_eq m.virtual_host (codes "/")) (answers_with c s open_ok phase.Running) (closes_with c s 530 (ConnectionOpen m)) (refl, refl) (refl, refl)
+open_few c s _ = (refl, refl)
+
+closed_few : (c : ℕ) (s : Session) (m : Method) (move : Move) → IsReplyAtMost move.sends → IsReplyAtMost (or_closed c s m move).sends
+closed_few c s (ConnectionClose x) move few = (refl, refl)
+closed_few c s _ move few = few
+
+zero_few : (c : ℕ) (s : Session) (h : ℕ) (m : Method) (move : Move) → IsReplyAtMost move.sends → IsReplyAtMost (on_zero c s h m move).sends
+zero_few c s h m move few = either_few (h == 0) (or_closed c s m move) (closes_with c s 503 m) (closed_few c s m move few) (refl, refl)
+
+opening_few : (c : ℕ) (is_user : Bool) (s : Session) (p : Phase) (h : ℕ) (m : Method) → IsReplyAtMost (opening_move c is_user s p h m).sends
+opening_few c is_user s phase.Start h m = zero_few c s h m (at_start c is_user s m) (start_few c is_user s m)
+opening_few c is_user s phase.Tune h m = zero_few c s h m (at_tune c s m) (tune_few c s m)
+opening_few c is_user s phase.Open h m = zero_few c s h m (at_open c s m) (open_few c s m)
+opening_few c is_user s _ h m = tt
+
+opens_few : (users : List User) (c : ℕ) (s : Session) (h : ℕ) (m : Method) (move : Move) → Opens users c s h m move → IsReplyAtMost move.sends
+opens_few users c s h m move o = subst (λ (x : Move). IsReplyAtMost x.sends) (sym o.moved) (opening_few c o.is_user s s.phase h m)
+
+answer_few : (users : List User) (c : ℕ) (s : Session) (p : Phase) (h : ℕ) (m : Method) (move : Move) → IsAnswered users c s p h m move → IsReplyAtMost move.sends
+answer_few users c s phase.Closing h m move e = subst (λ (x : Move). IsReplyAtMost x.sends) (sym e) (closing_few c s h m)
+answer_few users c s phase.Header h m move o = opens_few users c s h m move o
+answer_few users c s phase.Start h m move o = opens_few users c s h m move o
+answer_few users c s phase.Tune h m move o = opens_few users c s h m move o
+answer_few users c s phase.Open h m move o = opens_few users c s h m move o
+answer_few users c s phase.Running h m move o = opens_few users c s h m move o
+answer_few users c s phase.Over h m move o = opens_few users c s h m move o
 
 fault_few : (c : ℕ) (s : Session) (p : Phase) (code : ℕ) → IsReplyAtMost (faulted c s p code).sends
 fault_few c s phase.Closing code = tt
@@ -437,11 +475,11 @@ fault_few c s _ code = (refl, refl)
 module _ (f : Config) (old new : State) (sends : List Send) (notes : List Note) where
   of_command : (p : Phase) (c h : ℕ) (m : Method) (content : Option Content) → (old.session c).phase ≡ p → OfCommand f old p c h m content sends notes new → Performed f old (Command c h m content) sends notes new ⊎ Answered old (Command c h m content) sends notes new
   of_command phase.Running c h m content here s = inl (record { runs = λ r. ap is_running here; acts = s.acts; sessions = s.session })
-  of_command p c h m content here s = inr (record { idle = ap is_running here; read = refl; move = answer c (old.session c) p h m; few = answer_few c (old.session c) p h m; moves = s })
+  of_command p c h m content here s = inr (record { idle = ap is_running here; read = refl; move = s.move; few = answer_few f.users c (old.session c) p h m s.move s.answered; moves = s.moves })
 
   of_large : (p : Phase) (c h : ℕ) → (old.session c).phase ≡ p → OfLarge f old p c h sends notes new → Performed f old (TooLarge c h) sends notes new ⊎ Answered old (TooLarge c h) sends notes new
   of_large phase.Running c h here s = inl (record { runs = λ r. ap is_running here; acts = s.acts; sessions = s.session })
-  of_large p c h here s = inr (record { idle = ap is_running here; read = refl; move = answer c (old.session c) p h empty_publish; few = answer_few c (old.session c) p h empty_publish; moves = s })
+  of_large p c h here s = inr (record { idle = ap is_running here; read = refl; move = s.move; few = answer_few f.users c (old.session c) p h empty_publish s.move s.answered; moves = s.moves })
 
   of_fault : (p : Phase) (c code : ℕ) → (old.session c).phase ≡ p → OfFault f old p c code sends notes new → Performed f old (Fault c code) sends notes new ⊎ Answered old (Fault c code) sends notes new
   of_fault phase.Running c code here s = inl (record { runs = λ r. ap is_running here; acts = s.acts; sessions = s.session })

@@ -7,7 +7,7 @@ use Rattle.model.specs.Tables.{Pairs, pair, no_pairs, Truth, Inner_table, Long_s
 use Rattle.model.specs.Grammar.{ids_of}
 use Rattle.model.specs.Step.{reply, connection_close}
 use Rattle.model.specs.Spelling.{eight_bytes}
-use Rattle.model.specs.Phases.{Session, Move, to_phase, stays_in}
+use Rattle.model.specs.Phases.{Session, Move, to_phase, stays_in, while_closing}
 use Rattle.model.specs.Login.{IsLogin}
 use Rattle.model.specs.declared.messages.User.{User}
 use Rattle.model.specs.declared.events.Phase.{Phase}
@@ -116,3 +116,8 @@ pub record Opens (users : List User) (c : ℕ) (s : Session) (h : ℕ) (m : Meth
   pub is_user : Bool
   pub login : MatchBool is_user (LogsIn users s.phase m) (LogsIn users s.phase m → ⊥)
   pub moved : move ≡ opening_move c is_user s s.phase h m
+
+-- What a phase other than Running answers to a method: in Closing, and before Running, where these are the users. When all is over nothing comes.
+abbrev pub IsAnswered : List User → ℕ → Session → Phase → ℕ → Method → Move → Type 0
+IsAnswered users c s phase.Closing h m move = move ≡ while_closing c s h m
+IsAnswered users c s p h m move = Opens users c s h m move

@@ -51,11 +51,6 @@ while_closing c s h (ConnectionClose m) = if h == 0 then record { sends = reply 
 while_closing c s h ConnectionCloseOk = if h == 0 then record { sends = []; next = to_phase s phase.Over } else stays_in s
 while_closing c s h m = stays_in s
 
--- A method in a phase other than Running. The phases before Running come with the opening of connections.
-abbrev pub answer : ℕ → Session → Phase → ℕ → Method → Move
-answer c s phase.Closing h m = while_closing c s h m
-answer c s p h m = stays_in s
-
 -- A fault of the stream: the close of its code, and the connection is over; nothing is sent while close-ok is awaited (own).
 abbrev pub faulted : ℕ → Session → Phase → ℕ → Move
 faulted c s phase.Closing code = record { sends = []; next = to_phase s phase.Over }

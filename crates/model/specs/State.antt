@@ -4,7 +4,8 @@ use Rattle.model.specs.Topology.{Topology}
 use Rattle.model.specs.Guarantee.{Guarantee}
 use Rattle.model.specs.Broker.{Broker, with_one}
 use Rattle.model.specs.Step.{Acts, Is, empty_publish, opened}
-use Rattle.model.specs.Phases.{Session, running_session, no_session, is_running, Move, answer, faulted, after_sends, to_phase}
+use Rattle.model.specs.Phases.{Session, running_session, no_session, is_running, Move, faulted, after_sends, to_phase}
+use Rattle.model.specs.Opening.{IsAnswered}
 use Rattle.model.specs.declared.messages.User.{User}
 use Rattle.model.specs.declared.contents.Content.{Content}
 use Rattle.model.specs.declared.methods.Method.{Method}
@@ -47,15 +48,21 @@ pub record StepsAlone (f : Config) (old : State) (e : Event) (sends : List Send)
   pub acts : Acts f.topology old.broker e sends notes new.broker
   pub session : (d : ℕ) → new.session d ≡ old.session d
 
+-- a method that a phase other than Running answers, where these are the users
+pub record AnswersBy (users : List User) (old : State) (p : Phase) (c h : ℕ) (m : Method) (sends : List Send) (notes : List Note) (new : State) : Type 0 where
+  pub move : Move
+  pub answered : IsAnswered users c (old.session c) p h m move
+  pub moves : Moves old c move sends notes new
+
 -- a command: in Running the broker performs it, and the phase follows what was sent; in any other the phase answers it
 abbrev pub OfCommand : Config → State → Phase → ℕ → ℕ → Method → Option Content → List Send → List Note → State → Type 0
 OfCommand f old phase.Running c h m content sends notes new = Steps f old c (event.Command c h m content) sends notes (to_phase (old.session c) (after_sends sends)) new
-OfCommand f old p c h m content sends notes new = Moves old c (answer c (old.session c) p h m) sends notes new
+OfCommand f old p c h m content sends notes new = AnswersBy f.users old p c h m sends notes new
 
 -- a publish whose content is too large: in Running the broker refuses it; in any other phase it is what a publish with empty texts is
 abbrev pub OfLarge : Config → State → Phase → ℕ → ℕ → List Send → List Note → State → Type 0
 OfLarge f old phase.Running c h sends notes new = Steps f old c (event.TooLarge c h) sends notes (to_phase (old.session c) (after_sends sends)) new
-OfLarge f old p c h sends notes new = Moves old c (answer c (old.session c) p h empty_publish) sends notes new
+OfLarge f old p c h sends notes new = AnswersBy f.users old p c h empty_publish sends notes new
 
 -- a fault of the stream: after it the connection is over
 abbrev pub OfFault : Config → State → Phase → ℕ → ℕ → List Send → List Note → State → Type 0

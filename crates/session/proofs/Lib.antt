@@ -1,1 +1,4 @@
 pub mod Faults
+pub mod Owned
+pub mod Table
+pub mod Rows

@@ -1,11 +1,16 @@
 //! Where one connection stands in its life.
 //!
-//! A [`Session`] is the phase of a connection and the limits in force. While the connection runs, the broker performs its
-//! commands, and the session learns from what was sent whether a close is under way. In any other phase the session
-//! answers by itself. Source: AMQP 0-9-1, section 2.2.4, "The Connection Class".
+//! A [`Session`] is the phase of a connection and the limits in force: from its first eight bytes over login and limits until
+//! it runs. While the connection runs, the broker performs its commands, and the session learns from what was sent whether a
+//! close is under way. In any other phase the session answers by itself. Source: AMQP 0-9-1, section 2.2.4, "The Connection Class".
 #![tactic(auto)]
 
-mod closes;
+mod answers;
+mod examples;
+mod sends;
 mod sessions;
+#[cfg(test)]
+mod tests;
 
+pub use examples::worked_examples;
 pub use sessions::Session;

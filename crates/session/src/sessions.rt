@@ -5,8 +5,9 @@ ghost use Rattle.model.specs.Phases.{after_sends};
 ghost use Rattle.model.specs.Phases as said;
 ghost use Rattle.model.specs.declared.events.Send as sent;
 
-use crate::closes::{close, nothing, one};
-use model::{Method, Phase, Publish, Send, Text};
+use crate::answers::{Answer, answer_to, logs_in};
+use crate::sends::{close, greeting, nothing, one, start};
+use model::{Ids, Method, Phase, Publish, Send, Text, User};
 use std::alloc::{AllocError, Global};
 use std::marker::Model;
 
@@ -65,11 +66,23 @@ fn phase_after(sends: &[Send]) -> Phase
 
 impl Session {
     ghost use Rattle.std.specs.Prelude.{◌≡◌, ◌≤◌, [], ◌∷◌, IfOk, IsOk, OnErr, OnOk, IsTrue};
-    ghost use Rattle.model.specs.Phases.{running_session, no_session, answer, faulted, after_sends, to_phase};
+    ghost use Rattle.model.specs.Phases.{Move, running_session, no_session, while_closing, faulted, after_sends, to_phase};
+    ghost use Rattle.model.specs.Opening.{new_session, first_move, Opens, IsAnswered};
     ghost use Rattle.model.specs.Arrivals.{is_ended};
     ghost use Rattle.model.specs.Step.{empty_publish};
     ghost use Rattle.model.specs.declared.events.Phase.TheVariants as phase;
     ghost use Rattle.model.specs.Sending.{AreOwn};
+
+    /// One whose first eight bytes are awaited. Until limits are agreed on, a frame has at most 4,096 bytes.
+    pub fn new() -> Session
+        ensures { result ≡ new_session }
+    {
+        Session {
+            phase: Phase::Header,
+            channel_max: 255,
+            frame_max: 4096,
+        }
+    }
 
     /// One that runs at once, with channels up to 255 and frames of at most 131,072 bytes.
     pub fn running() -> Session
@@ -82,6 +95,17 @@ impl Session {
         }
     }
 
+    /// One that stands where this one does, with its limits.
+    pub fn copied(&self) -> Session
+        ensures { result ≡ self.now }
+    {
+        Session {
+            phase: self.phase,
+            channel_max: self.channel_max,
+            frame_max: self.frame_max,
+        }
+    }
+
     /// Where the connection stands.
     pub fn phase(&self) -> Phase
         ensures { result ≡ self.now.phase }
@@ -89,7 +113,14 @@ impl Session {
         self.phase
     }
 
-    /// The greatest frame, in bytes.
+    /// The greatest channel number.
+    pub fn channel_max(&self) -> u16
+        ensures { result ≡ self.now.channel_max }
+    {
+        self.channel_max
+    }
+
+    /// The greatest frame, in bytes: 4,096 until a tune-ok was taken.
     pub fn frame_max(&self) -> u32
         ensures value { result ≡ self.now.frame_max }
         ensures least { 4096 ≤ result }
@@ -120,17 +151,52 @@ impl Session {
     pub fn after(&mut self, sends: &[Send])
         ensures { self.new ≡ to_phase self.old (after_sends sends.now) }
     {
-        match phase_after(sends) {
+        self.move_to(phase_after(sends));
+    }
+
+    /// Stands in this phase from now on; of a connection that is over no limits are kept.
+    fn move_to(&mut self, phase: Phase)
+        ensures { self.new ≡ to_phase self.old phase }
+    {
+        match phase {
             Phase::Over => self.end(),
-            phase => self.phase = phase,
+            _ => self.phase = phase,
         }
     }
 
-    /// Answers a method in a phase other than Running. While close-ok is awaited, a close on channel 0 is answered,
-    /// close-ok on channel 0 ends the connection, and all else is ignored.
+    /// The first eight bytes: the protocol header is answered by start, any other eight by the protocol header, after which
+    /// the connection is over. In a phase that awaits no eight bytes nothing is sent and nothing changes.
     ///
     /// Where nothing is sent no memory is wanted. Where it is refused the session is as before.
-    pub fn take(
+    pub fn first(
+        &mut self,
+        alloc: Global,
+        connection: u64,
+        bytes: &[u8; 8],
+    ) -> Result<Vec<Send>, AllocError>
+        ensures own { IfOk result (λ sends. AreOwn connection sends.items) }
+        ensures quiet { (first_move connection self.old self.old.phase bytes.now).sends ≡ [] → IsOk result }
+        ensures sends { IfOk result (λ sends. sends.items ≡ (first_move connection self.old self.old.phase bytes.now).sends) }
+        ensures ok { OnOk result (self.new ≡ (first_move connection self.old self.old.phase bytes.now).next) }
+        ensures err { OnErr result (self.new ≡ self.old) }
+    {
+        if !matches!(self.phase, Phase::Header) {
+            return Ok(nothing(alloc));
+        }
+        if bytes.as_slice() == b"AMQP\x00\x00\x09\x01".as_slice() {
+            let sends = one(alloc, connection, start())?;
+            self.move_to(Phase::Start);
+            Ok(sends)
+        } else {
+            let sends = greeting(alloc, connection)?;
+            self.move_to(Phase::Over);
+            Ok(sends)
+        }
+    }
+
+    /// Answers a method while close-ok is awaited: a close on channel 0 is answered, close-ok on channel 0 ends the
+    /// connection, and all else is ignored.
+    fn take_closing(
         &mut self,
         alloc: Global,
         connection: u64,
@@ -138,12 +204,11 @@ impl Session {
         method: &Method,
     ) -> Result<Vec<Send>, AllocError>
         ensures own { IfOk result (λ sends. AreOwn connection sends.items) }
-        ensures quiet { (answer connection self.old self.old.phase channel method.now).sends ≡ [] → IsOk result }
-        ensures sends { IfOk result (λ sends. sends.items ≡ (answer connection self.old self.old.phase channel method.now).sends) }
-        ensures ok { OnOk result (self.new ≡ (answer connection self.old self.old.phase channel method.now).next) }
+        ensures quiet { (while_closing connection self.old channel method.now).sends ≡ [] → IsOk result }
+        ensures answered { IfOk result (λ sends. record { sends = sends.items; next = self.new } ≡ while_closing connection self.old channel method.now) }
         ensures err { OnErr result (self.new ≡ self.old) }
     {
-        if !matches!(self.phase, Phase::Closing) || channel != 0 {
+        if channel != 0 {
             return Ok(nothing(alloc));
         }
         match method {
@@ -156,18 +221,80 @@ impl Session {
         }
     }
 
-    /// Answers a publish whose content is too large, in a phase other than Running: what it answers to any publish. Nothing
-    /// is sent, so no memory is wanted.
+    /// Answers a method by the table of the opening.
+    fn take_opening(
+        &mut self,
+        alloc: Global,
+        connection: u64,
+        channel: u16,
+        method: &Method,
+        users: &[User],
+    ) -> Result<Vec<Send>, AllocError>
+        ensures own { IfOk result (λ sends. AreOwn connection sends.items) }
+        ensures quiet { (move : Move) → Opens users.now connection self.old channel method.now move → move.sends ≡ [] → IsOk result }
+        ensures opens { IfOk result (λ sends. Opens users.now connection self.old channel method.now (record { sends = sends.items; next = self.new })) }
+        ensures err { OnErr result (self.new ≡ self.old) }
+    {
+        let is_user = logs_in(users, self.phase, method);
+        match answer_to(self.phase, channel, method, is_user) {
+            Answer::Nothing => Ok(nothing(alloc)),
+            Answer::Tunes {
+                channel_max,
+                frame_max,
+            } => {
+                self.phase = Phase::Open;
+                self.channel_max = channel_max;
+                self.frame_max = frame_max;
+                Ok(nothing(alloc))
+            }
+            Answer::Says {
+                method: said,
+                phase,
+            } => {
+                let sends = one(alloc, connection, said)?;
+                self.move_to(phase);
+                Ok(sends)
+            }
+        }
+    }
+
+    /// Answers a method in a phase other than Running, where these are the users. Before Running it goes by the table of the
+    /// opening: a login, the limits, the vhost. While close-ok is awaited, a close on channel 0 is answered, close-ok on
+    /// channel 0 ends the connection, and all else is ignored.
+    ///
+    /// Where nothing is sent no memory is wanted. Where it is refused the session is as before.
+    pub fn take(
+        &mut self,
+        alloc: Global,
+        connection: u64,
+        channel: u16,
+        method: &Method,
+        users: &[User],
+    ) -> Result<Vec<Send>, AllocError>
+        ensures own { IfOk result (λ sends. AreOwn connection sends.items) }
+        ensures quiet { (move : Move) → IsAnswered users.now connection self.old self.old.phase channel method.now move → move.sends ≡ [] → IsOk result }
+        ensures answered { IfOk result (λ sends. IsAnswered users.now connection self.old self.old.phase channel method.now (record { sends = sends.items; next = self.new })) }
+        ensures err { OnErr result (self.new ≡ self.old) }
+    {
+        match self.phase {
+            Phase::Closing => self.take_closing(alloc, connection, channel, method),
+            _ => self.take_opening(alloc, connection, channel, method, users),
+        }
+    }
+
+    /// Answers a publish whose content is too large, in a phase other than Running: what it answers to any publish.
+    ///
+    /// Where nothing is sent no memory is wanted. Where it is refused the session is as before.
     pub fn take_large(
         &mut self,
         alloc: Global,
         connection: u64,
         channel: u16,
+        users: &[User],
     ) -> Result<Vec<Send>, AllocError>
         ensures own { IfOk result (λ sends. AreOwn connection sends.items) }
-        ensures always { IsOk result }
-        ensures sends { IfOk result (λ sends. sends.items ≡ (answer connection self.old self.old.phase channel empty_publish).sends) }
-        ensures ok { OnOk result (self.new ≡ (answer connection self.old self.old.phase channel empty_publish).next) }
+        ensures quiet { (move : Move) → IsAnswered users.now connection self.old self.old.phase channel empty_publish move → move.sends ≡ [] → IsOk result }
+        ensures answered { IfOk result (λ sends. IsAnswered users.now connection self.old self.old.phase channel empty_publish (record { sends = sends.items; next = self.new })) }
         ensures err { OnErr result (self.new ≡ self.old) }
     {
         let publish = Publish {
@@ -178,7 +305,7 @@ impl Session {
             immediate: false,
         };
         let method = Method::BasicPublish(publish);
-        let sends = self.take(alloc, connection, channel, &method);
+        let sends = self.take(alloc, connection, channel, &method, users);
         drop(method);
         sends
     }
@@ -206,7 +333,11 @@ impl Session {
             }
             Phase::Over => Ok(nothing(alloc)),
             _ => {
-                let sends = one(alloc, connection, close(code))?;
+                let cause = Ids {
+                    class: 0,
+                    method: 0,
+                };
+                let sends = one(alloc, connection, close(code, cause))?;
                 self.end();
                 Ok(sends)
             }

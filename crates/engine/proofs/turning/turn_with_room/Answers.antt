@@ -1,5 +1,6 @@
 use Rattle.std.proofs.Common.{refl, ap}
 use Rattle.broker.specs.State.{topology_of, broker_of}
+use Rattle.engine.specs.Performing.{rules_of}
 use Rattle.engine.specs.declared.links.Link.{Link}
 use Rattle.assembly.specs.Held.{stream_of}
 use Rattle.engine.proofs.Turned.{comes_command, comes_fault, comes_nothing, after_kept, after_fault, after_nothing, on_err_map}
@@ -10,7 +11,7 @@ returns-in-Command c =
     let old = c.args.link.now in
     let mid : Link = record { number = old.number; session = old.session; stream = c.read_next.new.stream; kept = c.read_next.new.kept; output = old.output } in
     let has = comes_command old.number old.kept mid.kept (stream_of old.stream) (stream_of mid.stream) c.in_ok-read_next.field-0 c.in-Command.is c.in_ok-read_next.ensures.ok in
-    let whole = after_kept c.do_kept.result (topology_of c.args.broker.now) (broker_of c.args.broker.now) (broker_of c.do_kept.new.broker) old mid c.do_kept.new.link c.requires.open c.requires.below
+    let whole = after_kept c.do_kept.result (rules_of (topology_of c.args.broker.now) c.args.users.now) (broker_of c.args.broker.now) (broker_of c.do_kept.new.broker) old mid c.do_kept.new.link c.requires.open c.requires.below
     (record { number = refl; session = refl; output = refl }) has c.do_kept.ensures.ok (on_err_map c.do_kept.result _ _ (λ e. ap broker_of e) c.do_kept.ensures.broker_kept) c.do_kept.ensures.link_kept in
     record { ok = whole.ok; err = whole.err; kept = whole.kept; number = whole.number; topology = c.do_kept.ensures.topology }
 
@@ -19,7 +20,7 @@ returns-in-Fault c =
     let old = c.args.link.now in
     let mid : Link = record { number = old.number; session = old.session; stream = c.read_next.new.stream; kept = c.read_next.new.kept; output = old.output } in
     let h = comes_fault old.number c.in-Fault.code old.kept mid.kept (stream_of old.stream) (stream_of mid.stream) c.in_ok-read_next.field-0 c.in-Fault.is c.in_ok-read_next.ensures.ok in
-    let whole = after_fault c.do_fault.result (topology_of c.args.broker.now) (broker_of c.args.broker.now) (broker_of c.do_fault.new.broker) old mid c.do_fault.new.link c.in-Fault.code c.requires.open c.requires.below
+    let whole = after_fault c.do_fault.result (rules_of (topology_of c.args.broker.now) c.args.users.now) (broker_of c.args.broker.now) (broker_of c.do_fault.new.broker) old mid c.do_fault.new.link c.in-Fault.code c.requires.open c.requires.below
     (record { number = refl; session = refl; output = refl }) h c.do_fault.ensures.ok (on_err_map c.do_fault.result _ _ (λ e. ap broker_of e) c.do_fault.ensures.broker_kept) c.do_fault.ensures.link_kept in
     record { ok = whole.ok; err = whole.err; kept = whole.kept; number = whole.number; topology = c.do_fault.ensures.topology }
 
@@ -28,4 +29,4 @@ returns-in-Nothing c =
     let old = c.args.link.now in
     let mid : Link = record { number = old.number; session = old.session; stream = c.read_next.new.stream; kept = c.read_next.new.kept; output = old.output } in
     let h = comes_nothing old.number old.kept mid.kept (stream_of old.stream) (stream_of mid.stream) c.in_ok-read_next.field-0 c.in-Nothing.is c.in_ok-read_next.ensures.ok in
-    record { ok = after_nothing (topology_of c.args.broker.now) (broker_of c.args.broker.now) old mid c.requires.open (record { number = refl; session = refl; output = refl }) h; err = tt; kept = c.read_next.ensures.kept; number = refl; topology = refl }
+    record { ok = after_nothing (rules_of (topology_of c.args.broker.now) c.args.users.now) (broker_of c.args.broker.now) old mid c.requires.open (record { number = refl; session = refl; output = refl }) h; err = tt; kept = c.read_next.ensures.kept; number = refl; topology = refl }

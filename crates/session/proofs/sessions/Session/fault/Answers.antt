@@ -10,7 +10,7 @@ returns-in_ok-sends-in_default c =
     record {
       own = c.in_ok-sends-in_default.ensures.own;
       quiet = λ none. refl;
-      sends = c.in_ok-sends-in_default.ensures.sends ∙ ap (λ (s : Send). s ∷ []) (c.close.ensures.close c.args.connection) ∙ sym (ap (λ (m : Move). m.sends) same);
+      sends = c.in_ok-sends-in_default.ensures.sends ∙ ap (λ (s : Send). s ∷ []) (c.close.ensures.is c.args.connection) ∙ sym (ap (λ (m : Move). m.sends) same);
       ok = c.end-in_default.ensures ∙ sym (ap (λ (m : Move). m.next) same);
       err = tt;
     }

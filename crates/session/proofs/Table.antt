@@ -11,7 +11,7 @@ use Rattle.model.specs.declared.events.Phase.TheVariants as phase
 use Rattle.model.specs.declared.methods.Close.{Close}
 use Rattle.model.specs.declared.methods.Method.{Method}
 use Rattle.model.specs.declared.methods.Method.TheVariants.{ConnectionStartOk, ConnectionClose, ConnectionCloseOk}
-use Rattle.opening.specs.Answers.{Fits, awaited_move}
+use Rattle.session.specs.Answers.{Fits, awaited_move}
 
 -- connection.start has a spelling of 128 bytes
 pub start_fits : Fits start

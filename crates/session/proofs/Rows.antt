@@ -1,6 +1,6 @@
 -- The worked examples.
 use Rattle.std.proofs.Common.{refl}
-use Rattle.opening.specs.Rows.{StartPayload, OpeningFrames, OpeningRefusals}
+use Rattle.session.specs.Rows.{StartPayload, OpeningFrames, OpeningRefusals}
 
 pub start_payload : StartPayload
 start_payload = record { inner = refl; outer = refl; payload = refl; front = refl; back = refl }

@@ -1,14 +1,14 @@
-//! What the server says before a connection runs.
+//! What a connection is told by itself: the methods of an opening, closes, and the protocol header.
 
 ghost use Rattle.std.specs.Prelude.{◌≡◌, [], ◌∷◌, ℕ, IfOk};
-ghost use Rattle.model.specs.Grammar.{ids_of};
+ghost use Rattle.model.specs.Grammar.{ids};
 ghost use Rattle.model.specs.Step.{reply, connection_close};
 ghost use Rattle.model.specs.Opening as said;
 ghost use Rattle.model.specs.declared.events.Send.TheVariants as send;
-ghost use Rattle.opening.specs.Answers.{Fits};
-ghost use Rattle.opening.specs.Short.{AreShort};
+ghost use Rattle.session.specs.Answers.{Fits};
+ghost use Rattle.model.specs.Sending.{AreOwn};
 
-use model::{Close, Method, Send, Start, Table, Text, Tuning, reply_text};
+use model::{Close, Ids, Method, Send, Start, Table, Text, Tuning, reply_text};
 use std::alloc::{AllocError, Global};
 
 /// The pairs of the table in start: what the server can do beside AMQP, and its name.
@@ -51,25 +51,32 @@ pub(crate) fn open_ok() -> Method
     }
 }
 
-/// connection.close with this reply code, for the method that caused it.
-pub(crate) fn close(code: u16, cause: &Method) -> Method
-    ensures is { (c : ℕ) → reply c 0 result ≡ connection_close c code (ids_of cause.now) }
+/// connection.close with this reply code, for the method of these ids; 0 and 0 where none caused it.
+pub(crate) fn close(code: u16, cause: Ids) -> Method
+    ensures is { (c : ℕ) → reply c 0 result ≡ connection_close c code (ids cause.class cause.method) }
     ensures fits { Fits result }
 {
-    let ids = cause.ids();
     Method::ConnectionClose(Close {
         reply_code: code,
         reply_text: reply_text(code),
-        class_id: ids.class,
-        method_id: ids.method,
+        class_id: cause.class,
+        method_id: cause.method,
     })
+}
+
+/// Nothing at all. It takes no memory.
+pub(crate) fn nothing(alloc: Global) -> Vec<Send>
+    ensures sends { result.items ≡ [] }
+    ensures own { (c : ℕ) → AreOwn c result.items }
+{
+    Vec::new(alloc)
 }
 
 /// One method on channel 0, which carries no content.
 pub(crate) fn one(alloc: Global, connection: u64, method: Method) -> Result<Vec<Send>, AllocError>
     requires { Fits method }
     ensures sends { IfOk result (λ sends. sends.items ≡ reply connection 0 method ∷ []) }
-    ensures short { IfOk result (λ sends. AreShort connection sends.items) }
+    ensures own { IfOk result (λ sends. AreOwn connection sends.items) }
 {
     let mut sends = Vec::new(alloc);
     sends.push(Send::Command {
@@ -84,7 +91,7 @@ pub(crate) fn one(alloc: Global, connection: u64, method: Method) -> Result<Vec<
 /// The protocol header.
 pub(crate) fn greeting(alloc: Global, connection: u64) -> Result<Vec<Send>, AllocError>
     ensures sends { IfOk result (λ sends. sends.items ≡ send.Greeting connection ∷ []) }
-    ensures short { IfOk result (λ sends. AreShort connection sends.items) }
+    ensures own { IfOk result (λ sends. AreOwn connection sends.items) }
 {
     let mut sends = Vec::new(alloc);
     sends.push(Send::Greeting { connection })?;

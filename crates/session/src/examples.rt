@@ -1,6 +1,6 @@
 //! Worked examples.
 
-ghost use Rattle.opening.specs.Rows.{StartPayload, OpeningFrames, OpeningRefusals};
+ghost use Rattle.session.specs.Rows.{StartPayload, OpeningFrames, OpeningRefusals};
 
 /// Worked examples of the definitions, from the payload of start to what is refused.
 pub fn worked_examples()

@@ -1,8 +1,8 @@
 use Rattle.std.proofs.Common.{◌≡◌, ◌∙◌, ap, sym, ℕ, arith}
 use Rattle.model.specs.Phases.{Move}
 use Rattle.model.specs.Opening.{opening_move}
-use Rattle.opening.proofs.Table.{awaited_is}
-use Rattle.opening.proofs.answers.answer_to.Goals as goal
+use Rattle.session.proofs.Table.{awaited_is}
+use Rattle.session.proofs.answers.answer_to.Goals as goal
 
 pub returns-in_default-method : goal.returns-in_default-method
 returns-in_default-method c =

@@ -4,7 +4,7 @@ ghost use Rattle.std.specs.Prelude.{◌≡◌, ℕ, [], true, MatchBool};
 ghost use Rattle.model.specs.Phases.{Session};
 ghost use Rattle.model.specs.Opening as said;
 ghost use Rattle.model.specs.Opening.{LogsIn};
-ghost use Rattle.opening.specs.Answers.{move_of, awaited_move, IsAnswer};
+ghost use Rattle.session.specs.Answers.{move_of, awaited_move, IsAnswer};
 
 use crate::sends::{close, open_ok, tune};
 use login::accepts;
@@ -27,7 +27,7 @@ fn refuse(code: u16, cause: &Method) -> Answer
     ensures fits { IsAnswer result }
 {
     Answer::Says {
-        method: close(code, cause),
+        method: close(code, cause.ids()),
         phase: Phase::Closing,
     }
 }

@@ -1,6 +1,6 @@
 //! A whole opening, of a user whose hash is the base64 text `YWJjZCSNamHSBji45cAmkww+YDmjPORZZP8hZ/bs7dQZ2wbB`.
 
-use crate::Opening;
+use crate::Session;
 use model::{Method, Open, Phase, StartOk, Table, Text, Tuning, User};
 use std::test::Fail;
 
@@ -34,35 +34,35 @@ fn a_user_comes_to_running(rt: HostRuntime) -> Result<(), Fail> {
         name: Text::fixed(b"clerk"),
         hash: Text::fixed(HASH),
     }];
-    let mut opening = Opening::new();
-    assert_eq!(rt; opening.first(alloc, 1, b"AMQP\x00\x00\x09\x01")?.len(), 1);
-    assert_eq!(rt; opening.phase(), Phase::Start);
+    let mut session = Session::new();
+    assert_eq!(rt; session.first(alloc, 1, b"AMQP\x00\x00\x09\x01")?.len(), 1);
+    assert_eq!(rt; session.phase(), Phase::Start);
     let login = start_ok(b"\0clerk\0bcdecdefdefgefghfghighijhijkijkljklmklmnlmnomnopnopq");
     assert_eq!(rt;
-        opening.take(alloc, 1, 0, &login, users.as_slice())?.len(),
+        session.take(alloc, 1, 0, &login, users.as_slice())?.len(),
         1
     );
-    assert_eq!(rt; opening.phase(), Phase::Tune);
-    assert_eq!(rt; opening.frame_max(), 4096);
+    assert_eq!(rt; session.phase(), Phase::Tune);
+    assert_eq!(rt; session.frame_max(), 4096);
     assert_eq!(rt;
-        opening
+        session
             .take(alloc, 1, 0, &tune_ok(8192), users.as_slice())?
             .len(),
         0
     );
-    assert_eq!(rt; opening.phase(), Phase::Open);
-    assert_eq!(rt; opening.frame_max(), 8192);
-    assert_eq!(rt; opening.channel_max(), 255);
+    assert_eq!(rt; session.phase(), Phase::Open);
+    assert_eq!(rt; session.frame_max(), 8192);
+    assert_eq!(rt; session.channel_max(), 255);
     let open = Method::ConnectionOpen(Open {
         virtual_host: Text::fixed(b"/"),
         reserved_text: Text::empty(),
         reserved_bit: false,
     });
     assert_eq!(rt;
-        opening.take(alloc, 1, 0, &open, users.as_slice())?.len(),
+        session.take(alloc, 1, 0, &open, users.as_slice())?.len(),
         1
     );
-    assert_eq!(rt; opening.phase(), Phase::Running);
+    assert_eq!(rt; session.phase(), Phase::Running);
     Ok(())
 }
 
@@ -73,22 +73,22 @@ fn a_wrong_password_closes(rt: HostRuntime) -> Result<(), Fail> {
         name: Text::fixed(b"clerk"),
         hash: Text::fixed(HASH),
     }];
-    let mut opening = Opening::new();
-    opening.first(alloc, 1, b"AMQP\x00\x00\x09\x01")?;
+    let mut session = Session::new();
+    session.first(alloc, 1, b"AMQP\x00\x00\x09\x01")?;
     let login = start_ok(b"\0clerk\0wrong");
     assert_eq!(rt;
-        opening.take(alloc, 1, 0, &login, users.as_slice())?.len(),
+        session.take(alloc, 1, 0, &login, users.as_slice())?.len(),
         1
     );
-    assert_eq!(rt; opening.phase(), Phase::Closing);
+    assert_eq!(rt; session.phase(), Phase::Closing);
     Ok(())
 }
 
 #[test]
 fn another_protocol_is_told_this_one(rt: HostRuntime) -> Result<(), Fail> {
     let alloc = rt.alloc();
-    let mut opening = Opening::new();
-    assert_eq!(rt; opening.first(alloc, 1, b"HTTP/1.1")?.len(), 1);
-    assert_eq!(rt; opening.phase(), Phase::Over);
+    let mut session = Session::new();
+    assert_eq!(rt; session.first(alloc, 1, b"HTTP/1.1")?.len(), 1);
+    assert_eq!(rt; session.phase(), Phase::Over);
     Ok(())
 }

@@ -6,8 +6,8 @@ use Rattle.model.specs.Opening.{answers_with, at_start, at_tune, at_open}
 use Rattle.model.specs.declared.events.Phase.{Phase}
 use Rattle.model.specs.declared.events.Phase.TheVariants as phase
 use Rattle.model.specs.declared.methods.Method.{Method}
-use Rattle.opening.specs.declared.answers.Answer.{Answer}
-use Rattle.opening.specs.declared.answers.Answer.TheVariants.{Nothing, Tunes, Says}
+use Rattle.session.specs.declared.answers.Answer.{Answer}
+use Rattle.session.specs.declared.answers.Answer.TheVariants.{Nothing, Tunes, Says}
 
 -- the move that an answer stands for
 abbrev pub move_of : ℕ → Session → Answer → Move

@@ -1,8 +1,0 @@
-use Rattle.std.proofs.Common.{ap, [], ◌∷◌}
-use Rattle.model.specs.Phases.{Move, to_phase}
-use Rattle.model.specs.declared.events.Phase.TheVariants as phase
-use Rattle.model.specs.declared.events.Send.{Send}
-use Rattle.opening.proofs.answers.refuse.Goals as goal
-
-pub returns-clause-is : goal.returns-clause-is
-returns-clause-is c = λ n s. ap (λ (send : Send). record { sends = send ∷ []; next = to_phase s phase.Closing }) (c.close.ensures.is n)

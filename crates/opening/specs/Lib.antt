@@ -1,3 +1,0 @@
-pub mod Short
-pub mod Answers
-pub mod Rows
