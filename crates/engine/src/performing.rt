@@ -70,12 +70,7 @@ fn sends_of(
 }
 
 /// The connection `c` is one of the broker's from now on, with no channel open, where it runs now.
-fn open_if(
-    c: u64,
-    alloc: Global,
-    broker: &mut Broker,
-    session: &Session,
-) -> Result<(), AllocError>
+fn open_if(c: u64, alloc: Global, broker: &mut Broker, session: &Session) -> Result<(), AllocError>
     ensures ok { OnOk result (Is (after_move (broker_of broker.old) c session.now) (broker_of broker.new)) }
     ensures err { OnErr result (broker.new ≡ broker.old) }
     ensures topology { topology_of broker.new ≡ topology_of broker.old }
