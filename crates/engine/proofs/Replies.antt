@@ -10,7 +10,7 @@ use Rattle.model.specs.Step.{Acts, OnConnection, OnLarge, Refuses, empty_publish
 use Rattle.model.specs.declared.contents.Content.{Content}
 use Rattle.model.specs.declared.methods.Publish.{Publish}
 use Rattle.model.specs.declared.methods.Method.{Method}
-use Rattle.model.specs.declared.methods.Method.TheVariants.{ConnectionClose, ConnectionCloseOk, ChannelClose, ChannelCloseOk, QueuePurge, BasicQos, BasicPublish, BasicGet, BasicAck, BasicReject, BasicRecover, BasicNack, ConfirmSelect, ConfirmSelectOk}
+use Rattle.model.specs.declared.methods.Method.TheVariants.{ConnectionClose, ConnectionCloseOk, ChannelClose, ChannelCloseOk, QueuePurge, BasicQos, BasicQosOk, BasicPublish, BasicGet, BasicAck, BasicReject, BasicRecover, BasicNack, ConfirmSelect, ConfirmSelectOk}
 use Rattle.model.specs.declared.notes.Answer.{Answer}
 use Rattle.model.specs.declared.notes.Answer.TheVariants as answer
 use Rattle.model.specs.declared.notes.Note.{Note}
@@ -36,6 +36,7 @@ short_answer ConnectionCloseOk e is = omega arith
 short_answer (ChannelClose m) e is = grind (arith, common_steps, is)
 short_answer ChannelCloseOk e is = omega arith
 short_answer ConfirmSelectOk e is = omega arith
+short_answer BasicQosOk e is = omega arith
 short_answer (BasicAck m) e is = grind (arith, common_steps, is)
 short_answer (BasicNack m) e is = grind (arith, common_steps, is)
 short_answer _ e is = absurd (false≢true e)
@@ -74,7 +75,6 @@ not_mandatory t b conn h p ch e = on_open t b ch p (past_if _ (Of_connection 504
 -- a command that is refused so far
 abbrev is_later : Method → Bool
 is_later (QueuePurge m) = true
-is_later (BasicQos m) = true
 is_later (BasicGet m) = true
 is_later (BasicAck m) = true
 is_later (BasicReject m) = true
@@ -85,7 +85,6 @@ is_later m = false
 later_on : (t : Topology) (b : Broker) (ch : Option Channel) (m : Method) → is_later m ≡ true → refusal_on t b ch m ≡ None → ⊥
 later_on t b None m is e = false≢true (sym (ap is_some e))
 later_on t b (Some ch) (QueuePurge m) is e = false≢true (sym (ap is_some e))
-later_on t b (Some ch) (BasicQos m) is e = false≢true (sym (ap is_some e))
 later_on t b (Some ch) (BasicGet m) is e = false≢true (sym (ap is_some e))
 later_on t b (Some ch) (BasicAck m) is e = false≢true (sym (ap is_some e))
 later_on t b (Some ch) (BasicReject m) is e = false≢true (sym (ap is_some e))
@@ -95,7 +94,6 @@ later_on t b (Some ch) _ is e = false≢true is
 
 not_later : (t : Topology) (b : Broker) (conn : Connection) (h : ℕ) (m : Method) (ch : Option Channel) → refusal t b conn h m ch ≡ None → is_later m ≡ false
 not_later t b conn h (QueuePurge m) ch e = absurd (later_on t b ch (QueuePurge m) refl (past_if _ (Of_connection 504) _ (past_if _ (Of_connection 503) _ (past_if _ Ignored _ e))))
-not_later t b conn h (BasicQos m) ch e = absurd (later_on t b ch (BasicQos m) refl (past_if _ (Of_connection 504) _ (past_if _ (Of_connection 503) _ (past_if _ Ignored _ e))))
 not_later t b conn h (BasicGet m) ch e = absurd (later_on t b ch (BasicGet m) refl (past_if _ (Of_connection 504) _ (past_if _ (Of_connection 503) _ (past_if _ Ignored _ e))))
 not_later t b conn h (BasicAck m) ch e = absurd (later_on t b ch (BasicAck m) refl (past_if _ (Of_connection 504) _ (past_if _ (Of_connection 503) _ (past_if _ Ignored _ e))))
 not_later t b conn h (BasicReject m) ch e = absurd (later_on t b ch (BasicReject m) refl (past_if _ (Of_connection 504) _ (past_if _ (Of_connection 503) _ (past_if _ Ignored _ e))))
@@ -124,7 +122,7 @@ few_performs t old new c h ch (ChannelClose x) content sends notes built not by 
 few_performs t old new c h ch ChannelCloseOk content sends notes built not by = subst IsFew (sym by.sent) tt
 few_performs t old new c h ch (ConnectionClose x) content sends notes built not by = subst IsFew (sym by.sent) (refl, refl)
 few_performs t old new c h ch (QueuePurge x) content sends notes built not by = absurd (false≢true (sym built))
-few_performs t old new c h ch (BasicQos x) content sends notes built not by = absurd (false≢true (sym built))
+few_performs t old new c h ch (BasicQos x) content sends notes built not by = subst IsFew (sym by.sent) (refl, refl)
 few_performs t old new c h ch (BasicGet x) content sends notes built not by = absurd (false≢true (sym built))
 few_performs t old new c h ch (BasicAck x) content sends notes built not by = absurd (false≢true (sym built))
 few_performs t old new c h ch (BasicReject x) content sends notes built not by = absurd (false≢true (sym built))

@@ -4,17 +4,18 @@ use Rattle.std.specs.List.{AllByRecursion}
 use Rattle.model.specs.Grammar.{IsMethod, method_bytes}
 use Rattle.model.specs.declared.contents.Content.{Content}
 use Rattle.model.specs.declared.methods.Method.{Method}
-use Rattle.model.specs.declared.methods.Method.TheVariants.{ConnectionClose, ConnectionCloseOk, ChannelClose, ChannelCloseOk, ConfirmSelectOk, BasicAck, BasicNack}
+use Rattle.model.specs.declared.methods.Method.TheVariants.{ConnectionClose, ConnectionCloseOk, ChannelClose, ChannelCloseOk, BasicQosOk, BasicAck, BasicNack, ConfirmSelectOk}
 use Rattle.model.specs.declared.events.Send.{Send}
 use Rattle.model.specs.declared.events.Send.TheVariants.{Greeting, Command}
 
--- a close, its answer, an answer to confirm.select, or a confirm
+-- a close, its answer, an answer to confirm.select or basic.qos, or a confirm
 abbrev pub is_answer : Method → Bool
 is_answer (ConnectionClose m) = true
 is_answer ConnectionCloseOk = true
 is_answer (ChannelClose m) = true
 is_answer ChannelCloseOk = true
 is_answer ConfirmSelectOk = true
+is_answer BasicQosOk = true
 is_answer (BasicAck m) = true
 is_answer (BasicNack m) = true
 is_answer m = false
