@@ -6,13 +6,14 @@ use Rattle.std.specs.Str.{bytes_eq}
 use Rattle.model.specs.Words.{Text}
 use Rattle.model.specs.Topology.{Topology, queue_names}
 use Rattle.model.specs.Broker.{Broker, Channel, Connection, listed, with_one, with_row, with_pair}
-use Rattle.model.specs.Step.{Performs, Decides, OnConnection, Refusal, Ignored, Of_connection, Is, channel_or_new, refusal_of_publish, refusal_to, refusal_of_count, or_else, is_spent, greatest, IsPublish, with_gone, with_freed, with_channel, refusal, refusal_of_large, next_of, confirm_sends, confirm_notes, answer_of, returned_sends, returned_notes, entry_notes, is_none, is_some_full}
+use Rattle.model.specs.Step.{Performs, Decides, OnConnection, Refusal, Ignored, Of_connection, Is, channel_or_new, refusal_of_publish, refusal_to, refusal_of_count, or_else, is_spent, greatest, IsPublish, limited, with_gone, with_freed, with_channel, refusal, refusal_of_large, next_of, confirm_sends, confirm_notes, answer_of, returned_sends, returned_notes, entry_notes, is_none, is_some_full}
 use Rattle.model.specs.Entries.{freed, by_channel, by_connection}
 use Rattle.model.specs.declared.messages.Entry.{Entry}
 use Rattle.model.specs.declared.messages.Holder.{Holder}
 use Rattle.model.specs.declared.contents.Content.{Content}
 use Rattle.model.specs.declared.methods.Method.{Method}
 use Rattle.model.specs.declared.methods.Publish.{Publish}
+use Rattle.model.specs.declared.methods.Qos.{Qos}
 use Rattle.model.specs.declared.events.Send.{Send}
 use Rattle.model.specs.declared.notes.Note.{Note}
 use Rattle.model.specs.declared.notes.Note.TheVariants.{Published}
@@ -20,7 +21,9 @@ use Rattle.model.specs.declared.notes.Way.TheVariants as way
 use Rattle.depot.specs.Store.{Store, with_requeued, queue_of}
 use Rattle.depot.specs.Publishing.{Publishes}
 use Rattle.depot.specs.declared.depots.Routed.{Routed}
+use Rattle.channel.specs.Open as opened
 use Rattle.channel.specs.Open.{Open, open_in}
+use Rattle.channel.specs.Deliveries.{with_limit}
 use Rattle.broker.specs.Links.{Linked, link_in, channel_seen, limits_of, connection_at, channel_at, connection_of, channel_of, seen_in, CanCount, AreLinks, Puts}
 use Rattle.broker.specs.State.{Kept, broker_of, topology_of, names_of}
 use Rattle.broker.specs.Judged.{seen, HasChannel, IsIgnored, IsLargeIgnored, Judges, JudgesOn, JudgesLarge}
@@ -228,3 +231,16 @@ pub performs_on : (t : Topology) (b : Broker) (c h : ℕ) (m : Method) (content 
 performs_on t b c h m content sends notes new conn e r p =
     subst (λ (o : Option Connection). OnConnection t b c h m content sends notes new o) (sym e)
     (subst (λ (x : Option Refusal). Decides t b c h m content x sends notes new) (sym r) p)
+
+-- a channel that is kept, as it is
+pub kept_one : (o : Option Open) → IsSome o → (ch : Open) × (o ≡ Some ch)
+kept_one None h = absurd (let e : false ≡ true = h in cc)
+kept_one (Some ch) h = (ch, refl)
+
+-- a qos sets the same limit of what is kept and of what is seen of it
+pub limited_is : (names : List Text) (ch : Open) (m : Qos) → open_in names (opened.limited ch m) ≡ limited (open_in names ch) m
+limited_is names ch m = chosen m.global
+  where
+    chosen : (b : Bool) → open_in names (record ch { given = with_limit ch.given m.prefetch_count b }) ≡ (if b then record (open_in names ch) { limit = m.prefetch_count } else record (open_in names ch) { each_limit = m.prefetch_count })
+    chosen true = refl
+    chosen false = refl

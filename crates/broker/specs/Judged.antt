@@ -55,6 +55,7 @@ WantsNoMemory t b (event.Resume c) = Unit {0}
 abbrev pub Asks : Topology → Broker → Option Channel → Method → Act → Type 0
 Asks t b ch m (act.Select no_wait) = (m ≡ method.ConfirmSelect no_wait) × IsSome ch
 Asks t b ch m (act.Publish p) = (m ≡ method.BasicPublish p.now) × IsSome ch × (refusal_of_publish t b (channel_or_new ch) p.now ≡ None)
+Asks t b ch m (act.Limit q) = (m ≡ method.BasicQos q.now) × IsSome ch
 Asks t b ch m (act.CloseChannel is_closing) = (x : Close) × (m ≡ method.ChannelClose x) × IsSome ch × ((channel_or_new ch).is_closing ≡ is_closing)
 Asks t b ch m act.EndChannel = (m ≡ method.ChannelCloseOk) × IsSome ch
 Asks t b ch m act.CloseConnection = (x : Close) × (m ≡ method.ConnectionClose x)

@@ -3,6 +3,7 @@
 mod closing;
 mod publishing;
 mod running;
+mod settling;
 
 use crate::closes::{connection_close, connection_close_ok};
 use crate::links::Links;
@@ -111,6 +112,7 @@ impl Broker {
             Act::Publish(publish) => self.publish_content(
                 alloc, connection, channel, publish, content,
             ),
+            Act::Limit(qos) => self.limit(alloc, connection, channel, qos),
             Act::CloseChannel(is_closing) => self.answer_close(
                 alloc, connection, channel, is_closing,
             ),

@@ -10,7 +10,7 @@ ghost use Rattle.model.specs.Broker.{Channel as Seen};
 ghost use Rattle.model.specs.Topology.{Topology as Handed};
 ghost use Rattle.model.specs.Step as said;
 ghost use Rattle.model.specs.Step.{greatest};
-ghost use Rattle.model.specs.declared.methods.Method.TheVariants.{BasicPublish};
+ghost use Rattle.model.specs.declared.methods.Method.TheVariants.{BasicPublish, BasicQos};
 ghost use Rattle.broker.specs.Judged.{seen, seen_if, HasChannel, Judges};
 ghost use Rattle.channel.specs.Open.{open_in};
 ghost use Rattle.broker.specs.Links.{limits_of, channel_seen};
@@ -18,7 +18,7 @@ ghost use Rattle.broker.specs.Links.{limits_of, channel_seen};
 use crate::links::Link;
 use channel::Channel;
 use kept_routes::{Access, Router};
-use model::{Method, Publish};
+use model::{Method, Publish, Qos};
 
 /// Why a command is not performed.
 #[derive(Clone, Copy, Drop)]
@@ -37,6 +37,8 @@ pub(crate) enum Act<'a> {
     /// Publishes are to be confirmed; an answer is not wanted where this is true.
     Select(bool),
     Publish(&'a Publish),
+    /// The channel is limited as this qos says.
+    Limit(&'a Qos),
     /// The client closes the channel; true where the server has closed it too and awaits close-ok.
     CloseChannel(bool),
     /// The client agrees to the server's close of the channel.
@@ -121,6 +123,17 @@ fn judge_publish<'a>(
     }
 }
 
+/// A qos on an open channel. A limit by the size of messages is not implemented.
+fn judge_qos(qos: &Qos) -> Result<Act<'_>, Refusal>
+    ensures { (t : Handed) (b : Broker) (ch : Seen) → Judges t b (Some ch) (BasicQos qos.now) (said.refusal_of_qos qos.now) result }
+{
+    if qos.prefetch_size == 0 {
+        Ok(Act::Limit(qos))
+    } else {
+        Err(Refusal::Connection(540))
+    }
+}
+
 /// A method on an open channel. One that is not built yet is not implemented.
 fn judge_on_open<'a>(
     router: &Router,
@@ -134,6 +147,7 @@ fn judge_on_open<'a>(
     match method {
         Method::ConfirmSelect { no_wait } => Ok(Act::Select(*no_wait)),
         Method::BasicPublish(publish) => judge_publish(router, published, channel, publish),
+        Method::BasicQos(qos) => judge_qos(qos),
         Method::ChannelClose(_) => Ok(Act::CloseChannel(false)),
         Method::ChannelCloseOk
         | Method::ChannelOpenOk { .. }

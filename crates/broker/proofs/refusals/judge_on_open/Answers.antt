@@ -1,4 +1,9 @@
+use Rattle.std.proofs.Common.{◌≡◌}
+use Rattle.channel.specs.Open.{open_in}
 use Rattle.broker.proofs.refusals.judge_on_open.Goals as goal
 
 pub returns-in-BasicPublish : goal.returns-in-BasicPublish
 returns-in-BasicPublish c = λ b names e. rw c.in-BasicPublish.is (c.judge_publish.ensures b names e)
+
+pub returns-in-BasicQos : goal.returns-in-BasicQos
+returns-in-BasicQos c = λ b names e. rw c.in-BasicQos.is (c.judge_qos.ensures c.args.router.now b (open_in names c.args.channel.now))
