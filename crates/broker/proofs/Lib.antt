@@ -1,4 +1,5 @@
 mod Exchanges
+mod Getting
 mod Judging
 mod Opening
 mod Stepping

@@ -1,6 +1,7 @@
 //! The broker's step, case by case.
 
 mod closing;
+mod getting;
 mod publishing;
 mod running;
 mod settling;

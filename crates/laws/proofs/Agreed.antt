@@ -32,11 +32,11 @@ use Rattle.model.specs.declared.methods.Get.{Get}
 use Rattle.model.specs.declared.methods.Method.{Method}
 use Rattle.model.specs.declared.methods.Method.TheVariants.{ConnectionClose, ChannelClose, ChannelCloseOk, QueuePurge, BasicQos, BasicPublish, BasicGet, BasicAck, BasicReject, BasicNack, BasicRecover, ConfirmSelect}
 use Rattle.model.specs.declared.notes.Note.{Note}
-use Rattle.laws.specs.Agreeing.{IsNewIn, BrokersStayAgreed}
+use Rattle.laws.specs.Agreeing.{IsNewIn, BrokersStayAgreed, NextTagsAreFree}
 use Rattle.laws.proofs.Counts.{count-append, count-cons, in-append, all_in, all-append, all_each}
 use Rattle.model.specs.declared.messages.Mark.{Mark}
 use Rattle.laws.proofs.Agreement.{Passes, number, HeldIn, Shrinks, shrinks_same, shrinks_freed, shrinks_without, shrinks_filter, left_shrinks, returned_shrinks, left_clear, returned_clear, in_freed, held_here, counted_in, find_counted, ready_not_held, same_holder, self_under, at_own, here_eq, shrinks_on}
-use Rattle.laws.proofs.Leaving.{at_queue}
+use Rattle.laws.proofs.Leaving.{at_queue, find_in}
 
 -- ---- channels
 
@@ -391,6 +391,22 @@ none_under_next old a c h by q holder under = go (count_by (is_held_as holder) (
     go : (n : ℕ) → count_by (is_held_as holder) (old.queue q) ≡ n → count_by (is_held_as holder) (old.queue q) ≡ zero
     go zero e = e
     go (suc n) e = absurd (none (omega (arith, e)))
+
+-- what is counted nowhere is not found
+none_found : (p : Entry → Bool) (xs : List Entry) → count_by p xs ≡ zero → find p xs ≡ None
+none_found p xs e = go (find p xs) refl
+  where
+    go : (o : Option Entry) → find p xs ≡ o → find p xs ≡ None
+    go None f = f
+    go (Some x) f =
+        let at = find_in p x xs f in
+        let one = counted_in p x xs at.0 at.1 in
+        absurd (omega (arith, one, e))
+
+pub next_free : NextTagsAreFree
+next_free b a c h by q =
+    let g : Holder = record { connection = c; channel = h; tag = (channel_or_new (b.channel c h)).next_tag; by = by } in
+    none_found (is_held_as g) (b.queue q) (none_under_next b a c h by q g (self_under g))
 
 -- A delivery: the first ready message of a queue is held under the next tag, or leaves the queue.
 delivery_agrees : (old new : Broker) (c h : ℕ) (no_ack : Bool) (queue : Text) (by : Taker) → (channel_or_new (old.channel c h)).is_closing ≡ false → IsAgreed old → Is (after_delivery old c h (channel_or_new (old.channel c h)) no_ack queue by) new → IsAgreed new

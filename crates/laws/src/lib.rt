@@ -5,7 +5,7 @@
 #![tactic(auto)]
 
 ghost use Rattle.std.specs.Prelude.{◌≡◌};
-ghost use Rattle.laws.specs.Agreeing.{BrokersStayAgreed};
+ghost use Rattle.laws.specs.Agreeing.{BrokersStayAgreed, NextTagsAreFree};
 ghost use Rattle.laws.specs.Alone.{SoundForWords};
 ghost use Rattle.laws.specs.Carrying.{MessagesStayCarried, SendsAreOwn};
 ghost use Rattle.laws.specs.Consistency.{PlaysStayConsistent, WorldsStayConsistent};
@@ -95,6 +95,11 @@ pub fn worlds_stay_consistent()
 /// own that is below the next one.
 pub fn brokers_stay_agreed()
     ensures { BrokersStayAgreed }
+{}
+
+/// Where what is held and what is outstanding agree, the next delivery tag of a channel is free in every queue.
+pub fn next_tags_are_free()
+    ensures { NextTagsAreFree }
 {}
 
 /// Whatever happens, each message that stands in a queue can be given out: it is made of a publish whose content is not too
