@@ -37,7 +37,7 @@ use Rattle.model.specs.declared.notes.Answer.TheVariants as answer
 use Rattle.model.specs.declared.notes.Way.{Way}
 use Rattle.model.specs.declared.notes.Way.TheVariants as way
 use Rattle.model.specs.declared.events.Event.{Event}
-use Rattle.model.specs.declared.events.Event.TheVariants.{Running, Command, TooLarge, Fault, Lose, Pause, Resume}
+use Rattle.model.specs.declared.events.Event.TheVariants.{Open, First, Running, Command, TooLarge, Fault, Lose, Pause, Resume}
 
 -- ---- refusals, in the order in which they are looked for
 
@@ -465,6 +465,8 @@ with_paused b c is = record b { connection = with_one b.connection c (paused is 
 
 -- One event of the broker: what is sent and noted, and the state after it.
 abbrev pub Acts : Topology → Broker → Event → List Send → List Note → Broker → Type 0
+Acts t old (Open c) sends notes new = Does sends notes new [] old
+Acts t old (First c bytes) sends notes new = Does sends notes new [] old
 Acts t old (Running c max k) sends notes new = Does sends notes new [] (opened old c max k)
 Acts t old (Command c h m content) sends notes new = OnConnection t old c h m content sends notes new (old.connection c)
 Acts t old (TooLarge c h) sends notes new = OnLarge old c h sends notes new (old.connection c)
