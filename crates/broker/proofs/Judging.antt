@@ -40,10 +40,10 @@ has_open refused.Ignored ch = tt
 has_open (refused.Channel code) ch = refl
 has_open (refused.Connection code) ch = tt
 
--- what is neither immediate nor mandatory is refused for its exchange, then for its counters
-pub publish_judged : (t : Topology) (b : Broker) (ch : Channel) (p : Publish) (spent : Bool) → p.immediate || p.mandatory ≡ false → refusal_to t p.exchange ≡ None
+-- what is not immediate is refused for its exchange, then for its counters
+pub publish_judged : (t : Topology) (b : Broker) (ch : Channel) (p : Publish) (spent : Bool) → p.immediate ≡ false → refusal_to t p.exchange ≡ None
     → spent ≡ ((b.published == greatest) || is_spent ch.confirm) → refusal_of_publish t b ch p ≡ (if spent then Some (Of_connection 541) else None)
-publish_judged t b ch p spent flags to e =
-    ap (λ (x : Bool). if x then Some (Of_connection 540) else or_else (refusal_to t p.exchange) (refusal_of_count b ch)) flags
+publish_judged t b ch p spent flag to e =
+    ap (λ (x : Bool). if x then Some (Of_connection 540) else or_else (refusal_to t p.exchange) (refusal_of_count b ch)) flag
     ∙ ap (λ (r : Option Refusal). or_else r (refusal_of_count b ch)) to
     ∙ ap (λ (x : Bool). if x then Some (Of_connection 541) else None) (sym e)

@@ -1,12 +1,11 @@
 -- What the parts of a step leave, as the model's state.
 use Rattle.std.proofs.Common.{◌≡◌, ◌+◌, ◌++◌, ◌∷◌, [], ℕ, zero, suc, List, Bool, true, false, ◌&&◌, ◌||◌, ◌==◌, IsSome, Result, Ok, Err, Option, Some, None, map, length, replicate, refl, sym, ap, subst, ◌∙◌, if◌then◌else◌}
-use Rattle.std.specs.Prelude.{option_map}
-use Rattle.std.proofs.lemmas.List.{append-nil}
+use Rattle.std.specs.Prelude.{option_map, is_some, IfSome}
 use Rattle.std.specs.Str.{bytes_eq}
 use Rattle.model.specs.Words.{Text}
 use Rattle.model.specs.Topology.{Topology, queue_names}
 use Rattle.model.specs.Broker.{Broker, Channel, Connection, listed, with_one, with_row, with_pair}
-use Rattle.model.specs.Step.{Performs, Decides, OnConnection, Refusal, Ignored, Of_connection, Is, channel_or_new, refusal_of_publish, refusal_to, refusal_of_count, or_else, is_spent, greatest, IsPublish, limited, with_gone, with_freed, with_channel, refusal, refusal_of_large, next_of, confirm_sends, confirm_notes, answer_of, returned_sends, returned_notes, entry_notes, is_none, is_some_full}
+use Rattle.model.specs.Step.{Performs, Decides, OnConnection, Refusal, Ignored, Of_connection, Is, channel_or_new, refusal_of_publish, refusal_to, refusal_of_count, or_else, is_spent, greatest, IsPublish, limited, with_gone, with_freed, with_channel, refusal, refusal_of_large, next_of, confirm_sends, confirm_notes, answer_of, return_of, returned_notes, entry_notes, is_none, is_some_full}
 use Rattle.model.specs.Entries.{freed, by_channel, by_connection}
 use Rattle.model.specs.declared.messages.Entry.{Entry}
 use Rattle.model.specs.declared.messages.Holder.{Holder}
@@ -25,6 +24,7 @@ use Rattle.channel.specs.Open as opened
 use Rattle.channel.specs.Open.{Open, open_in}
 use Rattle.channel.specs.Deliveries.{with_limit}
 use Rattle.broker.specs.Links.{Linked, link_in, channel_seen, limits_of, connection_at, channel_at, connection_of, channel_of, seen_in, CanCount, AreLinks, Puts}
+use Rattle.broker.specs.Sent.{IsOwn, AreOwn, return_if, sent_back}
 use Rattle.broker.specs.State.{Kept, broker_of, topology_of, names_of}
 use Rattle.broker.specs.Judged.{seen, HasChannel, IsIgnored, IsLargeIgnored, Judges, JudgesOn, JudgesLarge}
 use Rattle.broker.specs.declared.refusals.Refusal as declared
@@ -143,27 +143,44 @@ performed_not t b c h m a (conn, at, judged) is =
 pub large_ignored_by : (b : Broker) (c h : ℕ) (e : declared.Refusal) → JudgesLarge b c h (Some e) → IsLargeIgnored b c h (b.connection c) → seen e ≡ Ignored
 large_ignored_by b c h e (conn, at, judged, has) is = judged ∙ subst (λ (o : Option Connection). IsLargeIgnored b c h o) at is
 
--- a publish of the depot, counted on the channel and confirmed, is one of the broker
+-- what goes back of a publish goes back where it is mandatory and routed nowhere
+back_sent : (man none : Bool) (s : Send) → sent_back none (if man then Some s else None) ≡ (if man && none then s ∷ [] else [])
+back_sent true true s = refl
+back_sent true false s = refl
+back_sent false true s = refl
+back_sent false false s = refl
+
+-- and that is noted
+back_noted : (man none : Bool) (s : Send) → (none && is_some (if man then Some s else None)) ≡ (man && none)
+back_noted true true s = refl
+back_noted true false s = refl
+back_noted false true s = refl
+back_noted false false s = refl
+
+-- a publish of the depot, counted on the channel, sent back and confirmed, is one of the broker
 pub published_is : (old new : Kept) (c h : ℕ) (ch : Open) (p : Publish) (content : Content) (noted : List Note) (routed : Routed)
-    → p.mandatory ≡ false
     → Publishes old.store c h p content (next_of ch.confirm) noted routed new.store
     → Puts old.links c h (Some (record ch { confirm = next_of ch.confirm })) new.links
-    → IsPublish (topology_of old) (broker_of old) c h (open_in (names_of old) ch) p content (confirm_sends c h (next_of ch.confirm) (answer_of routed.is_some_full))
-    (noted ++ confirm_notes (old.store.published + 1) (next_of ch.confirm) (answer_of routed.is_some_full)) (broker_of new)
-published_is old new c h ch p content noted routed man made put =
+    → IsPublish (topology_of old) (broker_of old) c h (open_in (names_of old) ch) p content
+    (sent_back routed.is_none (return_if c h p content) ++ confirm_sends c h (next_of ch.confirm) (answer_of routed.is_some_full))
+    ((noted ++ returned_notes (old.store.published + 1) (routed.is_none && is_some (return_if c h p content))) ++ confirm_notes (old.store.published + 1) (next_of ch.confirm) (answer_of routed.is_some_full)) (broker_of new)
+published_is old new c h ch p content noted routed made put =
     let n = old.store.published + 1 in
     let entries = queue_of old.store in
+    let back : Option Send = return_if c h p content in
     let full = is_some_full old.store.topology entries content made.targets in
+    let none = is_none made.targets in
     let front : List Note = Published n c h p.exchange p.routing_key (next_of ch.confirm) ∷ entry_notes old.store.topology entries (length content.body) n way.Publish made.targets in
     record {
       targets = made.targets;
       routed = made.picked;
-      noted = ap (λ (z : List Note). z ++ confirm_notes n (next_of ch.confirm) (answer_of routed.is_some_full)) made.notes
-          ∙ ap (λ (f : Bool). front ++ confirm_notes n (next_of ch.confirm) (answer_of f)) made.full
-          ∙ ap (λ (z : List Note). z ++ confirm_notes n (next_of ch.confirm) (answer_of full)) (sym (append-nil front))
-          ∙ ap (λ (b : Bool). (front ++ returned_notes n (b && is_none made.targets)) ++ confirm_notes n (next_of ch.confirm) (answer_of full)) (sym man);
-      sent = ap (λ (f : Bool). confirm_sends c h (next_of ch.confirm) (answer_of f)) made.full
-          ∙ ap (λ (b : Bool). returned_sends c h p content (b && is_none made.targets) ++ confirm_sends c h (next_of ch.confirm) (answer_of full)) (sym man);
+      noted = ap (λ (z : List Note). (z ++ returned_notes n (routed.is_none && is_some back)) ++ confirm_notes n (next_of ch.confirm) (answer_of routed.is_some_full)) made.notes
+          ∙ ap (λ (f : Bool). (front ++ returned_notes n (routed.is_none && is_some back)) ++ confirm_notes n (next_of ch.confirm) (answer_of f)) made.full
+          ∙ ap (λ (b : Bool). (front ++ returned_notes n (b && is_some back)) ++ confirm_notes n (next_of ch.confirm) (answer_of full)) made.none
+          ∙ ap (λ (b : Bool). (front ++ returned_notes n b) ++ confirm_notes n (next_of ch.confirm) (answer_of full)) (back_noted p.mandatory none (return_of c h p content));
+      sent = ap (λ (f : Bool). sent_back routed.is_none back ++ confirm_sends c h (next_of ch.confirm) (answer_of f)) made.full
+          ∙ ap (λ (b : Bool). sent_back b back ++ confirm_sends c h (next_of ch.confirm) (answer_of full)) made.none
+          ∙ ap (λ (z : List Send). z ++ confirm_sends c h (next_of ch.confirm) (answer_of full)) (back_sent p.mandatory none (return_of c h p content));
       left = record {
         counted = made.counted;
         queues = made.queues;
@@ -171,6 +188,12 @@ published_is old new c h ch p content noted routed man made put =
         channels = seen_put (names_of old) (names_of new) old.links new.links c h (Some (record ch { confirm = next_of ch.confirm })) (ap (λ (t : Topology). queue_names t.queues) made.topology) put;
       };
     }
+
+-- what goes back has an address where all of it has, and what follows it keeps its own
+pub back_own : (c : ℕ) (none : Bool) (back : Option Send) (more : List Send) → IfSome back (λ s. IsOwn c s) → AreOwn c more → AreOwn c (sent_back none back ++ more)
+back_own c false back more own rest = rest
+back_own c true None more own rest = rest
+back_own c true (Some s) more own rest = (own, rest)
 
 -- a channel that is seen is kept
 pub open_there : (names : List Text) (o : Option Open) → IsSome (option_map (open_in names) o) → (ch : Open) × (o ≡ Some ch)
@@ -194,10 +217,9 @@ pub seen_there : (names : List Text) (o : Option Open) (ch : Channel) → option
 seen_there names None ch e = absurd (let none : None ≡ Some ch = e in cc)
 seen_there names (Some k) ch e = record { kept = k; there = refl; same = some_same (open_in names k) ch e }
 
-past : (i m : Bool) (rest : Option Refusal) → (if i || m then Some (Of_connection 540) else rest) ≡ None → rest ≡ None
-past true m rest e = cc
-past false true rest e = cc
-past false false rest e = e
+past : (b : Bool) (rest : Option Refusal) → (if b then Some (Of_connection 540) else rest) ≡ None → rest ≡ None
+past true rest e = cc
+past false rest e = e
 
 past_first : (first rest : Option Refusal) → or_else first rest ≡ None → rest ≡ None
 past_first None rest e = e
@@ -212,16 +234,7 @@ unspent false false e = refl
 pub can_count : (t : Topology) (b : Broker) (names : List Text) (o : Option Open) (p : Publish) → refusal_of_publish t b (channel_or_new (option_map (open_in names) o)) p ≡ None → CanCount o
 can_count t b names o p h k e =
     let accepted : refusal_of_publish t b (open_in names k) p ≡ None = subst (λ (x : Option Open). refusal_of_publish t b (channel_or_new (option_map (open_in names) x)) p ≡ None) e h in
-    unspent (b.published == greatest) (is_spent k.confirm) (past_first (refusal_to t p.exchange) (refusal_of_count b (open_in names k)) (past p.immediate p.mandatory (or_else (refusal_to t p.exchange) (refusal_of_count b (open_in names k))) accepted))
-
--- what is accepted is not mandatory
-pub not_mandatory : (t : Topology) (b : Broker) (ch : Channel) (p : Publish) → refusal_of_publish t b ch p ≡ None → p.mandatory ≡ false
-not_mandatory t b ch p h = chosen p.immediate p.mandatory (or_else (refusal_to t p.exchange) (refusal_of_count b ch)) h
-  where
-    chosen : (i m : Bool) (rest : Option Refusal) → (if i || m then Some (Of_connection 540) else rest) ≡ None → m ≡ false
-    chosen true m rest e = cc
-    chosen false true rest e = cc
-    chosen false false rest e = refl
+    unspent (b.published == greatest) (is_spent k.confirm) (past_first (refusal_to t p.exchange) (refusal_of_count b (open_in names k)) (past p.immediate (or_else (refusal_to t p.exchange) (refusal_of_count b (open_in names k))) accepted))
 
 -- what is performed where nothing is said against it is what the command does
 pub performs_on : (t : Topology) (b : Broker) (c h : ℕ) (m : Method) (content : Option Content) (sends : List Send) (notes : List Note) (new : Broker) (conn : Connection)

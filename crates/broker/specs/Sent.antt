@@ -1,7 +1,10 @@
 -- What is said of every send: whom it goes to, and that its method can be spelled.
-use Rattle.std.specs.Prelude.{ℕ, List}
+use Rattle.std.specs.Prelude.{ℕ, List, [], ◌∷◌, Bool, true, false, if◌then◌else◌, Option, Some, None}
 use Rattle.std.specs.List.{AllByRecursion}
 use Rattle.model.specs.Sending.{IsAddressed}
+use Rattle.model.specs.Step.{return_of}
+use Rattle.model.specs.declared.contents.Content.{Content}
+use Rattle.model.specs.declared.methods.Publish.{Publish}
 use Rattle.model.specs.declared.events.Send.{Send}
 use Rattle.model.specs.declared.events.Event.{Event}
 use Rattle.model.specs.declared.events.Event.TheVariants.{Running, Command, TooLarge, Fault, Lose, Pause, Resume}
@@ -13,6 +16,16 @@ IsOwn c s = IsAddressed c s
 -- each of them goes to this connection, and its method has a spelling
 abbrev pub AreOwn : ℕ → List Send → Type 0
 AreOwn c sends = AllByRecursion (IsAddressed c) sends
+
+-- what goes back of a publish that is routed nowhere: all of it where it is mandatory, else nothing (AMQP 0-9-1, basic.publish, "mandatory")
+abbrev pub return_if : ℕ → ℕ → Publish → Content → Option Send
+return_if c h p content = if p.mandatory then Some (return_of c h p content) else None
+
+-- this goes back of a publish, where that was routed nowhere
+abbrev pub sent_back : Bool → Option Send → List Send
+sent_back false returned = []
+sent_back true None = []
+sent_back true (Some s) = s ∷ []
 
 -- the connection that an event is of
 abbrev pub connection_of_event : Event → ℕ

@@ -44,6 +44,8 @@ impl Model for Broker {
 
 impl Broker {
     ghost use Rattle.std.specs.Prelude.{◌≡◌, [], IfOk, IsOk, OnErr};
+    ghost use Rattle.model.specs.Arrivals.{IsSaid};
+    ghost use Rattle.model.specs.Grammar.{IsMethod};
     ghost use Rattle.model.specs.Step.{Acts, Is, OnConnection, OnLarge, Performs, channel_or_new};
     ghost use Rattle.model.specs.declared.methods.Method.{Method as Seen};
     ghost use Rattle.broker.specs.State.{broker_of, topology_of, nothing};
@@ -103,7 +105,7 @@ impl Broker {
     ) -> Result<Step, AllocError>
         requires { CanAct (topology_of self.old) (broker_of self.old) ((broker_of self.old).channel connection channel) act }
         ensures ok { IfOk result (λ s. (m : Seen) → Asks (topology_of self.old) (broker_of self.old) ((broker_of self.old).channel connection channel) m act.entry → Performs (topology_of self.old) (broker_of self.old) connection channel (channel_or_new ((broker_of self.old).channel connection channel)) m content.now s.sends.items s.notes.items (broker_of self.new)) }
-        ensures own { IfOk result (λ s. AreOwn connection s.sends.items) }
+        ensures own { IfOk result (λ s. (m : Seen) → Asks (topology_of self.old) (broker_of self.old) ((broker_of self.old).channel connection channel) m act.entry → IsMethod m → AreOwn connection s.sends.items) }
         ensures topology { topology_of self.new ≡ topology_of self.old }
         ensures err { OnErr result (self.new ≡ self.old) }
     {
@@ -134,7 +136,7 @@ impl Broker {
     ) -> Result<Step, AllocError>
         ensures ok { IfOk result (λ s. OnConnection (topology_of self.old) (broker_of self.old) connection channel method.now content.now s.sends.items s.notes.items (broker_of self.new) ((broker_of self.old).connection connection)) }
         ensures ignored { IsIgnored (topology_of self.old) (broker_of self.old) connection channel method.now ((broker_of self.old).connection connection) → IsOk result }
-        ensures own { IfOk result (λ s. AreOwn connection s.sends.items) }
+        ensures own { IfOk result (λ s. IsMethod method.now → AreOwn connection s.sends.items) }
         ensures topology { topology_of self.new ≡ topology_of self.old }
         ensures err { OnErr result (self.new ≡ self.old) }
     {
@@ -164,11 +166,11 @@ impl Broker {
         }
     }
 
-    /// One event: what it sends, all to its own connection, what it notes, and the state after it. Where memory is
-    /// wanting, nothing has changed; a loss, a pause and its end, and a command that is ignored want none.
+    /// One event: what it sends, what it notes, and the state after it. Where the event's method has a spelling, each send
+    /// is for the event's own connection, by a method with a spelling. Where memory is wanting, nothing has changed; a loss, a pause and its end, and a command that is ignored want none.
     pub fn step(&mut self, alloc: Global, event: &Event) -> Result<Step, AllocError>
         ensures ok { IfOk result (λ s. Acts (topology_of self.old) (broker_of self.old) event.now s.sends.items s.notes.items (broker_of self.new)) }
-        ensures own { IfOk result (λ s. AreOwn (connection_of_event event.now) s.sends.items) }
+        ensures own { IfOk result (λ s. IsSaid event.now → AreOwn (connection_of_event event.now) s.sends.items) }
         ensures topology { topology_of self.new ≡ topology_of self.old }
         ensures err { OnErr result (self.new ≡ self.old) }
         ensures quiet { WantsNoMemory (topology_of self.old) (broker_of self.old) event.now → IsOk result }

@@ -1,13 +1,18 @@
 //! The methods that the broker sends.
 
-ghost use Rattle.std.specs.Prelude.{◌≡◌, ◌<◌, None, true, false, length};
+ghost use Rattle.std.specs.Prelude.{◌≡◌, ◌<◌, None, true, false, length, IfOk, IfSome};
 ghost use Rattle.model.specs.Codes.{code_text};
-ghost use Rattle.model.specs.Grammar.{ids};
+ghost use Rattle.model.specs.Grammar.{ids, IsMethod};
 ghost use Rattle.model.specs.Step as said;
 ghost use Rattle.model.specs.declared.methods.Method.TheVariants as seen;
+ghost use Rattle.broker.specs.Sent as sent;
 ghost use Rattle.broker.specs.Sent.{IsOwn};
 
-use model::{Ack, Answer, Close, Ids, Method, Nack, Send, reply_text};
+use model::{Ack, Answer, Close, Content, Ids, Method, Nack, Publish, Return, Send, reply_text};
+use std::alloc::AllocError;
+
+/// The reply code of a publish that is sent back: no-route.
+const NO_ROUTE: u16 = 312;
 
 /// A method that carries no content.
 fn reply(connection: u64, channel: u16, method: Method) -> Send
@@ -114,4 +119,44 @@ pub(crate) fn confirm(connection: u64, channel: u16, answer: Answer, number: u64
         }),
     };
     reply(connection, channel, method)
+}
+
+/// basic.return of this publish, with its content, whose bytes are shared.
+fn return_of(
+    connection: u64,
+    channel: u16,
+    publish: &Publish,
+    content: &Content,
+) -> Result<Send, AllocError>
+    ensures send { IfOk result (λ s. s ≡ said.return_of connection channel publish.now content.now) }
+    ensures own { IfOk result (λ s. IsMethod (seen.BasicPublish publish.now) → IsOwn connection s) }
+{
+    Ok(Send::Command {
+        connection,
+        channel,
+        method: Method::BasicReturn(Return {
+            reply_code: NO_ROUTE,
+            reply_text: reply_text(NO_ROUTE),
+            exchange: publish.exchange.clone()?,
+            routing_key: publish.routing_key.clone()?,
+        }),
+        content: Some(content.clone()?),
+    })
+}
+
+/// What goes back of this publish where it is routed nowhere: nothing where it is not mandatory.
+pub(crate) fn return_if(
+    connection: u64,
+    channel: u16,
+    publish: &Publish,
+    content: &Content,
+) -> Result<Option<Send>, AllocError>
+    ensures send { IfOk result (λ r. r ≡ sent.return_if connection channel publish.now content.now) }
+    ensures own { IfOk result (λ r. IsMethod (seen.BasicPublish publish.now) → IfSome r (λ s. IsOwn connection s)) }
+{
+    if publish.mandatory {
+        Ok(Some(return_of(connection, channel, publish, content)?))
+    } else {
+        Ok(None)
+    }
 }

@@ -65,7 +65,7 @@ fn is_spent(published: u64, channel: &Channel) -> bool
     published == u64::MAX || channel.confirm() == Some(u64::MAX)
 }
 
-/// A publish is refused for what is not built, then for its exchange, then for its counters.
+/// A publish is refused where it asks for `immediate`, which is not implemented, then for its exchange, then for its counters.
 fn refusal_of_publish(
     router: &Router,
     published: u64,
@@ -74,7 +74,7 @@ fn refusal_of_publish(
 ) -> Option<Refusal>
     ensures { (b : Broker) (names : List Name) → b.published ≡ published → seen_if result ≡ said.refusal_of_publish router.now b (open_in names channel.now) publish.now }
 {
-    if publish.immediate || publish.mandatory {
+    if publish.immediate {
         return Some(Refusal::Connection(540));
     }
     if let Some(refusal) = refusal_to(router, publish) {

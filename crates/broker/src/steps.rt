@@ -1,9 +1,9 @@
 //! What a step sends and notes.
 
-ghost use Rattle.std.specs.Prelude.{◌≡◌, ◌<◌, ◌∷◌, ◌++◌, [], None, IfOk, vec_len, vec_capacity};
+ghost use Rattle.std.specs.Prelude.{◌≡◌, ◌<◌, ◌≤◌, ◌+◌, ◌∷◌, ◌++◌, ◌&&◌, [], None, IfOk, is_some, cond, vec_len, vec_capacity};
 ghost use Rattle.model.specs.Step as said;
-ghost use Rattle.model.specs.Step.{confirm_sends, confirm_notes};
-ghost use Rattle.broker.specs.Sent.{AreOwn};
+ghost use Rattle.model.specs.Step.{confirm_sends, confirm_notes, returned_notes};
+ghost use Rattle.broker.specs.Sent.{AreOwn, sent_back};
 
 use crate::closes::{answer_of, confirm};
 use model::{Note, Send};
@@ -40,6 +40,27 @@ impl Step {
             sends,
             notes: Vec::new(alloc),
         })
+    }
+
+    /// This goes back behind what is there, and that is noted of this publish, where there is something to go back and the
+    /// publish was routed nowhere. There is room for it.
+    pub(crate) fn send_back(&mut self, number: u64, returned: Option<Send>, is_none: bool)
+        requires sends { vec_len self.old.sends < vec_capacity self.old.sends }
+        requires notes { vec_len self.old.notes < vec_capacity self.old.notes }
+        ensures sends { self.new.sends.items ≡ self.old.sends.items ++ sent_back is_none returned }
+        ensures notes { self.new.notes.items ≡ self.old.notes.items ++ returned_notes number (is_none && is_some returned) }
+        ensures sends_len { vec_len self.new.sends ≤ vec_len self.old.sends + cond (is_some returned) 1 0 }
+        ensures notes_len { vec_len self.new.notes ≤ vec_len self.old.notes + 1 }
+        ensures sends_capacity { vec_capacity self.new.sends ≡ vec_capacity self.old.sends }
+        ensures notes_capacity { vec_capacity self.new.notes ≡ vec_capacity self.old.notes }
+    {
+        if !is_none {
+            return;
+        }
+        if let Some(send) = returned {
+            self.sends.push_reserved(send);
+            self.notes.push_reserved(Note::Returned { number });
+        }
     }
 
     /// The confirm of this publish is sent and noted behind what is there, where there is a confirm number. There is room

@@ -82,10 +82,10 @@ abbrev pub or_else : Option Refusal → Option Refusal → Option Refusal
 or_else None other = other
 or_else (Some r) other = Some r
 
--- a publish: immediate is not implemented (nor mandatory, so far), then the exchange is looked for, then the counters
+-- a publish: immediate is not implemented, then the exchange is looked for, then the counters
 abbrev pub refusal_of_publish : Topology → Broker → Channel → Publish → Option Refusal
 refusal_of_publish t b ch p =
-    if p.immediate || p.mandatory then Some (Of_connection 540) else or_else (refusal_to t p.exchange) (refusal_of_count b ch)
+    if p.immediate then Some (Of_connection 540) else or_else (refusal_to t p.exchange) (refusal_of_count b ch)
 
 -- ---- refusals of commands on queues and deliveries
 
@@ -245,9 +245,13 @@ abbrev pub returned_notes : ℕ → Bool → List Note
 returned_notes n is_returned = if is_returned then Returned n ∷ [] else []
 
 -- it goes back with its content to the channel that it came from, with the code 312 no-route
+abbrev pub return_of : ℕ → ℕ → Publish → Content → Send
+return_of c h p content =
+    send.Command c h (BasicReturn (record { reply_code = 312; reply_text = code_text 312; exchange = p.exchange; routing_key = p.routing_key })) (Some content)
+
+-- what is sent where it goes back
 abbrev pub returned_sends : ℕ → ℕ → Publish → Content → Bool → List Send
-returned_sends c h p content is_returned =
-    if is_returned then send.Command c h (BasicReturn (record { reply_code = 312; reply_text = code_text 312; exchange = p.exchange; routing_key = p.routing_key })) (Some content) ∷ [] else []
+returned_sends c h p content is_returned = if is_returned then return_of c h p content ∷ [] else []
 
 -- nack where some routed queue was full, else ack, also where it was routed nowhere
 abbrev pub answer_of : Bool → Answer

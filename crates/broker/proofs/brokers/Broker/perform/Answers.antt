@@ -30,6 +30,16 @@ returns-in-Some-Ok-clause-ok c =
     (λ s does. performs_on t b c.args.connection c.args.channel c.args.method.now c.args.content.now s.sends.items s.notes.items (broker_of c.act.new.self) judged.0 judged.1 judges.0 (does c.args.method.now judges.1))
     c.act.ensures.ok
 
+pub returns-in-Some-Ok-clause-own : goal.returns-in-Some-Ok-clause-own
+returns-in-Some-Ok-clause-own c =
+    let t = topology_of c.args.self.now in
+    let b = broker_of c.args.self.now in
+    let ch = b.channel c.args.connection c.args.channel in
+    let judged = c.in-Some-Ok.ensures in
+    let judges : Judges t b ch c.args.method.now (refusal t b judged.0 c.args.channel c.args.method.now ch) (Ok c.in-Some-Ok.act) =
+    subst (λ (r : Result Act Refusal). Judges t b ch c.args.method.now (refusal t b judged.0 c.args.channel c.args.method.now ch) r) c.in-Some-Ok.field-0-is judged.2 in
+    IfOk-weaker c.act.result _ _ (λ s own said. own c.args.method.now judges.1 said) c.act.ensures.own
+
 pub returns-in-Some-Ok-clause-ignored : goal.returns-in-Some-Ok-clause-ignored
 returns-in-Some-Ok-clause-ignored c = λ is.
     let t = topology_of c.args.self.now in
