@@ -1,9 +1,13 @@
 -- What is decided of a command, from the first test that holds.
-use Rattle.std.proofs.Common.{◌≡◌, ◌≢◌, ◌<◌, ℕ, Bool, true, false, ◌||◌, Option, Some, None, Result, arith, refl, subst, sym, ap, ◌∙◌, nat_eq, nat_lt, if◌then◌else◌}
-use Rattle.std.specs.Prelude.{◌==◌}
+use Rattle.std.proofs.Common.{◌≡◌, ◌≢◌, ◌<◌, ℕ, zero, suc, List, [], ◌∷◌, length, get_or, inl, inr, Bool, true, false, ◌||◌, Option, Some, None, Result, arith, refl, subst, sym, ap, ◌∙◌, nat_eq, nat_lt, if◌then◌else◌}
+use Rattle.std.specs.Prelude.{◌==◌, is_some}
+use Rattle.std.specs.Str.{bytes_eq}
 use Rattle.std.proofs.lemmas.Bool.Decides.{nat_tests}
-use Rattle.model.specs.Topology.{Topology}
-use Rattle.model.specs.Broker.{Broker, Channel, Connection}
+use Rattle.std.proofs.lemmas.Slice.Eq.{bytes_eq-Decides}
+use Rattle.model.specs.Words.{Text}
+use Rattle.model.specs.Topology.{Topology, queue_names, IsIn}
+use Rattle.model.specs.declared.topologies.DeclaredQueue.{DeclaredQueue}
+use Rattle.model.specs.Broker.{Broker, Channel, Connection, queue_named}
 use Rattle.model.specs.Step.{Refusal, Of_connection, greatest, is_spent, or_else, refusal_to, refusal_of_count, refusal_of_publish, is_awaiting, is_of_connection, refusal, refusal_while_closing, refusal_on_zero, refusal_of}
 use Rattle.model.specs.declared.methods.Method.{Method}
 use Rattle.model.specs.declared.methods.Publish.{Publish}
@@ -47,3 +51,26 @@ publish_judged t b ch p spent flag to e =
     ap (λ (x : Bool). if x then Some (Of_connection 540) else or_else (refusal_to t p.exchange) (refusal_of_count b ch)) flag
     ∙ ap (λ (r : Option Refusal). or_else r (refusal_of_count b ch)) to
     ∙ ap (λ (x : Bool). if x then Some (Of_connection 541) else None) (sym e)
+
+-- a queue that stands at a place is found by its name
+pub queue_there : (qs : List DeclaredQueue) (i : ℕ) (name : Text) → i < length qs → get_or (queue_names qs) i [] ≡ name → is_some (queue_named qs name) ≡ true
+queue_there [] i name lt e = absurd (omega arith)
+queue_there (q ∷ qs) zero name lt e = chosen (bytes_eq q.name name) refl
+  where
+    chosen : (b : Bool) → bytes_eq q.name name ≡ b → is_some (if b then Some q else queue_named qs name) ≡ true
+    chosen true is = refl
+    chosen false is = absurd (let f : false ≡ true = sym is ∙ (bytes_eq-Decides q.name name).1 e in cc)
+queue_there (q ∷ qs) (suc i) name lt e = chosen (bytes_eq q.name name) (queue_there qs i name (omega arith) e)
+  where
+    chosen : (b : Bool) → is_some (queue_named qs name) ≡ true → is_some (if b then Some q else queue_named qs name) ≡ true
+    chosen true is = refl
+    chosen false is = is
+
+-- and one whose name no queue has is not found
+pub queue_absent : (qs : List DeclaredQueue) (name : Text) → (IsIn name (queue_names qs) → ⊥) → is_some (queue_named qs name) ≡ false
+queue_absent [] name none = refl
+queue_absent (q ∷ qs) name none = chosen (bytes_eq q.name name) refl (queue_absent qs name (λ i. none (inr i)))
+  where
+    chosen : (b : Bool) → bytes_eq q.name name ≡ b → is_some (queue_named qs name) ≡ false → is_some (if b then Some q else queue_named qs name) ≡ false
+    chosen true is rest = absurd (none (inl (sym ((bytes_eq-Decides q.name name).0 is))))
+    chosen false is rest = rest

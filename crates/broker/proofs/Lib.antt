@@ -1,4 +1,5 @@
 mod Exchanges
 mod Judging
 mod Opening
+mod Purging
 mod Stepping

@@ -1,5 +1,6 @@
 -- What is decided of a command.
-use Rattle.std.specs.Prelude.{◌≡◌, ℕ, Option, Some, None, Result, Ok, Err, IsSome}
+use Rattle.std.specs.Prelude.{◌≡◌, ◌<◌, length, ℕ, Option, Some, None, Result, Ok, Err, IsSome}
+use Rattle.model.specs.Words.{Text}
 use Rattle.model.specs.Topology.{Topology}
 use Rattle.model.specs.Broker.{Broker, Channel, Connection}
 use Rattle.model.specs.Step as step
@@ -9,6 +10,7 @@ use Rattle.model.specs.declared.methods.Method.{Method}
 use Rattle.model.specs.declared.methods.Method.TheVariants as method
 use Rattle.model.specs.declared.events.Event.{Event}
 use Rattle.model.specs.declared.events.Event.TheVariants as event
+use Rattle.exchange_graph.specs.Marks.{queue_name}
 use Rattle.broker.specs.declared.refusals.Refusal.{Refusal}
 use Rattle.broker.specs.declared.refusals.Refusal.TheVariants as refused
 use Rattle.broker.specs.declared.refusals.Act.{Act}
@@ -51,10 +53,16 @@ WantsNoMemory t b (event.Lose c) = Unit {0}
 WantsNoMemory t b (event.Pause c) = Unit {0}
 WantsNoMemory t b (event.Resume c) = Unit {0}
 
+-- the queue of this name stands at this place of the file
+pub record IsPlaceOf (t : Topology) (name : Text) (place : ℕ) : Type 0 where
+  pub within : place < length t.queues
+  pub named : queue_name t place ≡ name
+
 -- the method asks for this act on the channel, which is there where it needs to be
 abbrev pub Asks : Topology → Broker → Option Channel → Method → Act → Type 0
 Asks t b ch m (act.Select no_wait) = (m ≡ method.ConfirmSelect no_wait) × IsSome ch
 Asks t b ch m (act.Publish p) = (m ≡ method.BasicPublish p.now) × IsSome ch × (refusal_of_publish t b (channel_or_new ch) p.now ≡ None)
+Asks t b ch m (act.Purge place p) = (m ≡ method.QueuePurge p.now) × IsSome ch × IsPlaceOf t p.now.queue place
 Asks t b ch m (act.Limit q) = (m ≡ method.BasicQos q.now) × IsSome ch
 Asks t b ch m (act.CloseChannel is_closing) = (x : Close) × (m ≡ method.ChannelClose x) × IsSome ch × ((channel_or_new ch).is_closing ≡ is_closing)
 Asks t b ch m act.EndChannel = (m ≡ method.ChannelCloseOk) × IsSome ch

@@ -2,3 +2,4 @@ pub mod Links
 pub mod State
 pub mod Judged
 pub mod Sent
+pub mod Purged

@@ -114,6 +114,7 @@ impl Broker {
             Act::Publish(publish) => self.publish_content(
                 alloc, connection, channel, publish, content,
             ),
+            Act::Purge(place, purge) => self.purge(alloc, connection, channel, place, purge),
             Act::Limit(qos) => self.limit(alloc, connection, channel, qos),
             Act::CloseChannel(is_closing) => self.answer_close(
                 alloc, connection, channel, is_closing,

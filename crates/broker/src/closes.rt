@@ -4,6 +4,7 @@ ghost use Rattle.std.specs.Prelude.{◌≡◌, ◌<◌, None, true, false, lengt
 ghost use Rattle.model.specs.Codes.{code_text};
 ghost use Rattle.model.specs.Grammar.{ids, IsMethod};
 ghost use Rattle.model.specs.Step as said;
+ghost use Rattle.model.specs.Deliveries.{written_count};
 ghost use Rattle.model.specs.declared.methods.Method.TheVariants as seen;
 ghost use Rattle.broker.specs.Sent as sent;
 ghost use Rattle.broker.specs.Sent.{IsOwn};
@@ -81,6 +82,26 @@ pub(crate) fn select_ok(connection: u64, channel: u16) -> Send
     ensures own { IsOwn connection result }
 {
     reply(connection, channel, Method::ConfirmSelectOk)
+}
+
+/// queue.purge-ok, with the number of messages that were taken out, which is at most the greatest of four octets.
+pub(crate) fn purge_ok(connection: u64, channel: u16, count: usize) -> Send
+    ensures send { result ≡ said.reply connection channel (seen.QueuePurgeOk (written_count count)) }
+    ensures own { IsOwn connection result }
+{
+    let message_count = written(count);
+    reply(connection, channel, Method::QueuePurgeOk { message_count })
+}
+
+/// A count as it is written.
+fn written(count: usize) -> u32
+    ensures { result ≡ written_count count }
+{
+    if count <= u32::MAX as usize {
+        count as u32
+    } else {
+        u32::MAX
+    }
 }
 
 /// basic.qos-ok.

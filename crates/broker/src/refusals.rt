@@ -10,7 +10,7 @@ ghost use Rattle.model.specs.Broker.{Channel as Seen};
 ghost use Rattle.model.specs.Topology.{Topology as Handed};
 ghost use Rattle.model.specs.Step as said;
 ghost use Rattle.model.specs.Step.{greatest};
-ghost use Rattle.model.specs.declared.methods.Method.TheVariants.{BasicPublish, BasicQos};
+ghost use Rattle.model.specs.declared.methods.Method.TheVariants.{BasicPublish, QueuePurge, BasicQos};
 ghost use Rattle.broker.specs.Judged.{seen, seen_if, HasChannel, Judges};
 ghost use Rattle.channel.specs.Open.{open_in};
 ghost use Rattle.broker.specs.Links.{limits_of, channel_seen};
@@ -18,7 +18,7 @@ ghost use Rattle.broker.specs.Links.{limits_of, channel_seen};
 use crate::links::Link;
 use channel::Channel;
 use kept_routes::{Access, Router};
-use model::{Method, Publish, Qos};
+use model::{Method, Publish, Purge, Qos};
 
 /// Why a command is not performed.
 #[derive(Clone, Copy, Drop)]
@@ -37,6 +37,8 @@ pub(crate) enum Act<'a> {
     /// Publishes are to be confirmed; an answer is not wanted where this is true.
     Select(bool),
     Publish(&'a Publish),
+    /// The queue at this place is purged.
+    Purge(usize, &'a Purge),
     /// The channel is limited as this qos says.
     Limit(&'a Qos),
     /// The client closes the channel; true where the server has closed it too and awaits close-ok.
@@ -123,6 +125,16 @@ fn judge_publish<'a>(
     }
 }
 
+/// A purge on an open channel. The queue must be there.
+fn judge_purge<'a>(router: &Router, purge: &'a Purge) -> Result<Act<'a>, Refusal>
+    ensures { (b : Broker) (ch : Seen) → Judges router.now b (Some ch) (QueuePurge purge.now) (said.refusal_in router.now purge.now.queue) result }
+{
+    match router.topology().queue_at(purge.queue.as_bytes()) {
+        Some(place) => Ok(Act::Purge(place, purge)),
+        None => Err(Refusal::Channel(404)),
+    }
+}
+
 /// A qos on an open channel. A limit by the size of messages is not implemented.
 fn judge_qos(qos: &Qos) -> Result<Act<'_>, Refusal>
     ensures { (t : Handed) (b : Broker) (ch : Seen) → Judges t b (Some ch) (BasicQos qos.now) (said.refusal_of_qos qos.now) result }
@@ -147,6 +159,7 @@ fn judge_on_open<'a>(
     match method {
         Method::ConfirmSelect { no_wait } => Ok(Act::Select(*no_wait)),
         Method::BasicPublish(publish) => judge_publish(router, published, channel, publish),
+        Method::QueuePurge(purge) => judge_purge(router, purge),
         Method::BasicQos(qos) => judge_qos(qos),
         Method::ChannelClose(_) => Ok(Act::CloseChannel(false)),
         Method::ChannelCloseOk

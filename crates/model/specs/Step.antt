@@ -126,6 +126,7 @@ is_of_connection m = (ids_of m).class == 10
 abbrev pub refusal_of : Topology → Broker → Channel → Method → Option Refusal
 refusal_of t b ch (ConfirmSelect no_wait) = None
 refusal_of t b ch (BasicPublish p) = refusal_of_publish t b ch p
+refusal_of t b ch (QueuePurge m) = refusal_in t m.queue
 refusal_of t b ch (BasicQos m) = refusal_of_qos m
 refusal_of t b ch (ChannelClose m) = None
 refusal_of t b ch ChannelCloseOk = Some (Of_connection 503)
