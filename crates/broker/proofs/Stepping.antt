@@ -5,7 +5,8 @@ use Rattle.std.specs.Str.{bytes_eq}
 use Rattle.model.specs.Words.{Text}
 use Rattle.model.specs.Topology.{Topology, queue_names}
 use Rattle.model.specs.Broker.{Broker, Channel, Connection, listed, with_one, with_row, with_pair}
-use Rattle.model.specs.Step.{Performs, Decides, OnConnection, Refusal, Ignored, Of_connection, Is, channel_or_new, refusal_of_publish, refusal_to, refusal_of_count, or_else, is_spent, greatest, IsPublish, limited, with_gone, with_freed, with_channel, refusal, refusal_of_large, next_of, confirm_sends, confirm_notes, answer_of, return_of, returned_notes, entry_notes, is_none, is_some_full}
+use Rattle.model.specs.Step as step
+use Rattle.model.specs.Step.{Performs, Decides, OnConnection, Refusal, Ignored, Of_connection, Is, channel_or_new, refusal_of_publish, refusal_to, refusal_of_count, or_else, is_spent, greatest, IsPublish, limited, with_gone, with_freed, with_channel, refusal, refusal_of_large, next_of, confirm_sends, confirm_notes, answer_of, return_of, returned_notes, entry_notes, is_none, is_some_full, channels_up_to}
 use Rattle.model.specs.Entries.{freed, by_channel, by_connection}
 use Rattle.model.specs.declared.messages.Entry.{Entry}
 use Rattle.model.specs.declared.messages.Holder.{Holder}
@@ -23,7 +24,7 @@ use Rattle.depot.specs.declared.depots.Routed.{Routed}
 use Rattle.channel.specs.Open as opened
 use Rattle.channel.specs.Open.{Open, open_in}
 use Rattle.channel.specs.Deliveries.{with_limit}
-use Rattle.broker.specs.Links.{Linked, link_in, channel_seen, limits_of, connection_at, channel_at, connection_of, channel_of, seen_in, CanCount, AreLinks, Puts}
+use Rattle.broker.specs.Links.{Linked, link_in, channel_seen, limits_of, connection_at, channel_at, connection_of, channel_of, seen_in, CanCount, AreLinks, Puts, Opens}
 use Rattle.broker.specs.Sent.{IsOwn, AreOwn, return_if, sent_back}
 use Rattle.broker.specs.State.{Kept, broker_of, topology_of, names_of}
 use Rattle.broker.specs.Judged.{seen, HasChannel, IsIgnored, IsLargeIgnored, Judges, JudgesOn, JudgesLarge}
@@ -81,6 +82,16 @@ gone_is old new c e l = record {
   queues = λ q. ap (λ (s : Store). queue_of s q) e ∙ listed_requeued (by_connection c) (queue_names old.store.topology.queues) old.store.queues q;
   connections = l.connections_are;
   channels = seen_gone (names_of old) (names_of new) old.links new.links c (ap (λ (s : Store). queue_names s.topology.queues) e) l.channels_are;
+}
+
+-- a connection runs, and what one of its number held is requeued
+pub opened_is : (old new : Kept) (c max k : ℕ) → new.store ≡ with_requeued old.store (by_connection c) → Opens old.links c max k new.links → Is (step.opened (broker_of old) c max k) (broker_of new)
+opened_is old new c max k e l = record {
+  counted = ap (λ (s : Store). s.published) e;
+  queues = λ q. ap (λ (s : Store). queue_of s q) e ∙ listed_requeued (by_connection c) (queue_names old.store.topology.queues) old.store.queues q;
+  connections = l.connections_are;
+  channels = λ d h. l.channels_are (names_of new) d h
+      ∙ ap (λ (names : List Text). with_row (seen_in names old.links) c (channels_up_to k) d h) (ap (λ (s : Store). queue_names s.topology.queues) e);
 }
 
 -- a channel is another, and what it held is requeued

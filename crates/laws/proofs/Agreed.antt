@@ -32,7 +32,7 @@ use Rattle.model.specs.declared.methods.Get.{Get}
 use Rattle.model.specs.declared.methods.Method.{Method}
 use Rattle.model.specs.declared.methods.Method.TheVariants.{ConnectionClose, ChannelClose, ChannelCloseOk, QueuePurge, BasicQos, BasicPublish, BasicGet, BasicAck, BasicReject, BasicNack, BasicRecover, ConfirmSelect}
 use Rattle.model.specs.declared.notes.Note.{Note}
-use Rattle.laws.specs.Agreeing.{IsNewIn, BrokersStayAgreed}
+use Rattle.laws.specs.Agreeing.{BrokersStayAgreed}
 use Rattle.laws.proofs.Counts.{count-append, count-cons, in-append, all_in, all-append, all_each}
 use Rattle.model.specs.declared.messages.Mark.{Mark}
 use Rattle.laws.proofs.Agreement.{Passes, number, HeldIn, Shrinks, shrinks_same, shrinks_freed, shrinks_without, shrinks_filter, left_shrinks, returned_shrinks, left_clear, returned_clear, in_freed, held_here, counted_in, find_counted, ready_not_held, same_holder, self_under, at_own, here_eq, shrinks_on}
@@ -161,10 +161,15 @@ agreed_row old new c row a s are good none = agreed_by old new a s keep goods
         go true e = good k ch (sym (are d k ∙ ap (λ (b : Bool). if b then row k else old.channel d k) e) ∙ is)
         go false e = let was = sym (are d k ∙ ap (λ (b : Bool). if b then row k else old.channel d k) e) ∙ is in (a.rising d k ch was, a.before d k ch was, a.closed d k ch was)
 
+-- the same where what the connection held is ready again
+agreed_freed : (old new : Broker) (c : ℕ) (row : ℕ → Option Channel) → IsAgreed old → ((q : Text) → new.queue q ≡ map (freed (by_connection c)) (old.queue q)) → ((d k : ℕ) → new.channel d k ≡ with_row old.channel c row d k)
+    → ((k : ℕ) (ch : Channel) → row k ≡ Some ch → IsGood ch) → IsAgreed new
+agreed_freed old new c row a is are good = agreed_row old new c row a (shrinks_freed (by_connection c) old.queue new.queue is) are good
+    (λ q holder i o e. false≢true (sym (in_freed (by_connection c) i.entry (old.queue q) holder (subst (IsIn i.entry) (is q) i.there) i.mark).1 ∙ eq-eqb holder.connection c e))
+
 -- a connection is gone, and what it held is ready again
 agreed_gone : (old new : Broker) (c : ℕ) → IsAgreed old → ((q : Text) → new.queue q ≡ map (freed (by_connection c)) (old.queue q)) → ((d k : ℕ) → new.channel d k ≡ with_row old.channel c (λ h. None) d k) → IsAgreed new
-agreed_gone old new c a is are = agreed_row old new c (λ h. None) a (shrinks_freed (by_connection c) old.queue new.queue is) are (λ k ch e. absurd (false≢true (ap is_some e)))
-    (λ q holder i o e. false≢true (sym (in_freed (by_connection c) i.entry (old.queue q) holder (subst (IsIn i.entry) (is q) i.there) i.mark).1 ∙ eq-eqb holder.connection c e))
+agreed_gone old new c a is are = agreed_freed old new c (λ h. None) a is are (λ k ch e. absurd (false≢true (ap is_some e)))
 
 -- ---- what a publish brings
 
@@ -557,15 +562,14 @@ module _ (t : Topology) (old new : Broker) (a : IsAgreed old) where
       by false e = absurd (false≢true (ap is_some e))
 
   -- Each event keeps the agreement.
-  pub onward : (e : Event) (sends : List Send) (notes : List Note) → IsNewIn old e → Acts t old e sends notes new → IsAgreed new
-  onward (Running c max k) sends notes fresh p = agreed_row old new c (channels_up_to k) a (shrinks_same old.queue new.queue p.left.queues) p.left.channels (row_good k)
-      (λ q holder i o e. false≢true (ap is_some (sym (ap (λ (d : ℕ). old.channel d holder.channel) e ∙ fresh holder.channel) ∙ o.there)))
-  onward (Command c h m content) sends notes fresh p = commanded sends notes c h m content (old.connection c) p
-  onward (TooLarge c h) sends notes fresh p = too_large sends notes c h (old.connection c) p
-  onward (Fault c code) sends notes fresh p = goes sends _ notes c p
-  onward (Lose c) sends notes fresh p = goes sends _ notes c p
-  onward (Pause c) sends notes fresh p = agreed_same old new a (shrinks_same old.queue new.queue p.left.queues) p.left.channels
-  onward (Resume c) sends notes fresh p = agreed_same old new a (shrinks_same old.queue new.queue p.left.queues) p.left.channels
+  pub onward : (e : Event) (sends : List Send) (notes : List Note) → Acts t old e sends notes new → IsAgreed new
+  onward (Running c max k) sends notes p = agreed_freed old new c (channels_up_to k) a p.left.queues p.left.channels (row_good k)
+  onward (Command c h m content) sends notes p = commanded sends notes c h m content (old.connection c) p
+  onward (TooLarge c h) sends notes p = too_large sends notes c h (old.connection c) p
+  onward (Fault c code) sends notes p = goes sends _ notes c p
+  onward (Lose c) sends notes p = goes sends _ notes c p
+  onward (Pause c) sends notes p = agreed_same old new a (shrinks_same old.queue new.queue p.left.queues) p.left.channels
+  onward (Resume c) sends notes p = agreed_same old new a (shrinks_same old.queue new.queue p.left.queues) p.left.channels
 
 -- in the empty broker nothing is held
 none_held : IsAgreed empty_broker
@@ -578,4 +582,4 @@ none_held = record {
 }
 
 pub stay_agreed : BrokersStayAgreed
-stay_agreed = record { empty = none_held; acts = λ t old new e sends notes fresh a p. onward t old new a e sends notes fresh p }
+stay_agreed = record { empty = none_held; acts = λ t old new e sends notes a p. onward t old new a e sends notes p }

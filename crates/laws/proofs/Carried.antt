@@ -38,7 +38,7 @@ use Rattle.model.specs.declared.notes.Answer.{Answer}
 use Rattle.laws.specs.Carrying.{MessagesStayCarried}
 use Rattle.laws.proofs.Counts.{all-append, all_in, filter_all}
 use Rattle.laws.proofs.Leaving.{at_queue, find_in}
-use Rattle.laws.proofs.View.{goes}
+use Rattle.laws.proofs.View.{connection_of, goes}
 
 -- ---- lists of entries
 
@@ -224,7 +224,7 @@ module _ (t : Topology) (old new : Broker) (sends : List Send) (notes : List Not
 
   -- Each event of the broker keeps that.
   pub carries : (e : Event) → IsSaid e → Acts t old e sends notes new → Carries new sends
-  carries (Running c max k) said p = does _ _ p tt a
+  carries (Running c max k) said p = does _ _ p tt (freed_in (by_connection c))
   carries (Command c h m content) said p = commanded c h m content (old.connection c) said.0 said.1 p
   carries (TooLarge c h) said p = too_large c h (old.connection c) p
   carries (Fault c code) said p = does _ _ p (tt, tt) (freed_in (by_connection c))
@@ -237,15 +237,15 @@ stay_carried = record { empty = λ q. tt; acts = λ t old new e sends notes said
 
 -- ---- runs
 
--- where a phase answers by itself the queues stay
-moved_in : (old made new : Broker) (v : Bool) → Is (if v then made else old) new → made.queue ≡ old.queue → AreCarried old → AreCarried new
-moved_in old made new true is same a = in_same made.queue new.queue is.queues (subst InAll (sym same) a)
-moved_in old made new false is same a = in_same old.queue new.queue is.queues a
+-- where a phase answers by itself the queues stay, or what was held is ready again
+moved_in : (old made new : Broker) (v : Bool) → Is (if v then made else old) new → AreCarried made → AreCarried old → AreCarried new
+moved_in old made new true is b a = in_same made.queue new.queue is.queues b
+moved_in old made new false is b a = in_same old.queue new.queue is.queues a
 
 step_carries : (f : Config) (old new : State) (e : Event) (sends : List Send) (notes : List Note) → IsSaid e → AreCarried old.broker → Step f old e sends notes new → AreCarried new.broker
 step_carries f old new e sends notes said a s = elim (goes f old new sends notes e s) [
   | inl p ↦ (carries f.topology old.broker new.broker sends notes a e said p.acts).queues
-  | inr p ↦ moved_in old.broker _ new.broker (is_running p.move.next.phase) p.moves.broker refl a
+  | inr p ↦ moved_in old.broker _ new.broker (is_running p.move.next.phase) p.moves.broker (λ q. freed_all (by_connection (connection_of e)) (old.broker.queue q) (a q)) a
 ]
 
 pub run_carries : (hs : List Happening) (old new : State) → AllByRecursion (λ (h : Happening). IsSaid h.event) hs → Run old hs new → AreCarried old.broker → AreCarried new.broker

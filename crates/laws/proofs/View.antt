@@ -380,7 +380,7 @@ module _ (t : Topology) (old new : Broker) (sends : List Send) (notes : List Not
 
   -- Each event of the broker goes one of these ways.
   pub acted : (e : Event) → Acts t old e sends notes new → Acted t old new e sends notes
-  acted (Running c max k) p = quiet_acts t old new _ sends notes (quiet old new _ _ c _ sends _ notes p tt (record { same = refl; kept = λ n q. refl }) (λ d. refl))
+  acted (Running c max k) p = quiet_acts t old new _ sends notes (quiet old new _ _ c _ sends _ notes p tt (record { same = refl; kept = freed_count old (by_connection c) }) (λ d. refl))
   acted (Command c h m content) p = commanded c h m content (old.connection c) p
   acted (TooLarge c h) p = quiet_acts t old new _ sends notes (too_large c h (old.connection c) p)
   acted (Fault c code) p = quiet_acts t old new _ sends notes (quiet old new _ _ c _ sends _ notes p (refl, refl) (record { same = refl; kept = freed_count old (by_connection c) }) (λ d. refl))
@@ -495,7 +495,7 @@ module _ (f : Config) (old new : State) (sends : List Send) (notes : List Note) 
   goes (Pause c) s = inl (record { runs = λ r. absurd (false≢true r); acts = s.acts; sessions = λ d. s.session d ∙ sym (with_same old.session c (old.session c) refl d) })
   goes (Resume c) s = inl (record { runs = λ r. absurd (false≢true r); acts = s.acts; sessions = λ d. s.session d ∙ sym (with_same old.session c (old.session c) refl d) })
 
-  -- a move to Running leaves the publishes and the queues as they are, as any other
+  -- a move to Running leaves the count of publishes and the messages of each queue as they are, as any other
   answered_adds : (e : Event) → Answered old e sends notes new → AddsNothing old.broker new.broker e sends notes
   answered_adds e a = record {
     same = a.moves.broker.counted ∙ (elim (is_running a.move.next.phase) as (λ v. (if v then opened old.broker (connection_of e) a.move.next.channel_max 0 else old.broker).published ≡ old.broker.published) [ true ↦ refl | false ↦ refl ]);
@@ -509,7 +509,7 @@ module _ (f : Config) (old new : State) (sends : List Send) (notes : List Note) 
   }
     where
       moved : (n : ℕ) (q : Text) (v : Bool) → count_by (has_number n) ((if v then opened old.broker (connection_of e) a.move.next.channel_max 0 else old.broker).queue q) ≡ count_by (has_number n) (old.broker.queue q)
-      moved n q true = refl
+      moved n q true = freed_count old.broker (by_connection (connection_of e)) n q
       moved n q false = refl
 
   -- Each step adds nothing, or is a publish.

@@ -27,7 +27,7 @@ pub record State : Type 0 where
   pub broker : Broker
   pub session : ℕ → Session
 
--- a connection that moves to Running is one of the broker's from then on, with no channel open; by any other move nothing changes there
+-- a connection that moves to Running is one of the broker's from then on, with no channel open and nothing held; by any other move nothing changes there
 abbrev pub after_move : Broker → ℕ → Session → Broker
 after_move b c next = if is_running next.phase then opened b c next.channel_max 0 else b
 

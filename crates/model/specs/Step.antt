@@ -455,9 +455,9 @@ OnLarge old c h sends notes new (Some conn) = Refuses old c h (ids_of empty_publ
 abbrev pub channels_up_to : ℕ → ℕ → Option Channel
 channels_up_to k h = if nat_le 1 h && nat_le h k then Some new_channel else None
 
--- connection c runs, with this channel-max, and its channels 1 to k are open
+-- connection c runs, with this channel-max, and its channels 1 to k are open and new; what one of its number held is ready again
 abbrev pub opened : Broker → ℕ → ℕ → ℕ → Broker
-opened b c max k = record b { connection = with_one b.connection c (Some (record { channel_max = max; is_paused = false })); channel = with_row b.channel c (channels_up_to k) }
+opened b c max k = with_freed (record b { connection = with_one b.connection c (Some (record { channel_max = max; is_paused = false })); channel = with_row b.channel c (channels_up_to k) }) (by_connection c)
 
 -- the connection is paused, or is not; without one there is nothing to change
 abbrev pub paused : Bool → Option Connection → Option Connection

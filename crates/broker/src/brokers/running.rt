@@ -9,7 +9,8 @@ impl Broker {
     ghost use Rattle.model.specs.declared.events.Event.TheVariants as event_is;
     ghost use Rattle.broker.specs.State.{broker_of, topology_of};
 
-    /// The connection runs from now on, with channels 1 to `channels` open. Where memory is wanting, nothing has changed.
+    /// The connection runs from now on, with channels 1 to `channels` open and new. What one of its number held is ready
+    /// again. Where memory is wanting, nothing has changed.
     pub fn open(
         &mut self,
         alloc: Global,
@@ -21,7 +22,9 @@ impl Broker {
         ensures topology { topology_of self.new ≡ topology_of self.old }
         ensures err { OnErr result (self.new ≡ self.old) }
     {
-        self.links.open(alloc, connection, channel_max, channels)
+        self.links.open(alloc, connection, channel_max, channels)?;
+        self.depot.requeue_connection(connection);
+        Ok(())
     }
 
     /// The connection runs no more: what it held is ready again.
