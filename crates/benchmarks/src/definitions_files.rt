@@ -1,6 +1,7 @@
 //! How long large definitions files take.
 
 use crate::files::{many_bindings, many_users, padded};
+use crate::written::Written;
 use definitions::read_definitions;
 use std::alloc::Global;
 use std::io;
@@ -15,7 +16,11 @@ fn cause_of(alloc: Global, bytes: &[u8]) -> u8 {
 }
 
 /// Prints how long it takes to read or to refuse a file.
-fn measure(rt: &HostRuntime, name: &str, bytes: &[u8]) -> io::Result<()> {
+fn measure(rt: &HostRuntime, name: &str, file: &Written) -> io::Result<()> {
+    if !file.is_whole() {
+        return println!(rt; "file, {name}: memory was refused");
+    }
+    let bytes = file.as_slice();
     let start = Instant::now(rt)?;
     let cause = cause_of(rt.alloc(), bytes);
     let milliseconds = start.elapsed(rt)?.as_millis();
@@ -25,7 +30,7 @@ fn measure(rt: &HostRuntime, name: &str, bytes: &[u8]) -> io::Result<()> {
 
 /// Prints how long the largest files take.
 pub fn measure_all(rt: &HostRuntime) -> io::Result<()> {
-    measure(rt, "padded", padded(rt.alloc())?.as_bytes())?;
-    measure(rt, "many bindings", many_bindings(rt.alloc())?.as_bytes())?;
-    measure(rt, "many users", many_users(rt.alloc())?.as_bytes())
+    measure(rt, "padded", &padded(rt.alloc()))?;
+    measure(rt, "many bindings", &many_bindings(rt.alloc()))?;
+    measure(rt, "many users", &many_users(rt.alloc()))
 }

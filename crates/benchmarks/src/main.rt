@@ -11,6 +11,7 @@ mod meters;
 mod publishes;
 mod routes;
 mod topologies;
+mod written;
 
 use std::{env, io};
 

@@ -18,85 +18,80 @@ const WINDOW: u64 = 100;
 /// How many parts of a load are measured apart.
 const PARTS: u64 = 10;
 
-/// An engine over a topology, with no guarantee.
-fn engine_over(alloc: Global, topology: Topology) -> io::Result<Option<Engine>> {
-    match admit(alloc, topology, Vec::new(alloc), &[]) {
-        Ok(checked) => Ok(Some(Engine::new(alloc, checked, Vec::new(alloc))?)),
-        Err(_) => Ok(None),
-    }
+/// An engine, and what came of what was handed to it.
+#[derive(Drop)]
+struct Worked {
+    alloc: Global,
+    engine: Engine,
+    /// How many bytes were put out.
+    written: u64,
+    /// Whether no memory was refused.
+    is_whole: bool,
 }
 
-/// An engine over the load's topology.
-fn engine_of(alloc: Global, load: &Load) -> io::Result<Option<Engine>> {
-    match built(alloc, load.shape)? {
-        Some(topology) => engine_over(alloc, topology),
-        None => Ok(None),
-    }
-}
-
-/// Whether a turn did something.
-fn did(alloc: Global, engine: &mut Engine, connection: u64) -> io::Result<bool> {
-    match engine.turn(alloc, connection)? {
-        Turn::Did(_) => Ok(true),
-        _ => Ok(false),
-    }
-}
-
-/// Takes turns of a connection until it has nothing more to do, and its output: how many bytes that had.
-fn work_off(alloc: Global, engine: &mut Engine, connection: u64) -> io::Result<u64> {
-    for _ in 0..u64::MAX {
-        if !did(alloc, engine, connection)? {
-            break;
+impl Worked {
+    /// Whether a turn did something.
+    fn did(&mut self, connection: u64) -> bool {
+        match self.engine.turn(self.alloc, connection) {
+            Ok(Turn::Did(_)) => true,
+            Ok(_) => false,
+            Err(_) => {
+                self.is_whole = false;
+                false
+            }
         }
     }
-    let written = engine.output(connection).len() as u64;
-    engine.sent(connection, written);
-    Ok(written)
-}
 
-/// Hands in these bytes, in pieces of so many, and performs what they say: how many bytes were put out.
-fn perform(
-    alloc: Global,
-    engine: &mut Engine,
-    connection: u64,
-    bytes: &[u8],
-    piece: usize,
-) -> io::Result<u64> {
-    let mut written = 0u64;
-    for part in bytes.chunks(piece.max(1)) {
-        engine.feed(connection, part)?;
-        written = written.saturating_add(work_off(alloc, engine, connection)?);
+    /// Takes turns of a connection until it has nothing more to do, and its output.
+    fn work_off(&mut self, connection: u64) {
+        for _ in 0..u64::MAX {
+            if !self.did(connection) {
+                break;
+            }
+        }
+        let written = self.engine.output(connection).len() as u64;
+        self.engine.sent(connection, written);
+        self.written = self.written.saturating_add(written);
     }
-    Ok(written)
+
+    /// Hands in these bytes, and performs what they say.
+    fn perform(&mut self, connection: u64, bytes: &[u8]) {
+        if self.engine.feed(connection, bytes).is_err() {
+            self.is_whole = false;
+        }
+        self.work_off(connection);
+    }
+
+    /// Hands in these bytes in pieces of so many, and performs what they say.
+    fn perform_pieces(&mut self, connection: u64, bytes: &[u8], piece: usize) {
+        for part in bytes.chunks(piece.max(1)) {
+            self.perform(connection, part);
+        }
+    }
+
+    /// Opens a connection, with confirms on its channel 1.
+    fn open(&mut self) {
+        match self.engine.open_ready(self.alloc, 1) {
+            Ok(connection) => self.perform(connection, SELECT.as_slice()),
+            Err(_) => self.is_whole = false,
+        }
+    }
 }
 
-/// Opens the load's connections, with confirms on channel 1 of each.
-fn open_all(alloc: Global, engine: &mut Engine, load: &Load) -> io::Result<()> {
+/// Opens the load's connections.
+fn open_all(worked: &mut Worked, load: &Load) {
     for _ in 0..load.connections {
-        if let Ok(connection) = engine.open_ready(alloc, 1) {
-            engine.feed(connection, SELECT.as_slice())?;
-            work_off(alloc, engine, connection)?;
-        }
+        worked.open();
     }
-    Ok(())
 }
 
-/// A part of a load: so many windows, by its connections in turn. How many bytes were put out.
-fn part(
-    alloc: Global,
-    engine: &mut Engine,
-    client: &mut Client,
-    load: &Load,
-    first: u64,
-) -> io::Result<u64> {
-    let mut written = 0u64;
+/// A part of a load: so many windows, by its connections in turn.
+fn run_part(worked: &mut Worked, client: &mut Client, load: &Load, first: u64) {
     for window in 0..load.publishes / PARTS / WINDOW {
         let connection = first.saturating_add(window) % load.connections.max(1) + 1;
-        let bytes = client.window(alloc, WINDOW)?;
-        let more = perform(alloc, engine, connection, bytes, load.piece)?;
-        written = written.saturating_add(more);
+        let bytes = client.window(worked.alloc, WINDOW);
+        worked.perform_pieces(connection, bytes, load.piece);
     }
-    Ok(written)
 }
 
 /// What a part took on average, in nanoseconds a publish.
@@ -104,50 +99,82 @@ fn average(nanoseconds: u64, load: &Load) -> u64 {
     nanoseconds / (load.publishes / PARTS).max(1)
 }
 
-/// Runs a part of a load, and prints what a publish took. How many bytes were put out.
+/// Runs a part of a load, and prints what a publish took.
 fn measure_part(
     rt: &HostRuntime,
-    engine: &mut Engine,
+    worked: &mut Worked,
     client: &mut Client,
     load: &Load,
     first: u64,
-) -> io::Result<u64> {
+) -> io::Result<()> {
     let start = processor_time(rt)?;
-    let written = part(rt.alloc(), engine, client, load, first)?;
+    run_part(worked, client, load, first);
     let took = processor_time(rt)?.saturating_sub(start);
-    print!(rt; " {}", average(took, load))?;
-    Ok(written)
+    print!(rt; " {}", average(took, load))
 }
 
-/// Runs the parts of a load. How many bytes were put out.
+/// Runs the parts of a load.
 fn measure_parts(
     rt: &HostRuntime,
-    engine: &mut Engine,
+    worked: &mut Worked,
     client: &mut Client,
     load: &Load,
-) -> io::Result<u64> {
-    let mut written = 0u64;
+) -> io::Result<()> {
     for tenth in 0..PARTS {
-        let more = measure_part(rt, engine, client, load, tenth)?;
-        written = written.saturating_add(more);
+        measure_part(rt, worked, client, load, tenth)?;
     }
-    Ok(written)
+    Ok(())
 }
 
-/// Runs a load, and prints what a publish took in each part and how much a waiting message takes.
-fn measure_over(rt: &HostRuntime, engine: &mut Engine, load: &Load) -> io::Result<()> {
-    open_all(rt.alloc(), engine, load)?;
-    let mut client = Client::new(rt.alloc(), load.body, load.keys)?;
-    let before = resident_bytes(rt)?;
-    print!(rt; "{}:", load.name)?;
-    let written = measure_parts(rt, engine, &mut client, load)?;
+/// Prints how much a waiting message takes, where so many bytes were taken before, and how much was put out.
+fn tell(rt: &HostRuntime, worked: &Worked, load: &Load, before: u64) -> io::Result<()> {
     let grown = resident_bytes(rt)?.saturating_sub(before) / load.publishes.max(1);
+    let written = worked.written;
     println!(rt; " ns a publish; {grown} bytes a publish; {written} bytes put out")
 }
 
+/// Runs a load, and prints what a publish took in each part and how much a waiting message takes.
+fn measure_over(rt: &HostRuntime, worked: &mut Worked, load: &Load) -> io::Result<()> {
+    open_all(worked, load);
+    worked.written = 0;
+    let mut client = Client::new(rt.alloc(), load.body, load.keys);
+    let before = resident_bytes(rt)?;
+    print!(rt; "{}:", load.name)?;
+    measure_parts(rt, worked, &mut client, load)?;
+    tell(rt, worked, load, before)?;
+    if worked.is_whole && client.is_whole() {
+        return Ok(());
+    }
+    println!(rt; "{}: memory was refused", load.name)
+}
+
+/// An engine over a topology, with no guarantee, none where memory is refused.
+fn engine_over(alloc: Global, topology: Topology) -> Option<Worked> {
+    match admit(alloc, topology, Vec::new(alloc), &[]) {
+        Ok(checked) => match Engine::new(alloc, checked, Vec::new(alloc)) {
+            Ok(engine) => Some(Worked {
+                alloc,
+                engine,
+                written: 0,
+                is_whole: true,
+            }),
+            Err(_) => None,
+        },
+        Err(_) => None,
+    }
+}
+
+/// An engine over the load's topology, none where it is refused or memory is.
+fn engine_of(alloc: Global, load: &Load) -> Option<Worked> {
+    match built(alloc, load.shape) {
+        Some(topology) => engine_over(alloc, topology),
+        None => None,
+    }
+}
+
 fn measure(rt: &HostRuntime, load: &Load) -> io::Result<()> {
-    match engine_of(rt.alloc(), load)? {
-        Some(mut engine) => measure_over(rt, &mut engine, load),
+    match engine_of(rt.alloc(), load) {
+        Some(mut worked) => measure_over(rt, &mut worked, load),
         None => println!(rt; "{}: its topology is refused", load.name),
     }
 }

@@ -28,13 +28,18 @@ fn measure_route(rt: &HostRuntime, topology: &Topology, links: u32, key: &str) -
     println!(rt; "route of {key} past {links} links to {most} queues: {microseconds} microseconds")
 }
 
+/// Prints how long two routes take.
+fn measure_routes(rt: &HostRuntime, topology: &Topology, links: u32) -> io::Result<()> {
+    measure_route(rt, topology, links, "a.b.c.d.e")?;
+    measure_route(rt, topology, links, "other")
+}
+
 /// Prints how long two routes take where so many exchanges are linked.
 fn measure_linked(rt: &HostRuntime, links: u32) -> io::Result<()> {
-    if let Some(topology) = built(rt.alloc(), Shape::Linked(links))? {
-        measure_route(rt, &topology, links, "a.b.c.d.e")?;
-        measure_route(rt, &topology, links, "other")?;
+    match built(rt.alloc(), Shape::Linked(links)) {
+        Some(topology) => measure_routes(rt, &topology, links),
+        None => println!(rt; "routes past {links} links: their topology is refused"),
     }
-    Ok(())
 }
 
 /// Prints how long routes take past no exchange, past some, and past all.

@@ -1,13 +1,15 @@
 //! The topologies that are measured.
 
 use crate::loads::Shape;
+use crate::written::{Texts, Written};
 use exchange_graph::Topology;
 use model::{Binding, DeclaredQueue, Exchange, ExchangeKind, Place, Text};
-use std::alloc::{AllocError, Global};
+use std::alloc::Global;
 
 /// Exchanges, queues and bindings, as they are put together.
 #[derive(Drop)]
 struct Plan {
+    texts: Texts,
     exchanges: Vec<Exchange>,
     queues: Vec<DeclaredQueue>,
     bindings: Vec<Binding>,
@@ -16,239 +18,262 @@ struct Plan {
 impl Plan {
     fn new(alloc: Global) -> Plan {
         Plan {
+            texts: Texts::new(alloc),
             exchanges: Vec::new(alloc),
             queues: Vec::new(alloc),
             bindings: Vec::new(alloc),
         }
     }
 
-    fn exchange(
-        &mut self,
-        alloc: Global,
-        name: &str,
-        kind: ExchangeKind,
-    ) -> Result<(), AllocError> {
-        let name = Text::from_slice(alloc, name.as_bytes())?;
-        self.exchanges.push(Exchange {
+    fn put_exchange(&mut self, name: Text, kind: ExchangeKind) {
+        let exchange = Exchange {
             name,
             kind,
             internal: false,
             alternate: None,
-        })?;
-        Ok(())
+        };
+        if self.exchanges.push(exchange).is_err() {
+            self.texts.fail();
+        }
     }
 
-    fn queue(&mut self, alloc: Global, name: &str) -> Result<(), AllocError> {
-        let name = Text::from_slice(alloc, name.as_bytes())?;
-        self.queues.push(DeclaredQueue {
+    fn put_queue(&mut self, name: Text) {
+        let queue = DeclaredQueue {
             name,
             limit: None,
             dead_letter_exchange: None,
             dead_letter_key: None,
-        })?;
-        Ok(())
+        };
+        if self.queues.push(queue).is_err() {
+            self.texts.fail();
+        }
     }
 
-    fn binding(
-        &mut self,
-        alloc: Global,
-        source: &str,
-        to: Place,
-        key: &str,
-    ) -> Result<(), AllocError> {
-        self.bindings.push(Binding {
-            source: Text::from_slice(alloc, source.as_bytes())?,
-            to,
-            key: Text::from_slice(alloc, key.as_bytes())?,
-        })?;
-        Ok(())
+    fn put_binding(&mut self, source: Text, to: Place, key: Text) {
+        if self.bindings.push(Binding { source, to, key }).is_err() {
+            self.texts.fail();
+        }
     }
 
-    fn bind(
-        &mut self,
-        alloc: Global,
-        source: &str,
-        queue: &str,
-        key: &str,
-    ) -> Result<(), AllocError> {
-        let queue = Text::from_slice(alloc, queue.as_bytes())?;
-        self.binding(alloc, source, Place::Queue(queue), key)
+    fn exchange(&mut self, name: &str, kind: ExchangeKind) {
+        let name = self.texts.text(name.as_bytes());
+        self.put_exchange(name, kind);
     }
 
-    fn link(&mut self, alloc: Global, source: &str, exchange: &str) -> Result<(), AllocError> {
-        let exchange = Text::from_slice(alloc, exchange.as_bytes())?;
-        self.binding(alloc, source, Place::Exchange(exchange), "#")
+    fn queue(&mut self, name: &str) {
+        let name = self.texts.text(name.as_bytes());
+        self.put_queue(name);
+    }
+
+    /// Binds a queue to an exchange by a key.
+    fn bind(&mut self, source: &str, queue: &str, key: &str) {
+        let source = self.texts.text(source.as_bytes());
+        let queue = self.texts.text(queue.as_bytes());
+        let key = self.texts.text(key.as_bytes());
+        self.put_binding(source, Place::Queue(queue), key);
+    }
+
+    /// Binds the queue `q` to the exchange `x` by the key that was put together.
+    fn bind_by(&mut self, key: &Written) {
+        let source = self.texts.text(b"x");
+        let queue = self.texts.text(b"q");
+        let key = self.texts.of(key);
+        self.put_binding(source, Place::Queue(queue), key);
+    }
+
+    /// Binds the queue of a number to the exchange of the same number by the key that was put together.
+    fn bind_numbered(&mut self, number: u32, key: &Written) {
+        let source = self.texts.numbered("x", number);
+        let queue = self.texts.numbered("q", number);
+        let key = self.texts.of(key);
+        self.put_binding(source, Place::Queue(queue), key);
+    }
+
+    /// The topic exchange and the queue of this number.
+    fn numbered(&mut self, number: u32) {
+        let exchange = self.texts.numbered("x", number);
+        self.put_exchange(exchange, ExchangeKind::Topic);
+        let queue = self.texts.numbered("q", number);
+        self.put_queue(queue);
+    }
+
+    /// The exchange of this number leads to the next one by every key.
+    fn link_on(&mut self, number: u32) {
+        let source = self.texts.numbered("x", number);
+        let next = self.texts.numbered("x", number.saturating_add(1));
+        let key = self.texts.text(b"#");
+        self.put_binding(source, Place::Exchange(next), key);
+    }
+
+    /// A key without a word.
+    fn key(&self) -> Written {
+        Written::new(self.texts.alloc())
     }
 }
 
 /// The direct exchange `x`, with the queue `q` bound by `k`.
-fn direct(alloc: Global, plan: &mut Plan) -> Result<(), AllocError> {
-    plan.exchange(alloc, "x", ExchangeKind::Direct)?;
-    plan.queue(alloc, "q")?;
-    plan.bind(alloc, "x", "q", "k")
+fn direct(plan: &mut Plan) {
+    plan.exchange("x", ExchangeKind::Direct);
+    plan.queue("q");
+    plan.bind("x", "q", "k");
 }
 
-fn fanout(alloc: Global, plan: &mut Plan) -> Result<(), AllocError> {
-    plan.exchange(alloc, "x", ExchangeKind::Fanout)?;
+fn fanout(plan: &mut Plan) {
+    plan.exchange("x", ExchangeKind::Fanout);
     for name in ["a", "b", "c"] {
-        plan.queue(alloc, name)?;
-        plan.bind(alloc, "x", name, "")?;
+        plan.queue(name);
+        plan.bind("x", name, "");
     }
-    Ok(())
+}
+
+/// A binding that matches no key.
+fn other(plan: &mut Plan, place: u32) {
+    let mut key = plan.key();
+    key.put_text("other.");
+    key.put_number(u64::from(place));
+    key.put_text(".*");
+    plan.bind_by(&key);
 }
 
 /// The last of the bindings is `k.#`, the others match no key.
-fn topic(alloc: Global, plan: &mut Plan, bindings: u32) -> Result<(), AllocError> {
-    plan.exchange(alloc, "x", ExchangeKind::Topic)?;
-    plan.queue(alloc, "q")?;
+fn topic(plan: &mut Plan, bindings: u32) {
+    plan.exchange("x", ExchangeKind::Topic);
+    plan.queue("q");
     for place in 1..bindings {
-        let key = format!(in alloc; "other.{place}.*")?;
-        plan.bind(alloc, "x", "q", key.as_str())?;
+        other(plan, place);
     }
-    plan.bind(alloc, "x", "q", "k.#")
+    plan.bind("x", "q", "k.#");
 }
 
-fn among_exchanges(alloc: Global, plan: &mut Plan, count: u32) -> Result<(), AllocError> {
+fn among_exchanges(plan: &mut Plan, count: u32) {
     for place in 1..count {
-        let name = format!(in alloc; "y{place}")?;
-        plan.exchange(alloc, name.as_str(), ExchangeKind::Direct)?;
+        let name = plan.texts.numbered("y", place);
+        plan.put_exchange(name, ExchangeKind::Direct);
     }
-    direct(alloc, plan)
+    direct(plan);
 }
 
-fn among_queues(alloc: Global, plan: &mut Plan, count: u32) -> Result<(), AllocError> {
+fn among_queues(plan: &mut Plan, count: u32) {
     for place in 1..count {
-        let name = format!(in alloc; "p{place}")?;
-        plan.queue(alloc, name.as_str())?;
+        let name = plan.texts.numbered("p", place);
+        plan.put_queue(name);
     }
-    direct(alloc, plan)
+    direct(plan);
 }
 
-/// The topic exchange and the queue of this number.
-fn numbered(alloc: Global, plan: &mut Plan, place: u32) -> Result<(), AllocError> {
-    let exchange = format!(in alloc; "x{place}")?;
-    plan.exchange(alloc, exchange.as_str(), ExchangeKind::Topic)?;
-    let queue = format!(in alloc; "q{place}")?;
-    plan.queue(alloc, queue.as_str())
-}
-
-/// The exchange of this number leads to the next one by every key.
-fn linked_on(alloc: Global, plan: &mut Plan, place: u32) -> Result<(), AllocError> {
-    let source = format!(in alloc; "x{place}")?;
-    let next = format!(in alloc; "x{}", place.saturating_add(1))?;
-    plan.link(alloc, source.as_str(), next.as_str())
-}
-
-/// One of the patterns by which exchanges are bound to queues.
-fn pattern(alloc: Global, place: u32) -> Result<String, AllocError> {
+/// The exchange of this number, among 256, is bound to its queue by one of the patterns.
+fn bound(plan: &mut Plan, place: u32) {
+    let mut key = plan.key();
     if place % 16 == 0 {
-        String::from_str(alloc, "a.*.#.d.e")
+        key.put_text("a.*.#.d.e");
     } else {
-        format!(in alloc; "#.{place}.*.#.d.e")
+        key.put_text("#.");
+        key.put_number(u64::from(place));
+        key.put_text(".*.#.d.e");
     }
-}
-
-/// The exchange of this number, among 256, is bound to its queue by a pattern.
-fn bound(alloc: Global, plan: &mut Plan, place: u32) -> Result<(), AllocError> {
-    let number = place % 256;
-    let source = format!(in alloc; "x{number}")?;
-    let queue = format!(in alloc; "q{number}")?;
-    let key = pattern(alloc, place)?;
-    plan.bind(alloc, source.as_str(), queue.as_str(), key.as_str())
+    plan.bind_numbered(place % 256, &key);
 }
 
 /// 256 exchanges, so many of which lead on to the next, 256 queues and 3,841 bindings from exchanges to queues.
-fn linked(alloc: Global, plan: &mut Plan, links: u32) -> Result<(), AllocError> {
+fn linked(plan: &mut Plan, links: u32) {
     for place in 0..256 {
-        numbered(alloc, plan, place)?;
+        plan.numbered(place);
     }
     for place in 0..links {
-        linked_on(alloc, plan, place)?;
+        plan.link_on(place);
     }
     for place in 0..3841 {
-        bound(alloc, plan, place)?;
+        bound(plan, place);
     }
-    Ok(())
 }
 
-/// A pattern of words `a` and `*`: the binary digits of a number behind its first.
-fn worded_key(alloc: Global, number: u32) -> Result<String, AllocError> {
-    let mut key = String::new(alloc);
+/// A binding by a pattern of words `a` and `*`: the binary digits of a number behind its first.
+fn by_digits(plan: &mut Plan, number: u32) {
+    let mut key = plan.key();
     let mut rest = number;
     for _ in 0..32 {
-        if rest <= 1 {
-            break;
+        if rest > 1 {
+            put_digit(&mut key, rest % 2);
         }
-        if !key.is_empty() {
-            key.push_str(".")?;
-        }
-        key.push_str(if rest % 2 == 1 { "a" } else { "*" })?;
         rest /= 2;
     }
-    Ok(key)
+    plan.bind_by(&key);
+}
+
+/// Appends a word, with a dot before it unless it is the first.
+fn put_digit(key: &mut Written, digit: u32) {
+    if !key.as_slice().is_empty() {
+        key.put_text(".");
+    }
+    key.put_text(if digit == 1 { "a" } else { "*" });
 }
 
 /// One exchange and one queue, bound by all patterns of at most so many words.
-fn worded(alloc: Global, plan: &mut Plan, words: u32) -> Result<(), AllocError> {
-    plan.queue(alloc, "q")?;
+fn worded(plan: &mut Plan, words: u32) {
+    plan.queue("q");
     if words == 0 {
-        plan.exchange(alloc, "x", ExchangeKind::Fanout)?;
-        return plan.bind(alloc, "x", "q", "");
+        plan.exchange("x", ExchangeKind::Fanout);
+        return plan.bind("x", "q", "");
     }
-    plan.exchange(alloc, "x", ExchangeKind::Topic)?;
-    plan.bind(alloc, "x", "q", "#")?;
+    plan.exchange("x", ExchangeKind::Topic);
+    plan.bind("x", "q", "#");
     for number in 2..2u32.saturating_pow(words.saturating_add(1)) {
-        let key = worded_key(alloc, number)?;
-        plan.bind(alloc, "x", "q", key.as_str())?;
+        by_digits(plan, number);
     }
-    Ok(())
 }
 
-/// One of the 16 patterns by which an exchange is bound to its queue.
-fn starred_key(alloc: Global, place: u32) -> Result<String, AllocError> {
+/// One of the 16 bindings of an exchange to its queue.
+fn starred_binding(plan: &mut Plan, number: u32, place: u32) {
+    let mut key = plan.key();
+    key.put_text("k.");
     if place == 0 {
-        String::from_str(alloc, "k.#")
+        key.put_text("#");
     } else {
-        format!(in alloc; "k.{place}.*")
+        key.put_number(u64::from(place));
+        key.put_text(".*");
     }
+    plan.bind_numbered(number, &key);
 }
 
 /// An exchange and its queue, bound by 16 patterns.
-fn star(alloc: Global, plan: &mut Plan, number: u32) -> Result<(), AllocError> {
-    numbered(alloc, plan, number)?;
-    let exchange = format!(in alloc; "x{number}")?;
-    let queue = format!(in alloc; "q{number}")?;
+fn star(plan: &mut Plan, number: u32) {
+    plan.numbered(number);
     for place in 0..16 {
-        let key = starred_key(alloc, place)?;
-        plan.bind(alloc, exchange.as_str(), queue.as_str(), key.as_str())?;
+        starred_binding(plan, number, place);
     }
-    Ok(())
 }
 
 /// 256 exchanges, each bound to its queue by 16 patterns.
-fn starred(alloc: Global, plan: &mut Plan) -> Result<(), AllocError> {
+fn starred(plan: &mut Plan) {
     for number in 0..256 {
-        star(alloc, plan, number)?;
+        star(plan, number);
     }
-    Ok(())
 }
 
-fn put_shape(alloc: Global, plan: &mut Plan, shape: Shape) -> Result<(), AllocError> {
+fn put_shape(plan: &mut Plan, shape: Shape) {
     match shape {
-        Shape::Direct => direct(alloc, plan),
-        Shape::Fanout => fanout(alloc, plan),
-        Shape::Topic(bindings) => topic(alloc, plan, bindings),
-        Shape::Exchanges(count) => among_exchanges(alloc, plan, count),
-        Shape::Queues(count) => among_queues(alloc, plan, count),
-        Shape::Worded(words) => worded(alloc, plan, words),
-        Shape::Starred => starred(alloc, plan),
-        Shape::Linked(links) => linked(alloc, plan, links),
+        Shape::Direct => direct(plan),
+        Shape::Fanout => fanout(plan),
+        Shape::Topic(bindings) => topic(plan, bindings),
+        Shape::Exchanges(count) => among_exchanges(plan, count),
+        Shape::Queues(count) => among_queues(plan, count),
+        Shape::Worded(words) => worded(plan, words),
+        Shape::Starred => starred(plan),
+        Shape::Linked(links) => linked(plan, links),
     }
 }
 
-/// The topology of this shape, none where it is refused.
-pub fn built(alloc: Global, shape: Shape) -> Result<Option<Topology>, AllocError> {
+/// The topology that was put together, none where memory was refused or it is refused itself.
+fn built_of(alloc: Global, plan: Plan) -> Option<Topology> {
+    if !plan.texts.is_whole() {
+        return None;
+    }
+    Topology::build(alloc, plan.exchanges, plan.queues, plan.bindings).ok()
+}
+
+/// The topology of this shape, none where it is refused or memory is.
+pub fn built(alloc: Global, shape: Shape) -> Option<Topology> {
     let mut plan = Plan::new(alloc);
-    put_shape(alloc, &mut plan, shape)?;
-    Ok(Topology::build(alloc, plan.exchanges, plan.queues, plan.bindings).ok())
+    put_shape(&mut plan, shape);
+    built_of(alloc, plan)
 }
