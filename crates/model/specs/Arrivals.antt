@@ -4,17 +4,18 @@ use Rattle.std.specs.List.{AllByRecursion}
 use Rattle.model.specs.Broker.{with_one}
 use Rattle.model.specs.State.{Config, State, Step}
 use Rattle.model.specs.Grammar.{IsMethod}
+use Rattle.model.specs.Phases.{Session}
 use Rattle.model.specs.Run.{Happening, notes_of, put_out, empty_state}
 use Rattle.model.specs.Spelling.{spelling, receiver, IsSpelled}
-use Rattle.model.specs.Commands.{Stream, Yields, Ends, GoesOn, HasWithin, running_stream, heard}
+use Rattle.model.specs.Commands.{Stream, Yields, Ends, GoesOn, HasWithin, new_stream, running_stream, heard, with_max}
 use Rattle.model.specs.declared.events.Phase.{Phase}
 use Rattle.model.specs.declared.events.Phase.TheVariants as phase
 use Rattle.model.specs.declared.events.Command.{Command}
-use Rattle.model.specs.declared.events.Command.TheVariants.{Plain, Full, TooLarge}
+use Rattle.model.specs.declared.events.Command.TheVariants.{Head, Plain, Full, TooLarge}
 use Rattle.model.specs.declared.events.Event.{Event}
 use Rattle.model.specs.declared.events.Event.TheVariants as event
 use Rattle.model.specs.declared.events.Arrival.{Arrival}
-use Rattle.model.specs.declared.events.Arrival.TheVariants.{Ready, In, Sent, Lose}
+use Rattle.model.specs.declared.events.Arrival.TheVariants.{Open, Ready, In, Sent, Lose}
 use Rattle.model.specs.declared.methods.Method.TheVariants.{BasicPublish}
 use Rattle.model.specs.declared.notes.Note.{Note}
 
@@ -83,6 +84,7 @@ standing w (suc n) = if is_gone w (suc n) then standing w n else standing w n + 
 
 -- a command of connection c as an event; a publish goes with its content, where that is not too large
 abbrev pub event_of : ℕ → Command → Event
+event_of c (Head bytes) = event.First c bytes
 event_of c (Plain h m) = event.Command c h m None
 event_of c (Full h p content) = event.Command c h (BasicPublish p) (Some content)
 event_of c (TooLarge h) = event.TooLarge c h
@@ -137,9 +139,9 @@ pub record Puts (old : World) (e : Event) (c : ℕ) (hs : List Happening) (new :
   pub others : (d : ℕ) → d ≢ c → new.wire d ≡ old.wire d
   pub rests : (d : ℕ) → d ≢ c → new.state.session d ≡ old.state.session d
 
--- after a turn nothing is kept, and of one that is over nothing more is read
-abbrev pub wire_after : Bool → Stream → List ℕ → Wire
-wire_after is_over next output = if is_over then record new_wire { output = output } else record { kept = None; stream = next; output = output }
+-- after a turn nothing is kept, and frames are as large as the session allows; of one that is over nothing more is read
+abbrev pub wire_after : Session → Stream → List ℕ → Wire
+wire_after s next output = if is_ended s.phase then record new_wire { output = output } else record { kept = None; stream = with_max s.frame_max next; output = output }
 
 -- One command, or the fault of its stream, is performed for c.
 pub record Turns (old : World) (c : ℕ) (hs : List Happening) (new : World) : Type 0 where
@@ -150,7 +152,7 @@ pub record Turns (old : World) (c : ℕ) (hs : List Happening) (new : World) : T
   pub said : IsSaid event
   pub puts : Puts old event c hs new
   pub given : new.given ≡ old.given
-  pub wire : new.wire c ≡ wire_after (is_over new c) next (new.wire c).output
+  pub wire : new.wire c ≡ wire_after (new.state.session c) next (new.wire c).output
 
 -- Nothing was performed, and of c the same is still to come.
 pub record Waits (old : World) (c : ℕ) (new : World) : Type 0 where
@@ -241,6 +243,7 @@ Nothing_happens old hs new = (hs ≡ []) × Same old new
 
 -- What one arrival brings: one for a connection that is gone does nothing, nor do bytes for one that is over.
 abbrev pub Answers : World → Arrival → List Happening → World → Type 0
+Answers old Open hs new = MatchBool (can_open old) (Opens old (event.Open (old.given + 1)) new_stream hs new) (Nothing_happens old hs new)
 Answers old (Ready k) hs new = MatchBool (can_open old) (Opens old (event.Running (old.given + 1) 255 k) running_stream hs new) (Nothing_happens old hs new)
 Answers old (In c bytes) hs new = MatchBool (is_over old c) (Nothing_happens old hs new) (WorksOff (with_heard old c bytes) c hs new)
 Answers old (Sent c n) hs new = MatchBool (is_gone old c) (Nothing_happens old hs new) (TakesAndWorks old c n hs new)

@@ -1,6 +1,6 @@
 -- What the bytes of one connection say: frames, and contents put together per channel.
 -- Source: AMQP 0-9-1, section 4.2.6, "Content Framing", and section 2.3.5, "Frame Details".
-use Rattle.std.specs.Prelude.{◌≡◌, ◌≤◌, ℕ, List, [], ◌∷◌, ◌++◌, length, Bool, nat_lt, ◌==◌, ◌+◌, ◌&&◌, ◌||◌, not, if◌then◌else◌, Option, Some, None, Result, Ok, Err, MatchBool}
+use Rattle.std.specs.Prelude.{◌≡◌, ◌≤◌, ◌<◌, ℕ, List, [], ◌∷◌, ◌++◌, length, Bool, true, false, nat_lt, ◌==◌, ◌+◌, ◌&&◌, ◌||◌, not, if◌then◌else◌, Option, Some, None, Result, Ok, Err, MatchBool}
 use Rattle.model.specs.Words.{Text}
 use Rattle.model.specs.Broker.{with_one}
 use Rattle.model.specs.Frames.{Frame, Begins, IsBroken}
@@ -9,7 +9,7 @@ use Rattle.model.specs.Headers.{Header, AreProperties, header_bytes, SaysSize, S
 use Rattle.model.specs.declared.contents.Content.{Content}
 use Rattle.model.specs.declared.contents.Fields.{Fields as Properties}
 use Rattle.model.specs.declared.events.Command.{Command}
-use Rattle.model.specs.declared.events.Command.TheVariants.{Plain, Full, TooLarge}
+use Rattle.model.specs.declared.events.Command.TheVariants.{Head, Plain, Full, TooLarge}
 use Rattle.model.specs.declared.methods.Publish.{Publish}
 use Rattle.model.specs.declared.methods.Method.{Method}
 use Rattle.model.specs.declared.methods.Method.TheVariants.{BasicPublish}
@@ -121,6 +121,8 @@ TakesOn p f taken =
 
 -- what one connection's bytes have still to say
 pub record Stream : Type 0 where
+  -- the first eight bytes are awaited, which no frame may precede
+  pub is_new : Bool
   -- the greatest frame, in bytes
   pub max : ℕ
   pub pending : ℕ → Pending
@@ -136,8 +138,17 @@ pending_after (Breaks code) = Nothing
 abbrev pub after_frame : Stream → ℕ → Taken → List ℕ → Stream
 after_frame s h taken rest = record s { pending = with_one s.pending h (pending_after taken); unread = rest }
 
+-- The first eight bytes are read, and frames are awaited from then on.
+pub record TakesFirst (s : Stream) (bytes : Text) (next : Stream) : Type 0 where
+  pub awaited : s.is_new ≡ true
+  pub rest : List ℕ
+  pub front : s.unread ≡ bytes ++ rest
+  pub size : length bytes ≡ 8
+  pub left : next ≡ record s { is_new = false; unread = rest }
+
 -- The next frame is read, with this effect.
 pub record Takes (s : Stream) (taken : Taken) (next : Stream) : Type 0 where
+  pub begun : s.is_new ≡ false
   pub frame : Frame
   pub rest : List ℕ
   pub front : Begins s.max s.unread frame rest
@@ -146,13 +157,15 @@ pub record Takes (s : Stream) (taken : Taken) (next : Stream) : Type 0 where
 
 -- The next command is this one.
 pub data Yields : Stream → Command → Stream → Type 0 where
+  first : {s next : Stream} {bytes : Text} → TakesFirst s bytes next → Yields s (Head bytes) next
   now : {s next : Stream} {c : Command} → Takes s (Makes c) next → Yields s c next
   later : {s mid next : Stream} {p : Pending} {c : Command} → Takes s (Goes_on p) mid → Yields mid c next → Yields s c next
 
--- No command comes: the rest is no whole frame, or a fault of this code is next.
+-- No command comes: fewer than the first eight bytes are there, or the rest is no whole frame, or a fault of this code is next.
 pub data Ends : Stream → Option ℕ → Type 0 where
-  short : {s : Stream} → ((f : Frame) (rest : List ℕ) → Begins s.max s.unread f rest → ⊥) → (IsBroken s.max s.unread → ⊥) → Ends s None
-  broken : {s : Stream} → IsBroken s.max s.unread → Ends s (Some 501)
+  early : {s : Stream} → s.is_new ≡ true → length s.unread < 8 → Ends s None
+  short : {s : Stream} → s.is_new ≡ false → ((f : Frame) (rest : List ℕ) → Begins s.max s.unread f rest → ⊥) → (IsBroken s.max s.unread → ⊥) → Ends s None
+  broken : {s : Stream} → s.is_new ≡ false → IsBroken s.max s.unread → Ends s (Some 501)
   faulty : {s next : Stream} {code : ℕ} → Takes s (Breaks code) next → Ends s (Some code)
   beyond : {s mid : Stream} {p : Pending} {o : Option ℕ} → Takes s (Goes_on p) mid → Ends mid o → Ends s o
 
@@ -166,16 +179,25 @@ abbrev pub Commands : Stream → List Command → Option ℕ → Type 0
 Commands s [] end = Ends s end
 Commands s (c ∷ cs) end = (next : Stream) × Yields s c next × Commands next cs end
 
+-- a connection of which no byte has come: until limits are agreed on, a frame has at most 4,096 bytes (AMQP 0-9-1, frame-min-size)
+abbrev pub new_stream : Stream
+new_stream = record { is_new = true; max = 4096; pending = λ h. Nothing; unread = [] }
+
 -- a connection that is opened as running
 abbrev pub running_stream : Stream
-running_stream = record { max = 131072; pending = λ h. Nothing; unread = [] }
+running_stream = record { is_new = false; max = 131072; pending = λ h. Nothing; unread = [] }
 
 -- the same bytes with more behind them
 abbrev pub heard : Stream → List ℕ → Stream
 heard s bytes = record s { unread = s.unread ++ bytes }
 
+-- the same bytes, in frames of at most so many bytes from now on
+abbrev pub with_max : ℕ → Stream → Stream
+with_max max s = record s { max = max }
+
 -- the command, if it has a method, is made of one that has a spelling, and its content is not too large
 abbrev pub IsCommand : Command → Type 0
+IsCommand (Head bytes) = Unit {0}
 IsCommand (Plain h m) = IsMethod m
 IsCommand (Full h p content) = IsMethod (BasicPublish p) × IsWithin content
 IsCommand (TooLarge h) = Unit {0}

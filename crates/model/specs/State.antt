@@ -5,7 +5,8 @@ use Rattle.model.specs.Guarantee.{Guarantee}
 use Rattle.model.specs.Broker.{Broker, with_one}
 use Rattle.model.specs.Step.{Acts, Is, empty_publish, opened}
 use Rattle.model.specs.Phases.{Session, running_session, no_session, is_running, Move, faulted, after_sends, to_phase}
-use Rattle.model.specs.Opening.{IsAnswered}
+use Rattle.model.specs.Opening.{IsAnswered, new_session, first_move}
+use Rattle.model.specs.Words.{Text}
 use Rattle.model.specs.declared.messages.User.{User}
 use Rattle.model.specs.declared.contents.Content.{Content}
 use Rattle.model.specs.declared.methods.Method.{Method}
@@ -69,8 +70,20 @@ abbrev pub OfFault : Config → State → Phase → ℕ → ℕ → List Send �
 OfFault f old phase.Running c code sends notes new = Steps f old c (event.Fault c code) sends notes (to_phase (old.session c) phase.Over) new
 OfFault f old p c code sends notes new = Moves old c (faulted c (old.session c) p code) sends notes new
 
+-- an opening: there was no connection under this number, and its first eight bytes are awaited
+pub record OfOpening (f : Config) (old : State) (c : ℕ) (sends : List Send) (notes : List Note) (new : State) : Type 0 where
+  pub free : (old.session c).phase ≡ phase.Over
+  pub steps : Steps f old c (event.Open c) sends notes new_session new
+
+-- the first eight bytes: in Running, which awaits none, the broker ignores them; in any other phase the phase answers them
+abbrev pub OfFirst : Config → State → Phase → ℕ → Text → List Send → List Note → State → Type 0
+OfFirst f old phase.Running c bytes sends notes new = Steps f old c (event.First c bytes) sends notes (to_phase (old.session c) (after_sends sends)) new
+OfFirst f old p c bytes sends notes new = Moves old c (first_move c (old.session c) p bytes) sends notes new
+
 -- One event: what is sent and noted, and the state after it.
 abbrev pub Step : Config → State → Event → List Send → List Note → State → Type 0
+Step f old (event.Open c) sends notes new = OfOpening f old c sends notes new
+Step f old (event.First c bytes) sends notes new = OfFirst f old (old.session c).phase c bytes sends notes new
 Step f old (event.Running c max k) sends notes new = Steps f old c (event.Running c max k) sends notes (record running_session { channel_max = max }) new
 Step f old (event.Command c h m content) sends notes new = OfCommand f old (old.session c).phase c h m content sends notes new
 Step f old (event.TooLarge c h) sends notes new = OfLarge f old (old.session c).phase c h sends notes new

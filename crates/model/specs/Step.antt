@@ -15,6 +15,7 @@ use Rattle.model.specs.Grammar.{Ids, ids, ids_of}
 use Rattle.model.specs.Headers.{no_properties}
 use Rattle.model.specs.Codes.{code_text}
 use Rattle.model.specs.declared.topologies.Exchange.{Exchange}
+use Rattle.model.specs.declared.topologies.DeclaredQueue.{DeclaredQueue}
 use Rattle.model.specs.Message.{Message}
 use Rattle.model.specs.declared.messages.Holder.{Holder}
 use Rattle.model.specs.declared.messages.Entry.{Entry}
@@ -37,7 +38,7 @@ use Rattle.model.specs.declared.notes.Answer.TheVariants as answer
 use Rattle.model.specs.declared.notes.Way.{Way}
 use Rattle.model.specs.declared.notes.Way.TheVariants as way
 use Rattle.model.specs.declared.events.Event.{Event}
-use Rattle.model.specs.declared.events.Event.TheVariants.{Running, Command, TooLarge, Fault, Lose, Pause, Resume}
+use Rattle.model.specs.declared.events.Event.TheVariants.{Open, First, Running, Command, TooLarge, Fault, Lose, Pause, Resume}
 
 -- ---- refusals, in the order in which they are looked for
 
@@ -110,6 +111,25 @@ refusal_of_get t b ch m = or_else (refusal_in t m.queue) (refusal_of_tags ch (fi
 abbrev pub refusal_of_settling : Channel → ℕ → Bool → Option Refusal
 refusal_of_settling ch tag multiple = if is_refused tag_of tag multiple ch.outstanding then Some (Of_channel 406) else None
 
+-- the queue has a dead-letter exchange (RabbitMQ, "Dead Letter Exchanges")
+abbrev pub has_dead_letters : Option DeclaredQueue → Bool
+has_dead_letters None = false
+has_dead_letters (Some q) = is_some q.dead_letter_exchange
+
+-- what was given out from this queue goes to a dead-letter exchange where it is rejected
+abbrev pub is_dead_lettered : Topology → Outstanding → Bool
+is_dead_lettered t o = has_dead_letters (queue_named t.queues o.queue)
+
+-- dead letters are not built yet: a rejection that makes one is not implemented (own)
+abbrev pub refusal_of_dead : Topology → Option (List Outstanding) → Option Refusal
+refusal_of_dead t None = None
+refusal_of_dead t (Some gone) = if list_any (is_dead_lettered t) gone then Some (Of_connection 540) else None
+
+-- a rejection: its tag must be outstanding, and without requeue nothing that it settles may go to a dead-letter exchange
+abbrev pub refusal_of_rejection : Topology → Channel → ℕ → Bool → Bool → Option Refusal
+refusal_of_rejection t ch tag multiple requeue =
+    or_else (refusal_of_settling ch tag multiple) (if requeue then None else refusal_of_dead t (settled tag_of tag multiple ch.outstanding))
+
 -- a limit by the size of messages is not implemented
 abbrev pub refusal_of_qos : Qos → Option Refusal
 refusal_of_qos m = if m.prefetch_size == 0 then None else Some (Of_connection 540)
@@ -128,6 +148,11 @@ refusal_of t b ch (ConfirmSelect no_wait) = None
 refusal_of t b ch (BasicPublish p) = refusal_of_publish t b ch p
 refusal_of t b ch (QueuePurge m) = refusal_in t m.queue
 refusal_of t b ch (BasicQos m) = refusal_of_qos m
+refusal_of t b ch (BasicGet m) = refusal_of_get t b ch m
+refusal_of t b ch (BasicAck m) = refusal_of_settling ch m.delivery_tag m.multiple
+refusal_of t b ch (BasicReject m) = refusal_of_rejection t ch m.delivery_tag false m.requeue
+refusal_of t b ch (BasicNack m) = refusal_of_rejection t ch m.delivery_tag m.multiple m.requeue
+refusal_of t b ch (BasicRecover requeue) = refusal_of_recover requeue
 refusal_of t b ch (ChannelClose m) = None
 refusal_of t b ch ChannelCloseOk = Some (Of_connection 503)
 refusal_of t b ch (ChannelOpenOk reserved) = Some (Of_connection 503)
@@ -470,6 +495,8 @@ with_paused b c is = record b { connection = with_one b.connection c (paused is 
 
 -- One event of the broker: what is sent and noted, and the state after it.
 abbrev pub Acts : Topology → Broker → Event → List Send → List Note → Broker → Type 0
+Acts t old (Open c) sends notes new = Does sends notes new [] old
+Acts t old (First c bytes) sends notes new = Does sends notes new [] old
 Acts t old (Running c max k) sends notes new = Does sends notes new [] (opened old c max k)
 Acts t old (Command c h m content) sends notes new = OnConnection t old c h m content sends notes new (old.connection c)
 Acts t old (TooLarge c h) sends notes new = OnLarge old c h sends notes new (old.connection c)

@@ -7,6 +7,10 @@ use crate::texts::Text;
 /// A whole command of one connection.
 #[derive(Drop)]
 pub enum Command {
+    /// The first eight bytes of a connection, which stand before all frames.
+    Head {
+        bytes: [u8; 8],
+    },
     /// A method that carries no content.
     Plain {
         channel: u16,
@@ -43,6 +47,15 @@ pub enum Send {
 /// One step of the broker.
 #[derive(Drop)]
 pub enum Event {
+    /// The connection was opened, and its first eight bytes are awaited.
+    Open {
+        connection: u64,
+    },
+    /// Its first eight bytes.
+    First {
+        connection: u64,
+        bytes: [u8; 8],
+    },
     /// The connection runs from now on, with channels 1 to `channels` open.
     Running {
         connection: u64,
@@ -83,6 +96,8 @@ pub enum Event {
 /// What a run is given, one after another. Connections are numbered from 1 in the order of their openings.
 #[derive(Drop)]
 pub enum Arrival {
+    /// A connection whose first eight bytes are awaited.
+    Open,
     /// A connection that runs at once, with channels 1 to this one open.
     Ready(u8),
     /// A piece of bytes from a connection.
