@@ -43,8 +43,10 @@ abbrev pub IsLargeIgnored : Broker → ℕ → ℕ → Option Connection → Typ
 IsLargeIgnored b c h None = Unit {0}
 IsLargeIgnored b c h (Some conn) = refusal_of_large conn h (b.channel c h) ≡ step.Ignored
 
--- an event that wants no memory: a loss, a pause and its end, and what is ignored
+-- an event that wants no memory: an opening, a loss, a pause and its end, and what is ignored
 abbrev pub WantsNoMemory : Topology → Broker → Event → Type 0
+WantsNoMemory t b (event.Open c) = Unit {0}
+WantsNoMemory t b (event.First c bytes) = Unit {0}
 WantsNoMemory t b (event.Running c max k) = ⊥
 WantsNoMemory t b (event.Command c h m content) = IsIgnored t b c h m (b.connection c)
 WantsNoMemory t b (event.TooLarge c h) = IsLargeIgnored b c h (b.connection c)
