@@ -2,7 +2,9 @@
 use Rattle.std.specs.Prelude.{ℕ, List, [], map, Bool, Option, slice_index_or}
 use Rattle.model.specs.Words.{Text}
 use Rattle.model.specs.Broker as seen
+use Rattle.model.specs.Settling.{kept}
 use Rattle.model.specs.declared.methods.Qos.{Qos}
+use Rattle.channel.specs.Outstanding.{tag_of}
 use Rattle.channel.specs.Deliveries.{Given, with_limit}
 use Rattle.channel.specs.declared.pending.Outstanding.{Outstanding}
 use Rattle.channel.specs.declared.consumers.Consumer.{Consumer}
@@ -22,6 +24,10 @@ nothing_given room seats = record { next_tag = 1; next_number = 1; next_name = 1
 -- the channel with the limit that a qos sets (AMQP 0-9-1, basic.qos)
 abbrev pub limited : Open → Qos → Open
 limited ch m = record ch { given = with_limit ch.given m.prefetch_count m.global }
+
+-- the channel without what this tag settles, and with so much room (AMQP 0-9-1, basic.ack)
+abbrev pub without_settled : Open → ℕ → Bool → ℕ → Open
+without_settled ch tag multiple room = record ch { given = record ch.given { outstanding = kept tag_of tag multiple ch.given.outstanding; room = room } }
 
 -- what is outstanding, where queues have these names in the order of their places
 abbrev pub outstanding_in : List Text → Outstanding → seen.Outstanding
