@@ -27,10 +27,10 @@ ghost use Rattle.model.specs.Words.{Text as Name};
 ghost use Rattle.model.specs.Broker.{new_channel};
 ghost use Rattle.model.specs.Step.{started, next_of};
 ghost use Rattle.model.specs.declared.methods.Qos.{Qos as Limit};
-ghost use Rattle.channel.specs.Open.{Open, open_in, limited};
-ghost use Rattle.broker.specs.Links.{CanCount, IsSet};
+ghost use Rattle.channel.specs.Open.{Open, open_in, limited, without_settled};
+ghost use Rattle.broker.specs.Links.{CanCount, IsSet, room_in};
 
-use channel::Channel;
+use channel::{Channel, Outstanding};
 use model::Qos;
 use std::alloc::{AllocError, Global};
 use std::collections::HashMap;
@@ -94,6 +94,15 @@ fn limit_in(slot: &mut Option<Channel>, qos: &Qos)
     }
 }
 
+/// What this tag settles is no longer outstanding on this channel.
+fn forget_in(slot: &mut Option<Channel>, tag: u64, multiple: bool)
+    ensures { (ch : Open) → slot.old ≡ Some ch → slot.new ≡ Some (without_settled ch tag multiple (room_in slot.new)) }
+{
+    if let Some(channel) = slot {
+        channel.forget(tag, multiple);
+    }
+}
+
 /// The same of the channel of this number.
 fn select_at(channels: &mut [Option<Channel>], number: u16)
     ensures { (ch : Open) → slice_index_or channels.old number None ≡ Some ch → IsSet channels.old number (Some (record ch { confirm = started ch.confirm })) channels.new }
@@ -125,6 +134,16 @@ fn limit_at(channels: &mut [Option<Channel>], number: u16, qos: &Qos)
     }
 }
 
+/// The same of the channel of this number.
+fn forget_at(channels: &mut [Option<Channel>], number: u16, tag: u64, multiple: bool)
+    ensures { (ch : Open) → slice_index_or channels.old number None ≡ Some ch → IsSet channels.old number (Some (without_settled ch tag multiple (room_in (slice_index_or channels.new number None)))) channels.new }
+{
+    let at = number as usize;
+    if at < channels.len() {
+        forget_in(&mut channels[at], tag, multiple);
+    }
+}
+
 /// This stands at the channel of this number from now on.
 fn put_at(channels: &mut [Option<Channel>], number: u16, channel: Option<Channel>)
     requires { IsSome (slice_index_or channels.old number None) }
@@ -142,8 +161,10 @@ impl Link {
     ghost use Rattle.model.specs.Words.{Text as Name};
     ghost use Rattle.model.specs.Step.{started, next_of, channels_up_to};
     ghost use Rattle.model.specs.declared.methods.Qos.{Qos as Limit};
-    ghost use Rattle.channel.specs.Open.{Open, open_in, limited};
-    ghost use Rattle.broker.specs.Links.{channel_in, PutsIn, CanCount};
+    ghost use Rattle.model.specs.Settling.{settled};
+    ghost use Rattle.channel.specs.Outstanding.{tag_of};
+    ghost use Rattle.channel.specs.Open.{Open, open_in, limited, without_settled};
+    ghost use Rattle.broker.specs.Links.{channel_in, room_in, PutsIn, CanCount};
 
     /// A connection with channels 1 to `channels` open and new.
     fn new(alloc: Global, channel_max: u16, channels: u16) -> Result<Link, AllocError>
@@ -208,6 +229,23 @@ impl Link {
         limit_at(&mut self.channels, number, qos);
     }
 
+    /// What this tag settles on this channel, in tag order; none where it is refused.
+    fn settle(&self, number: u16, tag: u64, multiple: bool) -> Option<&[Outstanding]>
+        ensures { (ch : Open) → channel_in self.now number ≡ Some ch → option_map (λ s. s.now) result ≡ settled tag_of tag multiple ch.given.outstanding }
+    {
+        match self.channel(number) {
+            Some(channel) => channel.settle(tag, multiple),
+            None => None,
+        }
+    }
+
+    /// What this tag settles is no longer outstanding on this channel.
+    fn forget(&mut self, number: u16, tag: u64, multiple: bool)
+        ensures { (ch : Open) → channel_in self.old number ≡ Some ch → PutsIn self.old number (Some (without_settled ch tag multiple (room_in (channel_in self.new number)))) self.new }
+    {
+        forget_at(&mut self.channels, number, tag, multiple);
+    }
+
     /// This stands at the channel of this number from now on.
     fn put(&mut self, number: u16, channel: Option<Channel>)
         requires { IsSome (channel_in self.old number) }
@@ -254,13 +292,16 @@ impl Links {
       IfSome,
       OnOk,
       OnErr,
+      option_map,
     };
     ghost use Rattle.std.specs.Option.{option_copied};
     ghost use Rattle.model.specs.Broker.{with_one, with_row};
     ghost use Rattle.model.specs.Step.{started, next_of, paused};
     ghost use Rattle.model.specs.declared.methods.Qos.{Qos as Limit};
-    ghost use Rattle.channel.specs.Open.{Open, limited};
-    ghost use Rattle.broker.specs.Links.{link_in, connection_of, channel_of, CanCount, Puts, Opens, AreLinks};
+    ghost use Rattle.model.specs.Settling.{settled};
+    ghost use Rattle.channel.specs.Outstanding.{tag_of};
+    ghost use Rattle.channel.specs.Open.{Open, limited, without_settled};
+    ghost use Rattle.broker.specs.Links.{link_in, connection_of, channel_of, room_in, CanCount, Puts, Opens, AreLinks};
 
     /// No connection runs. It takes no memory.
     pub fn new(alloc: Global) -> Links
@@ -351,6 +392,32 @@ impl Links {
     {
         if let Some(link) = self.links.get_mut(&connection) {
             link.limit(channel, qos);
+        }
+    }
+
+    /// What this tag settles on this channel, in tag order; none where it is refused.
+    pub fn settle(
+        &self,
+        connection: u64,
+        channel: u16,
+        tag: u64,
+        multiple: bool,
+    ) -> Option<&[Outstanding]>
+        ensures { (ch : Open) → channel_of self.now connection channel ≡ Some ch → option_map (λ s. s.now) result ≡ settled tag_of tag multiple ch.given.outstanding }
+    {
+        match self.get(connection) {
+            Some(link) => link.settle(channel, tag, multiple),
+            None => None,
+        }
+    }
+
+    /// What this tag settles is no longer outstanding on this channel. It takes no memory.
+    pub fn forget(&mut self, connection: u64, channel: u16, tag: u64, multiple: bool)
+        requires { IsSome (channel_of self.old connection channel) }
+        ensures { (ch : Open) → channel_of self.old connection channel ≡ Some ch → Puts self.old connection channel (Some (without_settled ch tag multiple (room_in (channel_of self.new connection channel)))) self.new }
+    {
+        if let Some(link) = self.links.get_mut(&connection) {
+            link.forget(channel, tag, multiple);
         }
     }
 
