@@ -2,4 +2,5 @@ mod Exchanges
 mod Judging
 mod Opening
 mod Purging
+mod Settlements
 mod Stepping

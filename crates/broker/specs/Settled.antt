@@ -1,13 +1,12 @@
 -- What was given out and is settled, by the places of its queues.
-use Rattle.std.specs.Prelude.{ℕ, List, [], ◌∷◌, ◌++◌, filter, find, flat_map, not}
-use Rattle.model.specs.Entries.{is_under, is_held_as}
+use Rattle.std.specs.Prelude.{ℕ, List, [], ◌∷◌, ◌++◌, filter, find, flat_map, map, not}
+use Rattle.model.specs.Entries.{is_under, is_held_as, freed}
 use Rattle.model.specs.Deliveries.{left_note}
 use Rattle.model.specs.declared.messages.Entry.{Entry}
 use Rattle.model.specs.declared.messages.Holder.{Holder}
 use Rattle.model.specs.declared.notes.Cause.{Cause}
 use Rattle.model.specs.declared.notes.Note.{Note}
 use Rattle.exchange_graph.specs.Marks.{queue_name}
-use Rattle.queue.specs.Line.{requeued}
 use Rattle.channel.specs.declared.pending.Outstanding.{Outstanding}
 use Rattle.depot.specs.Store.{Store, queue_at, with_queue}
 
@@ -34,7 +33,7 @@ without_all c h s (o ∷ os) = without_all c h (without_one c h s o) os
 
 -- the queues with this message ready again, in its place
 abbrev pub returned_one : ℕ → ℕ → Store → Outstanding → Store
-returned_one c h s o = with_queue s o.queue (requeued (is_under (holder_of c h o)) (queue_at s o.queue))
+returned_one c h s o = with_queue s o.queue (map (freed (is_under (holder_of c h o))) (queue_at s o.queue))
 
 -- with each of these ready again
 abbrev pub returned_all : ℕ → ℕ → Store → List Outstanding → Store

@@ -3,6 +3,7 @@
 mod closing;
 mod publishing;
 mod running;
+mod settlements;
 mod settling;
 
 use crate::closes::{connection_close, connection_close_ok};
