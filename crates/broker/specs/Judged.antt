@@ -43,7 +43,7 @@ abbrev pub IsLargeIgnored : Broker → ℕ → ℕ → Option Connection → Typ
 IsLargeIgnored b c h None = Unit {0}
 IsLargeIgnored b c h (Some conn) = refusal_of_large conn h (b.channel c h) ≡ step.Ignored
 
--- an event that wants no memory: a loss, a pause and its end, and what is ignored
+-- an event that wants no memory: an opening, a loss, a pause and its end, and what is ignored
 abbrev pub WantsNoMemory : Topology → Broker → Event → Type 0
 WantsNoMemory t b (event.Open c) = Unit {0}
 WantsNoMemory t b (event.First c bytes) = Unit {0}
