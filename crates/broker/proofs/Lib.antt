@@ -3,4 +3,5 @@ mod Judging
 mod Opening
 mod Purging
 mod Settlements
+mod Settling
 mod Stepping
