@@ -1,5 +1,5 @@
 -- What a settlement leaves, as the model's state.
-use Rattle.std.proofs.Common.{◌≡◌, ◌<◌, ◌≤◌, ℕ, List, [], ◌∷◌, ◌++◌, Bool, true, false, refl, sym, ap, subst, ◌∙◌, map, length, get_or, arith, Option, Some, None}
+use Rattle.std.proofs.Common.{◌≡◌, ◌<◌, ◌≤◌, ℕ, List, [], ◌∷◌, ◌++◌, Bool, true, false, refl, sym, ap, subst, ◌∙◌, map, filter, length, get_or, arith, Option, Some, None}
 use Rattle.std.specs.Prelude.{option_map, is_some, ◌==◌, ◌&&◌, if◌then◌else◌}
 use Rattle.std.proofs.Math.ListN as numbered
 use Rattle.std.proofs.lemmas.Bool.{false≢true}
@@ -10,7 +10,7 @@ use Rattle.model.specs.Topology.{Topology, queue_names}
 use Rattle.model.specs.Broker as seen
 use Rattle.model.specs.Broker.{with_pair}
 use Rattle.model.specs.Agreement.{IsAgreed}
-use Rattle.model.specs.Settling.{Rises, is_refused, settled, kept}
+use Rattle.model.specs.Settling.{Rises, takes, is_refused, settled, kept}
 use Rattle.model.specs.Step as step
 use Rattle.model.specs.Step.{Settles, Of_channel, Refusal, channel_or_new, refusal_of_settling}
 use Rattle.model.specs.Deliveries.{Leaves, Returns, AreLeft, AreReturned}
@@ -59,7 +59,7 @@ rises_kept : (names : List Text) (os : List Outstanding) → Rises step.tag_of (
 rises_kept names os r i j d lt within =
     let e = ap step.tag_of (numbered.get_or-map (outstanding_in names) os i d) in
     let f = ap step.tag_of (numbered.get_or-map (outstanding_in names) os j d) in
-    let long = length-map (outstanding_in names) os in
+    let long = length-map os (outstanding_in names) in
     let less = r i j (outstanding_in names d) lt (omega (arith, within, long)) in
     omega (arith, e, f, less)
 
@@ -84,10 +84,21 @@ stays_placed old new c h tag room multiple ch same there put placed d k x is =
 pub not_none : (names : List Text) (tag : ℕ) (multiple : Bool) (ch : Open) → refusal_of_settling (open_in names ch) tag multiple ≡ None → settled tag_of tag multiple ch.given.outstanding ≡ None → ⊥
 not_none names tag multiple ch accepted none = go (is_refused step.tag_of tag multiple (map (outstanding_in names) ch.given.outstanding)) (is_refused tag_of tag multiple ch.given.outstanding) (refused_seen names tag multiple ch.given.outstanding) accepted none
   where
-    go : (v w : Bool) → v ≡ w → (if v then Some (Of_channel 406) else None) ≡ None → {X : Type 0} → {x : X} → (if w then None else Some x) ≡ None → ⊥
+    gone : List Outstanding
+    gone = filter (takes tag_of tag multiple) ch.given.outstanding
+
+    go : (v w : Bool) → v ≡ w → (if v then Some (Of_channel 406) else None) ≡ None → (if w then None else Some gone) ≡ None → ⊥
     go true w e f g = false≢true (sym (ap is_some f))
     go false true e f g = false≢true e
     go false false e f g = false≢true (sym (ap is_some g))
+
+-- what is accepted on the channel that is seen is accepted on the one that is kept
+pub accepted_on : (old kept : Kept) (c h tag : ℕ) (multiple : Bool) (ch : Open) → old ≡ kept → channel_of old.links c h ≡ Some ch → refusal_of_settling (channel_or_new ((broker_of kept).channel c h)) tag multiple ≡ None
+    → refusal_of_settling (open_in (names_of old) ch) tag multiple ≡ None
+accepted_on old kept c h tag multiple ch e there accepted =
+    ap (λ (o : Option Open). refusal_of_settling (channel_or_new (option_map (open_in (names_of old)) o)) tag multiple) (sym there)
+    ∙ ap (λ (k : Kept). refusal_of_settling (channel_or_new ((broker_of k).channel c h)) tag multiple) e
+    ∙ accepted
 
 -- ---- settlements
 
