@@ -17,6 +17,7 @@ pub mod Entries
 pub mod Deliveries
 pub mod Settling
 pub mod Prefetch
+pub mod Consuming
 pub mod Commands
 pub mod Codes
 pub mod Step
@@ -29,5 +30,6 @@ pub mod Arrivals
 pub mod Headline
 pub mod Consistent
 pub mod Agreement
+pub mod Naming
 pub mod Login
 pub mod Opening
