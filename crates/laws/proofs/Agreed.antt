@@ -15,7 +15,7 @@ use Rattle.model.specs.Entries.{is_under, is_held_as, by_channel, by_connection,
 use Rattle.model.specs.Settling.{Rises, is_refused, settled, kept, takes}
 use Rattle.model.specs.Prefetch.{has_tag_left}
 use Rattle.model.specs.Deliveries.{Settlement, Leaves, Returns, AreSettled, with_queue, first_ready, holder_of, after_delivery, channel_after, after_purge}
-use Rattle.model.specs.Step.{tag_of, Refusal, Ignored, Of_channel, Of_connection, Acts, Does, Makes, Gets, Settles, Performs, Refuses, Decides, OnConnection, OnLarge, IsPublish, Is, channel_or_new, channels_up_to, comes_to, empty_publish, refusal, refusal_of_large, reply, with_freed, with_channel, is_awaiting}
+use Rattle.model.specs.Step.{tag_of, Refusal, Ignored, Of_channel, Of_connection, Acts, Does, Makes, Gets, Settles, Performs, Refuses, Decides, OnConnection, OnLarge, IsPublish, IsDelivery, Is, channel_or_new, channels_up_to, comes_to, empty_publish, refusal, refusal_of_large, reply, with_freed, with_channel, is_awaiting}
 use Rattle.model.specs.Run.{empty_broker}
 use Rattle.model.specs.Agreement.{IsOutstanding, IsAgreed}
 use Rattle.model.specs.Message.{Message}
@@ -27,10 +27,10 @@ use Rattle.model.specs.declared.messages.Taker.TheVariants as taker
 use Rattle.model.specs.declared.contents.Content.{Content}
 use Rattle.model.specs.declared.events.Send.{Send}
 use Rattle.model.specs.declared.events.Event.{Event}
-use Rattle.model.specs.declared.events.Event.TheVariants.{Open, First, Running, Command, TooLarge, Fault, Lose, Pause, Resume}
+use Rattle.model.specs.declared.events.Event.TheVariants.{Open, First, Running, Command, TooLarge, Fault, Lose, Pause, Resume, Deliver}
 use Rattle.model.specs.declared.methods.Get.{Get}
 use Rattle.model.specs.declared.methods.Method.{Method}
-use Rattle.model.specs.declared.methods.Method.TheVariants.{ConnectionClose, ChannelClose, ChannelCloseOk, QueuePurge, BasicQos, BasicPublish, BasicGet, BasicAck, BasicReject, BasicNack, BasicRecover, ConfirmSelect}
+use Rattle.model.specs.declared.methods.Method.TheVariants.{ConnectionClose, ChannelClose, ChannelCloseOk, QueuePurge, BasicQos, BasicConsume, BasicCancel, BasicPublish, BasicGet, BasicAck, BasicReject, BasicNack, BasicRecover, ConfirmSelect}
 use Rattle.model.specs.declared.notes.Note.{Note}
 use Rattle.laws.specs.Agreeing.{BrokersStayAgreed}
 use Rattle.laws.proofs.Counts.{count-append, count-cons, in-append, all_in, all-append, all_each}
@@ -533,6 +533,8 @@ module _ (t : Topology) (old new : Broker) (a : IsAgreed old) where
   performs sends notes c h ChannelCloseOk content conn accepted p = ends sends notes c h (awaited conn h (old.channel c h) accepted) p
   performs sends notes c h (ConnectionClose m) content conn accepted p = goes sends _ notes c p
   performs sends notes c h (BasicQos m) content conn accepted p = limits sends _ notes c h m.prefetch_count m.global p
+  performs sends notes c h (BasicConsume m) content conn accepted p = agreed_record old new c h _ a (shrinks_same old.queue new.queue p.left.queues) p.left.channels refl refl refl
+  performs sends notes c h (BasicCancel m) content conn accepted p = agreed_record old new c h _ a (shrinks_same old.queue new.queue p.left.queues) p.left.channels refl refl refl
   performs sends notes c h (BasicGet m) content conn accepted p = gets sends notes c h m (first_ready (old.queue m.queue)) (not_awaited conn h m (old.channel c h) accepted) p
   performs sends notes c h (BasicAck m) content conn accepted p = settles_agree _ old new c h m.delivery_tag m.multiple [] sends notes a p
   performs sends notes c h (BasicReject m) content conn accepted p = settles_agree _ old new c h m.delivery_tag false [] sends notes a p
@@ -561,6 +563,13 @@ module _ (t : Topology) (old new : Broker) (a : IsAgreed old) where
       by true e = subst IsGood (same_Some new_channel ch e) good_new
       by false e = absurd (false≢true (ap is_some e))
 
+  delivers : (sends : List Send) (notes : List Note) (c : ℕ) → IsDelivery old c sends notes new → IsAgreed new
+  delivers sends notes c p =
+      let o = p.made in
+      let is : channel_or_new (old.channel c o.number) ≡ o.channel = ap channel_or_new o.taker.there in
+      delivery_agrees old new c o.number o.consumer.no_ack o.consumer.queue (taker.Consumer o.consumer.number) (ap (λ (ch : Channel). ch.is_closing) is ∙ o.taker.open_still) a
+      (subst (λ (ch : Channel). Is (after_delivery old c o.number ch o.consumer.no_ack o.consumer.queue (taker.Consumer o.consumer.number)) new) (sym is) p.makes.left)
+
   -- Each event keeps the agreement.
   pub onward : (e : Event) (sends : List Send) (notes : List Note) → Acts t old e sends notes new → IsAgreed new
   onward (Open c) sends notes p = nothing sends _ notes p
@@ -572,6 +581,7 @@ module _ (t : Topology) (old new : Broker) (a : IsAgreed old) where
   onward (Lose c) sends notes p = goes sends _ notes c p
   onward (Pause c) sends notes p = agreed_same old new a (shrinks_same old.queue new.queue p.left.queues) p.left.channels
   onward (Resume c) sends notes p = agreed_same old new a (shrinks_same old.queue new.queue p.left.queues) p.left.channels
+  onward (Deliver c) sends notes p = delivers sends notes c p
 
 -- in the empty broker nothing is held
 none_held : IsAgreed empty_broker

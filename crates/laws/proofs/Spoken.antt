@@ -77,6 +77,7 @@ read_no_header s (event.Running c max k) sends read = absurd (false≢true read)
 read_no_header s (event.Lose c) sends read = absurd (false≢true read)
 read_no_header s (event.Pause c) sends read = absurd (false≢true read)
 read_no_header s (event.Resume c) sends read = absurd (false≢true read)
+read_no_header s (event.Deliver c) sends read = absurd (false≢true read)
 
 module _ (f : Config) (old new : State) (e : Event) (sends : List Send) (notes : List Note) where
   -- what is sent to the connection of an event goes on as its phase says
