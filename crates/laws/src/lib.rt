@@ -9,7 +9,7 @@ ghost use Rattle.laws.specs.Agreeing.{BrokersStayAgreed};
 ghost use Rattle.laws.specs.Alone.{SoundForWords};
 ghost use Rattle.laws.specs.Carrying.{MessagesStayCarried, SendsAreOwn};
 ghost use Rattle.laws.specs.Consistency.{PlaysStayConsistent, WorldsStayConsistent};
-ghost use Rattle.laws.specs.Delivery.{OneReading, HeadlineHolds, TurnsKeep};
+ghost use Rattle.laws.specs.Delivery.{OneReading, HeadlineHolds, PumpsKeep, TurnsKeep};
 ghost use Rattle.laws.specs.OneStep.{EveryRunBalances, EveryRunCounts, EveryRunStays};
 ghost use Rattle.laws.specs.Promises.{AckedEnterOnce, AcksAreAcked, CausesAreShown, ForbiddenAreNotEntered, ForbiddenAreNotEnteredAtEvents, RunsKeepEvents};
 ghost use Rattle.laws.specs.Rows.{WordsOfKeys, FirstInput, FirstOutput, BadEnd, TooLargeContent, HeadlineRefuses};
@@ -122,6 +122,11 @@ pub fn one_reading()
 /// A turn keeps the promises of its own events.
 pub fn turns_keep()
     ensures { TurnsKeep }
+{}
+
+/// A pump keeps the promises of its own events.
+pub fn pumps_keep()
+    ensures { PumpsKeep }
 {}
 
 /// Certified delivery: whatever arrives, the headline holds of the outputs and the notes.

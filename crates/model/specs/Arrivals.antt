@@ -254,8 +254,8 @@ NoneCanDeliver w = (c : ℕ) → CanDeliver w.state.broker c → ⊥
 
 -- One delivery is made where any can be, and nothing is done where none can.
 pub data Pumps : World → List Happening → World → Type 0 where
-  one : {old new : World} {c : ℕ} {hs : List Happening} → Delivers old c hs new → Pumps old hs new
-  none : {old new : World} {hs : List Happening} → NoneCanDeliver old → Nothing_happens old hs new → Pumps old hs new
+  delivers : {old new : World} {c : ℕ} {hs : List Happening} → Delivers old c hs new → Pumps old hs new
+  idles : {old new : World} {hs : List Happening} → NoneCanDeliver old → Nothing_happens old hs new → Pumps old hs new
 
 -- What one arrival brings: one for a connection that is gone does nothing, nor do bytes for one that is over.
 abbrev pub Answers : World → Arrival → List Happening → World → Type 0
