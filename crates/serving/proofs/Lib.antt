@@ -1,0 +1,6 @@
+pub mod Worlds
+pub mod Turning
+pub mod Onward
+pub mod Deeds
+pub mod Apart
+pub mod Fits

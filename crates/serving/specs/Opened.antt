@@ -1,0 +1,37 @@
+-- What the single calls of a machine come to.
+use Rattle.std.specs.Prelude.{◌≡◌, ◌+◌, ℕ, List, true, false, Option, Some, None, MatchBool}
+use Rattle.model.specs.Run.{Happening, notes_of}
+use Rattle.model.specs.Commands.{running_stream, new_stream}
+use Rattle.model.specs.Arrivals.{World, Same, Waits, Rests, Turns, Opens, Loses, Takes_off, can_open, is_over, is_gone, with_heard}
+use Rattle.model.specs.declared.events.Event.TheVariants as event
+use Rattle.model.specs.declared.notes.Note.{Note}
+
+-- the connection that was opened; none where no more can be opened
+abbrev pub OpensNew : World → Option ℕ → World → Type 0
+OpensNew old None new = (can_open old ≡ false) × Same old new
+OpensNew old (Some n) new = (can_open old ≡ true) × (n ≡ new.given) × ((hs : List Happening) × Opens old (event.Open (old.given + 1)) new_stream hs new)
+
+-- the connection that was opened, running at once with channels 1 to k open; none where no more can be opened
+abbrev pub OpensReady : World → ℕ → Option ℕ → World → Type 0
+OpensReady old k None new = (can_open old ≡ false) × Same old new
+OpensReady old k (Some n) new = (can_open old ≡ true) × (n ≡ new.given) × ((hs : List Happening) × Opens old (event.Running (old.given + 1) 255 k) running_stream hs new)
+
+-- the bytes are heard, unless the connection is over
+abbrev pub Hears : World → ℕ → List ℕ → World → Type 0
+Hears old c bytes new = MatchBool (is_over old c) (Same old new) (new ≡ with_heard old c bytes)
+
+-- one command or fault was performed, with these notes
+abbrev pub Did : World → ℕ → List Note → World → Type 0
+Did old c notes new = (hs : List Happening) × (notes ≡ notes_of hs) × Turns old c hs new
+
+-- nothing is left to perform
+abbrev pub DidNothing : World → ℕ → World → Type 0
+DidNothing old c new = Rests old c × Waits old c new
+
+-- so many bytes of the output are taken, unless the connection is gone
+abbrev pub Takes : World → ℕ → ℕ → World → Type 0
+Takes old c n new = MatchBool (is_gone old c) (Same old new) ((hs : List Happening) × Takes_off old c n hs new)
+
+-- the connection is lost, unless it is gone
+abbrev pub IsLost : World → ℕ → World → Type 0
+IsLost old c new = MatchBool (is_gone old c) (Same old new) ((hs : List Happening) × Loses old c hs new)
