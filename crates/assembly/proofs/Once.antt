@@ -1,9 +1,14 @@
 -- A stream has one next command, or one end.
-use Rattle.std.proofs.Common.{◌≡◌, ◌==◌, ◌<◌, ◌^◌, ℕ, Bool, true, false, List, [], MatchBool, Option, Some, None, Result, Ok, Err, sym, ap, subst, refl, ◌∙◌, append-nil}
+use Rattle.std.proofs.Common.{◌≡◌, ◌==◌, ◌<◌, ◌^◌, ℕ, Bool, true, false, List, [], MatchBool, Option, Some, None, Result, Ok, Err, sym, ap, subst, refl, ◌∙◌, ◌++◌, length, take, append-nil, arith, length-append}
+use Rattle.std.proofs.Math.Seq.{take-append_seam}
+use Rattle.std.proofs.lemmas.List.{append_cancel_left}
+use Rattle.std.proofs.lemmas.Bool.{false≢true}
+use Rattle.model.specs.Words.{Text}
 use Rattle.model.specs.Frames.{Frame, Begins, IsBroken}
-use Rattle.model.specs.Commands.{Stream, Pending, Nothing, Wants_header, Wants_body, Drops, Taken, Goes_on, Makes, Breaks, TakesOn, TakesPayload, TakesSized, is_too_large, taken_method, taken_header, taken_dropped, taken_heartbeat, is_on_wrong_channel, awaited, after_frame, Takes, Yields, now, later, Ends, short, broken, faulty, beyond}
+use Rattle.model.specs.Commands.{Stream, Pending, Nothing, Wants_header, Wants_body, Drops, Taken, Goes_on, Makes, Breaks, TakesOn, TakesPayload, TakesSized, is_too_large, taken_method, taken_header, taken_dropped, taken_heartbeat, is_on_wrong_channel, awaited, after_frame, TakesFirst, Takes, Yields, first, now, later, Ends, early, short, broken, faulty, beyond}
 use Rattle.model.specs.Headers.{Header, SaysHeader}
 use Rattle.model.specs.declared.events.Command.{Command}
+use Rattle.model.specs.declared.events.Command.TheVariants.{Head}
 use Rattle.model.specs.declared.methods.Publish.{Publish}
 use Rattle.frame.proofs.Fronts.{shows, one_front}
 use Rattle.methods.proofs.Whole.{one_method}
@@ -64,6 +69,32 @@ takes_once s a b t u below x y =
 whole_or : (s a : Stream) (t : Taken) → Takes s t a → IsBroken s.max s.unread → ⊥
 whole_or s a t x b = b.never [] x.rest x.frame (subst (λ (z : List ℕ). Begins s.max z x.frame x.rest) (sym (append-nil s.unread)) x.front)
 
+-- ---- the first eight bytes
+
+-- a stream awaits them or does not
+either : (b : Bool) → b ≡ true → b ≡ false → ⊥
+either b t f = false≢true (sym f ∙ t)
+
+front_of : (unread bytes rest : List ℕ) → unread ≡ bytes ++ rest → length bytes ≡ 8 → take 8 unread ≡ bytes
+front_of unread bytes rest e n = ap (λ (z : List ℕ). take 8 z) e ∙ ap (λ (k : ℕ). take k (bytes ++ rest)) (sym n) ∙ take-append_seam bytes rest
+
+record SameFirst (a b : Text) (x y : Stream) : Type 0 where
+  bytes : a ≡ b
+  left : x ≡ y
+
+first_once : (s x y : Stream) (a b : Text) → TakesFirst s a x → TakesFirst s b y → SameFirst a b x y
+first_once s x y a b t u =
+    let one : a ≡ b = sym (front_of s.unread a t.rest t.front t.size) ∙ front_of s.unread b u.rest u.front u.size in
+    let there : a ++ t.rest ≡ a ++ u.rest = sym t.front ∙ u.front ∙ ap (λ (z : List ℕ). z ++ u.rest) (sym one) in
+    let rest : t.rest ≡ u.rest = append_cancel_left a t.rest u.rest there in
+    record {
+      bytes = one;
+      left = t.left ∙ ap (λ (z : List ℕ). record s { is_new = false; unread = z }) rest ∙ sym u.left;
+    }
+
+enough : (unread bytes rest : List ℕ) → unread ≡ bytes ++ rest → length bytes ≡ 8 → length unread < 8 → ⊥
+enough unread bytes rest e n few = let l : length unread ≡ length (bytes ++ rest) = ap length e in omega (arith, l, n, few, length-append bytes rest)
+
 -- ---- effects differ
 
 abbrev IsGoing : Taken → Type 0
@@ -108,6 +139,11 @@ max_still s next t below k = subst (λ (z : Stream). z.max < 2 ^ 32) (sym k.left
 -- ---- one next
 
 pub one_command : (s a b : Stream) (c d : Command) → s.max < 2 ^ 32 → Yields s c a → Yields s d b → (c ≡ d) × (a ≡ b)
+one_command s a b c d below (first {bytes = m} t) (first {bytes = n} u) = let k = first_once s a b m n t u in (ap (λ (z : Text). Head z) k.bytes, k.left)
+one_command s a b c d below (first t) (now u) = absurd (either s.is_new t.awaited u.begun)
+one_command s a b c d below (first t) (later u y) = absurd (either s.is_new t.awaited u.begun)
+one_command s a b c d below (now t) (first u) = absurd (either s.is_new u.awaited t.begun)
+one_command s a b c d below (later t x) (first u) = absurd (either s.is_new u.awaited t.begun)
 one_command s a b c d below (now t) (now u) = let k = takes_once s a b (Makes c) (Makes d) below t u in (one_made c d k.effect, k.left)
 one_command s a b c d below (now t) (later {mid = mid} {p = p} u y) = absurd (going_making p c (sym (takes_once s a mid (Makes c) (Goes_on p) below t u).effect))
 one_command s a b c d below (later {mid = mid} {p = p} t x) (now u) = absurd (going_making p d (takes_once s mid b (Goes_on p) (Makes d) below t u).effect)
@@ -116,33 +152,49 @@ one_command s a b c d below (later {mid = mid} {p = p} t x) (later {mid = other}
     one_command mid a b c d (max_still s mid _ below t) x (subst (λ (z : Stream). Yields z d b) (sym k.left) y)
 
 pub one_of_them : (s a : Stream) (c : Command) (o : Option ℕ) → s.max < 2 ^ 32 → Yields s c a → Ends s o → ⊥
-one_of_them s a c o below (now t) (short n k) = n t.frame t.rest t.front
-one_of_them s a c o below (now t) (broken b) = whole_or s a _ t b
+one_of_them s a c o below (first {bytes = m} t) (early n few) = enough s.unread m t.rest t.front t.size few
+one_of_them s a c o below (first t) (short n m k) = either s.is_new t.awaited n
+one_of_them s a c o below (first t) (broken n b) = either s.is_new t.awaited n
+one_of_them s a c o below (first t) (faulty u) = either s.is_new t.awaited u.begun
+one_of_them s a c o below (first t) (beyond u e) = either s.is_new t.awaited u.begun
+one_of_them s a c o below (now t) (early n few) = either s.is_new n t.begun
+one_of_them s a c o below (later t x) (early n few) = either s.is_new n t.begun
+one_of_them s a c o below (now t) (short m n k) = n t.frame t.rest t.front
+one_of_them s a c o below (now t) (broken m b) = whole_or s a _ t b
 one_of_them s a c o below (now t) (faulty {next = next} {code = code} u) = making_breaking c code (takes_once s a next (Makes c) (Breaks code) below t u).effect
 one_of_them s a c o below (now t) (beyond {mid = mid} {p = p} u e) = going_making p c (sym (takes_once s a mid (Makes c) (Goes_on p) below t u).effect)
-one_of_them s a c o below (later t x) (short n k) = n t.frame t.rest t.front
-one_of_them s a c o below (later {mid = mid} t x) (broken b) = whole_or s mid _ t b
+one_of_them s a c o below (later t x) (short m n k) = n t.frame t.rest t.front
+one_of_them s a c o below (later {mid = mid} t x) (broken m b) = whole_or s mid _ t b
 one_of_them s a c o below (later {mid = mid} {p = p} t x) (faulty {next = next} {code = code} u) = going_breaking p code (takes_once s mid next (Goes_on p) (Breaks code) below t u).effect
 one_of_them s a c o below (later {mid = mid} {p = p} t x) (beyond {mid = other} {p = q} u e) =
     let k = takes_once s mid other (Goes_on p) (Goes_on q) below t u in
     one_of_them mid a c o (max_still s mid _ below t) x (subst (λ (z : Stream). Ends z o) (sym k.left) e)
 
 pub one_end : (s : Stream) (o q : Option ℕ) → s.max < 2 ^ 32 → Ends s o → Ends s q → o ≡ q
-one_end s o q below (short n k) (short n2 k2) = refl
-one_end s o q below (short n k) (broken b) = absurd (k b)
-one_end s o q below (short n k) (faulty u) = absurd (n u.frame u.rest u.front)
-one_end s o q below (short n k) (beyond u e) = absurd (n u.frame u.rest u.front)
-one_end s o q below (broken b) (short n k) = absurd (k b)
-one_end s o q below (broken b) (broken b2) = refl
-one_end s o q below (broken b) (faulty {next = next} u) = absurd (whole_or s next _ u b)
-one_end s o q below (broken b) (beyond {mid = mid} u e) = absurd (whole_or s mid _ u b)
-one_end s o q below (faulty t) (short n k) = absurd (n t.frame t.rest t.front)
-one_end s o q below (faulty {next = next} t) (broken b) = absurd (whole_or s next _ t b)
+one_end s o q below (early n few) (early m few2) = refl
+one_end s o q below (early n few) (short m a b) = refl
+one_end s o q below (early n few) (broken m b) = absurd (either s.is_new n m)
+one_end s o q below (early n few) (faulty u) = absurd (either s.is_new n u.begun)
+one_end s o q below (early n few) (beyond u e) = absurd (either s.is_new n u.begun)
+one_end s o q below (short m a b) (early n few) = refl
+one_end s o q below (broken m b) (early n few) = absurd (either s.is_new n m)
+one_end s o q below (faulty t) (early n few) = absurd (either s.is_new n t.begun)
+one_end s o q below (beyond t e) (early n few) = absurd (either s.is_new n t.begun)
+one_end s o q below (short w n k) (short w2 n2 k2) = refl
+one_end s o q below (short w n k) (broken v b) = absurd (k b)
+one_end s o q below (short w n k) (faulty u) = absurd (n u.frame u.rest u.front)
+one_end s o q below (short w n k) (beyond u e) = absurd (n u.frame u.rest u.front)
+one_end s o q below (broken w b) (short v n k) = absurd (k b)
+one_end s o q below (broken w b) (broken v b2) = refl
+one_end s o q below (broken w b) (faulty {next = next} u) = absurd (whole_or s next _ u b)
+one_end s o q below (broken w b) (beyond {mid = mid} u e) = absurd (whole_or s mid _ u b)
+one_end s o q below (faulty t) (short v n k) = absurd (n t.frame t.rest t.front)
+one_end s o q below (faulty {next = next} t) (broken v b) = absurd (whole_or s next _ t b)
 one_end s o q below (faulty {next = next} {code = code} t) (faulty {next = other} {code = last} u) =
     ap (λ (x : Taken). Some (code_of x)) (takes_once s next other (Breaks code) (Breaks last) below t u).effect
 one_end s o q below (faulty {next = next} {code = code} t) (beyond {mid = mid} {p = p} u e) = absurd (going_breaking p code (sym (takes_once s next mid (Breaks code) (Goes_on p) below t u).effect))
-one_end s o q below (beyond t e) (short n k) = absurd (n t.frame t.rest t.front)
-one_end s o q below (beyond {mid = mid} t e) (broken b) = absurd (whole_or s mid _ t b)
+one_end s o q below (beyond t e) (short v n k) = absurd (n t.frame t.rest t.front)
+one_end s o q below (beyond {mid = mid} t e) (broken v b) = absurd (whole_or s mid _ t b)
 one_end s o q below (beyond {mid = mid} {p = p} t e) (faulty {next = next} {code = code} u) = absurd (going_breaking p code (takes_once s mid next (Goes_on p) (Breaks code) below t u).effect)
 one_end s o q below (beyond {mid = mid} {p = p} t e) (beyond {mid = other} {p = r} u f) =
     let k = takes_once s mid other (Goes_on p) (Goes_on r) below t u in

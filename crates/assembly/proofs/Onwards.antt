@@ -1,25 +1,27 @@
 -- A stream goes on frame by frame.
-use Rattle.std.proofs.Common.{◌≡◌, ◌+◌, ◌≤◌, ℕ, List, ◌++◌, length, drop, Option, Some, None, Ok, Err, sym, ap, subst, refl, arith, length-append}
+use Rattle.std.proofs.Common.{◌≡◌, ◌+◌, ◌<◌, ◌≤◌, ℕ, List, ◌++◌, length, drop, true, false, Option, Some, None, Ok, Err, sym, ap, subst, refl, arith, length-append}
 use Rattle.model.specs.Broker.{with_one}
 use Rattle.model.specs.Frames.{Frame, frame_bytes, Begins, IsBroken}
-use Rattle.model.specs.Commands.{Stream, Pending, Nothing, Taken, Goes_on, Makes, Breaks, TakesOn, Takes, pending_after, Yields, now, later, Ends, short, broken, faulty, beyond, GoesOn, stays, goes}
+use Rattle.model.specs.Commands.{Stream, Pending, Nothing, Taken, Goes_on, Makes, Breaks, TakesOn, Takes, pending_after, Yields, first, now, later, Ends, early, short, broken, faulty, beyond, GoesOn, stays, goes}
 use Rattle.model.specs.declared.events.Command.{Command}
+use Rattle.model.specs.declared.events.Command.TheVariants.{Head}
 use Rattle.frame.specs.Reading.{IsUnfinished}
 use Rattle.assembly.specs.declared.faults.Fault.{Fault}
 use Rattle.assembly.specs.declared.faults.Fault.TheVariants.{Broken, Memory}
 use Rattle.assembly.specs.declared.reading.Step.{Step}
 use Rattle.assembly.specs.declared.reading.Step.TheVariants.{Ended, On, Made}
 use Rattle.assembly.specs.Taking.{DoesAt}
-use Rattle.assembly.specs.Onward.{Steps, Answers, step}
+use Rattle.assembly.specs.Onward.{Steps, Stops, Gives, Answers, step}
 
 -- what is still to come, in parts
 abbrev pub of_parts : ℕ → (ℕ → Pending) → List ℕ → Stream
-of_parts max pending unread = record { max = max; pending = pending; unread = unread }
+of_parts max pending unread = record { is_new = false; max = max; pending = pending; unread = unread }
 
 -- a frame at the front is taken
 pub takes : (max : ℕ) (old new : ℕ → Pending) (unread rest : List ℕ) (f : Frame) (t : Taken) → Begins max unread f rest → TakesOn (old f.channel) f t
     → new ≡ with_one old f.channel (pending_after t) → Takes (of_parts max old unread) t (of_parts max new rest)
 takes max old new unread rest f t b e same = record {
+  begun = refl;
   frame = f;
   rest = rest;
   front = b;
@@ -35,11 +37,11 @@ shorter max bytes rest f b =
     omega (arith, e, e2)
 
 -- no whole frame, and no broken one
-pub ends_short : (s : Stream) → IsUnfinished s.max s.unread → Ends s None
-ends_short s u = short (λ f rest b. u.none rest f b) u.unbroken
+pub ends_short : (s : Stream) → s.is_new ≡ false → IsUnfinished s.max s.unread → Ends s None
+ends_short s begun u = short begun (λ f rest b. u.none rest f b) u.unbroken
 
-pub ends_broken : (s : Stream) (code : ℕ) → code ≡ 501 → IsBroken s.max s.unread → Ends s (Some code)
-ends_broken s code e b = subst (λ (k : ℕ). Ends s (Some k)) (sym e) (broken b)
+pub ends_broken : (s : Stream) (code : ℕ) → s.is_new ≡ false → code ≡ 501 → IsBroken s.max s.unread → Ends s (Some code)
+ends_broken s code begun e b = subst (λ (k : ℕ). Ends s (Some k)) (sym e) (broken begun b)
 
 -- one more frame behind others
 pub goes_then : {a b c : Stream} {p : Pending} → GoesOn a b → Takes b (Goes_on p) c → GoesOn a c
@@ -63,11 +65,11 @@ goes_same a b c g e = subst (λ (s : Stream). GoesOn a s) (sym e) g
 -- ---- one frame
 
 pub steps_ended : (max : ℕ) (pending : ℕ → Pending) (bytes unread : List ℕ) → bytes ≡ unread → IsUnfinished max bytes → Steps (of_parts max pending unread) (Ok Ended) (of_parts max pending unread)
-steps_ended max pending bytes unread e u = (ends_short (of_parts max pending unread) (subst (IsUnfinished max) e u), refl)
+steps_ended max pending bytes unread e u = (ends_short (of_parts max pending unread) refl (subst (IsUnfinished max) e u), refl)
 
 pub steps_broken : (max : ℕ) (pending : ℕ → Pending) (bytes unread : List ℕ) (code : ℕ) → bytes ≡ unread → (code ≡ 501) × IsBroken max bytes
     → Steps (of_parts max pending unread) (Err (Broken code)) (of_parts max pending unread)
-steps_broken max pending bytes unread code e b = (ends_broken (of_parts max pending unread) code b.0 (subst (IsBroken max) e b.1), refl)
+steps_broken max pending bytes unread code e b = (ends_broken (of_parts max pending unread) code refl b.0 (subst (IsBroken max) e b.1), refl)
 
 -- a frame was taken
 stepped : (max : ℕ) (old new : ℕ → Pending) (unread rest : List ℕ) (f : Frame) (made : Option Command) → Begins max unread f rest
@@ -116,3 +118,18 @@ answers_made old mid new s c e g l d =
 pub answers_fault : (old mid new : Stream) (e : Fault) → GoesOn old mid → Steps mid (Err e) new → Answers old (Err e) new
 answers_fault old mid new (Broken code) g s = record { same = goes_same old mid new g s.1; ends = ends_then g s.0; still = subst (λ (t : Stream). Ends t (Some code)) (sym s.1) s.0 }
 answers_fault old mid new Memory g s = goes_same old mid new g s.1
+
+-- ---- the first eight bytes
+
+pub first_given : (s : Stream) (rest bytes : List ℕ) → s.is_new ≡ true → s.unread ≡ bytes ++ rest → length bytes ≡ 8 → Gives s (Head bytes) (record s { is_new = false; unread = rest })
+first_given s rest bytes awaited e n =
+    let l : length s.unread ≡ length (bytes ++ rest) = ap length e in
+    record {
+      next = first (record { awaited = awaited; rest = rest; front = e; size = n; left = refl });
+      command = tt;
+      shorter = omega (arith, l, n, length-append bytes rest);
+    }
+
+pub first_missing : (s new : Stream) → s.is_new ≡ true → length s.unread < 8 → new ≡ s → Stops s None new
+first_missing s new awaited few e =
+    record { same = goes_same s s new stays e; ends = early awaited few; still = subst (λ (t : Stream). Ends t None) (sym e) (early awaited few) }

@@ -1,7 +1,8 @@
 -- What a stream says of its bytes holds whatever comes behind them.
 use Rattle.std.proofs.Common.{ℕ, List, ◌++◌, Option, Some, None, ap, subst, ◌∙◌, append_assoc, arith, length-append}
 use Rattle.model.specs.Frames.{Frame, frame_bytes, Begins, IsBroken}
-use Rattle.model.specs.Commands.{Stream, Pending, Taken, Goes_on, Takes, Yields, now, later, Ends, short, broken, faulty, beyond, GoesOn, stays, goes, heard}
+use Rattle.model.specs.Words.{Text}
+use Rattle.model.specs.Commands.{Stream, Pending, Taken, Goes_on, TakesFirst, Takes, Yields, first, now, later, Ends, early, short, broken, faulty, beyond, GoesOn, stays, goes, heard}
 use Rattle.model.specs.declared.events.Command.{Command}
 
 begins_still : (max : ℕ) (bytes more rest : List ℕ) (f : Frame) → Begins max bytes f rest → Begins max (bytes ++ more) f (rest ++ more)
@@ -18,6 +19,7 @@ broken_still max bytes more b = record {
 
 pub takes_still : (s next : Stream) (t : Taken) (more : List ℕ) → Takes s t next → Takes (heard s more) t (heard next more)
 takes_still s next t more k = record {
+  begun = k.begun;
   frame = k.frame;
   rest = k.rest ++ more;
   front = begins_still s.max s.unread more k.rest k.frame k.front;
@@ -25,7 +27,17 @@ takes_still s next t more k = record {
   left = ap (λ (x : Stream). heard x more) k.left;
 }
 
+first_still : (s next : Stream) (bytes : Text) (more : List ℕ) → TakesFirst s bytes next → TakesFirst (heard s more) bytes (heard next more)
+first_still s next bytes more k = record {
+  awaited = k.awaited;
+  rest = k.rest ++ more;
+  front = ap (λ (z : List ℕ). z ++ more) k.front ∙ append_assoc bytes k.rest more;
+  size = k.size;
+  left = ap (λ (x : Stream). heard x more) k.left;
+}
+
 pub yields_still : (s next : Stream) (c : Command) (more : List ℕ) → Yields s c next → Yields (heard s more) c (heard next more)
+yields_still s next c more (first t) = first (first_still s next _ more t)
 yields_still s next c more (now t) = now (takes_still s next _ more t)
 yields_still s next c more (later {mid = mid} t y) = later (takes_still s mid _ more t) (yields_still mid next c more y)
 
@@ -43,8 +55,9 @@ still_beyond s mid p None more t e = tt
 still_beyond s mid p (Some code) more t e = beyond t e
 
 still_ends : (s : Stream) (o : Option ℕ) (more : List ℕ) → Ends s o → StillEnds s more o
-still_ends s o more (short a b) = tt
-still_ends s o more (broken b) = broken (broken_still s.max s.unread more b)
+still_ends s o more (early n few) = tt
+still_ends s o more (short n a b) = tt
+still_ends s o more (broken n b) = broken n (broken_still s.max s.unread more b)
 still_ends s o more (faulty {next = next} t) = faulty (takes_still s next _ more t)
 still_ends s o more (beyond {mid = mid} {p = p} t e) = still_beyond s mid p o more (takes_still s mid _ more t) (still_ends mid o more e)
 

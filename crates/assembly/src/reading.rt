@@ -1,6 +1,6 @@
 //! Commands are read.
 
-ghost use Rattle.std.specs.Prelude.{◌≡◌, ◌≤◌};
+ghost use Rattle.std.specs.Prelude.{◌≡◌, ◌<◌, ◌≤◌, ◌++◌, false, length, MatchOption};
 ghost use Rattle.assembly.specs.Pending.{AreSpelled};
 ghost use Rattle.assembly.specs.Held.{stream};
 ghost use Rattle.assembly.specs.Onward.{Steps, Answers, step};
@@ -36,7 +36,7 @@ fn read_one(
     requires max { 4096 ≤ max }
     requires spelled { AreSpelled contents.old.items }
     ensures spelled { AreSpelled contents.new.items }
-    ensures steps { Steps (stream max contents.old.items unread.old) result (stream max contents.new.items unread.new) }
+    ensures steps { Steps (stream false max contents.old.items unread.old) result (stream false max contents.new.items unread.new) }
 {
     match read_frame(unread.bytes(), max) {
         Read::More => Ok(Step::Ended),
@@ -72,7 +72,7 @@ pub(crate) fn next_command(
     requires max { 4096 ≤ max }
     requires spelled { AreSpelled contents.old.items }
     ensures spelled { AreSpelled contents.new.items }
-    ensures answers { Answers (stream max contents.old.items unread.old) result (stream max contents.new.items unread.new) }
+    ensures answers { Answers (stream false max contents.old.items unread.old) result (stream false max contents.new.items unread.new) }
 {
     'frames: loop {
         match read_one(alloc, max, names, contents, unread) {
@@ -84,4 +84,13 @@ pub(crate) fn next_command(
             Err(fault) => return Err(fault),
         }
     }
+}
+
+/// Takes eight bytes, where so many are there.
+pub(crate) fn take_eight(unread: &mut Unread) -> Option<[u8; 8]>
+    ensures { MatchOption result ((length unread.old < 8) × (unread.new ≡ unread.old)) (λ bytes. (unread.old ≡ bytes ++ unread.new) × (length bytes ≡ 8)) }
+{
+    let bytes = *unread.bytes().first_chunk::<8>()?;
+    unread.take(8);
+    Some(bytes)
 }

@@ -1,7 +1,7 @@
 //! One connection's bytes, and the commands that they spell.
 
-ghost use Rattle.std.specs.Prelude.{◌≡◌, ◌≤◌, OnOk, OnErr, length};
-ghost use Rattle.model.specs.Commands.{running_stream, heard};
+ghost use Rattle.std.specs.Prelude.{◌≡◌, ◌≤◌, true, Ok, OnOk, OnErr, length};
+ghost use Rattle.model.specs.Commands.{new_stream, running_stream, heard, with_max};
 ghost use Rattle.assembly.specs.Held.{stream_of};
 ghost use Rattle.assembly.specs.Onward.{Answers};
 
@@ -9,7 +9,7 @@ use crate::buffers::Unread;
 use crate::contents::Pending;
 use crate::faults::Fault;
 use crate::names::Names;
-use crate::reading::next_command;
+use crate::reading::{next_command, take_eight};
 use model::Command;
 use std::alloc::{AllocError, Global};
 use std::marker::Model;
@@ -17,6 +17,8 @@ use std::marker::Model;
 /// What one connection's bytes have still to say.
 pub struct Stream {
     alloc: Global,
+    /// The first eight bytes are awaited.
+    is_new: bool,
     max: u32,
     contents: Vec<Pending>,
     unread: Unread,
@@ -28,6 +30,7 @@ impl Drop for Stream {
     fn drop(self) {
         let Stream {
             alloc: _,
+            is_new: _,
             max: _,
             contents: _,
             unread: _,
@@ -43,18 +46,34 @@ impl Model for Stream {
 
     ghost Value = { Held };
 
-    ghost view = { λ s. record { max = s.max; contents = s.contents.items; unread = s.unread } };
+    ghost view = { λ s. record { is_new = s.is_new; max = s.max; contents = s.contents.items; unread = s.unread } };
 
     ghost invariant = { λ s. (4096 ≤ s.max) × AreSpelled s.contents.items };
 }
 
 impl Stream {
+    /// The stream of a connection that was just opened: its first eight bytes are awaited, and a frame has at most 4,096
+    /// bytes.
+    pub fn new(alloc: Global) -> Stream
+        ensures { stream_of result ≡ new_stream }
+    {
+        Stream {
+            alloc,
+            is_new: true,
+            max: 4096,
+            contents: Vec::new(alloc),
+            unread: Unread::new(alloc),
+            names: Names::new(alloc),
+        }
+    }
+
     /// The stream of a connection that runs from the start: no content is begun, and a frame has at most 131,072 bytes.
     pub fn running(alloc: Global) -> Stream
         ensures { stream_of result ≡ running_stream }
     {
         Stream {
             alloc,
+            is_new: false,
             max: 131_072,
             contents: Vec::new(alloc),
             unread: Unread::new(alloc),
@@ -70,13 +89,24 @@ impl Stream {
         self.unread.put(bytes)
     }
 
-    /// Reads the next command.
+    /// From now on a frame has at most `max` bytes.
+    pub fn set_max(&mut self, max: u32)
+        requires { 4096 ≤ max }
+        ensures { stream_of self.new ≡ with_max max (stream_of self.old) }
+    {
+        self.max = max;
+    }
+
+    /// Reads the next command. The first is the first eight bytes, where they are awaited.
     ///
     /// `None` where the bytes end before one does. A fault is [`Fault::Broken`], with its reply code, and stands there for
     /// good. Where memory is refused, the same is still to come.
     pub fn next(&mut self) -> Result<Option<Command>, Fault>
         ensures { Answers (stream_of self.old) result (stream_of self.new) }
     {
+        if self.is_new {
+            return Ok(self.first());
+        }
         next_command(
             self.alloc,
             self.max,
@@ -84,6 +114,20 @@ impl Stream {
             &mut self.contents,
             &mut self.unread,
         )
+    }
+
+    /// The first eight bytes, once they are there.
+    fn first(&mut self) -> Option<Command>
+        requires { self.old.is_new ≡ true }
+        ensures { Answers (stream_of self.old) (Ok result) (stream_of self.new) }
+    {
+        match take_eight(&mut self.unread) {
+            Some(bytes) => {
+                self.is_new = false;
+                Some(Command::Head { bytes })
+            }
+            None => None,
+        }
     }
 
     /// How many bytes were fed and are not yet read.

@@ -83,9 +83,16 @@ fn put_too_large(out: &mut Answer, channel: u16) {
     out.put_number(u64::from(channel));
 }
 
+/// Appends the first eight bytes of a connection.
+fn put_head(out: &mut Answer, bytes: &[u8]) {
+    out.put("first ");
+    out.put_hex(bytes);
+}
+
 /// Appends a command as it is spelled.
 fn put_command(out: &mut Answer, command: Command) {
     match command {
+        Command::Head { bytes } => put_head(out, bytes.as_slice()),
         Command::Plain { channel, method } => put_method(out, channel, &method),
         Command::Full {
             channel,

@@ -1,4 +1,4 @@
-use Rattle.std.proofs.Common.{◌≤◌, length}
+use Rattle.std.proofs.Common.{◌≤◌, length, false}
 use Rattle.model.specs.Commands.{GoesOn}
 use Rattle.assembly.specs.Pending.{AreSpelled}
 use Rattle.assembly.specs.Held.{stream}
@@ -7,7 +7,7 @@ use Rattle.assembly.proofs.reading.next_command.Given as goal
 abbrev pub invariant-frames : goal.invariant-frames
 invariant-frames l = record {
   spelled : AreSpelled l.contents.items;
-  goes : GoesOn (stream l.max l.fn.contents.items l.fn.unread) (stream l.max l.contents.items l.unread);
+  goes : GoesOn (stream false l.max l.fn.contents.items l.fn.unread) (stream false l.max l.contents.items l.unread);
   shorter : length l.unread ≤ length l.fn.unread;
 }
 
