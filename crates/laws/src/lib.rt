@@ -13,7 +13,7 @@ ghost use Rattle.laws.specs.Delivery.{OneReading, HeadlineHolds, TurnsKeep};
 ghost use Rattle.laws.specs.OneStep.{EveryRunBalances, EveryRunCounts, EveryRunStays};
 ghost use Rattle.laws.specs.Promises.{AckedEnterOnce, AcksAreAcked, CausesAreShown, ForbiddenAreNotEntered, ForbiddenAreNotEnteredAtEvents, RunsKeepEvents};
 ghost use Rattle.laws.specs.Rows.{WordsOfKeys, FirstInput, FirstOutput, BadEnd, TooLargeContent, HeadlineRefuses};
-ghost use Rattle.laws.specs.Streams.{CuttingDoesNotMatter, FaultsStay};
+ghost use Rattle.laws.specs.Streams.{CuttingDoesNotMatter, FaultsStay, FirstBytesComeFirst};
 ghost use Rattle.model.specs.Guarantee.{Guarantee};
 ghost use Rattle.model.specs.State.{Config};
 ghost use Rattle.model.specs.Topology.{Topology};
@@ -82,6 +82,12 @@ pub fn cutting_does_not_matter()
 /// A fault of a stream stays, whatever bytes come behind it.
 pub fn faults_stay()
     ensures { FaultsStay }
+{}
+
+/// A connection that awaits its first eight bytes reads them before all else, and then, as one that awaits none, frames
+/// alone.
+pub fn first_bytes_come_first()
+    ensures { FirstBytesComeFirst }
 {}
 
 /// Whatever is done, the broker has the connections that run, knows those as paused whose output is past the bound, and
