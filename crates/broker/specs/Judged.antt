@@ -45,6 +45,8 @@ IsLargeIgnored b c h (Some conn) = refusal_of_large conn h (b.channel c h) ≡ s
 
 -- an event that wants no memory: a loss, a pause and its end, and what is ignored
 abbrev pub WantsNoMemory : Topology → Broker → Event → Type 0
+WantsNoMemory t b (event.Open c) = Unit {0}
+WantsNoMemory t b (event.First c bytes) = Unit {0}
 WantsNoMemory t b (event.Running c max k) = ⊥
 WantsNoMemory t b (event.Command c h m content) = IsIgnored t b c h m (b.connection c)
 WantsNoMemory t b (event.TooLarge c h) = IsLargeIgnored b c h (b.connection c)

@@ -177,6 +177,7 @@ impl Broker {
         ensures quiet { WantsNoMemory (topology_of self.old) (broker_of self.old) event.now → IsOk result }
     {
         match event {
+            Event::Open { .. } | Event::First { .. } => Ok(Step::nothing(alloc)),
             Event::Running {
                 connection,
                 channel_max,
