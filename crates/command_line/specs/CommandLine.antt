@@ -5,6 +5,7 @@ use Rattle.clap.specs.Words.{App, Row, Rule, Text, first_of, new_app, new_rule, 
 use Rattle.clap.specs.declared.error.Error.{Error}
 use Rattle.clap.specs.declared.error.kind.ErrorKind.TheVariants.{OutOfMemory}
 use Rattle.clap.specs.declared.builder.ArgAction.TheVariants.{Set}
+use Rattle.clap.specs.declared.builder.value_parser.ValueParser.TheVariants.{Unsigned}
 use Rattle.command_line.specs.declared.asked.Asked.{Asked}
 use Rattle.command_line.specs.declared.asked.Asked.TheVariants as asked
 
@@ -17,6 +18,14 @@ needed id = record (new_rule id) { required = true; action = Some Set }
 -- a file that may be named, by `--` and the option's name
 abbrev pub option : Text → Rule
 option id = record (new_rule id) { long = Some id; action = Some Set; value_names = 1 }
+
+-- a text that has to be given, by `--` and the option's name
+abbrev pub needed_option : Text → Rule
+needed_option id = record (option id) { required = true }
+
+-- a number that may be given, by `--` and the option's name: a decimal one below 2^64
+abbrev pub number : Text → Rule
+number id = record (option id) { parser = Some (Unsigned 0 18446744073709551615) }
 
 -- a command that looks at a definitions file and a guarantees file: its name, and `DEFS GUARANTEES`
 abbrev pub over_guarantees : Text → App
@@ -38,6 +47,14 @@ replay_over = with_rule (with_rule (new_app (codes "replay")) (needed (codes "SC
 abbrev pub replay : App
 replay = with_rule (with_rule replay_over (option (codes "guarantees"))) (option (codes "certificates"))
 
+-- `serve DEFS GUARANTEES CERTS --listen IP:PORT`
+abbrev pub serve_at : App
+serve_at = with_rule (with_rule (over_guarantees (codes "serve")) (needed (codes "CERTS"))) (needed_option (codes "listen"))
+
+-- `serve DEFS GUARANTEES CERTS --listen IP:PORT [--turns N]`
+abbrev pub serve : App
+serve = with_rule serve_at (number (codes "turns"))
+
 -- `route DEFS EXCHANGE KEY`
 abbrev pub route : App
 route = with_rule (with_rule (with_rule (new_app (codes "route")) (needed (codes "DEFS"))) (needed (codes "EXCHANGE"))) (needed (codes "KEY"))
@@ -50,9 +67,13 @@ with_subcommands name = record (new_app name) { top = record (new_app name).top 
 abbrev pub judging : App
 judging = with_subcommand (with_subcommand (with_subcommands (codes "warren")) check.top) verify.top
 
+-- and with those that run a broker
+abbrev pub running : App
+running = with_subcommand (with_subcommand judging replay.top) serve.top
+
 -- the whole program
 abbrev pub warren : App
-warren = with_subcommand (with_subcommand judging replay.top) route.top
+warren = with_subcommand running route.top
 
 -- ---- what can be asked for
 
@@ -61,6 +82,7 @@ pub data Wanted : Type 0 where
   Check : (definitions guarantees : Text) (out : Option Text) → Wanted
   Verify : (definitions guarantees certificates : Text) → Wanted
   Replay : (script : Text) (definitions guarantees certificates : Option Text) → Wanted
+  Serve : (definitions guarantees certificates listen : Text) (turns : Option Text) → Wanted
   Route : (definitions exchange key : Text) → Wanted
 
 -- what was asked for, by its texts
@@ -69,6 +91,8 @@ wanted_of (asked.Check definitions guarantees out) = Check definitions.now guara
 wanted_of (asked.Verify definitions guarantees certificates) = Verify definitions.now guarantees.now certificates.now
 wanted_of (asked.Replay script definitions guarantees certificates) =
     Replay script.now (option_map (λ file. file.now) definitions) (option_map (λ file. file.now) guarantees) (option_map (λ file. file.now) certificates)
+wanted_of (asked.Serve definitions guarantees certificates listen turns) =
+    Serve definitions.now guarantees.now certificates.now listen.now (option_map (λ n. n.now) turns)
 wanted_of (asked.Route definitions exchange key) = Route definitions.now exchange.now key.now
 
 -- what `←` means below: where one text is missing, there is no command
@@ -97,6 +121,15 @@ replay_of rows = do
   script ← first_of (codes "SCRIPT") rows
   Some (Replay script (first_of (codes "definitions") rows) (first_of (codes "guarantees") rows) (first_of (codes "certificates") rows))
 
+-- the arguments of `serve`
+abbrev pub serve_of : List Row → Option Wanted
+serve_of rows = do
+  definitions ← first_of (codes "DEFS") rows
+  guarantees ← first_of (codes "GUARANTEES") rows
+  certificates ← first_of (codes "CERTS") rows
+  listen ← first_of (codes "listen") rows
+  Some (Serve definitions guarantees certificates listen (first_of (codes "turns") rows))
+
 -- the arguments of `route`
 abbrev pub route_of : List Row → Option Wanted
 route_of rows = do
@@ -111,6 +144,7 @@ wanted_by named =
     if bytes_eq named.0 (codes "check") then check_of named.1 else
     if bytes_eq named.0 (codes "verify") then verify_of named.1 else
     if bytes_eq named.0 (codes "replay") then replay_of named.1 else
+    if bytes_eq named.0 (codes "serve") then serve_of named.1 else
     if bytes_eq named.0 (codes "route") then route_of named.1 else
     None
 

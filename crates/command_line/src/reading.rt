@@ -31,6 +31,8 @@ ghost use Rattle.command_line.specs.CommandLine.{
   check_of,
   judging,
   needed,
+  needed_option,
+  number,
   option,
   over_guarantees,
   replay,
@@ -38,6 +40,10 @@ ghost use Rattle.command_line.specs.CommandLine.{
   replay_over,
   route,
   route_of,
+  running,
+  serve,
+  serve_at,
+  serve_of,
   verify,
   verify_of,
   wanted_by,
@@ -48,7 +54,7 @@ ghost use Rattle.command_line.specs.CommandLine.{
 
 use crate::asked::Asked;
 use clap::error::ErrorKind;
-use clap::{Arg, ArgAction, ArgMatches, Command, Error};
+use clap::{Arg, ArgAction, ArgMatches, Command, Error, value_parser};
 use std::alloc::{AllocError, Global};
 use std::convert::AsStr;
 
@@ -75,6 +81,32 @@ fn option<'a>(alloc: Global, id: &'a str, help: &'a str) -> Arg<'a>
         .help(help)
         .long(id)
         .value_name("FILE")
+        .action(ArgAction::Set)
+}
+
+/// A text that has to be given, by `--` and the option's name, with what help says of it.
+fn needed_option<'a>(alloc: Global, id: &'a str, value: &'a str, help: &'a str) -> Arg<'a>
+    ensures rule { rule_of result ≡ needed_option id.entry.now }
+    ensures local { result.global ≡ false }
+{
+    Arg::new(alloc, id)
+        .help(help)
+        .long(id)
+        .value_name(value)
+        .required(true)
+        .action(ArgAction::Set)
+}
+
+/// A number that may be given, by `--` and the option's name, with what help says of it.
+fn number<'a>(alloc: Global, id: &'a str, help: &'a str) -> Arg<'a>
+    ensures rule { rule_of result ≡ number id.entry.now }
+    ensures local { result.global ≡ false }
+{
+    Arg::new(alloc, id)
+        .help(help)
+        .long(id)
+        .value_name("N")
+        .value_parser(value_parser!(u64))
         .action(ArgAction::Set)
 }
 
@@ -146,6 +178,45 @@ fn verify_command<'a>(alloc: Global) -> Result<Command<'a>, AllocError>
         "The certificates file, a certificate for each guarantee in the same order",
     );
     with_argument(command, certificates)
+}
+
+/// `serve DEFS GUARANTEES CERTS --listen IP:PORT`.
+fn serve_at<'a>(alloc: Global) -> Result<Command<'a>, AllocError>
+    ensures app { IfOk result (λ c. app_of c ≡ serve_at) }
+    ensures local { IfOk result (λ c. (fields_of c).has_globals ≡ false) }
+{
+    let command = over_guarantees(
+        alloc,
+        "serve",
+        "Serves clients under guarantees that are shown by their certificates",
+    )?;
+    let certificates = needed(
+        alloc,
+        "CERTS",
+        "The certificates file, a certificate for each guarantee in the same order",
+    );
+    let command = with_argument(command, certificates)?;
+    let listen = needed_option(
+        alloc,
+        "listen",
+        "IP:PORT",
+        "The address at which clients connect",
+    );
+    with_argument(command, listen)
+}
+
+/// `serve DEFS GUARANTEES CERTS --listen IP:PORT [--turns N]`.
+fn serve_command<'a>(alloc: Global) -> Result<Command<'a>, AllocError>
+    ensures app { IfOk result (λ c. app_of c ≡ serve) }
+    ensures local { IfOk result (λ c. (fields_of c).has_globals ≡ false) }
+{
+    let command = serve_at(alloc)?;
+    let turns = number(
+        alloc,
+        "turns",
+        "How many turns to serve; without it, until the process is ended",
+    );
+    with_argument(command, turns)
 }
 
 /// `replay SCRIPT [--definitions FILE]`.
@@ -233,12 +304,20 @@ fn with_judging<'a>(alloc: Global) -> Result<Command<'a>, AllocError>
     with_command(warren, verify_command(alloc)?)
 }
 
+/// The program with these and the commands that run a broker.
+fn with_running<'a>(alloc: Global) -> Result<Command<'a>, AllocError>
+    ensures { IfOk result (λ c. app_of c ≡ running) }
+{
+    let warren = with_judging(alloc)?;
+    let warren = with_command(warren, replay_command(alloc)?)?;
+    with_command(warren, serve_command(alloc)?)
+}
+
 /// The program with its subcommands.
 fn warren_command<'a>(alloc: Global) -> Result<Command<'a>, AllocError>
     ensures { IfOk result (λ c. app_of c ≡ warren) }
 {
-    let warren = with_judging(alloc)?;
-    let warren = with_command(warren, replay_command(alloc)?)?;
+    let warren = with_running(alloc)?;
     with_command(warren, route_command(alloc)?)
 }
 
@@ -289,6 +368,23 @@ fn replay<'a>(given: &ArgMatches<'a>) -> Option<Asked<'a>>
     })
 }
 
+/// What the arguments of `serve` ask for.
+fn serve<'a>(given: &ArgMatches<'a>) -> Option<Asked<'a>>
+    ensures { option_map wanted_of result ≡ serve_of (rows_of (found_of given.now)) }
+{
+    let definitions = text_of(given, "DEFS")?;
+    let guarantees = text_of(given, "GUARANTEES")?;
+    let certificates = text_of(given, "CERTS")?;
+    let listen = text_of(given, "listen")?;
+    Some(Asked::Serve {
+        definitions,
+        guarantees,
+        certificates,
+        listen,
+        turns: text_of(given, "turns"),
+    })
+}
+
 /// What the arguments of `route` ask for.
 fn route<'a>(given: &ArgMatches<'a>) -> Option<Asked<'a>>
     ensures { option_map wanted_of result ≡ route_of (rows_of (found_of given.now)) }
@@ -311,6 +407,7 @@ fn named<'a>(name: &str, given: &ArgMatches<'a>) -> Option<Asked<'a>>
         "check" => check(given),
         "verify" => verify(given),
         "replay" => replay(given),
+        "serve" => serve(given),
         "route" => route(given),
         _ => None,
     }

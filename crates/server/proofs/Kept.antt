@@ -10,15 +10,15 @@ use Rattle.certificate.specs.Certified.{FailsFirst}
 use Rattle.definitions.specs.Reads.{Stated}
 use Rattle.guarantee_search.specs.declared.verdicts.Verdict.{Verdict}
 use Rattle.server.specs.declared.refusals.Refusal.{Refusal}
-use Rattle.server.specs.declared.refusals.Refusal.TheVariants.{Line, Refused, TooLong, Unread, Unwritten, NoExchange, Certificate as OfCertificate, Memory}
-use Rattle.command_line.specs.CommandLine.{Wanted, Check}
+use Rattle.server.specs.declared.refusals.Refusal.TheVariants.{Line, Refused, TooLong, Unread, Unwritten, NoExchange, Certificate as OfCertificate, NotListening, Memory}
+use Rattle.command_line.specs.CommandLine.{Wanted, Check, Replay, Serve}
 use Rattle.named_files.specs.Files.{Known, AreKept}
-use Rattle.named_files.specs.Stated.{SetsUp, FailsToCertify, IsWhyUncertified}
+use Rattle.named_files.specs.Stated.{SetsUp, FailsToSetUp, FailsToCertify, IsWhyUncertified}
 use Rattle.named_files.proofs.Kept.{kept_then, kept_but_then, why_kept}
 use Rattle.verdicts.specs.Verdicts.{AreFound, status_of_verdicts}
 use Rattle.named_files.specs.declared.refusals.Refusal.{Refusal as FileRefusal}
 use Rattle.server.specs.Refusals.{of_refused, IsOfFile}
-use Rattle.server.specs.Program.{unwritten, wanting, IsNotAnswered, AreLeft, IsUnfiled, IsFiled, WritesOut, unnamed, doubtful, filed}
+use Rattle.server.specs.Program.{Fails, RunsOver, replays, serves, unset, uncertified, unwritten, wanting, IsNotAnswered, AreLeft, IsUnfiled, IsFiled, WritesOut, unnamed, doubtful, filed}
 
 -- ---- files
 
@@ -31,6 +31,7 @@ left_of_kept before after file Unread h = h
 left_of_kept before after file Unwritten h = λ name other. h name
 left_of_kept before after file NoExchange h = h
 left_of_kept before after file (OfCertificate n fault) h = h
+left_of_kept before after file NotListening h = h
 left_of_kept before after file Memory h = h
 
 -- the refusal of a file, as the command tells it
@@ -42,6 +43,20 @@ told_as IsRefused file told cause why same is h = (cause, is, subst (λ (name : 
 pub told_uncertified : (a b : Text → Known) (named : Option Text) (file told : Text) (cause : FileRefusal) (why : Refusal) → AreKept a b
     → told ≡ file → why ≡ of_refused cause → FailsToCertify b named file cause → IsOfFile (FailsToCertify a named) told why
 told_uncertified a b named file told cause why k same is h = told_as (FailsToCertify a named) file told cause why same is (why_kept a b IsWhyUncertified named file cause k h)
+
+-- ---- brokers
+
+-- what is not set up, nothing runs over
+pub unset_over : (holds : Text → Known) (wanted : Wanted) (d g c : Option Text) (file : Text) (why : Refusal) → RunsOver wanted d g c
+    → IsOfFile (FailsToSetUp holds d g) file why → Fails holds wanted file why
+unset_over holds wanted d g c file why replays h = unset h
+unset_over holds wanted d g c file why serves h = unset h
+
+-- nor over what has no certificates
+pub uncertified_over : (holds : Text → Known) (wanted : Wanted) (d g c : Option Text) (file : Text) (why : Refusal) (stated : Stated) (gs : List Guarantee) → RunsOver wanted d g c
+    → SetsUp holds d g stated gs → IsOfFile (FailsToCertify holds c) file why → Fails holds wanted file why
+uncertified_over holds wanted d g c file why stated gs replays s h = uncertified stated gs s h
+uncertified_over holds wanted d g c file why stated gs serves s h = uncertified stated gs s h
 
 -- ---- guarantees
 
@@ -73,6 +88,7 @@ unfiled a b c d g out file Unread stated gs vs s f o z k h = absurd h.0
 unfiled a b c d g out file Unwritten stated gs vs s f o z k h = (rw o (unwritten stated gs vs s f z), kept_but_then file a b c k h.1)
 unfiled a b c d g out file NoExchange stated gs vs s f o z k h = absurd h.0
 unfiled a b c d g out file (OfCertificate n fault) stated gs vs s f o z k h = absurd h.0
+unfiled a b c d g out file NotListening stated gs vs s f o z k h = absurd h.0
 unfiled a b c d g out file Memory stated gs vs s f o z k h = (wanting, kept_then a b c k h.1)
 
 -- memory was wanting

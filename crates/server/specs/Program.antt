@@ -3,7 +3,7 @@ use Rattle.std.specs.Prelude.{◌≡◌, ◌+◌, ◌⊎◌, ◌++◌, ◌≤◌
 use Rattle.model.specs.Words.{Text}
 use Rattle.model.specs.Topology.{Topology}
 use Rattle.model.specs.State.{Config}
-use Rattle.model.specs.Arrivals.{Seen}
+use Rattle.model.specs.Arrivals.{Seen, World, new_world}
 use Rattle.model.specs.Guarantee.{Guarantee}
 use Rattle.model.specs.Certificates.{Certificate as Shown}
 use Rattle.model.specs.declared.events.Arrival.{Arrival}
@@ -15,9 +15,9 @@ use Rattle.certificate_files.specs.Reads.{IsFile}
 use Rattle.certificate.specs.Certified.{AreCertified, FailsFirst}
 use Rattle.guarantee_search.specs.declared.verdicts.Verdict.{Verdict}
 use Rattle.engine.specs.Certified.{IsCertified}
-use Rattle.command_line.specs.CommandLine.{Wanted, Check, Verify, Replay, Route, AsksFor, AsksNothing}
+use Rattle.command_line.specs.CommandLine.{Wanted, Check, Verify, Replay, Serve, Route, AsksFor, AsksNothing}
 use Rattle.server.specs.declared.refusals.Refusal.{Refusal}
-use Rattle.server.specs.declared.refusals.Refusal.TheVariants.{Line, Refused, TooLong, Unread, Unwritten, NoExchange, Certificate, Memory}
+use Rattle.server.specs.declared.refusals.Refusal.TheVariants.{Line, Refused, TooLong, Unread, Unwritten, NoExchange, Certificate, NotListening, Memory}
 use Rattle.server.specs.Refusals.{IsOfFile}
 use Rattle.scripts.specs.Script.{script}
 use Rattle.scripts.specs.Transcript.{transcript_text}
@@ -43,6 +43,11 @@ pub record IsInForce (holds : Text → Known) (definitions guarantees certificat
   pub certifies : CertifiesAt holds certificates shown
   pub certified : AreCertified stated.topology promised shown
   pub is : force ≡ force_of stated promised
+
+-- a broker that was just started over these files: what is in force by them is, and no connection was opened
+abbrev pub IsStarted : (Text → Known) → Text → Text → Text → World → Type 0
+IsStarted holds definitions guarantees certificates world =
+    (force : Config) × IsInForce holds (Some definitions) (Some guarantees) (Some certificates) force × (world ≡ new_world force)
 
 -- ---- what is printed
 
@@ -85,6 +90,7 @@ AreLeft before after file Unread = AreKept before after
 AreLeft before after file Unwritten = AreKeptBut file before after
 AreLeft before after file NoExchange = AreKept before after
 AreLeft before after file (Certificate n fault) = AreKept before after
+AreLeft before after file NotListening = AreKept before after
 AreLeft before after file Memory = AreKept before after
 
 -- why certificates are not written: the write failed, their file would be too long, or memory was wanting
@@ -96,6 +102,7 @@ IsUnwritten Unread = ⊥
 IsUnwritten Unwritten = ⊤
 IsUnwritten NoExchange = ⊥
 IsUnwritten (Certificate n fault) = ⊥
+IsUnwritten NotListening = ⊥
 IsUnwritten Memory = ⊤
 
 -- .. and then no file is known to have changed but the one that could not be written
@@ -125,6 +132,10 @@ out_of_memory = codes "warren: memory\n"
 abbrev pub no_exchange : Text
 no_exchange = codes "warren: no exchange\n"
 
+-- what tells that no client can come
+abbrev pub not_listening : Text
+not_listening = codes "warren: cannot listen\n"
+
 -- what tells of a refusal
 abbrev pub message : Text → Refusal → Text
 message file (Line n) = told file (codes "line " ++ decimal n)
@@ -134,9 +145,10 @@ message file Unread = told file (codes "cannot read")
 message file Unwritten = told file (codes "cannot write")
 message file NoExchange = no_exchange
 message file (Certificate n fault) = codes "warren: certificate " ++ (decimal n ++ (codes ": fault " ++ (decimal fault ++ 10 ∷ [])))
+message file NotListening = not_listening
 message file Memory = out_of_memory
 
--- the exit status: 3 for a file or a certificate that is refused, or an exchange that is not there, 4 for memory, input or output
+-- the exit status: 3 for a file or a certificate that is refused, or an exchange that is not there, 4 for memory, input or output, sockets among them
 abbrev pub status_of : Refusal → ℕ
 status_of (Line n) = 3
 status_of (Refused n) = 3
@@ -145,6 +157,7 @@ status_of Unread = 4
 status_of Unwritten = 4
 status_of NoExchange = 3
 status_of (Certificate n fault) = 3
+status_of NotListening = 4
 status_of Memory = 4
 
 -- Why a script of which this is known is not replayed: its first line at fault, its length, or that it cannot be read.
@@ -156,6 +169,7 @@ IsWhy Unread known = IsClosed known
 IsWhy Unwritten known = ⊥
 IsWhy NoExchange known = ⊥
 IsWhy (Certificate n fault) known = ⊥
+IsWhy NotListening known = ⊥
 IsWhy Memory known = ⊤
 
 -- the same of a script that was read
@@ -173,6 +187,7 @@ IsWhyUnadmitted t gs cs Unread = ⊥
 IsWhyUnadmitted t gs cs Unwritten = ⊥
 IsWhyUnadmitted t gs cs NoExchange = ⊥
 IsWhyUnadmitted t gs cs (Certificate n k) = (fault : CertFault) × (place : ℕ) × (n ≡ place + 1) × (k ≡ fault_number fault) × FailsFirst t gs cs place fault
+IsWhyUnadmitted t gs cs NotListening = ⊥
 IsWhyUnadmitted t gs cs Memory = ⊤
 
 -- ---- what a command answers
@@ -207,11 +222,12 @@ pub record IsRouted (holds : Text → Known) (definitions exchange key text : Te
   pub listed : ListsFile (holds definitions) exchange key (Some text)
   pub good : status ≡ 0
 
--- What a command prints, the status that it leaves, and the files before and after it.
+-- What a command prints, the status that it leaves, and the files before and after it. One that serves prints nothing here.
 abbrev pub IsAnswered : (Text → Known) → (Text → Known) → Wanted → Text → ℕ → Type 0
 IsAnswered before after (Check definitions guarantees out) text status = IsJudged before after definitions guarantees out text status
 IsAnswered before after (Verify definitions guarantees certificates) text status = IsVerified before definitions guarantees certificates text status × AreKept before after
 IsAnswered before after (Replay script definitions guarantees certificates) text status = IsReplayed before script definitions guarantees certificates text status × AreKept before after
+IsAnswered before after (Serve definitions guarantees certificates listen turns) text status = ⊥
 IsAnswered before after (Route definitions exchange key) text status = IsRouted before definitions exchange key text status × AreKept before after
 
 -- the definitions file that a command names
@@ -219,6 +235,7 @@ abbrev pub definitions_of : Wanted → Option Text
 definitions_of (Check definitions guarantees out) = Some definitions
 definitions_of (Verify definitions guarantees certificates) = Some definitions
 definitions_of (Replay script definitions guarantees certificates) = definitions
+definitions_of (Serve definitions guarantees certificates listen turns) = Some definitions
 definitions_of (Route definitions exchange key) = Some definitions
 
 -- the guarantees file that it names
@@ -226,6 +243,7 @@ abbrev pub guarantees_of : Wanted → Option Text
 guarantees_of (Check definitions guarantees out) = Some guarantees
 guarantees_of (Verify definitions guarantees certificates) = Some guarantees
 guarantees_of (Replay script definitions guarantees certificates) = guarantees
+guarantees_of (Serve definitions guarantees certificates listen turns) = Some guarantees
 guarantees_of (Route definitions exchange key) = None
 
 -- the certificates file that it reads
@@ -233,7 +251,14 @@ abbrev pub certificates_of : Wanted → Option Text
 certificates_of (Check definitions guarantees out) = None
 certificates_of (Verify definitions guarantees certificates) = Some certificates
 certificates_of (Replay script definitions guarantees certificates) = certificates
+certificates_of (Serve definitions guarantees certificates listen turns) = Some certificates
 certificates_of (Route definitions exchange key) = None
+
+-- The commands that run a broker, and the files over which they do.
+pub data RunsOver : Wanted → (definitions guarantees certificates : Option Text) → Type 0 where
+  replays : {script : Text} {definitions guarantees certificates : Option Text} → RunsOver (Replay script definitions guarantees certificates) definitions guarantees certificates
+  serves : {definitions guarantees certificates listen : Text} {turns : Option Text}
+      → RunsOver (Serve definitions guarantees certificates listen turns) (Some definitions) (Some guarantees) (Some certificates)
 
 -- Why a command prints nothing, and the file of which this is told. The files are judged in this order.
 pub data Fails (holds : Text → Known) : Wanted → Text → Refusal → Type 0 where
@@ -243,9 +268,9 @@ pub data Fails (holds : Text → Known) : Wanted → Text → Refusal → Type 0
   uncertified : {wanted : Wanted} {file : Text} {why : Refusal} (stated : Stated) (gs : List Guarantee) → SetsUp holds (definitions_of wanted) (guarantees_of wanted) stated gs
       → IsOfFile (FailsToCertify holds (certificates_of wanted)) file why → Fails holds wanted file why
   -- a certificate is not accepted for its guarantee, or one of them has no partner
-  unadmitted : {script file : Text} {definitions guarantees certificates : Option Text} (stated : Stated) (gs : List Guarantee) (cs : List Shown) (why : Refusal)
-      → SetsUp holds definitions guarantees stated gs → CertifiesAt holds certificates cs → IsWhyUnadmitted stated.topology gs cs why
-      → Fails holds (Replay script definitions guarantees certificates) file why
+  unadmitted : {wanted : Wanted} {file : Text} {definitions guarantees certificates : Option Text} (stated : Stated) (gs : List Guarantee) (cs : List Shown) (why : Refusal)
+      → RunsOver wanted definitions guarantees certificates → SetsUp holds definitions guarantees stated gs → CertifiesAt holds certificates cs
+      → IsWhyUnadmitted stated.topology gs cs why → Fails holds wanted file why
   -- the script is refused, over what is in force
   unplayed : {script : Text} {definitions guarantees certificates : Option Text} (force : Config) (why : Refusal) → IsInForce holds definitions guarantees certificates force
       → IsWhy why (holds script) → Fails holds (Replay script definitions guarantees certificates) script why
@@ -255,6 +280,8 @@ pub data Fails (holds : Text → Known) : Wanted → Text → Refusal → Type 0
       → Fails holds (Check definitions guarantees (Some file)) file Unwritten
   -- the exchange is not there
   unrouted : {file exchange key : Text} → ListsFile (holds file) exchange key None → Fails holds (Route file exchange key) file NoExchange
+  -- this call opens no socket
+  unheard : {definitions guarantees certificates listen file : Text} {turns : Option Text} → Fails holds (Serve definitions guarantees certificates listen turns) file NotListening
   -- memory was wanting
   wanting : {wanted : Wanted} {file : Text} → Fails holds wanted file Memory
 

@@ -134,7 +134,7 @@ fn route<'a, F: Files>(
     }
 }
 
-/// What a command answers, or why it prints nothing.
+/// What a command answers, or why it prints nothing. To serve takes sockets, of which this has none.
 pub fn answer<'a, F: Files>(
     alloc: Global,
     asked: Asked<'a>,
@@ -168,6 +168,10 @@ pub fn answer<'a, F: Files>(
             },
             files,
         ),
+        Asked::Serve { .. } => Err(Told {
+            file: "",
+            why: Refusal::NotListening,
+        }),
         Asked::Route {
             definitions,
             exchange,
@@ -191,7 +195,7 @@ fn refuse_words<E: Write>(err: &mut E, error: &Error) -> u8
 /// The first word is the program's name. 0 is good; 1 is a guarantee that is broken, or a certificate that is not
 /// accepted by `verify`; 2 is a guarantee that is not decided, where none is broken; 3 is a refused file, certificate or
 /// command line, or an exchange that is not there; 4 is want of memory, or input or output that failed. What a command
-/// prints goes to `out`, what is refused to `err`.
+/// prints goes to `out`, what is refused to `err`. It has no sockets, so `serve` is answered as where it cannot listen.
 pub fn program<S: AsStr, F: Files, O: Write, E: Write>(
     alloc: Global,
     words: &[S],

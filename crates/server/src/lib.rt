@@ -6,10 +6,12 @@ mod filing;
 mod refusals;
 mod replaying;
 mod routes;
+mod starting;
 mod streams;
 
 pub use commands::program;
 pub use named_files::{Files, Unread, Unwritten};
-pub use refusals::Refusal;
+pub use refusals::{Refusal, Told, refuse_memory, tell};
 pub use replaying::replayed;
 pub use routes::routed;
+pub use starting::started;

@@ -16,6 +16,9 @@ const OUT_OF_MEMORY: &str = "warren: memory\n";
 /// What tells that an exchange is not there.
 const NO_EXCHANGE: &str = "warren: no exchange\n";
 
+/// What tells that no client can come.
+const NOT_LISTENING: &str = "warren: cannot listen\n";
+
 /// Why a command is not done.
 #[derive(Clone, Copy, PartialEq, Eq, Debug, Drop)]
 pub enum Refusal {
@@ -34,6 +37,8 @@ pub enum Refusal {
     /// The certificate of this number has a fault of this number, or has no guarantee, or its guarantee no certificate.
     /// Certificates count from 1.
     Certificate { number: u64, fault: u8 },
+    /// It cannot listen at the address that was given.
+    NotListening,
     /// A growth was refused.
     Memory,
 }
@@ -146,6 +151,7 @@ fn message(alloc: Global, file: &str, refusal: Refusal) -> Result<String, AllocE
         Refusal::Unwritten => file_message(alloc, file, "cannot write"),
         Refusal::NoExchange => String::from_str(alloc, NO_EXCHANGE),
         Refusal::Certificate { number, fault } => certificate_message(alloc, number, fault),
+        Refusal::NotListening => String::from_str(alloc, NOT_LISTENING),
         Refusal::Memory => String::from_str(alloc, OUT_OF_MEMORY),
     }
 }
@@ -162,6 +168,7 @@ fn status_of(refusal: Refusal) -> u8
         Refusal::Unwritten => 4,
         Refusal::NoExchange => 3,
         Refusal::Certificate { .. } => 3,
+        Refusal::NotListening => 4,
         Refusal::Memory => 4,
     }
 }

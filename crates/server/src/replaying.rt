@@ -1,8 +1,8 @@
 //! What `replay` prints.
 
-ghost use Rattle.std.specs.Prelude.{◌≡◌, ◌≤◌, List, length, MatchResult, option_map, ℕ};
+ghost use Rattle.std.specs.Prelude.{◌≡◌, ◌≤◌, length, MatchResult, option_map};
 ghost use Rattle.certificate.specs.Certified.{AreCertified};
-ghost use Rattle.command_line.specs.CommandLine.{Replay};
+ghost use Rattle.command_line.specs.CommandLine.{Replay, Wanted};
 ghost use Rattle.engine.specs.Certified.{in_force};
 ghost use Rattle.named_files.specs.Files.{AreKept};
 ghost use Rattle.verdicts.specs.Outcomes.{fault_number};
@@ -15,6 +15,7 @@ ghost use Rattle.server.specs.Program.{
   IsWhyUnadmitted,
   Prints,
   PrintsFile,
+  RunsOver,
 };
 
 use crate::refusals::{Refusal, Told, told_of};
@@ -94,7 +95,7 @@ fn admitted(
     }
 }
 
-/// The files that a replay names, but for its script.
+/// The files that a command names over which a broker runs.
 #[derive(Clone, Copy, Drop)]
 pub struct Named<'a> {
     pub definitions: Option<&'a str>,
@@ -103,12 +104,12 @@ pub struct Named<'a> {
 }
 
 /// What is in force by these files.
-fn in_force<'a, F: Files>(
+pub(crate) fn in_force<'a, F: Files>(
     alloc: Global,
     named: Named<'a>,
     files: &mut F,
 ) -> Result<(Checked, Vec<User>), Told<'a>>
-    ensures force { (script : List ℕ) → MatchResult result (λ force. IsInForce (F.holds files.old) (option_map (λ f. f.now) named.entry.definitions) (option_map (λ f. f.now) named.entry.guarantees) (option_map (λ f. f.now) named.entry.certificates) (in_force force.0 force.1.items)) (λ told. Fails (F.holds files.old) (Replay script (option_map (λ f. f.now) named.entry.definitions) (option_map (λ f. f.now) named.entry.guarantees) (option_map (λ f. f.now) named.entry.certificates)) told.file.now told.why) }
+    ensures force { (wanted : Wanted) → RunsOver wanted (option_map (λ f. f.now) named.entry.definitions) (option_map (λ f. f.now) named.entry.guarantees) (option_map (λ f. f.now) named.entry.certificates) → MatchResult result (λ force. IsInForce (F.holds files.old) (option_map (λ f. f.now) named.entry.definitions) (option_map (λ f. f.now) named.entry.guarantees) (option_map (λ f. f.now) named.entry.certificates) (in_force force.0 force.1.items)) (λ told. Fails (F.holds files.old) wanted told.file.now told.why) }
     ensures files { AreKept (F.holds files.old) (F.holds files.new) }
 {
     let Setup {

@@ -1,0 +1,40 @@
+//! What `serve` begins with.
+
+ghost use Rattle.std.specs.Prelude.{MatchResult, Option};
+ghost use Rattle.model.specs.Words.{Text};
+ghost use Rattle.command_line.specs.CommandLine.{Serve};
+ghost use Rattle.engine.specs.World.{world_of};
+ghost use Rattle.named_files.specs.Files.{AreKept};
+ghost use Rattle.server.specs.Program.{Fails, IsStarted};
+
+use crate::refusals::Told;
+use crate::replaying::{Named, in_force};
+use engine::Engine;
+use named_files::Files;
+use std::alloc::Global;
+
+/// A broker with no connection over what is in force by these files, which are judged in this order.
+pub fn started<'a, F: Files>(
+    alloc: Global,
+    definitions: &'a str,
+    guarantees: &'a str,
+    certificates: &'a str,
+    files: &mut F,
+) -> Result<Engine, Told<'a>>
+    ensures started { MatchResult result (λ e. IsStarted (F.holds files.old) definitions.now guarantees.now certificates.now (world_of e)) (λ told. (listen : Text) (turns : Option Text) → Fails (F.holds files.old) (Serve definitions.now guarantees.now certificates.now listen turns) told.file.now told.why) }
+    ensures files { AreKept (F.holds files.old) (F.holds files.new) }
+{
+    let named = Named {
+        definitions: Some(definitions),
+        guarantees: Some(guarantees),
+        certificates: Some(certificates),
+    };
+    let (checked, users) = match in_force(alloc, named, files) {
+        Ok(force) => force,
+        Err(told) => return Err(told),
+    };
+    match Engine::new(alloc, checked, users) {
+        Ok(engine) => Ok(engine),
+        Err(error) => Err(Told::from(error)),
+    }
+}
