@@ -7,3 +7,4 @@ pub mod Rows
 pub mod Consistency
 pub mod Agreeing
 pub mod Carrying
+pub mod Consumers

@@ -8,6 +8,7 @@ ghost use Rattle.std.specs.Prelude.{◌≡◌};
 ghost use Rattle.laws.specs.Agreeing.{BrokersStayAgreed};
 ghost use Rattle.laws.specs.Alone.{SoundForWords};
 ghost use Rattle.laws.specs.Carrying.{MessagesStayCarried, SendsAreOwn};
+ghost use Rattle.laws.specs.Consumers.{ConsumersStayNamed, DeliveriesAreAddressed};
 ghost use Rattle.laws.specs.Consistency.{PlaysStayConsistent, WorldsStayConsistent};
 ghost use Rattle.laws.specs.Delivery.{OneReading, HeadlineHolds, PumpsKeep, TurnsKeep};
 ghost use Rattle.laws.specs.OneStep.{EveryRunBalances, EveryRunCounts, EveryRunStays};
@@ -112,6 +113,16 @@ pub fn messages_stay_carried()
 /// What is sent at one event can be put out, and is spelled by 1,060,000 bytes at most.
 pub fn sends_can_be_put_out()
     ensures { SendsAreOwn }
+{}
+
+/// Whatever happens, the consumers of each channel take from queues that are there, under tags and numbers of their own.
+pub fn consumers_stay_named()
+    ensures { ConsumersStayNamed }
+{}
+
+/// What is delivered to a consumer has an address: its tags, its names and its key can be spelled.
+pub fn deliveries_are_addressed()
+    ensures { DeliveriesAreAddressed }
 {}
 
 /// A client reads an output in one way.
