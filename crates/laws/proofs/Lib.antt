@@ -10,6 +10,8 @@ pub mod Carried
 pub mod Sizes
 pub mod Sent
 pub mod Balance
+pub mod Parts
+pub mod Ordered
 pub mod Once
 pub mod Acks
 pub mod Never

@@ -8,3 +8,4 @@ pub mod Consistency
 pub mod Agreeing
 pub mod Carrying
 pub mod Consumers
+pub mod Order

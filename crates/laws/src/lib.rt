@@ -12,6 +12,7 @@ ghost use Rattle.laws.specs.Consumers.{ConsumersStayNamed, DeliveriesAreAddresse
 ghost use Rattle.laws.specs.Consistency.{PlaysStayConsistent, WorldsStayConsistent};
 ghost use Rattle.laws.specs.Delivery.{OneReading, HeadlineHolds, PumpsKeep, TurnsKeep};
 ghost use Rattle.laws.specs.OneStep.{EveryRunBalances, EveryRunCounts, EveryRunStays};
+ghost use Rattle.laws.specs.Order.{GivenAfterThoseAhead, GivenInOrder};
 ghost use Rattle.laws.specs.Promises.{AckedEnterOnce, AcksAreAcked, CausesAreShown, ForbiddenAreNotEntered, ForbiddenAreNotEnteredAtEvents, RunsKeepEvents};
 ghost use Rattle.laws.specs.Rows.{WordsOfKeys, FirstInput, FirstOutput, BadEnd, TooLargeContent, HeadlineRefuses};
 ghost use Rattle.laws.specs.Streams.{CuttingDoesNotMatter, FaultsStay, FirstBytesComeFirst};
@@ -123,6 +124,13 @@ pub fn consumers_stay_named()
 /// What is delivered to a consumer has an address: its tags, its names and its key can be spelled.
 pub fn deliveries_are_addressed()
     ensures { DeliveriesAreAddressed }
+{}
+
+/// In every run messages are first given out of a queue, to gets and to consumers, in the order in which they entered it, and
+/// each only after all that stand ahead of it.
+pub fn messages_are_given_in_order()
+    ensures in_order { GivenInOrder }
+    ensures ahead { GivenAfterThoseAhead }
 {}
 
 /// A client reads an output in one way.
