@@ -1,5 +1,5 @@
 -- The consumers of each channel stay named, whatever the broker does, and what is delivered to them can be addressed.
-use Rattle.std.proofs.Common.{◌≡◌, ℕ, zero, suc, ◌+◌, ◌-◌, ◌<◌, ◌≤◌, ◌⊎◌, List, [], ◌∷◌, ◌++◌, Bool, true, false, cond, refl, sym, ap, subst, ◌∙◌, filter, length, length-append, get_or, not, arith, Option, Some, None, inl, inr}
+use Rattle.std.proofs.Common.{◌≡◌, ℕ, zero, suc, ◌+◌, ◌-◌, ◌<◌, ◌≤◌, List, [], ◌∷◌, Bool, true, false, cond, refl, sym, ap, subst, ◌∙◌, filter, length, length-append, get_or, not, arith, Option, Some, None, inl, inr}
 use Rattle.std.specs.Prelude.{is_some, nat_le, nat_lt, codes, decimal, ◌==◌, ◌&&◌, ◌||◌, if◌then◌else◌}
 use Rattle.std.specs.List.{AllByRecursion, AllPairs, list_any}
 use Rattle.std.specs.Str.{bytes_eq}
@@ -11,17 +11,15 @@ use Rattle.std.proofs.lemmas.List.Quantifiers.{all_pairs_push}
 use Rattle.model.specs.Words.{Text}
 use Rattle.model.specs.Topology.{Topology, IsIn}
 use Rattle.model.specs.Grammar.{Ids, ids_of, IsMethod}
-use Rattle.model.specs.Broker.{Consumer, Channel, Connection, Broker, new_channel, queue_named, is_ready, with_one, with_pair, with_row}
+use Rattle.model.specs.Broker.{Consumer, Channel, Connection, Broker, new_channel, queue_named, is_ready, with_pair, with_row}
 use Rattle.model.specs.Entries.{by_channel}
 use Rattle.model.specs.Prefetch.{has_tag_left}
-use Rattle.model.specs.Settling.{kept}
-use Rattle.model.specs.Deliveries.{Settlement, first_ready, after_delivery}
+use Rattle.model.specs.Deliveries.{Settlement, first_ready}
 use Rattle.model.specs.Consuming.{is_tagged, is_in_use, server_tag, first_free, next_free, tag_for, is_tag_taken, is_tag_wanting, consumer_of, with_consumer, without_consumer}
-use Rattle.model.specs.Step.{tag_of, greatest, Refusal, Ignored, Of_channel, Of_connection, Acts, Does, Gets, Settles, Performs, Refuses, Decides, OnConnection, OnLarge, IsDelivery, Is, channel_or_new, channels_up_to, empty_publish, limited, or_else, refusal, refusal_of, refusal_in, refusal_of_asking, refusal_of_tag, refusal_of_many, refusal_of_numbers, refusal_of_consume, refusal_of_large, reply, with_freed, with_channel, with_gone}
-use Rattle.model.specs.Run.{empty_broker}
+use Rattle.model.specs.Step.{greatest, Refusal, Ignored, Of_channel, Of_connection, Acts, Does, Gets, Settles, Performs, Refuses, Decides, OnConnection, OnLarge, IsDelivery, channel_or_new, channels_up_to, empty_publish, or_else, refusal, refusal_of, refusal_in, refusal_of_asking, refusal_of_tag, refusal_of_many, refusal_of_consume, refusal_of_large, with_freed, with_channel}
 use Rattle.model.specs.Arrivals.{IsSaid}
 use Rattle.model.specs.Naming.{AreNamedOn, AreNamed}
-use Rattle.model.specs.Sending.{AreCarried, IsCarried, IsAddressed}
+use Rattle.model.specs.Sending.{IsCarried, IsAddressed}
 use Rattle.model.specs.declared.messages.Entry.{Entry}
 use Rattle.model.specs.declared.contents.Content.{Content}
 use Rattle.model.specs.declared.events.Send.{Send}

@@ -1,20 +1,20 @@
 -- The messages of a queue are first given out in the order in which they entered it.
 use Rattle.std.proofs.Common.{◌≡◌, ℕ, List, [], ◌∷◌, ◌++◌, Bool, true, false, cond, refl, sym, ap, subst, ◌∙◌, map, filter, length, not, append_assoc, append-nil, Option, Some, None, inl, inr}
-use Rattle.std.specs.Prelude.{find, is_some, ◌==◌, ◌&&◌, if◌then◌else◌}
+use Rattle.std.specs.Prelude.{is_some, ◌&&◌, if◌then◌else◌}
 use Rattle.std.specs.Str.{bytes_eq}
 use Rattle.std.specs.List.{AllByRecursion}
 use Rattle.std.proofs.lemmas.Bool.{false≢true}
 use Rattle.std.proofs.lemmas.Option.{same_Some}
 use Rattle.model.specs.Words.{Text}
-use Rattle.model.specs.Topology.{Topology, IsIn}
+use Rattle.model.specs.Topology.{Topology}
 use Rattle.model.specs.Grammar.{Ids, ids_of}
 use Rattle.model.specs.Broker.{Outstanding, Channel, Connection, Broker, is_ready, is_full}
 use Rattle.model.specs.Entries.{is_under, is_held_as, by_channel, by_connection, freed, held_as, change_first, without_first}
 use Rattle.model.specs.Deliveries.{Settlement, Leaves, Returns, AreSettled, AreLeft, AreReturned, with_queue, first_ready, holder_of, without_given, with_returned, after_giving, after_delivery}
 use Rattle.model.specs.Message.{Message}
 use Rattle.model.specs.Phases.{is_running}
-use Rattle.model.specs.Step.{Refusal, Ignored, Of_channel, Of_connection, Acts, Does, Makes, Gets, Settles, Performs, Refuses, Decides, OnConnection, OnLarge, IsPublish, IsDelivery, Is, channel_or_new, comes_to, content_or_none, entry_note, entry_notes, returned_notes, confirm_notes, empty_publish, message, next_of, answer_of, is_none, is_some_full, opened, refusal, refusal_of_large, reply, with_freed, with_channel}
-use Rattle.model.specs.State.{Config, State, Step}
+use Rattle.model.specs.Step.{Refusal, Ignored, Of_channel, Of_connection, Acts, Does, Gets, Settles, Performs, Refuses, Decides, OnConnection, OnLarge, IsDelivery, Is, channel_or_new, comes_to, entry_notes, empty_publish, message, opened, refusal, refusal_of_large, with_freed, with_channel}
+use Rattle.model.specs.State.{State, Step}
 use Rattle.model.specs.Run.{Happening, Run, notes_of}
 use Rattle.model.specs.declared.contents.Content.{Content}
 use Rattle.model.specs.declared.messages.Entry.{Entry}
@@ -24,22 +24,20 @@ use Rattle.model.specs.declared.messages.Taker.TheVariants as taker
 use Rattle.model.specs.declared.messages.Mark.{Mark}
 use Rattle.model.specs.declared.messages.Mark.TheVariants.{Ready, Held}
 use Rattle.model.specs.declared.methods.Get.{Get}
-use Rattle.model.specs.declared.methods.Publish.{Publish}
 use Rattle.model.specs.declared.methods.Method.{Method}
 use Rattle.model.specs.declared.methods.Method.TheVariants.{ConnectionClose, ChannelClose, ChannelCloseOk, QueuePurge, BasicQos, BasicConsume, BasicCancel, BasicPublish, BasicGet, BasicAck, BasicReject, BasicNack, BasicRecover, ConfirmSelect}
 use Rattle.model.specs.declared.events.Send.{Send}
 use Rattle.model.specs.declared.events.Event.{Event}
 use Rattle.model.specs.declared.events.Event.TheVariants.{Open, First, Running, Command, TooLarge, Fault, Lose, Pause, Resume, Deliver}
 use Rattle.model.specs.declared.notes.Cause.{Cause}
-use Rattle.model.specs.declared.notes.Answer.{Answer}
 use Rattle.model.specs.declared.notes.Way.TheVariants as way
 use Rattle.model.specs.declared.notes.Note.{Note}
-use Rattle.model.specs.declared.notes.Note.TheVariants.{Published, Entered, Refused, Returned, Confirmed}
+use Rattle.model.specs.declared.notes.Note.TheVariants.{Entered, Refused}
 use Rattle.laws.specs.Order.{GivesOut, to_get, to_consumer, FirstGiven, ended, given, passed, IsPart, empty, skips, takes, is_fresh, waiting, entered_by, entered, GivenInOrder, IsNext, GivenAfterThoseAhead}
 use Rattle.laws.proofs.Agreement.{at_own}
 use Rattle.laws.proofs.Leaving.{at_queue}
 use Rattle.laws.proofs.Parts.{itself, part_same, within, longer, front, onward}
-use Rattle.laws.proofs.View.{Publishes, connection_of, goes, Performed, Answered}
+use Rattle.laws.proofs.View.{Publishes, connection_of, goes}
 use Rattle.laws.proofs.Balance.{number, content, entry_part, answer_part, noted, answers_all}
 
 -- ---- lists of entries

@@ -1,5 +1,5 @@
 -- Parts of lists in order.
-use Rattle.std.proofs.Common.{◌≡◌, ℕ, List, [], ◌∷◌, ◌++◌, refl, sym, ap, subst, append_assoc, append-nil}
+use Rattle.std.proofs.Common.{◌≡◌, ℕ, List, [], ◌∷◌, ◌++◌, sym, subst, append_assoc, append-nil}
 use Rattle.laws.specs.Order.{IsPart, empty, skips, takes}
 
 pub itself : (xs : List ℕ) → IsPart xs xs

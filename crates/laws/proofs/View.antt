@@ -1,5 +1,5 @@
 -- The ways in which a step can go. Here alone all cases of `Step` are walked over: a new command is a new line here.
-use Rattle.std.proofs.Common.{◌≡◌, ℕ, ◌+◌, append-nil, filter, arith, ◌⊎◌, List, [], ◌∷◌, ◌++◌, Bool, true, false, cond, eqb, refl, sym, ap, subst, ◌∙◌, map, Option, Some, None, inl, inr}
+use Rattle.std.proofs.Common.{◌≡◌, ℕ, ◌+◌, append-nil, filter, arith, ◌⊎◌, List, [], ◌∷◌, ◌++◌, Bool, true, false, cond, refl, sym, ap, subst, ◌∙◌, map, Option, Some, None, inl, inr}
 use Rattle.std.specs.Prelude.{codes, count_by, ◌==◌, if◌then◌else◌}
 use Rattle.std.specs.Str.{bytes_eq}
 use Rattle.std.specs.List.{AllByRecursion}
@@ -7,22 +7,19 @@ use Rattle.std.proofs.lemmas.Bool.{eqb-true, false≢true}
 use Rattle.model.specs.Words.{Text}
 use Rattle.model.specs.Topology.{Topology, IsIn}
 use Rattle.model.specs.Broker.{Outstanding, Channel, Connection, Broker, is_ready, with_one}
-use Rattle.model.specs.Step.{Refusal, Ignored, Of_channel, Of_connection, Does, Makes, Gets, Settles, tag_of, get_ok, purge_sends, consume_sends, cancel_sends, deliver, IsDelivery, IsPublish, Performs, Refuses, Decides, OnConnection, OnLarge, Acts, empty_publish, refusal_of_large, with_channel, with_freed, reply, content_or_none, returned_sends, confirm_sends, is_some_full, next_of, answer_of, refusal, channel_or_new, opened, paused}
+use Rattle.model.specs.Step.{Refusal, Ignored, Of_channel, Of_connection, Does, Makes, Gets, Settles, tag_of, get_ok, purge_sends, consume_sends, cancel_sends, deliver, IsPublish, Performs, Refuses, Decides, OnConnection, OnLarge, Acts, empty_publish, refusal_of_large, with_channel, with_freed, reply, content_or_none, returned_sends, confirm_sends, is_some_full, next_of, answer_of, refusal, channel_or_new, opened, paused}
 use Rattle.model.specs.Entries.{freed, by_channel, by_connection, is_held_as}
 use Rattle.model.specs.Grammar.{Ids, ids_of}
-use Rattle.model.specs.Phases.{Session, Move, running_session, no_session, is_running, after_method, after_sends, stays_in, to_phase, while_closing, faulted}
+use Rattle.model.specs.Phases.{Session, Move, running_session, no_session, is_running, after_sends, stays_in, to_phase, while_closing, faulted}
 use Rattle.model.specs.Opening.{IsAnswered, Opens, new_session, first_move, start, opening_move, on_zero, or_closed, at_start, at_tune, at_open, answers_with, closes_with, is_taken, tuned, tune, open_ok}
-use Rattle.model.specs.State.{Config, State, Moves, AnswersBy, OfFirst, OfCommand, OfLarge, OfFault, Step}
+use Rattle.model.specs.State.{Config, State, Moves, OfFirst, OfCommand, OfLarge, OfFault, Step}
 use Rattle.model.specs.declared.messages.User.{User}
 use Rattle.model.specs.Run.{Happening, has_number, is_left}
 use Rattle.model.specs.Headline.{WasGiven, IsCauseIn, IsCauseAt}
 use Rattle.model.specs.Settling.{takes}
 use Rattle.model.specs.Deliveries.{Settlement, Leaves, Returns, of_rejected, AreSettled, first_ready, ready_in, holder_of, after_delivery, delivery_notes, after_purge, purge_notes}
 use Rattle.model.specs.Consuming.{CanDeliver}
-use Rattle.model.specs.Message.{Message}
 use Rattle.model.specs.declared.messages.Holder.{Holder}
-use Rattle.model.specs.declared.messages.Mark.{Mark}
-use Rattle.model.specs.declared.messages.Mark.TheVariants.{Ready, Held}
 use Rattle.model.specs.declared.messages.Entry.{Entry}
 use Rattle.model.specs.declared.contents.Content.{Content}
 use Rattle.model.specs.declared.events.Send.{Send}
