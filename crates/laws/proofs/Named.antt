@@ -39,6 +39,7 @@ use Rattle.laws.proofs.Leaving.{find_in}
 
 -- a number below the last one that is tried has a tag that is free
 first_is_free : (more : ℕ) (consumers : List Consumer) (n : ℕ) → first_free more consumers n < n + more → is_in_use (server_tag (first_free more consumers n)) consumers ≡ false
+unfolding first_free
 first_is_free zero consumers n lt = absurd (omega (arith, lt))
 first_is_free (suc more) consumers n lt = go (is_in_use (server_tag n) consumers) refl (first_is_free more consumers (n + 1)) lt
   where
@@ -49,6 +50,7 @@ first_is_free (suc more) consumers n lt = go (is_in_use (server_tag n) consumers
 
 -- one that is tried is at least the first
 first_from : (more : ℕ) (consumers : List Consumer) (n : ℕ) → n ≤ first_free more consumers n
+unfolding first_free
 first_from zero consumers n = omega arith
 first_from (suc more) consumers n = go (is_in_use (server_tag n) consumers) (first_from more consumers (n + 1))
   where

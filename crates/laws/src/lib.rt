@@ -14,7 +14,7 @@ ghost use Rattle.laws.specs.Delivery.{OneReading, HeadlineHolds, PumpsKeep, Turn
 ghost use Rattle.laws.specs.OneStep.{EveryRunBalances, EveryRunCounts, EveryRunStays};
 ghost use Rattle.laws.specs.Order.{GivenAfterThoseAhead, GivenInOrder};
 ghost use Rattle.laws.specs.Promises.{AckedEnterOnce, AcksAreAcked, CausesAreShown, ForbiddenAreNotEntered, ForbiddenAreNotEnteredAtEvents, RunsKeepEvents};
-ghost use Rattle.laws.specs.Rows.{WordsOfKeys, FirstInput, FirstOutput, BadEnd, TooLargeContent, HeadlineRefuses};
+ghost use Rattle.laws.specs.Rows.{WordsOfKeys, FirstInput, FirstOutput, BadEnd, TooLargeContent, HeadlineRefuses, FirstConsumer, RefusedConsumes};
 ghost use Rattle.laws.specs.Streams.{CuttingDoesNotMatter, FaultsStay, FirstBytesComeFirst};
 ghost use Rattle.model.specs.Guarantee.{Guarantee};
 ghost use Rattle.model.specs.State.{Config};
@@ -161,4 +161,6 @@ pub fn worked_examples()
     ensures bad_end { BadEnd }
     ensures large { TooLargeContent }
     ensures refused { HeadlineRefuses }
+    ensures consumer { FirstConsumer }
+    ensures refused_consumers { RefusedConsumes }
 {}

@@ -27,7 +27,7 @@ abbrev pub server_tag : ℕ → Text
 server_tag n = codes "amq.ctag-" ++ decimal n
 
 -- of so many numbers from this one on, the first whose tag no consumer has; the number behind them where all are in use
-abbrev pub first_free : ℕ → List Consumer → ℕ → ℕ
+unfoldable pub first_free : ℕ → List Consumer → ℕ → ℕ
 first_free zero consumers n = n
 first_free (suc more) consumers n = if is_in_use (server_tag n) consumers then first_free more consumers (n + 1) else n
 
