@@ -3,7 +3,7 @@ use Rattle.std.proofs.Common.{◌≡◌, ℕ, zero, suc, ◌+◌, ◌-◌, ◌<�
 use Rattle.std.specs.Prelude.{is_some, nat_le, nat_lt, codes, decimal, ◌==◌, ◌&&◌, ◌||◌, if◌then◌else◌}
 use Rattle.std.specs.List.{AllByRecursion, AllPairs, list_any}
 use Rattle.std.specs.Str.{bytes_eq}
-use Rattle.std.proofs.lemmas.Bool.{leb-true, leb-false, false≢true}
+use Rattle.std.proofs.lemmas.Bool.{leb-true, leb-false, ne_eqb, false≢true}
 use Rattle.std.proofs.lemmas.Option.{same_Some}
 use Rattle.std.proofs.lemmas.Fmt.{length-decimal-le}
 use Rattle.std.proofs.lemmas.List.Kept.{AllPairs-filter}
@@ -11,16 +11,19 @@ use Rattle.std.proofs.lemmas.List.Quantifiers.{all_pairs_push}
 use Rattle.model.specs.Words.{Text}
 use Rattle.model.specs.Topology.{Topology, IsIn}
 use Rattle.model.specs.Grammar.{Ids, ids_of, IsMethod}
-use Rattle.model.specs.Broker.{Consumer, Channel, Connection, Broker, new_channel, queue_named, is_ready, with_pair, with_row}
+use Rattle.model.specs.Broker.{Consumer, Outstanding, Channel, Connection, Broker, new_channel, queue_named, is_ready, with_pair, with_row}
 use Rattle.model.specs.Entries.{by_channel}
-use Rattle.model.specs.Prefetch.{has_tag_left}
-use Rattle.model.specs.Deliveries.{Settlement, first_ready}
+use Rattle.model.specs.Settling.{is_refused, kept, takes}
+use Rattle.model.specs.Prefetch.{is_to, has_tag_left}
+use Rattle.model.specs.Deliveries.{Settlement, first_ready, outstanding_after}
 use Rattle.model.specs.Consuming.{is_tagged, is_in_use, server_tag, first_free, next_free, tag_for, is_tag_taken, is_tag_wanting, consumer_of, with_consumer, without_consumer}
-use Rattle.model.specs.Step.{greatest, Refusal, Ignored, Of_channel, Of_connection, Acts, Does, Gets, Settles, Performs, Refuses, Decides, OnConnection, OnLarge, IsDelivery, channel_or_new, channels_up_to, empty_publish, or_else, refusal, refusal_of, refusal_in, refusal_of_asking, refusal_of_tag, refusal_of_many, refusal_of_consume, refusal_of_large, with_freed, with_channel}
+use Rattle.model.specs.Step.{tag_of, greatest, Refusal, Ignored, Of_channel, Of_connection, Acts, Does, Gets, Settles, Performs, Refuses, Decides, OnConnection, OnLarge, IsDelivery, channel_or_new, channels_up_to, empty_publish, or_else, refusal, refusal_of, refusal_in, refusal_of_asking, refusal_of_tag, refusal_of_many, refusal_of_consume, refusal_of_large, with_freed, with_channel}
 use Rattle.model.specs.Arrivals.{IsSaid}
-use Rattle.model.specs.Naming.{AreNamedOn, AreNamed}
+use Rattle.model.specs.Naming.{IsGivenBelow, AreNamedOn, AreNamed}
 use Rattle.model.specs.Sending.{IsCarried, IsAddressed}
 use Rattle.model.specs.declared.messages.Entry.{Entry}
+use Rattle.model.specs.declared.messages.Taker.{Taker}
+use Rattle.model.specs.declared.messages.Taker.TheVariants as taker
 use Rattle.model.specs.declared.contents.Content.{Content}
 use Rattle.model.specs.declared.events.Send.{Send}
 use Rattle.model.specs.declared.events.Event.{Event}
@@ -32,7 +35,7 @@ use Rattle.model.specs.declared.methods.Method.{Method}
 use Rattle.model.specs.declared.methods.Method.TheVariants.{ConnectionClose, ChannelClose, ChannelCloseOk, QueuePurge, BasicQos, BasicConsume, BasicCancel, BasicPublish, BasicGet, BasicAck, BasicReject, BasicNack, BasicRecover, ConfirmSelect}
 use Rattle.model.specs.declared.notes.Note.{Note}
 use Rattle.laws.specs.Consumers.{ConsumersStayNamed, DeliveriesAreAddressed}
-use Rattle.laws.proofs.Counts.{all-append, all_each, all_in, filter_all}
+use Rattle.laws.proofs.Counts.{count_none, all-append, all_each, all_in, filter_all}
 use Rattle.laws.proofs.Leaving.{find_in}
 
 -- ---- tags that are free
@@ -117,26 +120,52 @@ good_tag : (ch : Channel) (given : Text) → length given < 256 → is_tag_taken
 good_tag ch [] short free left = let lt = leb-false 18446744073709551615 (next_free ch) left in record { free = next_is_free ch lt; short = server_short (next_free ch) lt }
 good_tag ch (b ∷ bs) short free left = record { free = free; short = short }
 
+-- ---- what is outstanding
+
+given_later : (next : ℕ) (by : Taker) → IsGivenBelow next by → IsGivenBelow (next + 1) by
+given_later next taker.Get i = tt
+given_later next (taker.Consumer number) lt = omega (arith, lt)
+
+-- one message more is outstanding, or none
+given_more : (no_ack : Bool) (next tag : ℕ) (queue : Text) (by : Taker) (os : List Outstanding) → IsGivenBelow next by → AllByRecursion (λ (o : Outstanding). IsGivenBelow next o.by) os
+    → AllByRecursion (λ (o : Outstanding). IsGivenBelow next o.by) (outstanding_after no_ack tag queue by os)
+given_more true next tag queue by os i a = a
+given_more false next tag queue by os i a = all-append _ os _ a (i, tt)
+
+given_kept : (next tag : ℕ) (multiple : Bool) (os : List Outstanding) → AllByRecursion (λ (o : Outstanding). IsGivenBelow next o.by) os → AllByRecursion (λ (o : Outstanding). IsGivenBelow next o.by) (kept tag_of tag multiple os)
+given_kept next tag multiple os a = go (is_refused tag_of tag multiple os)
+  where
+    go : (v : Bool) → AllByRecursion (λ (o : Outstanding). IsGivenBelow next o.by) (if v then os else filter (λ x. not (takes tag_of tag multiple x)) os)
+    go true = a
+    go false = filter_all _ (λ (x : Outstanding). not (takes tag_of tag multiple x)) os a
+
+-- nothing was given to the next one
+none_to_next : (next : ℕ) (by : Taker) → IsGivenBelow next by → is_to next by ≡ false
+none_to_next next taker.Get i = refl
+none_to_next next (taker.Consumer number) lt = ne_eqb number next (λ e. omega (arith, lt, e))
+
 -- ---- single channels
 
-named_new : (t : Topology) (ch : Channel) → ch.consumers ≡ [] → AreNamedOn t ch
-named_new t ch e = record {
+named_new : (t : Topology) (ch : Channel) → ch.consumers ≡ [] → ch.outstanding ≡ [] → AreNamedOn t ch
+named_new t ch e none = record {
   queues = subst (λ (ks : List Consumer). AllByRecursion (λ (k : Consumer). is_some (queue_named t.queues k.queue) ≡ true) ks) (sym e) tt;
   spelled = subst (λ (ks : List Consumer). AllByRecursion (λ (k : Consumer). length k.tag < 256) ks) (sym e) tt;
   apart = subst (λ (ks : List Consumer). AllPairs (λ (a b : Consumer). bytes_eq a.tag b.tag ≡ false) ks) (sym e) (λ i j x lt le. absurd (omega arith));
   rising = subst (λ (ks : List Consumer). AllPairs (λ (a b : Consumer). a.number < b.number) ks) (sym e) (λ i j x lt le. absurd (omega arith));
   before = subst (λ (ks : List Consumer). AllByRecursion (λ (k : Consumer). k.number < ch.next_number) ks) (sym e) tt;
+  given = subst (λ (os : List Outstanding). AllByRecursion (λ (o : Outstanding). IsGivenBelow ch.next_number o.by) os) (sym none) tt;
   few = let n = ap length e in omega (arith, n);
 }
 
 -- another record of the channel with the same consumers
-named_as : (t : Topology) (ch other : Channel) → other.consumers ≡ ch.consumers → other.next_number ≡ ch.next_number → AreNamedOn t ch → AreNamedOn t other
-named_as t ch other e next n = record {
+named_as : (t : Topology) (ch other : Channel) → other.consumers ≡ ch.consumers → other.next_number ≡ ch.next_number → AllByRecursion (λ (o : Outstanding). IsGivenBelow ch.next_number o.by) other.outstanding → AreNamedOn t ch → AreNamedOn t other
+named_as t ch other e next given n = record {
   queues = subst (λ (ks : List Consumer). AllByRecursion (λ (k : Consumer). is_some (queue_named t.queues k.queue) ≡ true) ks) (sym e) n.queues;
   spelled = subst (λ (ks : List Consumer). AllByRecursion (λ (k : Consumer). length k.tag < 256) ks) (sym e) n.spelled;
   apart = subst (λ (ks : List Consumer). AllPairs (λ (a b : Consumer). bytes_eq a.tag b.tag ≡ false) ks) (sym e) n.apart;
   rising = subst (λ (ks : List Consumer). AllPairs (λ (a b : Consumer). a.number < b.number) ks) (sym e) n.rising;
   before = subst (λ (m : ℕ). AllByRecursion (λ (k : Consumer). k.number < m) other.consumers) (sym next) (subst (λ (ks : List Consumer). AllByRecursion (λ (k : Consumer). k.number < ch.next_number) ks) (sym e) n.before);
+  given = subst (λ (m : ℕ). AllByRecursion (λ (o : Outstanding). IsGivenBelow m o.by) other.outstanding) (sym next) given;
   few = subst (λ (ks : List Consumer). length ks ≤ 256) (sym e) n.few;
 }
 
@@ -162,6 +191,7 @@ named_more t ch m is short n = record {
   apart = all_pairs_push (λ (a b : Consumer). bytes_eq a.tag b.tag ≡ false) ch.consumers k n.apart (λ i d lt. all_in (λ (a : Consumer). bytes_eq a.tag k.tag ≡ false) (get_or ch.consumers i d) ch.consumers (each_fails (is_tagged k.tag) ch.consumers tag.free) (in_at ch.consumers i d lt));
   rising = all_pairs_push (λ (a b : Consumer). a.number < b.number) ch.consumers k n.rising (λ i d lt. all_in (λ (a : Consumer). a.number < ch.next_number) (get_or ch.consumers i d) ch.consumers n.before (in_at ch.consumers i d lt));
   before = all-append (λ (a : Consumer). a.number < ch.next_number + 1) ch.consumers (k ∷ []) (all_each _ _ (λ a lt. omega (arith, lt)) ch.consumers n.before) (omega arith, tt);
+  given = all_each _ _ (λ o i. given_later ch.next_number o.by i) ch.outstanding n.given;
   few = let more = length-append ch.consumers (k ∷ []) in let lt = leb-false 256 (length ch.consumers) is.few in omega (arith, more, lt);
 }
   where
@@ -187,6 +217,7 @@ named_fewer t ch tag n = record {
   apart = AllPairs-filter (λ (a b : Consumer). bytes_eq a.tag b.tag ≡ false) (λ (k : Consumer). not (is_tagged tag k)) ch.consumers n.apart;
   rising = AllPairs-filter (λ (a b : Consumer). a.number < b.number) (λ (k : Consumer). not (is_tagged tag k)) ch.consumers n.rising;
   before = filter_all _ (λ (k : Consumer). not (is_tagged tag k)) ch.consumers n.before;
+  given = n.given;
   few = let le = fewer_left (λ (k : Consumer). not (is_tagged tag k)) ch.consumers in let few = n.few in omega (arith, le, few);
 }
 
@@ -200,7 +231,7 @@ module _ (t : Topology) (old new : Broker) (a : AreNamed t old) where
   named_mine c h = go (old.channel c h) refl
     where
       go : (o : Option Channel) → old.channel c h ≡ o → AreNamedOn t (channel_or_new o)
-      go None e = named_new t new_channel refl
+      go None e = named_new t new_channel refl refl
       go (Some ch) e = a c h ch e
 
   same : ((c h : ℕ) → new.channel c h ≡ old.channel c h) → AreNamed t new
@@ -235,15 +266,15 @@ module _ (t : Topology) (old new : Broker) (a : AreNamed t old) where
   closes sends wanted notes c h false p = with_none c h p.left.channels
 
   limits : (sends wanted : List Send) (notes : List Note) (c h : ℕ) (m : Qos) (v : Bool) → Does sends notes new wanted (with_channel old c h (Some (if v then record (mine c h) { limit = m.prefetch_count } else record (mine c h) { each_limit = m.prefetch_count }))) → AreNamed t new
-  limits sends wanted notes c h m true p = with_some c h _ p.left.channels (named_as t (mine c h) _ refl refl (named_mine c h))
-  limits sends wanted notes c h m false p = with_some c h _ p.left.channels (named_as t (mine c h) _ refl refl (named_mine c h))
+  limits sends wanted notes c h m true p = with_some c h _ p.left.channels (named_as t (mine c h) _ refl refl (named_mine c h).given (named_mine c h))
+  limits sends wanted notes c h m false p = with_some c h _ p.left.channels (named_as t (mine c h) _ refl refl (named_mine c h).given (named_mine c h))
 
   gets : (sends : List Send) (notes : List Note) (c h : ℕ) (m : Get) (o : Option Entry) → Gets old c h (mine c h) m o sends notes new → AreNamed t new
   gets sends notes c h m None p = same p.left.channels
-  gets sends notes c h m (Some e) p = with_some c h _ p.left.channels (named_as t (mine c h) _ refl refl (named_mine c h))
+  gets sends notes c h m (Some e) p = with_some c h _ p.left.channels (named_as t (mine c h) _ refl refl (given_more m.no_ack _ _ _ taker.Get (mine c h).outstanding tt (named_mine c h).given) (named_mine c h))
 
   settles : (how : Settlement) (sends wanted : List Send) (notes : List Note) (c h tag : ℕ) (multiple : Bool) → Settles how old c h (mine c h) tag multiple wanted sends notes new → AreNamed t new
-  settles how sends wanted notes c h tag multiple p = with_some c h _ p.channels (named_as t (mine c h) _ refl refl (named_mine c h))
+  settles how sends wanted notes c h tag multiple p = with_some c h _ p.channels (named_as t (mine c h) _ refl refl (given_kept _ tag multiple (mine c h).outstanding (named_mine c h).given) (named_mine c h))
 
   -- a consume is refused still, whatever it asks for
   not_refused : (ch : Channel) (m : Consume) → refusal_of t old ch (BasicConsume m) ≡ None → refusal_of_consume t ch m ≡ None
@@ -265,8 +296,8 @@ module _ (t : Topology) (old new : Broker) (a : AreNamed t old) where
       by false false false rest e = e
 
   performs : (sends : List Send) (notes : List Note) (c h : ℕ) (m : Method) (content : Option Content) (conn : Connection) → IsMethod m → refusal t old conn h m (old.channel c h) ≡ None → Performs t old c h (mine c h) m content sends notes new → AreNamed t new
-  performs sends notes c h (ConfirmSelect no_wait) content conn said e p = with_some c h _ p.left.channels (named_as t (mine c h) _ refl refl (named_mine c h))
-  performs sends notes c h (BasicPublish publish) content conn said e p = with_some c h _ p.left.channels (named_as t (mine c h) _ refl refl (named_mine c h))
+  performs sends notes c h (ConfirmSelect no_wait) content conn said e p = with_some c h _ p.left.channels (named_as t (mine c h) _ refl refl (named_mine c h).given (named_mine c h))
+  performs sends notes c h (BasicPublish publish) content conn said e p = with_some c h _ p.left.channels (named_as t (mine c h) _ refl refl (named_mine c h).given (named_mine c h))
   performs sends notes c h (ChannelClose m) content conn said e p = closes sends _ notes c h (mine c h).is_closing p
   performs sends notes c h ChannelCloseOk content conn said e p = with_none c h p.left.channels
   performs sends notes c h (ConnectionClose m) content conn said e p = gone c p.left.channels
@@ -283,7 +314,7 @@ module _ (t : Topology) (old new : Broker) (a : AreNamed t old) where
 
   refuses : (sends : List Send) (notes : List Note) (c h : ℕ) (cause : Ids) (r : Refusal) → Refuses old c h cause r sends notes new → AreNamed t new
   refuses sends notes c h cause Ignored p = same p.left.channels
-  refuses sends notes c h cause (Of_channel code) p = with_some c h _ p.left.channels (named_new t _ refl)
+  refuses sends notes c h cause (Of_channel code) p = with_some c h _ p.left.channels (named_new t _ refl refl)
   refuses sends notes c h cause (Of_connection code) p = gone c p.left.channels
 
   decides : (sends : List Send) (notes : List Note) (c h : ℕ) (m : Method) (content : Option Content) (conn : Connection) (r : Option Refusal) → IsMethod m → refusal t old conn h m (old.channel c h) ≡ r → Decides t old c h m content r sends notes new → AreNamed t new
@@ -302,11 +333,15 @@ module _ (t : Topology) (old new : Broker) (a : AreNamed t old) where
   row_named k n ch e = by (nat_le 1 n && nat_le n k) e
     where
       by : (v : Bool) → (if v then Some new_channel else None) ≡ Some ch → AreNamedOn t ch
-      by true e = subst (AreNamedOn t) (same_Some new_channel ch e) (named_new t new_channel refl)
+      by true e = subst (AreNamedOn t) (same_Some new_channel ch e) (named_new t new_channel refl refl)
       by false e = absurd (false≢true (ap is_some e))
 
   delivers : (sends : List Send) (notes : List Note) (c : ℕ) → IsDelivery old c sends notes new → AreNamed t new
-  delivers sends notes c p = with_some c p.made.number _ p.makes.left.channels (named_as t p.made.channel _ refl refl (a c p.made.number p.made.channel p.made.taker.there))
+  delivers sends notes c p =
+      let o = p.made in
+      let n = a c o.number o.channel o.taker.there in
+      with_some c o.number _ p.makes.left.channels (named_as t o.channel _ refl refl
+      (given_more o.consumer.no_ack _ _ _ (taker.Consumer o.consumer.number) o.channel.outstanding (all_in (λ (k : Consumer). k.number < o.channel.next_number) o.consumer o.channel.consumers n.before o.taker.its) n.given) n)
 
   -- Each event keeps the names.
   pub onward : (e : Event) (sends : List Send) (notes : List Note) → IsSaid e → Acts t old e sends notes new → AreNamed t new
@@ -322,7 +357,7 @@ module _ (t : Topology) (old new : Broker) (a : AreNamed t old) where
   onward (Deliver c) sends notes said p = delivers sends notes c p
 
 pub stay_named : ConsumersStayNamed
-stay_named = record { empty = λ t c h ch e. absurd (false≢true (ap is_some e)); acts = λ t old new e sends notes said a p. onward t old new a e sends notes said p }
+stay_named = record { empty = λ t c h ch e. absurd (false≢true (ap is_some e)); acts = λ t old new e sends notes said a p. onward t old new a e sends notes said p; fresh = λ t ch n. count_none _ ch.outstanding (all_each _ _ (λ (o : Outstanding). none_to_next ch.next_number o.by) ch.outstanding n.given) }
 
 -- ---- what is delivered
 

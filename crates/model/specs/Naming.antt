@@ -4,7 +4,14 @@ use Rattle.std.specs.Prelude.{◌≡◌, ◌<◌, ◌≤◌, ℕ, length, true, 
 use Rattle.std.specs.Str.{bytes_eq}
 use Rattle.std.specs.List.{AllByRecursion, AllPairs}
 use Rattle.model.specs.Topology.{Topology}
-use Rattle.model.specs.Broker.{Consumer, Channel, Broker, queue_named}
+use Rattle.model.specs.Broker.{Consumer, Outstanding, Channel, Broker, queue_named}
+use Rattle.model.specs.declared.messages.Taker.{Taker}
+use Rattle.model.specs.declared.messages.Taker.TheVariants as taker
+
+-- it was given to a get, or to a consumer of a number below this one
+abbrev pub IsGivenBelow : ℕ → Taker → Type 0
+IsGivenBelow next taker.Get = Unit {0}
+IsGivenBelow next (taker.Consumer number) = number < next
 
 -- What the consumers of every channel keep:
 pub record AreNamedOn (t : Topology) (ch : Channel) : Type 0 where
@@ -16,6 +23,8 @@ pub record AreNamedOn (t : Topology) (ch : Channel) : Type 0 where
   -- their numbers rise, and none is as great as the next one
   pub rising : AllPairs (λ (a b : Consumer). a.number < b.number) ch.consumers
   pub before : AllByRecursion (λ (k : Consumer). k.number < ch.next_number) ch.consumers
+  -- what is outstanding was given to gets and to consumers that were made, so that the next one begins with nothing
+  pub given : AllByRecursion (λ (o : Outstanding). IsGivenBelow ch.next_number o.by) ch.outstanding
   -- there are at most 256
   pub few : length ch.consumers ≤ 256
 
