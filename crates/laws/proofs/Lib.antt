@@ -21,5 +21,6 @@ pub mod Plays
 pub mod Linked
 pub mod Consistency
 pub mod Spoken
+pub mod Naming
 pub mod Whole
 pub mod Rows

@@ -17,7 +17,7 @@ use Rattle.model.specs.Settling.{is_refused, kept, takes}
 use Rattle.model.specs.Prefetch.{is_to, has_tag_left}
 use Rattle.model.specs.Deliveries.{Settlement, first_ready, outstanding_after}
 use Rattle.model.specs.Consuming.{is_tagged, is_in_use, server_tag, first_free, next_free, tag_for, is_tag_taken, is_tag_wanting, consumer_of, with_consumer, without_consumer}
-use Rattle.model.specs.Step.{tag_of, greatest, Refusal, Ignored, Of_channel, Of_connection, Acts, Does, Gets, Settles, Performs, Refuses, Decides, OnConnection, OnLarge, IsDelivery, channel_or_new, channels_up_to, empty_publish, or_else, refusal, refusal_of, refusal_in, refusal_of_asking, refusal_of_tag, refusal_of_many, refusal_of_consume, refusal_of_large, with_freed, with_channel}
+use Rattle.model.specs.Step.{Is, tag_of, opened, greatest, Refusal, Ignored, Of_channel, Of_connection, Acts, Does, Gets, Settles, Performs, Refuses, Decides, OnConnection, OnLarge, IsDelivery, channel_or_new, channels_up_to, empty_publish, or_else, refusal, refusal_of, refusal_in, refusal_of_asking, refusal_of_tag, refusal_of_many, refusal_of_consume, refusal_of_large, with_freed, with_channel}
 use Rattle.model.specs.Arrivals.{IsSaid}
 use Rattle.model.specs.Naming.{IsGivenBelow, AreNamedOn, AreNamed}
 use Rattle.model.specs.Sending.{IsCarried, IsAddressed}
@@ -355,6 +355,11 @@ module _ (t : Topology) (old new : Broker) (a : AreNamed t old) where
   onward (Pause c) sends notes said p = same p.left.channels
   onward (Resume c) sends notes said p = same p.left.channels
   onward (Deliver c) sends notes said p = delivers sends notes c p
+
+  -- so does a move of the phases
+  pub moved : (c max : ℕ) (v : Bool) → Is (if v then opened old c max 0 else old) new → AreNamed t new
+  moved c max true is = with_these c (channels_up_to 0) is.channels (row_named 0)
+  moved c max false is = same is.channels
 
 pub stay_named : ConsumersStayNamed
 stay_named = record { empty = λ t c h ch e. absurd (false≢true (ap is_some e)); acts = λ t old new e sends notes said a p. onward t old new a e sends notes said p; fresh = λ t ch n. count_none _ ch.outstanding (all_each _ _ (λ (o : Outstanding). none_to_next ch.next_number o.by) ch.outstanding n.given) }

@@ -6,12 +6,15 @@ use Rattle.model.specs.Broker.{Channel, Broker}
 use Rattle.model.specs.Prefetch.{count_to}
 use Rattle.model.specs.Consuming.{taker_of}
 use Rattle.model.specs.Step.{Acts, IsDelivery}
-use Rattle.model.specs.Run.{empty_broker}
-use Rattle.model.specs.Arrivals.{IsSaid}
+use Rattle.model.specs.State.{Config}
+use Rattle.model.specs.Commands.{Stream}
+use Rattle.model.specs.Run.{Happening, empty_broker}
+use Rattle.model.specs.Arrivals.{IsSaid, World, new_world, Turns, Waits, Takes_off, Opens, Loses, Pumps, Plays, with_heard}
 use Rattle.model.specs.Naming.{AreNamedOn, AreNamed}
 use Rattle.model.specs.Sending.{AreCarried, IsAddressed}
 use Rattle.model.specs.declared.events.Send.{Send}
 use Rattle.model.specs.declared.events.Event.{Event}
+use Rattle.model.specs.declared.events.Arrival.{Arrival}
 use Rattle.model.specs.declared.notes.Note.{Note}
 
 -- In the empty broker consumers are named as they should be, and each event leaves it so.
@@ -20,6 +23,25 @@ pub record ConsumersStayNamed : Type 0 where
   pub acts : (t : Topology) (old new : Broker) (e : Event) (sends : List Send) (notes : List Note) → IsSaid e → AreNamed t old → Acts t old e sends notes new → AreNamed t new
   -- the next consumer of a channel begins with nothing, also under the tag of one that was cancelled
   pub fresh : (t : Topology) (ch : Channel) → AreNamedOn t ch → count_to taker_of ch.next_number ch.outstanding ≡ 0
+
+-- in this world the consumers are named as they should be under what is in force
+abbrev pub IsNamed : World → Type 0
+IsNamed w = AreNamed w.config.topology w.state.broker
+
+-- So it is where no connection is, and each single thing that is done leaves it so.
+pub record WorldsStayNamed : Type 0 where
+  pub new_worlds : (f : Config) → IsNamed (new_world f)
+  pub turns : (old new : World) (c : ℕ) (hs : List Happening) → IsNamed old → Turns old c hs new → IsNamed new
+  pub waits : (old new : World) (c : ℕ) → IsNamed old → Waits old c new → IsNamed new
+  pub hears : (w : World) (c : ℕ) (bytes : List ℕ) → IsNamed w → IsNamed (with_heard w c bytes)
+  pub takes : (old new : World) (c n : ℕ) (hs : List Happening) → IsNamed old → Takes_off old c n hs new → IsNamed new
+  pub opens : (old new : World) (e : Event) (s : Stream) (hs : List Happening) → IsSaid e → IsNamed old → Opens old e s hs new → IsNamed new
+  pub loses : (old new : World) (c : ℕ) (hs : List Happening) → IsNamed old → Loses old c hs new → IsNamed new
+  pub pumps : (old new : World) (hs : List Happening) → IsNamed old → Pumps old hs new → IsNamed new
+
+-- And so it is after any arrivals.
+abbrev pub PlaysStayNamed : Type 0
+PlaysStayNamed = (old new : World) (arrivals : List Arrival) (hs : List Happening) → IsNamed old → Plays old arrivals hs new → IsNamed new
 
 -- Where consumers are named so, and each message can be given out, what a delivery sends has an address, if a frame can name its channel.
 abbrev pub DeliveriesAreAddressed : Type 0

@@ -8,7 +8,7 @@ ghost use Rattle.std.specs.Prelude.{◌≡◌};
 ghost use Rattle.laws.specs.Agreeing.{BrokersStayAgreed};
 ghost use Rattle.laws.specs.Alone.{SoundForWords};
 ghost use Rattle.laws.specs.Carrying.{MessagesStayCarried, SendsAreOwn};
-ghost use Rattle.laws.specs.Consumers.{ConsumersStayNamed, DeliveriesAreAddressed};
+ghost use Rattle.laws.specs.Consumers.{ConsumersStayNamed, DeliveriesAreAddressed, PlaysStayNamed, WorldsStayNamed};
 ghost use Rattle.laws.specs.Consistency.{PlaysStayConsistent, WorldsStayConsistent};
 ghost use Rattle.laws.specs.Delivery.{OneReading, HeadlineHolds, PumpsKeep, TurnsKeep};
 ghost use Rattle.laws.specs.OneStep.{EveryRunBalances, EveryRunCounts, EveryRunStays};
@@ -119,6 +119,12 @@ pub fn sends_can_be_put_out()
 /// Whatever happens, the consumers of each channel take from queues that are there, under tags and numbers of their own.
 pub fn consumers_stay_named()
     ensures { ConsumersStayNamed }
+{}
+
+/// So it is in every world, whatever is done there and whatever arrives.
+pub fn worlds_stay_named()
+    ensures worlds { WorldsStayNamed }
+    ensures plays { PlaysStayNamed }
 {}
 
 /// What is delivered to a consumer has an address: its tags, its names and its key can be spelled.
