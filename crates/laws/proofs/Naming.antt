@@ -1,12 +1,11 @@
 -- In every world that a run reaches consumers are named as they should be.
-use Rattle.std.proofs.Common.{◌≡◌, ℕ, List, [], ◌∷◌, sym, subst, inl, inr}
+use Rattle.std.proofs.Common.{ℕ, List, [], ◌∷◌, sym, subst, inl, inr}
 use Rattle.std.specs.List.{AllByRecursion}
 use Rattle.model.specs.State.{Config, State, Step}
 use Rattle.model.specs.Phases.{is_running}
 use Rattle.model.specs.Run.{Happening, Run}
 use Rattle.model.specs.Naming.{AreNamed}
-use Rattle.model.specs.Arrivals.{World, new_world, Waits, Same, IsSaid}
-use Rattle.model.specs.declared.events.Event.{Event}
+use Rattle.model.specs.Arrivals.{World, Waits, IsSaid}
 use Rattle.laws.specs.Consumers.{IsNamed, WorldsStayNamed, PlaysStayNamed}
 use Rattle.laws.proofs.View.{connection_of, goes}
 use Rattle.laws.proofs.Plays.{IsTold, Told, told_turns, told_taken, told_opens, told_loses, told_pumps, told_plays}

@@ -1,5 +1,5 @@
 -- Worked examples, that the checker computes: a definition that says something else shows at once.
-use Rattle.std.specs.Prelude.{◌≡◌, ◌++◌, ℕ, List, Bool, [], ◌∷◌, codes, true, false, Option, Some, None, replicate, if◌then◌else◌}
+use Rattle.std.specs.Prelude.{◌≡◌, ◌++◌, ℕ, List, Bool, [], ◌∷◌, codes, true, false, Some, None, replicate, if◌then◌else◌}
 use Rattle.std.specs.Str.{bytes_eq}
 use Rattle.model.specs.Words.{Text, words}
 use Rattle.model.specs.Topology.{Topology}
