@@ -5,6 +5,7 @@ pub mod Agreement
 pub mod Agreed
 pub mod Speaking
 pub mod View
+pub mod Tags
 pub mod Named
 pub mod Carried
 pub mod Sizes

@@ -37,34 +37,9 @@ use Rattle.model.specs.declared.notes.Note.{Note}
 use Rattle.laws.specs.Consumers.{ConsumersStayNamed, DeliveriesAreAddressed}
 use Rattle.laws.proofs.Counts.{count_none, all-append, all_each, all_in, filter_all}
 use Rattle.laws.proofs.Leaving.{find_in}
+use Rattle.laws.proofs.Tags.{next_is_free}
 
--- ---- tags that are free
-
--- a number below the last one that is tried has a tag that is free
-first_is_free : (more : ℕ) (consumers : List Consumer) (n : ℕ) → first_free more consumers n < n + more → is_in_use (server_tag (first_free more consumers n)) consumers ≡ false
-unfolding first_free
-first_is_free zero consumers n lt = absurd (omega (arith, lt))
-first_is_free (suc more) consumers n lt = go (is_in_use (server_tag n) consumers) refl (first_is_free more consumers (n + 1)) lt
-  where
-    go : (v : Bool) → is_in_use (server_tag n) consumers ≡ v → (first_free more consumers (n + 1) < n + 1 + more → is_in_use (server_tag (first_free more consumers (n + 1))) consumers ≡ false)
-        → (if v then first_free more consumers (n + 1) else n) < n + suc more → is_in_use (server_tag (if v then first_free more consumers (n + 1) else n)) consumers ≡ false
-    go true e rest lt = rest (omega (arith, lt))
-    go false e rest lt = e
-
--- one that is tried is at least the first
-first_from : (more : ℕ) (consumers : List Consumer) (n : ℕ) → n ≤ first_free more consumers n
-unfolding first_free
-first_from zero consumers n = omega arith
-first_from (suc more) consumers n = go (is_in_use (server_tag n) consumers) (first_from more consumers (n + 1))
-  where
-    go : (v : Bool) → n + 1 ≤ first_free more consumers (n + 1) → n ≤ (if v then first_free more consumers (n + 1) else n)
-    go true le = omega (arith, le)
-    go false le = omega arith
-
-next_is_free : (ch : Channel) → next_free ch < 18446744073709551615 → is_in_use (server_tag (next_free ch)) ch.consumers ≡ false
-next_is_free ch lt =
-    let from = first_from (18446744073709551615 - ch.next_name) ch.consumers ch.next_name in
-    first_is_free (18446744073709551615 - ch.next_name) ch.consumers ch.next_name (omega (arith, lt, from))
+-- ---- tags of the server
 
 -- a tag of the server is short
 server_short : (n : ℕ) → n < 18446744073709551615 → length (server_tag n) < 256

@@ -1,11 +1,11 @@
 -- Consumers keep their names, and what is delivered to them can be addressed.
-use Rattle.std.specs.Prelude.{◌≡◌, ◌<◌, ◌^◌, ℕ, List}
+use Rattle.std.specs.Prelude.{◌≡◌, ◌<◌, ◌≤◌, ◌^◌, ℕ, List, true, false}
 use Rattle.std.specs.List.{AllByRecursion}
 use Rattle.model.specs.Topology.{Topology}
 use Rattle.model.specs.Broker.{Channel, Broker}
 use Rattle.model.specs.Prefetch.{count_to}
-use Rattle.model.specs.Consuming.{taker_of}
-use Rattle.model.specs.Step.{Acts, IsDelivery}
+use Rattle.model.specs.Consuming.{is_in_use, server_tag, next_free, taker_of}
+use Rattle.model.specs.Step.{greatest, Acts, IsDelivery}
 use Rattle.model.specs.State.{Config}
 use Rattle.model.specs.Commands.{Stream}
 use Rattle.model.specs.Run.{Happening, empty_broker}
@@ -16,6 +16,8 @@ use Rattle.model.specs.declared.events.Send.{Send}
 use Rattle.model.specs.declared.events.Event.{Event}
 use Rattle.model.specs.declared.events.Arrival.{Arrival}
 use Rattle.model.specs.declared.notes.Note.{Note}
+
+-- ---- consumers by their names
 
 -- In the empty broker consumers are named as they should be, and each event leaves it so.
 pub record ConsumersStayNamed : Type 0 where
@@ -43,7 +45,26 @@ pub record WorldsStayNamed : Type 0 where
 abbrev pub PlaysStayNamed : Type 0
 PlaysStayNamed = (old new : World) (arrivals : List Arrival) (hs : List Happening) → IsNamed old → Plays old arrivals hs new → IsNamed new
 
+-- ---- deliveries
+
 -- Where consumers are named so, and each message can be given out, what a delivery sends has an address, if a frame can name its channel.
 abbrev pub DeliveriesAreAddressed : Type 0
 DeliveriesAreAddressed = (t : Topology) (old new : Broker) (c : ℕ) (sends : List Send) (notes : List Note) (d : IsDelivery old c sends notes new)
     → AreCarried old → AreNamed t old → d.made.number < 2 ^ 16 → AllByRecursion (IsAddressed c) sends
+
+-- ---- the tags that the server makes
+
+-- The number of the next tag, from the number on that is next on the channel:
+pub record IsNextTag (ch : Channel) : Type 0 where
+  pub least : ch.next_name ≤ next_free ch
+  -- its tag is free, where it is not the greatest number, which is never given
+  pub free : next_free ch < greatest → is_in_use (server_tag (next_free ch)) ch.consumers ≡ false
+  -- and those before it are in use
+  pub before : (k : ℕ) → ch.next_name ≤ k → k < next_free ch → is_in_use (server_tag k) ch.consumers ≡ true
+
+-- So it is on each channel, and no other number is so; where all are in use it is the greatest.
+pub record NextTagsAreFound : Type 0 where
+  pub next : (ch : Channel) → IsNextTag ch
+  pub only : (ch : Channel) (n : ℕ) → ch.next_name ≤ n → n < greatest → is_in_use (server_tag n) ch.consumers ≡ false
+      → ((k : ℕ) → ch.next_name ≤ k → k < n → is_in_use (server_tag k) ch.consumers ≡ true) → next_free ch ≡ n
+  pub none_left : (ch : Channel) → ch.next_name ≤ greatest → ((k : ℕ) → ch.next_name ≤ k → k < greatest → is_in_use (server_tag k) ch.consumers ≡ true) → next_free ch ≡ greatest

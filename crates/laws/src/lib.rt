@@ -8,7 +8,7 @@ ghost use Rattle.std.specs.Prelude.{◌≡◌};
 ghost use Rattle.laws.specs.Agreeing.{BrokersStayAgreed};
 ghost use Rattle.laws.specs.Alone.{SoundForWords};
 ghost use Rattle.laws.specs.Carrying.{MessagesStayCarried, SendsAreOwn};
-ghost use Rattle.laws.specs.Consumers.{ConsumersStayNamed, DeliveriesAreAddressed, PlaysStayNamed, WorldsStayNamed};
+ghost use Rattle.laws.specs.Consumers.{ConsumersStayNamed, DeliveriesAreAddressed, NextTagsAreFound, PlaysStayNamed, WorldsStayNamed};
 ghost use Rattle.laws.specs.Consistency.{PlaysStayConsistent, WorldsStayConsistent};
 ghost use Rattle.laws.specs.Delivery.{OneReading, HeadlineHolds, PumpsKeep, TurnsKeep};
 ghost use Rattle.laws.specs.OneStep.{EveryRunBalances, EveryRunCounts, EveryRunStays};
@@ -125,6 +125,11 @@ pub fn consumers_stay_named()
 pub fn worlds_stay_named()
     ensures worlds { WorldsStayNamed }
     ensures plays { PlaysStayNamed }
+{}
+
+/// The tag that the server makes for a consumer is the next that is not in use on its channel.
+pub fn next_tags_are_found()
+    ensures { NextTagsAreFound }
 {}
 
 /// What is delivered to a consumer has an address: its tags, its names and its key can be spelled.
