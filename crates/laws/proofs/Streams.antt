@@ -116,17 +116,17 @@ framed : (p : Pending) (f : Frame) (taken : Taken) → TakesOn p f taken → is_
 framed p f taken = from_either (f.kind == 8) (λ e. ap is_head_made e ∙ framed_heartbeat p f)
     (from_either (is_on_wrong_channel f) (λ e. ap is_head_made e) (from_either (f.kind == awaited p) (framed_payload p f taken) (λ e. ap is_head_made e)))
 
-frames_read : {s next : Stream} {c : Command} → s.is_new ≡ false → Yields s c next → ReadsFrames c next
+pub frames_read : {s next : Stream} {c : Command} → s.is_new ≡ false → Yields s c next → ReadsFrames c next
 frames_read n (first t) = absurd (false≢true (sym n ∙ t.awaited))
 frames_read n (now {s = s} {next = next} {c = c} t) = record { framed = framed (s.pending t.frame.channel) t.frame (Makes c) t.effect; begun = ap (λ (z : Stream). z.is_new) t.left ∙ n }
 frames_read n (later t y) = frames_read (ap (λ (z : Stream). z.is_new) t.left ∙ n) y
 
-head_read : {s next : Stream} {c : Command} → s.is_new ≡ true → Yields s c next → ReadsHead s c next
+pub head_read : {s next : Stream} {c : Command} → s.is_new ≡ true → Yields s c next → ReadsHead s c next
 head_read n (first {bytes = bytes} t) = record { bytes = bytes; is = refl; takes = t }
 head_read n (now t) = absurd (false≢true (sym t.begun ∙ n))
 head_read n (later t y) = absurd (false≢true (sym t.begun ∙ n))
 
-head_awaited : {s : Stream} {end : Option ℕ} → s.is_new ≡ true → Ends s end → (end ≡ None) × (length s.unread < 8)
+pub head_awaited : {s : Stream} {end : Option ℕ} → s.is_new ≡ true → Ends s end → (end ≡ None) × (length s.unread < 8)
 head_awaited n (early is few) = (refl, few)
 head_awaited n (short is a b) = absurd (false≢true (sym is ∙ n))
 head_awaited n (broken is b) = absurd (false≢true (sym is ∙ n))

@@ -11,6 +11,7 @@ ghost use Rattle.laws.specs.Carrying.{MessagesStayCarried, SendsAreOwn};
 ghost use Rattle.laws.specs.Consistency.{PlaysStayConsistent, WorldsStayConsistent};
 ghost use Rattle.laws.specs.Delivery.{OneReading, HeadlineHolds, TurnsKeep};
 ghost use Rattle.laws.specs.OneStep.{EveryRunBalances, EveryRunCounts, EveryRunStays};
+ghost use Rattle.laws.specs.Openings.{OpeningsReadByPhase};
 ghost use Rattle.laws.specs.Promises.{AckedEnterOnce, AcksAreAcked, CausesAreShown, ForbiddenAreNotEntered, ForbiddenAreNotEnteredAtEvents, RunsKeepEvents};
 ghost use Rattle.laws.specs.Rows.{WordsOfKeys, FirstInput, FirstOutput, BadEnd, TooLargeContent, HeadlineRefuses};
 ghost use Rattle.laws.specs.Streams.{CuttingDoesNotMatter, FaultsStay, FirstBytesComeFirst};
@@ -88,6 +89,12 @@ pub fn faults_stay()
 /// alone.
 pub fn first_bytes_come_first()
     ensures { FirstBytesComeFirst }
+{}
+
+/// Whatever arrives, a connection is in Header exactly while its first eight bytes are not performed, and of any other
+/// frames alone are read.
+pub fn openings_read_by_phase()
+    ensures { OpeningsReadByPhase }
 {}
 
 /// Whatever is done, the broker has the connections that run, knows those as paused whose output is past the bound, and
