@@ -1,5 +1,5 @@
 -- Whatever arrives, a connection is in Header exactly while its first eight bytes are not performed.
-use Rattle.std.proofs.Common.{◌≡◌, ◌≢◌, ◌+◌, ℕ, List, [], ◌∷◌, ◌++◌, Bool, true, false, cond, refl, sym, ap, subst, ◌∙◌, inl, inr, Option, Some, None}
+use Rattle.std.proofs.Common.{◌≡◌, ◌≢◌, ◌+◌, ℕ, List, [], ◌∷◌, Bool, true, false, cond, refl, sym, ap, subst, ◌∙◌, inl, inr, Option, Some, None}
 use Rattle.std.specs.Prelude.{◌==◌, if◌then◌else◌}
 use Rattle.std.proofs.lemmas.Bool.{eqb-true, eqb-false, false≢true}
 use Rattle.model.specs.Broker.{with_one}
@@ -8,7 +8,7 @@ use Rattle.model.specs.Opening.{new_session}
 use Rattle.model.specs.Phases.{Session, running_session, no_session}
 use Rattle.model.specs.State.{Config, State, Step}
 use Rattle.model.specs.Run.{Happening}
-use Rattle.model.specs.Arrivals.{World, Wire, new_world, new_wire, wire_after, is_ended, is_over, is_gone, can_open, event_of, Reads, again, fresh, fault, SameToCome, still, waits, kept, Turns, Waits, Works, none_more, one_more, WorksOff, Same, Takes_off, Opens, Loses, Answers, Plays, with_heard}
+use Rattle.model.specs.Arrivals.{World, Wire, new_world, new_wire, wire_after, is_ended, is_over, is_gone, can_open, event_of, Reads, again, fresh, fault, SameToCome, still, waits, kept, Turns, Waits, Works, none_more, one_more, WorksOff, Takes_off, Answers, Plays, with_heard}
 use Rattle.model.specs.declared.events.Command.{Command}
 use Rattle.model.specs.declared.events.Command.TheVariants.{Head, Plain, Full, TooLarge}
 use Rattle.model.specs.declared.events.Send.{Send}

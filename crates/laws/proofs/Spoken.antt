@@ -1,6 +1,6 @@
 -- Whatever arrives, what a connection was sent so far is as its phase says: commands, or the protocol header alone.
 use Rattle.std.proofs.Common.{◌≡◌, ◌≢◌, ◌<◌, ◌+◌, ℕ, List, [], ◌∷◌, ◌++◌, Bool, true, false, cond, refl, sym, ap, subst, ◌∙◌, ◌⊎◌, inl, inr, append-nil, append_assoc, arith, Option}
-use Rattle.std.specs.Prelude.{◌==◌, ◌&&◌, filter, flat_map, not}
+use Rattle.std.specs.Prelude.{◌==◌, ◌&&◌, filter, not}
 use Rattle.std.specs.List.{AllByRecursion}
 use Rattle.std.proofs.lemmas.Grind.{flat_map-append}
 use Rattle.std.proofs.lemmas.List.Elements.{filter-append}
@@ -8,11 +8,11 @@ use Rattle.std.proofs.lemmas.Bool.{eq-eqb, eqb-true, eqb-false, ne_eqb, false≢
 use Rattle.model.specs.Broker.{with_one}
 use Rattle.model.specs.Commands.{Stream}
 use Rattle.model.specs.Opening.{new_session}
-use Rattle.model.specs.Phases.{Session, running_session, no_session, is_running, after_method, after_sends, to_phase}
+use Rattle.model.specs.Phases.{Session, running_session, no_session, after_method, after_sends, to_phase}
 use Rattle.model.specs.State.{Config, State, Step}
 use Rattle.model.specs.Run.{Happening, sends_of}
 use Rattle.model.specs.Spelling.{receiver, sends_to}
-use Rattle.model.specs.Arrivals.{World, new_world, is_ended, is_over, is_paused, is_gone, can_open, event_of, Reads, again, fresh, fault, Settles, Puts, Turns, Waits, Works, none_more, one_more, WorksOff, Same, Takes_off, TakesAndWorks, Opens, Loses, Answers, Plays, with_heard}
+use Rattle.model.specs.Arrivals.{World, new_world, is_ended, is_over, is_paused, is_gone, can_open, event_of, Reads, again, fresh, fault, Settles, Puts, Turns, Works, none_more, one_more, WorksOff, Same, Takes_off, Opens, Loses, Answers, Plays, with_heard}
 use Rattle.model.specs.declared.methods.Method.{Method}
 use Rattle.model.specs.declared.methods.Method.TheVariants.{ConnectionClose, ConnectionCloseOk}
 use Rattle.model.specs.declared.events.Command.{Command}

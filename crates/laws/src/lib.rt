@@ -14,7 +14,7 @@ ghost use Rattle.laws.specs.OneStep.{EveryRunBalances, EveryRunCounts, EveryRunS
 ghost use Rattle.laws.specs.Openings.{OpeningsReadByPhase};
 ghost use Rattle.laws.specs.Promises.{AckedEnterOnce, AcksAreAcked, CausesAreShown, ForbiddenAreNotEntered, ForbiddenAreNotEnteredAtEvents, RunsKeepEvents};
 ghost use Rattle.laws.specs.Rows.{WordsOfKeys, FirstInput, FirstOutput, BadEnd, TooLargeContent, HeadlineRefuses};
-ghost use Rattle.laws.specs.Streams.{CuttingDoesNotMatter, FaultsStay, FirstBytesComeFirst};
+ghost use Rattle.laws.specs.Streams.{CuttingDoesNotMatter, FaultsStay, FirstBytesComeFirst, TuningDoesNotMatter};
 ghost use Rattle.model.specs.Guarantee.{Guarantee};
 ghost use Rattle.model.specs.State.{Config};
 ghost use Rattle.model.specs.Topology.{Topology};
@@ -78,6 +78,11 @@ pub fn runs_keep_events()
 /// What a stream has yielded doesn't change when more bytes come, and goes on from there.
 pub fn cutting_does_not_matter()
     ensures { CuttingDoesNotMatter }
+{}
+
+/// Nor does it where the size of frames is agreed on meanwhile.
+pub fn tuning_does_not_matter()
+    ensures { TuningDoesNotMatter }
 {}
 
 /// A fault of a stream stays, whatever bytes come behind it.
