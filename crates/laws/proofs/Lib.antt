@@ -23,5 +23,6 @@ pub mod Linked
 pub mod Consistency
 pub mod Spoken
 pub mod Naming
+pub mod Openings
 pub mod Whole
 pub mod Rows

@@ -28,7 +28,8 @@ use Rattle.model.specs.declared.events.Arrival.{Arrival}
 use Rattle.model.specs.declared.events.Arrival.TheVariants as arrival
 use Rattle.model.specs.declared.notes.Note.{Note}
 use Rattle.laws.proofs.Counts.{all-append, from_either}
-use Rattle.laws.proofs.Speaking.{IsCommandSend, AreCommandSends, is_header, Spoken, spoken_commands, spoken_over, spoken_on}
+use Rattle.laws.specs.Openings.{is_header}
+use Rattle.laws.proofs.Speaking.{IsCommandSend, AreCommandSends, Spoken, spoken_commands, spoken_over, spoken_on}
 use Rattle.laws.proofs.View.{connection_of, session_after, is_read, goes, acted, acted_commands, Performed, Answered}
 use Rattle.laws.proofs.Linked.{with_here}
 use Rattle.laws.proofs.Consistency.{new_is_consistent, answers_consistent}
@@ -69,7 +70,7 @@ to_no_header s phase.Over e = refl
 to_no_header s _ e = e
 
 -- the first eight bytes are not awaited after what is read and performed
-read_no_header : (s : Session) (e : Event) (sends : List Send) → is_read e ≡ true → is_header (session_after s e sends).phase ≡ false
+pub read_no_header : (s : Session) (e : Event) (sends : List Send) → is_read e ≡ true → is_header (session_after s e sends).phase ≡ false
 read_no_header s (event.First c bytes) sends read = to_no_header s (after_sends sends) (sends_no_header sends)
 read_no_header s (event.Command c h m content) sends read = to_no_header s (after_sends sends) (sends_no_header sends)
 read_no_header s (event.TooLarge c h) sends read = to_no_header s (after_sends sends) (sends_no_header sends)
@@ -125,7 +126,7 @@ command_is_read c (Plain h m) = (refl, refl)
 command_is_read c (Full h p content) = (refl, refl)
 command_is_read c (TooLarge h) = (refl, refl)
 
-read_is : (c : ℕ) (k : Option Command) (s next : Stream) (e : Event) → Reads c k s e next → (connection_of e ≡ c) × (is_read e ≡ true)
+pub read_is : (c : ℕ) (k : Option Command) (s next : Stream) (e : Event) → Reads c k s e next → (connection_of e ≡ c) × (is_read e ≡ true)
 read_is c k s next e (again {m = m}) = command_is_read c m
 read_is c k s next e (fresh {m = m} y) = command_is_read c m
 read_is c k s next e (fault y) = (refl, refl)
@@ -169,7 +170,7 @@ settled_silent f mid new c true false hs (h, all, p) = ap sends_of all ∙ ap (�
 settled_silent f mid new c true true hs p = ap sends_of p.0
 settled_silent f mid new c false false hs p = ap sends_of p.0
 
-settled_sessions : (f : Config) (mid new : State) (c : ℕ) (was is : Bool) (hs : List Happening) → Settles f mid c was is hs new → (d : ℕ) → new.session d ≡ mid.session d
+pub settled_sessions : (f : Config) (mid new : State) (c : ℕ) (was is : Bool) (hs : List Happening) → Settles f mid c was is hs new → (d : ℕ) → new.session d ≡ mid.session d
 settled_sessions f mid new c false true hs (h, all, p) d = p.stepped.session d
 settled_sessions f mid new c true false hs (h, all, p) d = p.stepped.session d
 settled_sessions f mid new c true true hs p d = ap (λ (z : State). z.session d) p.1
