@@ -1,5 +1,5 @@
 -- The consumers of each channel stay named, whatever the broker does, and what is delivered to them can be addressed.
-use Rattle.std.proofs.Common.{◌≡◌, ℕ, zero, suc, ◌+◌, ◌-◌, ◌<◌, ◌≤◌, List, [], ◌∷◌, Bool, true, false, cond, refl, sym, ap, subst, ◌∙◌, filter, length, length-append, get_or, not, arith, Option, Some, None, inl, inr}
+use Rattle.std.proofs.Common.{◌≡◌, ℕ, zero, suc, ◌+◌, ◌<◌, ◌≤◌, List, [], ◌∷◌, Bool, true, false, cond, refl, sym, ap, subst, ◌∙◌, filter, length, length-append, get_or, not, arith, Option, Some, None, inl, inr}
 use Rattle.std.specs.Prelude.{is_some, nat_le, nat_lt, codes, decimal, ◌==◌, ◌&&◌, ◌||◌, if◌then◌else◌}
 use Rattle.std.specs.List.{AllByRecursion, AllPairs, list_any}
 use Rattle.std.specs.Str.{bytes_eq}
@@ -16,7 +16,7 @@ use Rattle.model.specs.Entries.{by_channel}
 use Rattle.model.specs.Settling.{is_refused, kept, takes}
 use Rattle.model.specs.Prefetch.{is_to, has_tag_left}
 use Rattle.model.specs.Deliveries.{Settlement, first_ready, outstanding_after}
-use Rattle.model.specs.Consuming.{is_tagged, is_in_use, server_tag, first_free, next_free, tag_for, is_tag_taken, is_tag_wanting, consumer_of, with_consumer, without_consumer}
+use Rattle.model.specs.Consuming.{is_tagged, is_in_use, server_tag, next_free, tag_for, is_tag_taken, is_tag_wanting, consumer_of, with_consumer, without_consumer}
 use Rattle.model.specs.Step.{Is, tag_of, opened, greatest, Refusal, Ignored, Of_channel, Of_connection, Acts, Does, Gets, Settles, Performs, Refuses, Decides, OnConnection, OnLarge, IsDelivery, channel_or_new, channels_up_to, empty_publish, or_else, refusal, refusal_of, refusal_in, refusal_of_asking, refusal_of_tag, refusal_of_many, refusal_of_consume, refusal_of_large, with_freed, with_channel}
 use Rattle.model.specs.Arrivals.{IsSaid}
 use Rattle.model.specs.Naming.{IsGivenBelow, AreNamedOn, AreNamed}
