@@ -192,7 +192,7 @@ none_arrives_held t entries m q holder (r ∷ rs) = go (bytes_eq r q && not (is_
     go true e = let one = count-cons (is_held_as holder) (record { message = m; mark = Ready }) rest in omega (arith, one, e)
     go false e = e
 
-shrinks_arrivals : (t : Topology) (old new : Text → List Entry) (entries : Text → List Entry) (m : Message) (rs : List Text) → ((q : Text) → new q ≡ old q ++ comes_to t entries m q rs) → Shrinks old new
+pub shrinks_arrivals : (t : Topology) (old new : Text → List Entry) (entries : Text → List Entry) (m : Message) (rs : List Text) → ((q : Text) → new q ≡ old q ++ comes_to t entries m q rs) → Shrinks old new
 shrinks_arrivals t old new entries m rs is = record {
   held = λ q e holder i mark. go q e holder mark (in-append e (old q) (comes_to t entries m q rs) (subst (IsIn e) (is q) i));
   fewer = λ q holder.

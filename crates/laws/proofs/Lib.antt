@@ -13,6 +13,7 @@ pub mod Sent
 pub mod Balance
 pub mod Parts
 pub mod Ordered
+pub mod Giving
 pub mod Once
 pub mod Acks
 pub mod Never

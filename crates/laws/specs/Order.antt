@@ -3,13 +3,17 @@ use Rattle.std.specs.Prelude.{◌≡◌, ℕ, List, [], ◌∷◌, ◌++◌, Boo
 use Rattle.std.specs.Str.{bytes_eq}
 use Rattle.std.specs.List.{AllByRecursion}
 use Rattle.model.specs.Words.{Text}
+use Rattle.model.specs.Topology.{IsIn}
 use Rattle.model.specs.Broker.{Channel, is_ready}
+use Rattle.model.specs.Entries.{held_as}
 use Rattle.model.specs.Deliveries.{first_ready}
 use Rattle.model.specs.Step.{Gets, IsDelivery}
-use Rattle.model.specs.State.{State}
+use Rattle.model.specs.State.{State, Step}
 use Rattle.model.specs.Run.{Happening, Run, notes_of}
 use Rattle.model.specs.declared.contents.Content.{Content}
 use Rattle.model.specs.declared.messages.Entry.{Entry}
+use Rattle.model.specs.declared.messages.Holder.{Holder}
+use Rattle.model.specs.declared.messages.Mark.TheVariants.{Held}
 use Rattle.model.specs.declared.methods.Get.{Get}
 use Rattle.model.specs.declared.methods.Method.TheVariants.{BasicGet}
 use Rattle.model.specs.declared.events.Event.TheVariants.{Command, Deliver}
@@ -71,3 +75,14 @@ pub record IsNext (es : List Entry) (e : Entry) : Type 0 where
 -- Whatever is given out, all that stand ahead of it in its queue are given out already.
 abbrev pub GivenAfterThoseAhead : Type 0
 GivenAfterThoseAhead = (h : Happening) (q : Text) (e : Entry) → GivesOut h q e → IsNext (h.before.broker.queue q) e
+
+-- ---- no other way
+
+-- A message that is held after the event was held so before it, or was given out by it.
+pub data IsHeldSince (h : Happening) (q : Text) (x : Entry) (holder : Holder) : Type 0 where
+  before : (y : Entry) → IsIn y (h.before.broker.queue q) → y.mark ≡ Held holder → IsHeldSince h q x holder
+  by_it : {e : Entry} → GivesOut h q e → x ≡ held_as holder e → IsHeldSince h q x holder
+
+-- No message comes to be held but by being given out.
+abbrev pub HeldAreGiven : Type 0
+HeldAreGiven = (h : Happening) → Step h.config h.before h.event h.sends h.notes h.after → (q : Text) (x : Entry) (holder : Holder) → IsIn x (h.after.broker.queue q) → x.mark ≡ Held holder → IsHeldSince h q x holder

@@ -13,7 +13,7 @@ ghost use Rattle.laws.specs.Consistency.{PlaysStayConsistent, WorldsStayConsiste
 ghost use Rattle.laws.specs.Delivery.{OneReading, HeadlineHolds, PumpsKeep, TurnsKeep};
 ghost use Rattle.laws.specs.OneStep.{EveryRunBalances, EveryRunCounts, EveryRunStays};
 ghost use Rattle.laws.specs.Openings.{OpeningsReadByPhase};
-ghost use Rattle.laws.specs.Order.{GivenAfterThoseAhead, GivenInOrder};
+ghost use Rattle.laws.specs.Order.{GivenAfterThoseAhead, GivenInOrder, HeldAreGiven};
 ghost use Rattle.laws.specs.Promises.{AckedEnterOnce, AcksAreAcked, CausesAreShown, ForbiddenAreNotEntered, ForbiddenAreNotEnteredAtEvents, RunsKeepEvents};
 ghost use Rattle.laws.specs.Rows.{WordsOfKeys, FirstInput, FirstOutput, BadEnd, TooLargeContent, HeadlineRefuses, FirstConsumer, RefusedConsumes};
 ghost use Rattle.laws.specs.Streams.{CuttingDoesNotMatter, FaultsStay, FirstBytesComeFirst, TuningDoesNotMatter};
@@ -150,10 +150,11 @@ pub fn deliveries_are_addressed()
 {}
 
 /// In every run messages are first given out of a queue, to gets and to consumers, in the order in which they entered it, and
-/// each only after all that stand ahead of it.
+/// each only after all that stand ahead of it. No message comes to be held in another way.
 pub fn messages_are_given_in_order()
     ensures in_order { GivenInOrder }
     ensures ahead { GivenAfterThoseAhead }
+    ensures held { HeldAreGiven }
 {}
 
 /// A client reads an output in one way.
