@@ -1,25 +1,21 @@
 -- No message comes to be held but by being given out.
 use Rattle.std.proofs.Common.{◌≡◌, ℕ, List, [], ◌∷◌, Bool, true, false, cond, refl, sym, ap, subst, ◌∙◌, map, not, Option, Some, None, ◌⊎◌, inl, inr}
-use Rattle.std.specs.Prelude.{find, is_some, if◌then◌else◌}
-use Rattle.std.specs.Str.{bytes_eq}
+use Rattle.std.specs.Prelude.{is_some, if◌then◌else◌}
 use Rattle.std.proofs.lemmas.Bool.{false≢true}
 use Rattle.std.proofs.lemmas.Option.{same_Some}
 use Rattle.model.specs.Words.{Text}
-use Rattle.model.specs.Topology.{Topology, IsIn}
+use Rattle.model.specs.Topology.{IsIn}
 use Rattle.model.specs.Grammar.{Ids, ids_of}
-use Rattle.model.specs.Broker.{Outstanding, Channel, Connection, Broker, is_ready}
+use Rattle.model.specs.Broker.{Channel, Connection, Broker, is_ready}
 use Rattle.model.specs.Entries.{by_channel, by_connection, freed, held_as, change_first, without_first}
 use Rattle.model.specs.Deliveries.{Settlement, Leaves, Returns, AreSettled, with_queue, first_ready, after_giving}
 use Rattle.model.specs.Phases.{is_running}
-use Rattle.model.specs.Step.{Refusal, Ignored, Of_channel, Of_connection, Acts, Does, Gets, Settles, Performs, Refuses, Decides, OnConnection, OnLarge, IsDelivery, Is, channel_or_new, empty_publish, opened, refusal, refusal_of_large, with_freed, with_channel}
-use Rattle.model.specs.State.{Step}
+use Rattle.model.specs.Step.{Refusal, Ignored, Of_channel, Of_connection, Acts, Does, Gets, Settles, Performs, Refuses, Decides, OnConnection, OnLarge, Is, channel_or_new, empty_publish, opened, refusal, refusal_of_large, with_freed, with_channel}
 use Rattle.model.specs.Run.{Happening}
 use Rattle.model.specs.declared.contents.Content.{Content}
 use Rattle.model.specs.declared.messages.Entry.{Entry}
 use Rattle.model.specs.declared.messages.Holder.{Holder}
 use Rattle.model.specs.declared.messages.Mark.TheVariants.{Held}
-use Rattle.model.specs.declared.messages.Taker.{Taker}
-use Rattle.model.specs.declared.messages.Taker.TheVariants as taker
 use Rattle.model.specs.declared.methods.Get.{Get}
 use Rattle.model.specs.declared.methods.Method.{Method}
 use Rattle.model.specs.declared.methods.Method.TheVariants.{ConnectionClose, ChannelClose, ChannelCloseOk, QueuePurge, BasicQos, BasicConsume, BasicCancel, BasicPublish, BasicGet, BasicAck, BasicReject, BasicNack, BasicRecover, ConfirmSelect}
