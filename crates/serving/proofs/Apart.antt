@@ -84,10 +84,10 @@ abbrev pub IsAbsent : ℕ → List (Option Peer) → Type 0
 IsAbsent c ps = (i : ℕ) (q : Peer) → At ps i q → q.connection ≢ c
 
 -- behind its own slot no connection has another
-pub absent_behind : (w : World) (ps : List (Option Peer)) (i : ℕ) (p : Peer) → IsFit w ps → At ps i p → IsAbsent p.connection (drop (suc i) ps)
+pub absent_behind : (w : World) (ps : List (Option Peer)) (i : ℕ) (p : Peer) → IsFit w ps → At ps i p → IsAbsent p.connection (drop (i + 1) ps)
 absent_behind w ps i p fit at j q there e =
-    let found : At ps (suc i + j) q = sym (get_or-drop (suc i) ps j None) ∙ there in
-    let same : i ≡ suc i + j = fit.apart i (suc i + j) p q at found (sym e) in
+    let found : At ps (i + 1 + j) q = sym (get_or-drop (i + 1) ps j None) ∙ there in
+    let same : i ≡ i + 1 + j = fit.apart i (i + 1 + j) p q at found (sym e) in
     absurd (omega (arith, same))
 
 awake_as : (c : ℕ) (a b : World) → ApartFrom c a b → (d : ℕ) → d ≢ c → is_awake b d ≡ is_awake a d
@@ -109,19 +109,44 @@ writes_as c a b p (Some q ∷ ps) absent =
     ap (λ (w : Wire). (if nat_lt 0 (length w.output) then To_write q.socket ∷ [] else []) ++ flat_map (write_of b) ps) (p.wires q.connection (absent 0 q refl))
     ∙ ap (λ (xs : List Ask). write_of a (Some q) ++ xs) (writes_as c a b p ps (λ i r at. absent (suc i) r at))
 
+-- ---- slot by slot
+
 -- what is due of the slots from i on is what is due of slot i, and of those behind it
-pub due_at : (f : Option Peer → List Ask) → f None ≡ [] → (ps : List (Option Peer)) (i : ℕ) → flat_map f (drop i ps) ≡ f (slice_index_or ps i None) ++ flat_map f (drop (suc i) ps)
+due_at : (f : Option Peer → List Ask) → f None ≡ [] → (ps : List (Option Peer)) (i : ℕ) → flat_map f (drop i ps) ≡ f (slice_index_or ps i None) ++ flat_map f (drop (suc i) ps)
 due_at f e [] zero = ap (λ (z : List Ask). z ++ []) (sym e)
 due_at f e [] (suc i) = ap (λ (z : List Ask). z ++ []) (sym e)
 due_at f e (p ∷ ps) zero = refl
 due_at f e (p ∷ ps) (suc i) = due_at f e ps i
 
--- slots that agree from i on agree at i
-pub front_as : (ps qs : List (Option Peer)) (i : ℕ) → drop i ps ≡ drop i qs → slice_index_or ps i None ≡ slice_index_or qs i None
-front_as ps qs i e = sym (at ps i) ∙ ap (λ (z : List (Option Peer)). slice_index_or z 0 None) e ∙ at qs i
-  where
-    at : (rs : List (Option Peer)) (j : ℕ) → slice_index_or (drop j rs) 0 None ≡ slice_index_or rs j None
-    at [] zero = refl
-    at [] (suc j) = refl
-    at (r ∷ rs) zero = refl
-    at (r ∷ rs) (suc j) = at rs j
+first_of : (ps : List (Option Peer)) (i : ℕ) → slice_index_or (drop i ps) 0 None ≡ slice_index_or ps i None
+first_of [] zero = refl
+first_of [] (suc i) = refl
+first_of (p ∷ ps) zero = refl
+first_of (p ∷ ps) (suc i) = first_of ps i
+
+behind_first : (ps : List (Option Peer)) (i : ℕ) → drop 1 (drop i ps) ≡ drop (suc i) ps
+behind_first [] zero = refl
+behind_first [] (suc i) = refl
+behind_first (p ∷ ps) zero = refl
+behind_first (p ∷ ps) (suc i) = behind_first ps i
+
+-- slots that agree from i on agree behind it
+pub later_on : (start now : List (Option Peer)) (i : ℕ) → drop i now ≡ drop i start → drop (i + 1) now ≡ drop (i + 1) start
+later_on start now i e =
+    let next : suc i ≡ i + 1 = omega arith in
+    subst (λ (k : ℕ). drop k now ≡ drop k start) next (sym (behind_first now i) ∙ ap (drop 1) e ∙ behind_first start i)
+
+-- one more slot was looked at: what was asked, with what the rest are due, stays the same
+pub due_on : (f g : Option Peer → List Ask) → f None ≡ [] → (start now : List (Option Peer)) (i : ℕ) (asked due : List Ask) → drop i now ≡ drop i start
+    → flat_map g (drop (i + 1) now) ≡ flat_map f (drop (i + 1) now) → asked ++ flat_map f (drop i start) ≡ due
+    → (asked ++ f (slice_index_or now i None)) ++ flat_map g (drop (i + 1) start) ≡ due
+due_on f g e start now i asked due same stays all =
+    let next : suc i ≡ i + 1 = omega arith in
+    let rest : flat_map g (drop (i + 1) start) ≡ flat_map f (drop (i + 1) start) = subst (λ (ps : List (Option Peer)). flat_map g ps ≡ flat_map f ps) (later_on start now i same) stays in
+    let here : slice_index_or now i None ≡ slice_index_or start i None = sym (first_of now i) ∙ ap (λ (ps : List (Option Peer)). slice_index_or ps 0 None) same ∙ first_of start i in
+    let split : flat_map f (drop i start) ≡ f (slice_index_or start i None) ++ flat_map f (drop (i + 1) start) =
+    due_at f e start i ∙ ap (λ (k : ℕ). f (slice_index_or start i None) ++ flat_map f (drop k start)) next in
+    ap (λ (z : List Ask). (asked ++ f (slice_index_or now i None)) ++ z) rest
+    ∙ ap (λ (o : Option Peer). (asked ++ f o) ++ flat_map f (drop (i + 1) start)) here
+    ∙ append_assoc asked (f (slice_index_or start i None)) (flat_map f (drop (i + 1) start))
+    ∙ ap (λ (z : List Ask). asked ++ z) (sym split) ∙ all

@@ -2,12 +2,13 @@
 use Rattle.std.proofs.Common.{true, false, ◌≡◌, ◌≤◌, ℕ, ◌+◌, List, [], ◌∷◌, ◌++◌, Bool, Option, Some, None, length, take, refl, sym, ap, subst, ◌∙◌, slice_set}
 use Rattle.std.proofs.lemmas.List.{length-take-le}
 use Rattle.model.specs.Run.{Happening}
-use Rattle.model.specs.Arrivals.{World, is_gone, Answers}
+use Rattle.model.specs.Arrivals.{World, Same, can_open, is_gone, Answers}
 use Rattle.model.specs.declared.events.Arrival.TheVariants as arrival
 use Rattle.serving.specs.Wire.{Call, Accepted, Not_accepted, Accept_failed, Got, Nothing_got, Read_ended, Read_failed, Took, Nothing_taken, Write_failed, Closed, Rested, To_accept, To_read, To_write, Told, after, IsFresh}
-use Rattle.serving.specs.Coming.{Attempt, whole, short, FallsShort}
+use Rattle.serving.specs.Coming.{Attempt, whole, short, Brings, FallsShort}
 use Rattle.serving.specs.Story.{Served, served, At, TakesIn, Met, Turned_away, Met_no_one, Heard, Heard_partly, Heard_nothing, Heard_end, Gave, Gave_partly, Gave_nothing, Gave_up, Let_go, Paused, Serves}
 use Rattle.serving.specs.declared.peers.Peer.{Peer}
+use Rattle.serving.proofs.Turning.{match_false}
 use Rattle.serving.proofs.Onward.{after_two, serves_one, attempt_one, attempt_two}
 
 -- ---- accepts
@@ -72,7 +73,7 @@ gave a b ps i p n told now at le ans e =
     let is : length (take n out) ≡ n = length-take-le n out le in
     let brings : Answers a (arrival.Sent p.connection (length (take n out))) ans.0 b = subst (λ (k : ℕ). Answers a (arrival.Sent p.connection k) ans.0 b) (sym is) ans.1 in
     serves_one (served a ps told) (served b ps now) _ _ (Gave i p (take n out)) ans.0
-    (record { table = ((n, le, refl), at, refl); brings = attempt_one a b (whole (arrival.Sent p.connection (length (take n out)))) ans.0 brings; told = e }) refl refl
+    (record { table = ((n, le, refl), (at, refl)); brings = attempt_one a b (whole (arrival.Sent p.connection (length (take n out)))) ans.0 brings; told = e }) refl refl
 
 pub gave_partly : (a m b : World) (ps : List (Option Peer)) (i : ℕ) (p : Peer) (n : ℕ) (told mid now : Told) → At ps i p → n ≤ length (a.wire p.connection).output → (hs : List Happening) × FallsShort a (arrival.Sent p.connection n) hs m
     → (hs : List Happening) × Answers m (arrival.Lose p.connection) hs b → mid ≡ after told (Took p.socket (take n (a.wire p.connection).output) ∷ []) → now ≡ after mid (Closed p.socket ∷ [])
@@ -83,7 +84,7 @@ gave_partly a m b ps i p n told mid now at le falls lost e f =
     let brings : FallsShort a (arrival.Sent p.connection (length (take n out))) falls.0 m = subst (λ (k : ℕ). FallsShort a (arrival.Sent p.connection k) falls.0 m) (sym is) falls.1 in
     serves_one (served a ps told) (served b (slice_set ps i None) now) _ _ (Gave_partly i p (take n out)) (falls.0 ++ lost.0)
     (record {
-      table = ((n, le, refl), at, refl);
+      table = ((n, le, refl), (at, refl));
       brings = attempt_two a m b (short (arrival.Sent p.connection (length (take n out)))) (whole (arrival.Lose p.connection)) falls.0 lost.0 brings lost.1;
       told = after_two told mid now _ _ e f;
     }) refl refl
@@ -100,7 +101,21 @@ gave_up a b ps i p told mid now at lost e f =
 -- ---- ends and rests
 
 pub let_go : (a : World) (ps : List (Option Peer)) (i : ℕ) (p : Peer) (told now : Told) → At ps i p → is_gone a p.connection ≡ true → now ≡ after told (Closed p.socket ∷ []) → Serves (served a ps told) [] true (served a (slice_set ps i None) now)
-let_go a ps i p told now at gone e = serves_one (served a ps told) (served a (slice_set ps i None) now) _ _ (Let_go i p) [] (record { table = (gone, at, refl); brings = (refl, refl); told = e }) refl refl
+let_go a ps i p told now at gone e = serves_one (served a ps told) (served a (slice_set ps i None) now) _ _ (Let_go i p) [] (record { table = (gone, (at, refl)); brings = (refl, refl); told = e }) refl refl
 
 pub paused : (v : Served) → Serves v [] false (record v { told = after v.told (Rested ∷ []) })
 paused v = serves_one v (record v { told = after v.told (Rested ∷ []) }) _ _ Paused [] (record { table = refl; brings = (refl, refl); told = refl }) refl refl
+
+-- ---- what is not taken in
+
+pub kept_out : (a b : World) (ps qs : List (Option Peer)) (s : ℕ) (o : Attempt) → o.arrival ≡ arrival.Open → Brings a o [] b → qs ≡ ps → TakesIn a ps s false b qs
+kept_out a b ps qs s o is brings e = ((o, is, brings), e)
+
+pub is_full : (a b : World) (ps qs : List (Option Peer)) (s : ℕ) → can_open a ≡ false → Same a b → qs ≡ ps → TakesIn a ps s false b qs
+is_full a b ps qs s full same e = kept_out a b ps qs s (whole arrival.Open) refl (match_false (can_open a) _ _ full (refl, same)) e
+
+pub no_memory : (a b : World) (ps qs : List (Option Peer)) (s : ℕ) → Same a b → qs ≡ ps → TakesIn a ps s false b qs
+no_memory a b ps qs s same e = kept_out a b ps qs s (short arrival.Open) refl (refl, same) e
+
+pub same_not : (a : World) → Same a a
+same_not a = record { config = refl; state = refl; given = refl; wires = λ d. refl }

@@ -67,7 +67,7 @@ met_given a b hs can (mid, first, rest, e, br, p) =
 -- what a slot holds after one of them was freed, it held before
 pub freed_at : (ps : List (Option Peer)) (i j : ℕ) (p : Peer) → At (slice_set ps i None) j p → At ps j p
 freed_at [] i j p at = at
-freed_at (q ∷ ps) zero zero p ()
+freed_at (q ∷ ps) zero zero p at = absurd (cc at)
 freed_at (q ∷ ps) zero (suc j) p at = at
 freed_at (q ∷ ps) (suc i) zero p at = at
 freed_at (q ∷ ps) (suc i) (suc j) p at = freed_at ps i j p at
@@ -135,4 +135,4 @@ serves_fit a b xs p s f = fit_story s.deeds a b s.happenings s.story f
 
 -- with no slot every server fits
 pub fit_none : (w : World) → IsFit w []
-fit_none w = record { apart = λ i j p q (); given = λ i p () }
+fit_none w = record { apart = λ i j p q at. absurd (cc at); given = λ i p at. absurd (cc at) }

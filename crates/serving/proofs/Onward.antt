@@ -1,6 +1,6 @@
 -- One more deed, and what a server does after what it did.
 use Rattle.std.proofs.Common.{◌≡◌, ◌+◌, ℕ, List, [], ◌∷◌, ◌++◌, Bool, true, false, Option, Some, None, filter_map, flat_map, count_by, length, refl, sym, ap, subst, ◌∙◌, append_assoc, append-nil, arith}
-use Rattle.std.specs.Prelude.{◌||◌}
+use Rattle.std.specs.Prelude.{◌||◌, if◌then◌else◌}
 use Rattle.std.specs.List.{list_any}
 use Rattle.std.proofs.lemmas.List.Concat.{flat_map-append}
 use Rattle.std.proofs.lemmas.List.Elements.{filter_map-append}
@@ -8,15 +8,12 @@ use Rattle.std.proofs.lemmas.List.Folds.{list_any-append}
 use Rattle.std.proofs.lemmas.List.Sums.{sum_by-append}
 use Rattle.model.specs.Run.{Happening}
 use Rattle.model.specs.Arrivals.{World}
-use Rattle.serving.specs.Wire.{Call, Ask, ask, asks, Told, after, and_these, is_failed}
+use Rattle.serving.specs.Wire.{Call, Rested, Ask, ask, asks, Told, after, and_these, is_failed}
 use Rattle.serving.specs.Coming.{Attempt, Brings, Attempts}
-use Rattle.serving.specs.Story.{Served, Deed, calls, is_done, Does, Story, Serves}
+use Rattle.serving.specs.Story.{Served, served, Deed, calls, is_done, Does, Story, Serves}
+use Rattle.serving.specs.Rounds.{Rests}
 
 -- ---- what a wire tells
-
-these_none : (told : Option (List Call)) → and_these told [] ≡ told
-these_none None = refl
-these_none (Some xs) = ap (λ (z : List Call). Some z) (append-nil xs)
 
 these_then : (told : Option (List Call)) (xs ys : List Call) → and_these (and_these told xs) ys ≡ and_these told (xs ++ ys)
 these_then None xs ys = refl
@@ -26,9 +23,6 @@ failed_then : (n : ℕ) (xs ys : List Call) → (n + count_by is_failed xs) + co
 failed_then n xs ys =
     let e : count_by is_failed (xs ++ ys) ≡ count_by is_failed xs + count_by is_failed ys = sum_by-append _ xs ys in
     omega (arith, e)
-
-pub after_none : (told : Told) → after told [] ≡ told
-after_none told = λ i. record { calls = these_none told.calls i; failures = told.failures }
 
 pub after_then : (told : Told) (xs ys : List Call) → after (after told xs) ys ≡ after told (xs ++ ys)
 after_then told xs ys = λ i. record { calls = these_then told.calls xs ys i; failures = failed_then told.failures xs ys i }
@@ -76,3 +70,12 @@ attempt_one a b t hs br = (b, hs, [], sym (append-nil hs), br, (refl, refl))
 
 pub attempt_two : (a b c : World) (t u : Attempt) (hs ks : List Happening) → Brings a t hs b → Brings b u ks c → Attempts a (t ∷ u ∷ []) (hs ++ ks) c
 attempt_two a b c t u hs ks br cr = (b, hs, ks, refl, br, attempt_one b c u ks cr)
+
+-- ---- rests
+
+pub rests_once : (v : Served) (acted : Bool) (now : Told) → acted ≡ false → now ≡ after v.told (Rested ∷ []) → Rests v acted (served v.world v.peers now)
+rests_once v acted now quiet e =
+    ap (λ (t : Told). served v.world v.peers t) e ∙ ap (λ (x : Bool). if x then v else record v { told = after v.told (Rested ∷ []) }) (sym quiet)
+
+pub rests_not : (v : Served) (acted : Bool) → acted ≡ true → Rests v acted v
+rests_not v acted busy = ap (λ (x : Bool). if x then v else record v { told = after v.told (Rested ∷ []) }) (sym busy)

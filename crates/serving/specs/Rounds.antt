@@ -23,16 +23,11 @@ reads_due v = flat_map (read_of v.world) v.peers
 abbrev pub writes_due : Served → List Ask
 writes_due v = flat_map (write_of v.world) v.peers
 
--- one rest where nothing was done, and else none
-abbrev pub Rests : Served → Bool → Served → Type 0
-Rests old done new = new ≡ (if done then old else record old { told = after old.told (Rested ∷ []) })
-
--- One round.
-pub record IsRound (old new : Served) : Type 0 where
+-- One accept, the reads and the writes that are due then, and no other; and whether anything was done.
+pub record GoesRound (old : Served) (acted : Bool) (new : Served) : Type 0 where
   pub met : Served
   pub heard : Served
   pub given : Served
-  pub closed : Served
   pub has_met : Bool
   pub has_heard : Bool
   pub has_given : Bool
@@ -40,8 +35,19 @@ pub record IsRound (old new : Served) : Type 0 where
   pub accepts : Serves old (To_accept ∷ []) has_met met
   pub reads : Serves met (reads_due met) has_heard heard
   pub writes : Serves heard (writes_due heard) has_given given
-  pub closes : Serves given [] has_closed closed
-  pub rests : Rests closed (has_met || has_heard || has_given || has_closed) new
+  pub closes : Serves given [] has_closed new
+  pub acts : acted ≡ (((has_met || has_heard) || has_given) || has_closed)
+
+-- one rest where nothing was done, and else none
+abbrev pub Rests : Served → Bool → Served → Type 0
+Rests old acted new = new ≡ (if acted then old else record old { told = after old.told (Rested ∷ []) })
+
+-- One round.
+pub record IsRound (old new : Served) : Type 0 where
+  pub acted : Bool
+  pub gone_round : Served
+  pub goes : GoesRound old acted gone_round
+  pub rests : Rests gone_round acted new
 
 -- that many rounds, one after the other
 abbrev pub Rounds : ℕ → Served → Served → Type 0

@@ -8,7 +8,7 @@ ghost use Rattle.slab.specs.Slab.{HasRoomFor};
 ghost use Rattle.serving.specs.Wire.{Closed, To_accept, To_read, To_write, after};
 ghost use Rattle.serving.specs.Story.{At, Serves, TakesIn, served};
 ghost use Rattle.serving.specs.Fit.{ApartFrom, IsFit};
-ghost use Rattle.serving.specs.Rounds.{IsRound, read_of, reads_due, write_of, writes_due};
+ghost use Rattle.serving.specs.Rounds.{GoesRound, IsRound, read_of, reads_due, write_of, writes_due};
 
 use crate::machine::Machine;
 use crate::peers::Peer;
@@ -33,7 +33,8 @@ fn accept_one<M: Machine, W: Wire>(
             }
             true
         }
-        Accept::Nothing | Accept::Failed => false,
+        Accept::Nothing => false,
+        Accept::Failed => false,
     }
 }
 
@@ -54,7 +55,8 @@ fn take_in<M: Machine>(
             peers.insert_reserved(Peer { connection, socket });
             true
         }
-        Ok(None) | Err(_) => false,
+        Ok(None) => false,
+        Err(_) => false,
     }
 }
 
@@ -252,7 +254,26 @@ fn close_all<M: Machine, W: Wire>(machine: &M, peers: &mut Slab<Peer>, wire: &mu
     done
 }
 
-/// One round: an accept, reads, writes, closes, and a rest where nothing was done.
+/// An accept, reads, writes and closes, and whether anything was done.
+fn go_round<M: Machine, W: Wire>(
+    alloc: Global,
+    machine: &mut M,
+    peers: &mut Slab<Peer>,
+    wire: &mut W,
+    buffer: &mut [u8],
+) -> bool
+    requires fit { IsFit (M.world machine.old) peers.old.slots }
+    ensures fit { IsFit (M.world machine.new) peers.new.slots }
+    ensures round { GoesRound (served (M.world machine.old) peers.old.slots (W.told wire.old)) result (served (M.world machine.new) peers.new.slots (W.told wire.new)) }
+{
+    let has_met = accept_one(alloc, machine, peers, wire);
+    let has_heard = read_all(alloc, machine, peers, wire, buffer);
+    let has_given = write_all(alloc, machine, peers, wire);
+    let has_closed = close_all(&*machine, peers, wire);
+    has_met | has_heard | has_given | has_closed
+}
+
+/// One round, with a rest where nothing was done.
 pub(crate) fn round<M: Machine, W: Wire>(
     alloc: Global,
     machine: &mut M,
@@ -264,11 +285,7 @@ pub(crate) fn round<M: Machine, W: Wire>(
     ensures fit { IsFit (M.world machine.new) peers.new.slots }
     ensures round { IsRound (served (M.world machine.old) peers.old.slots (W.told wire.old)) (served (M.world machine.new) peers.new.slots (W.told wire.new)) }
 {
-    let has_met = accept_one(alloc, machine, peers, wire);
-    let has_heard = read_all(alloc, machine, peers, wire, buffer);
-    let has_given = write_all(alloc, machine, peers, wire);
-    let has_closed = close_all(&*machine, peers, wire);
-    if !(has_met | has_heard | has_given | has_closed) {
+    if !go_round(alloc, machine, peers, wire, buffer) {
         wire.rest();
     }
 }
