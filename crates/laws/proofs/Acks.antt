@@ -23,7 +23,7 @@ use Rattle.model.specs.declared.notes.Note.{Note}
 use Rattle.model.specs.declared.notes.Answer.TheVariants as answer
 use Rattle.laws.specs.Promises.{ack_of, ack_sent}
 use Rattle.laws.proofs.Counts.{filter_all, filter_map_none}
-use Rattle.laws.proofs.View.{is_reply, Publishes, Seen, seen_at, reply_all}
+use Rattle.laws.proofs.View.{is_answer, Publishes, Seen, seen_at, answer_all}
 use Rattle.laws.proofs.Balance.{number, content, confirm, some_full, is_returned}
 use Rattle.laws.proofs.Once.{acked_if, nothing_acked, publish_acked, acked_by_answer}
 
@@ -31,10 +31,10 @@ use Rattle.laws.proofs.Once.{acked_if, nothing_acked, publish_acked, acked_by_an
 abbrev IsNoAck : Send → Type 0
 IsNoAck s = ack_sent s ≡ None
 
--- a reply is none
-reply_is_no_ack : (h : ℕ) (m : Method) → is_reply m ≡ true → ack_of h m ≡ None
-reply_is_no_ack h (BasicAck m) is = absurd (false≢true is)
-reply_is_no_ack h _ is = refl
+-- an answer is none
+answer_is_no_ack : (h : ℕ) (m : Method) → is_answer m ≡ true → ack_of h m ≡ None
+answer_is_no_ack h (BasicAck m) is = absurd (false≢true is)
+answer_is_no_ack h _ is = refl
 
 -- the acks among these sends to a connection
 abbrev acks_to : ℕ → List Send → List Ack
@@ -68,7 +68,7 @@ one_ack p gs c (Some m) false ack e = go (p.c == c) ack (e ∙ ap (λ b. b || fa
 
 step_acks : (t : Topology) (old new : Broker) (e : Event) (sends : List Send) (notes : List Note) → Seen t old new e sends notes → (gs : List Guarantee) (c : ℕ)
     → acks_to c sends ≡ map ack_for (filter_map (acked_as gs c notes) notes)
-step_acks t old new e sends notes (inl q) gs c = acks_to_none c sends (reply_all IsNoAck (λ d h m content is. reply_is_no_ack h m is) sends q.few) ∙ ap (map ack_for) (sym (nothing_acked gs c notes q))
+step_acks t old new e sends notes (inl q) gs c = acks_to_none c sends (answer_all IsNoAck (λ d. refl) (λ d h m content is. answer_is_no_ack h m is) sends q.few) ∙ ap (map ack_for) (sym (nothing_acked gs c notes q))
 step_acks t old new e sends notes (inr p) gs c =
     let back = returned_sends p.c p.h p.publish (content p) (is_returned p) in
     let answers = confirm_sends p.c p.h (confirm p) (answer_of (some_full p)) in

@@ -27,7 +27,7 @@ use Rattle.model.specs.declared.messages.Taker.TheVariants as taker
 use Rattle.model.specs.declared.contents.Content.{Content}
 use Rattle.model.specs.declared.events.Send.{Send}
 use Rattle.model.specs.declared.events.Event.{Event}
-use Rattle.model.specs.declared.events.Event.TheVariants.{Running, Command, TooLarge, Fault, Lose, Pause, Resume}
+use Rattle.model.specs.declared.events.Event.TheVariants.{Open, First, Running, Command, TooLarge, Fault, Lose, Pause, Resume}
 use Rattle.model.specs.declared.methods.Get.{Get}
 use Rattle.model.specs.declared.methods.Method.{Method}
 use Rattle.model.specs.declared.methods.Method.TheVariants.{ConnectionClose, ChannelClose, ChannelCloseOk, QueuePurge, BasicQos, BasicPublish, BasicGet, BasicAck, BasicReject, BasicNack, BasicRecover, ConfirmSelect}
@@ -563,6 +563,8 @@ module _ (t : Topology) (old new : Broker) (a : IsAgreed old) where
 
   -- Each event keeps the agreement.
   pub onward : (e : Event) (sends : List Send) (notes : List Note) → Acts t old e sends notes new → IsAgreed new
+  onward (Open c) sends notes p = nothing sends _ notes p
+  onward (First c bytes) sends notes p = nothing sends _ notes p
   onward (Running c max k) sends notes p = agreed_freed old new c (channels_up_to k) a p.left.queues p.left.channels (row_good k)
   onward (Command c h m content) sends notes p = commanded sends notes c h m content (old.connection c) p
   onward (TooLarge c h) sends notes p = too_large sends notes c h (old.connection c) p

@@ -27,7 +27,7 @@ use Rattle.model.specs.declared.messages.Taker.TheVariants as taker
 use Rattle.model.specs.declared.events.Send.{Send}
 use Rattle.model.specs.declared.events.Send.TheVariants as send
 use Rattle.model.specs.declared.events.Event.{Event}
-use Rattle.model.specs.declared.events.Event.TheVariants.{Running, Command, TooLarge, Fault, Lose, Pause, Resume}
+use Rattle.model.specs.declared.events.Event.TheVariants.{Open, First, Running, Command, TooLarge, Fault, Lose, Pause, Resume}
 use Rattle.model.specs.declared.methods.Get.{Get}
 use Rattle.model.specs.declared.methods.Publish.{Publish}
 use Rattle.model.specs.declared.methods.Method.{Method}
@@ -224,6 +224,8 @@ module _ (t : Topology) (old new : Broker) (sends : List Send) (notes : List Not
 
   -- Each event of the broker keeps that.
   pub carries : (e : Event) → IsSaid e → Acts t old e sends notes new → Carries new sends
+  carries (Open c) said p = does _ _ p tt a
+  carries (First c bytes) said p = does _ _ p tt a
   carries (Running c max k) said p = does _ _ p tt (freed_in (by_connection c))
   carries (Command c h m content) said p = commanded c h m content (old.connection c) said.0 said.1 p
   carries (TooLarge c h) said p = too_large c h (old.connection c) p

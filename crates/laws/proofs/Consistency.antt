@@ -7,10 +7,11 @@ use Rattle.model.specs.State.{Config, State}
 use Rattle.model.specs.Run.{Happening, AreCounted}
 use Rattle.model.specs.Sending.{AreCarried}
 use Rattle.model.specs.Commands.{Stream}
-use Rattle.model.specs.Arrivals.{World, Wire, new_world, is_over, is_paused, is_past_bound, is_gone, can_open, Same, Turns, Waits, Works, none_more, one_more, WorksOff, Takes_off, Opens, Loses, Answers, Plays, with_heard}
+use Rattle.model.specs.Arrivals.{IsSaid, World, Wire, new_world, is_over, is_paused, is_past_bound, is_gone, can_open, Same, Turns, Waits, Works, none_more, one_more, WorksOff, Takes_off, Opens, Loses, Answers, Plays, with_heard}
 use Rattle.model.specs.Consistent.{IsConsistent}
 use Rattle.model.specs.declared.events.Arrival.{Arrival}
 use Rattle.model.specs.declared.events.Arrival.TheVariants as arrival
+use Rattle.model.specs.declared.events.Event.{Event}
 use Rattle.model.specs.declared.events.Event.TheVariants as event
 use Rattle.laws.specs.Consistency.{WorldsStayConsistent}
 use Rattle.laws.proofs.Counts.{from_either}
@@ -79,14 +80,27 @@ takes_consistent old new c n hs k t =
     let messages = told_messages hs old new k (told_taken c n old new hs t) in
     record { counted = messages.counted; carried = messages.carried; running = after.running; paused = after.paused }
 
+-- an opening, after which the broker agrees with the phases
+opened_consistent : (old new : World) (e : Event) (s : Stream) (hs : List Happening) → IsSaid e → IsConsistent old → Opens old e s hs new → Agrees new.state.broker new.state.session (is_paused new) → IsConsistent new
+opened_consistent old new e s hs said is o after =
+    let messages = told_messages hs old new is (told_opens old new e s hs said o) in
+    record { counted = messages.counted; carried = messages.carried; running = after.running; paused = after.paused }
+
 pub opens_consistent : (old new : World) (k : ℕ) (s : Stream) (hs : List Happening) → IsConsistent old → Opens old (event.Running (old.given + 1) 255 k) s hs new → IsConsistent new
 opens_consistent old new k s hs is o =
     let c = old.given + 1 in
-    let after : Agrees new.state.broker new.state.session (is_paused new) =
+    opened_consistent old new (event.Running c 255 k) s hs tt is o (
     step_agrees old.config old.state new.state (event.Running c 255 k) o.h.sends o.h.notes (is_paused old) (is_paused new) (agreed old is)
-    (λ d ne. ap (λ (w : Wire). is_past_bound w.output) (o.wires d ∙ wire_changed old.wire c d _ ne)) (ap (λ (w : Wire). is_past_bound w.output) (o.wires c ∙ with_here old.wire c _)) o.happens.stepped in
-    let messages = told_messages hs old new is (told_opens old new c k s hs o) in
-    record { counted = messages.counted; carried = messages.carried; running = after.running; paused = after.paused }
+    (λ d ne. ap (λ (w : Wire). is_past_bound w.output) (o.wires d ∙ wire_changed old.wire c d _ ne)) (ap (λ (w : Wire). is_past_bound w.output) (o.wires c ∙ with_here old.wire c _)) o.happens.stepped
+    )
+
+pub awaits_consistent : (old new : World) (s : Stream) (hs : List Happening) → IsConsistent old → Opens old (event.Open (old.given + 1)) s hs new → IsConsistent new
+awaits_consistent old new s hs is o =
+    let c = old.given + 1 in
+    opened_consistent old new (event.Open c) s hs tt is o (
+    step_agrees old.config old.state new.state (event.Open c) o.h.sends o.h.notes (is_paused old) (is_paused new) (agreed old is)
+    (λ d ne. ap (λ (w : Wire). is_past_bound w.output) (o.wires d ∙ wire_changed old.wire c d _ ne)) tt o.happens.stepped
+    )
 
 pub loses_consistent : (old new : World) (c : ℕ) (hs : List Happening) → IsConsistent old → Loses old c hs new → IsConsistent new
 loses_consistent old new c hs k o =
@@ -107,6 +121,7 @@ stay_consistent = record {
   hears = hears_consistent;
   takes = takes_consistent;
   opens = opens_consistent;
+  awaits = awaits_consistent;
   loses = loses_consistent;
 }
 
@@ -123,6 +138,7 @@ pub same_consistent : (old new : World) (hs : List Happening) → IsConsistent o
 same_consistent old new hs k p = consistent_same old new k p.1.state (λ d. ap (λ (w : Wire). w.output) (p.1.wires d))
 
 answers_consistent : (old new : World) (a : Arrival) (hs : List Happening) → IsConsistent old → Answers old a hs new → IsConsistent new
+answers_consistent old new arrival.Open hs k p = from_either (can_open old) (λ o. awaits_consistent old new _ hs k o) (same_consistent old new hs k) p
 answers_consistent old new (arrival.Ready n) hs k p = from_either (can_open old) (λ o. opens_consistent old new n _ hs k o) (same_consistent old new hs k) p
 answers_consistent old new (arrival.In c bytes) hs k p = from_either (is_over old c) (same_consistent old new hs k) (λ w. works_off_consistent c (with_heard old c bytes) new hs (hears_consistent old c bytes k) w) p
 answers_consistent old new (arrival.Sent c n) hs k p = from_either (is_gone old c) (same_consistent old new hs k) (λ t. works_off_consistent c t.mid new t.rest (takes_consistent old t.mid c n t.first k t.takes) t.works) p

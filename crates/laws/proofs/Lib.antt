@@ -3,6 +3,7 @@ pub mod Keys
 pub mod Leaving
 pub mod Agreement
 pub mod Agreed
+pub mod Speaking
 pub mod View
 pub mod Carried
 pub mod Sizes
@@ -16,5 +17,7 @@ pub mod Reading
 pub mod Plays
 pub mod Linked
 pub mod Consistency
+pub mod Spoken
+pub mod Openings
 pub mod Whole
 pub mod Rows

@@ -13,10 +13,10 @@ use Rattle.model.specs.declared.events.Send.{Send}
 use Rattle.model.specs.declared.events.Phase.{Phase}
 use Rattle.model.specs.declared.events.Phase.TheVariants as phase
 use Rattle.model.specs.declared.events.Command.{Command}
-use Rattle.model.specs.declared.events.Command.TheVariants.{Plain, Full, TooLarge}
+use Rattle.model.specs.declared.events.Command.TheVariants.{Head, Plain, Full, TooLarge}
 use Rattle.model.specs.declared.events.Event.{Event}
 use Rattle.model.specs.declared.events.Event.TheVariants as event
-use Rattle.laws.proofs.View.{connection_of, connection_after, session_after, is_read, with_same, acted, Performed, Answered, goes}
+use Rattle.laws.proofs.View.{connection_of, connection_after, session_after, is_read, is_opening, with_same, acted, Performed, Answered, goes}
 
 -- ---- one value changed
 
@@ -85,6 +85,8 @@ flagged b (Some k) conn e = sym (ap flag_of e)
 
 -- what an event makes of the flag of its connection: what is read is of one that is not paused
 abbrev pub IsFlagAfter : Event → Bool → Bool → Type 0
+IsFlagAfter (event.Open c) was is = Unit {0}
+IsFlagAfter (event.First c bytes) was is = (was ≡ false) × (is ≡ false)
 IsFlagAfter (event.Running c max k) was is = is ≡ false
 IsFlagAfter (event.Command c h m content) was is = (was ≡ false) × (is ≡ false)
 IsFlagAfter (event.TooLarge c h) was is = (was ≡ false) × (is ≡ false)
@@ -94,6 +96,7 @@ IsFlagAfter (event.Pause c) was is = is ≡ true
 IsFlagAfter (event.Resume c) was is = is ≡ false
 
 awake_after : (e : Event) (was is : Bool) → is_read e ≡ true → IsFlagAfter e was is → is ≡ false
+awake_after (event.Open c) was is read x = absurd (false≢true read)
 awake_after (event.Running c max k) was is read x = x
 awake_after (event.Lose c) was is read x = absurd (false≢true read)
 awake_after (event.Pause c) was is read x = absurd (false≢true read)
@@ -102,31 +105,35 @@ awake_after _ was is read x = x.1
 
 module _ (b : Broker) (sessions : ℕ → Session) (p : ℕ → Bool) (sends : List Send) (a : Agrees b sessions p) where
   -- its connection is there exactly while it runs
-  runs_after : (e : Event) → (is_read e ≡ true → is_running (sessions (connection_of e)).phase ≡ true) → is_some (connection_after b e sends) ≡ is_running (session_after (sessions (connection_of e)) e sends).phase
-  runs_after (event.Command c h m content) runs = runs_on (after_sends sends) (b.connection c) (sessions c) (a.running c ∙ runs refl)
-  runs_after (event.TooLarge c h) runs = runs_on (after_sends sends) (b.connection c) (sessions c) (a.running c ∙ runs refl)
-  runs_after (event.Pause c) runs = some_flag true (b.connection c) ∙ a.running c
-  runs_after (event.Resume c) runs = some_flag false (b.connection c) ∙ a.running c
-  runs_after _ runs = refl
+  runs_after : (e : Event) → (is_read e ≡ true → is_running (sessions (connection_of e)).phase ≡ true) → (is_opening e ≡ true → is_running (sessions (connection_of e)).phase ≡ false) → is_some (connection_after b e sends) ≡ is_running (session_after (sessions (connection_of e)) e sends).phase
+  runs_after (event.Open c) runs free = a.running c ∙ free refl
+  runs_after (event.First c bytes) runs free = runs_on (after_sends sends) (b.connection c) (sessions c) (a.running c ∙ runs refl)
+  runs_after (event.Command c h m content) runs free = runs_on (after_sends sends) (b.connection c) (sessions c) (a.running c ∙ runs refl)
+  runs_after (event.TooLarge c h) runs free = runs_on (after_sends sends) (b.connection c) (sessions c) (a.running c ∙ runs refl)
+  runs_after (event.Pause c) runs free = some_flag true (b.connection c) ∙ a.running c
+  runs_after (event.Resume c) runs free = some_flag false (b.connection c) ∙ a.running c
+  runs_after _ runs free = refl
 
   kept_flag : (c : ℕ) (v is : Bool) (conn : Connection) → (p c ≡ false) × (is ≡ false) → cond v (b.connection c) None ≡ Some conn → conn.is_paused ≡ is
   kept_flag c true is conn x e = a.paused c conn e ∙ x.0 ∙ sym x.1
   kept_flag c false is conn x e = none_is_some _ conn e
 
-  flag_after : (e : Event) (is : Bool) → IsFlagAfter e (p (connection_of e)) is → (conn : Connection) → connection_after b e sends ≡ Some conn → conn.is_paused ≡ is
-  flag_after (event.Running c max k) is x conn e = sym (ap flag_of e) ∙ sym x
-  flag_after (event.Command c h m content) is x conn e = kept_flag c (is_running (after_sends sends)) is conn x e
-  flag_after (event.TooLarge c h) is x conn e = kept_flag c (is_running (after_sends sends)) is conn x e
-  flag_after (event.Pause c) is x conn e = flagged true (b.connection c) conn e ∙ sym x
-  flag_after (event.Resume c) is x conn e = flagged false (b.connection c) conn e ∙ sym x
-  flag_after _ is x conn e = none_is_some _ conn e
+  flag_after : (e : Event) (is : Bool) → IsFlagAfter e (p (connection_of e)) is → (is_opening e ≡ true → is_running (sessions (connection_of e)).phase ≡ false) → (conn : Connection) → connection_after b e sends ≡ Some conn → conn.is_paused ≡ is
+  flag_after (event.Open c) is x free conn e = absurd (false≢true (sym (a.running c ∙ free refl) ∙ ap is_some e))
+  flag_after (event.First c bytes) is x free conn e = kept_flag c (is_running (after_sends sends)) is conn x e
+  flag_after (event.Running c max k) is x free conn e = sym (ap flag_of e) ∙ sym x
+  flag_after (event.Command c h m content) is x free conn e = kept_flag c (is_running (after_sends sends)) is conn x e
+  flag_after (event.TooLarge c h) is x free conn e = kept_flag c (is_running (after_sends sends)) is conn x e
+  flag_after (event.Pause c) is x free conn e = flagged true (b.connection c) conn e ∙ sym x
+  flag_after (event.Resume c) is x free conn e = flagged false (b.connection c) conn e ∙ sym x
+  flag_after _ is x free conn e = none_is_some _ conn e
 
 module _ (f : Config) (old new : State) (e : Event) (sends : List Send) (notes : List Note) (p q : ℕ → Bool) (a : Agrees old.broker old.session p)
     (others : (d : ℕ) → d ≢ connection_of e → q d ≡ p d) (flag : IsFlagAfter e (p (connection_of e)) (q (connection_of e))) where
   agrees_performed : Performed f old e sends notes new → Agrees new.broker new.session q
   agrees_performed s =
       agrees_with old.broker new.broker old.session new.session p q (connection_of e) _ _ a (acted f.topology old.broker new.broker sends notes e s.acts).connections s.sessions (with_by p q (connection_of e) others)
-      (runs_after old.broker old.session p sends a e s.runs) (flag_after old.broker old.session p sends a e (q (connection_of e)) flag)
+      (runs_after old.broker old.session p sends a e s.runs s.free) (flag_after old.broker old.session p sends a e (q (connection_of e)) flag s.free)
 
   -- a move of the phases alone
   agrees_answered : Answered old e sends notes new → Agrees new.broker new.session q
@@ -147,6 +154,7 @@ module _ (f : Config) (old new : State) (e : Event) (sends : List Send) (notes :
   step_agrees s = elim (goes f old new sends notes e s) [ inl done ↦ agrees_performed done | inr moved ↦ agrees_answered moved ]
 
 of_command_agrees : (m : Command) (f : Config) (old new : State) (c : ℕ) (sends : List Send) (notes : List Note) (p : ℕ → Bool) → Agrees old.broker old.session p → p c ≡ false → Step f old (event_of c m) sends notes new → Agrees new.broker new.session p
+of_command_agrees (Head bytes) f old new c sends notes p a awake s = step_agrees f old new (event_of c (Head bytes)) sends notes p p a (λ d ne. refl) (awake, awake) s
 of_command_agrees (Plain h m) f old new c sends notes p a awake s = step_agrees f old new (event_of c (Plain h m)) sends notes p p a (λ d ne. refl) (awake, awake) s
 of_command_agrees (Full h x content) f old new c sends notes p a awake s = step_agrees f old new (event_of c (Full h x content)) sends notes p p a (λ d ne. refl) (awake, awake) s
 of_command_agrees (TooLarge h) f old new c sends notes p a awake s = step_agrees f old new (event_of c (TooLarge h)) sends notes p p a (λ d ne. refl) (awake, awake) s

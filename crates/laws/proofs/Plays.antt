@@ -22,32 +22,10 @@ use Rattle.model.specs.declared.events.Arrival.TheVariants as arrival
 use Rattle.laws.proofs.Counts.{all-append, from_either}
 use Rattle.laws.proofs.View.{Seen, seen, reply_all}
 
--- ---- no step sends the protocol header
-
-abbrev pub IsCommandSend : Send → Type 0
-IsCommandSend (send.Greeting c) = ⊥
-IsCommandSend (send.Command c h m content) = Unit {0}
-
-abbrev pub AreCommandSends : List Send → Type 0
-AreCommandSends sends = AllByRecursion IsCommandSend sends
-
-commands_returned : (c h : ℕ) (p : Publish) (content : Content) (b : Bool) → AreCommandSends (returned_sends c h p content b)
-commands_returned c h p content true = (tt, tt)
-commands_returned c h p content false = tt
-
-commands_confirmed : (c h : ℕ) (o : Option ℕ) (a : Answer) → AreCommandSends (confirm_sends c h o a)
-commands_confirmed c h None a = tt
-commands_confirmed c h (Some n) a = (tt, tt)
-
-commands_seen : (t : Topology) (old new : Broker) (e : Event) (sends : List Send) (notes : List Note) → Seen t old new e sends notes → AreCommandSends sends
-commands_seen t old new e sends notes (inl q) = reply_all IsCommandSend (λ c h m content is. tt) sends q.few
-commands_seen t old new e sends notes (inr p) = subst AreCommandSends (sym p.is.sent) (all-append IsCommandSend _ _ (commands_returned p.c p.h p.publish _ _) (commands_confirmed p.c p.h (next_of p.ch.confirm) _))
-
 -- ---- what is told of the happenings of a run
 
 -- what was put out in it can be read back
 pub record IsPut (h : Happening) : Type 0 where
-  pub commands : AreCommandSends h.sends
   pub spelled : AllByRecursion (IsSpelled h.frame_max) h.sends
   pub bounded : (h.sends ≡ []) ⊎ (h.frame_max ≤ 131072)
 
@@ -97,7 +75,6 @@ told_same old new hs p = told_at old new hs [] p.0 (record { run = p.1.state; ea
 -- a happening without sends
 silent_put : (h : Happening) → h.sends ≡ [] → IsPut h
 silent_put h e = record {
-  commands = subst AreCommandSends (sym e) tt;
   spelled = subst (λ (s : List Send). AllByRecursion (IsSpelled h.frame_max) s) (sym e) tt;
   bounded = inl e;
 }
@@ -129,7 +106,6 @@ told_puts : (a b : World) (e : Event) (c : ℕ) (hs : List Happening) → IsSaid
 told_puts a b e c hs said p =
     let rest = settled_is a.config p.mid b.state c _ _ p.rest p.settled in
     let put : IsPut p.h = record {
-      commands = commands_seen a.config.topology a.state.broker p.mid.broker e p.h.sends p.h.notes (seen a.config a.state p.mid p.h.sends p.h.notes e p.happens.stepped);
       spelled = p.spelled;
       bounded = inr p.bounded;
     } in
@@ -175,14 +151,15 @@ told_one a b e h hs said all p silent config =
     let s = settled_one a.config a.state b.state e h hs said silent all p in
     record { run = s.run; each = s.each; config = config }
 
-pub told_opens : (a b : World) (n k : ℕ) (s : Stream) (hs : List Happening) → Opens a (event.Running n 255 k) s hs b → Told a hs b
-told_opens a b n k s hs o = told_one a b (event.Running n 255 k) o.h hs tt o.all o.happens o.silent o.config
+pub told_opens : (a b : World) (e : Event) (s : Stream) (hs : List Happening) → IsSaid e → Opens a e s hs b → Told a hs b
+told_opens a b e s hs said o = told_one a b e o.h hs said o.all o.happens o.silent o.config
 
 pub told_loses : (a b : World) (c : ℕ) (hs : List Happening) → Loses a c hs b → Told a hs b
 told_loses a b c hs o = told_one a b (event.Lose c) o.h hs tt o.all o.happens o.silent o.config
 
 told_answers : (a b : World) (t : Arrival) (hs : List Happening) → Answers a t hs b → Told a hs b
-told_answers a b (arrival.Ready k) hs p = from_either (can_open a) (λ o. told_opens a b _ k _ hs o) (told_same a b hs) p
+told_answers a b arrival.Open hs p = from_either (can_open a) (λ o. told_opens a b (event.Open _) _ hs tt o) (told_same a b hs) p
+told_answers a b (arrival.Ready k) hs p = from_either (can_open a) (λ o. told_opens a b (event.Running _ 255 k) _ hs tt o) (told_same a b hs) p
 told_answers a b (arrival.In c bytes) hs p = from_either (is_over a c) (told_same a b hs) (λ w. told_heard a b c bytes hs (told_works_off c (with_heard a c bytes) b hs w)) p
 told_answers a b (arrival.Sent c n) hs p = from_either (is_gone a c) (told_same a b hs) (λ w. told_taken_and_works c n a b hs w) p
 told_answers a b (arrival.Lose c) hs p = from_either (is_gone a c) (told_same a b hs) (λ o. told_loses a b c hs o) p

@@ -118,8 +118,8 @@ of_publish d c h p content b o a sends is at light =
     subst (AreOwn d) (sym is) (record { each = each_own d wanted at_wanted (publish_short d c h p content b o a at_wanted) light_wanted; size = λ max long. publish_size d max c h p content b o a long at_wanted light_wanted })
 
 pub sends_are_own : SendsAreOwn
-sends_are_own t old new c e sends notes said a acts at = elim (acted t old new sends notes e acts).seen [
-  | inl quiet ↦ of_replies c sends quiet.few at light
+sends_are_own t old new c e sends notes said a acts at = elim (acted t old new sends notes e acts).few [
+  | inl few ↦ of_replies c sends few at light
   | inr p ↦ of_publish c p.c p.h p.publish _ _ _ _ sends p.is.sent at light
 ]
   where

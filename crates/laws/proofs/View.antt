@@ -1,5 +1,5 @@
 -- The ways in which a step can go. Here alone all cases of `Step` are walked over: a new command is a new line here.
-use Rattle.std.proofs.Common.{◌≡◌, ℕ, ◌+◌, filter, arith, ◌⊎◌, List, [], ◌∷◌, ◌++◌, Bool, true, false, cond, eqb, refl, sym, ap, subst, ◌∙◌, map, Option, Some, None, inl, inr}
+use Rattle.std.proofs.Common.{◌≡◌, ℕ, ◌+◌, append-nil, filter, arith, ◌⊎◌, List, [], ◌∷◌, ◌++◌, Bool, true, false, cond, eqb, refl, sym, ap, subst, ◌∙◌, map, Option, Some, None, inl, inr}
 use Rattle.std.specs.Prelude.{codes, count_by, ◌==◌, if◌then◌else◌}
 use Rattle.std.specs.Str.{bytes_eq}
 use Rattle.std.specs.List.{AllByRecursion}
@@ -10,9 +10,9 @@ use Rattle.model.specs.Broker.{Outstanding, Channel, Connection, Broker, is_read
 use Rattle.model.specs.Step.{Refusal, Ignored, Of_channel, Of_connection, Does, Makes, Gets, Settles, tag_of, get_ok, purge_sends, IsPublish, Performs, Refuses, Decides, OnConnection, OnLarge, Acts, empty_publish, refusal_of_large, with_channel, with_freed, reply, content_or_none, returned_sends, confirm_sends, is_some_full, next_of, answer_of, refusal, channel_or_new, opened, paused}
 use Rattle.model.specs.Entries.{freed, by_channel, by_connection, is_held_as}
 use Rattle.model.specs.Grammar.{Ids, ids_of}
-use Rattle.model.specs.Phases.{Session, Move, running_session, no_session, is_running, after_sends, stays_in, to_phase, while_closing, faulted}
-use Rattle.model.specs.Opening.{IsAnswered, Opens, opening_move, on_zero, or_closed, at_start, at_tune, at_open, answers_with, closes_with, is_taken, tuned, tune, open_ok}
-use Rattle.model.specs.State.{Config, State, Moves, AnswersBy, OfCommand, OfLarge, OfFault, Step}
+use Rattle.model.specs.Phases.{Session, Move, running_session, no_session, is_running, after_method, after_sends, stays_in, to_phase, while_closing, faulted}
+use Rattle.model.specs.Opening.{IsAnswered, Opens, new_session, first_move, start, opening_move, on_zero, or_closed, at_start, at_tune, at_open, answers_with, closes_with, is_taken, tuned, tune, open_ok}
+use Rattle.model.specs.State.{Config, State, Moves, AnswersBy, OfFirst, OfCommand, OfLarge, OfFault, Step}
 use Rattle.model.specs.declared.messages.User.{User}
 use Rattle.model.specs.Run.{Happening, has_number, is_left}
 use Rattle.model.specs.Headline.{WasGiven, IsCauseIn, IsCauseAt}
@@ -29,13 +29,13 @@ use Rattle.model.specs.declared.events.Send.TheVariants as send
 use Rattle.model.specs.declared.events.Phase.{Phase}
 use Rattle.model.specs.declared.events.Phase.TheVariants as phase
 use Rattle.model.specs.declared.events.Event.{Event}
-use Rattle.model.specs.declared.events.Event.TheVariants.{Running, Command, TooLarge, Fault, Lose, Pause, Resume}
+use Rattle.model.specs.declared.events.Event.TheVariants.{Open, First, Running, Command, TooLarge, Fault, Lose, Pause, Resume}
 use Rattle.model.specs.declared.methods.Publish.{Publish}
 use Rattle.model.specs.declared.methods.Method.{Method}
 use Rattle.model.specs.declared.methods.Get.{Get}
 use Rattle.model.specs.declared.methods.Ack.{Ack}
 use Rattle.model.specs.declared.methods.Purge.{Purge}
-use Rattle.model.specs.declared.methods.Method.TheVariants.{ConnectionStartOk, ConnectionTune, ConnectionTuneOk, ConnectionOpen, ConnectionOpenOk, ConnectionClose, ConnectionCloseOk, ChannelClose, ChannelCloseOk, QueuePurge, QueuePurgeOk, BasicQos, BasicQosOk, BasicPublish, BasicGet, BasicGetOk, BasicGetEmpty, BasicAck, BasicReject, BasicNack, BasicRecover, BasicRecoverOk, ConfirmSelect, ConfirmSelectOk}
+use Rattle.model.specs.declared.methods.Method.TheVariants.{ConnectionStart, ConnectionStartOk, ConnectionTune, ConnectionTuneOk, ConnectionOpen, ConnectionOpenOk, ConnectionClose, ConnectionCloseOk, ChannelClose, ChannelCloseOk, QueuePurge, QueuePurgeOk, BasicQos, BasicQosOk, BasicPublish, BasicGet, BasicGetOk, BasicGetEmpty, BasicAck, BasicReject, BasicNack, BasicRecover, BasicRecoverOk, ConfirmSelect, ConfirmSelectOk}
 use Rattle.model.specs.declared.messages.Taker.TheVariants as taker
 use Rattle.model.specs.declared.notes.Cause.{Cause}
 use Rattle.model.specs.declared.notes.Cause.TheVariants.{Acked, Auto, Rejected}
@@ -43,7 +43,11 @@ use Rattle.model.specs.declared.notes.Note.{Note}
 use Rattle.model.specs.declared.notes.Note.TheVariants.{Left}
 use Rattle.model.specs.declared.notes.Answer.{Answer}
 use Rattle.model.specs.declared.notes.Answer.TheVariants as answered
-use Rattle.laws.proofs.Counts.{count-map, all_each}
+use Rattle.model.specs.Spelling.{eight_bytes}
+use Rattle.model.specs.Arrivals.{is_ended}
+use Rattle.laws.proofs.Counts.{count-map, all_each, all-append}
+use Rattle.laws.specs.Openings.{is_header, is_first}
+use Rattle.laws.proofs.Speaking.{IsCommandSend, AreCommandSends, Spoken, spoken_commands, spoken_on, spoken_still}
 use Rattle.laws.proofs.Leaving.{is_leaving, OfLeft, at_queue, count_change, freed_number, taken_balances, left_balances, are_leaving, left_causes, returned_counts, settled_are, purge_balances, purge_leaving, purge_causes}
 
 -- ---- what is sent
@@ -76,6 +80,35 @@ reply_all P each [] a = tt
 reply_all P each (send.Greeting c ∷ sends) a = absurd a
 reply_all P each (send.Command c h m content ∷ sends) a = (each c h m content a.0, subst (AllByRecursion P) (sym a.1) tt)
 
+-- a reply, or start
+abbrev pub is_answer : Method → Bool
+is_answer (ConnectionStart m) = true
+is_answer m = is_reply m
+
+-- nothing, or one of these, or the protocol header
+abbrev pub IsAnswerAtMost : List Send → Type 0
+IsAnswerAtMost [] = Unit {0}
+IsAnswerAtMost (send.Greeting c ∷ sends) = sends ≡ []
+IsAnswerAtMost (send.Command c h m content ∷ sends) = (is_answer m ≡ true) × (sends ≡ [])
+
+-- what is true of the protocol header and of these is true of each of these sends
+pub answer_all : (P : Send → Type 0) → ((c : ℕ) → P (send.Greeting c)) → ((c h : ℕ) (m : Method) (content : Option Content) → is_answer m ≡ true → P (send.Command c h m content)) → (sends : List Send) → IsAnswerAtMost sends → AllByRecursion P sends
+answer_all P greeted each [] a = tt
+answer_all P greeted each (send.Greeting c ∷ sends) a = (greeted c, subst (AllByRecursion P) (sym a) tt)
+answer_all P greeted each (send.Command c h m content ∷ sends) a = (each c h m content a.0, subst (AllByRecursion P) (sym a.1) tt)
+
+reply_is_answer : (m : Method) → is_reply m ≡ true → is_answer m ≡ true
+reply_is_answer (ConnectionStart m) is = refl
+reply_is_answer _ is = is
+
+reply_answers : (sends : List Send) → IsReplyAtMost sends → IsAnswerAtMost sends
+reply_answers [] a = tt
+reply_answers (send.Greeting c ∷ sends) a = absurd a
+reply_answers (send.Command c h m content ∷ sends) a = (reply_is_answer m a.0, a.1)
+
+reply_commands : (sends : List Send) → IsReplyAtMost sends → AreCommandSends sends
+reply_commands sends a = reply_all IsCommandSend (λ c h m content is. tt) sends a
+
 -- ---- one value changed
 
 pub with_same : {A : Type 0} (f : ℕ → A) (n : ℕ) (a : A) → a ≡ f n → (d : ℕ) → with_one f n a d ≡ f d
@@ -87,13 +120,13 @@ with_same f n a e d = go (d == n) refl
 
 -- ---- the ways of the broker
 
--- no publish is counted, what is noted is that messages left their queues, each queue has all others that it had, and one reply at most is sent
+-- no publish is counted, what is noted is that messages left their queues, each queue has all others that it had, and one answer at most is sent
 pub record AddsNothing (old new : Broker) (e : Event) (sends : List Send) (notes : List Note) : Type 0 where
   pub same : new.published ≡ old.published
   pub noted : AllByRecursion (λ (note : Note). is_leaving note ≡ true) notes
   pub kept : (n : ℕ) (q : Text) → count_by (has_number n) (old.queue q) ≡ count_by (is_left n q) notes + count_by (has_number n) (new.queue q)
   pub caused : AllByRecursion (OfLeft (IsCauseAt old e)) notes
-  pub few : IsReplyAtMost sends
+  pub few : IsAnswerAtMost sends
 
 -- of what is true of each note of a leaving, each of these notes is
 pub leavings : {old new : Broker} {e : Event} {sends : List Send} {notes : List Note} (P : Note → Type 0) → ((n : ℕ) (q : Text) (cause : Cause) → P (Left n q cause)) → AddsNothing old new e sends notes → AllByRecursion P notes
@@ -120,6 +153,8 @@ Seen t old new e sends notes = AddsNothing old new e sends notes ⊎ Publishes t
 
 -- the connection of an event
 abbrev pub connection_of : Event → ℕ
+connection_of (Open c) = c
+connection_of (First c bytes) = c
 connection_of (Running c max k) = c
 connection_of (Command c h m content) = c
 connection_of (TooLarge c h) = c
@@ -134,6 +169,8 @@ kept_after old c sends = cond (is_running (after_sends sends)) (old.connection c
 
 -- it as the broker has it after the event; the others stay
 abbrev pub connection_after : Broker → Event → List Send → Option Connection
+connection_after old (Open c) sends = old.connection c
+connection_after old (First c bytes) sends = kept_after old c sends
 connection_after old (Running c max k) sends = Some (record { channel_max = max; is_paused = false })
 connection_after old (Command c h m content) sends = kept_after old c sends
 connection_after old (TooLarge c h) sends = kept_after old c sends
@@ -145,18 +182,20 @@ connection_after old (Resume c) sends = paused false (old.connection c)
 abbrev IsAlone : Broker → ℕ → Option Connection → Broker → Type 0
 IsAlone old c o new = (d : ℕ) → new.connection d ≡ with_one old.connection c o d
 
--- an event of the broker: it adds nothing or is a publish, and changes its own connection alone
+-- an event of the broker: it adds nothing or is a publish, changes its own connection alone, and sends one reply at most where it is no publish
 pub record Acted (t : Topology) (old new : Broker) (e : Event) (sends : List Send) (notes : List Note) : Type 0 where
   pub seen : Seen t old new e sends notes
   pub connections : (d : ℕ) → new.connection d ≡ with_one old.connection (connection_of e) (connection_after old e sends) d
+  pub few : IsReplyAtMost sends ⊎ Publishes t old new e sends notes
 
 -- one that adds nothing, after which its connection is this one
 record Quiet (old new : Broker) (e : Event) (c : ℕ) (after : List Send → Option Connection) (sends : List Send) (notes : List Note) : Type 0 where
   adds : AddsNothing old new e sends notes
   connections : IsAlone old c (after sends) new
+  few : IsReplyAtMost sends
 
 quiet_acts : (t : Topology) (old new : Broker) (e : Event) (sends : List Send) (notes : List Note) → Quiet old new e (connection_of e) (connection_after old e) sends notes → Acted t old new e sends notes
-quiet_acts t old new e sends notes q = record { seen = inl q.adds; connections = q.connections }
+quiet_acts t old new e sends notes q = record { seen = inl q.adds; connections = q.connections; few = inl q.few }
 
 -- this state has the messages of the other, and the count of its publishes
 record Keeps (old made : Broker) : Type 0 where
@@ -181,8 +220,9 @@ noting old new made e c after sends wanted notes left d few alone same leaving k
     noted = subst (AllByRecursion (λ (note : Note). is_leaving note ≡ true)) (sym d.noted) leaving;
     kept = λ n q. kept n q ∙ sym (ap (λ (ns : List Note). count_by (is_left n q) ns + count_by (has_number n) (new.queue q)) d.noted ∙ ap (λ (es : List Entry). count_by (is_left n q) left + count_by (has_number n) es) (d.left.queues q));
     caused = subst (AllByRecursion (OfLeft (IsCauseAt old e))) (sym d.noted) caused;
-    few = subst IsReplyAtMost (sym d.sent) few;
+    few = reply_answers sends (subst IsReplyAtMost (sym d.sent) few);
   };
+  few = subst IsReplyAtMost (sym d.sent) few;
   connections = λ x. d.left.connections x ∙ subst (λ (s : List Send). made.connection x ≡ with_one old.connection c (after s) x) (sym d.sent) (alone x);
 }
 
@@ -249,8 +289,9 @@ module _ (t : Topology) (old new : Broker) (sends : List Send) (notes : List Not
       noted = leaving how p.queues;
       kept = kept how p.queues;
       caused = caused how refl p.queues;
-      few = subst IsReplyAtMost (sym p.sent) few;
+      few = reply_answers sends (subst IsReplyAtMost (sym p.sent) few);
     };
+    few = subst IsReplyAtMost (sym p.sent) few;
     connections = λ d. p.connections d ∙ sym (with_same old.connection c _ (ap (λ (s : List Send). cond (is_running (after_sends s)) (old.connection c) None) p.sent ∙ ap (λ (b : Bool). cond b (old.connection c) None) runs) d);
   }
     where
@@ -345,10 +386,14 @@ module _ (t : Topology) (old new : Broker) (sends : List Send) (notes : List Not
   performs : (c h : ℕ) (m : Method) (content : Option Content) (conn : Connection) → refusal t old conn h m (old.channel c h) ≡ None → Performs t old c h (channel_or_new (old.channel c h)) m content sends notes new → Acted t old new (Command c h m content) sends notes
   performs c h (ConfirmSelect true) content conn accepted p = quiet_acts t old new _ sends notes (still _ c _ _ p tt (record { same = refl; kept = λ n q. refl }) (stay old c))
   performs c h (ConfirmSelect false) content conn accepted p = quiet_acts t old new _ sends notes (still _ c _ _ p (refl, refl) (record { same = refl; kept = λ n q. refl }) (stay old c))
-  performs c h (BasicPublish publish) content conn accepted p = record {
-    seen = inr (record { c = c; h = h; ch = channel_or_new (old.channel c h); publish = publish; given = content; event = refl; connection = conn; accepted = accepted; is = p });
-    connections = publish_stays t old new c h (channel_or_new (old.channel c h)) publish (content_or_none content) sends notes p;
-  }
+  performs c h (BasicPublish publish) content conn accepted p =
+      let is : Publishes t old new (Command c h (BasicPublish publish) content) sends notes =
+      record { c = c; h = h; ch = channel_or_new (old.channel c h); publish = publish; given = content; event = refl; connection = conn; accepted = accepted; is = p } in
+      record {
+        seen = inr is;
+        connections = publish_stays t old new c h (channel_or_new (old.channel c h)) publish (content_or_none content) sends notes p;
+        few = inr is;
+      }
   performs c h (ChannelClose m) content conn accepted p = quiet_acts t old new _ sends notes (closes _ c h (channel_or_new (old.channel c h)).is_closing p)
   performs c h ChannelCloseOk content conn accepted p = quiet_acts t old new _ sends notes (still _ c _ _ p tt (record { same = refl; kept = λ n q. refl }) (stay old c))
   performs c h (ConnectionClose m) content conn accepted p = quiet_acts t old new _ sends notes (still _ c _ _ p (refl, refl) (record { same = refl; kept = freed_count old (by_connection c) }) (λ d. refl))
@@ -380,6 +425,8 @@ module _ (t : Topology) (old new : Broker) (sends : List Send) (notes : List Not
 
   -- Each event of the broker goes one of these ways.
   pub acted : (e : Event) → Acts t old e sends notes new → Acted t old new e sends notes
+  acted (Open c) p = quiet_acts t old new _ sends notes (quiet old new _ _ c _ sends _ notes p tt (record { same = refl; kept = λ n q. refl }) (stay old c))
+  acted (First c bytes) p = quiet_acts t old new _ sends notes (still _ c _ _ p tt (record { same = refl; kept = λ n q. refl }) (stay old c))
   acted (Running c max k) p = quiet_acts t old new _ sends notes (quiet old new _ _ c _ sends _ notes p tt (record { same = refl; kept = freed_count old (by_connection c) }) (λ d. refl))
   acted (Command c h m content) p = commanded c h m content (old.connection c) p
   acted (TooLarge c h) p = quiet_acts t old new _ sends notes (too_large c h (old.connection c) p)
@@ -388,10 +435,28 @@ module _ (t : Topology) (old new : Broker) (sends : List Send) (notes : List Not
   acted (Pause c) p = quiet_acts t old new _ sends notes (quiet old new _ _ c _ sends _ notes p tt (record { same = refl; kept = λ n q. refl }) (λ d. refl))
   acted (Resume c) p = quiet_acts t old new _ sends notes (quiet old new _ _ c _ sends _ notes p tt (record { same = refl; kept = λ n q. refl }) (λ d. refl))
 
+-- ---- what the broker sends is commands
+
+commands_returned : (c h : ℕ) (p : Publish) (content : Content) (b : Bool) → AreCommandSends (returned_sends c h p content b)
+commands_returned c h p content true = (tt, tt)
+commands_returned c h p content false = tt
+
+commands_confirmed : (c h : ℕ) (o : Option ℕ) (a : Answer) → AreCommandSends (confirm_sends c h o a)
+commands_confirmed c h None a = tt
+commands_confirmed c h (Some n) a = (tt, tt)
+
+pub acted_commands : (t : Topology) (old new : Broker) (e : Event) (sends : List Send) (notes : List Note) → Acted t old new e sends notes → AreCommandSends sends
+acted_commands t old new e sends notes a = elim a.few [
+  | inl few ↦ reply_commands sends few
+  | inr p ↦ subst AreCommandSends (sym p.is.sent) (all-append IsCommandSend _ _ (commands_returned p.c p.h p.publish _ _) (commands_confirmed p.c p.h (next_of p.ch.confirm) _))
+]
+
 -- ---- the ways of a whole step
 
 -- its connection's session after an event of the broker
 abbrev pub session_after : Session → Event → List Send → Session
+session_after s (Open c) sends = new_session
+session_after s (First c bytes) sends = to_phase s (after_sends sends)
 session_after s (Running c max k) sends = record running_session { channel_max = max }
 session_after s (Command c h m content) sends = to_phase s (after_sends sends)
 session_after s (TooLarge c h) sends = to_phase s (after_sends sends)
@@ -400,100 +465,166 @@ session_after s (Lose c) sends = no_session
 session_after s (Pause c) sends = s
 session_after s (Resume c) sends = s
 
--- a command, or a fault of its stream
+-- the first eight bytes, a command, or a fault of its stream
 abbrev pub is_read : Event → Bool
+is_read (First c bytes) = true
 is_read (Command c h m content) = true
 is_read (TooLarge c h) = true
 is_read (Fault c code) = true
 is_read e = false
 
+-- a connection is opened that awaits its first eight bytes
+abbrev pub is_opening : Event → Bool
+is_opening (Open c) = true
+is_opening e = false
+
 -- the broker performs it
 pub record Performed (f : Config) (old : State) (e : Event) (sends : List Send) (notes : List Note) (new : State) : Type 0 where
   pub runs : is_read e ≡ true → is_running (old.session (connection_of e)).phase ≡ true
+  pub free : is_opening e ≡ true → is_running (old.session (connection_of e)).phase ≡ false
   pub acts : Acts f.topology old.broker e sends notes new.broker
   pub sessions : (d : ℕ) → new.session d ≡ with_one old.session (connection_of e) (session_after (old.session (connection_of e)) e sends) d
 
--- the phase of a connection that doesn't run answers what is read, by one reply at most
+-- the phase of a connection that doesn't run answers what is read, by one answer at most
 pub record Answered (old : State) (e : Event) (sends : List Send) (notes : List Note) (new : State) : Type 0 where
   pub idle : is_running (old.session (connection_of e)).phase ≡ false
   pub read : is_read e ≡ true
   pub move : Move
-  pub few : IsReplyAtMost move.sends
+  pub few : IsAnswerAtMost move.sends
+  pub header : is_header move.next.phase ≡ true → (is_header (old.session (connection_of e)).phase ≡ true) × (is_first e ≡ false)
+  pub spoken : is_ended (old.session (connection_of e)).phase ≡ false → (sent : List Send) → Spoken (connection_of e) (old.session (connection_of e)).phase sent → Spoken (connection_of e) move.next.phase (sent ++ move.sends)
   pub moves : Moves old (connection_of e) move sends notes new
 
-either_few : (b : Bool) (x y : Move) → IsReplyAtMost x.sends → IsReplyAtMost y.sends → IsReplyAtMost (if b then x else y).sends
-either_few true x y p q = p
-either_few false x y p q = q
+either_move : (P : Move → Type 0) (b : Bool) (x y : Move) → P x → P y → P (if b then x else y)
+either_move P true x y p q = p
+either_move P false x y p q = q
 
-closing_few : (c : ℕ) (s : Session) (h : ℕ) (m : Method) → IsReplyAtMost (while_closing c s h m).sends
-closing_few c s h (ConnectionClose m) = either_few (h == 0) (record { sends = reply c 0 ConnectionCloseOk ∷ []; next = s }) (stays_in s) (refl, refl) tt
-closing_few c s h ConnectionCloseOk = either_few (h == 0) (record { sends = []; next = to_phase s phase.Over }) (stays_in s) tt tt
-closing_few c s h _ = tt
+-- one reply at most is sent, and the first eight bytes are awaited afterwards only where they were before and nothing is sent
+record Replies (s : Session) (move : Move) : Type 0 where
+  few : IsReplyAtMost move.sends
+  header : is_header move.next.phase ≡ true → (is_header s.phase ≡ true) × (move.sends ≡ [])
 
-start_few : (c : ℕ) (is_user : Bool) (s : Session) (m : Method) → IsReplyAtMost (at_start c is_user s m).sends
-start_few c is_user s (ConnectionStartOk m) = either_few is_user (answers_with c s tune phase.Tune) (closes_with c s 403 (ConnectionStartOk m)) (refl, refl) (refl, refl)
-start_few c is_user s _ = (refl, refl)
+replies : (s : Session) (move : Move) → IsReplyAtMost move.sends → is_header move.next.phase ≡ false → Replies s move
+replies s move few e = record { few = few; header = λ h. absurd (false≢true (sym e ∙ h)) }
 
-tune_few : (c : ℕ) (s : Session) (m : Method) → IsReplyAtMost (at_tune c s m).sends
-tune_few c s (ConnectionTuneOk m) = either_few (is_taken m) (record { sends = []; next = tuned m }) (closes_with c s 530 (ConnectionTuneOk m)) tt (refl, refl)
-tune_few c s _ = (refl, refl)
+stays_replies : (s : Session) → Replies s (stays_in s)
+stays_replies s = record { few = tt; header = λ h. (h, refl) }
 
-open_few : (c : ℕ) (s : Session) (m : Method) → IsReplyAtMost (at_open c s m).sends
-open_few c s (ConnectionOpen m) = either_few (bytes_eq m.virtual_host (codes "/")) (answers_with c s open_ok phase.Running) (closes_with c s 530 (ConnectionOpen m)) (refl, refl) (refl, refl)
-open_few c s _ = (refl, refl)
+closing_replies : (c : ℕ) (s : Session) (h : ℕ) (m : Method) → is_header s.phase ≡ false → Replies s (while_closing c s h m)
+closing_replies c s h (ConnectionClose m) e = either_move (Replies s) (h == 0) (record { sends = reply c 0 ConnectionCloseOk ∷ []; next = s }) (stays_in s) (replies s (record { sends = reply c 0 ConnectionCloseOk ∷ []; next = s }) (refl, refl) e) (stays_replies s)
+closing_replies c s h ConnectionCloseOk e = either_move (Replies s) (h == 0) (record { sends = []; next = to_phase s phase.Over }) (stays_in s) (replies s (record { sends = []; next = to_phase s phase.Over }) tt refl) (stays_replies s)
+closing_replies c s h _ e = stays_replies s
 
-closed_few : (c : ℕ) (s : Session) (m : Method) (move : Move) → IsReplyAtMost move.sends → IsReplyAtMost (or_closed c s m move).sends
-closed_few c s (ConnectionClose x) move few = (refl, refl)
-closed_few c s _ move few = few
+closes_replies : (c : ℕ) (s : Session) (code : ℕ) (m : Method) → Replies s (closes_with c s code m)
+closes_replies c s code m = replies s (closes_with c s code m) (refl, refl) refl
 
-zero_few : (c : ℕ) (s : Session) (h : ℕ) (m : Method) (move : Move) → IsReplyAtMost move.sends → IsReplyAtMost (on_zero c s h m move).sends
-zero_few c s h m move few = either_few (h == 0) (or_closed c s m move) (closes_with c s 503 m) (closed_few c s m move few) (refl, refl)
+start_replies : (c : ℕ) (is_user : Bool) (s : Session) (m : Method) → Replies s (at_start c is_user s m)
+start_replies c is_user s (ConnectionStartOk m) =
+    either_move (Replies s) is_user (answers_with c s tune phase.Tune) (closes_with c s 403 (ConnectionStartOk m)) (replies s (answers_with c s tune phase.Tune) (refl, refl) refl) (closes_replies c s 403 (ConnectionStartOk m))
+start_replies c is_user s m = closes_replies c s 503 m
 
-opening_few : (c : ℕ) (is_user : Bool) (s : Session) (p : Phase) (h : ℕ) (m : Method) → IsReplyAtMost (opening_move c is_user s p h m).sends
-opening_few c is_user s phase.Start h m = zero_few c s h m (at_start c is_user s m) (start_few c is_user s m)
-opening_few c is_user s phase.Tune h m = zero_few c s h m (at_tune c s m) (tune_few c s m)
-opening_few c is_user s phase.Open h m = zero_few c s h m (at_open c s m) (open_few c s m)
-opening_few c is_user s _ h m = tt
+tune_replies : (c : ℕ) (s : Session) (m : Method) → Replies s (at_tune c s m)
+tune_replies c s (ConnectionTuneOk m) =
+    either_move (Replies s) (is_taken m) (record { sends = []; next = tuned m }) (closes_with c s 530 (ConnectionTuneOk m)) (replies s (record { sends = []; next = tuned m }) tt refl) (closes_replies c s 530 (ConnectionTuneOk m))
+tune_replies c s m = closes_replies c s 503 m
 
-opens_few : (users : List User) (c : ℕ) (s : Session) (h : ℕ) (m : Method) (move : Move) → Opens users c s h m move → IsReplyAtMost move.sends
-opens_few users c s h m move o = subst (λ (x : Move). IsReplyAtMost x.sends) (sym o.moved) (opening_few c o.is_user s s.phase h m)
+open_replies : (c : ℕ) (s : Session) (m : Method) → Replies s (at_open c s m)
+open_replies c s (ConnectionOpen m) =
+    either_move (Replies s) (bytes_eq m.virtual_host (codes "/")) (answers_with c s open_ok phase.Running) (closes_with c s 530 (ConnectionOpen m)) (replies s (answers_with c s open_ok phase.Running) (refl, refl) refl) (closes_replies c s 530 (ConnectionOpen m))
+open_replies c s m = closes_replies c s 503 m
 
-answer_few : (users : List User) (c : ℕ) (s : Session) (p : Phase) (h : ℕ) (m : Method) (move : Move) → IsAnswered users c s p h m move → IsReplyAtMost move.sends
-answer_few users c s phase.Closing h m move e = subst (λ (x : Move). IsReplyAtMost x.sends) (sym e) (closing_few c s h m)
-answer_few users c s phase.Header h m move o = opens_few users c s h m move o
-answer_few users c s phase.Start h m move o = opens_few users c s h m move o
-answer_few users c s phase.Tune h m move o = opens_few users c s h m move o
-answer_few users c s phase.Open h m move o = opens_few users c s h m move o
-answer_few users c s phase.Running h m move o = opens_few users c s h m move o
-answer_few users c s phase.Over h m move o = opens_few users c s h m move o
+closed_replies : (c : ℕ) (s : Session) (m : Method) (move : Move) → Replies s move → Replies s (or_closed c s m move)
+closed_replies c s (ConnectionClose x) move r = replies s (answers_with c s ConnectionCloseOk phase.Over) (refl, refl) refl
+closed_replies c s _ move r = r
 
-fault_few : (c : ℕ) (s : Session) (p : Phase) (code : ℕ) → IsReplyAtMost (faulted c s p code).sends
-fault_few c s phase.Closing code = tt
-fault_few c s phase.Over code = tt
-fault_few c s _ code = (refl, refl)
+zero_replies : (c : ℕ) (s : Session) (h : ℕ) (m : Method) (move : Move) → Replies s move → Replies s (on_zero c s h m move)
+zero_replies c s h m move r = either_move (Replies s) (h == 0) (or_closed c s m move) (closes_with c s 503 m) (closed_replies c s m move r) (closes_replies c s 503 m)
+
+opening_replies : (c : ℕ) (is_user : Bool) (s : Session) (p : Phase) (h : ℕ) (m : Method) → Replies s (opening_move c is_user s p h m)
+opening_replies c is_user s phase.Start h m = zero_replies c s h m (at_start c is_user s m) (start_replies c is_user s m)
+opening_replies c is_user s phase.Tune h m = zero_replies c s h m (at_tune c s m) (tune_replies c s m)
+opening_replies c is_user s phase.Open h m = zero_replies c s h m (at_open c s m) (open_replies c s m)
+opening_replies c is_user s _ h m = stays_replies s
+
+opens_replies : (users : List User) (c : ℕ) (s : Session) (h : ℕ) (m : Method) (move : Move) → Opens users c s h m move → Replies s move
+opens_replies users c s h m move o = subst (Replies s) (sym o.moved) (opening_replies c o.is_user s s.phase h m)
+
+answer_replies : (users : List User) (c : ℕ) (s : Session) (p : Phase) (h : ℕ) (m : Method) (move : Move) → s.phase ≡ p → IsAnswered users c s p h m move → Replies s move
+answer_replies users c s phase.Closing h m move here e = subst (Replies s) (sym e) (closing_replies c s h m (ap is_header here))
+answer_replies users c s phase.Header h m move here o = opens_replies users c s h m move o
+answer_replies users c s phase.Start h m move here o = opens_replies users c s h m move o
+answer_replies users c s phase.Tune h m move here o = opens_replies users c s h m move o
+answer_replies users c s phase.Open h m move here o = opens_replies users c s h m move o
+answer_replies users c s phase.Running h m move here o = opens_replies users c s h m move o
+answer_replies users c s phase.Over h m move here o = opens_replies users c s h m move o
+
+fault_replies : (c : ℕ) (s : Session) (p : Phase) (code : ℕ) → Replies s (faulted c s p code)
+fault_replies c s phase.Closing code = replies s (faulted c s phase.Closing code) tt refl
+fault_replies c s phase.Over code = stays_replies s
+fault_replies c s p code = replies s (faulted c s p code) (refl, refl) refl
+
+-- of a connection that is not over, what was sent so far goes on as its phase says
+replies_spoken : (c : ℕ) (s : Session) (move : Move) → Replies s move → is_ended s.phase ≡ false → (sent : List Send) → Spoken c s.phase sent → Spoken c move.next.phase (sent ++ move.sends)
+replies_spoken c s move r stands sent was = go (is_header move.next.phase) refl
+  where
+    go : (v : Bool) → is_header move.next.phase ≡ v → Spoken c move.next.phase (sent ++ move.sends)
+    go true e = let before = r.header e in spoken_still c s.phase move.next.phase sent move.sends before.0 e before.1 was
+    go false e = spoken_on c move.next.phase (sent ++ move.sends) e (all-append IsCommandSend sent move.sends (spoken_commands c s.phase sent stands was) (reply_commands move.sends r.few))
+
+-- ---- the first eight bytes
+
+-- the protocol header goes back, and all is over
+abbrev greets : ℕ → Session → Move
+greets c s = record { sends = send.Greeting c ∷ []; next = to_phase s phase.Over }
+
+first_few : (c : ℕ) (s : Session) (p : Phase) (bytes : Text) → IsAnswerAtMost (first_move c s p bytes).sends
+first_few c s phase.Header bytes = either_move (λ (m : Move). IsAnswerAtMost m.sends) (bytes_eq bytes eight_bytes) (answers_with c s start phase.Start) (greets c s) (refl, refl) refl
+first_few c s _ bytes = tt
+
+-- once they are read they are not awaited any more
+first_no_header : (c : ℕ) (s : Session) (p : Phase) (bytes : Text) → s.phase ≡ p → is_header (first_move c s p bytes).next.phase ≡ false
+first_no_header c s phase.Header bytes here = either_move (λ (m : Move). is_header m.next.phase ≡ false) (bytes_eq bytes eight_bytes) (answers_with c s start phase.Start) (greets c s) refl refl
+first_no_header c s _ bytes here = ap is_header here
+
+first_spoken : (c : ℕ) (s : Session) (p : Phase) (bytes : Text) → s.phase ≡ p → (sent : List Send) → Spoken c s.phase sent → Spoken c (first_move c s p bytes).next.phase (sent ++ (first_move c s p bytes).sends)
+first_spoken c s phase.Header bytes here sent was =
+    let none : sent ≡ [] = subst (λ (p : Phase). Spoken c p sent) here was in
+    let started : AreCommandSends (sent ++ (answers_with c s start phase.Start).sends) = subst (λ (z : List Send). AreCommandSends (z ++ (answers_with c s start phase.Start).sends)) (sym none) (tt, tt) in
+    either_move (λ (m : Move). Spoken c m.next.phase (sent ++ m.sends)) (bytes_eq bytes eight_bytes) (answers_with c s start phase.Start) (greets c s) started (inr (ap (λ (z : List Send). z ++ (send.Greeting c ∷ [])) none))
+first_spoken c s _ bytes here sent was = subst (Spoken c s.phase) (sym (append-nil sent)) was
 
 module _ (f : Config) (old new : State) (sends : List Send) (notes : List Note) where
+  answering : (e : Event) (move : Move) → is_running (old.session (connection_of e)).phase ≡ false → is_read e ≡ true → is_first e ≡ false → Replies (old.session (connection_of e)) move → Moves old (connection_of e) move sends notes new → Answered old e sends notes new
+  answering e move idle read frames r moves = record { idle = idle; read = read; move = move; few = reply_answers move.sends r.few; header = λ h. ((r.header h).0, frames); spoken = replies_spoken (connection_of e) (old.session (connection_of e)) move r; moves = moves }
+
   of_command : (p : Phase) (c h : ℕ) (m : Method) (content : Option Content) → (old.session c).phase ≡ p → OfCommand f old p c h m content sends notes new → Performed f old (Command c h m content) sends notes new ⊎ Answered old (Command c h m content) sends notes new
-  of_command phase.Running c h m content here s = inl (record { runs = λ r. ap is_running here; acts = s.acts; sessions = s.session })
-  of_command p c h m content here s = inr (record { idle = ap is_running here; read = refl; move = s.move; few = answer_few f.users c (old.session c) p h m s.move s.answered; moves = s.moves })
+  of_command phase.Running c h m content here s = inl (record { runs = λ r. ap is_running here; free = λ r. absurd (false≢true r); acts = s.acts; sessions = s.session })
+  of_command p c h m content here s = inr (answering (Command c h m content) s.move (ap is_running here) refl refl (answer_replies f.users c (old.session c) p h m s.move here s.answered) s.moves)
 
   of_large : (p : Phase) (c h : ℕ) → (old.session c).phase ≡ p → OfLarge f old p c h sends notes new → Performed f old (TooLarge c h) sends notes new ⊎ Answered old (TooLarge c h) sends notes new
-  of_large phase.Running c h here s = inl (record { runs = λ r. ap is_running here; acts = s.acts; sessions = s.session })
-  of_large p c h here s = inr (record { idle = ap is_running here; read = refl; move = s.move; few = answer_few f.users c (old.session c) p h empty_publish s.move s.answered; moves = s.moves })
+  of_large phase.Running c h here s = inl (record { runs = λ r. ap is_running here; free = λ r. absurd (false≢true r); acts = s.acts; sessions = s.session })
+  of_large p c h here s = inr (answering (TooLarge c h) s.move (ap is_running here) refl refl (answer_replies f.users c (old.session c) p h empty_publish s.move here s.answered) s.moves)
 
   of_fault : (p : Phase) (c code : ℕ) → (old.session c).phase ≡ p → OfFault f old p c code sends notes new → Performed f old (Fault c code) sends notes new ⊎ Answered old (Fault c code) sends notes new
-  of_fault phase.Running c code here s = inl (record { runs = λ r. ap is_running here; acts = s.acts; sessions = s.session })
-  of_fault p c code here s = inr (record { idle = ap is_running here; read = refl; move = faulted c (old.session c) p code; few = fault_few c (old.session c) p code; moves = s })
+  of_fault phase.Running c code here s = inl (record { runs = λ r. ap is_running here; free = λ r. absurd (false≢true r); acts = s.acts; sessions = s.session })
+  of_fault p c code here s = inr (answering (Fault c code) (faulted c (old.session c) p code) (ap is_running here) refl refl (fault_replies c (old.session c) p code) s)
+
+  of_first : (p : Phase) (c : ℕ) (bytes : Text) → (old.session c).phase ≡ p → OfFirst f old p c bytes sends notes new → Performed f old (First c bytes) sends notes new ⊎ Answered old (First c bytes) sends notes new
+  of_first phase.Running c bytes here s = inl (record { runs = λ r. ap is_running here; free = λ r. absurd (false≢true r); acts = s.acts; sessions = s.session })
+  of_first p c bytes here s =
+      inr (record { idle = ap is_running here; read = refl; move = first_move c (old.session c) p bytes; few = first_few c (old.session c) p bytes; header = λ h. absurd (false≢true (sym (first_no_header c (old.session c) p bytes here) ∙ h)); spoken = λ stands. first_spoken c (old.session c) p bytes here; moves = s })
 
   -- Each step goes one of these ways.
   pub goes : (e : Event) → Step f old e sends notes new → Performed f old e sends notes new ⊎ Answered old e sends notes new
-  goes (Running c max k) s = inl (record { runs = λ r. absurd (false≢true r); acts = s.acts; sessions = s.session })
+  goes (Open c) s = inl (record { runs = λ r. absurd (false≢true r); free = λ r. ap is_running s.free; acts = s.steps.acts; sessions = s.steps.session })
+  goes (First c bytes) s = of_first (old.session c).phase c bytes refl s
+  goes (Running c max k) s = inl (record { runs = λ r. absurd (false≢true r); free = λ r. absurd (false≢true r); acts = s.acts; sessions = s.session })
   goes (Command c h m content) s = of_command (old.session c).phase c h m content refl s
   goes (TooLarge c h) s = of_large (old.session c).phase c h refl s
   goes (Fault c code) s = of_fault (old.session c).phase c code refl s
-  goes (Lose c) s = inl (record { runs = λ r. absurd (false≢true r); acts = s.acts; sessions = s.session })
-  goes (Pause c) s = inl (record { runs = λ r. absurd (false≢true r); acts = s.acts; sessions = λ d. s.session d ∙ sym (with_same old.session c (old.session c) refl d) })
-  goes (Resume c) s = inl (record { runs = λ r. absurd (false≢true r); acts = s.acts; sessions = λ d. s.session d ∙ sym (with_same old.session c (old.session c) refl d) })
+  goes (Lose c) s = inl (record { runs = λ r. absurd (false≢true r); free = λ r. absurd (false≢true r); acts = s.acts; sessions = s.session })
+  goes (Pause c) s = inl (record { runs = λ r. absurd (false≢true r); free = λ r. absurd (false≢true r); acts = s.acts; sessions = λ d. s.session d ∙ sym (with_same old.session c (old.session c) refl d) })
+  goes (Resume c) s = inl (record { runs = λ r. absurd (false≢true r); free = λ r. absurd (false≢true r); acts = s.acts; sessions = λ d. s.session d ∙ sym (with_same old.session c (old.session c) refl d) })
 
   -- a move to Running leaves the count of publishes and the messages of each queue as they are, as any other
   answered_adds : (e : Event) → Answered old e sends notes new → AddsNothing old.broker new.broker e sends notes
@@ -505,7 +636,7 @@ module _ (f : Config) (old new : State) (sends : List Send) (notes : List Note) 
         let same : count_by (has_number n) (new.broker.queue q) ≡ count_by (has_number n) (old.broker.queue q) = ap (count_by (has_number n)) (a.moves.broker.queues q) ∙ moved n q (is_running a.move.next.phase) in
         omega (arith, z, same);
     caused = subst (AllByRecursion (OfLeft (IsCauseAt old.broker e))) (sym a.moves.noted) tt;
-    few = subst IsReplyAtMost (sym a.moves.sent) a.few;
+    few = subst IsAnswerAtMost (sym a.moves.sent) a.few;
   }
     where
       moved : (n : ℕ) (q : Text) (v : Bool) → count_by (has_number n) ((if v then opened old.broker (connection_of e) a.move.next.channel_max 0 else old.broker).queue q) ≡ count_by (has_number n) (old.broker.queue q)

@@ -1,6 +1,6 @@
 -- Certified delivery: whatever arrives, the headline holds of what is seen.
 use Rattle.std.proofs.Common.{◌≡◌, ◌<◌, ◌≤◌, ◌+◌, ℕ, List, [], ◌∷◌, ◌++◌, refl, sym, ap, subst, ◌∙◌, ◌⊎◌, inl, inr, arith}
-use Rattle.std.specs.Prelude.{filter_map, flat_map, ◌==◌}
+use Rattle.std.specs.Prelude.{filter_map, flat_map, ◌==◌, drop, slice_index_or}
 use Rattle.std.specs.List.{AllByRecursion}
 use Rattle.std.proofs.lemmas.Grind.{flat_map-append}
 use Rattle.std.proofs.lemmas.List.Elements.{filter-append, filter_map-append}
@@ -9,7 +9,7 @@ use Rattle.model.specs.Frames.{Frame, frame_bytes, IsFrame}
 use Rattle.model.specs.Consistent.{IsConsistent}
 use Rattle.model.specs.State.{Config, State}
 use Rattle.model.specs.Run.{Happening, Run, sends_of, put_out, empty_state}
-use Rattle.model.specs.Spelling.{frames_of, send_bytes, spelling, receiver, sends_to}
+use Rattle.model.specs.Spelling.{frames_of, send_bytes, spelling, receiver, sends_to, eight_bytes}
 use Rattle.model.specs.Arrivals.{World, new_world, Turns, Plays, Shows, Shown, Seen, shown}
 use Rattle.model.specs.Headline.{Ack, acks_in, IsSound, KeepsEvents, KeepsPromises, HasAcksOf, acked}
 use Rattle.model.specs.declared.events.Send.{Send}
@@ -18,7 +18,9 @@ use Rattle.model.specs.declared.events.Arrival.{Arrival}
 use Rattle.laws.specs.Promises.{ack_sent}
 use Rattle.laws.proofs.Counts.{all-append, filter_all}
 use Rattle.laws.proofs.Reading.{sent_acks, frames_each}
-use Rattle.laws.proofs.Plays.{AreCommandSends, IsPut, IsTold, said_each, told_turns, told_plays}
+use Rattle.laws.proofs.Plays.{IsPut, IsTold, said_each, told_turns, told_plays}
+use Rattle.laws.proofs.Speaking.{IsCommandSend, AreCommandSends}
+use Rattle.laws.proofs.Spoken.{sent_to, is_spoken}
 use Rattle.laws.proofs.Never.{run_keeps}
 use Rattle.laws.proofs.Acks.{run_acks}
 
@@ -43,12 +45,47 @@ spelling_is max (send.Command c h m content ∷ sends) a =
     ap (λ (z : List ℕ). send_bytes max (send.Command c h m content) ++ z) (spelling_is max sends a.1)
     ∙ sym (flat_map-append frame_bytes (frames_of max (send.Command c h m content)) (flat_map (frames_of max) sends))
 
-put_out_is : (f : Config) (c : ℕ) (hs : List Happening) → AllByRecursion (IsTold f) hs → put_out c hs ≡ flat_map frame_bytes (frames_put c hs)
-put_out_is f c [] a = refl
-put_out_is f c (h ∷ hs) a =
-    ap (λ (z : List ℕ). z ++ put_out c hs) (spelling_is h.frame_max (sends_to c h.sends) (filter_all _ (λ x. receiver x == c) h.sends a.0.put.commands))
-    ∙ ap (λ (z : List ℕ). flat_map frame_bytes (frames_at c h) ++ z) (put_out_is f c hs a.1)
+-- what is true of each of two lists together is true of each of both
+all_front : {A : Type 0} (P : A → Type 0) (xs ys : List A) → AllByRecursion P (xs ++ ys) → AllByRecursion P xs
+all_front P [] ys a = tt
+all_front P (x ∷ xs) ys a = (a.0, all_front P xs ys a.1)
+
+all_back : {A : Type 0} (P : A → Type 0) (xs ys : List A) → AllByRecursion P (xs ++ ys) → AllByRecursion P ys
+all_back P [] ys a = a
+all_back P (x ∷ xs) ys a = all_back P xs ys a.1
+
+sent_on : (c : ℕ) (h : Happening) (hs : List Happening) → sent_to c (h ∷ hs) ≡ sends_to c h.sends ++ sent_to c hs
+sent_on c h hs = filter-append (λ x. receiver x == c) h.sends (sends_of hs)
+
+put_out_is : (c : ℕ) (hs : List Happening) → AreCommandSends (sent_to c hs) → put_out c hs ≡ flat_map frame_bytes (frames_put c hs)
+put_out_is c [] a = refl
+put_out_is c (h ∷ hs) a =
+    let each : AreCommandSends (sends_to c h.sends ++ sent_to c hs) = subst AreCommandSends (sent_on c h hs) a in
+    ap (λ (z : List ℕ). z ++ put_out c hs) (spelling_is h.frame_max (sends_to c h.sends) (all_front IsCommandSend _ (sent_to c hs) each))
+    ∙ ap (λ (z : List ℕ). flat_map frame_bytes (frames_at c h) ++ z) (put_out_is c hs (all_back IsCommandSend (sends_to c h.sends) _ each))
     ∙ sym (flat_map-append frame_bytes (frames_at c h) (frames_put c hs))
+
+-- ---- an output of the protocol header alone
+
+nothing_put_out : (c : ℕ) (hs : List Happening) → sent_to c hs ≡ [] → put_out c hs ≡ []
+nothing_put_out c [] none = refl
+nothing_put_out c (h ∷ hs) none = go (sends_to c h.sends) (nothing_put_out c hs) (sym (sent_on c h hs) ∙ none)
+  where
+    go : (first : List Send) → (sent_to c hs ≡ [] → put_out c hs ≡ []) → first ++ sent_to c hs ≡ [] → spelling h.frame_max first ++ put_out c hs ≡ []
+    go [] rest e = rest e
+    go (x ∷ first) rest e = absurd (cc)
+
+greeting_put_out : (c : ℕ) (hs : List Happening) → sent_to c hs ≡ send.Greeting c ∷ [] → put_out c hs ≡ eight_bytes
+greeting_put_out c [] one = absurd (cc)
+greeting_put_out c (h ∷ hs) one = go (sends_to c h.sends) (greeting_put_out c hs) (sym (sent_on c h hs) ∙ one)
+  where
+    go : (first : List Send) → (sent_to c hs ≡ send.Greeting c ∷ [] → put_out c hs ≡ eight_bytes) → first ++ sent_to c hs ≡ send.Greeting c ∷ [] → spelling h.frame_max first ++ put_out c hs ≡ eight_bytes
+    go [] rest e = rest e
+    go (x ∷ first) rest e = more x first (ap (λ (z : List Send). slice_index_or z 0 x) e) (ap (drop 1) e)
+      where
+        more : (x : Send) (first : List Send) → x ≡ send.Greeting c → first ++ sent_to c hs ≡ [] → spelling h.frame_max (x ∷ first) ++ put_out c hs ≡ eight_bytes
+        more x [] is none = ap (λ (z : Send). spelling h.frame_max (z ∷ []) ++ put_out c hs) is ∙ ap (λ (z : List ℕ). eight_bytes ++ z) (nothing_put_out c hs none)
+        more x (y ∷ first) is none = absurd (cc)
 
 weaker : (max : ℕ) → max ≤ 131072 → (fs : List Frame) → AllByRecursion (IsFrame max) fs → AllByRecursion (IsFrame 131072) fs
 weaker max small [] a = tt
@@ -74,11 +111,16 @@ frames_acks f c (h ∷ hs) a =
     ∙ sym (filter_map-append ack_sent (sends_to c h.sends) (sends_to c (sends_of hs)))
     ∙ ap (λ (z : List Send). filter_map ack_sent z) (sym (filter-append (λ x. receiver x == c) h.sends (sends_of hs)))
 
-has_acks : (f : Config) (old new : State) (c : ℕ) (hs : List Happening) → AllByRecursion (IsTold f) hs → Run old hs new → HasAcksOf (acked c hs) (put_out c hs)
-has_acks f old new c hs a run = record {
+has_acks : (f : Config) (old new : State) (c : ℕ) (hs : List Happening) → AllByRecursion (IsTold f) hs → Run old hs new → AreCommandSends (sent_to c hs) ⊎ (sent_to c hs ≡ send.Greeting c ∷ []) → HasAcksOf (acked c hs) (put_out c hs)
+has_acks f old new c hs a run (inl commands) = record {
   frames = frames_put c hs;
-  reading = inl (record { parts = put_out_is f c hs a; each = frames_fit f c hs a });
+  reading = inl (record { parts = put_out_is c hs commands; each = frames_fit f c hs a });
   acks = frames_acks f c hs a ∙ run_acks hs old new run c;
+}
+has_acks f old new c hs a run (inr greeting) = record {
+  frames = [];
+  reading = inr (greeting_put_out c hs greeting, refl);
+  acks = sym (ap (λ (z : List Send). filter_map ack_sent z) greeting) ∙ run_acks hs old new run c;
 }
 
 -- ---- the promises
@@ -98,5 +140,5 @@ headline_holds f arrivals hs w seen sound plays shows =
           let within : i < w.given = subst (λ (n : ℕ). i < n) shows.counted (slice_get_within seen.connections i one e) in
           let is : one ≡ shown hs w (i + 1) = same_Some one (shown hs w (i + 1)) (sym e ∙ shows.each i within) in
           let output : one.output ≡ put_out (i + 1) hs = ap (λ (s : Shown). s.output) is in
-          subst (λ (z : List ℕ). HasAcksOf (acked (i + 1) hs) z) (sym output) (has_acks f empty_state w.state (i + 1) hs told.each told.run);
+          subst (λ (z : List ℕ). HasAcksOf (acked (i + 1) hs) z) (sym output) (has_acks f empty_state w.state (i + 1) hs told.each told.run (is_spoken f arrivals hs w plays (i + 1)));
     }

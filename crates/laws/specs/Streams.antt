@@ -1,7 +1,11 @@
--- What a stream says, over any pieces in which its bytes come.
-use Rattle.std.specs.Prelude.{◌≡◌, ℕ, List, [], ◌∷◌, ◌++◌, Option, Some}
-use Rattle.model.specs.Commands.{Stream, Yields, Ends, Commands, heard}
+-- What a stream says: over any pieces in which its bytes come, and before all frames.
+use Rattle.std.specs.Prelude.{◌≡◌, ◌<◌, ℕ, List, [], ◌∷◌, ◌++◌, length, Bool, true, false, Option, Some, None}
+use Rattle.model.specs.Words.{Text}
+use Rattle.model.specs.Commands.{Stream, TakesFirst, Yields, Ends, Commands, heard}
 use Rattle.model.specs.declared.events.Command.{Command}
+use Rattle.model.specs.declared.events.Command.TheVariants.{Head}
+
+-- ---- pieces
 
 -- these commands come first, one after another, and this is still to come
 abbrev pub YieldsAll : Stream → List Command → Stream → Type 0
@@ -16,3 +20,30 @@ CuttingDoesNotMatter = (s last : Stream) (done rest : List Command) (more : List
 -- a fault of a stream stays, whatever bytes come behind it
 abbrev pub FaultsStay : Type 0
 FaultsStay = (s : Stream) (code : ℕ) (more : List ℕ) → Ends s (Some code) → Ends (heard s more) (Some code)
+
+-- ---- the first eight bytes
+
+-- it is the first eight bytes, and no command of frames
+abbrev pub is_head : Command → Bool
+is_head (Head bytes) = true
+is_head c = false
+
+-- The next command is the first eight bytes, and frames are awaited from then on.
+pub record ReadsHead (s : Stream) (c : Command) (next : Stream) : Type 0 where
+  pub bytes : Text
+  pub is : c ≡ Head bytes
+  pub takes : TakesFirst s bytes next
+
+-- The next command is made of frames, and frames are awaited from then on.
+pub record ReadsFrames (c : Command) (next : Stream) : Type 0 where
+  pub framed : is_head c ≡ false
+  pub begun : next.is_new ≡ false
+
+-- Before all frames the first eight bytes are read, where they are awaited, and then never again.
+pub record FirstBytesComeFirst : Type 0 where
+  -- where they are awaited they are the next command
+  pub head : (s next : Stream) (c : Command) → s.is_new ≡ true → Yields s c next → ReadsHead s c next
+  -- fewer than eight bytes are no fault
+  pub awaits : (s : Stream) (end : Option ℕ) → s.is_new ≡ true → Ends s end → (end ≡ None) × (length s.unread < 8)
+  -- where they are not awaited, each command is made of frames
+  pub frames : (s next : Stream) (c : Command) → s.is_new ≡ false → Yields s c next → ReadsFrames c next

@@ -2,13 +2,15 @@
 use Rattle.std.proofs.Common.{◌≡◌, ℕ, ◌+◌, ◌<◌, List, [], ◌∷◌, ◌++◌, Bool, true, false, length, get_or, drop, take, refl, sym, ap, subst, ◌∙◌, append_assoc, append-nil}
 use Rattle.std.specs.Prelude.{MatchBool, Some, None, Result, Ok, Err, OnOk}
 use Rattle.std.proofs.lemmas.List.{drop_more}
+use Rattle.model.specs.Opening.{new_session}
+use Rattle.model.specs.Phases.{running_session}
 use Rattle.model.specs.Run.{Happening}
 use Rattle.model.specs.Arrivals.{World, Seen, Turns, Works, none_more, one_more, Same, with_heard, is_over, is_gone, can_open, Loses, Takes_off, Plays}
 use Rattle.model.specs.declared.notes.Note.{Note}
 use Rattle.model.specs.declared.events.Arrival.{Arrival}
 use Rattle.model.specs.declared.events.Arrival.TheVariants as arrival
 use Rattle.runs.specs.Told.{Tells, gathered, with_opened}
-use Rattle.runs.specs.Opened.{OpensReady, Hears, Did, DidNothing, Takes, IsLost}
+use Rattle.runs.specs.Opened.{OpensNew, OpensReady, Hears, Did, DidNothing, Takes, IsLost}
 use Rattle.runs.specs.Runs.{WorksAndTells, AnswersAndTells, PlaysAndTells}
 use Rattle.runs.proofs.Steps.{tells_then, tells_not, tells_same, tells_turns, tells_waits, tells_heard, tells_takes, tells_loses, tells_opens}
 
@@ -60,11 +62,22 @@ so_far_ends a b d c s t f nothing = (
 
 -- ---- arrivals
 
-pub opens : (a b : World) (k n : ℕ) (s t : Seen) → OpensReady a k (Some n) b → t ≡ record s { connections = with_opened s.connections } → AnswersAndTells a (arrival.Ready k) s b t
-opens a b k n s t o e = (o.2.0, match_true (can_open a) _ _ o.0 o.2.1, subst (λ (z : Seen). Tells a s o.2.0 b z) (sym e) (tells_opens a b k o.2.0 s o.2.1))
+-- a connection was opened, and the opening is told
+pub opens_new : (a b : World) (n : ℕ) (s t : Seen) → OpensNew a (Some n) b → t ≡ record s { connections = with_opened s.connections } → AnswersAndTells a arrival.Open s b t
+opens_new a b n s t o e =
+    let by = o.2.1 in
+    (o.2.0, match_true (can_open a) _ _ o.0 by, subst (λ (z : Seen). Tells a s o.2.0 b z) (sym e) (tells_opens a b _ _ new_session o.2.0 s by by.happens.stepped.steps.acts.noted by.happens.stepped.steps.session))
 
-pub opens_not : (a b : World) (k : ℕ) (s : Seen) → OpensReady a k None b → AnswersAndTells a (arrival.Ready k) s b s
-opens_not a b k s o = ([], match_false (can_open a) _ _ o.0 (refl, o.1), tells_same a b s o.1)
+pub opens_new_not : (a b : World) (s : Seen) → OpensNew a None b → AnswersAndTells a arrival.Open s b s
+opens_new_not a b s o = ([], match_false (can_open a) _ _ o.0 (refl, o.1), tells_same a b s o.1)
+
+pub opens_ready : (a b : World) (k n : ℕ) (s t : Seen) → OpensReady a k (Some n) b → t ≡ record s { connections = with_opened s.connections } → AnswersAndTells a (arrival.Ready k) s b t
+opens_ready a b k n s t o e =
+    let by = o.2.1 in
+    (o.2.0, match_true (can_open a) _ _ o.0 by, subst (λ (z : Seen). Tells a s o.2.0 b z) (sym e) (tells_opens a b _ _ running_session o.2.0 s by by.happens.stepped.acts.noted by.happens.stepped.session))
+
+pub opens_ready_not : (a b : World) (k : ℕ) (s : Seen) → OpensReady a k None b → AnswersAndTells a (arrival.Ready k) s b s
+opens_ready_not a b k s o = ([], match_false (can_open a) _ _ o.0 (refl, o.1), tells_same a b s o.1)
 
 pub hears : (a m b : World) (c : ℕ) (bytes : List ℕ) (s t : Seen) → is_over a c ≡ false → Hears a c bytes m → WorksAndTells m c s b t → AnswersAndTells a (arrival.In c bytes) s b t
 hears a m b c bytes s t e heard w =

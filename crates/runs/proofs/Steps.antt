@@ -5,10 +5,11 @@ use Rattle.std.specs.List.{AllByRecursion}
 use Rattle.std.proofs.lemmas.Bool.{eqb-true, eqb-false, false≢true}
 use Rattle.std.proofs.lemmas.List.Concat.{flat_map-append}
 use Rattle.model.specs.State.{Config, State}
-use Rattle.model.specs.Phases.{Session, no_session, running_session}
+use Rattle.model.specs.Phases.{Session, no_session}
+use Rattle.model.specs.Broker.{with_one}
 use Rattle.model.specs.Run.{Happening, notes_of, put_out}
 use Rattle.model.specs.Spelling.{receiver, sends_to, spelling}
-use Rattle.model.specs.Commands.{running_stream}
+use Rattle.model.specs.Commands.{Stream}
 use Rattle.model.specs.Arrivals.{World, Wire, Shown, Seen, is_over, is_paused, is_ended, Settles, Happens, Puts, Turns, Waits, Same, with_heard, Takes_off, Opens, Loses}
 use Rattle.model.specs.declared.notes.Note.{Note}
 use Rattle.model.specs.declared.events.Send.{Send}
@@ -234,12 +235,14 @@ tells_loses a b c hs s l =
     (unopened_still a b c l.given (λ e. here) (λ e. over) there others)
     (gathered_each a b c out [] s.connections hs quiet (append-nil out) (λ e. e) here there)
 
-pub tells_opens : (a b : World) (k : ℕ) (hs : List Happening) (s : Seen) → Opens a (event.Running (a.given + 1) 255 k) running_stream hs b → Tells a s hs b (record s { connections = with_opened s.connections })
-tells_opens a b k hs s o =
-    let quiet : IsQuiet hs = quiet_one o.h hs o.all o.happens.stepped.acts.noted o.silent in
+-- an opening by an event that notes nothing, after which the new connection is in this session
+pub tells_opens : (a b : World) (e : Event) (st : Stream) (after : Session) (hs : List Happening) (s : Seen) (o : Opens a e st hs b) → o.h.notes ≡ [] → ((d : ℕ) → b.state.session d ≡ with_one a.state.session (a.given + 1) after d)
+    → Tells a s hs b (record s { connections = with_opened s.connections })
+tells_opens a b e st after hs s o noted sessions =
+    let quiet : IsQuiet hs = quiet_one o.h hs o.all noted o.silent in
     let here : (b.wire (a.given + 1)).output ≡ [] = ap (λ (w : Wire). w.output) (o.wires (a.given + 1) ∙ with_here a.wire (a.given + 1) (a.given + 1) _ refl) in
     let there : (d : ℕ) → d ≢ a.given + 1 → (b.wire d).output ≡ (a.wire d).output = λ d ne. ap (λ (w : Wire). w.output) (o.wires d ∙ with_other a.wire (a.given + 1) d _ ne) in
-    let others : (d : ℕ) → d ≢ a.given + 1 → is_over b d ≡ is_over a d = λ d ne. ap (λ (z : Session). is_ended z.phase) (o.happens.stepped.session d ∙ with_other a.state.session (a.given + 1) d running_session ne) in
+    let others : (d : ℕ) → d ≢ a.given + 1 → is_over b d ≡ is_over a d = λ d ne. ap (λ (z : Session). is_ended z.phase) (sessions d ∙ with_other a.state.session (a.given + 1) d after ne) in
     tells_by a b s (record s { connections = with_opened s.connections }) hs
     (quiet_notes hs s.notes quiet)
     (λ e. opened_length s.connections a.given e ∙ sym o.given)

@@ -1,15 +1,24 @@
 -- What the single calls of a machine come to.
 use Rattle.std.specs.Prelude.{◌≡◌, ◌+◌, ℕ, List, true, false, Option, Some, None, MatchBool}
 use Rattle.model.specs.Run.{Happening, notes_of}
-use Rattle.model.specs.Commands.{running_stream}
+use Rattle.model.specs.Commands.{Stream, new_stream, running_stream}
 use Rattle.model.specs.Arrivals.{World, Same, Waits, Rests, Turns, Opens, Loses, Takes_off, can_open, is_over, is_gone, with_heard}
+use Rattle.model.specs.declared.events.Event.{Event}
 use Rattle.model.specs.declared.events.Event.TheVariants as event
 use Rattle.model.specs.declared.notes.Note.{Note}
 
--- the connection that was opened, running at once with channels 1 to k open; none where no more can be opened
+-- the connection that was opened by this event, of which this stream is awaited; none where no more can be opened
+abbrev pub IsOpened : Event → Stream → World → Option ℕ → World → Type 0
+IsOpened e s old None new = (can_open old ≡ false) × Same old new
+IsOpened e s old (Some n) new = (can_open old ≡ true) × (n ≡ new.given) × ((hs : List Happening) × Opens old e s hs new)
+
+-- a connection is opened of which no byte has come
+abbrev pub OpensNew : World → Option ℕ → World → Type 0
+OpensNew old opened new = IsOpened (event.Open (old.given + 1)) new_stream old opened new
+
+-- a connection is opened that runs at once, with channels 1 to k open
 abbrev pub OpensReady : World → ℕ → Option ℕ → World → Type 0
-OpensReady old k None new = (can_open old ≡ false) × Same old new
-OpensReady old k (Some n) new = (can_open old ≡ true) × (n ≡ new.given) × ((hs : List Happening) × Opens old (event.Running (old.given + 1) 255 k) running_stream hs new)
+OpensReady old k opened new = IsOpened (event.Running (old.given + 1) 255 k) running_stream old opened new
 
 -- the bytes are heard, unless the connection is over
 abbrev pub Hears : World → ℕ → List ℕ → World → Type 0

@@ -7,13 +7,18 @@ use std::alloc::{AllocError, Global};
 pub trait Machine {
     ghost use Rattle.std.specs.Prelude.{◌≡◌, ◌<◌, ℕ, IfOk, OnOk, OnErr, OnSome, MatchOption, MatchBool};
     ghost use Rattle.model.specs.Arrivals.{World, Same, Waits, is_over};
-    ghost use Rattle.runs.specs.Opened.{OpensReady, Hears, Did, DidNothing, Takes, IsLost};
+    ghost use Rattle.runs.specs.Opened.{OpensNew, OpensReady, Hears, Did, DidNothing, Takes, IsLost};
 
     // what it stands for
     ghost world: { Self → World };
 
     // it falls with each command that is performed
     ghost left: { Self → ℕ };
+
+    /// Opens a connection of which no byte has come: its number, or none where no more can be opened.
+    fn open(&mut self, alloc: Global) -> Result<Option<u64>, AllocError>
+        ensures ok { IfOk result (λ n. OpensNew (world self.old) n (world self.new)) }
+        ensures err { OnErr result (Same (world self.old) (world self.new)) };
 
     /// Opens a connection that runs at once, with channels 1 to `k` open: its number, or none where no more can be opened.
     fn open_ready(&mut self, alloc: Global, k: u8) -> Result<Option<u64>, AllocError>

@@ -49,15 +49,30 @@ fn arrive<M: Machine>(
     ensures { OnOk result (AnswersAndTells (M.world machine.old) arrival.now transcript.old (M.world machine.new) transcript.new) }
 {
     match arrival {
-        Arrival::Ready(k) => open(alloc, machine, *k, transcript),
+        Arrival::Open => open(alloc, machine, transcript),
+        Arrival::Ready(k) => open_ready(alloc, machine, *k, transcript),
         Arrival::In(c, bytes) => hear(alloc, machine, *c, bytes.as_bytes(), transcript),
         Arrival::Sent(c, n) => take(alloc, machine, *c, *n, transcript),
         Arrival::Lose(c) => lose(machine, *c, transcript),
     }
 }
 
-/// A connection is opened, if one can be.
+/// A connection of which no byte has come is opened, if one can be.
 fn open<M: Machine>(
+    alloc: Global,
+    machine: &mut M,
+    transcript: &mut Transcript,
+) -> Result<(), AllocError>
+    ensures { OnOk result (AnswersAndTells (M.world machine.old) arrival.Open transcript.old (M.world machine.new) transcript.new) }
+{
+    match machine.open(alloc)? {
+        Some(_) => transcript.add_connection(alloc),
+        None => Ok(()),
+    }
+}
+
+/// A connection that runs at once is opened, if one can be.
+fn open_ready<M: Machine>(
     alloc: Global,
     machine: &mut M,
     k: u8,
@@ -66,7 +81,7 @@ fn open<M: Machine>(
     ensures { OnOk result (AnswersAndTells (M.world machine.old) (arrival.Ready k) transcript.old (M.world machine.new) transcript.new) }
 {
     match machine.open_ready(alloc, k)? {
-        Some(_) => transcript.open(alloc),
+        Some(_) => transcript.add_connection(alloc),
         None => Ok(()),
     }
 }

@@ -18,6 +18,10 @@ impl Machine for Closed {
 
     ghost left = { λ s. 0 };
 
+    fn open(&mut self, _alloc: Global) -> Result<Option<u64>, AllocError> {
+        Err(AllocError)
+    }
+
     fn open_ready(&mut self, _alloc: Global, _k: u8) -> Result<Option<u64>, AllocError> {
         Err(AllocError)
     }
@@ -61,8 +65,8 @@ fn arrivals_for_no_connection_do_nothing(rt: HostRuntime) -> Result<(), Fail> {
 fn a_transcript_keeps_connections_apart(rt: HostRuntime) -> Result<(), Fail> {
     let alloc = rt.alloc();
     let mut transcript = Transcript::new(alloc);
-    transcript.open(alloc)?;
-    transcript.open(alloc)?;
+    transcript.add_connection(alloc)?;
+    transcript.add_connection(alloc)?;
     transcript.gather(2, b"to")?;
     transcript.gather(1, b"one")?;
     transcript.gather(2, b" two")?;

@@ -129,7 +129,7 @@ impl Transcript {
     }
 
     /// Writes down that a connection was opened.
-    pub(crate) fn open(&mut self, alloc: Global) -> Result<(), AllocError>
+    pub(crate) fn add_connection(&mut self, alloc: Global) -> Result<(), AllocError>
         ensures ok { OnOk result (self.new ≡ record self.old { connections = with_opened self.old.connections }) }
         ensures err { OnErr result (self.new ≡ self.old) }
     {

@@ -1,0 +1,279 @@
+-- Whatever arrives, what a connection was sent so far is as its phase says: commands, or the protocol header alone.
+use Rattle.std.proofs.Common.{◌≡◌, ◌≢◌, ◌<◌, ◌+◌, ℕ, List, [], ◌∷◌, ◌++◌, Bool, true, false, cond, refl, sym, ap, subst, ◌∙◌, ◌⊎◌, inl, inr, append-nil, append_assoc, arith, Option}
+use Rattle.std.specs.Prelude.{◌==◌, ◌&&◌, filter, flat_map, not}
+use Rattle.std.specs.List.{AllByRecursion}
+use Rattle.std.proofs.lemmas.Grind.{flat_map-append}
+use Rattle.std.proofs.lemmas.List.Elements.{filter-append}
+use Rattle.std.proofs.lemmas.Bool.{eq-eqb, eqb-true, eqb-false, ne_eqb, false≢true}
+use Rattle.model.specs.Broker.{with_one}
+use Rattle.model.specs.Commands.{Stream}
+use Rattle.model.specs.Opening.{new_session}
+use Rattle.model.specs.Phases.{Session, running_session, no_session, is_running, after_method, after_sends, to_phase}
+use Rattle.model.specs.State.{Config, State, Step}
+use Rattle.model.specs.Run.{Happening, sends_of}
+use Rattle.model.specs.Spelling.{receiver, sends_to}
+use Rattle.model.specs.Arrivals.{World, new_world, is_ended, is_over, is_paused, is_gone, can_open, event_of, Reads, again, fresh, fault, Settles, Puts, Turns, Waits, Works, none_more, one_more, WorksOff, Same, Takes_off, TakesAndWorks, Opens, Loses, Answers, Plays, with_heard}
+use Rattle.model.specs.declared.methods.Method.{Method}
+use Rattle.model.specs.declared.methods.Method.TheVariants.{ConnectionClose, ConnectionCloseOk}
+use Rattle.model.specs.declared.events.Command.{Command}
+use Rattle.model.specs.declared.events.Command.TheVariants.{Head, Plain, Full, TooLarge}
+use Rattle.model.specs.declared.events.Send.{Send}
+use Rattle.model.specs.declared.events.Send.TheVariants as send
+use Rattle.model.specs.declared.events.Phase.{Phase}
+use Rattle.model.specs.declared.events.Phase.TheVariants as phase
+use Rattle.model.specs.declared.events.Event.{Event}
+use Rattle.model.specs.declared.events.Event.TheVariants as event
+use Rattle.model.specs.declared.events.Arrival.{Arrival}
+use Rattle.model.specs.declared.events.Arrival.TheVariants as arrival
+use Rattle.model.specs.declared.notes.Note.{Note}
+use Rattle.laws.proofs.Counts.{all-append, from_either}
+use Rattle.laws.specs.Openings.{is_header}
+use Rattle.laws.proofs.Speaking.{IsCommandSend, AreCommandSends, Spoken, spoken_commands, spoken_over, spoken_on}
+use Rattle.laws.proofs.View.{connection_of, session_after, is_read, goes, acted, acted_commands, Performed, Answered}
+use Rattle.laws.proofs.Linked.{with_here}
+
+-- ---- what is sent to one connection
+
+-- all that these events sent to connection c, in order
+abbrev pub sent_to : ℕ → List Happening → List Send
+sent_to c hs = sends_to c (sends_of hs)
+
+sent_append : (c : ℕ) (hs ks : List Happening) → sent_to c (hs ++ ks) ≡ sent_to c hs ++ sent_to c ks
+sent_append c hs ks =
+    ap (λ (z : List Send). filter (λ s. receiver s == c) z) (flat_map-append (λ (h : Happening). h.sends) hs ks)
+    ∙ filter-append (λ s. receiver s == c) (sends_of hs) (sends_of ks)
+
+own_sends : (c : ℕ) (sends : List Send) → AllByRecursion (λ s. receiver s ≡ c) sends → sends_to c sends ≡ sends
+own_sends c [] a = refl
+own_sends c (s ∷ sends) a = ap (λ (b : Bool). cond b (s ∷ sends_to c sends) (sends_to c sends)) (eq-eqb (receiver s) c a.0) ∙ ap (λ (z : List Send). s ∷ z) (own_sends c sends a.1)
+
+other_sends : (c d : ℕ) (sends : List Send) → d ≢ c → AllByRecursion (λ s. receiver s ≡ c) sends → sends_to d sends ≡ []
+other_sends c d [] ne a = refl
+other_sends c d (s ∷ sends) ne a = ap (λ (b : Bool). cond b (s ∷ sends_to d sends) (sends_to d sends)) (ne_eqb (receiver s) d (λ e. ne (sym e ∙ a.0))) ∙ other_sends c d sends ne a.1
+
+-- ---- one step
+
+after_no_header : (m : Method) (p : Phase) → is_header p ≡ false → is_header (after_method m p) ≡ false
+after_no_header (ConnectionClose m) p e = refl
+after_no_header ConnectionCloseOk p e = refl
+after_no_header _ p e = e
+
+sends_no_header : (sends : List Send) → is_header (after_sends sends) ≡ false
+sends_no_header [] = refl
+sends_no_header (send.Greeting c ∷ sends) = sends_no_header sends
+sends_no_header (send.Command c h m content ∷ sends) = after_no_header m (after_sends sends) (sends_no_header sends)
+
+to_no_header : (s : Session) (p : Phase) → is_header p ≡ false → is_header (to_phase s p).phase ≡ false
+to_no_header s phase.Over e = refl
+to_no_header s _ e = e
+
+-- the first eight bytes are not awaited after what is read and performed
+pub read_no_header : (s : Session) (e : Event) (sends : List Send) → is_read e ≡ true → is_header (session_after s e sends).phase ≡ false
+read_no_header s (event.First c bytes) sends read = to_no_header s (after_sends sends) (sends_no_header sends)
+read_no_header s (event.Command c h m content) sends read = to_no_header s (after_sends sends) (sends_no_header sends)
+read_no_header s (event.TooLarge c h) sends read = to_no_header s (after_sends sends) (sends_no_header sends)
+read_no_header s (event.Fault c code) sends read = refl
+read_no_header s (event.Open c) sends read = absurd (false≢true read)
+read_no_header s (event.Running c max k) sends read = absurd (false≢true read)
+read_no_header s (event.Lose c) sends read = absurd (false≢true read)
+read_no_header s (event.Pause c) sends read = absurd (false≢true read)
+read_no_header s (event.Resume c) sends read = absurd (false≢true read)
+
+module _ (f : Config) (old new : State) (e : Event) (sends : List Send) (notes : List Note) where
+  -- what is sent to the connection of an event goes on as its phase says
+  abbrev GoesOn : ℕ → Type 0
+  GoesOn c = is_ended (old.session c).phase ≡ false → (sent : List Send) → Spoken c (old.session c).phase sent → Spoken c (new.session c).phase (sent ++ sends)
+
+  performed_spoken : is_read e ≡ true → Performed f old e sends notes new → GoesOn (connection_of e)
+  performed_spoken read p stands sent was =
+      let c = connection_of e in
+      let after : new.session c ≡ session_after (old.session c) e sends = p.sessions c ∙ with_here old.session c _ in
+      let commands : AreCommandSends sends = acted_commands f.topology old.broker new.broker e sends notes (acted f.topology old.broker new.broker sends notes e p.acts) in
+      spoken_on c (new.session c).phase (sent ++ sends) (ap (λ (s : Session). is_header s.phase) after ∙ read_no_header (old.session c) e sends read)
+      (all-append IsCommandSend sent sends (spoken_commands c (old.session c).phase sent stands was) commands)
+
+  answered_spoken : Answered old e sends notes new → GoesOn (connection_of e)
+  answered_spoken a stands sent was =
+      let c = connection_of e in
+      let after : new.session c ≡ a.move.next = a.moves.session c ∙ with_here old.session c _ in
+      subst (λ (s : Session). Spoken c s.phase (sent ++ sends)) (sym after) (subst (λ (z : List Send). Spoken c a.move.next.phase (sent ++ z)) (sym a.moves.sent) (a.spoken stands sent was))
+
+  step_spoken : is_read e ≡ true → Step f old e sends notes new → GoesOn (connection_of e)
+  step_spoken read s = elim (goes f old new sends notes e s) [ inl p ↦ performed_spoken read p | inr a ↦ answered_spoken a ]
+
+command_is_read : (c : ℕ) (m : Command) → (connection_of (event_of c m) ≡ c) × (is_read (event_of c m) ≡ true)
+command_is_read c (Head bytes) = (refl, refl)
+command_is_read c (Plain h m) = (refl, refl)
+command_is_read c (Full h p content) = (refl, refl)
+command_is_read c (TooLarge h) = (refl, refl)
+
+pub read_is : (c : ℕ) (k : Option Command) (s next : Stream) (e : Event) → Reads c k s e next → (connection_of e ≡ c) × (is_read e ≡ true)
+read_is c k s next e (again {m = m}) = command_is_read c m
+read_is c k s next e (fresh {m = m} y) = command_is_read c m
+read_is c k s next e (fault y) = (refl, refl)
+
+-- ---- whole worlds
+
+-- what a connection was sent so far: where it stands tells it, and before it is opened it is nothing
+record Stands (given c : ℕ) (p : Phase) (sent : List Send) : Type 0 where
+  spoken : Spoken c p sent
+  unopened : given < c → (p ≡ phase.Over) × (sent ≡ [])
+
+-- from one world to another each connection is spoken to as its phase says
+abbrev Speaks : World → List Happening → World → Type 0
+Speaks old hs new = (c : ℕ) (sent : List Send) → Stands old.given c (old.state.session c).phase sent → Stands new.given c (new.state.session c).phase (sent ++ sent_to c hs)
+
+stands_as : (given more c : ℕ) (p q : Phase) (sent sends : List Send) → more ≡ given → q ≡ p → sends ≡ sent → Stands given c p sent → Stands more c q sends
+stands_as given more c p q sent sends e f g s =
+    subst (λ (n : ℕ). Stands n c q sends) (sym e) (subst (λ (r : Phase). Stands given c r sends) (sym f) (subst (λ (z : List Send). Stands given c p z) (sym g) s))
+
+-- nothing is sent to it, and its phase stays
+speaks_nothing : (old new : World) (hs : List Happening) (c : ℕ) (sent : List Send) → new.given ≡ old.given → new.state.session c ≡ old.state.session c → sent_to c hs ≡ []
+    → Stands old.given c (old.state.session c).phase sent → Stands new.given c (new.state.session c).phase (sent ++ sent_to c hs)
+speaks_nothing old new hs c sent given session none s =
+    stands_as old.given new.given c _ _ sent (sent ++ sent_to c hs) given (ap (λ (z : Session). z.phase) session) (ap (λ (z : List Send). sent ++ z) none ∙ append-nil sent) s
+
+speaks_same : (old new : World) (hs : List Happening) → (hs ≡ []) × Same old new → Speaks old hs new
+speaks_same old new hs p c sent s = speaks_nothing old new hs c sent p.1.given (ap (λ (z : State). z.session c) p.1.state) (ap (sent_to c) p.0) s
+
+speaks_append : (old mid new : World) (hs ks : List Happening) → Speaks old hs mid → Speaks mid ks new → Speaks old (hs ++ ks) new
+speaks_append old mid new hs ks a b c sent s =
+    subst (λ (z : List Send). Stands new.given c (new.state.session c).phase z) (append_assoc sent (sent_to c hs) (sent_to c ks) ∙ ap (λ (z : List Send). sent ++ z) (sym (sent_append c hs ks))) (b c (sent ++ sent_to c hs) (a c sent s))
+
+speaks_at : (old new : World) (hs ks : List Happening) → hs ≡ ks → Speaks old ks new → Speaks old hs new
+speaks_at old new hs ks e s = subst (λ (z : List Happening). Speaks old z new) (sym e) s
+
+-- ---- pauses
+
+settled_silent : (f : Config) (mid new : State) (c : ℕ) (was is : Bool) (hs : List Happening) → Settles f mid c was is hs new → sends_of hs ≡ []
+settled_silent f mid new c false true hs (h, all, p) = ap sends_of all ∙ ap (λ (z : List Send). z ++ []) p.stepped.acts.sent
+settled_silent f mid new c true false hs (h, all, p) = ap sends_of all ∙ ap (λ (z : List Send). z ++ []) p.stepped.acts.sent
+settled_silent f mid new c true true hs p = ap sends_of p.0
+settled_silent f mid new c false false hs p = ap sends_of p.0
+
+pub settled_sessions : (f : Config) (mid new : State) (c : ℕ) (was is : Bool) (hs : List Happening) → Settles f mid c was is hs new → (d : ℕ) → new.session d ≡ mid.session d
+settled_sessions f mid new c false true hs (h, all, p) d = p.stepped.session d
+settled_sessions f mid new c true false hs (h, all, p) d = p.stepped.session d
+settled_sessions f mid new c true true hs p d = ap (λ (z : State). z.session d) p.1
+settled_sessions f mid new c false false hs p d = ap (λ (z : State). z.session d) p.1
+
+-- ---- turns
+
+awake_stands : (over paused : Bool) → (not over && not paused) ≡ true → over ≡ false
+awake_stands true paused e = absurd (false≢true e)
+awake_stands false paused e = refl
+
+puts_sends : (a b : World) (e : Event) (c : ℕ) (hs : List Happening) (p : Puts a e c hs b) → sends_of hs ≡ p.h.sends
+puts_sends a b e c hs p =
+    ap sends_of p.all ∙ ap (λ (z : List Send). p.h.sends ++ z) (settled_silent a.config p.mid b.state c _ _ p.rest p.settled) ∙ append-nil p.h.sends
+
+turn_speaks : (c : ℕ) (old new : World) (hs : List Happening) → Turns old c hs new → Speaks old hs new
+turn_speaks c old new hs t d sent s = by (d == c) refl
+  where
+    p : Puts old t.event c hs new
+    p = t.puts
+
+    stands : is_ended (old.state.session c).phase ≡ false
+    stands = awake_stands (is_over old c) (is_paused old c) t.awake
+
+    of_it : connection_of t.event ≡ c
+    of_it = (read_is c _ _ _ t.event t.read).0
+
+    own : sent_to c hs ≡ p.h.sends
+    own = ap (sends_to c) (puts_sends old new t.event c hs p) ∙ own_sends c p.h.sends p.own
+
+    after : new.state.session c ≡ p.mid.session c
+    after = settled_sessions old.config p.mid new.state c _ _ p.rest p.settled c
+
+    -- what the turn sends to its own connection
+    spoken : (sent : List Send) → Spoken c (old.state.session c).phase sent → Spoken c (p.mid.session c).phase (sent ++ p.h.sends)
+    spoken = subst (λ (x : ℕ). GoesOn old.config old.state p.mid t.event p.h.sends p.h.notes x) of_it (step_spoken old.config old.state p.mid t.event p.h.sends p.h.notes (read_is c _ _ _ t.event t.read).1 p.happens.stepped) stands
+
+    here : Stands old.given c (old.state.session c).phase sent → Stands new.given c (new.state.session c).phase (sent ++ sent_to c hs)
+    here s = record {
+      spoken = subst (λ (z : List Send). Spoken c (new.state.session c).phase (sent ++ z)) (sym own) (subst (λ (z : Session). Spoken c z.phase (sent ++ p.h.sends)) (sym after) (spoken sent s.spoken));
+      unopened = λ lt. absurd (false≢true (sym stands ∙ ap is_ended (s.unopened (subst (λ (n : ℕ). n < c) t.given lt)).0));
+    }
+
+    by : (v : Bool) → (d == c) ≡ v → Stands new.given d (new.state.session d).phase (sent ++ sent_to d hs)
+    by true e =
+        let is : d ≡ c = eqb-true d c e in
+        subst (λ (x : ℕ). Stands old.given x (old.state.session x).phase sent → Stands new.given x (new.state.session x).phase (sent ++ sent_to x hs)) (sym is) here s
+    by false e =
+        let ne : d ≢ c = eqb-false d c e in
+        speaks_nothing old new hs d sent t.given (p.rests d ne) (ap (sends_to d) (puts_sends old new t.event c hs p) ∙ other_sends c d p.h.sends ne p.own) s
+
+-- ---- openings and losses
+
+-- one event without sends, after which connection c is in this session
+alone : (c d : ℕ) (old new : World) (h : Happening) (hs : List Happening) → hs ≡ h ∷ [] → h.sends ≡ [] → sent_to d hs ≡ []
+alone c d old new h hs all silent = ap (sent_to d) all ∙ ap (λ (z : List Send). sends_to d (z ++ [])) silent
+
+opens_speaks : (old new : World) (e : Event) (st : Stream) (after : Session) (hs : List Happening) → Opens old e st hs new → ((d : ℕ) → new.state.session d ≡ with_one old.state.session (old.given + 1) after d)
+    → Spoken (old.given + 1) after.phase [] → Speaks old hs new
+opens_speaks old new e st after hs o sessions speaks c sent s = by (c == old.given + 1) refl
+  where
+    none : sent_to c hs ≡ []
+    none = alone c c old new o.h hs o.all o.silent
+
+    by : (v : Bool) → (c == old.given + 1) ≡ v → Stands new.given c (new.state.session c).phase (sent ++ sent_to c hs)
+    by true e =
+        let is : c ≡ old.given + 1 = eqb-true c (old.given + 1) e in
+        let was : sent ≡ [] = (s.unopened (omega (arith, is))).1 in
+        let all : sent ++ sent_to c hs ≡ [] = ap (λ (z : List Send). z ++ sent_to c hs) was ∙ none in
+        let session : new.state.session c ≡ after = sessions c ∙ ap (λ (b : Bool). cond b after (old.state.session c)) e in
+        record {
+          spoken = subst (λ (z : List Send). Spoken c (new.state.session c).phase z) (sym all) (subst (λ (z : Session). Spoken c z.phase []) (sym session) (subst (λ (n : ℕ). Spoken n after.phase []) (sym is) speaks));
+          unopened = λ lt. let more = o.given in absurd (omega (arith, is, more, lt));
+        }
+    by false e =
+        let session : new.state.session c ≡ old.state.session c = sessions c ∙ ap (λ (b : Bool). cond b after (old.state.session c)) e in
+        let same = stands_as old.given old.given c _ _ sent (sent ++ sent_to c hs) refl (ap (λ (z : Session). z.phase) session) (ap (λ (z : List Send). sent ++ z) none ∙ append-nil sent) s in
+        record { spoken = same.spoken; unopened = λ lt. let more = o.given in same.unopened (omega (arith, more, lt)) }
+
+loses_speaks : (old new : World) (c : ℕ) (hs : List Happening) → Loses old c hs new → Speaks old hs new
+loses_speaks old new c hs o d sent s = by (d == c) refl
+  where
+    none : sent_to d hs ≡ []
+    none = alone c d old new o.h hs o.all o.silent
+
+    by : (v : Bool) → (d == c) ≡ v → Stands new.given d (new.state.session d).phase (sent ++ sent_to d hs)
+    by true e =
+        let session : new.state.session d ≡ no_session = o.happens.stepped.session d ∙ ap (λ (b : Bool). cond b no_session (old.state.session d)) e in
+        stands_as old.given new.given d phase.Over _ sent (sent ++ sent_to d hs) o.given (ap (λ (z : Session). z.phase) session) (ap (λ (z : List Send). sent ++ z) none ∙ append-nil sent)
+        (record { spoken = spoken_over d (old.state.session d).phase sent s.spoken; unopened = λ lt. (refl, (s.unopened lt).1) })
+    by false e =
+        let session : new.state.session d ≡ old.state.session d = o.happens.stepped.session d ∙ ap (λ (b : Bool). cond b no_session (old.state.session d)) e in
+        speaks_nothing old new hs d sent o.given session none s
+
+takes_speaks : (c n : ℕ) (old new : World) (hs : List Happening) → Takes_off old c n hs new → Speaks old hs new
+takes_speaks c n old new hs t d sent s =
+    speaks_nothing old new hs d sent t.given (settled_sessions old.config old.state new.state c _ _ hs t.settled d) (ap (sends_to d) (settled_silent old.config old.state new.state c _ _ hs t.settled)) s
+
+-- ---- arrivals
+
+works_speaks : (c : ℕ) (old new : World) (hs : List Happening) → Works c old hs new → Speaks old hs new
+works_speaks c old new hs none_more = speaks_same old old [] (refl, record { config = refl; state = refl; given = refl; wires = λ d. refl })
+works_speaks c old new hs (one_more {mid = m} {first = f} {rest = r} t more e) = speaks_at old new hs (f ++ r) e (speaks_append old m new f r (turn_speaks c old m f t) (works_speaks c m new r more))
+
+works_off_speaks : (c : ℕ) (old new : World) (hs : List Happening) → WorksOff old c hs new → Speaks old hs new
+works_off_speaks c old new hs w d sent s =
+    stands_as w.mid.given new.given d (w.mid.state.session d).phase _ (sent ++ sent_to d hs) (sent ++ sent_to d hs) w.waits.given (ap (λ (z : State). (z.session d).phase) w.waits.state) refl (works_speaks c old w.mid hs w.works d sent s)
+
+answer_speaks : (old new : World) (a : Arrival) (hs : List Happening) → Answers old a hs new → Speaks old hs new
+answer_speaks old new arrival.Open hs p = from_either (can_open old) (λ o. opens_speaks old new _ _ new_session hs o o.happens.stepped.steps.session refl) (speaks_same old new hs) p
+answer_speaks old new (arrival.Ready k) hs p = from_either (can_open old) (λ o. opens_speaks old new _ _ (record running_session { channel_max = 255 }) hs o o.happens.stepped.session tt) (speaks_same old new hs) p
+answer_speaks old new (arrival.In c bytes) hs p = from_either (is_over old c) (speaks_same old new hs) (λ w. works_off_speaks c (with_heard old c bytes) new hs w) p
+answer_speaks old new (arrival.Sent c n) hs p =
+    from_either (is_gone old c) (speaks_same old new hs) (λ t. speaks_at old new hs (t.first ++ t.rest) t.all (speaks_append old t.mid new t.first t.rest (takes_speaks c n old t.mid t.first t.takes) (works_off_speaks c t.mid new t.rest t.works))) p
+answer_speaks old new (arrival.Lose c) hs p = from_either (is_gone old c) (speaks_same old new hs) (λ o. loses_speaks old new c hs o) p
+
+play_speaks : (old new : World) (arrivals : List Arrival) (hs : List Happening) → Plays old arrivals hs new → Speaks old hs new
+play_speaks old new [] hs p = speaks_same old new hs p
+play_speaks old new (a ∷ arrivals) hs (mid, first, rest, e, brings, p) =
+    speaks_at old new hs (first ++ rest) e (speaks_append old mid new first rest (answer_speaks old mid a first brings) (play_speaks mid new arrivals rest p))
+
+-- In a run from the start a connection was sent commands, or the protocol header alone.
+pub is_spoken : (f : Config) (arrivals : List Arrival) (hs : List Happening) (w : World) → Plays (new_world f) arrivals hs w → (c : ℕ) → AreCommandSends (sent_to c hs) ⊎ (sent_to c hs ≡ send.Greeting c ∷ [])
+is_spoken f arrivals hs w p c =
+    spoken_over c (w.state.session c).phase (sent_to c hs) (play_speaks (new_world f) w arrivals hs p c [] (record { spoken = inl tt; unopened = λ lt. (refl, refl) })).spoken
