@@ -50,7 +50,7 @@ brings_le : (a b : World) (t : Arrival) (x : Bool) (hs : List Happening) → Mat
 brings_le a b t true hs p = answers_le a b t hs p
 brings_le a b t false hs p = short_le a b t hs p
 
-attempts_le : (as' : List Attempt) (a b : World) (hs : List Happening) → Attempts a as' hs b → a.given ≤ b.given
+pub attempts_le : (as' : List Attempt) (a b : World) (hs : List Happening) → Attempts a as' hs b → a.given ≤ b.given
 attempts_le [] a b hs p = let g = ap (λ (w : World). w.given) p.1 in omega (arith, g)
 attempts_le (t ∷ as') a b hs (mid, first, rest, e, br, p) = let g = brings_le a mid t.arrival t.is_whole first br in let h = attempts_le as' mid b rest p in omega (arith, g, h)
 

@@ -15,6 +15,10 @@ use Rattle.serving.specs.Rounds.{Rests}
 
 -- ---- what a wire tells
 
+these_none : (told : Option (List Call)) → and_these told [] ≡ told
+these_none None = refl
+these_none (Some xs) = ap (λ (z : List Call). Some z) (append-nil xs)
+
 these_then : (told : Option (List Call)) (xs ys : List Call) → and_these (and_these told xs) ys ≡ and_these told (xs ++ ys)
 these_then None xs ys = refl
 these_then (Some zs) xs ys = ap (λ (z : List Call). Some z) (append_assoc zs xs ys)
@@ -23,6 +27,11 @@ failed_then : (n : ℕ) (xs ys : List Call) → (n + count_by is_failed xs) + co
 failed_then n xs ys =
     let e : count_by is_failed (xs ++ ys) ≡ count_by is_failed xs + count_by is_failed ys = sum_by-append _ xs ys in
     omega (arith, e)
+
+pub after_none : (told : Told) → after told [] ≡ told
+after_none told =
+    let none : told.failures + 0 ≡ told.failures = omega arith in
+    λ i. record { calls = these_none told.calls i; failures = none i }
 
 pub after_then : (told : Told) (xs ys : List Call) → after (after told xs) ys ≡ after told (xs ++ ys)
 after_then told xs ys = λ i. record { calls = these_then told.calls xs ys i; failures = failed_then told.failures xs ys i }

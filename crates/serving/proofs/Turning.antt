@@ -5,9 +5,8 @@ use Rattle.std.proofs.lemmas.Bool.{false≢true}
 use Rattle.model.specs.Run.{Happening}
 use Rattle.model.specs.Arrivals.{World, Turns, Works, none_more, one_more, Same, Waits, WorksOff, Answers, Takes_off, Loses, TakesAndWorks, with_heard, is_over, is_paused, is_awake, is_gone, has_output}
 use Rattle.model.specs.declared.events.Arrival.TheVariants as arrival
-use Rattle.serving.specs.Opened.{Hears, Takes, IsLost, DidNothing}
+use Rattle.runs.specs.Opened.{Hears, Takes, IsLost, DidNothing}
 use Rattle.serving.specs.Coming.{WorksPartly, TakesAndWorksPartly, FallsShort}
-use Rattle.serving.proofs.Worlds.{world_same}
 
 -- ---- tests
 

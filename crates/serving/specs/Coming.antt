@@ -47,3 +47,7 @@ Brings old a hs new = MatchBool a.is_whole (Answers old a.arrival hs new) (Falls
 abbrev pub Attempts : World → List Attempt → List Happening → World → Type 0
 Attempts old [] hs new = (hs ≡ []) × (new ≡ old)
 Attempts old (a ∷ as') hs new = (mid : World) × (first : List Happening) × (rest : List Happening) × (hs ≡ first ++ rest) × Brings old a first mid × Attempts mid as' rest new
+
+-- memory was there for it
+abbrev pub IsWhole : Attempt → Type 0
+IsWhole a = a.is_whole ≡ true

@@ -4,5 +4,6 @@ pub mod Coming
 pub mod Story
 pub mod Fit
 pub mod Rounds
-pub mod Opened
 pub mod Serving
+pub mod Joined
+pub mod Whole

@@ -5,7 +5,6 @@
 //! its ghost, so the contracts say which arrivals at the machine the answers became.
 #![tactic(auto)]
 
-mod machine;
 mod peers;
 mod rounds;
 mod servers;

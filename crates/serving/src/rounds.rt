@@ -10,7 +10,7 @@ ghost use Rattle.serving.specs.Story.{At, Serves, TakesIn, served};
 ghost use Rattle.serving.specs.Fit.{ApartFrom, IsFit};
 ghost use Rattle.serving.specs.Rounds.{GoesRound, IsRound, read_of, reads_due, write_of, writes_due};
 
-use crate::machine::Machine;
+use runs::Machine;
 use crate::peers::Peer;
 use crate::turns::{give, has_output, hear, is_awake, is_gone};
 use crate::wire::{Accept, Read, Wire, Write};

@@ -1,10 +1,13 @@
 //! A server, and how long it serves.
 
 ghost use Rattle.std.specs.Prelude.{◌≡◌, IfOk, []};
+ghost use Rattle.model.specs.Arrivals.{new_world};
+ghost use Rattle.model.specs.State.{Config};
 ghost use Rattle.serving.specs.Story.{served};
 ghost use Rattle.serving.specs.Rounds.{IsRound, Rounds};
+ghost use Rattle.serving.specs.Whole.{IsServed};
 
-use crate::machine::Machine;
+use runs::Machine;
 use crate::peers::Peer;
 use crate::rounds::round;
 use crate::wire::Wire;
@@ -71,7 +74,9 @@ pub fn serve<M: Machine, W: Wire>(
     wire: &mut W,
     turns: u64,
 )
-    ensures { Rounds turns (served (M.world server.old.machine) server.old.peers (W.told wire.old)) (served (M.world server.new.machine) server.new.peers (W.told wire.new)) }
+    ensures rounds { Rounds turns (served (M.world server.old.machine) server.old.peers (W.told wire.old)) (served (M.world server.new.machine) server.new.peers (W.told wire.new)) }
+    // From a new server of a machine with no connection: what arrived, and that the promises are kept.
+    ensures served { (f : Config) → M.world server.old.machine ≡ new_world f → server.old.peers ≡ [] → IsServed f (W.told wire.old) (served (M.world server.new.machine) server.new.peers (W.told wire.new)) }
 {
     for _ in 0..turns {
         server.round(alloc, wire);

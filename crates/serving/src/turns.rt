@@ -6,7 +6,7 @@ ghost use Rattle.model.specs.Arrivals.{Answers, WorksOff, has_output, is_awake, 
 ghost use Rattle.model.specs.declared.events.Arrival.TheVariants as arrival;
 ghost use Rattle.serving.specs.Coming.{FallsShort, WorksPartly};
 
-use crate::machine::Machine;
+use runs::Machine;
 use std::alloc::{AllocError, Global};
 
 /// An output of so many bytes pauses its connection.

@@ -1,6 +1,6 @@
 use Rattle.std.proofs.Common.{List, Option, None, ap}
 use Rattle.slab.specs.Slab.{Slab}
-use Rattle.serving.specs.Opened.{OpensNew}
+use Rattle.runs.specs.Opened.{OpensNew}
 use Rattle.serving.specs.declared.peers.Peer.{Peer}
 use Rattle.serving.proofs.Deeds.{is_full, no_memory, same_not}
 use Rattle.serving.proofs.rounds.take_in.Goals as goal

@@ -1,6 +1,6 @@
 use Rattle.std.proofs.Common.{[], ◌++◌}
 use Rattle.model.specs.Arrivals.{none_more}
-use Rattle.serving.specs.Opened.{Did}
+use Rattle.runs.specs.Opened.{Did}
 use Rattle.serving.proofs.Turning.{works_one}
 use Rattle.serving.proofs.turns.work.Goals as goal
 
