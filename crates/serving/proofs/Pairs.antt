@@ -23,7 +23,7 @@ in_back x [] ys i = i
 in_back x (y ∷ xs) ys i = inr (in_back x xs ys i)
 
 -- whose deed it is
-pub peer_of : Deed → Option Peer
+abbrev pub peer_of : Deed → Option Peer
 peer_of (Met i p) = Some p
 peer_of (Turned_away s o) = None
 peer_of (Met_no_one x) = None
@@ -117,7 +117,7 @@ knows_met known v w i p number more fresh filled e k = record {
 -- ---- one deed
 
 -- it is the deed of one that is known
-pub IsKnownIn : List Peer → Option Peer → Type 0
+abbrev pub IsKnownIn : List Peer → Option Peer → Type 0
 IsKnownIn known None = Unit {0}
 IsKnownIn known (Some p) = IsIn p known
 
@@ -146,7 +146,7 @@ goes known v w d hs does k = go d does.table (attempts_le (attempts d) v.world w
 -- ---- whole stories
 
 -- all that are known in the end
-known_after : List Peer → List Deed → List Peer
+abbrev known_after : List Peer → List Deed → List Peer
 known_after known [] = known
 known_after known (d ∷ ds) = known_after (met_by d ++ known) ds
 
@@ -179,7 +179,7 @@ all_go (d ∷ ds) known v w hs (mid, first, rest, e, does, s) k =
     record { knows = more.knows; mine = (option_known (met_by d ++ known) (known_after known (d ∷ ds)) (peer_of d) (stays_known ds (met_by d ++ known)) one.mine, more.mine) }
 
 -- the deed is of a connection exactly where it is of its socket
-pub PairsWith : Peer → Option Peer → Type 0
+abbrev pub PairsWith : Peer → Option Peer → Type 0
 PairsWith p None = Unit {0}
 PairsWith p (Some q) = SamePair p q
 
