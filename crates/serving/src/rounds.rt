@@ -10,10 +10,10 @@ ghost use Rattle.serving.specs.Story.{At, Serves, TakesIn, served};
 ghost use Rattle.serving.specs.Fit.{ApartFrom, IsFit};
 ghost use Rattle.serving.specs.Rounds.{GoesRound, IsRound, read_of, reads_due, write_of, writes_due};
 
-use runs::Machine;
 use crate::peers::Peer;
 use crate::turns::{give, has_output, hear, is_awake, is_gone};
 use crate::wire::{Accept, Read, Wire, Write};
+use runs::Machine;
 use slab::Slab;
 use std::alloc::Global;
 
@@ -39,12 +39,7 @@ fn accept_one<M: Machine, W: Wire>(
 }
 
 /// Opens a connection for a socket, if one can be and there is memory.
-fn take_in<M: Machine>(
-    alloc: Global,
-    machine: &mut M,
-    peers: &mut Slab<Peer>,
-    socket: u64,
-) -> bool
+fn take_in<M: Machine>(alloc: Global, machine: &mut M, peers: &mut Slab<Peer>, socket: u64) -> bool
     ensures { TakesIn (M.world machine.old) peers.old.slots socket result (M.world machine.new) peers.new.slots }
 {
     if peers.reserve(1).is_err() {

@@ -7,10 +7,10 @@ ghost use Rattle.serving.specs.Story.{served};
 ghost use Rattle.serving.specs.Rounds.{IsRound, Rounds};
 ghost use Rattle.serving.specs.Whole.{IsServed};
 
-use runs::Machine;
 use crate::peers::Peer;
 use crate::rounds::round;
 use crate::wire::Wire;
+use runs::Machine;
 use slab::Slab;
 use std::alloc::{AllocError, Global};
 use std::marker::Model;
@@ -68,12 +68,7 @@ impl<M: Machine> Server<M> {
 }
 
 /// That many rounds.
-pub fn serve<M: Machine, W: Wire>(
-    alloc: Global,
-    server: &mut Server<M>,
-    wire: &mut W,
-    turns: u64,
-)
+pub fn serve<M: Machine, W: Wire>(alloc: Global, server: &mut Server<M>, wire: &mut W, turns: u64)
     ensures rounds { Rounds turns (served (M.world server.old.machine) server.old.peers (W.told wire.old)) (served (M.world server.new.machine) server.new.peers (W.told wire.new)) }
     // From a new server of a machine with no connection: what arrived, and that the promises are kept.
     ensures served { (f : Config) → M.world server.old.machine ≡ new_world f → server.old.peers ≡ [] → IsServed f (W.told wire.old) (served (M.world server.new.machine) server.new.peers (W.told wire.new)) }
