@@ -30,7 +30,7 @@ use Rattle.model.specs.declared.events.Event.{Event}
 use Rattle.model.specs.declared.events.Event.TheVariants.{Open, First, Running, Command, TooLarge, Fault, Lose, Pause, Resume}
 use Rattle.model.specs.declared.methods.Get.{Get}
 use Rattle.model.specs.declared.methods.Method.{Method}
-use Rattle.model.specs.declared.methods.Method.TheVariants.{ConnectionClose, ChannelClose, ChannelCloseOk, QueuePurge, BasicQos, BasicPublish, BasicGet, BasicAck, BasicReject, BasicNack, BasicRecover, ConfirmSelect}
+use Rattle.model.specs.declared.methods.Method.TheVariants.{ConnectionClose, ChannelOpen, ChannelFlow, ChannelClose, ChannelCloseOk, QueuePurge, BasicQos, BasicPublish, BasicGet, BasicAck, BasicReject, BasicNack, BasicRecover, ConfirmSelect}
 use Rattle.model.specs.declared.notes.Note.{Note}
 use Rattle.laws.specs.Agreeing.{BrokersStayAgreed}
 use Rattle.laws.proofs.Counts.{count-append, count-cons, in-append, all_in, all-append, all_each}
@@ -518,6 +518,23 @@ module _ (t : Topology) (old new : Broker) (a : IsAgreed old) where
       by false false true e = absurd (false≢true (sym (ap is_some e)))
       by false false false e = absurd (false≢true (sym (ap is_some e)))
 
+  -- a channel is opened only where it is not open
+  not_open : (conn : Connection) (h : ℕ) (reserved : Text) (ch : Option Channel) → refusal t old conn h (ChannelOpen reserved) ch ≡ None → ch ≡ None
+  not_open conn h reserved None e = refl
+  not_open conn h reserved (Some ch) e = absurd (by ch.is_closing (h == 0) (nat_lt conn.channel_max h) e)
+    where
+      by : (w u v : Bool) → (if w then Some Ignored else if u then Some (Of_connection 503) else if v then Some (Of_connection 504) else Some (Of_connection 504)) ≡ None → ⊥
+      by true u v e = false≢true (sym (ap is_some e))
+      by false true v e = false≢true (sym (ap is_some e))
+      by false false true e = false≢true (sym (ap is_some e))
+      by false false false e = false≢true (sym (ap is_some e))
+
+  -- so nothing was outstanding there
+  opens : (sends wanted : List Send) (notes : List Note) (c h : ℕ) → old.channel c h ≡ None → Does sends notes new wanted (with_channel old c h (Some new_channel)) → IsAgreed new
+  opens sends wanted notes c h none p = agreed_by old new a (shrinks_same old.queue new.queue p.left.queues)
+      (λ q holder i o. keeps_with old new c h (Some new_channel) p.left.channels q holder o (λ e f there. absurd (false≢true (ap is_some (sym none ∙ ap (λ (d : ℕ). old.channel d h) (sym e) ∙ ap (old.channel holder.connection) (sym f) ∙ o.there)))))
+      (good_with old new c h (Some new_channel) a p.left.channels (λ ch e. subst IsGood (same_Some new_channel ch e) good_new))
+
   not_awaited : (conn : Connection) (h : ℕ) (m : Get) (ch : Option Channel) → refusal t old conn h (BasicGet m) ch ≡ None → (channel_or_new ch).is_closing ≡ false
   not_awaited conn h m None e = refl
   not_awaited conn h m (Some ch) e = by ch.is_closing _ e
@@ -529,6 +546,8 @@ module _ (t : Topology) (old new : Broker) (a : IsAgreed old) where
   performs : (sends : List Send) (notes : List Note) (c h : ℕ) (m : Method) (content : Option Content) (conn : Connection) → refusal t old conn h m (old.channel c h) ≡ None → Performs t old c h (channel_or_new (old.channel c h)) m content sends notes new → IsAgreed new
   performs sends notes c h (ConfirmSelect no_wait) content conn accepted p = agreed_record old new c h _ a (shrinks_same old.queue new.queue p.left.queues) p.left.channels refl refl refl
   performs sends notes c h (BasicPublish publish) content conn accepted p = agreed_record old new c h _ a (shrinks_arrivals t old.queue new.queue old.queue _ p.targets p.left.queues) p.left.channels refl refl refl
+  performs sends notes c h (ChannelOpen reserved) content conn accepted p = opens sends _ notes c h (not_open conn h reserved (old.channel c h) accepted) p
+  performs sends notes c h (ChannelFlow active) content conn accepted p = nothing sends _ notes p
   performs sends notes c h (ChannelClose m) content conn accepted p = closes sends notes c h (channel_or_new (old.channel c h)).is_closing p
   performs sends notes c h ChannelCloseOk content conn accepted p = ends sends notes c h (awaited conn h (old.channel c h) accepted) p
   performs sends notes c h (ConnectionClose m) content conn accepted p = goes sends _ notes c p

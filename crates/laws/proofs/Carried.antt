@@ -31,7 +31,7 @@ use Rattle.model.specs.declared.events.Event.TheVariants.{Open, First, Running, 
 use Rattle.model.specs.declared.methods.Get.{Get}
 use Rattle.model.specs.declared.methods.Publish.{Publish}
 use Rattle.model.specs.declared.methods.Method.{Method}
-use Rattle.model.specs.declared.methods.Method.TheVariants.{ConnectionClose, ChannelClose, ChannelCloseOk, QueuePurge, BasicQos, BasicPublish, BasicGet, BasicAck, BasicReject, BasicNack, BasicRecover, ConfirmSelect}
+use Rattle.model.specs.declared.methods.Method.TheVariants.{ConnectionClose, ChannelOpen, ChannelFlow, ChannelClose, ChannelCloseOk, QueuePurge, BasicQos, BasicPublish, BasicGet, BasicAck, BasicReject, BasicNack, BasicRecover, ConfirmSelect}
 use Rattle.model.specs.declared.notes.Cause.{Cause}
 use Rattle.model.specs.declared.notes.Note.{Note}
 use Rattle.model.specs.declared.notes.Answer.{Answer}
@@ -192,6 +192,8 @@ module _ (t : Topology) (old new : Broker) (sends : List Send) (notes : List Not
   performs : (c h : ℕ) (ch : Channel) (m : Method) (content : Option Content) → IsMethod m → HasWithin content → Performs t old c h ch m content sends notes new → Carries new sends
   performs c h ch (ConfirmSelect no_wait) content said within p = does _ _ p (select_light c h no_wait) a
   performs c h ch (BasicPublish publish) content said within p = publishes c h ch publish (content_or_none content) said (given_within content within) p
+  performs c h ch (ChannelOpen reserved) content said within p = does _ _ p (tt, tt) a
+  performs c h ch (ChannelFlow active) content said within p = does _ _ p (tt, tt) a
   performs c h ch (ChannelClose m) content said within p = closes c h ch.is_closing p
   performs c h ch ChannelCloseOk content said within p = does _ _ p tt a
   performs c h ch (ConnectionClose m) content said within p = does _ _ p (tt, tt) (freed_in (by_connection c))

@@ -35,7 +35,7 @@ use Rattle.model.specs.declared.methods.Method.{Method}
 use Rattle.model.specs.declared.methods.Get.{Get}
 use Rattle.model.specs.declared.methods.Ack.{Ack}
 use Rattle.model.specs.declared.methods.Purge.{Purge}
-use Rattle.model.specs.declared.methods.Method.TheVariants.{ConnectionStart, ConnectionStartOk, ConnectionTune, ConnectionTuneOk, ConnectionOpen, ConnectionOpenOk, ConnectionClose, ConnectionCloseOk, ChannelClose, ChannelCloseOk, QueuePurge, QueuePurgeOk, BasicQos, BasicQosOk, BasicPublish, BasicGet, BasicGetOk, BasicGetEmpty, BasicAck, BasicReject, BasicNack, BasicRecover, BasicRecoverOk, ConfirmSelect, ConfirmSelectOk}
+use Rattle.model.specs.declared.methods.Method.TheVariants.{ConnectionStart, ConnectionStartOk, ConnectionTune, ConnectionTuneOk, ConnectionOpen, ConnectionOpenOk, ConnectionClose, ConnectionCloseOk, ChannelOpen, ChannelOpenOk, ChannelFlow, ChannelFlowOk, ChannelClose, ChannelCloseOk, QueuePurge, QueuePurgeOk, BasicQos, BasicQosOk, BasicPublish, BasicGet, BasicGetOk, BasicGetEmpty, BasicAck, BasicReject, BasicNack, BasicRecover, BasicRecoverOk, ConfirmSelect, ConfirmSelectOk}
 use Rattle.model.specs.declared.messages.Taker.TheVariants as taker
 use Rattle.model.specs.declared.notes.Cause.{Cause}
 use Rattle.model.specs.declared.notes.Cause.TheVariants.{Acked, Auto, Rejected}
@@ -57,6 +57,8 @@ is_reply (ConnectionTune m) = true
 is_reply (ConnectionOpenOk reserved) = true
 is_reply (ConnectionClose m) = true
 is_reply ConnectionCloseOk = true
+is_reply (ChannelOpenOk []) = true
+is_reply (ChannelFlowOk active) = true
 is_reply (ChannelClose m) = true
 is_reply ChannelCloseOk = true
 is_reply ConfirmSelectOk = true
@@ -393,6 +395,8 @@ module _ (t : Topology) (old new : Broker) (sends : List Send) (notes : List Not
         connections = publish_stays t old new c h (channel_or_new (old.channel c h)) publish (content_or_none content) sends notes p;
         few = inr is;
       }
+  performs c h (ChannelOpen reserved) content conn accepted p = quiet_acts t old new _ sends notes (still _ c _ _ p (refl, refl) (record { same = refl; kept = λ n q. refl }) (stay old c))
+  performs c h (ChannelFlow active) content conn accepted p = quiet_acts t old new _ sends notes (still _ c _ _ p (refl, refl) (record { same = refl; kept = λ n q. refl }) (stay old c))
   performs c h (ChannelClose m) content conn accepted p = quiet_acts t old new _ sends notes (closes _ c h (channel_or_new (old.channel c h)).is_closing p)
   performs c h ChannelCloseOk content conn accepted p = quiet_acts t old new _ sends notes (still _ c _ _ p tt (record { same = refl; kept = λ n q. refl }) (stay old c))
   performs c h (ConnectionClose m) content conn accepted p = quiet_acts t old new _ sends notes (still _ c _ _ p (refl, refl) (record { same = refl; kept = freed_count old (by_connection c) }) (λ d. refl))

@@ -28,7 +28,7 @@ use Rattle.model.specs.declared.methods.Get.{Get}
 use Rattle.model.specs.declared.methods.Purge.{Purge}
 use Rattle.model.specs.declared.methods.Qos.{Qos}
 use Rattle.model.specs.declared.methods.Method.{Method}
-use Rattle.model.specs.declared.methods.Method.TheVariants.{ConnectionClose, ConnectionCloseOk, ChannelOpenOk, ChannelFlowOk, ChannelClose, ChannelCloseOk, ExchangeDeclareOk, QueueDeclareOk, QueuePurge, QueuePurgeOk, BasicQos, BasicQosOk, BasicConsumeOk, BasicCancelOk, BasicPublish, BasicReturn, BasicDeliver, BasicGet, BasicGetOk, BasicGetEmpty, BasicAck, BasicReject, BasicRecover, BasicRecoverOk, BasicNack, ConfirmSelect, ConfirmSelectOk}
+use Rattle.model.specs.declared.methods.Method.TheVariants.{ConnectionClose, ConnectionCloseOk, ChannelOpen, ChannelOpenOk, ChannelFlow, ChannelFlowOk, ChannelClose, ChannelCloseOk, ExchangeDeclareOk, QueueDeclareOk, QueuePurge, QueuePurgeOk, BasicQos, BasicQosOk, BasicConsumeOk, BasicCancelOk, BasicPublish, BasicReturn, BasicDeliver, BasicGet, BasicGetOk, BasicGetEmpty, BasicAck, BasicReject, BasicRecover, BasicRecoverOk, BasicNack, ConfirmSelect, ConfirmSelectOk}
 use Rattle.model.specs.declared.messages.Taker.TheVariants as taker
 use Rattle.model.specs.declared.notes.Cause.TheVariants.{Acked}
 use Rattle.model.specs.declared.notes.Note.{Note}
@@ -138,11 +138,15 @@ refusal_of_qos m = if m.prefetch_size == 0 then None else Some (Of_connection 54
 abbrev pub refusal_of_recover : Bool → Option Refusal
 refusal_of_recover requeue = if requeue then None else Some (Of_connection 540)
 
+-- a flow that stops is not implemented
+abbrev pub refusal_of_flow : Bool → Option Refusal
+refusal_of_flow active = if active then None else Some (Of_connection 540)
+
 -- the connection class
 abbrev pub is_of_connection : Method → Bool
 is_of_connection m = (ids_of m).class == 10
 
--- a method on an open channel: one that only a server sends, or that answers what the server never asks for, is invalid (AMQP 0-9-1, section 1.1, command-invalid); one that is not built yet is not implemented
+-- a method on an open channel, which is not opened again: one that only a server sends, or that answers what the server never asks for, is invalid (AMQP 0-9-1, section 1.1, command-invalid); one that is not built yet is not implemented
 abbrev pub refusal_of : Topology → Broker → Channel → Method → Option Refusal
 refusal_of t b ch (ConfirmSelect no_wait) = None
 refusal_of t b ch (BasicPublish p) = refusal_of_publish t b ch p
@@ -153,6 +157,8 @@ refusal_of t b ch (BasicAck m) = refusal_of_settling ch m.delivery_tag m.multipl
 refusal_of t b ch (BasicReject m) = refusal_of_rejection t ch m.delivery_tag false m.requeue
 refusal_of t b ch (BasicNack m) = refusal_of_rejection t ch m.delivery_tag m.multiple m.requeue
 refusal_of t b ch (BasicRecover requeue) = refusal_of_recover requeue
+refusal_of t b ch (ChannelOpen reserved) = Some (Of_connection 504)
+refusal_of t b ch (ChannelFlow active) = refusal_of_flow active
 refusal_of t b ch (ChannelClose m) = None
 refusal_of t b ch ChannelCloseOk = Some (Of_connection 503)
 refusal_of t b ch (ChannelOpenOk reserved) = Some (Of_connection 503)
@@ -171,8 +177,9 @@ refusal_of t b ch BasicRecoverOk = Some (Of_connection 503)
 refusal_of t b ch ConfirmSelectOk = Some (Of_connection 503)
 refusal_of t b ch _ = Some (Of_connection 540)
 
--- a method on a channel that is not open
+-- a channel that is not open takes channel.open alone
 abbrev pub refusal_on : Topology → Broker → Option Channel → Method → Option Refusal
+refusal_on t b None (ChannelOpen reserved) = None
 refusal_on t b None m = Some (Of_connection 504)
 refusal_on t b (Some ch) m = refusal_of t b ch m
 
@@ -407,6 +414,10 @@ Performs t old c h ch (ConfirmSelect no_wait) content sends notes new =
     Does sends notes new (select_sends c h no_wait) (with_channel old c h (Some (record ch { confirm = started ch.confirm })))
 Performs t old c h ch (BasicPublish p) content sends notes new =
     IsPublish t old c h ch p (content_or_none content) sends notes new
+Performs t old c h ch (ChannelOpen reserved) content sends notes new =
+    Does sends notes new (reply c h (ChannelOpenOk []) ∷ []) (with_channel old c h (Some new_channel))
+Performs t old c h ch (ChannelFlow active) content sends notes new =
+    Does sends notes new (reply c h (ChannelFlowOk active) ∷ []) old
 Performs t old c h ch (ChannelClose m) content sends notes new =
     Does sends notes new (reply c h ChannelCloseOk ∷ []) (after_close old c h ch)
 Performs t old c h ch ChannelCloseOk content sends notes new =
