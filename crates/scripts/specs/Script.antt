@@ -4,7 +4,7 @@ use Rattle.std.specs.Str.{bytes_eq}
 use Rattle.hex.specs.Hex.{decode_of}
 use Rattle.model.specs.Words.{Text, onto_first}
 use Rattle.model.specs.declared.events.Arrival.{Arrival}
-use Rattle.model.specs.declared.events.Arrival.TheVariants.{Open, Ready, In}
+use Rattle.model.specs.declared.events.Arrival.TheVariants.{Open, Ready, In, Sent, Lose}
 use Rattle.scripts.specs.declared.script.Fault.{Fault}
 use Rattle.scripts.specs.declared.script.Fault.TheVariants.{Line, Memory}
 
@@ -64,9 +64,22 @@ connection opened c = option_and_then (λ n. if nat_le 1 n && nat_le n opened th
 abbrev pub bytes_in : ℕ → Text × Text → Option Arrival
 bytes_in opened f = option_and_then (λ c. option_map (λ bytes. In c bytes) (piece f.1)) (connection opened f.0)
 
+-- `sent C N`: so many bytes of a connection's output are taken
+abbrev pub sent : ℕ → Text × Text → Option Arrival
+sent opened f = option_and_then (λ c. option_map (λ n. Sent c n) (number f.1)) (connection opened f.0)
+
+-- `lose C`: a connection is lost
+abbrev pub lost : ℕ → Text → Option Arrival
+lost opened c = option_map (λ n. Lose n) (connection opened c)
+
 -- a line of more than one field, by its first
 abbrev pub by_word : ℕ → Text × Text → Option Arrival
-by_word opened f = if bytes_eq f.0 (codes "ready") then ready opened f.1 else if bytes_eq f.0 (codes "in") then option_and_then (bytes_in opened) (cut f.1) else None
+by_word opened f =
+    if bytes_eq f.0 (codes "ready") then ready opened f.1 else
+    if bytes_eq f.0 (codes "in") then option_and_then (bytes_in opened) (cut f.1) else
+    if bytes_eq f.0 (codes "sent") then option_and_then (sent opened) (cut f.1) else
+    if bytes_eq f.0 (codes "lose") then lost opened f.1 else
+    None
 
 -- the arrival of a line that is not skipped
 abbrev pub arrival_of : ℕ → Text → Option Arrival

@@ -2,7 +2,7 @@
 
 ghost use Rattle.std.specs.Prelude.{◌≡◌, ◌∷◌, ◌<◌, ◌≤◌, ◌==◌, length, IfSome, option_copied, option_map, position};
 ghost use Rattle.std.specs.List.{position_from};
-ghost use Rattle.scripts.specs.Script.{lines, cut, with_digit, digits_after, number, piece, opening, ready, connection, bytes_in, by_word, arrival_of, line_of};
+ghost use Rattle.scripts.specs.Script.{lines, cut, with_digit, digits_after, number, piece, opening, ready, connection, bytes_in, sent, lost, by_word, arrival_of, line_of};
 ghost use Rattle.scripts.specs.Lines.{Tells, lines_left};
 
 use hex::FromHexError;
@@ -152,6 +152,23 @@ fn bytes_in(alloc: Global, opened: u64, c: &[u8], hex: &[u8]) -> Result<Arrival,
     }
 }
 
+/// The fields of `sent C N` behind the word.
+fn sent(opened: u64, c: &[u8], count: &[u8]) -> Option<Arrival>
+    ensures { result ≡ sent opened (c.now, count.now) }
+{
+    let c = connection(opened, c)?;
+    let count = number(count)?;
+    Some(Arrival::Sent(c, count))
+}
+
+/// The field of `lose C` behind the word.
+fn lost(opened: u64, c: &[u8]) -> Option<Arrival>
+    ensures { result ≡ lost opened c.now }
+{
+    let c = connection(opened, c)?;
+    Some(Arrival::Lose(c))
+}
+
 /// A line of more than one field, by its first.
 fn by_word(alloc: Global, opened: u64, word: &[u8], rest: &[u8]) -> Result<Arrival, Bad>
     ensures { Tells result (by_word opened (word.now, rest.now)) }
@@ -164,6 +181,15 @@ fn by_word(alloc: Global, opened: u64, word: &[u8], rest: &[u8]) -> Result<Arriv
             Some((c, hex)) => bytes_in(alloc, opened, c, hex),
             None => Err(Bad::Malformed),
         };
+    }
+    if word == b"sent".as_slice() {
+        return match cut(rest) {
+            Some((c, count)) => sent(opened, c, count).ok_or(Bad::Malformed),
+            None => Err(Bad::Malformed),
+        };
+    }
+    if word == b"lose".as_slice() {
+        return lost(opened, rest).ok_or(Bad::Malformed);
     }
     Err(Bad::Malformed)
 }
