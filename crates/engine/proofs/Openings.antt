@@ -1,5 +1,5 @@
 -- An engine with no connection, and one more connection.
-use Rattle.std.proofs.Common.{◌≡◌, ◌<◌, ◌≤◌, ◌+◌, ℕ, List, [], ◌∷◌, ◌++◌, Bool, true, false, cond, Option, Some, None, Err, length, refl, sym, ap, subst, ◌∙◌, arith}
+use Rattle.std.proofs.Common.{◌≡◌, ◌<◌, ◌≤◌, ◌+◌, ℕ, List, [], ◌∷◌, ◌++◌, Bool, true, false, cond, Option, Some, None, Result, Ok, Err, length, refl, sym, ap, subst, ◌∙◌, arith}
 use Rattle.std.specs.Prelude.{◌==◌, ◌&&◌, not, nat_lt, if◌then◌else◌}
 use Rattle.std.specs.List.{AllByRecursion}
 use Rattle.std.proofs.lemmas.Bool.Decides.{nat_tests}
@@ -143,6 +143,22 @@ opened old new l e sess st a few left m stepped =
       ),
     )
 
+-- so it is under the number that was found
+pub opened_new : (old new : Parts) (l : Link) (n : ℕ) → AreLinks old.given old.links → Numbers old.given old.links (Ok n) → IsOneMore old new l new_session new_stream → broker_of new.broker ≡ broker_of old.broker
+    → IsOpened (event.Open (old.given + 1)) new_stream (world_of old) (Some n) (world_of new)
+opened_new old new l n a numbers m same =
+    subst (λ (k : ℕ). IsOpened (event.Open (old.given + 1)) new_stream (world_of old) (Some k) (world_of new)) (sym numbers.0)
+    (opened old new l (event.Open (old.given + 1)) new_session new_stream a numbers.1 numbers.2 m (steps_new old new l a m same))
+
+pub opened_ready : (old new : Parts) (l : Link) (n k : ℕ) → AreLinks old.given old.links → Numbers old.given old.links (Ok n) → IsOneMore old new l running_session running_stream
+    → Acts (topology_of old.broker) (broker_of old.broker) (event.Running n 255 k) [] [] (broker_of new.broker)
+    → IsOpened (event.Running (old.given + 1) 255 k) running_stream (world_of old) (Some n) (world_of new)
+opened_ready old new l n k a numbers m acts =
+    let here : Acts (topology_of old.broker) (broker_of old.broker) (event.Running (old.given + 1) 255 k) [] [] (broker_of new.broker) =
+    subst (λ (c : ℕ). Acts (topology_of old.broker) (broker_of old.broker) (event.Running c 255 k) [] [] (broker_of new.broker)) numbers.0 acts in
+    subst (λ (c : ℕ). IsOpened (event.Running (old.given + 1) 255 k) running_stream (world_of old) (Some c) (world_of new)) (sym numbers.0)
+    (opened old new l (event.Running (old.given + 1) 255 k) running_session running_stream a numbers.1 numbers.2 m (steps_ready old new l k a m here))
+
 pub engine_opened : (old new : Parts) (l : Link) (sess : Session) (st : Stream) → IsEngine old → IsOneMore old new l sess st → IsConsistent (world_of new) → IsEngine new
 engine_opened old new l sess st e m agreed = record {
   hold = subst (λ (gs : List Guarantee). Rattle.model.specs.Guarantee.AllHold (topology_of new.broker) gs) (sym m.guarantees)
@@ -164,7 +180,17 @@ spent_is : (given : ℕ) → 18446744073709551615 ≤ given → nat_lt given 184
 spent_is given most = grind (arith, nat_tests, most)
 
 -- where there is no number nothing is opened
-pub refused : (old new : Parts) (e : Event) (s : Stream) (why : Refused) → AreLinks old.given old.links → Numbers old.given old.links (Err why) → Same (world_of old) (world_of new) → OpenedBy e s (world_of old) (Err why) (world_of new)
+refused : (old new : Parts) (e : Event) (s : Stream) (why : Refused) → AreLinks old.given old.links → Numbers old.given old.links (Err why) → Same (world_of old) (world_of new) → OpenedBy e s (world_of old) (Err why) (world_of new)
 refused old new e s Full a n same = (full_is old a n, same)
 refused old new e s Spent a n same = (room_is old a n.0, spent_is old.given n.1, same)
 refused old new e s Memory a n same = (can_open_is old a n.0 n.1, same)
+
+pub refused_so : (old new : Parts) (e : Event) (s : Stream) (r : Result ℕ Refused) (is why : Refused) → r ≡ Err is → is ≡ why → AreLinks old.given old.links → Numbers old.given old.links (Err why) → Same (world_of old) (world_of new)
+    → OpenedBy e s (world_of old) r (world_of new)
+refused_so old new e s r is why at same a n w =
+    subst (λ (x : Result ℕ Refused). OpenedBy e s (world_of old) x (world_of new)) (sym at) (subst (λ (x : Refused). OpenedBy e s (world_of old) (Err x) (world_of new)) (sym same) (refused old new e s why a n w))
+
+-- and where there is one, it is refused for memory alone
+pub refused_memory : (old new : Parts) (e : Event) (s : Stream) (r : Result ℕ Refused) (is : Refused) (n : ℕ) → r ≡ Err is → is ≡ Memory → AreLinks old.given old.links → Numbers old.given old.links (Ok n) → Same (world_of old) (world_of new)
+    → OpenedBy e s (world_of old) r (world_of new)
+refused_memory old new e s r is n at memory a numbers w = refused_so old new e s r is Memory at memory a (numbers.1, numbers.2) w
