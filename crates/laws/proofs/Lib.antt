@@ -18,5 +18,6 @@ pub mod Plays
 pub mod Linked
 pub mod Consistency
 pub mod Spoken
+pub mod Openings
 pub mod Whole
 pub mod Rows

@@ -1,26 +1,17 @@
 -- Whatever arrives, what happens is a run, under what is in force, of commands that were said and sends that were put out.
-use Rattle.std.proofs.Common.{◌≡◌, ◌≤◌, ℕ, List, [], ◌∷◌, ◌++◌, Bool, true, false, Option, Some, None, refl, sym, subst, ◌∙◌, ◌⊎◌, inl, inr}
+use Rattle.std.proofs.Common.{◌≡◌, ◌≤◌, ℕ, List, [], ◌∷◌, ◌++◌, Bool, true, false, refl, sym, subst, ◌∙◌, ◌⊎◌, inl, inr}
 use Rattle.std.specs.List.{AllByRecursion}
-use Rattle.model.specs.Topology.{Topology}
-use Rattle.model.specs.Broker.{Broker}
 use Rattle.model.specs.State.{Config, State, Step}
-use Rattle.model.specs.Step.{returned_sends, confirm_sends, next_of}
 use Rattle.model.specs.Run.{Happening, Run}
 use Rattle.model.specs.Spelling.{IsSpelled}
 use Rattle.model.specs.Commands.{Stream}
 use Rattle.model.specs.Arrivals.{World, Turns, Works, none_more, one_more, Waits, WorksOff, Answers, Same, with_heard, is_over, is_gone, can_open, Opens, Loses, Takes_off, TakesAndWorks, Puts, Settles, Happens, IsSaid, Plays}
-use Rattle.model.specs.declared.contents.Content.{Content}
-use Rattle.model.specs.declared.methods.Publish.{Publish}
-use Rattle.model.specs.declared.notes.Note.{Note}
-use Rattle.model.specs.declared.notes.Answer.{Answer}
 use Rattle.model.specs.declared.events.Send.{Send}
-use Rattle.model.specs.declared.events.Send.TheVariants as send
 use Rattle.model.specs.declared.events.Event.{Event}
 use Rattle.model.specs.declared.events.Event.TheVariants as event
 use Rattle.model.specs.declared.events.Arrival.{Arrival}
 use Rattle.model.specs.declared.events.Arrival.TheVariants as arrival
 use Rattle.laws.proofs.Counts.{all-append, from_either}
-use Rattle.laws.proofs.View.{Seen, seen, reply_all}
 
 -- ---- what is told of the happenings of a run
 

@@ -1,8 +1,9 @@
 -- What was sent to a connection so far, by its phase: commands, or the protocol header alone.
-use Rattle.std.proofs.Common.{◌≡◌, ℕ, List, [], ◌∷◌, ◌++◌, Bool, true, false, ◌⊎◌, inl, inr, sym, ap, subst, ◌∙◌, append-nil}
+use Rattle.std.proofs.Common.{◌≡◌, ℕ, List, [], ◌∷◌, ◌++◌, true, false, ◌⊎◌, inl, sym, ap, subst, ◌∙◌, append-nil}
 use Rattle.std.specs.List.{AllByRecursion}
 use Rattle.std.proofs.lemmas.Bool.{false≢true}
 use Rattle.model.specs.Arrivals.{is_ended}
+use Rattle.laws.specs.Openings.{is_header}
 use Rattle.model.specs.declared.events.Send.{Send}
 use Rattle.model.specs.declared.events.Send.TheVariants as send
 use Rattle.model.specs.declared.events.Phase.{Phase}
@@ -15,11 +16,6 @@ IsCommandSend (send.Command c h m content) = Unit {0}
 
 abbrev pub AreCommandSends : List Send → Type 0
 AreCommandSends sends = AllByRecursion IsCommandSend sends
-
--- the first eight bytes are awaited
-abbrev pub is_header : Phase → Bool
-is_header phase.Header = true
-is_header p = false
 
 -- While the first eight bytes are awaited nothing was sent. When all is over it may have been the protocol header alone. Else it was commands.
 abbrev pub Spoken : ℕ → Phase → List Send → Type 0

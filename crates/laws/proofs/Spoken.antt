@@ -1,6 +1,6 @@
 -- Whatever arrives, what a connection was sent so far is as its phase says: commands, or the protocol header alone.
 use Rattle.std.proofs.Common.{◌≡◌, ◌≢◌, ◌<◌, ◌+◌, ℕ, List, [], ◌∷◌, ◌++◌, Bool, true, false, cond, refl, sym, ap, subst, ◌∙◌, ◌⊎◌, inl, inr, append-nil, append_assoc, arith, Option}
-use Rattle.std.specs.Prelude.{◌==◌, ◌&&◌, filter, flat_map, not}
+use Rattle.std.specs.Prelude.{◌==◌, ◌&&◌, filter, not}
 use Rattle.std.specs.List.{AllByRecursion}
 use Rattle.std.proofs.lemmas.Grind.{flat_map-append}
 use Rattle.std.proofs.lemmas.List.Elements.{filter-append}
@@ -8,11 +8,11 @@ use Rattle.std.proofs.lemmas.Bool.{eq-eqb, eqb-true, eqb-false, ne_eqb, false≢
 use Rattle.model.specs.Broker.{with_one}
 use Rattle.model.specs.Commands.{Stream}
 use Rattle.model.specs.Opening.{new_session}
-use Rattle.model.specs.Phases.{Session, running_session, no_session, is_running, after_method, after_sends, to_phase}
+use Rattle.model.specs.Phases.{Session, running_session, no_session, after_method, after_sends, to_phase}
 use Rattle.model.specs.State.{Config, State, Step}
 use Rattle.model.specs.Run.{Happening, sends_of}
 use Rattle.model.specs.Spelling.{receiver, sends_to}
-use Rattle.model.specs.Arrivals.{World, new_world, is_ended, is_over, is_paused, is_gone, can_open, event_of, Reads, again, fresh, fault, Settles, Puts, Turns, Waits, Works, none_more, one_more, WorksOff, Same, Takes_off, TakesAndWorks, Opens, Loses, Answers, Plays, with_heard}
+use Rattle.model.specs.Arrivals.{World, new_world, is_ended, is_over, is_paused, is_gone, can_open, event_of, Reads, again, fresh, fault, Settles, Puts, Turns, Works, none_more, one_more, WorksOff, Same, Takes_off, Opens, Loses, Answers, Plays, with_heard}
 use Rattle.model.specs.declared.methods.Method.{Method}
 use Rattle.model.specs.declared.methods.Method.TheVariants.{ConnectionClose, ConnectionCloseOk}
 use Rattle.model.specs.declared.events.Command.{Command}
@@ -27,7 +27,8 @@ use Rattle.model.specs.declared.events.Arrival.{Arrival}
 use Rattle.model.specs.declared.events.Arrival.TheVariants as arrival
 use Rattle.model.specs.declared.notes.Note.{Note}
 use Rattle.laws.proofs.Counts.{all-append, from_either}
-use Rattle.laws.proofs.Speaking.{IsCommandSend, AreCommandSends, is_header, Spoken, spoken_commands, spoken_over, spoken_on}
+use Rattle.laws.specs.Openings.{is_header}
+use Rattle.laws.proofs.Speaking.{IsCommandSend, AreCommandSends, Spoken, spoken_commands, spoken_over, spoken_on}
 use Rattle.laws.proofs.View.{connection_of, session_after, is_read, goes, acted, acted_commands, Performed, Answered}
 use Rattle.laws.proofs.Linked.{with_here}
 
@@ -67,7 +68,7 @@ to_no_header s phase.Over e = refl
 to_no_header s _ e = e
 
 -- the first eight bytes are not awaited after what is read and performed
-read_no_header : (s : Session) (e : Event) (sends : List Send) → is_read e ≡ true → is_header (session_after s e sends).phase ≡ false
+pub read_no_header : (s : Session) (e : Event) (sends : List Send) → is_read e ≡ true → is_header (session_after s e sends).phase ≡ false
 read_no_header s (event.First c bytes) sends read = to_no_header s (after_sends sends) (sends_no_header sends)
 read_no_header s (event.Command c h m content) sends read = to_no_header s (after_sends sends) (sends_no_header sends)
 read_no_header s (event.TooLarge c h) sends read = to_no_header s (after_sends sends) (sends_no_header sends)
@@ -106,7 +107,7 @@ command_is_read c (Plain h m) = (refl, refl)
 command_is_read c (Full h p content) = (refl, refl)
 command_is_read c (TooLarge h) = (refl, refl)
 
-read_is : (c : ℕ) (k : Option Command) (s next : Stream) (e : Event) → Reads c k s e next → (connection_of e ≡ c) × (is_read e ≡ true)
+pub read_is : (c : ℕ) (k : Option Command) (s next : Stream) (e : Event) → Reads c k s e next → (connection_of e ≡ c) × (is_read e ≡ true)
 read_is c k s next e (again {m = m}) = command_is_read c m
 read_is c k s next e (fresh {m = m} y) = command_is_read c m
 read_is c k s next e (fault y) = (refl, refl)
@@ -150,7 +151,7 @@ settled_silent f mid new c true false hs (h, all, p) = ap sends_of all ∙ ap (�
 settled_silent f mid new c true true hs p = ap sends_of p.0
 settled_silent f mid new c false false hs p = ap sends_of p.0
 
-settled_sessions : (f : Config) (mid new : State) (c : ℕ) (was is : Bool) (hs : List Happening) → Settles f mid c was is hs new → (d : ℕ) → new.session d ≡ mid.session d
+pub settled_sessions : (f : Config) (mid new : State) (c : ℕ) (was is : Bool) (hs : List Happening) → Settles f mid c was is hs new → (d : ℕ) → new.session d ≡ mid.session d
 settled_sessions f mid new c false true hs (h, all, p) d = p.stepped.session d
 settled_sessions f mid new c true false hs (h, all, p) d = p.stepped.session d
 settled_sessions f mid new c true true hs p d = ap (λ (z : State). z.session d) p.1

@@ -5,14 +5,14 @@ use Rattle.std.proofs.lemmas.Bool.{false≢true}
 use Rattle.model.specs.Words.{Text}
 use Rattle.model.specs.Frames.{Frame, frame_bytes, Begins, IsBroken}
 use Rattle.model.specs.Headers.{Header}
-use Rattle.model.specs.Commands.{Pending, Nothing, Wants_header, Wants_body, Drops, Taken, Goes_on, Makes, Breaks, Stream, TakesFirst, Takes, TakesOn, TakesPayload, TakesSized, Yields, first, now, later, Ends, early, short, broken, faulty, beyond, Commands, heard, awaited, is_on_wrong_channel, is_too_large, taken_body, taken_dropped, taken_header, taken_heartbeat, taken_method}
+use Rattle.model.specs.Commands.{Pending, Nothing, Wants_header, Wants_body, Drops, Taken, Goes_on, Makes, Breaks, Stream, TakesFirst, Takes, TakesOn, TakesPayload, TakesSized, Yields, first, now, later, Ends, early, short, broken, faulty, beyond, Commands, heard, with_max, awaited, is_on_wrong_channel, is_too_large, taken_body, taken_dropped, taken_header, taken_heartbeat, taken_method}
 use Rattle.model.specs.declared.contents.Fields.{Fields as Properties}
 use Rattle.model.specs.declared.methods.Publish.{Publish}
 use Rattle.model.specs.declared.methods.Method.{Method}
 use Rattle.model.specs.declared.methods.Method.TheVariants.{BasicPublish}
 use Rattle.model.specs.declared.events.Command.TheVariants.{Full, TooLarge}
 use Rattle.model.specs.declared.events.Command.{Command}
-use Rattle.laws.specs.Streams.{YieldsAll, is_head, ReadsHead, ReadsFrames, FirstBytesComeFirst}
+use Rattle.laws.specs.Streams.{YieldsAll, Performed, YieldsTuned, is_head, ReadsHead, ReadsFrames, FirstBytesComeFirst}
 use Rattle.laws.proofs.Counts.{from_either}
 
 begins_more : (max : ℕ) (bytes rest more : List ℕ) (f : Frame) → Begins max bytes f rest → Begins max (bytes ++ more) f (rest ++ more)
@@ -62,6 +62,10 @@ fault_stays s code more e = fault_stays_at code more e refl
 pub cutting : (s last : Stream) (done rest : List Command) (more : List ℕ) (end : Option ℕ) → YieldsAll s done last → Commands (heard last more) rest end → Commands (heard s more) (done ++ rest) end
 cutting s last [] rest more end e c = subst (λ (z : Stream). Commands (heard z more) rest end) e c
 cutting s last (d ∷ done) rest more end (next, y, r) c = (heard next more, yields_more more y, cutting next last done rest more end r c)
+
+pub tuning : (s last : Stream) (done : List Performed) (more : List ℕ) → YieldsTuned s done last → YieldsTuned (heard s more) done (heard last more)
+tuning s last [] more e = ap (λ (z : Stream). heard z more) e
+tuning s last (d ∷ done) more (next, y, r) = (heard next more, yields_more more y, tuning (with_max d.frame_max next) last done more r)
 
 -- ---- the first eight bytes
 
@@ -116,17 +120,17 @@ framed : (p : Pending) (f : Frame) (taken : Taken) → TakesOn p f taken → is_
 framed p f taken = from_either (f.kind == 8) (λ e. ap is_head_made e ∙ framed_heartbeat p f)
     (from_either (is_on_wrong_channel f) (λ e. ap is_head_made e) (from_either (f.kind == awaited p) (framed_payload p f taken) (λ e. ap is_head_made e)))
 
-frames_read : {s next : Stream} {c : Command} → s.is_new ≡ false → Yields s c next → ReadsFrames c next
+pub frames_read : {s next : Stream} {c : Command} → s.is_new ≡ false → Yields s c next → ReadsFrames c next
 frames_read n (first t) = absurd (false≢true (sym n ∙ t.awaited))
 frames_read n (now {s = s} {next = next} {c = c} t) = record { framed = framed (s.pending t.frame.channel) t.frame (Makes c) t.effect; begun = ap (λ (z : Stream). z.is_new) t.left ∙ n }
 frames_read n (later t y) = frames_read (ap (λ (z : Stream). z.is_new) t.left ∙ n) y
 
-head_read : {s next : Stream} {c : Command} → s.is_new ≡ true → Yields s c next → ReadsHead s c next
+pub head_read : {s next : Stream} {c : Command} → s.is_new ≡ true → Yields s c next → ReadsHead s c next
 head_read n (first {bytes = bytes} t) = record { bytes = bytes; is = refl; takes = t }
 head_read n (now t) = absurd (false≢true (sym t.begun ∙ n))
 head_read n (later t y) = absurd (false≢true (sym t.begun ∙ n))
 
-head_awaited : {s : Stream} {end : Option ℕ} → s.is_new ≡ true → Ends s end → (end ≡ None) × (length s.unread < 8)
+pub head_awaited : {s : Stream} {end : Option ℕ} → s.is_new ≡ true → Ends s end → (end ≡ None) × (length s.unread < 8)
 head_awaited n (early is few) = (refl, few)
 head_awaited n (short is a b) = absurd (false≢true (sym is ∙ n))
 head_awaited n (broken is b) = absurd (false≢true (sym is ∙ n))

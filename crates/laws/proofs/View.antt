@@ -46,7 +46,8 @@ use Rattle.model.specs.declared.notes.Answer.TheVariants as answered
 use Rattle.model.specs.Spelling.{eight_bytes}
 use Rattle.model.specs.Arrivals.{is_ended}
 use Rattle.laws.proofs.Counts.{count-map, all_each, all-append}
-use Rattle.laws.proofs.Speaking.{IsCommandSend, AreCommandSends, is_header, Spoken, spoken_commands, spoken_on, spoken_still}
+use Rattle.laws.specs.Openings.{is_header, is_first}
+use Rattle.laws.proofs.Speaking.{IsCommandSend, AreCommandSends, Spoken, spoken_commands, spoken_on, spoken_still}
 use Rattle.laws.proofs.Leaving.{is_leaving, OfLeft, at_queue, count_change, freed_number, taken_balances, left_balances, are_leaving, left_causes, returned_counts, settled_are, purge_balances, purge_leaving, purge_causes}
 
 -- ---- what is sent
@@ -490,6 +491,7 @@ pub record Answered (old : State) (e : Event) (sends : List Send) (notes : List 
   pub read : is_read e ≡ true
   pub move : Move
   pub few : IsAnswerAtMost move.sends
+  pub header : is_header move.next.phase ≡ true → (is_header (old.session (connection_of e)).phase ≡ true) × (is_first e ≡ false)
   pub spoken : is_ended (old.session (connection_of e)).phase ≡ false → (sent : List Send) → Spoken (connection_of e) (old.session (connection_of e)).phase sent → Spoken (connection_of e) move.next.phase (sent ++ move.sends)
   pub moves : Moves old (connection_of e) move sends notes new
 
@@ -579,6 +581,11 @@ first_few : (c : ℕ) (s : Session) (p : Phase) (bytes : Text) → IsAnswerAtMos
 first_few c s phase.Header bytes = either_move (λ (m : Move). IsAnswerAtMost m.sends) (bytes_eq bytes eight_bytes) (answers_with c s start phase.Start) (greets c s) (refl, refl) refl
 first_few c s _ bytes = tt
 
+-- once they are read they are not awaited any more
+first_no_header : (c : ℕ) (s : Session) (p : Phase) (bytes : Text) → s.phase ≡ p → is_header (first_move c s p bytes).next.phase ≡ false
+first_no_header c s phase.Header bytes here = either_move (λ (m : Move). is_header m.next.phase ≡ false) (bytes_eq bytes eight_bytes) (answers_with c s start phase.Start) (greets c s) refl refl
+first_no_header c s _ bytes here = ap is_header here
+
 first_spoken : (c : ℕ) (s : Session) (p : Phase) (bytes : Text) → s.phase ≡ p → (sent : List Send) → Spoken c s.phase sent → Spoken c (first_move c s p bytes).next.phase (sent ++ (first_move c s p bytes).sends)
 first_spoken c s phase.Header bytes here sent was =
     let none : sent ≡ [] = subst (λ (p : Phase). Spoken c p sent) here was in
@@ -587,25 +594,25 @@ first_spoken c s phase.Header bytes here sent was =
 first_spoken c s _ bytes here sent was = subst (Spoken c s.phase) (sym (append-nil sent)) was
 
 module _ (f : Config) (old new : State) (sends : List Send) (notes : List Note) where
-  answering : (e : Event) (move : Move) → is_running (old.session (connection_of e)).phase ≡ false → is_read e ≡ true → Replies (old.session (connection_of e)) move → Moves old (connection_of e) move sends notes new → Answered old e sends notes new
-  answering e move idle read r moves = record { idle = idle; read = read; move = move; few = reply_answers move.sends r.few; spoken = replies_spoken (connection_of e) (old.session (connection_of e)) move r; moves = moves }
+  answering : (e : Event) (move : Move) → is_running (old.session (connection_of e)).phase ≡ false → is_read e ≡ true → is_first e ≡ false → Replies (old.session (connection_of e)) move → Moves old (connection_of e) move sends notes new → Answered old e sends notes new
+  answering e move idle read frames r moves = record { idle = idle; read = read; move = move; few = reply_answers move.sends r.few; header = λ h. ((r.header h).0, frames); spoken = replies_spoken (connection_of e) (old.session (connection_of e)) move r; moves = moves }
 
   of_command : (p : Phase) (c h : ℕ) (m : Method) (content : Option Content) → (old.session c).phase ≡ p → OfCommand f old p c h m content sends notes new → Performed f old (Command c h m content) sends notes new ⊎ Answered old (Command c h m content) sends notes new
   of_command phase.Running c h m content here s = inl (record { runs = λ r. ap is_running here; free = λ r. absurd (false≢true r); acts = s.acts; sessions = s.session })
-  of_command p c h m content here s = inr (answering (Command c h m content) s.move (ap is_running here) refl (answer_replies f.users c (old.session c) p h m s.move here s.answered) s.moves)
+  of_command p c h m content here s = inr (answering (Command c h m content) s.move (ap is_running here) refl refl (answer_replies f.users c (old.session c) p h m s.move here s.answered) s.moves)
 
   of_large : (p : Phase) (c h : ℕ) → (old.session c).phase ≡ p → OfLarge f old p c h sends notes new → Performed f old (TooLarge c h) sends notes new ⊎ Answered old (TooLarge c h) sends notes new
   of_large phase.Running c h here s = inl (record { runs = λ r. ap is_running here; free = λ r. absurd (false≢true r); acts = s.acts; sessions = s.session })
-  of_large p c h here s = inr (answering (TooLarge c h) s.move (ap is_running here) refl (answer_replies f.users c (old.session c) p h empty_publish s.move here s.answered) s.moves)
+  of_large p c h here s = inr (answering (TooLarge c h) s.move (ap is_running here) refl refl (answer_replies f.users c (old.session c) p h empty_publish s.move here s.answered) s.moves)
 
   of_fault : (p : Phase) (c code : ℕ) → (old.session c).phase ≡ p → OfFault f old p c code sends notes new → Performed f old (Fault c code) sends notes new ⊎ Answered old (Fault c code) sends notes new
   of_fault phase.Running c code here s = inl (record { runs = λ r. ap is_running here; free = λ r. absurd (false≢true r); acts = s.acts; sessions = s.session })
-  of_fault p c code here s = inr (answering (Fault c code) (faulted c (old.session c) p code) (ap is_running here) refl (fault_replies c (old.session c) p code) s)
+  of_fault p c code here s = inr (answering (Fault c code) (faulted c (old.session c) p code) (ap is_running here) refl refl (fault_replies c (old.session c) p code) s)
 
   of_first : (p : Phase) (c : ℕ) (bytes : Text) → (old.session c).phase ≡ p → OfFirst f old p c bytes sends notes new → Performed f old (First c bytes) sends notes new ⊎ Answered old (First c bytes) sends notes new
   of_first phase.Running c bytes here s = inl (record { runs = λ r. ap is_running here; free = λ r. absurd (false≢true r); acts = s.acts; sessions = s.session })
   of_first p c bytes here s =
-      inr (record { idle = ap is_running here; read = refl; move = first_move c (old.session c) p bytes; few = first_few c (old.session c) p bytes; spoken = λ stands. first_spoken c (old.session c) p bytes here; moves = s })
+      inr (record { idle = ap is_running here; read = refl; move = first_move c (old.session c) p bytes; few = first_few c (old.session c) p bytes; header = λ h. absurd (false≢true (sym (first_no_header c (old.session c) p bytes here) ∙ h)); spoken = λ stands. first_spoken c (old.session c) p bytes here; moves = s })
 
   -- Each step goes one of these ways.
   pub goes : (e : Event) → Step f old e sends notes new → Performed f old e sends notes new ⊎ Answered old e sends notes new

@@ -2,6 +2,7 @@ pub mod Alone
 pub mod OneStep
 pub mod Promises
 pub mod Streams
+pub mod Openings
 pub mod Delivery
 pub mod Rows
 pub mod Consistency

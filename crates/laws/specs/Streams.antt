@@ -1,7 +1,7 @@
 -- What a stream says: over any pieces in which its bytes come, and before all frames.
 use Rattle.std.specs.Prelude.{◌≡◌, ◌<◌, ℕ, List, [], ◌∷◌, ◌++◌, length, Bool, true, false, Option, Some, None}
 use Rattle.model.specs.Words.{Text}
-use Rattle.model.specs.Commands.{Stream, TakesFirst, Yields, Ends, Commands, heard}
+use Rattle.model.specs.Commands.{Stream, TakesFirst, Yields, Ends, Commands, heard, with_max}
 use Rattle.model.specs.declared.events.Command.{Command}
 use Rattle.model.specs.declared.events.Command.TheVariants.{Head}
 
@@ -16,6 +16,20 @@ YieldsAll s (c ∷ cs) last = (next : Stream) × Yields s c next × YieldsAll ne
 abbrev pub CuttingDoesNotMatter : Type 0
 CuttingDoesNotMatter = (s last : Stream) (done rest : List Command) (more : List ℕ) (end : Option ℕ)
     → YieldsAll s done last → Commands (heard last more) rest end → Commands (heard s more) (done ++ rest) end
+
+-- a command, and the greatest frame that is agreed on once it is performed
+pub record Performed : Type 0 where
+  pub command : Command
+  pub frame_max : ℕ
+
+-- these commands come first, one after another, each behind frames of the size that was agreed on before it, and this is still to come
+abbrev pub YieldsTuned : Stream → List Performed → Stream → Type 0
+YieldsTuned s [] last = last ≡ s
+YieldsTuned s (p ∷ ps) last = (next : Stream) × Yields s p.command next × YieldsTuned (with_max p.frame_max next) ps last
+
+-- What was yielded before more bytes came is yielded with these behind, whatever was agreed on meanwhile, and what was still to come goes on by them.
+abbrev pub TuningDoesNotMatter : Type 0
+TuningDoesNotMatter = (s last : Stream) (done : List Performed) (more : List ℕ) → YieldsTuned s done last → YieldsTuned (heard s more) done (heard last more)
 
 -- a fault of a stream stays, whatever bytes come behind it
 abbrev pub FaultsStay : Type 0

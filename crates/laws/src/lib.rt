@@ -11,9 +11,10 @@ ghost use Rattle.laws.specs.Carrying.{MessagesStayCarried, SendsAreOwn};
 ghost use Rattle.laws.specs.Consistency.{PlaysStayConsistent, WorldsStayConsistent};
 ghost use Rattle.laws.specs.Delivery.{OneReading, HeadlineHolds, TurnsKeep};
 ghost use Rattle.laws.specs.OneStep.{EveryRunBalances, EveryRunCounts, EveryRunStays};
+ghost use Rattle.laws.specs.Openings.{OpeningsReadByPhase};
 ghost use Rattle.laws.specs.Promises.{AckedEnterOnce, AcksAreAcked, CausesAreShown, ForbiddenAreNotEntered, ForbiddenAreNotEnteredAtEvents, RunsKeepEvents};
 ghost use Rattle.laws.specs.Rows.{WordsOfKeys, FirstInput, FirstOutput, BadEnd, TooLargeContent, HeadlineRefuses};
-ghost use Rattle.laws.specs.Streams.{CuttingDoesNotMatter, FaultsStay, FirstBytesComeFirst};
+ghost use Rattle.laws.specs.Streams.{CuttingDoesNotMatter, FaultsStay, FirstBytesComeFirst, TuningDoesNotMatter};
 ghost use Rattle.model.specs.Guarantee.{Guarantee};
 ghost use Rattle.model.specs.State.{Config};
 ghost use Rattle.model.specs.Topology.{Topology};
@@ -79,6 +80,11 @@ pub fn cutting_does_not_matter()
     ensures { CuttingDoesNotMatter }
 {}
 
+/// Nor does it where the size of frames is agreed on meanwhile.
+pub fn tuning_does_not_matter()
+    ensures { TuningDoesNotMatter }
+{}
+
 /// A fault of a stream stays, whatever bytes come behind it.
 pub fn faults_stay()
     ensures { FaultsStay }
@@ -88,6 +94,12 @@ pub fn faults_stay()
 /// alone.
 pub fn first_bytes_come_first()
     ensures { FirstBytesComeFirst }
+{}
+
+/// Whatever arrives, a connection is in Header exactly while its first eight bytes are not performed, and of any other
+/// frames alone are read.
+pub fn openings_read_by_phase()
+    ensures { OpeningsReadByPhase }
 {}
 
 /// Whatever is done, the broker has the connections that run, knows those as paused whose output is past the bound, and

@@ -6,8 +6,8 @@ use Rattle.std.proofs.lemmas.List.{append-nil}
 use Rattle.std.proofs.lemmas.Bool.Decides.{nat_tests}
 use Rattle.model.specs.Words.{Text}
 use Rattle.model.specs.declared.events.Arrival.{Arrival}
-use Rattle.model.specs.declared.events.Arrival.TheVariants.{Ready, In}
-use Rattle.scripts.specs.Script.{cut, piece, number, connection, ready, bytes_in, by_word, line_of, arrivals_from, opened_after, onto, with_line}
+use Rattle.model.specs.declared.events.Arrival.TheVariants.{Open, Ready, In}
+use Rattle.scripts.specs.Script.{cut, piece, number, connection, opening, ready, bytes_in, by_word, arrival_of, line_of, arrivals_from, opened_after, onto, with_line}
 
 -- how much is left, counting one for a text that has no bytes
 abbrev pub left : Option Text → ℕ
@@ -37,6 +37,10 @@ pub stopped : (number opened : ℕ) (found : List Arrival) (line : Text) (rest :
 stopped number opened found line rest said = rw said refl
 
 -- ---- at most 1,024 are opened
+
+opening_at : (opened : ℕ) (v : Bool) → nat_lt opened 1024 ≡ v → opened ≤ 1024 → opened_after opened (option_map (λ (x : Arrival). Some x) (cond v (Some Open) None)) ≤ 1024
+opening_at opened false e h = h
+opening_at opened true e h = grind (arith, nat_tests)
 
 ready_at : (opened n : ℕ) (v : Bool) → (nat_le 1 n && nat_le n 255 && nat_lt opened 1024) ≡ v → opened ≤ 1024
     → opened_after opened (option_map (λ (x : Arrival). Some x) (cond v (Some (Ready n)) None)) ≤ 1024
@@ -68,10 +72,13 @@ word_few : (opened : ℕ) (f : Option (Text × Text)) → opened ≤ 1024 → op
 word_few opened None h = h
 word_few opened (Some f) h = word_at opened f (bytes_eq f.0 (codes "ready")) (bytes_eq f.0 (codes "in")) h
 
-line_at : (opened b : ℕ) (bs : Text) (v : Bool) → opened ≤ 1024
-    → opened_after opened (cond v (Some None) (option_map (λ (x : Arrival). Some x) (option_and_then (by_word opened) (cut (b ∷ bs))))) ≤ 1024
+arrival_at : (opened : ℕ) (l : Text) (v : Bool) → opened ≤ 1024 → opened_after opened (option_map (λ (x : Arrival). Some x) (cond v (opening opened) (option_and_then (by_word opened) (cut l)))) ≤ 1024
+arrival_at opened l true h = opening_at opened (nat_lt opened 1024) refl h
+arrival_at opened l false h = word_few opened (cut l) h
+
+line_at : (opened b : ℕ) (bs : Text) (v : Bool) → opened ≤ 1024 → opened_after opened (cond v (Some None) (option_map (λ (x : Arrival). Some x) (arrival_of opened (b ∷ bs)))) ≤ 1024
 line_at opened b bs true h = h
-line_at opened b bs false h = word_few opened (cut (b ∷ bs)) h
+line_at opened b bs false h = arrival_at opened (b ∷ bs) (bytes_eq (b ∷ bs) (codes "open")) h
 
 pub line_few : (opened : ℕ) (line : Text) → opened ≤ 1024 → opened_after opened (line_of opened line) ≤ 1024
 line_few opened [] h = h

@@ -4,7 +4,7 @@ use Rattle.std.specs.Str.{bytes_eq}
 use Rattle.hex.specs.Hex.{decode_of}
 use Rattle.model.specs.Words.{Text, onto_first}
 use Rattle.model.specs.declared.events.Arrival.{Arrival}
-use Rattle.model.specs.declared.events.Arrival.TheVariants.{Ready, In}
+use Rattle.model.specs.declared.events.Arrival.TheVariants.{Open, Ready, In}
 use Rattle.scripts.specs.declared.script.Fault.{Fault}
 use Rattle.scripts.specs.declared.script.Fault.TheVariants.{Line, Memory}
 
@@ -48,6 +48,10 @@ most_openings = 1024
 abbrev pub most_ready : ℕ
 most_ready = 255
 
+-- `open`: a connection of which no byte has come
+abbrev pub opening : ℕ → Option Arrival
+opening opened = if nat_lt opened most_openings then Some Open else None
+
 -- `ready K`: a connection that runs at once, with channels 1 to K open
 abbrev pub ready : ℕ → Text → Option Arrival
 ready opened k = option_and_then (λ n. if nat_le 1 n && nat_le n most_ready && nat_lt opened most_openings then Some (Ready n) else None) (number k)
@@ -60,14 +64,18 @@ connection opened c = option_and_then (λ n. if nat_le 1 n && nat_le n opened th
 abbrev pub bytes_in : ℕ → Text × Text → Option Arrival
 bytes_in opened f = option_and_then (λ c. option_map (λ bytes. In c bytes) (piece f.1)) (connection opened f.0)
 
--- a line by its first field
+-- a line of more than one field, by its first
 abbrev pub by_word : ℕ → Text × Text → Option Arrival
 by_word opened f = if bytes_eq f.0 (codes "ready") then ready opened f.1 else if bytes_eq f.0 (codes "in") then option_and_then (bytes_in opened) (cut f.1) else None
+
+-- the arrival of a line that is not skipped
+abbrev pub arrival_of : ℕ → Text → Option Arrival
+arrival_of opened l = if bytes_eq l (codes "open") then opening opened else option_and_then (by_word opened) (cut l)
 
 -- A line is skipped, brings an arrival, or is at fault. Skipped are the empty line and those that begin with `#`.
 abbrev pub line_of : ℕ → Text → Option (Option Arrival)
 line_of opened [] = Some None
-line_of opened (b ∷ bs) = if b == 35 then Some None else option_map (λ a. Some a) (option_and_then (by_word opened) (cut (b ∷ bs)))
+line_of opened (b ∷ bs) = if b == 35 then Some None else option_map (λ a. Some a) (arrival_of opened (b ∷ bs))
 
 -- ---- the whole script
 
@@ -78,6 +86,7 @@ lines (b ∷ bs) = if b == 10 then [] ∷ lines bs else onto_first b (lines bs)
 
 -- how many were opened, after a line
 abbrev pub opened_after : ℕ → Option (Option Arrival) → ℕ
+opened_after opened (Some (Some Open)) = opened + 1
 opened_after opened (Some (Some (Ready k))) = opened + 1
 opened_after opened line = opened
 

@@ -2,7 +2,7 @@
 
 ghost use Rattle.std.specs.Prelude.{◌≡◌, ◌∷◌, ◌<◌, ◌≤◌, ◌==◌, length, IfSome, option_copied, option_map, position};
 ghost use Rattle.std.specs.List.{position_from};
-ghost use Rattle.scripts.specs.Script.{lines, cut, with_digit, digits_after, number, piece, ready, connection, bytes_in, by_word, line_of};
+ghost use Rattle.scripts.specs.Script.{lines, cut, with_digit, digits_after, number, piece, opening, ready, connection, bytes_in, by_word, arrival_of, line_of};
 ghost use Rattle.scripts.specs.Lines.{Tells, lines_left};
 
 use hex::FromHexError;
@@ -110,6 +110,16 @@ fn piece(alloc: Global, text: &[u8]) -> Result<Text, Bad>
     }
 }
 
+/// `open`.
+fn opening(opened: u64) -> Option<Arrival>
+    ensures { result ≡ opening opened }
+{
+    if opened >= MOST_OPENINGS {
+        return None;
+    }
+    Some(Arrival::Open)
+}
+
 /// `ready K`.
 fn ready(opened: u64, field: &[u8]) -> Option<Arrival>
     ensures { result ≡ ready opened field.now }
@@ -142,7 +152,7 @@ fn bytes_in(alloc: Global, opened: u64, c: &[u8], hex: &[u8]) -> Result<Arrival,
     }
 }
 
-/// A line by its first field.
+/// A line of more than one field, by its first.
 fn by_word(alloc: Global, opened: u64, word: &[u8], rest: &[u8]) -> Result<Arrival, Bad>
     ensures { Tells result (by_word opened (word.now, rest.now)) }
 {
@@ -158,6 +168,19 @@ fn by_word(alloc: Global, opened: u64, word: &[u8], rest: &[u8]) -> Result<Arriv
     Err(Bad::Malformed)
 }
 
+/// The arrival of a line that is not skipped.
+fn arrival_of(alloc: Global, opened: u64, line: &[u8]) -> Result<Arrival, Bad>
+    ensures { Tells result (arrival_of opened line.now) }
+{
+    if line == b"open".as_slice() {
+        return opening(opened).ok_or(Bad::Malformed);
+    }
+    match cut(line) {
+        Some((word, rest)) => by_word(alloc, opened, word, rest),
+        None => Err(Bad::Malformed),
+    }
+}
+
 /// The arrival of a line, where `opened` connections were opened before it. An empty line and one that begins with
 /// `#` have none.
 pub fn line_of(alloc: Global, opened: u64, line: &[u8]) -> Result<Option<Arrival>, Bad>
@@ -168,10 +191,7 @@ pub fn line_of(alloc: Global, opened: u64, line: &[u8]) -> Result<Option<Arrival
         Some(b'#') => return Ok(None),
         Some(_) => {}
     }
-    match cut(line) {
-        Some((word, rest)) => Ok(Some(by_word(alloc, opened, word, rest)?)),
-        None => Err(Bad::Malformed),
-    }
+    Ok(Some(arrival_of(alloc, opened, line)?))
 }
 
 /// The place of the first LF.
