@@ -4,8 +4,8 @@ use Rattle.std.specs.Prelude.{IfOk, OnErr, MatchBool}
 use Rattle.model.specs.Run.{Happening}
 use Rattle.model.specs.Arrivals.{World, Same, Waits, is_over, is_gone, with_heard, Takes_off, Loses}
 use Rattle.model.specs.Consistent.{IsConsistent}
-use Rattle.laws.proofs.Consistency.{same_consistent, turns_consistent, waits_consistent, hears_consistent, takes_consistent, opens_consistent, loses_consistent}
-use Rattle.runs.specs.Opened.{OpensReady, Hears, Takes, IsLost}
+use Rattle.laws.proofs.Consistency.{same_consistent, turns_consistent, waits_consistent, hears_consistent, takes_consistent, opens_consistent, awaits_consistent, loses_consistent}
+use Rattle.runs.specs.Opened.{OpensNew, OpensReady, Hears, Takes, IsLost}
 use Rattle.engine.specs.Engines.{Turned}
 use Rattle.engine.specs.declared.turning.Turn.{Turn}
 use Rattle.engine.specs.declared.turning.Turn.TheVariants as turn
@@ -34,8 +34,11 @@ loses_agrees old new c k lost = go (is_gone old c) lost
     go true same = same_agrees old new k same
     go false (hs, l) = loses_consistent old new c hs k l
 
-pub opens_agrees : (old new : World) (k n : ℕ) → IsConsistent old → OpensReady old k (Some n) new → IsConsistent new
-opens_agrees old new k n is o = opens_consistent old new k _ o.2.0 is o.2.1
+pub opens_new_agrees : (old new : World) (n : ℕ) → IsConsistent old → OpensNew old (Some n) new → IsConsistent new
+opens_new_agrees old new n is o = awaits_consistent old new _ o.2.0 is o.2.1
+
+pub opens_ready_agrees : (old new : World) (k n : ℕ) → IsConsistent old → OpensReady old k (Some n) new → IsConsistent new
+opens_ready_agrees old new k n is o = opens_consistent old new k _ o.2.0 is o.2.1
 
 turned_agrees : (old new : World) (c : ℕ) (what : Turn) → IsConsistent old → Turned old c what new → IsConsistent new
 turned_agrees old new c (turn.Did notes) k t = turns_consistent old new c t.happenings k t.turns

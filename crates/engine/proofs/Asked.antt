@@ -39,7 +39,7 @@ pub ok_then : {T F : Type 0} (r : Result T F) (P : T → Type 0) (Q : Type 0) �
 ok_then (Ok x) P Q f ok p = f x p
 ok_then (Err e) P Q f ok p = absurd (false≢true ok)
 
-is_same : (b : Broker) → Is b b
+pub is_same : (b : Broker) → Is b b
 is_same b = record { counted = refl; queues = λ q. refl; connections = λ c. refl; channels = λ c h. refl }
 
 -- by a move that leads elsewhere than to Running, nothing changes in the broker

@@ -3,15 +3,16 @@ use Rattle.std.proofs.Common.{◌≡◌, ◌≢◌, ℕ, List, [], ◌∷◌, �
 use Rattle.std.specs.Prelude.{◌==◌, ◌&&◌, not, if◌then◌else◌, MatchBool}
 use Rattle.std.proofs.lemmas.Bool.{eq-eqb}
 use Rattle.model.specs.Broker.{Broker, with_one}
-use Rattle.model.specs.Commands.{Stream, Ends, stays, running_stream, heard}
+use Rattle.model.specs.Commands.{Stream, Ends, stays, running_stream, heard, with_max}
 use Rattle.model.specs.Phases.{Session, Move, to_phase, after_sends, faulted}
-use Rattle.model.specs.Opening.{IsAnswered}
+use Rattle.model.specs.Opening.{IsAnswered, first_move}
 use Rattle.model.specs.declared.messages.User.{User}
-use Rattle.model.specs.State.{Config, State, Step, Steps, Moves, OfCommand, OfLarge, OfFault}
+use Rattle.model.specs.State.{Config, State, Step, Steps, Moves, OfCommand, OfLarge, OfFault, OfFirst}
 use Rattle.model.specs.Step.{Acts, empty_publish}
 use Rattle.model.specs.Spelling.{spelling}
 use Rattle.model.specs.Run.{Happening, notes_of}
 use Rattle.model.specs.Arrivals.{Wire, Turns, Settles, Reads, again, fresh, fault, event_of, is_over, is_paused, is_ended, is_past_bound, wire_after, new_wire, Waits, Same, SameToCome, still, waits, IsIdle, Takes_off, Loses, with_heard}
+use Rattle.model.specs.Words.{Text}
 use Rattle.model.specs.declared.contents.Content.{Content}
 use Rattle.model.specs.declared.methods.Method.{Method}
 use Rattle.model.specs.declared.methods.Method.TheVariants.{BasicPublish}
@@ -20,7 +21,7 @@ use Rattle.model.specs.declared.events.Send.{Send}
 use Rattle.model.specs.declared.events.Phase.{Phase}
 use Rattle.model.specs.declared.events.Phase.TheVariants as phase
 use Rattle.model.specs.declared.events.Command.{Command}
-use Rattle.model.specs.declared.events.Command.TheVariants.{Plain, Full, TooLarge}
+use Rattle.model.specs.declared.events.Command.TheVariants.{Head, Plain, Full, TooLarge}
 use Rattle.model.specs.declared.events.Event.{Event}
 use Rattle.model.specs.declared.events.Event.TheVariants as event
 use Rattle.assembly.specs.Held.{stream_of}
@@ -80,9 +81,22 @@ of_large phase.Open f s c h sess sess' sends notes mid eq at by = record { move 
 of_large phase.Closing f s c h sess sess' sends notes mid eq at by = record { move = record { sends = sends; next = sess' }; answered = subst (λ (z : Session). IsAnswered f.users c z phase.Closing h empty_publish (record { sends = sends; next = sess' })) (sym eq) by.answered; moves = moved f.users s c sess sess' _ phase.Closing sends notes mid by }
 of_large phase.Over f s c h sess sess' sends notes mid eq at by = record { move = record { sends = sends; next = sess' }; answered = subst (λ (z : Session). IsAnswered f.users c z phase.Over h empty_publish (record { sends = sends; next = sess' })) (sym eq) by.answered; moves = moved f.users s c sess sess' _ phase.Over sends notes mid by }
 
+of_first : (p : Phase) (f : Config) (s : State) (c : ℕ) (bytes : Text) (sess sess' : Session) (sends : List Send) (notes : List Note) (mid : Broker)
+    → s.session c ≡ sess → sess.phase ≡ p → Decides c p (rules_of f.topology f.users) s.broker sess (event.First c bytes) sends notes mid sess'
+    → OfFirst f s p c bytes sends notes (record { broker = mid; session = with_one s.session c sess' })
+of_first phase.Running f s c bytes sess sess' sends notes mid eq at by = stepped_by f s c sess sess' _ sends notes mid _ by (ap (λ (z : Session). to_phase z (after_sends sends)) (sym eq))
+of_first phase.Header f s c bytes sess sess' sends notes mid eq at by = subst (λ (x : Move). Moves s c x sends notes (record { broker = mid; session = with_one s.session c sess' })) (by.answered ∙ ap (λ (z : Session). first_move c z phase.Header bytes) (sym eq)) (moved f.users s c sess sess' _ phase.Header sends notes mid by)
+of_first phase.Start f s c bytes sess sess' sends notes mid eq at by = subst (λ (x : Move). Moves s c x sends notes (record { broker = mid; session = with_one s.session c sess' })) (by.answered ∙ ap (λ (z : Session). first_move c z phase.Start bytes) (sym eq)) (moved f.users s c sess sess' _ phase.Start sends notes mid by)
+of_first phase.Tune f s c bytes sess sess' sends notes mid eq at by = subst (λ (x : Move). Moves s c x sends notes (record { broker = mid; session = with_one s.session c sess' })) (by.answered ∙ ap (λ (z : Session). first_move c z phase.Tune bytes) (sym eq)) (moved f.users s c sess sess' _ phase.Tune sends notes mid by)
+of_first phase.Open f s c bytes sess sess' sends notes mid eq at by = subst (λ (x : Move). Moves s c x sends notes (record { broker = mid; session = with_one s.session c sess' })) (by.answered ∙ ap (λ (z : Session). first_move c z phase.Open bytes) (sym eq)) (moved f.users s c sess sess' _ phase.Open sends notes mid by)
+of_first phase.Closing f s c bytes sess sess' sends notes mid eq at by = subst (λ (x : Move). Moves s c x sends notes (record { broker = mid; session = with_one s.session c sess' })) (by.answered ∙ ap (λ (z : Session). first_move c z phase.Closing bytes) (sym eq)) (moved f.users s c sess sess' _ phase.Closing sends notes mid by)
+of_first phase.Over f s c bytes sess sess' sends notes mid eq at by = subst (λ (x : Move). Moves s c x sends notes (record { broker = mid; session = with_one s.session c sess' })) (by.answered ∙ ap (λ (z : Session). first_move c z phase.Over bytes) (sym eq)) (moved f.users s c sess sess' _ phase.Over sends notes mid by)
+
 commanded : (m : Command) (f : Config) (s : State) (c : ℕ) (sess sess' : Session) (sends : List Send) (notes : List Note) (mid : Broker)
     → s.session c ≡ sess → Decides c sess.phase (rules_of f.topology f.users) s.broker sess (event_of c m) sends notes mid sess'
     → Step f s (event_of c m) sends notes (record { broker = mid; session = with_one s.session c sess' })
+commanded (Head bytes) f s c sess sess' sends notes mid eq by =
+    subst (λ (z : Session). OfFirst f s z.phase c bytes sends notes (record { broker = mid; session = with_one s.session c sess' })) (sym eq) (of_first sess.phase f s c bytes sess sess' sends notes mid eq refl by)
 commanded (Plain h m) f s c sess sess' sends notes mid eq by =
     subst (λ (z : Session). OfCommand f s z.phase c h m None sends notes (record { broker = mid; session = with_one s.session c sess' })) (sym eq) (of_command sess.phase f s c h m None sess sess' sends notes mid eq refl by)
 commanded (Full h p content) f s c sess sess' sends notes mid eq by =
@@ -137,7 +151,8 @@ output_in true l = refl
 output_in false l = refl
 
 -- after a turn nothing is kept, and the stream is what follows, unless the connection is over
-wire_left : (b : Bool) (l : Link) (next : Stream) → l.kept ≡ None → (stream_of l.stream ≡ next) ⊎ (b ≡ true) → wire_in b l ≡ wire_after b next l.output.bytes
+wire_left : (b : Bool) (l : Link) (next : Stream) → l.kept ≡ None → (stream_of l.stream ≡ next) ⊎ (b ≡ true)
+    → wire_in b l ≡ (if b then record new_wire { output = l.output.bytes } else record { kept = None; stream = next; output = l.output.bytes })
 wire_left true l next k f = refl
 wire_left false l next k (inl f) = λ i. record { kept = kept_of (k i); stream = f i; output = l.output.bytes }
 wire_left false l next k (inr f) = absurd (Rattle.std.proofs.lemmas.Bool.false≢true f)
@@ -155,7 +170,6 @@ turned old new l l' notes b found open_still below did =
     let session_is : session_of (link_in new.links c) ≡ l'.session = b.sessions c ∙ at_own (λ d. session_of (link_in old.links d)) c l'.session in
     let output_is : (wire_of (link_in new.links c)).output ≡ l'.output.bytes = ap (λ (w : Wire). w.output) wire_is ∙ output_in (is_ended l'.session.phase) l' in
     let output_was : (wire_of (link_in old.links c)).output ≡ l.output.bytes = ap (λ (w : Wire). w.output) wire_was in
-    let over_is : is_over (world_of new) c ≡ is_ended l'.session.phase = ap (λ (s : Session). is_ended s.phase) session_is in
     let mid : State = record { broker = p.mid; session = with_one (λ d. session_of (link_in old.links d)) c l'.session } in
     let h : Happening = record { config = config_of old; event = did.event; before = state_of old; sends = p.sends; notes = notes; frame_max = l.session.frame_max; after = mid } in
     let past_was : is_paused (world_of old) c ≡ false = ap is_past_bound output_was ∙ below in
@@ -187,8 +201,8 @@ turned old new l l' notes b found open_still below did =
           rests = λ d ne. b.sessions d ∙ at_others (λ k. session_of (link_in old.links k)) c d l'.session ne;
         };
         given = b.given;
-        wire = wire_is ∙ wire_left (is_ended l'.session.phase) l' did.next did.none_kept did.follows
-            ∙ ap (λ (v : Bool). wire_after v did.next l'.output.bytes) (sym over_is) ∙ ap (λ (z : List ℕ). wire_after (is_over (world_of new) c) did.next z) (sym output_is);
+        wire = wire_is ∙ wire_left (is_ended l'.session.phase) l' (with_max l'.session.frame_max did.next) did.none_kept did.follows
+            ∙ ap (λ (s : Session). wire_after s did.next l'.output.bytes) (sym session_is) ∙ ap (λ (z : List ℕ). wire_after (session_of (link_in new.links c)) did.next z) (sym output_is);
       },
     )
 

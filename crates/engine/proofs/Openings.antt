@@ -1,30 +1,32 @@
 -- An engine with no connection, and one more connection.
-use Rattle.std.proofs.Common.{◌≡◌, ◌<◌, ◌≤◌, ◌+◌, ℕ, List, [], ◌∷◌, ◌++◌, true, false, cond, Option, Some, Result, Err, length, refl, sym, ap, subst, ◌∙◌, arith}
-use Rattle.std.specs.Prelude.{◌==◌, ◌&&◌, nat_lt, nat_le, if◌then◌else◌}
+use Rattle.std.proofs.Common.{◌≡◌, ◌<◌, ◌≤◌, ◌+◌, ℕ, List, [], ◌∷◌, ◌++◌, Bool, true, false, cond, Option, Some, None, Result, Ok, Err, length, refl, sym, ap, subst, ◌∙◌, arith}
+use Rattle.std.specs.Prelude.{◌==◌, ◌&&◌, not, nat_lt, if◌then◌else◌}
 use Rattle.std.specs.List.{AllByRecursion}
 use Rattle.std.proofs.lemmas.Bool.Decides.{nat_tests}
-use Rattle.model.specs.Broker.{with_one}
+use Rattle.model.specs.Broker.{Broker, with_one}
+use Rattle.model.specs.Commands.{Stream, new_stream, running_stream}
+use Rattle.model.specs.Opening.{new_session}
 use Rattle.model.specs.Phases.{Session, running_session}
-use Rattle.model.specs.State.{Config}
+use Rattle.model.specs.State.{Config, Step}
 use Rattle.model.specs.Step.{Acts, Is}
 use Rattle.model.specs.Run.{Happening}
 use Rattle.model.specs.Topology.{Topology}
 use Rattle.model.specs.Guarantee.{Guarantee}
 use Rattle.model.specs.Consistent.{IsConsistent}
-use Rattle.model.specs.Arrivals.{World, Wire, new_wire, new_world, can_open, standing, Opens, Same}
-use Rattle.model.specs.declared.events.Send.{Send}
+use Rattle.model.specs.Arrivals.{Wire, new_wire, new_world, is_ended, can_open, standing, Same}
 use Rattle.model.specs.declared.events.Event.{Event}
 use Rattle.model.specs.declared.events.Event.TheVariants as event
-use Rattle.model.specs.declared.notes.Note.{Note}
 use Rattle.broker.specs.State.{topology_of, broker_of, nothing}
-use Rattle.runs.specs.Opened.{OpensReady}
-use Rattle.engine.specs.World.{Parts, link_in, session_of, wire_of, config_of, state_of, world_of, AreLinks, IsLink, AreRising, IsNew, IsEngine}
-use Rattle.engine.specs.Opening.{Opened}
+use Rattle.runs.specs.Opened.{IsOpened}
+use Rattle.engine.specs.Reading.{IsKept, kept_of}
+use Rattle.engine.specs.World.{Parts, link_in, session_of, wire_in, wire_of, config_of, state_of, world_of, AreLinks, IsLink, AreRising, IsNew, IsEngine}
+use Rattle.engine.specs.Opening.{Numbers, OpenedBy}
 use Rattle.engine.specs.declared.engines.Refused.{Refused}
-use Rattle.engine.specs.declared.engines.Refused.TheVariants.{Memory}
+use Rattle.engine.specs.declared.engines.Refused.TheVariants.{Full, Spent, Memory}
 use Rattle.engine.specs.declared.links.Link.{Link}
-use Rattle.engine.proofs.Numbered.{link_in-push, rising-push}
+use Rattle.engine.proofs.Numbered.{link_in-push, rising-push, other_false}
 use Rattle.engine.proofs.Standing.{standing_is}
+use Rattle.engine.proofs.Asked.{is_same}
 use Rattle.engine.proofs.Changed.{either}
 
 pub no_connection : (p : Parts) (f : Config) → topology_of p.broker ≡ f.topology → p.guarantees ≡ f.guarantees → p.users ≡ f.users → p.given ≡ 0 → p.links ≡ [] → Is nothing (broker_of p.broker) → world_of p ≡ new_world f
@@ -51,91 +53,144 @@ all-push : (P : Link → Type 0) (ls : List Link) (x : Link) → AllByRecursion 
 all-push P [] x a p = (p, tt)
 all-push P (y ∷ ys) x a p = (a.0, all-push P ys x a.1 p)
 
-pub links_opened : (given : ℕ) (ls : List Link) (l : Link) → AreLinks given ls → IsNew l (given + 1) → AreLinks (given + 1) (ls ++ l ∷ [])
-links_opened given ls l a is = record {
+-- no connection has a number that was not given
+none_above : (given : ℕ) (ls : List Link) (c : ℕ) → AllByRecursion (IsLink given) ls → given < c → link_in ls c ≡ None
+none_above given [] c a lt = refl
+none_above given (l ∷ ls) c a lt =
+    ap (λ (b : Bool). cond b (Some l) (link_in ls c)) (other_false l.number c (λ k. let w = a.0.within in omega (arith, w, lt, k))) ∙ none_above given ls c a.1 lt
+
+-- One more connection stands, under the next number, in this session and with this stream: it is not over.
+pub record IsOneMore (old new : Parts) (l : Link) (session : Session) (stream : Stream) : Type 0 where
+  pub topology : topology_of new.broker ≡ topology_of old.broker
+  pub guarantees : new.guarantees ≡ old.guarantees
+  pub users : new.users ≡ old.users
+  pub given : new.given ≡ old.given + 1
+  pub links : new.links ≡ old.links ++ l ∷ []
+  pub is : IsNew l (old.given + 1) session stream
+  pub awake : is_ended session.phase ≡ false
+
+links_opened : (given : ℕ) (ls : List Link) (l : Link) (sess : Session) (st : Stream) → AreLinks given ls → IsNew l (given + 1) sess st → is_ended sess.phase ≡ false → AreLinks (given + 1) (ls ++ l ∷ [])
+links_opened given ls l sess st a is awake = record {
   rising = rising-push 0 ls l a.rising (let n = is.number_is in omega (arith, n)) (below given l.number ls (let n = is.number_is in omega (arith, n)) a.each);
   each = all-push (IsLink (given + 1)) ls l (wider given ls a.each) (record {
     within = (let n = is.number_is in omega (arith, n));
-    here = ap (λ (s : Session). Rattle.model.specs.Arrivals.is_ended s.phase && Rattle.std.specs.Prelude.not (nat_lt 0 (length l.output.bytes))) is.session;
-    kept = subst (λ (k : Option Event). Rattle.engine.specs.Reading.IsKept l.number k) (sym is.kept) tt;
+    here = ap (λ (s : Session). is_ended s.phase && not (nat_lt 0 (length l.output.bytes))) is.session_is ∙ ap (λ (b : Bool). b && not (nat_lt 0 (length l.output.bytes))) awake;
+    kept = subst (λ (k : Option Event). IsKept l.number k) (sym is.kept) tt;
   });
 }
 
-wire_new : (l : Link) (n : ℕ) → IsNew l n → wire_of (Some l) ≡ new_wire
-wire_new l n is =
-    ap (λ (s : Session). Rattle.engine.specs.World.wire_in (Rattle.model.specs.Arrivals.is_ended s.phase) l) is.session
-    ∙ (λ i. record { kept = Rattle.engine.specs.Reading.kept_of (is.kept i); stream = is.stream i; output = is.output i })
+wire_new : (l : Link) (n : ℕ) (sess : Session) (st : Stream) → IsNew l n sess st → is_ended sess.phase ≡ false → wire_of (Some l) ≡ record new_wire { stream = st }
+wire_new l n sess st is awake =
+    ap (λ (s : Session). wire_in (is_ended s.phase) l) is.session_is
+    ∙ ap (λ (b : Bool). wire_in b l) awake
+    ∙ (λ i. record { kept = kept_of (is.kept i); stream = is.stream_is i; output = is.output i })
+
+-- it is found by its number, and the others stay
+found_new : (old new : Parts) (l : Link) (sess : Session) (st : Stream) → AreLinks old.given old.links → IsOneMore old new l sess st → (d : ℕ) → link_in new.links d ≡ cond (l.number == d) (Some l) (link_in old.links d)
+found_new old new l sess st a m d =
+    ap (λ (z : List Link). link_in z d) m.links ∙ link_in-push old.links l d (below old.given l.number old.links (let e = m.is.number_is in omega (arith, e)) a.each)
+
+sessions_are : (old new : Parts) (l : Link) (sess : Session) (st : Stream) → AreLinks old.given old.links → IsOneMore old new l sess st
+    → (d : ℕ) → session_of (link_in new.links d) ≡ with_one (λ c. session_of (link_in old.links c)) (old.given + 1) sess d
+sessions_are old new l sess st a m d =
+    either session_of old.links new.links l.number d (Some l) (found_new old new l sess st a m d)
+    ∙ ap (λ (s : Session). with_one (λ c. session_of (link_in old.links c)) l.number s d) m.is.session_is
+    ∙ ap (λ (c : ℕ). with_one (λ c. session_of (link_in old.links c)) c sess d) m.is.number_is
+
+wires_are : (old new : Parts) (l : Link) (sess : Session) (st : Stream) → AreLinks old.given old.links → IsOneMore old new l sess st
+    → (d : ℕ) → wire_of (link_in new.links d) ≡ with_one (λ c. wire_of (link_in old.links c)) (old.given + 1) (record new_wire { stream = st }) d
+wires_are old new l sess st a m d =
+    either wire_of old.links new.links l.number d (Some l) (found_new old new l sess st a m d)
+    ∙ ap (λ (w : Wire). with_one (λ c. wire_of (link_in old.links c)) l.number w d) (wire_new l (old.given + 1) sess st m.is m.awake)
+    ∙ ap (λ (c : ℕ). with_one (λ c. wire_of (link_in old.links c)) c (record new_wire { stream = st }) d) m.is.number_is
 
 pub can_open_is : (p : Parts) → AreLinks p.given p.links → length p.links < 1024 → p.given < 18446744073709551615 → can_open (world_of p) ≡ true
 can_open_is p a few left = let same = standing_is p a in grind (arith, nat_tests, same, few, left)
 
-pub opened : (old new : Parts) (l : Link) (k : ℕ) (sends : List Send) (notes : List Note) → AreLinks old.given old.links → length old.links < 1024 → old.given < 18446744073709551615
-    → topology_of new.broker ≡ topology_of old.broker → new.guarantees ≡ old.guarantees → new.users ≡ old.users → new.given ≡ old.given + 1 → new.links ≡ old.links ++ l ∷ [] → IsNew l (old.given + 1)
-    → Acts (topology_of old.broker) (broker_of old.broker) (event.Running (old.given + 1) 255 k) sends notes (broker_of new.broker)
-    → OpensReady (world_of old) k (Some (old.given + 1)) (world_of new)
-opened old new l k sends notes a few left t g u n ls is acts =
-    let h : Happening = record { config = config_of old; event = event.Running (old.given + 1) 255 k; before = state_of old; sends = []; notes = []; frame_max = 0; after = state_of new } in
-    let same : (d : ℕ) → link_in new.links d ≡ cond (l.number == d) (Some l) (link_in old.links d) =
-    λ d. ap (λ (z : List Link). link_in z d) ls ∙ link_in-push old.links l d (below old.given l.number old.links (let e = is.number_is in omega (arith, e)) a.each) in (
+-- ---- what happens then
+
+-- no byte of it has come, and the broker is as before
+pub steps_new : (old new : Parts) (l : Link) → AreLinks old.given old.links → IsOneMore old new l new_session new_stream → broker_of new.broker ≡ broker_of old.broker
+    → Step (config_of old) (state_of old) (event.Open (old.given + 1)) [] [] (state_of new)
+steps_new old new l a m same = record {
+  free = ap (λ (o : Option Link). (session_of o).phase) (none_above old.given old.links (old.given + 1) a.each (omega arith));
+  steps = record { acts = record { sent = refl; noted = refl; left = subst (λ (b : Broker). Is (broker_of old.broker) b) (sym same) (is_same (broker_of old.broker)) }; session = sessions_are old new l new_session new_stream a m };
+}
+
+-- it runs at once, and is one of the broker's
+pub steps_ready : (old new : Parts) (l : Link) (k : ℕ) → AreLinks old.given old.links → IsOneMore old new l running_session running_stream
+    → Acts (topology_of old.broker) (broker_of old.broker) (event.Running (old.given + 1) 255 k) [] [] (broker_of new.broker)
+    → Step (config_of old) (state_of old) (event.Running (old.given + 1) 255 k) [] [] (state_of new)
+steps_ready old new l k a m acts = record { acts = acts; session = sessions_are old new l running_session running_stream a m }
+
+pub opened : (old new : Parts) (l : Link) (e : Event) (sess : Session) (st : Stream) → AreLinks old.given old.links → length old.links < 1024 → old.given < 18446744073709551615 → IsOneMore old new l sess st
+    → Step (config_of old) (state_of old) e [] [] (state_of new) → IsOpened e st (world_of old) (Some (old.given + 1)) (world_of new)
+opened old new l e sess st a few left m stepped =
+    let h : Happening = record { config = config_of old; event = e; before = state_of old; sends = []; notes = []; frame_max = 0; after = state_of new } in (
       can_open_is old a few left,
-      sym n,
+      sym m.given,
       (
         h ∷ [],
         record {
           h = h;
           all = refl;
-          happens = record {
-            under = refl;
-            event = refl;
-            before = refl;
-            after = refl;
-            stepped = record {
-              acts = record { sent = refl; noted = refl; left = acts.left };
-              session = λ d. either session_of old.links new.links l.number d (Some l) (same d)
-                  ∙ ap (λ (s : Session). with_one (λ c. session_of (link_in old.links c)) l.number s d) is.session
-                  ∙ ap (λ (c : ℕ). with_one (λ c. session_of (link_in old.links c)) c running_session d) is.number_is;
-            };
-          };
+          happens = record { under = refl; event = refl; before = refl; after = refl; stepped = stepped };
           silent = refl;
-          config = λ i. record { topology = t i; guarantees = g i; users = u i };
-          given = n;
-          wires = λ d. either wire_of old.links new.links l.number d (Some l) (same d)
-              ∙ ap (λ (w : Wire). with_one (λ c. wire_of (link_in old.links c)) l.number w d) (wire_new l (old.given + 1) is)
-              ∙ ap (λ (c : ℕ). with_one (λ c. wire_of (link_in old.links c)) c new_wire d) is.number_is;
+          config = λ i. record { topology = m.topology i; guarantees = m.guarantees i; users = m.users i };
+          given = m.given;
+          wires = wires_are old new l sess st a m;
         },
       ),
     )
 
-pub full_is : (p : Parts) → AreLinks p.given p.links → 1024 ≤ length p.links → nat_lt (standing (world_of p) p.given) 1024 ≡ false
-full_is p a many = let same = standing_is p a in grind (arith, nat_tests, same, many)
+-- so it is under the number that was found
+pub opened_new : (old new : Parts) (l : Link) (n : ℕ) → AreLinks old.given old.links → Numbers old.given old.links (Ok n) → IsOneMore old new l new_session new_stream → broker_of new.broker ≡ broker_of old.broker
+    → IsOpened (event.Open (old.given + 1)) new_stream (world_of old) (Some n) (world_of new)
+opened_new old new l n a numbers m same =
+    subst (λ (k : ℕ). IsOpened (event.Open (old.given + 1)) new_stream (world_of old) (Some k) (world_of new)) (sym numbers.0)
+    (opened old new l (event.Open (old.given + 1)) new_session new_stream a numbers.1 numbers.2 m (steps_new old new l a m same))
 
-pub room_is : (p : Parts) → AreLinks p.given p.links → length p.links < 1024 → nat_lt (standing (world_of p) p.given) 1024 ≡ true
-room_is p a few = let same = standing_is p a in grind (arith, nat_tests, same, few)
+pub opened_ready : (old new : Parts) (l : Link) (n k : ℕ) → AreLinks old.given old.links → Numbers old.given old.links (Ok n) → IsOneMore old new l running_session running_stream
+    → Acts (topology_of old.broker) (broker_of old.broker) (event.Running n 255 k) [] [] (broker_of new.broker)
+    → IsOpened (event.Running (old.given + 1) 255 k) running_stream (world_of old) (Some n) (world_of new)
+opened_ready old new l n k a numbers m acts =
+    let here : Acts (topology_of old.broker) (broker_of old.broker) (event.Running (old.given + 1) 255 k) [] [] (broker_of new.broker) =
+    subst (λ (c : ℕ). Acts (topology_of old.broker) (broker_of old.broker) (event.Running c 255 k) [] [] (broker_of new.broker)) numbers.0 acts in
+    subst (λ (c : ℕ). IsOpened (event.Running (old.given + 1) 255 k) running_stream (world_of old) (Some c) (world_of new)) (sym numbers.0)
+    (opened old new l (event.Running (old.given + 1) 255 k) running_session running_stream a numbers.1 numbers.2 m (steps_ready old new l k a m here))
 
-pub engine_opened : (old new : Parts) (l : Link) → IsEngine old → topology_of new.broker ≡ topology_of old.broker → new.guarantees ≡ old.guarantees → new.given ≡ old.given + 1 → new.links ≡ old.links ++ l ∷ [] → IsNew l (old.given + 1) → IsConsistent (world_of new) → IsEngine new
-engine_opened old new l e t g n ls is agreed = record {
-  hold = subst (λ (gs : List Guarantee). Rattle.model.specs.Guarantee.AllHold (topology_of new.broker) gs) (sym g)
-      (subst (λ (x : Topology). Rattle.model.specs.Guarantee.AllHold x old.guarantees) (sym t) e.hold);
-  formed = subst (λ (x : Topology). Rattle.model.specs.Topology.IsWellFormed x) (sym t) e.formed;
-  links = subst (λ (k : ℕ). AreLinks k new.links) (sym n) (subst (λ (z : List Link). AreLinks (old.given + 1) z) (sym ls) (links_opened old.given old.links l e.links is));
+pub engine_opened : (old new : Parts) (l : Link) (sess : Session) (st : Stream) → IsEngine old → IsOneMore old new l sess st → IsConsistent (world_of new) → IsEngine new
+engine_opened old new l sess st e m agreed = record {
+  hold = subst (λ (gs : List Guarantee). Rattle.model.specs.Guarantee.AllHold (topology_of new.broker) gs) (sym m.guarantees)
+      (subst (λ (x : Topology). Rattle.model.specs.Guarantee.AllHold x old.guarantees) (sym m.topology) e.hold);
+  formed = subst (λ (x : Topology). Rattle.model.specs.Topology.IsWellFormed x) (sym m.topology) e.formed;
+  links = subst (λ (k : ℕ). AreLinks k new.links) (sym m.given) (subst (λ (z : List Link). AreLinks (old.given + 1) z) (sym m.links) (links_opened old.given old.links l sess st e.links m.is m.awake));
   consistent = agreed;
 }
 
--- for memory it is refused only where one could be opened
-pub memory_refuses : (old new : World) (k : ℕ) (r : Result ℕ Refused) (y : Refused) → r ≡ Err y → y ≡ Memory → can_open old ≡ true → Same old new → Opened old k r new
-memory_refuses old new k r y is memory can same = subst (λ (x : Result ℕ Refused). Opened old k x new) (sym is) (subst (λ (z : Refused). Opened old k (Err z) new) (sym memory) (can, same))
+-- ---- refusals
 
-pub spent_is : (given : ℕ) → 18446744073709551616 ≤ given + 1 → nat_lt given 18446744073709551615 ≡ false
+full_is : (p : Parts) → AreLinks p.given p.links → 1024 ≤ length p.links → nat_lt (standing (world_of p) p.given) 1024 ≡ false
+full_is p a many = let same = standing_is p a in grind (arith, nat_tests, same, many)
+
+room_is : (p : Parts) → AreLinks p.given p.links → length p.links < 1024 → nat_lt (standing (world_of p) p.given) 1024 ≡ true
+room_is p a few = let same = standing_is p a in grind (arith, nat_tests, same, few)
+
+spent_is : (given : ℕ) → 18446744073709551615 ≤ given → nat_lt given 18446744073709551615 ≡ false
 spent_is given most = grind (arith, nat_tests, most)
 
-pub many : (ls slice : List Link) → slice ≡ ls → true ≡ nat_le 1024 (length slice) → 1024 ≤ length ls
-many ls slice same e = let h : true ≡ nat_le 1024 (length ls) = e ∙ ap (λ (z : List Link). nat_le 1024 (length z)) same in grind (arith, nat_tests, h)
+-- where there is no number nothing is opened
+refused : (old new : Parts) (e : Event) (s : Stream) (why : Refused) → AreLinks old.given old.links → Numbers old.given old.links (Err why) → Same (world_of old) (world_of new) → OpenedBy e s (world_of old) (Err why) (world_of new)
+refused old new e s Full a n same = (full_is old a n, same)
+refused old new e s Spent a n same = (room_is old a n.0, spent_is old.given n.1, same)
+refused old new e s Memory a n same = (can_open_is old a n.0 n.1, same)
 
-pub few : (ls slice : List Link) → slice ≡ ls → false ≡ nat_le 1024 (length slice) → length ls < 1024
-few ls slice same e = let h : false ≡ nat_le 1024 (length ls) = e ∙ ap (λ (z : List Link). nat_le 1024 (length z)) same in grind (arith, nat_tests, h)
+pub refused_so : (old new : Parts) (e : Event) (s : Stream) (r : Result ℕ Refused) (is why : Refused) → r ≡ Err is → is ≡ why → AreLinks old.given old.links → Numbers old.given old.links (Err why) → Same (world_of old) (world_of new)
+    → OpenedBy e s (world_of old) r (world_of new)
+refused_so old new e s r is why at same a n w =
+    subst (λ (x : Result ℕ Refused). OpenedBy e s (world_of old) x (world_of new)) (sym at) (subst (λ (x : Refused). OpenedBy e s (world_of old) (Err x) (world_of new)) (sym same) (refused old new e s why a n w))
 
-pub not_more : (n : ℕ) → (n < 18446744073709551616 → ⊥) → 18446744073709551616 ≤ n
-not_more n never = grind (arith, never)
-
-pub less : (n : ℕ) → n + 1 < 18446744073709551616 → n < 18446744073709551615
-less n lt = omega (arith, lt)
+-- and where there is one, it is refused for memory alone
+pub refused_memory : (old new : Parts) (e : Event) (s : Stream) (r : Result ℕ Refused) (is : Refused) (n : ℕ) → r ≡ Err is → is ≡ Memory → AreLinks old.given old.links → Numbers old.given old.links (Ok n) → Same (world_of old) (world_of new)
+    → OpenedBy e s (world_of old) r (world_of new)
+refused_memory old new e s r is n at memory a numbers w = refused_so old new e s r is Memory at memory a (numbers.1, numbers.2) w

@@ -16,9 +16,11 @@ use Rattle.engine.specs.Performing.{IsAsked}
 
 -- what is asked is asked by its own connection
 asked_by : (c : ℕ) (e : Event) → IsAsked c e → connection_of_event e ≡ c
+asked_by c (event.First d bytes) is = is
 asked_by c (event.Command d h m content) is = is
 asked_by c (event.TooLarge d h) is = is
 asked_by c (event.Fault d code) is = is
+asked_by c (event.Open d) is = absurd is
 asked_by c (event.Running d max k) is = absurd is
 asked_by c (event.Lose d) is = absurd is
 asked_by c (event.Pause d) is = absurd is

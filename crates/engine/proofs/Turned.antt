@@ -4,12 +4,12 @@ use Rattle.std.specs.Prelude.{is_some, Result, Ok, Err, IfOk, OnErr}
 use Rattle.std.proofs.lemmas.Bool.{false≢true}
 use Rattle.model.specs.Broker.{Broker}
 use Rattle.model.specs.Phases.{Session, Move}
-use Rattle.model.specs.Commands.{Stream, Yields, Ends, GoesOn, IsCommand, stays}
+use Rattle.model.specs.Commands.{Stream, Yields, Ends, GoesOn, IsCommand, stays, with_max}
 use Rattle.model.specs.Arrivals.{Reads, again, fresh, fault, SameToCome, still, waits, kept, IsSaid, event_of, is_ended, is_past_bound}
 use Rattle.model.specs.declared.events.Phase.{Phase}
 use Rattle.model.specs.declared.events.Phase.TheVariants as phase
 use Rattle.model.specs.declared.events.Command.{Command}
-use Rattle.model.specs.declared.events.Command.TheVariants.{Plain, Full, TooLarge}
+use Rattle.model.specs.declared.events.Command.TheVariants.{Head, Plain, Full, TooLarge}
 use Rattle.model.specs.declared.events.Send.{Send}
 use Rattle.model.specs.declared.events.Event.{Event}
 use Rattle.model.specs.declared.events.Event.TheVariants as event
@@ -27,16 +27,19 @@ use Rattle.engine.specs.declared.turning.Turn.TheVariants as turn
 -- ---- what is read
 
 kept_is : (c : ℕ) (m : Command) → kept_of (Some (event_of c m)) ≡ Some m
+kept_is c (Head bytes) = refl
 kept_is c (Plain h m) = refl
 kept_is c (Full h p content) = refl
 kept_is c (TooLarge h) = refl
 
 asks_command : (c : ℕ) (m : Command) → IsAsked c (event_of c m)
+asks_command c (Head bytes) = refl
 asks_command c (Plain h m) = refl
 asks_command c (Full h p content) = refl
 asks_command c (TooLarge h) = refl
 
 says_command : (c : ℕ) (m : Command) → IsCommand m → IsSaid (event_of c m)
+says_command c (Head bytes) is = tt
 says_command c (Plain h m) is = (is, tt)
 says_command c (Full h p content) is = is
 says_command c (TooLarge h) is = is
@@ -125,8 +128,8 @@ did_kept t b new_b old mid new (turn.Did notes) open_still below read h did = (
     performed = performed_of t b new_b old mid new h.event notes.items read did.performed;
     number = did.number ∙ read.number;
     none_kept = did.none_kept;
-    follows = inl (ap stream_of did.stream);
-    fewer = inl (subst (λ (s : Stream). to_read None s < to_read (kept_of old.kept) (stream_of old.stream)) (sym (ap stream_of did.stream)) h.fewer);
+    follows = inl did.stream;
+    fewer = inl (subst (λ (s : Stream). to_read None s < to_read (kept_of old.kept) (stream_of old.stream)) (sym did.stream) h.fewer);
   },
 )
 did_kept t b new_b old mid new turn.Idle open_still below read h did = absurd did

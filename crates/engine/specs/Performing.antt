@@ -4,18 +4,19 @@ use Rattle.model.specs.Topology.{Topology}
 use Rattle.model.specs.Broker.{Broker}
 use Rattle.model.specs.Step.{Acts, Is, empty_publish}
 use Rattle.model.specs.Phases.{Session, Move, faulted, after_sends, to_phase}
-use Rattle.model.specs.Opening.{IsAnswered}
+use Rattle.model.specs.Opening.{IsAnswered, first_move}
 use Rattle.model.specs.State.{after_move}
 use Rattle.model.specs.declared.messages.User.{User}
 use Rattle.model.specs.declared.events.Phase.{Phase}
 use Rattle.model.specs.declared.events.Phase.TheVariants as phase
 use Rattle.model.specs.declared.events.Send.{Send}
 use Rattle.model.specs.declared.events.Event.{Event}
-use Rattle.model.specs.declared.events.Event.TheVariants.{Command, TooLarge, Fault, Pause, Resume}
+use Rattle.model.specs.declared.events.Event.TheVariants.{First, Command, TooLarge, Fault, Pause, Resume}
 use Rattle.model.specs.declared.notes.Note.{Note}
 
--- a command or a fault of the stream, which is what a connection's bytes ask for
+-- the first eight bytes, a command or a fault of the stream, which is what a connection's bytes ask for
 abbrev pub IsAsked : ℕ → Event → Type 0
+IsAsked c (First d bytes) = d ≡ c
 IsAsked c (Command d h m content) = d ≡ c
 IsAsked c (TooLarge d h) = d ≡ c
 IsAsked c (Fault d code) = d ≡ c
@@ -35,8 +36,9 @@ pub record Rules : Type 0 where
 abbrev pub rules_of : Topology → List User → Rules
 rules_of t users = record { topology = t; users = users }
 
--- what a phase other than Running answers to a command or a fault, where these are the users
+-- what a phase other than Running answers to the first eight bytes, a command or a fault, where these are the users
 abbrev pub IsAnswerTo : List User → Phase → Session → Event → Move → Type 0
+IsAnswerTo users p s (First c bytes) move = move ≡ first_move c s p bytes
 IsAnswerTo users p s (Command c h m content) move = IsAnswered users c s p h m move
 IsAnswerTo users p s (TooLarge c h) move = IsAnswered users c s p h empty_publish move
 IsAnswerTo users p s (Fault c code) move = move ≡ faulted c s p code

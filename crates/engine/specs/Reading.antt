@@ -6,7 +6,7 @@ use Rattle.model.specs.declared.contents.Content.{Content}
 use Rattle.model.specs.declared.methods.Method.{Method}
 use Rattle.model.specs.declared.methods.Method.TheVariants.{BasicPublish}
 use Rattle.model.specs.declared.events.Command.{Command}
-use Rattle.model.specs.declared.events.Command.TheVariants.{Plain, Full, TooLarge}
+use Rattle.model.specs.declared.events.Command.TheVariants.{Head, Plain, Full, TooLarge}
 use Rattle.model.specs.declared.events.Event.{Event}
 use Rattle.model.specs.declared.events.Event.TheVariants as event
 use Rattle.engine.specs.declared.reading.Next.{Next}
@@ -27,6 +27,7 @@ command_of h m (Some content) = with_content h content m
 -- the command that is kept
 abbrev pub kept_of : Option Event → Option Command
 kept_of None = None
+kept_of (Some (event.First c bytes)) = Some (Head bytes)
 kept_of (Some (event.Command c h m content)) = Some (command_of h m content)
 kept_of (Some (event.TooLarge c h)) = Some (TooLarge h)
 kept_of (Some e) = None

@@ -3,8 +3,8 @@ use Rattle.std.specs.List.{AllByRecursion}
 use Rattle.std.specs.Prelude.{◌≡◌, ◌<◌, ◌≤◌, ◌==◌, ◌&&◌, not, nat_lt, if◌then◌else◌, ℕ, List, [], ◌∷◌, length, Bool, true, false, Option, Some, None}
 use Rattle.model.specs.Guarantee.{Guarantee, AllHold}
 use Rattle.model.specs.Topology.{IsWellFormed}
-use Rattle.model.specs.Commands.{running_stream}
-use Rattle.model.specs.Phases.{Session, no_session, running_session}
+use Rattle.model.specs.Commands.{Stream}
+use Rattle.model.specs.Phases.{Session, no_session}
 use Rattle.model.specs.State.{Config, State}
 use Rattle.model.specs.Arrivals.{Wire, World, new_wire, is_ended}
 use Rattle.model.specs.Consistent.{IsConsistent}
@@ -73,12 +73,12 @@ pub record IsLink (given : ℕ) (l : Link) : Type 0 where
   pub here : is_link_gone l ≡ false
   pub kept : IsKept l.number l.kept
 
--- a connection as it is opened
-pub record IsNew (l : Link) (number : ℕ) : Type 0 where
+-- a connection as it is opened, in this session and with this stream
+pub record IsNew (l : Link) (number : ℕ) (session : Session) (stream : Stream) : Type 0 where
   pub number_is : l.number ≡ number
-  pub session : l.session ≡ running_session
+  pub session_is : l.session ≡ session
   pub kept : l.kept ≡ None
-  pub stream : stream_of l.stream ≡ running_stream
+  pub stream_is : stream_of l.stream ≡ stream
   pub output : l.output.bytes ≡ []
 
 -- the connections that are not gone, where so many numbers were given

@@ -1,11 +1,11 @@
 //! The engine.
 
-ghost use Rattle.std.specs.Prelude.{◌≡◌, ◌<◌, nat_le, length, true, IfOk, IsOk, OnErr, OnOk};
+ghost use Rattle.std.specs.Prelude.{◌≡◌, ◌<◌, true, IfOk, IsOk, OnErr, OnOk, vec_len, vec_capacity};
 ghost use Rattle.model.specs.Arrivals.{Same, Waits, new_world, is_over};
 ghost use Rattle.runs.specs.Opened.{Hears, Takes, IsLost};
 ghost use Rattle.engine.specs.World.{world_of};
 ghost use Rattle.engine.specs.Engines.{Turned, OnDid, left_in};
-ghost use Rattle.engine.specs.Opening.{Opened};
+ghost use Rattle.engine.specs.Opening.{Numbers, OpenedNew, OpenedReady};
 ghost use Rattle.engine.specs.Certified.{in_force};
 
 use crate::connections::{feed_at, place_of, take_at, turn_at};
@@ -98,21 +98,26 @@ impl Engine {
         })
     }
 
-    /// Opens a connection that runs at once, with channels 1 to `channels` open: its number.
+    /// Opens a connection of which no byte has come: its number. Its first eight bytes are awaited.
     ///
     /// Refused `Full` where 1,024 connections are not gone, `Spent` where the last number was given, and for memory only
     /// where neither is so. A refusal changes nothing.
-    pub fn open_ready(&mut self, alloc: Global, channels: u8) -> Result<u64, Refused>
-        ensures { Opened (world_of self.old) channels result (world_of self.new) }
+    pub fn open(&mut self, alloc: Global) -> Result<u64, Refused>
+        ensures { OpenedNew (world_of self.old) result (world_of self.new) }
     {
-        if is_full(&self.links) {
-            return Err(Refused::Full);
-        }
-        let number = match self.given.checked_add(1) {
-            Some(number) => number,
-            None => return Err(Refused::Spent),
-        };
-        self.links.reserve(1)?;
+        let number = next_number(&mut self.links, self.given)?;
+        self.links.push_reserved(Link::new(alloc, number));
+        self.given = number;
+        Ok(number)
+    }
+
+    /// Opens a connection that runs at once, with channels 1 to `channels` open: its number.
+    ///
+    /// It is refused as [`Engine::open`] is.
+    pub fn open_ready(&mut self, alloc: Global, channels: u8) -> Result<u64, Refused>
+        ensures { OpenedReady (world_of self.old) channels result (world_of self.new) }
+    {
+        let number = next_number(&mut self.links, self.given)?;
         self.broker.open(alloc, number, 255, u16::from(channels))?;
         self.links.push_reserved(Link::running(alloc, number));
         self.given = number;
@@ -194,9 +199,20 @@ impl Engine {
     }
 }
 
-/// No more connections can stand.
-fn is_full(links: &[Link]) -> bool
-    ensures { result ≡ nat_le 1024 (length links.now) }
+/// The number of one more connection, where `given` were given, with room for it from now on.
+fn next_number(links: &mut Vec<Link>, given: u64) -> Result<u64, Refused>
+    ensures numbers { Numbers given links.old.items result }
+    ensures room { OnOk result (vec_len links.new < vec_capacity links.new) }
+    ensures same { links.new.items ≡ links.old.items }
 {
-    links.len() >= MOST_CONNECTIONS
+    if links.len() >= MOST_CONNECTIONS {
+        return Err(Refused::Full);
+    }
+    match given.checked_add(1) {
+        Some(number) => {
+            links.reserve(1)?;
+            Ok(number)
+        }
+        None => Err(Refused::Spent),
+    }
 }

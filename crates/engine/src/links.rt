@@ -1,7 +1,9 @@
 //! What is kept of one connection.
 
 ghost use Rattle.std.specs.Prelude.{◌≡◌, IsTrue};
-ghost use Rattle.model.specs.Phases.{no_session};
+ghost use Rattle.model.specs.Phases.{no_session, running_session};
+ghost use Rattle.model.specs.Opening.{new_session};
+ghost use Rattle.model.specs.Commands.{new_stream, running_stream};
 ghost use Rattle.engine.specs.World.{is_link_gone, IsNew};
 
 use crate::output::Output;
@@ -36,9 +38,22 @@ impl Drop for Link {
 }
 
 impl Link {
+    /// A connection of which no byte has come.
+    pub(crate) fn new(alloc: Global, number: u64) -> Link
+        ensures { IsNew result number new_session new_stream }
+    {
+        Link {
+            number,
+            session: Session::new(),
+            stream: Stream::new(alloc),
+            kept: None,
+            output: Output::new(alloc),
+        }
+    }
+
     /// A connection that runs at once.
     pub(crate) fn running(alloc: Global, number: u64) -> Link
-        ensures { IsNew result number }
+        ensures { IsNew result number running_session running_stream }
     {
         Link {
             number,

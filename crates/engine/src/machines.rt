@@ -18,6 +18,15 @@ impl Machine for Engine {
 
     ghost left = { λ e. left_in e.links };
 
+    fn open(&mut self, alloc: Global) -> Result<Option<u64>, AllocError> {
+        match Engine::open(self, alloc) {
+            Ok(number) => Ok(Some(number)),
+            Err(Refused::Full) => Ok(None),
+            Err(Refused::Spent) => Ok(None),
+            Err(Refused::Memory) => Err(AllocError),
+        }
+    }
+
     fn open_ready(&mut self, alloc: Global, k: u8) -> Result<Option<u64>, AllocError> {
         match Engine::open_ready(self, alloc, k) {
             Ok(number) => Ok(Some(number)),

@@ -58,6 +58,7 @@ fn sends_of(
     ensures own { IfOk result (λ sends. AreOwn c sends.items) }
 {
     match event {
+        Event::First { bytes, .. } => session.first(alloc, c, bytes),
         Event::Command {
             channel,
             method,
@@ -108,7 +109,7 @@ fn by_phase(
     })
 }
 
-/// A command of the connection `c`, or the fault of its stream.
+/// The first eight bytes of the connection `c`, a command of it, or the fault of its stream.
 pub(crate) fn perform(
     c: u64,
     alloc: Global,

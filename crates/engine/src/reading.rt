@@ -65,6 +65,7 @@ fn event_of(connection: u64, command: Command) -> Event
     ensures { result ≡ event_of_command connection command }
 {
     match command {
+        Command::Head { bytes } => Event::First { connection, bytes },
         Command::Plain { channel, method } => Event::Command {
             connection,
             channel,

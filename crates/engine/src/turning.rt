@@ -34,7 +34,7 @@ pub enum Turn {
     Over,
 }
 
-/// A command of the connection `c`, or the fault of its stream, with room for what it sends.
+/// What the connection `c` asks for, or the fault of its stream, with room for what it sends.
 fn do_event(
     c: u64,
     alloc: Global,
@@ -95,6 +95,7 @@ fn do_kept(
     match done {
         Ok(notes) => {
             forget(&mut link.kept);
+            link.stream.set_max(link.session.frame_max());
             Ok(Turn::Did(notes))
         }
         Err(e) => Err(e),
@@ -132,7 +133,10 @@ fn do_fault(
     );
     drop(event);
     match done {
-        Ok(notes) => Ok(Turn::Did(notes)),
+        Ok(notes) => {
+            link.stream.set_max(link.session.frame_max());
+            Ok(Turn::Did(notes))
+        }
         Err(error) => Err(error),
     }
 }
