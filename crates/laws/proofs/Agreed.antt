@@ -30,7 +30,7 @@ use Rattle.model.specs.declared.events.Event.{Event}
 use Rattle.model.specs.declared.events.Event.TheVariants.{Open, First, Running, Command, TooLarge, Fault, Lose, Pause, Resume}
 use Rattle.model.specs.declared.methods.Get.{Get}
 use Rattle.model.specs.declared.methods.Method.{Method}
-use Rattle.model.specs.declared.methods.Method.TheVariants.{ConnectionClose, ChannelOpen, ChannelFlow, ChannelClose, ChannelCloseOk, QueuePurge, BasicQos, BasicPublish, BasicGet, BasicAck, BasicReject, BasicNack, BasicRecover, ConfirmSelect}
+use Rattle.model.specs.declared.methods.Method.TheVariants.{ConnectionClose, ChannelOpen, ChannelFlow, ChannelClose, ChannelCloseOk, ExchangeDeclare, QueueDeclare, QueuePurge, BasicQos, BasicPublish, BasicGet, BasicAck, BasicReject, BasicNack, BasicRecover, ConfirmSelect}
 use Rattle.model.specs.declared.notes.Note.{Note}
 use Rattle.laws.specs.Agreeing.{BrokersStayAgreed}
 use Rattle.laws.proofs.Counts.{count-append, count-cons, in-append, all_in, all-append, all_each}
@@ -551,6 +551,8 @@ module _ (t : Topology) (old new : Broker) (a : IsAgreed old) where
   performs sends notes c h (ChannelClose m) content conn accepted p = closes sends notes c h (channel_or_new (old.channel c h)).is_closing p
   performs sends notes c h ChannelCloseOk content conn accepted p = ends sends notes c h (awaited conn h (old.channel c h) accepted) p
   performs sends notes c h (ConnectionClose m) content conn accepted p = goes sends _ notes c p
+  performs sends notes c h (ExchangeDeclare m) content conn accepted p = nothing sends _ notes p
+  performs sends notes c h (QueueDeclare m) content conn accepted p = nothing sends _ notes p.does
   performs sends notes c h (BasicQos m) content conn accepted p = limits sends _ notes c h m.prefetch_count m.global p
   performs sends notes c h (BasicGet m) content conn accepted p = gets sends notes c h m (first_ready (old.queue m.queue)) (not_awaited conn h m (old.channel c h) accepted) p
   performs sends notes c h (BasicAck m) content conn accepted p = settles_agree _ old new c h m.delivery_tag m.multiple [] sends notes a p

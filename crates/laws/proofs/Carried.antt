@@ -17,7 +17,7 @@ use Rattle.model.specs.Arrivals.{IsSaid}
 use Rattle.model.specs.Phases.{is_running}
 use Rattle.model.specs.State.{Config, State, Step}
 use Rattle.model.specs.Run.{Happening, Run}
-use Rattle.model.specs.Step.{Refusal, Ignored, Of_channel, Of_connection, Acts, Does, Makes, Gets, Settles, Performs, Refuses, Decides, OnConnection, OnLarge, IsPublish, Is, channel_or_new, comes_to, content_or_none, confirm_sends, returned_sends, select_sends, purge_sends, empty_publish, message, next_of, answer_of, is_none, is_some_full, refusal, refusal_of_large, reply, with_freed, with_channel}
+use Rattle.model.specs.Step.{Refusal, Ignored, Of_channel, Of_connection, Acts, Does, Makes, Gets, Settles, Performs, Refuses, Decides, OnConnection, OnLarge, IsPublish, Is, channel_or_new, comes_to, content_or_none, confirm_sends, returned_sends, select_sends, purge_sends, declare_sends, empty_publish, message, next_of, answer_of, is_none, is_some_full, refusal, refusal_of_large, reply, with_freed, with_channel}
 use Rattle.model.specs.declared.contents.Content.{Content}
 use Rattle.model.specs.declared.messages.Entry.{Entry}
 use Rattle.model.specs.declared.messages.Holder.{Holder}
@@ -31,7 +31,7 @@ use Rattle.model.specs.declared.events.Event.TheVariants.{Open, First, Running, 
 use Rattle.model.specs.declared.methods.Get.{Get}
 use Rattle.model.specs.declared.methods.Publish.{Publish}
 use Rattle.model.specs.declared.methods.Method.{Method}
-use Rattle.model.specs.declared.methods.Method.TheVariants.{ConnectionClose, ChannelOpen, ChannelFlow, ChannelClose, ChannelCloseOk, QueuePurge, BasicQos, BasicPublish, BasicGet, BasicAck, BasicReject, BasicNack, BasicRecover, ConfirmSelect}
+use Rattle.model.specs.declared.methods.Method.TheVariants.{ConnectionClose, ChannelOpen, ChannelFlow, ChannelClose, ChannelCloseOk, ExchangeDeclare, QueueDeclare, QueuePurge, BasicQos, BasicPublish, BasicGet, BasicAck, BasicReject, BasicNack, BasicRecover, ConfirmSelect}
 use Rattle.model.specs.declared.notes.Cause.{Cause}
 use Rattle.model.specs.declared.notes.Note.{Note}
 use Rattle.model.specs.declared.notes.Answer.{Answer}
@@ -149,6 +149,10 @@ select_light : (c h : ℕ) (no_wait : Bool) → AreLight (select_sends c h no_wa
 select_light c h true = tt
 select_light c h false = (tt, tt)
 
+declare_light : (c h : ℕ) (no_wait : Bool) (answer : Method) → AreLight (declare_sends c h no_wait answer)
+declare_light c h true answer = tt
+declare_light c h false answer = (tt, tt)
+
 purge_light : (c h : ℕ) (no_wait : Bool) (count : ℕ) → AreLight (purge_sends c h no_wait count)
 purge_light c h true count = tt
 purge_light c h false count = (tt, tt)
@@ -197,6 +201,8 @@ module _ (t : Topology) (old new : Broker) (sends : List Send) (notes : List Not
   performs c h ch (ChannelClose m) content said within p = closes c h ch.is_closing p
   performs c h ch ChannelCloseOk content said within p = does _ _ p tt a
   performs c h ch (ConnectionClose m) content said within p = does _ _ p (tt, tt) (freed_in (by_connection c))
+  performs c h ch (ExchangeDeclare m) content said within p = does _ _ p (declare_light c h m.no_wait _) a
+  performs c h ch (QueueDeclare m) content said within p = does _ _ p.does (declare_light c h m.no_wait _) a
   performs c h ch (BasicQos m) content said within p = does _ _ p (tt, tt) a
   performs c h ch (BasicGet m) content said within p = gets c h ch m (first_ready (old.queue m.queue)) refl p
   performs c h ch (BasicAck m) content said within p = settles _ c h ch m.delivery_tag m.multiple [] p tt

@@ -7,7 +7,7 @@ use Rattle.std.proofs.lemmas.Bool.{eqb-true, false≢true}
 use Rattle.model.specs.Words.{Text}
 use Rattle.model.specs.Topology.{Topology, IsIn}
 use Rattle.model.specs.Broker.{Outstanding, Channel, Connection, Broker, is_ready, with_one}
-use Rattle.model.specs.Step.{Refusal, Ignored, Of_channel, Of_connection, Does, Makes, Gets, Settles, tag_of, get_ok, purge_sends, IsPublish, Performs, Refuses, Decides, OnConnection, OnLarge, Acts, empty_publish, refusal_of_large, with_channel, with_freed, reply, content_or_none, returned_sends, confirm_sends, is_some_full, next_of, answer_of, refusal, channel_or_new, opened, paused}
+use Rattle.model.specs.Step.{Refusal, Ignored, Of_channel, Of_connection, Does, Makes, Gets, Settles, tag_of, get_ok, purge_sends, declare_sends, IsPublish, Performs, Refuses, Decides, OnConnection, OnLarge, Acts, empty_publish, refusal_of_large, with_channel, with_freed, reply, content_or_none, returned_sends, confirm_sends, is_some_full, next_of, answer_of, refusal, channel_or_new, opened, paused}
 use Rattle.model.specs.Entries.{freed, by_channel, by_connection, is_held_as}
 use Rattle.model.specs.Grammar.{Ids, ids_of}
 use Rattle.model.specs.Phases.{Session, Move, running_session, no_session, is_running, after_method, after_sends, stays_in, to_phase, while_closing, faulted}
@@ -35,7 +35,7 @@ use Rattle.model.specs.declared.methods.Method.{Method}
 use Rattle.model.specs.declared.methods.Get.{Get}
 use Rattle.model.specs.declared.methods.Ack.{Ack}
 use Rattle.model.specs.declared.methods.Purge.{Purge}
-use Rattle.model.specs.declared.methods.Method.TheVariants.{ConnectionStart, ConnectionStartOk, ConnectionTune, ConnectionTuneOk, ConnectionOpen, ConnectionOpenOk, ConnectionClose, ConnectionCloseOk, ChannelOpen, ChannelOpenOk, ChannelFlow, ChannelFlowOk, ChannelClose, ChannelCloseOk, QueuePurge, QueuePurgeOk, BasicQos, BasicQosOk, BasicPublish, BasicGet, BasicGetOk, BasicGetEmpty, BasicAck, BasicReject, BasicNack, BasicRecover, BasicRecoverOk, ConfirmSelect, ConfirmSelectOk}
+use Rattle.model.specs.declared.methods.Method.TheVariants.{ConnectionStart, ConnectionStartOk, ConnectionTune, ConnectionTuneOk, ConnectionOpen, ConnectionOpenOk, ConnectionClose, ConnectionCloseOk, ChannelOpen, ChannelOpenOk, ChannelFlow, ChannelFlowOk, ChannelClose, ChannelCloseOk, ExchangeDeclare, ExchangeDeclareOk, QueueDeclare, QueueDeclareOk, QueuePurge, QueuePurgeOk, BasicQos, BasicQosOk, BasicPublish, BasicGet, BasicGetOk, BasicGetEmpty, BasicAck, BasicReject, BasicNack, BasicRecover, BasicRecoverOk, ConfirmSelect, ConfirmSelectOk}
 use Rattle.model.specs.declared.messages.Taker.TheVariants as taker
 use Rattle.model.specs.declared.notes.Cause.{Cause}
 use Rattle.model.specs.declared.notes.Cause.TheVariants.{Acked, Auto, Rejected}
@@ -63,6 +63,8 @@ is_reply (ChannelClose m) = true
 is_reply ChannelCloseOk = true
 is_reply ConfirmSelectOk = true
 is_reply BasicQosOk = true
+is_reply ExchangeDeclareOk = true
+is_reply (QueueDeclareOk m) = true
 is_reply (QueuePurgeOk count) = true
 is_reply (BasicGetEmpty reserved) = true
 is_reply (BasicGetOk m) = true
@@ -367,6 +369,13 @@ module _ (t : Topology) (old new : Broker) (sends : List Send) (notes : List Not
           is_leaving_how (Leaves why) = true
           is_leaving_how Returns = false
 
+  -- ---- a declare
+
+  declared : (e : Event) (c h : ℕ) (answer : Method) (no_wait : Bool) → is_reply answer ≡ true → kept_after old c (reply c h answer ∷ []) ≡ old.connection c
+      → Does sends notes new (declare_sends c h no_wait answer) old → Quiet old new e c (kept_after old c) sends notes
+  declared e c h answer true is runs p = still e c _ _ p tt (record { same = refl; kept = λ n q. refl }) (stay old c)
+  declared e c h answer false is runs p = still e c _ _ p (is, refl) (record { same = refl; kept = λ n q. refl }) (λ d. sym (with_same old.connection c _ runs d))
+
   -- ---- a purge
 
   purged : (c h : ℕ) (m : Purge) (content : Option Content) (no_wait : Bool)
@@ -400,6 +409,8 @@ module _ (t : Topology) (old new : Broker) (sends : List Send) (notes : List Not
   performs c h (ChannelClose m) content conn accepted p = quiet_acts t old new _ sends notes (closes _ c h (channel_or_new (old.channel c h)).is_closing p)
   performs c h ChannelCloseOk content conn accepted p = quiet_acts t old new _ sends notes (still _ c _ _ p tt (record { same = refl; kept = λ n q. refl }) (stay old c))
   performs c h (ConnectionClose m) content conn accepted p = quiet_acts t old new _ sends notes (still _ c _ _ p (refl, refl) (record { same = refl; kept = freed_count old (by_connection c) }) (λ d. refl))
+  performs c h (ExchangeDeclare m) content conn accepted p = quiet_acts t old new _ sends notes (declared _ c h ExchangeDeclareOk m.no_wait refl refl p)
+  performs c h (QueueDeclare m) content conn accepted p = quiet_acts t old new _ sends notes (declared _ c h _ m.no_wait refl refl p.does)
   performs c h (BasicQos m) content conn accepted p = quiet_acts t old new _ sends notes (still _ c _ _ p (refl, refl) (record { same = refl; kept = λ n q. refl }) (stay old c))
   performs c h (BasicGet m) content conn accepted p = quiet_acts t old new _ sends notes (gets c h (channel_or_new (old.channel c h)) m content (first_ready (old.queue m.queue)) refl p)
   performs c h (BasicAck m) content conn accepted p = quiet_acts t old new _ sends notes (acknowledges c h m content p)

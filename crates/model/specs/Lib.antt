@@ -15,6 +15,7 @@ pub mod Message
 pub mod Broker
 pub mod Entries
 pub mod Deliveries
+pub mod Declaring
 pub mod Settling
 pub mod Prefetch
 pub mod Commands

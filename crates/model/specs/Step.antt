@@ -11,6 +11,7 @@ use Rattle.model.specs.Entries.{freed, by_channel, by_connection}
 use Rattle.model.specs.Settling.{is_refused, settled, kept}
 use Rattle.model.specs.Prefetch.{has_tag_left}
 use Rattle.model.specs.Deliveries.{Settlement, Leaves, Returns, of_rejected, AreSettled, first_ready, ready_in, written_count, after_giving, after_delivery, delivery_notes, after_purge, purge_notes}
+use Rattle.model.specs.Declaring.{HasConsumers}
 use Rattle.model.specs.Grammar.{Ids, ids, ids_of}
 use Rattle.model.specs.Headers.{no_properties}
 use Rattle.model.specs.Codes.{code_text}
@@ -26,9 +27,11 @@ use Rattle.model.specs.declared.events.Send.TheVariants as send
 use Rattle.model.specs.declared.methods.Publish.{Publish}
 use Rattle.model.specs.declared.methods.Get.{Get}
 use Rattle.model.specs.declared.methods.Purge.{Purge}
+use Rattle.model.specs.declared.methods.ExchangeDeclare.{ExchangeDeclare as DeclaresExchange}
+use Rattle.model.specs.declared.methods.QueueDeclare.{QueueDeclare as DeclaresQueue}
 use Rattle.model.specs.declared.methods.Qos.{Qos}
 use Rattle.model.specs.declared.methods.Method.{Method}
-use Rattle.model.specs.declared.methods.Method.TheVariants.{ConnectionClose, ConnectionCloseOk, ChannelOpen, ChannelOpenOk, ChannelFlow, ChannelFlowOk, ChannelClose, ChannelCloseOk, ExchangeDeclareOk, QueueDeclareOk, QueuePurge, QueuePurgeOk, BasicQos, BasicQosOk, BasicConsumeOk, BasicCancelOk, BasicPublish, BasicReturn, BasicDeliver, BasicGet, BasicGetOk, BasicGetEmpty, BasicAck, BasicReject, BasicRecover, BasicRecoverOk, BasicNack, ConfirmSelect, ConfirmSelectOk}
+use Rattle.model.specs.declared.methods.Method.TheVariants.{ConnectionClose, ConnectionCloseOk, ChannelOpen, ChannelOpenOk, ChannelFlow, ChannelFlowOk, ChannelClose, ChannelCloseOk, ExchangeDeclare, ExchangeDeclareOk, ExchangeDelete, ExchangeBind, ExchangeUnbind, QueueDeclare, QueueDeclareOk, QueueBind, QueueDelete, QueueUnbind, QueuePurge, QueuePurgeOk, BasicQos, BasicQosOk, BasicConsumeOk, BasicCancelOk, BasicPublish, BasicReturn, BasicDeliver, BasicGet, BasicGetOk, BasicGetEmpty, BasicAck, BasicReject, BasicRecover, BasicRecoverOk, BasicNack, ConfirmSelect, ConfirmSelectOk}
 use Rattle.model.specs.declared.messages.Taker.TheVariants as taker
 use Rattle.model.specs.declared.notes.Cause.TheVariants.{Acked}
 use Rattle.model.specs.declared.notes.Note.{Note}
@@ -142,11 +145,24 @@ refusal_of_recover requeue = if requeue then None else Some (Of_connection 540)
 abbrev pub refusal_of_flow : Bool → Option Refusal
 refusal_of_flow active = if active then None else Some (Of_connection 540)
 
+-- the default exchange is always there (own), and any other is where the topology declares it (AMQP 0-9-1, not-found)
+abbrev pub refusal_of_exchange : Topology → Text → Option Refusal
+refusal_of_exchange t [] = None
+refusal_of_exchange t (b ∷ bs) = if is_some (exchange_named t.exchanges (b ∷ bs)) then None else Some (Of_channel 404)
+
+-- clients declare nothing (own): a declare may only ask whether the exchange is there, by its name alone
+abbrev pub refusal_of_exchange_declare : Topology → DeclaresExchange → Option Refusal
+refusal_of_exchange_declare t m = if m.passive then refusal_of_exchange t m.exchange else Some (Of_channel 403)
+
+-- or whether the queue is
+abbrev pub refusal_of_queue_declare : Topology → DeclaresQueue → Option Refusal
+refusal_of_queue_declare t m = if m.passive then refusal_in t m.queue else Some (Of_channel 403)
+
 -- the connection class
 abbrev pub is_of_connection : Method → Bool
 is_of_connection m = (ids_of m).class == 10
 
--- a method on an open channel, which is not opened again: one that only a server sends, or that answers what the server never asks for, is invalid (AMQP 0-9-1, section 1.1, command-invalid); one that is not built yet is not implemented
+-- a method on an open channel, which is not opened again: one that declares or binds for a client has no access (AMQP 0-9-1, section 1.1, access-refused; own); one that only a server sends, or that answers what the server never asks for, is invalid (command-invalid); one that is not built yet is not implemented
 abbrev pub refusal_of : Topology → Broker → Channel → Method → Option Refusal
 refusal_of t b ch (ConfirmSelect no_wait) = None
 refusal_of t b ch (BasicPublish p) = refusal_of_publish t b ch p
@@ -159,6 +175,14 @@ refusal_of t b ch (BasicNack m) = refusal_of_rejection t ch m.delivery_tag m.mul
 refusal_of t b ch (BasicRecover requeue) = refusal_of_recover requeue
 refusal_of t b ch (ChannelOpen reserved) = Some (Of_connection 504)
 refusal_of t b ch (ChannelFlow active) = refusal_of_flow active
+refusal_of t b ch (ExchangeDeclare m) = refusal_of_exchange_declare t m
+refusal_of t b ch ExchangeDelete = Some (Of_channel 403)
+refusal_of t b ch ExchangeBind = Some (Of_channel 403)
+refusal_of t b ch ExchangeUnbind = Some (Of_channel 403)
+refusal_of t b ch (QueueDeclare m) = refusal_of_queue_declare t m
+refusal_of t b ch QueueBind = Some (Of_channel 403)
+refusal_of t b ch QueueDelete = Some (Of_channel 403)
+refusal_of t b ch QueueUnbind = Some (Of_channel 403)
 refusal_of t b ch (ChannelClose m) = None
 refusal_of t b ch ChannelCloseOk = Some (Of_connection 503)
 refusal_of t b ch (ChannelOpenOk reserved) = Some (Of_connection 503)
@@ -403,6 +427,20 @@ Purges old c h m sends notes new =
 abbrev pub limited : Channel → Qos → Channel
 limited ch m = if m.global then record ch { limit = m.prefetch_count } else record ch { each_limit = m.prefetch_count }
 
+-- a declare is answered so, unless its no-wait bit says not to
+abbrev pub declare_sends : ℕ → ℕ → Bool → Method → List Send
+declare_sends c h no_wait answer = if no_wait then [] else reply c h answer ∷ []
+
+-- a queue that is there, with the numbers of its ready messages and of its consumers (AMQP 0-9-1, queue.declare-ok)
+abbrev pub queue_declared : Text → ℕ → ℕ → Method
+queue_declared queue ready consumers = QueueDeclareOk (record { queue = queue; message_count = written_count ready; consumer_count = written_count consumers })
+
+-- What a declare does that only asks whether a queue is there.
+pub record Finds (old : Broker) (c h : ℕ) (m : DeclaresQueue) (sends : List Send) (notes : List Note) (new : Broker) : Type 0 where
+  pub consumers : ℕ
+  pub has : HasConsumers old m.queue consumers
+  pub does : Does sends notes new (declare_sends c h m.no_wait (queue_declared m.queue (ready_in (old.queue m.queue)) consumers)) old
+
 -- a publish without a content counts as one with none of it
 abbrev pub content_or_none : Option Content → Content
 content_or_none (Some content) = content
@@ -424,6 +462,10 @@ Performs t old c h ch ChannelCloseOk content sends notes new =
     Does sends notes new [] (with_channel old c h None)
 Performs t old c h ch (ConnectionClose m) content sends notes new =
     Does sends notes new (reply c 0 ConnectionCloseOk ∷ []) (with_gone old c)
+Performs t old c h ch (ExchangeDeclare m) content sends notes new =
+    Does sends notes new (declare_sends c h m.no_wait ExchangeDeclareOk) old
+Performs t old c h ch (QueueDeclare m) content sends notes new =
+    Finds old c h m sends notes new
 Performs t old c h ch (BasicQos m) content sends notes new =
     Does sends notes new (reply c h BasicQosOk ∷ []) (with_channel old c h (Some (limited ch m)))
 Performs t old c h ch (BasicGet m) content sends notes new =
