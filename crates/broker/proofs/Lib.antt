@@ -1,5 +1,7 @@
 mod Exchanges
+mod Getting
 mod Judging
 mod Opening
+mod Placing
 mod Purging
 mod Stepping

@@ -1,5 +1,6 @@
 pub mod Links
 pub mod State
+pub mod Placed
 pub mod Judged
 pub mod Sent
 pub mod Purged

@@ -7,7 +7,7 @@ use Rattle.model.specs.declared.contents.Content.{Content}
 use Rattle.model.specs.declared.methods.Publish.{Publish}
 use Rattle.model.specs.declared.events.Send.{Send}
 use Rattle.model.specs.declared.events.Event.{Event}
-use Rattle.model.specs.declared.events.Event.TheVariants.{Running, Command, TooLarge, Fault, Lose, Pause, Resume}
+use Rattle.model.specs.declared.events.Event.TheVariants.{Open, First, Running, Command, TooLarge, Fault, Lose, Pause, Resume}
 
 -- it goes to this connection, and its method has a spelling
 abbrev pub IsOwn : ℕ → Send → Type 0
@@ -29,6 +29,8 @@ sent_back true (Some s) = s ∷ []
 
 -- the connection that an event is of
 abbrev pub connection_of_event : Event → ℕ
+connection_of_event (Open c) = c
+connection_of_event (First c bytes) = c
 connection_of_event (Running c max k) = c
 connection_of_event (Command c h m content) = c
 connection_of_event (TooLarge c h) = c

@@ -6,6 +6,7 @@
 
 mod brokers;
 mod closes;
+mod cores;
 mod links;
 mod refusals;
 mod steps;

@@ -1,0 +1,12 @@
+use Rattle.std.proofs.Common.{refl}
+use Rattle.broker.proofs.Stepping.{opened_is}
+use Rattle.broker.proofs.cores.Core.open.Goals as goal
+
+pub returns-clause-ok : goal.returns-clause-ok
+returns-clause-ok c =
+    rw (← c.self.view_is)
+    (record {
+      sent = refl;
+      noted = refl;
+      left = opened_is (record { store = c.self.inside.depot; links = c.self.inside.links }) (record { store = c.requeue_connection.new.self; links = c.open.new.self }) c.args.connection c.args.channel_max c.args.channels c.requeue_connection.ensures c.in_ok-open.ensures.ok;
+    })

@@ -1,0 +1,55 @@
+use Rattle.std.proofs.Common.{subst, Result, Ok, Some}
+use Rattle.std.proofs.lemmas.Result.{IfOk-weaker}
+use Rattle.model.specs.Step.{refusal}
+use Rattle.broker.specs.State.{broker_of, topology_of}
+use Rattle.broker.specs.Judged.{Judges, JudgesOn}
+use Rattle.broker.specs.declared.refusals.Refusal.{Refusal}
+use Rattle.broker.specs.declared.refusals.Act.{Act}
+use Rattle.broker.proofs.Stepping.{performs_on, ignored_by, performed_not}
+use Rattle.broker.proofs.cores.Core.perform.Goals as goal
+
+pub act-requires : goal.act-requires
+act-requires c =
+    let t = topology_of c.args.self.now in
+    let b = broker_of c.args.self.now in
+    let ch = b.channel c.args.connection c.args.channel in
+    let judged = c.in-Some-Ok.ensures in
+    let judges : Judges t b ch c.args.method.now (refusal t b judged.0 c.args.channel c.args.method.now ch) (Ok c.in-Some-Ok.act) =
+    subst (λ (r : Result Act Refusal). Judges t b ch c.args.method.now (refusal t b judged.0 c.args.channel c.args.method.now ch) r) c.in-Some-Ok.field-0-is judged.2 in
+    (c.args.method.now, judges.1)
+
+pub returns-in-Some-Ok-clause-ok : goal.returns-in-Some-Ok-clause-ok
+returns-in-Some-Ok-clause-ok c =
+    let t = topology_of c.args.self.now in
+    let b = broker_of c.args.self.now in
+    let ch = b.channel c.args.connection c.args.channel in
+    let judged = c.in-Some-Ok.ensures in
+    let judges : Judges t b ch c.args.method.now (refusal t b judged.0 c.args.channel c.args.method.now ch) (Ok c.in-Some-Ok.act) =
+    subst (λ (r : Result Act Refusal). Judges t b ch c.args.method.now (refusal t b judged.0 c.args.channel c.args.method.now ch) r) c.in-Some-Ok.field-0-is judged.2 in
+    IfOk-weaker c.act.result _ _
+    (λ s does. performs_on t b c.args.connection c.args.channel c.args.method.now c.args.content.now s.sends.items s.notes.items (broker_of c.act.new.self) judged.0 judged.1 judges.0 (does c.args.method.now judges.1))
+    c.act.ensures.ok
+
+pub returns-in-Some-Ok-clause-own : goal.returns-in-Some-Ok-clause-own
+returns-in-Some-Ok-clause-own c =
+    let t = topology_of c.args.self.now in
+    let b = broker_of c.args.self.now in
+    let ch = b.channel c.args.connection c.args.channel in
+    let judged = c.in-Some-Ok.ensures in
+    let judges : Judges t b ch c.args.method.now (refusal t b judged.0 c.args.channel c.args.method.now ch) (Ok c.in-Some-Ok.act) =
+    subst (λ (r : Result Act Refusal). Judges t b ch c.args.method.now (refusal t b judged.0 c.args.channel c.args.method.now ch) r) c.in-Some-Ok.field-0-is judged.2 in
+    IfOk-weaker c.act.result _ _ (λ s own said. own c.args.method.now judges.1 said) c.act.ensures.own
+
+pub returns-in-Some-Ok-clause-ignored : goal.returns-in-Some-Ok-clause-ignored
+returns-in-Some-Ok-clause-ignored c = λ is.
+    let t = topology_of c.args.self.now in
+    let b = broker_of c.args.self.now in
+    absurd (performed_not t b c.args.connection c.args.channel c.args.method.now c.in-Some-Ok.act
+    (subst (λ (r : Result Act Refusal). JudgesOn t b c.args.connection c.args.channel c.args.method.now (Some r)) c.in-Some-Ok.field-0-is c.in-Some-Ok.ensures) is)
+
+pub returns-in-Some-Err-clause-ignored : goal.returns-in-Some-Err-clause-ignored
+returns-in-Some-Err-clause-ignored c = λ is.
+    let t = topology_of c.args.self.now in
+    let b = broker_of c.args.self.now in
+    c.refuse.ensures.ignored (ignored_by t b c.args.connection c.args.channel c.args.method.now c.in-Some-Err.refusal
+    (subst (λ (r : Result Act Refusal). JudgesOn t b c.args.connection c.args.channel c.args.method.now (Some r)) c.in-Some-Err.field-0-is c.in-Some-Err.ensures) is)

@@ -1,0 +1,225 @@
+//! What the broker keeps, and its step, case by case.
+
+mod closing;
+mod getting;
+mod publishing;
+mod running;
+mod settling;
+
+use crate::closes::{connection_close, connection_close_ok};
+use crate::links::Links;
+use crate::refusals::{Act, Refusal, judge, judge_large};
+use crate::steps::Step;
+use depot::Depot;
+use exchange_graph::Topology;
+use model::{Content, Event, Ids, Method};
+use std::alloc::{AllocError, Global};
+use std::marker::Model;
+
+/// What names a publish in the close that answers it.
+const PUBLISH: Ids = Ids {
+    class: 60,
+    method: 40,
+};
+
+/// Queues, and the connections that run with their channels.
+pub(crate) struct Core {
+    depot: Depot,
+    links: Links,
+}
+
+/// Written out, so that a drop is one call.
+impl Drop for Core {
+    fn drop(self) {
+        let Core { depot: _, links: _ } = self;
+    }
+}
+
+impl Model for Core {
+    ghost use Rattle.broker.specs.State.{Kept};
+    ghost use Rattle.broker.specs.Placed.{ArePlaced};
+
+    ghost Value = { Kept };
+
+    ghost view = { λ b. record { store = b.depot; links = b.links } };
+
+    ghost invariant = { λ b. ArePlaced (record { store = b.depot; links = b.links }) };
+}
+
+impl Core {
+    ghost use Rattle.std.specs.Prelude.{◌≡◌, [], IfOk, IsOk, OnErr};
+    ghost use Rattle.model.specs.Agreement.{IsAgreed};
+    ghost use Rattle.model.specs.Arrivals.{IsSaid};
+    ghost use Rattle.model.specs.Sending.{AreCarried};
+    ghost use Rattle.model.specs.Grammar.{IsMethod};
+    ghost use Rattle.model.specs.Step.{Acts, Is, OnConnection, OnLarge, Performs, channel_or_new};
+    ghost use Rattle.model.specs.declared.methods.Method.{Method as Seen};
+    ghost use Rattle.broker.specs.State.{broker_of, topology_of, nothing};
+    ghost use Rattle.broker.specs.Judged.{IsIgnored, IsLargeIgnored, WantsNoMemory, JudgesOn, JudgesLarge, Asks, CanAct};
+    ghost use Rattle.broker.specs.Sent.{AreOwn, connection_of_event};
+
+    /// The broker of this topology: its queues are empty, and no connection runs.
+    pub fn new(alloc: Global, topology: Topology) -> Result<Core, AllocError>
+        ensures topology { IfOk result (λ b. topology_of b ≡ topology) }
+        ensures empty { IfOk result (λ b. Is nothing (broker_of b)) }
+    {
+        Ok(Core {
+            depot: Depot::new(alloc, topology)?,
+            links: Links::new(alloc),
+        })
+    }
+
+    /// What is decided of a command, or none where its connection doesn't run.
+    fn judge_command<'a>(
+        &self,
+        connection: u64,
+        channel: u16,
+        method: &'a Method,
+    ) -> Option<Result<Act<'a>, Refusal>>
+        ensures { JudgesOn (topology_of self.now) (broker_of self.now) connection channel method.now result }
+    {
+        match self.links.get(connection) {
+            None => None,
+            Some(link) => Some(judge(&self.depot, link, channel, method)),
+        }
+    }
+
+    /// What is decided of a publish whose content is too large, or none where its connection doesn't run.
+    fn judge_large(&self, connection: u64, channel: u16) -> Option<Refusal>
+        ensures { JudgesLarge (broker_of self.now) connection channel result }
+    {
+        match self.links.get(connection) {
+            None => None,
+            Some(link) => Some(judge_large(link, channel)),
+        }
+    }
+
+    /// What a command that is not refused asks for is done.
+    fn act(
+        &mut self,
+        alloc: Global,
+        connection: u64,
+        channel: u16,
+        act: Act<'_>,
+        content: &Option<Content>,
+    ) -> Result<Step, AllocError>
+        requires agreed { IsAgreed (broker_of self.old) }
+        requires can { CanAct (topology_of self.old) (broker_of self.old) ((broker_of self.old).channel connection channel) act }
+        ensures ok { IfOk result (λ s. (m : Seen) → Asks (topology_of self.old) (broker_of self.old) ((broker_of self.old).channel connection channel) m act.entry → Performs (topology_of self.old) (broker_of self.old) connection channel (channel_or_new ((broker_of self.old).channel connection channel)) m content.now s.sends.items s.notes.items (broker_of self.new)) }
+        ensures own { IfOk result (λ s. (m : Seen) → Asks (topology_of self.old) (broker_of self.old) ((broker_of self.old).channel connection channel) m act.entry → IsMethod m → AreCarried (broker_of self.old) → AreOwn connection s.sends.items) }
+        ensures topology { topology_of self.new ≡ topology_of self.old }
+        ensures err { OnErr result (self.new ≡ self.old) }
+    {
+        match act {
+            Act::Select(no_wait) => self.select(alloc, connection, channel, no_wait),
+            Act::Publish(publish) => self.publish_content(
+                alloc, connection, channel, publish, content,
+            ),
+            Act::Purge(place, purge) => self.purge(alloc, connection, channel, place, purge),
+            Act::Get(place, get) => self.get(alloc, connection, channel, place, get),
+            Act::Limit(qos) => self.limit(alloc, connection, channel, qos),
+            Act::CloseChannel(is_closing) => self.answer_close(
+                alloc, connection, channel, is_closing,
+            ),
+            Act::EndChannel => Ok(self.end_channel(alloc, connection, channel)),
+            Act::CloseConnection => {
+                self.close_connection(alloc, connection, connection_close_ok(connection))
+            }
+        }
+    }
+
+    /// A command: nothing where its connection doesn't run, else it is refused or performed.
+    fn perform(
+        &mut self,
+        alloc: Global,
+        connection: u64,
+        channel: u16,
+        method: &Method,
+        content: &Option<Content>,
+    ) -> Result<Step, AllocError>
+        requires { IsAgreed (broker_of self.old) }
+        ensures ok { IfOk result (λ s. OnConnection (topology_of self.old) (broker_of self.old) connection channel method.now content.now s.sends.items s.notes.items (broker_of self.new) ((broker_of self.old).connection connection)) }
+        ensures ignored { IsIgnored (topology_of self.old) (broker_of self.old) connection channel method.now ((broker_of self.old).connection connection) → IsOk result }
+        ensures own { IfOk result (λ s. IsMethod method.now → AreCarried (broker_of self.old) → AreOwn connection s.sends.items) }
+        ensures topology { topology_of self.new ≡ topology_of self.old }
+        ensures err { OnErr result (self.new ≡ self.old) }
+    {
+        match self.judge_command(connection, channel, method) {
+            None => Ok(Step::nothing(alloc)),
+            Some(Err(refusal)) => self.refuse(alloc, connection, channel, method.ids(), refusal),
+            Some(Ok(act)) => self.act(alloc, connection, channel, act, content),
+        }
+    }
+
+    /// A publish whose content is too large: nothing where its connection doesn't run, else it is refused.
+    fn refuse_large(
+        &mut self,
+        alloc: Global,
+        connection: u64,
+        channel: u16,
+    ) -> Result<Step, AllocError>
+        ensures ok { IfOk result (λ s. OnLarge (broker_of self.old) connection channel s.sends.items s.notes.items (broker_of self.new) ((broker_of self.old).connection connection)) }
+        ensures ignored { IsLargeIgnored (broker_of self.old) connection channel ((broker_of self.old).connection connection) → IsOk result }
+        ensures own { IfOk result (λ s. AreOwn connection s.sends.items) }
+        ensures topology { topology_of self.new ≡ topology_of self.old }
+        ensures err { OnErr result (self.new ≡ self.old) }
+    {
+        match self.judge_large(connection, channel) {
+            None => Ok(Step::nothing(alloc)),
+            Some(refusal) => self.refuse(alloc, connection, channel, PUBLISH, refusal),
+        }
+    }
+
+    /// One event: what it sends, what it notes, and the state after it. Where the event's method has a spelling, each send
+    /// is for the event's own connection, by a method with a spelling. Where memory is wanting, nothing has changed; a loss, a pause and its end, and a command that is ignored want none.
+    pub fn step(&mut self, alloc: Global, event: &Event) -> Result<Step, AllocError>
+        requires { IsAgreed (broker_of self.old) }
+        ensures ok { IfOk result (λ s. Acts (topology_of self.old) (broker_of self.old) event.now s.sends.items s.notes.items (broker_of self.new)) }
+        ensures own { IfOk result (λ s. IsSaid event.now → AreCarried (broker_of self.old) → AreOwn (connection_of_event event.now) s.sends.items) }
+        ensures topology { topology_of self.new ≡ topology_of self.old }
+        ensures err { OnErr result (self.new ≡ self.old) }
+        ensures quiet { WantsNoMemory (topology_of self.old) (broker_of self.old) event.now → IsOk result }
+    {
+        match event {
+            Event::Open { .. } | Event::First { .. } => Ok(Step::nothing(alloc)),
+            Event::Running {
+                connection,
+                channel_max,
+                channels,
+            } => {
+                self.open(alloc, *connection, *channel_max, *channels)?;
+                Ok(Step::nothing(alloc))
+            }
+            Event::Command {
+                connection,
+                channel,
+                method,
+                content,
+            } => self.perform(alloc, *connection, *channel, method, content),
+            Event::TooLarge {
+                connection,
+                channel,
+            } => self.refuse_large(alloc, *connection, *channel),
+            Event::Fault { connection, code } => {
+                let cause = Ids {
+                    class: 0,
+                    method: 0,
+                };
+                let send = connection_close(*connection, *code, cause);
+                self.close_connection(alloc, *connection, send)
+            }
+            Event::Lose { connection } => {
+                self.go(*connection);
+                Ok(Step::nothing(alloc))
+            }
+            Event::Pause { connection } => {
+                self.pause(*connection);
+                Ok(Step::nothing(alloc))
+            }
+            Event::Resume { connection } => {
+                self.resume(*connection);
+                Ok(Step::nothing(alloc))
+            }
+        }
+    }
+}
