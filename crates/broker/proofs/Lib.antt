@@ -1,6 +1,8 @@
 mod Exchanges
+mod Getting
 mod Judging
 mod Opening
+mod Placing
 mod Purging
 mod Settlements
 mod Settling

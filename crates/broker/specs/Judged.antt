@@ -4,13 +4,14 @@ use Rattle.model.specs.Words.{Text}
 use Rattle.model.specs.Topology.{Topology}
 use Rattle.model.specs.Broker.{Broker, Channel, Connection}
 use Rattle.model.specs.Step as step
-use Rattle.model.specs.Step.{Of_channel, Of_connection, refusal, refusal_of_large, refusal_of_publish, channel_or_new}
+use Rattle.model.specs.Step.{Of_channel, Of_connection, refusal, refusal_of_large, refusal_of_publish, refusal_of_get, channel_or_new}
 use Rattle.model.specs.declared.methods.Close.{Close}
 use Rattle.model.specs.declared.methods.Method.{Method}
 use Rattle.model.specs.declared.methods.Method.TheVariants as method
 use Rattle.model.specs.declared.events.Event.{Event}
 use Rattle.model.specs.declared.events.Event.TheVariants as event
 use Rattle.exchange_graph.specs.Marks.{queue_name}
+use Rattle.depot.specs.Store.{Store, queue_of}
 use Rattle.broker.specs.declared.refusals.Refusal.{Refusal}
 use Rattle.broker.specs.declared.refusals.Refusal.TheVariants as refused
 use Rattle.broker.specs.declared.refusals.Act.{Act}
@@ -60,11 +61,17 @@ pub record IsPlaceOf (t : Topology) (name : Text) (place : ℕ) : Type 0 where
   pub within : place < length t.queues
   pub named : queue_name t place ≡ name
 
+-- The state has the queues of this depot, and its count of publishes.
+pub record HasStore (b : Broker) (s : Store) : Type 0 where
+  pub counted : b.published ≡ s.published
+  pub queues : (q : Text) → b.queue q ≡ queue_of s q
+
 -- the method asks for this act on the channel, which is there where it needs to be
 abbrev pub Asks : Topology → Broker → Option Channel → Method → Act → Type 0
 Asks t b ch m (act.Select no_wait) = (m ≡ method.ConfirmSelect no_wait) × IsSome ch
 Asks t b ch m (act.Publish p) = (m ≡ method.BasicPublish p.now) × IsSome ch × (refusal_of_publish t b (channel_or_new ch) p.now ≡ None)
 Asks t b ch m (act.Purge place p) = (m ≡ method.QueuePurge p.now) × IsSome ch × IsPlaceOf t p.now.queue place
+Asks t b ch m (act.Get place g) = (m ≡ method.BasicGet g.now) × IsSome ch × IsPlaceOf t g.now.queue place × (refusal_of_get t b (channel_or_new ch) g.now ≡ None)
 Asks t b ch m (act.Limit q) = (m ≡ method.BasicQos q.now) × IsSome ch
 Asks t b ch m (act.CloseChannel is_closing) = (x : Close) × (m ≡ method.ChannelClose x) × IsSome ch × ((channel_or_new ch).is_closing ≡ is_closing)
 Asks t b ch m act.EndChannel = (m ≡ method.ChannelCloseOk) × IsSome ch

@@ -1,9 +1,10 @@
 -- The connections that run, each with its open channels, as they are kept.
-use Rattle.std.specs.Prelude.{◌≡◌, false, ℕ, List, Bool, Option, Some, None, nat_eq, slice_index_or, option_map}
+use Rattle.std.specs.Prelude.{◌≡◌, ◌==◌, ◌<◌, true, false, ℕ, List, Bool, Option, Some, None, nat_eq, slice_index_or, option_map}
 use Rattle.std.specs.Map.{lookup}
 use Rattle.model.specs.Words.{Text}
 use Rattle.model.specs.Step.{is_spent, channels_up_to}
 use Rattle.model.specs.Broker.{Channel, Connection, with_one, with_row, with_pair}
+use Rattle.model.specs.Prefetch.{has_tag_left}
 use Rattle.channel.specs.Open.{Open, open_in}
 
 -- a connection that runs; its channels stand at their numbers
@@ -54,6 +55,20 @@ seen_in names links c h = option_map (open_in names) (channel_of links c h)
 abbrev pub CanCount : Option Open → Type 0
 CanCount ch = (k : Open) → ch ≡ Some k → is_spent k.confirm ≡ false
 
+-- a delivery tag is left on the channel, where there is one
+abbrev pub CanGive : Option Open → Type 0
+CanGive ch = (k : Open) → ch ≡ Some k → has_tag_left k.given.next_tag ≡ true
+
+-- there is room for one delivery more on it
+abbrev pub HasRoom : Option Open → Type 0
+HasRoom ch = (k : Open) → ch ≡ Some k → 0 < k.given.room
+
+-- The channel is as it was, but that it has room for one delivery more.
+pub record SetsRoom (ch : Open) (new : Option Open) : Type 0 where
+  pub room : ℕ
+  pub is : new ≡ Some (record ch { given = record ch.given { room = room } })
+  pub some : 0 < room
+
 -- this channel stands at h now, and the others as before
 abbrev pub IsSet : List (Option Open) → ℕ → Option Open → List (Option Open) → Type 0
 IsSet old h ch new = (k : ℕ) → slice_index_or new k None ≡ with_one (λ (i : ℕ). slice_index_or old i None) h ch k
@@ -83,3 +98,4 @@ pub record AreLinks (new : List (ℕ × Linked)) (connections : ℕ → Option C
 pub record Opens (old : List (ℕ × Linked)) (c max k : ℕ) (new : List (ℕ × Linked)) : Type 0 where
   pub connections_are : (d : ℕ) → connection_of new d ≡ with_one (connection_of old) c (Some (record { channel_max = max; is_paused = false })) d
   pub channels_are : (names : List Text) (d h : ℕ) → seen_in names new d h ≡ with_row (seen_in names old) c (channels_up_to k) d h
+  pub others_stay : (d h : ℕ) → (d == c) ≡ false → channel_of new d h ≡ channel_of old d h

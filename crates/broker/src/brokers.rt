@@ -3,6 +3,7 @@
 use crate::cores::Core;
 use crate::steps::Step;
 use exchange_graph::Topology;
+use laws::brokers_stay_agreed;
 use model::Event;
 use std::alloc::{AllocError, Global};
 use std::marker::Model;
@@ -20,16 +21,20 @@ impl Drop for Broker {
 }
 
 impl Model for Broker {
-    ghost use Rattle.broker.specs.State.{Kept};
+    ghost use Rattle.model.specs.Agreement.{IsAgreed};
+    ghost use Rattle.broker.specs.State.{Kept, broker_of};
 
     ghost Value = { Kept };
 
     ghost view = { λ b. b.core };
+
+    ghost invariant = { λ b. IsAgreed (broker_of b.core) };
 }
 
 impl Broker {
     ghost use Rattle.std.specs.Prelude.{◌≡◌, [], IfOk, IsOk, OnOk, OnErr};
     ghost use Rattle.model.specs.Arrivals.{IsSaid};
+    ghost use Rattle.model.specs.Sending.{AreCarried};
     ghost use Rattle.model.specs.Step.{Acts, Is};
     ghost use Rattle.model.specs.declared.events.Event.TheVariants as event_is;
     ghost use Rattle.broker.specs.State.{broker_of, topology_of, nothing};
@@ -41,6 +46,7 @@ impl Broker {
         ensures topology { IfOk result (λ b. topology_of b ≡ topology) }
         ensures empty { IfOk result (λ b. Is nothing (broker_of b)) }
     {
+        brokers_stay_agreed();
         Ok(Broker {
             core: Core::new(alloc, topology)?,
         })
@@ -51,11 +57,12 @@ impl Broker {
     /// pause and its end, and a command that is ignored want none.
     pub fn step(&mut self, alloc: Global, event: &Event) -> Result<Step, AllocError>
         ensures ok { IfOk result (λ s. Acts (topology_of self.old) (broker_of self.old) event.now s.sends.items s.notes.items (broker_of self.new)) }
-        ensures own { IfOk result (λ s. IsSaid event.now → AreOwn (connection_of_event event.now) s.sends.items) }
+        ensures own { IfOk result (λ s. IsSaid event.now → AreCarried (broker_of self.old) → AreOwn (connection_of_event event.now) s.sends.items) }
         ensures topology { topology_of self.new ≡ topology_of self.old }
         ensures err { OnErr result (self.new ≡ self.old) }
         ensures quiet { WantsNoMemory (topology_of self.old) (broker_of self.old) event.now → IsOk result }
     {
+        brokers_stay_agreed();
         self.core.step(alloc, event)
     }
 
@@ -72,6 +79,7 @@ impl Broker {
         ensures topology { topology_of self.new ≡ topology_of self.old }
         ensures err { OnErr result (self.new ≡ self.old) }
     {
+        brokers_stay_agreed();
         self.core.open(alloc, connection, channel_max, channels)
     }
 
@@ -80,6 +88,7 @@ impl Broker {
         ensures acts { Acts (topology_of self.old) (broker_of self.old) (event_is.Lose connection) [] [] (broker_of self.new) }
         ensures topology { topology_of self.new ≡ topology_of self.old }
     {
+        brokers_stay_agreed();
         self.core.lose(connection);
     }
 
@@ -88,6 +97,7 @@ impl Broker {
         ensures acts { Acts (topology_of self.old) (broker_of self.old) (event_is.Pause connection) [] [] (broker_of self.new) }
         ensures topology { topology_of self.new ≡ topology_of self.old }
     {
+        brokers_stay_agreed();
         self.core.pause(connection);
     }
 
@@ -96,6 +106,7 @@ impl Broker {
         ensures acts { Acts (topology_of self.old) (broker_of self.old) (event_is.Resume connection) [] [] (broker_of self.new) }
         ensures topology { topology_of self.new ≡ topology_of self.old }
     {
+        brokers_stay_agreed();
         self.core.resume(connection);
     }
 }

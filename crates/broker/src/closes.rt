@@ -1,15 +1,19 @@
 //! The methods that the broker sends.
 
-ghost use Rattle.std.specs.Prelude.{◌≡◌, ◌<◌, None, true, false, length, IfOk, IfSome};
+ghost use Rattle.std.specs.Prelude.{◌≡◌, ◌<◌, [], None, true, false, length, IfOk, IfSome};
 ghost use Rattle.model.specs.Codes.{code_text};
 ghost use Rattle.model.specs.Grammar.{ids, IsMethod};
+ghost use Rattle.model.specs.Sending.{IsCarried};
 ghost use Rattle.model.specs.Step as said;
 ghost use Rattle.model.specs.Deliveries.{written_count};
 ghost use Rattle.model.specs.declared.methods.Method.TheVariants as seen;
 ghost use Rattle.broker.specs.Sent as sent;
 ghost use Rattle.broker.specs.Sent.{IsOwn};
 
-use model::{Ack, Answer, Close, Content, Ids, Method, Nack, Publish, Return, Send, reply_text};
+use model::{
+    Ack, Answer, Close, Content, Entry, GetOk, Ids, Method, Nack, Publish, Return, Send, Text,
+    reply_text,
+};
 use std::alloc::AllocError;
 
 /// The reply code of a publish that is sent back: no-route.
@@ -188,4 +192,45 @@ pub(crate) fn return_if(
     } else {
         Ok(None)
     }
+}
+
+/// basic.get-empty.
+pub(crate) fn get_empty(connection: u64, channel: u16) -> Send
+    ensures send { result ≡ said.reply connection channel (seen.BasicGetEmpty []) }
+    ensures own { IsOwn connection result }
+{
+    reply(
+        connection,
+        channel,
+        Method::BasicGetEmpty {
+            reserved: Text::empty(),
+        },
+    )
+}
+
+/// basic.get-ok of this message under this delivery tag, where so many are ready behind it. It carries the message's content,
+/// whose bytes are shared.
+pub(crate) fn get_ok(
+    connection: u64,
+    channel: u16,
+    tag: u64,
+    entry: &Entry,
+    remaining: usize,
+) -> Result<Send, AllocError>
+    ensures send { IfOk result (λ s. s ≡ said.get_ok connection channel tag entry.now remaining) }
+    ensures own { IfOk result (λ s. IsCarried entry.now.message → IsOwn connection s) }
+{
+    let message = &entry.message;
+    Ok(Send::Command {
+        connection,
+        channel,
+        method: Method::BasicGetOk(GetOk {
+            delivery_tag: tag,
+            redelivered: message.is_redelivered(),
+            exchange: message.exchange().clone()?,
+            routing_key: message.key().clone()?,
+            message_count: written(remaining),
+        }),
+        content: Some(message.content().clone()?),
+    })
 }

@@ -1,6 +1,7 @@
 //! What the broker keeps, and its step, case by case.
 
 mod closing;
+mod getting;
 mod publishing;
 mod running;
 mod settlements;
@@ -37,15 +38,20 @@ impl Drop for Core {
 
 impl Model for Core {
     ghost use Rattle.broker.specs.State.{Kept};
+    ghost use Rattle.broker.specs.Placed.{ArePlaced};
 
     ghost Value = { Kept };
 
     ghost view = { λ b. record { store = b.depot; links = b.links } };
+
+    ghost invariant = { λ b. ArePlaced (record { store = b.depot; links = b.links }) };
 }
 
 impl Core {
     ghost use Rattle.std.specs.Prelude.{◌≡◌, [], IfOk, IsOk, OnErr};
+    ghost use Rattle.model.specs.Agreement.{IsAgreed};
     ghost use Rattle.model.specs.Arrivals.{IsSaid};
+    ghost use Rattle.model.specs.Sending.{AreCarried};
     ghost use Rattle.model.specs.Grammar.{IsMethod};
     ghost use Rattle.model.specs.Step.{Acts, Is, OnConnection, OnLarge, Performs, channel_or_new};
     ghost use Rattle.model.specs.declared.methods.Method.{Method as Seen};
@@ -75,13 +81,7 @@ impl Core {
     {
         match self.links.get(connection) {
             None => None,
-            Some(link) => Some(judge(
-                self.depot.router(),
-                self.depot.published(),
-                link,
-                channel,
-                method,
-            )),
+            Some(link) => Some(judge(&self.depot, link, channel, method)),
         }
     }
 
@@ -104,9 +104,10 @@ impl Core {
         act: Act<'_>,
         content: &Option<Content>,
     ) -> Result<Step, AllocError>
-        requires { CanAct (topology_of self.old) (broker_of self.old) ((broker_of self.old).channel connection channel) act }
+        requires agreed { IsAgreed (broker_of self.old) }
+        requires can { CanAct (topology_of self.old) (broker_of self.old) ((broker_of self.old).channel connection channel) act }
         ensures ok { IfOk result (λ s. (m : Seen) → Asks (topology_of self.old) (broker_of self.old) ((broker_of self.old).channel connection channel) m act.entry → Performs (topology_of self.old) (broker_of self.old) connection channel (channel_or_new ((broker_of self.old).channel connection channel)) m content.now s.sends.items s.notes.items (broker_of self.new)) }
-        ensures own { IfOk result (λ s. (m : Seen) → Asks (topology_of self.old) (broker_of self.old) ((broker_of self.old).channel connection channel) m act.entry → IsMethod m → AreOwn connection s.sends.items) }
+        ensures own { IfOk result (λ s. (m : Seen) → Asks (topology_of self.old) (broker_of self.old) ((broker_of self.old).channel connection channel) m act.entry → IsMethod m → AreCarried (broker_of self.old) → AreOwn connection s.sends.items) }
         ensures topology { topology_of self.new ≡ topology_of self.old }
         ensures err { OnErr result (self.new ≡ self.old) }
     {
@@ -116,6 +117,7 @@ impl Core {
                 alloc, connection, channel, publish, content,
             ),
             Act::Purge(place, purge) => self.purge(alloc, connection, channel, place, purge),
+            Act::Get(place, get) => self.get(alloc, connection, channel, place, get),
             Act::Limit(qos) => self.limit(alloc, connection, channel, qos),
             Act::CloseChannel(is_closing) => self.answer_close(
                 alloc, connection, channel, is_closing,
@@ -136,9 +138,10 @@ impl Core {
         method: &Method,
         content: &Option<Content>,
     ) -> Result<Step, AllocError>
+        requires { IsAgreed (broker_of self.old) }
         ensures ok { IfOk result (λ s. OnConnection (topology_of self.old) (broker_of self.old) connection channel method.now content.now s.sends.items s.notes.items (broker_of self.new) ((broker_of self.old).connection connection)) }
         ensures ignored { IsIgnored (topology_of self.old) (broker_of self.old) connection channel method.now ((broker_of self.old).connection connection) → IsOk result }
-        ensures own { IfOk result (λ s. IsMethod method.now → AreOwn connection s.sends.items) }
+        ensures own { IfOk result (λ s. IsMethod method.now → AreCarried (broker_of self.old) → AreOwn connection s.sends.items) }
         ensures topology { topology_of self.new ≡ topology_of self.old }
         ensures err { OnErr result (self.new ≡ self.old) }
     {
@@ -171,8 +174,9 @@ impl Core {
     /// One event: what it sends, what it notes, and the state after it. Where the event's method has a spelling, each send
     /// is for the event's own connection, by a method with a spelling. Where memory is wanting, nothing has changed; a loss, a pause and its end, and a command that is ignored want none.
     pub fn step(&mut self, alloc: Global, event: &Event) -> Result<Step, AllocError>
+        requires { IsAgreed (broker_of self.old) }
         ensures ok { IfOk result (λ s. Acts (topology_of self.old) (broker_of self.old) event.now s.sends.items s.notes.items (broker_of self.new)) }
-        ensures own { IfOk result (λ s. IsSaid event.now → AreOwn (connection_of_event event.now) s.sends.items) }
+        ensures own { IfOk result (λ s. IsSaid event.now → AreCarried (broker_of self.old) → AreOwn (connection_of_event event.now) s.sends.items) }
         ensures topology { topology_of self.new ≡ topology_of self.old }
         ensures err { OnErr result (self.new ≡ self.old) }
         ensures quiet { WantsNoMemory (topology_of self.old) (broker_of self.old) event.now → IsOk result }

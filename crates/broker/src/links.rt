@@ -13,7 +13,10 @@ ghost use Rattle.std.specs.Prelude.{
   false,
   IsSome,
   IfOk,
+  OnOk,
   OnErr,
+  ◌<◌,
+  true,
   replicate,
   slice_set,
   slice_index_or,
@@ -27,11 +30,11 @@ ghost use Rattle.model.specs.Words.{Text as Name};
 ghost use Rattle.model.specs.Broker.{new_channel};
 ghost use Rattle.model.specs.Step.{started, next_of};
 ghost use Rattle.model.specs.declared.methods.Qos.{Qos as Limit};
-ghost use Rattle.channel.specs.Open.{Open, open_in, limited, without_settled};
-ghost use Rattle.broker.specs.Links.{CanCount, IsSet, room_in};
+ghost use Rattle.channel.specs.Open.{Open, open_in, limited, given_on, settled_on, without_settled};
+ghost use Rattle.broker.specs.Links.{CanCount, CanGive, HasRoom, IsSet, SetsRoom, room_in};
 
 use channel::{Channel, Outstanding};
-use model::Qos;
+use model::{Qos, Taker};
 use std::alloc::{AllocError, Global};
 use std::collections::HashMap;
 use std::marker::Model;
@@ -94,6 +97,38 @@ fn limit_in(slot: &mut Option<Channel>, qos: &Qos)
     }
 }
 
+/// Room is made for one message more that is given out on this channel.
+fn reserve_in(slot: &mut Option<Channel>) -> Result<(), AllocError>
+    ensures ok { OnOk result ((ch : Open) → slot.old ≡ Some ch → SetsRoom ch slot.new) }
+    ensures err { OnErr result (slot.new ≡ slot.old) }
+{
+    match slot {
+        Some(channel) => channel.reserve(1),
+        None => Ok(()),
+    }
+}
+
+/// A message of the queue at this place is given out on this channel, and waits to be settled.
+fn give_in(slot: &mut Option<Channel>, queue: usize, arrival: u64, by: Taker)
+    requires tag { CanGive slot.old }
+    requires room { HasRoom slot.old }
+    ensures { (ch : Open) → slot.old ≡ Some ch → slot.new ≡ Some (given_on ch queue arrival by) }
+{
+    if let Some(channel) = slot {
+        channel.give(queue, arrival, by);
+    }
+}
+
+/// A message is given out on this channel that needs no acknowledgement.
+fn give_settled_in(slot: &mut Option<Channel>)
+    requires { CanGive slot.old }
+    ensures { (ch : Open) → slot.old ≡ Some ch → slot.new ≡ Some (settled_on ch) }
+{
+    if let Some(channel) = slot {
+        channel.give_settled();
+    }
+}
+
 /// What this tag settles is no longer outstanding on this channel.
 fn forget_in(slot: &mut Option<Channel>, tag: u64, multiple: bool)
     ensures { (ch : Open) → slot.old ≡ Some ch → slot.new ≡ Some (without_settled ch tag multiple (room_in slot.new)) }
@@ -135,6 +170,42 @@ fn limit_at(channels: &mut [Option<Channel>], number: u16, qos: &Qos)
 }
 
 /// The same of the channel of this number.
+fn reserve_at(channels: &mut [Option<Channel>], number: u16) -> Result<(), AllocError>
+    ensures ok { OnOk result ((ch : Open) → slice_index_or channels.old number None ≡ Some ch → (new : Option Open) × SetsRoom ch new × IsSet channels.old number new channels.new) }
+    ensures err { OnErr result (channels.new ≡ channels.old) }
+{
+    let at = number as usize;
+    if at < channels.len() {
+        reserve_in(&mut channels[at])
+    } else {
+        Ok(())
+    }
+}
+
+/// The same of the channel of this number.
+fn give_at(channels: &mut [Option<Channel>], number: u16, queue: usize, arrival: u64, by: Taker)
+    requires tag { CanGive (slice_index_or channels.old number None) }
+    requires room { HasRoom (slice_index_or channels.old number None) }
+    ensures { (ch : Open) → slice_index_or channels.old number None ≡ Some ch → IsSet channels.old number (Some (given_on ch queue arrival by)) channels.new }
+{
+    let at = number as usize;
+    if at < channels.len() {
+        give_in(&mut channels[at], queue, arrival, by);
+    }
+}
+
+/// The same of the channel of this number.
+fn give_settled_at(channels: &mut [Option<Channel>], number: u16)
+    requires { CanGive (slice_index_or channels.old number None) }
+    ensures { (ch : Open) → slice_index_or channels.old number None ≡ Some ch → IsSet channels.old number (Some (settled_on ch)) channels.new }
+{
+    let at = number as usize;
+    if at < channels.len() {
+        give_settled_in(&mut channels[at]);
+    }
+}
+
+/// The same of the channel of this number.
 fn forget_at(channels: &mut [Option<Channel>], number: u16, tag: u64, multiple: bool)
     ensures { (ch : Open) → slice_index_or channels.old number None ≡ Some ch → IsSet channels.old number (Some (without_settled ch tag multiple (room_in (slice_index_or channels.new number None)))) channels.new }
 {
@@ -156,15 +227,15 @@ fn put_at(channels: &mut [Option<Channel>], number: u16, channel: Option<Channel
 }
 
 impl Link {
-    ghost use Rattle.std.specs.Prelude.{◌≡◌, ◌+◌, ◌<◌, ◌^◌, ℕ, List, None, Some, false, IsSome, IfSome, IfOk, option_map};
+    ghost use Rattle.std.specs.Prelude.{◌≡◌, ◌+◌, ◌<◌, ◌^◌, ℕ, List, Option, None, Some, false, IsSome, IfSome, IfOk, OnOk, OnErr, option_map};
     ghost use Rattle.std.specs.Option.{option_copied};
     ghost use Rattle.model.specs.Words.{Text as Name};
     ghost use Rattle.model.specs.Step.{started, next_of, channels_up_to};
     ghost use Rattle.model.specs.declared.methods.Qos.{Qos as Limit};
     ghost use Rattle.model.specs.Settling.{settled};
     ghost use Rattle.channel.specs.Outstanding.{tag_of};
-    ghost use Rattle.channel.specs.Open.{Open, open_in, limited, without_settled};
-    ghost use Rattle.broker.specs.Links.{channel_in, room_in, PutsIn, CanCount};
+    ghost use Rattle.channel.specs.Open.{Open, open_in, limited, given_on, settled_on, without_settled};
+    ghost use Rattle.broker.specs.Links.{channel_in, room_in, PutsIn, CanCount, CanGive, HasRoom, SetsRoom};
 
     /// A connection with channels 1 to `channels` open and new.
     fn new(alloc: Global, channel_max: u16, channels: u16) -> Result<Link, AllocError>
@@ -207,6 +278,16 @@ impl Link {
         }
     }
 
+    /// The delivery tag under which the next message is given out on this channel.
+    fn next_tag(&self, number: u16) -> u64
+        ensures { (ch : Open) → channel_in self.now number ≡ Some ch → result ≡ ch.given.next_tag }
+    {
+        match self.channel(number) {
+            Some(channel) => channel.next_tag(),
+            None => 0,
+        }
+    }
+
     /// Publishes on this channel are confirmed from now on.
     fn select(&mut self, number: u16)
         ensures { (ch : Open) → channel_in self.old number ≡ Some ch → PutsIn self.old number (Some (record ch { confirm = started ch.confirm })) self.new }
@@ -227,6 +308,31 @@ impl Link {
         ensures { (ch : Open) → channel_in self.old number ≡ Some ch → PutsIn self.old number (Some (limited ch qos.now)) self.new }
     {
         limit_at(&mut self.channels, number, qos);
+    }
+
+    /// Room is made for one message more that is given out on this channel.
+    fn reserve(&mut self, number: u16) -> Result<(), AllocError>
+        ensures ok { OnOk result ((ch : Open) → channel_in self.old number ≡ Some ch → (new : Option Open) × SetsRoom ch new × PutsIn self.old number new self.new) }
+        ensures err { OnErr result (self.new ≡ self.old) }
+    {
+        reserve_at(&mut self.channels, number)
+    }
+
+    /// A message of the queue at this place is given out on this channel, and waits to be settled.
+    fn give(&mut self, number: u16, queue: usize, arrival: u64, by: Taker)
+        requires tag { CanGive (channel_in self.old number) }
+        requires room { HasRoom (channel_in self.old number) }
+        ensures { (ch : Open) → channel_in self.old number ≡ Some ch → PutsIn self.old number (Some (given_on ch queue arrival by)) self.new }
+    {
+        give_at(&mut self.channels, number, queue, arrival, by);
+    }
+
+    /// A message is given out on this channel that needs no acknowledgement.
+    fn give_settled(&mut self, number: u16)
+        requires { CanGive (channel_in self.old number) }
+        ensures { (ch : Open) → channel_in self.old number ≡ Some ch → PutsIn self.old number (Some (settled_on ch)) self.new }
+    {
+        give_settled_at(&mut self.channels, number);
     }
 
     /// What this tag settles on this channel, in tag order; none where it is refused.
@@ -288,6 +394,7 @@ impl Links {
       None,
       Some,
       false,
+      Option,
       IsSome,
       IfSome,
       OnOk,
@@ -300,8 +407,20 @@ impl Links {
     ghost use Rattle.model.specs.declared.methods.Qos.{Qos as Limit};
     ghost use Rattle.model.specs.Settling.{settled};
     ghost use Rattle.channel.specs.Outstanding.{tag_of};
-    ghost use Rattle.channel.specs.Open.{Open, limited, without_settled};
-    ghost use Rattle.broker.specs.Links.{link_in, connection_of, channel_of, room_in, CanCount, Puts, Opens, AreLinks};
+    ghost use Rattle.channel.specs.Open.{Open, limited, given_on, settled_on, without_settled};
+    ghost use Rattle.broker.specs.Links.{
+      link_in,
+      connection_of,
+      channel_of,
+      room_in,
+      CanCount,
+      CanGive,
+      HasRoom,
+      SetsRoom,
+      Puts,
+      Opens,
+      AreLinks,
+    };
 
     /// No connection runs. It takes no memory.
     pub fn new(alloc: Global) -> Links
@@ -364,6 +483,16 @@ impl Links {
         }
     }
 
+    /// The delivery tag under which the next message is given out on this channel.
+    pub fn next_tag(&self, connection: u64, channel: u16) -> u64
+        ensures { (ch : Open) → channel_of self.now connection channel ≡ Some ch → result ≡ ch.given.next_tag }
+    {
+        match self.get(connection) {
+            Some(link) => link.next_tag(channel),
+            None => 0,
+        }
+    }
+
     /// Publishes on this channel are confirmed from now on.
     pub fn select(&mut self, connection: u64, channel: u16)
         requires { IsSome (channel_of self.old connection channel) }
@@ -392,6 +521,41 @@ impl Links {
     {
         if let Some(link) = self.links.get_mut(&connection) {
             link.limit(channel, qos);
+        }
+    }
+
+    /// Room is made for one message more that is given out on this channel.
+    pub fn reserve(&mut self, connection: u64, channel: u16) -> Result<(), AllocError>
+        requires { IsSome (channel_of self.old connection channel) }
+        ensures ok { OnOk result ((ch : Open) → channel_of self.old connection channel ≡ Some ch → (new : Option Open) × SetsRoom ch new × Puts self.old connection channel new self.new) }
+        ensures err { OnErr result (self.new ≡ self.old) }
+    {
+        match self.links.get_mut(&connection) {
+            Some(link) => link.reserve(channel),
+            None => Ok(()),
+        }
+    }
+
+    /// A message of the queue at this place is given out on this channel, and waits to be settled.
+    pub fn give(&mut self, connection: u64, channel: u16, queue: usize, arrival: u64, by: Taker)
+        requires there { IsSome (channel_of self.old connection channel) }
+        requires tag { CanGive (channel_of self.old connection channel) }
+        requires room { HasRoom (channel_of self.old connection channel) }
+        ensures { (ch : Open) → channel_of self.old connection channel ≡ Some ch → Puts self.old connection channel (Some (given_on ch queue arrival by)) self.new }
+    {
+        if let Some(link) = self.links.get_mut(&connection) {
+            link.give(channel, queue, arrival, by);
+        }
+    }
+
+    /// A message is given out on this channel that needs no acknowledgement.
+    pub fn give_settled(&mut self, connection: u64, channel: u16)
+        requires there { IsSome (channel_of self.old connection channel) }
+        requires tag { CanGive (channel_of self.old connection channel) }
+        ensures { (ch : Open) → channel_of self.old connection channel ≡ Some ch → Puts self.old connection channel (Some (settled_on ch)) self.new }
+    {
+        if let Some(link) = self.links.get_mut(&connection) {
+            link.give_settled(channel);
         }
     }
 

@@ -2,7 +2,7 @@
 //!
 //! Source: AMQP 0-9-1, section 1.1, "reply-code", and the rules of its XML.
 
-ghost use Rattle.std.specs.Prelude.{◌≡◌, ◌==◌, ◌||◌, List, Some, None, true, false, Option, IsSome, option_map};
+ghost use Rattle.std.specs.Prelude.{◌≡◌, ◌<◌, ◌==◌, ◌||◌, ◌&&◌, not, List, Some, None, true, false, Option, IsSome, is_some, length, option_map};
 ghost use Rattle.std.specs.Option.{option_copied};
 ghost use Rattle.model.specs.Words.{Text as Name};
 ghost use Rattle.model.specs.Broker.{Broker};
@@ -10,15 +10,19 @@ ghost use Rattle.model.specs.Broker.{Channel as Seen};
 ghost use Rattle.model.specs.Topology.{Topology as Handed};
 ghost use Rattle.model.specs.Step as said;
 ghost use Rattle.model.specs.Step.{greatest};
-ghost use Rattle.model.specs.declared.methods.Method.TheVariants.{BasicPublish, QueuePurge, BasicQos};
-ghost use Rattle.broker.specs.Judged.{seen, seen_if, HasChannel, Judges};
+ghost use Rattle.model.specs.Prefetch.{has_tag_left};
+ghost use Rattle.model.specs.Deliveries.{first_ready};
+ghost use Rattle.depot.specs.Store.{queue_at};
+ghost use Rattle.model.specs.declared.methods.Method.TheVariants.{BasicPublish, QueuePurge, BasicQos, BasicGet};
+ghost use Rattle.broker.specs.Judged.{seen, seen_if, HasChannel, HasStore, Judges};
 ghost use Rattle.channel.specs.Open.{open_in};
 ghost use Rattle.broker.specs.Links.{limits_of, channel_seen};
 
 use crate::links::Link;
 use channel::Channel;
+use depot::Depot;
 use kept_routes::{Access, Router};
-use model::{Method, Publish, Purge, Qos};
+use model::{Get, Method, Publish, Purge, Qos};
 
 /// Why a command is not performed.
 #[derive(Clone, Copy, Drop)]
@@ -39,6 +43,8 @@ pub(crate) enum Act<'a> {
     Publish(&'a Publish),
     /// The queue at this place is purged.
     Purge(usize, &'a Purge),
+    /// The first ready message of the queue at this place is given out.
+    Get(usize, &'a Get),
     /// The channel is limited as this qos says.
     Limit(&'a Qos),
     /// The client closes the channel; true where the server has closed it too and awaits close-ok.
@@ -135,6 +141,30 @@ fn judge_purge<'a>(router: &Router, purge: &'a Purge) -> Result<Act<'a>, Refusal
     }
 }
 
+/// Whether the queue at this place has a message that can be given out, and no delivery tag is left for it.
+fn lacks_tag(depot: &Depot, channel: &Channel, place: usize) -> bool
+    requires { place < length depot.now.topology.queues }
+    ensures { result ≡ (is_some (first_ready (queue_at depot.now place)) && not (has_tag_left channel.now.given.next_tag)) }
+{
+    depot.first_ready(place).is_some() && !channel.has_tag_left()
+}
+
+/// A get on an open channel. The queue must be there, and a delivery tag left for its message.
+fn judge_get<'a>(depot: &Depot, channel: &Channel, get: &'a Get) -> Result<Act<'a>, Refusal>
+    ensures { (b : Broker) (names : List Name) → HasStore b depot.now → Judges depot.now.topology b (Some (open_in names channel.now)) (BasicGet get.now) (said.refusal_of_get depot.now.topology b (open_in names channel.now) get.now) result }
+{
+    let place = match depot.topology().queue_at(get.queue.as_bytes()) {
+        Some(place) => place,
+        None => return Err(Refusal::Channel(404)),
+    };
+    depot.is_named(place);
+    if lacks_tag(depot, channel, place) {
+        Err(Refusal::Connection(541))
+    } else {
+        Ok(Act::Get(place, get))
+    }
+}
+
 /// A qos on an open channel. A limit by the size of messages is not implemented.
 fn judge_qos(qos: &Qos) -> Result<Act<'_>, Refusal>
     ensures { (t : Handed) (b : Broker) (ch : Seen) → Judges t b (Some ch) (BasicQos qos.now) (said.refusal_of_qos qos.now) result }
@@ -148,18 +178,20 @@ fn judge_qos(qos: &Qos) -> Result<Act<'_>, Refusal>
 
 /// A method on an open channel. One that is not built yet is not implemented.
 fn judge_on_open<'a>(
-    router: &Router,
-    published: u64,
+    depot: &Depot,
     channel: &Channel,
     method: &'a Method,
 ) -> Result<Act<'a>, Refusal>
     requires { channel.now.is_closing ≡ false }
-    ensures { (b : Broker) (names : List Name) → b.published ≡ published → Judges router.now b (Some (open_in names channel.now)) method.now (said.refusal_of router.now b (open_in names channel.now) method.now) result }
+    ensures { (b : Broker) (names : List Name) → HasStore b depot.now → Judges depot.now.topology b (Some (open_in names channel.now)) method.now (said.refusal_of depot.now.topology b (open_in names channel.now) method.now) result }
 {
     match method {
         Method::ConfirmSelect { no_wait } => Ok(Act::Select(*no_wait)),
-        Method::BasicPublish(publish) => judge_publish(router, published, channel, publish),
-        Method::QueuePurge(purge) => judge_purge(router, purge),
+        Method::BasicPublish(publish) => {
+            judge_publish(depot.router(), depot.published(), channel, publish)
+        }
+        Method::QueuePurge(purge) => judge_purge(depot.router(), purge),
+        Method::BasicGet(get) => judge_get(depot, channel, get),
         Method::BasicQos(qos) => judge_qos(qos),
         Method::ChannelClose(_) => Ok(Act::CloseChannel(false)),
         Method::ChannelCloseOk
@@ -191,14 +223,13 @@ fn is_of_connection(method: &Method) -> bool
 /// A method on a channel that awaits nothing, of a connection that runs: on channel 0 only a close of the connection is
 /// known, and elsewhere no method of its class; a channel that is not open knows no method.
 fn judge_on_number<'a>(
-    router: &Router,
-    published: u64,
+    depot: &Depot,
     link: &Link,
     number: u16,
     method: &'a Method,
 ) -> Result<Act<'a>, Refusal>
     requires { (names : List Name) → said.is_awaiting (channel_seen names link.now number) ≡ false }
-    ensures { (b : Broker) (names : List Name) → b.published ≡ published → Judges router.now b (channel_seen names link.now number) method.now (said.refusal router.now b (limits_of link.now) number method.now (channel_seen names link.now number)) result }
+    ensures { (b : Broker) (names : List Name) → HasStore b depot.now → Judges depot.now.topology b (channel_seen names link.now number) method.now (said.refusal depot.now.topology b (limits_of link.now) number method.now (channel_seen names link.now number)) result }
 {
     if number == 0 {
         return judge_on_zero(method);
@@ -211,7 +242,7 @@ fn judge_on_number<'a>(
     }
     match link.channel(number) {
         None => Err(Refusal::Connection(504)),
-        Some(channel) => judge_on_open(router, published, channel, method),
+        Some(channel) => judge_on_open(depot, channel, method),
     }
 }
 
@@ -227,18 +258,17 @@ fn is_awaiting(channel: Option<&Channel>) -> bool
 
 /// A method of a connection that runs.
 pub(crate) fn judge<'a>(
-    router: &Router,
-    published: u64,
+    depot: &Depot,
     link: &Link,
     number: u16,
     method: &'a Method,
 ) -> Result<Act<'a>, Refusal>
-    ensures { (b : Broker) (names : List Name) → b.published ≡ published → Judges router.now b (channel_seen names link.now number) method.now (said.refusal router.now b (limits_of link.now) number method.now (channel_seen names link.now number)) result }
+    ensures { (b : Broker) (names : List Name) → HasStore b depot.now → Judges depot.now.topology b (channel_seen names link.now number) method.now (said.refusal depot.now.topology b (limits_of link.now) number method.now (channel_seen names link.now number)) result }
 {
     if is_awaiting(link.channel(number)) {
         judge_while_closing(method)
     } else {
-        judge_on_number(router, published, link, number, method)
+        judge_on_number(depot, link, number, method)
     }
 }
 

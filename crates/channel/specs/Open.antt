@@ -1,11 +1,12 @@
 -- An open channel as it is kept, with queues by their places in the file, and as the model has it, with queues by their names.
-use Rattle.std.specs.Prelude.{ℕ, List, [], map, Bool, Option, slice_index_or}
+use Rattle.std.specs.Prelude.{ℕ, ◌+◌, ◌-◌, List, [], map, Bool, Option, slice_index_or}
 use Rattle.model.specs.Words.{Text}
 use Rattle.model.specs.Broker as seen
 use Rattle.model.specs.Settling.{kept}
 use Rattle.model.specs.declared.methods.Qos.{Qos}
+use Rattle.model.specs.declared.messages.Taker.{Taker}
 use Rattle.channel.specs.Outstanding.{tag_of}
-use Rattle.channel.specs.Deliveries.{Given, with_limit}
+use Rattle.channel.specs.Deliveries.{Given, with_limit, with_given}
 use Rattle.channel.specs.declared.pending.Outstanding.{Outstanding}
 use Rattle.channel.specs.declared.consumers.Consumer.{Consumer}
 
@@ -24,6 +25,14 @@ nothing_given room seats = record { next_tag = 1; next_number = 1; next_name = 1
 -- the channel with the limit that a qos sets (AMQP 0-9-1, basic.qos)
 abbrev pub limited : Open → Qos → Open
 limited ch m = record ch { given = with_limit ch.given m.prefetch_count m.global }
+
+-- the channel on which a message of the queue at this place was given out under the next tag, and waits to be settled (AMQP 0-9-1, basic.get-ok)
+abbrev pub given_on : Open → ℕ → ℕ → Taker → Open
+given_on ch queue arrival by = record ch { given = with_given ch.given queue arrival by (ch.given.room - 1) }
+
+-- the same of a message that needs no acknowledgement
+abbrev pub settled_on : Open → Open
+settled_on ch = record ch { given = record ch.given { next_tag = ch.given.next_tag + 1 } }
 
 -- the channel without what this tag settles, and with so much room (AMQP 0-9-1, basic.ack)
 abbrev pub without_settled : Open → ℕ → Bool → ℕ → Open

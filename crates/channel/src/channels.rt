@@ -1,15 +1,16 @@
 //! What is kept of an open channel.
 
-ghost use Rattle.std.specs.Prelude.{◌≡◌, None, true, false, option_map};
+ghost use Rattle.std.specs.Prelude.{◌≡◌, ◌<◌, ◌≤◌, None, true, false, OnOk, OnErr, option_map};
 ghost use Rattle.model.specs.Settling.{settled};
 ghost use Rattle.model.specs.Step.{started, next_of, is_spent};
+ghost use Rattle.model.specs.Prefetch.{has_tag_left};
 ghost use Rattle.channel.specs.Outstanding.{tag_of};
-ghost use Rattle.channel.specs.Open.{nothing_given, limited, without_settled};
+ghost use Rattle.channel.specs.Open.{nothing_given, limited, given_on, settled_on, without_settled};
 
 use crate::deliveries::Deliveries;
 use crate::pending::Outstanding;
-use model::Qos;
-use std::alloc::Global;
+use model::{Qos, Taker};
+use std::alloc::{AllocError, Global};
 use std::marker::Model;
 
 /// What is kept of an open channel. Source: AMQP 0-9-1, section 1.5, "channel"; RabbitMQ, "Publisher Confirms".
@@ -102,6 +103,46 @@ impl Channel {
         ensures { self.new ≡ limited self.old qos.now }
     {
         self.deliveries.limit(qos.prefetch_count, qos.global);
+    }
+
+    /// Whether a delivery tag is left.
+    pub fn has_tag_left(&self) -> bool
+        ensures { result ≡ has_tag_left self.now.given.next_tag }
+    {
+        self.deliveries.has_tag_left()
+    }
+
+    /// The delivery tag under which the next message is given out.
+    pub fn next_tag(&self) -> u64
+        ensures { result ≡ self.now.given.next_tag }
+    {
+        self.deliveries.next_tag()
+    }
+
+    /// Makes room for so many messages more that are given out. Where memory is wanting nothing changes.
+    pub fn reserve(&mut self, more: usize) -> Result<(), AllocError>
+        ensures same { self.new ≡ record self.old { given = record self.old.given { room = self.new.given.room } } }
+        ensures room { OnOk result (more ≤ self.new.given.room) }
+        ensures err { OnErr result (self.new ≡ self.old) }
+    {
+        self.deliveries.reserve(more)
+    }
+
+    /// A message of the queue at this place is given out under the next tag, and waits to be settled.
+    pub fn give(&mut self, queue: usize, arrival: u64, by: Taker)
+        requires left { has_tag_left self.old.given.next_tag ≡ true }
+        requires room { 0 < self.old.given.room }
+        ensures { self.new ≡ given_on self.old queue arrival by }
+    {
+        self.deliveries.give(queue, arrival, by);
+    }
+
+    /// A message is given out under the next tag that needs no acknowledgement.
+    pub fn give_settled(&mut self)
+        requires { has_tag_left self.old.given.next_tag ≡ true }
+        ensures { self.new ≡ settled_on self.old }
+    {
+        self.deliveries.give_settled();
     }
     /// What this tag settles, in tag order; none where it is refused, with 406. Source: AMQP 0-9-1, basic.ack.
     pub fn settle(&self, tag: u64, multiple: bool) -> Option<&[Outstanding]>

@@ -16,7 +16,7 @@ pub struct Consumer {
     pub number: u64,
     pub tag: Text,
     /// The queue's place in the file of definitions.
-    pub queue: u16,
+    pub queue: usize,
     pub no_ack: bool,
     /// How many messages it may hold; 0 is no limit.
     pub limit: u16,

@@ -55,12 +55,13 @@ impl Deliveries {
         }
     }
 
-    /// Makes room for so many messages more that are given out. Nothing else changes, also where memory is wanting.
+    /// Makes room for so many messages more that are given out. Where memory is wanting nothing changes.
     pub fn reserve(&mut self, more: usize) -> Result<(), AllocError>
         ensures same { self.new ≡ record self.old { room = self.new.room } }
         ensures kept { self.old.room ≤ self.new.room }
         ensures room { OnOk result (more ≤ self.new.room) }
         ensures full { OnErr result (self.old.room < more) }
+        ensures err { OnErr result (self.new ≡ self.old) }
     {
         self.pending.reserve(more)
     }
@@ -88,6 +89,13 @@ impl Deliveries {
         self.pending.all()
     }
 
+    /// The delivery tag under which the next message is given out.
+    pub fn next_tag(&self) -> u64
+        ensures { result ≡ self.now.next_tag }
+    {
+        self.next_tag
+    }
+
     /// Whether a delivery tag is left.
     pub fn has_tag_left(&self) -> bool
         ensures { result ≡ has_tag_left self.now.next_tag }
@@ -96,7 +104,7 @@ impl Deliveries {
     }
 
     /// A message of the queue at this place is given out, and waits to be settled. Tells its tag.
-    pub fn give(&mut self, queue: u16, arrival: u64, by: Taker) -> u64
+    pub fn give(&mut self, queue: usize, arrival: u64, by: Taker) -> u64
         requires left { has_tag_left self.old.next_tag ≡ true }
         requires room { 0 < self.old.room }
         ensures tag { result ≡ self.old.next_tag }
@@ -148,7 +156,7 @@ impl Deliveries {
     /// Makes a consumer of this tag. Tells its number. Refused, in this order: where a consumer of the channel has the tag
     /// (530), where the channel has 256 consumers (506), where the numbers are spent (541), and for want of memory, only where
     /// there was no room for one more. Then nothing changes.
-    pub fn consume(&mut self, tag: Text, queue: u16, no_ack: bool) -> Result<u64, Refusal>
+    pub fn consume(&mut self, tag: Text, queue: usize, no_ack: bool) -> Result<u64, Refusal>
         ensures { Consumes self.old tag queue no_ack result self.new }
     {
         if self.seats.has(tag.as_bytes()) {
@@ -182,7 +190,7 @@ impl Deliveries {
     pub fn consume_unnamed(
         &mut self,
         alloc: Global,
-        queue: u16,
+        queue: usize,
         no_ack: bool,
     ) -> Result<u64, Refusal>
         ensures { ConsumesUnnamed self.old queue no_ack result self.new }

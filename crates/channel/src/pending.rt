@@ -11,7 +11,7 @@ pub struct Outstanding {
     /// The delivery tag.
     pub tag: u64,
     /// The queue's place in the file of definitions.
-    pub queue: u16,
+    pub queue: usize,
     /// The queue's own number of the message's arrival there.
     pub arrival: u64,
     /// To whom it was given.
@@ -86,17 +86,22 @@ impl Pending {
         self.start = forget_in(&mut self.items, self.start, tag, multiple);
     }
 
-    /// Makes room for so many more, where what was settled at the front leaves none.
+    /// Makes room for so many more: by what was settled at the front, where that is most of what is kept and is enough, else by a
+    /// growth.
     pub(crate) fn reserve(&mut self, more: usize) -> Result<(), AllocError>
         ensures outstanding { self.new.outstanding ≡ self.old.outstanding }
         ensures kept { self.old.room ≤ self.new.room }
         ensures room { OnOk result (more ≤ self.new.room) }
         ensures full { OnErr result (self.old.room < more) }
+        ensures err { OnErr result (self.new ≡ self.old) }
     {
-        if self.start > self.items.len() / 2 {
-            let start = self.start;
+        let start = self.start;
+        if start > self.items.len() / 2
+            && more <= self.items.capacity() - (self.items.len() - start)
+        {
             drop_front(&mut self.items, start);
             self.start = 0;
+            return Ok(());
         }
         self.items.reserve(more)
     }

@@ -43,12 +43,11 @@ fn note_leaving(
     ensures len { vec_len notes.new ≤ vec_len notes.old + 1 }
     ensures capacity { vec_capacity notes.new ≡ vec_capacity notes.old }
 {
-    let place = given.queue as usize;
     let holder = holder_of(connection, channel, given);
-    if let Some(entry) = depot.held(place, &holder, given.arrival) {
+    if let Some(entry) = depot.held(given.queue, &holder, given.arrival) {
         notes.push_reserved(Note::Left {
             number: entry.message.number(),
-            queue: depot.topology().queue(place).name.clone()?,
+            queue: depot.topology().queue(given.queue).name.clone()?,
             cause,
         });
     }
@@ -82,7 +81,7 @@ fn take_out(depot: &mut Depot, connection: u64, channel: u16, gone: &[Outstandin
 {
     for given in gone {
         let holder = holder_of(connection, channel, given);
-        depot.remove(given.queue as usize, &holder, given.arrival);
+        depot.remove(given.queue, &holder, given.arrival);
     }
 }
 
@@ -93,7 +92,7 @@ fn put_back(depot: &mut Depot, connection: u64, channel: u16, gone: &[Outstandin
 {
     for given in gone {
         let holder = holder_of(connection, channel, given);
-        depot.release(given.queue as usize, &holder, given.arrival);
+        depot.release(given.queue, &holder, given.arrival);
     }
 }
 

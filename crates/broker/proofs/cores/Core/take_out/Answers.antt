@@ -1,0 +1,35 @@
+use Rattle.std.proofs.Common.{◌≡◌, ◌∙◌, ap, sym, subst, true, Option, Some}
+use Rattle.std.specs.Prelude.{option_map}
+use Rattle.model.specs.Broker.{Channel}
+use Rattle.model.specs.Prefetch.{has_tag_left}
+use Rattle.model.specs.Deliveries.{after_delivery}
+use Rattle.model.specs.Step.{Is, channel_or_new}
+use Rattle.model.specs.declared.messages.Taker.TheVariants as taker
+use Rattle.exchange_graph.specs.Marks.{queue_name}
+use Rattle.channel.specs.Open.{Open, open_in}
+use Rattle.broker.specs.Links.{channel_of}
+use Rattle.broker.specs.State.{Kept, broker_of, topology_of, names_of}
+use Rattle.broker.proofs.Stepping.{kept_there, kept_one}
+use Rattle.broker.proofs.Getting.{can_give, taken_is}
+use Rattle.broker.proofs.cores.Core.take_out.Goals as goal
+
+pub give_settled-requires-clause-there : goal.give_settled-requires-clause-there
+give_settled-requires-clause-there c = kept_there (record { store = c.self.inside.depot; links = c.self.inside.links }) c.args.self.now c.args.connection c.args.channel c.self.view_is c.requires.there
+
+pub give_settled-requires-clause-tag : goal.give_settled-requires-clause-tag
+give_settled-requires-clause-tag c =
+    let old : Kept = record { store = c.self.inside.depot; links = c.self.inside.links } in
+    can_give (names_of old) (channel_of old.links c.args.connection c.args.channel)
+    (subst (λ (k : Kept). has_tag_left (channel_or_new ((broker_of k).channel c.args.connection c.args.channel)).next_tag ≡ true) (sym c.self.view_is) c.requires.tag)
+
+pub returns-clause-left : goal.returns-clause-left
+returns-clause-left c =
+    let connection = c.args.connection in
+    let number = c.args.channel in
+    let old : Kept = record { store = c.self.inside.depot; links = c.self.inside.links } in
+    let new : Kept = record { store = c.take_first.new.self; links = c.give_settled.new.self } in
+    let there = kept_one (channel_of old.links connection number) (kept_there old c.args.self.now connection number c.self.view_is c.requires.there) in
+    let seen : open_in (names_of old) there.0 ≡ channel_or_new ((broker_of old).channel connection number) = ap (λ (o : Option Open). channel_or_new (option_map (open_in (names_of old)) o)) (sym there.1) in
+    rw (← c.self.view_is)
+    (subst (λ (ch : Channel). Is (after_delivery (broker_of old) connection number ch true (queue_name (topology_of old) c.args.place) taker.Get) (broker_of new)) seen
+    (taken_is old new connection number c.args.place there.0 c.is_named.ensures c.take_first.ensures.store (c.give_settled.ensures there.0 there.1)))
