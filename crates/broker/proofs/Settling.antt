@@ -26,6 +26,7 @@ use Rattle.broker.specs.Placed.{AreWithin, ArePlaced}
 use Rattle.broker.specs.Settled.{leaving_notes, without_one, without_all, returned_one, returned_all}
 use Rattle.broker.specs.State.{Kept, broker_of, topology_of, names_of}
 use Rattle.broker.proofs.Settlements.{AreNamed, refused_seen, settled_seen, kept_seen, gone_within, gone_rises, kept_within, left_by_names, returned_by_names}
+use Rattle.broker.proofs.Placing.{placed_put}
 use Rattle.broker.proofs.Stepping.{seen_put}
 
 -- ---- what stays
@@ -73,12 +74,9 @@ channels_are old new c h tag room multiple ch same put d k =
 -- what stays outstanding was given out from queues that are there
 pub stays_placed : (old new : Kept) (c h tag room : ℕ) (multiple : Bool) (ch : Open) → topology_of new ≡ topology_of old → channel_of old.links c h ≡ Some ch
     → Puts old.links c h (Some (without_settled ch tag multiple room)) new.links → ArePlaced old → ArePlaced new
-stays_placed old new c h tag room multiple ch same there put placed d k x is =
-    subst (λ (t : Topology). AreWithin t x.given.outstanding) (sym same) (go (d == c && k == h) (sym (put.channels d k) ∙ is))
-  where
-    go : (b : Bool) → (if b then Some (without_settled ch tag multiple room) else channel_of old.links d k) ≡ Some x → AreWithin (topology_of old) x.given.outstanding
-    go true e = subst (λ (y : Open). AreWithin (topology_of old) y.given.outstanding) (same_Some (without_settled ch tag multiple room) x e) (kept_within (topology_of old) tag multiple ch.given.outstanding (placed c h ch there))
-    go false e = placed d k x e
+stays_placed old new c h tag room multiple ch same there put placed =
+    placed_put old new c h (Some (without_settled ch tag multiple room)) same put
+    (λ k e. subst (λ (x : Open). AreWithin (topology_of old) x.given.outstanding) (same_Some (without_settled ch tag multiple room) k e) (kept_within (topology_of old) tag multiple ch.given.outstanding (placed c h ch there))) placed
 
 -- a tag that is not refused settles something
 pub not_none : (names : List Text) (tag : ℕ) (multiple : Bool) (ch : Open) → refusal_of_settling (open_in names ch) tag multiple ≡ None → settled tag_of tag multiple ch.given.outstanding ≡ None → ⊥

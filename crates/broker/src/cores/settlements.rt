@@ -102,7 +102,6 @@ impl Core {
     ghost use Rattle.model.specs.Deliveries.{Leaves, Returns, of_rejected};
     ghost use Rattle.model.specs.Step.{Settles, channel_or_new, refusal_of_settling, reply};
     ghost use Rattle.model.specs.declared.methods.Method.TheVariants.{BasicRecoverOk};
-    ghost use Rattle.broker.specs.Placed.{ArePlaced};
     ghost use Rattle.broker.specs.State.{broker_of, topology_of};
 
     /// What this tag settles leaves its queues for this cause, and is no longer outstanding. All that takes memory is made
@@ -117,12 +116,10 @@ impl Core {
         cause: Cause,
     ) -> Result<Step, AllocError>
         requires agreed { IsAgreed (broker_of self.old) }
-        requires placed { ArePlaced self.old }
         requires there { IsSome ((broker_of self.old).channel connection channel) }
         requires accepted { refusal_of_settling (channel_or_new ((broker_of self.old).channel connection channel)) tag multiple ≡ None }
         ensures ok { IfOk result (λ s. Settles (Leaves cause) (broker_of self.old) connection channel (channel_or_new ((broker_of self.old).channel connection channel)) tag multiple [] s.sends.items s.notes.items (broker_of self.new)) }
         ensures own { IfOk result (λ s. AreOwn connection s.sends.items) }
-        ensures placed { ArePlaced self.new }
         ensures topology { topology_of self.new ≡ topology_of self.old }
         ensures err { OnErr result (self.new ≡ self.old) }
     {
@@ -139,11 +136,9 @@ impl Core {
 
     /// What this tag settles is ready again, each message in its place, and is no longer outstanding. It takes no memory.
     pub(crate) fn requeue(&mut self, connection: u64, channel: u16, tag: u64, multiple: bool)
-        requires placed { ArePlaced self.old }
         requires there { IsSome ((broker_of self.old).channel connection channel) }
         requires accepted { refusal_of_settling (channel_or_new ((broker_of self.old).channel connection channel)) tag multiple ≡ None }
         ensures settles { (sends : List Sent) → Settles Returns (broker_of self.old) connection channel (channel_or_new ((broker_of self.old).channel connection channel)) tag multiple sends sends [] (broker_of self.new) }
-        ensures placed { ArePlaced self.new }
         ensures topology { topology_of self.new ≡ topology_of self.old }
     {
         let Some(gone) = self.links.settle(connection, channel, tag, multiple) else {
@@ -166,12 +161,10 @@ impl Core {
         requeue: bool,
     ) -> Result<Step, AllocError>
         requires agreed { IsAgreed (broker_of self.old) }
-        requires placed { ArePlaced self.old }
         requires there { IsSome ((broker_of self.old).channel connection channel) }
         requires accepted { refusal_of_settling (channel_or_new ((broker_of self.old).channel connection channel)) tag multiple ≡ None }
         ensures ok { IfOk result (λ s. Settles (of_rejected requeue) (broker_of self.old) connection channel (channel_or_new ((broker_of self.old).channel connection channel)) tag multiple [] s.sends.items s.notes.items (broker_of self.new)) }
         ensures own { IfOk result (λ s. AreOwn connection s.sends.items) }
-        ensures placed { ArePlaced self.new }
         ensures topology { topology_of self.new ≡ topology_of self.old }
         ensures err { OnErr result (self.new ≡ self.old) }
         ensures quiet { requeue ≡ true → IsOk result }
@@ -191,11 +184,9 @@ impl Core {
         connection: u64,
         channel: u16,
     ) -> Result<Step, AllocError>
-        requires placed { ArePlaced self.old }
         requires there { IsSome ((broker_of self.old).channel connection channel) }
         ensures ok { IfOk result (λ s. Settles Returns (broker_of self.old) connection channel (channel_or_new ((broker_of self.old).channel connection channel)) 0 true (reply connection channel BasicRecoverOk ∷ []) s.sends.items s.notes.items (broker_of self.new)) }
         ensures own { IfOk result (λ s. AreOwn connection s.sends.items) }
-        ensures placed { ArePlaced self.new }
         ensures topology { topology_of self.new ≡ topology_of self.old }
         ensures err { OnErr result (self.new ≡ self.old) }
     {

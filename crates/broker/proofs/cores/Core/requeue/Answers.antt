@@ -27,7 +27,7 @@ pub put_back-requires : goal.put_back-requires
 put_back-requires c =
     let old : Kept = record { store = c.self.inside.depot; links = c.self.inside.links } in
     let ch = kept_one (channel_of old.links c.args.connection c.args.channel) (kept_there old c.args.self.now c.args.connection c.args.channel c.self.view_is c.requires.there) in
-    let placed : ArePlaced old = subst ArePlaced (sym c.self.view_is) c.requires.placed in
+    let placed : ArePlaced old = c.self.invariant in
     let all : settled tag_of c.args.tag c.args.multiple ch.0.given.outstanding ≡ Some c.in-Some.gone.now = sym (c.settle.ensures ch.0 ch.1) ∙ ap (option_map (λ s. s.now)) c.in-Some.is in
     gone_within (topology_of old) c.args.tag c.args.multiple ch.0.given.outstanding c.in-Some.gone.now all (placed c.args.connection c.args.channel ch.0 ch.1)
 
@@ -38,7 +38,7 @@ returns-clause-settles c = λ sends.
     let old : Kept = record { store = c.self.inside.depot; links = c.self.inside.links } in
     let new : Kept = record { store = c.put_back.new.depot; links = c.forget.new.self } in
     let ch = kept_one (channel_of old.links connection number) (kept_there old c.args.self.now connection number c.self.view_is c.requires.there) in
-    let placed : ArePlaced old = subst ArePlaced (sym c.self.view_is) c.requires.placed in
+    let placed : ArePlaced old = c.self.invariant in
     let all : settled tag_of c.args.tag c.args.multiple ch.0.given.outstanding ≡ Some c.in-Some.gone.now = sym (c.settle.ensures ch.0 ch.1) ∙ ap (option_map (λ s. s.now)) c.in-Some.is in
     let seen : open_in (names_of old) ch.0 ≡ channel_or_new ((broker_of old).channel connection number) = ap (λ (o : Option Open). channel_or_new (option_map (open_in (names_of old)) o)) (sym ch.1) in
     subst (λ (k : Kept). Settles Returns (broker_of k) connection number (channel_or_new ((broker_of k).channel connection number)) c.args.tag c.args.multiple sends sends [] (broker_of new)) c.self.view_is
@@ -52,7 +52,7 @@ returns-clause-placed c =
     let old : Kept = record { store = c.self.inside.depot; links = c.self.inside.links } in
     let new : Kept = record { store = c.put_back.new.depot; links = c.forget.new.self } in
     let ch = kept_one (channel_of old.links connection number) (kept_there old c.args.self.now connection number c.self.view_is c.requires.there) in
-    let placed : ArePlaced old = subst ArePlaced (sym c.self.view_is) c.requires.placed in
+    let placed : ArePlaced old = c.self.invariant in
     stays_placed old new connection number c.args.tag (room_in (channel_of new.links connection number)) c.args.multiple ch.0 (topology_returned connection number c.in-Some.gone.now old new c.put_back.ensures) ch.1 (c.forget.ensures ch.0 ch.1) placed
 
 pub returns-clause-topology : goal.returns-clause-topology
