@@ -59,8 +59,8 @@ returns-clause-ok c =
     (rw (sent, noted)
     (left_is c.places_are_named.ensures c.args.cause old new connection number c.args.tag (room_in (channel_of new.links connection number)) c.args.multiple ch.0 c.in-Some.gone.now c.is_whole.ensures agreed placed ch.1 all c.take_out.ensures (c.forget.ensures ch.0 ch.1))))
 
-pub returns-clause-placed : goal.returns-clause-placed
-returns-clause-placed c =
+pub invariant_of-self : goal.invariant_of-self
+invariant_of-self c =
     let connection = c.args.connection in
     let number = c.args.channel in
     let old : Kept = record { store = c.self.inside.depot; links = c.self.inside.links } in

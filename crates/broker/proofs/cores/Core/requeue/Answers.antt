@@ -45,8 +45,8 @@ returns-clause-settles c = λ sends.
     (subst (λ (x : Channel). Settles Returns (broker_of old) connection number x c.args.tag c.args.multiple sends sends [] (broker_of new)) seen
     (returned_is c.places_are_named.ensures old new connection number c.args.tag (room_in (channel_of new.links connection number)) c.args.multiple ch.0 c.in-Some.gone.now sends c.is_whole.ensures placed ch.1 all c.put_back.ensures (c.forget.ensures ch.0 ch.1)))
 
-pub returns-clause-placed : goal.returns-clause-placed
-returns-clause-placed c =
+pub invariant_of-self : goal.invariant_of-self
+invariant_of-self c =
     let connection = c.args.connection in
     let number = c.args.channel in
     let old : Kept = record { store = c.self.inside.depot; links = c.self.inside.links } in
