@@ -4,4 +4,6 @@ mod Judging
 mod Opening
 mod Placing
 mod Purging
+mod Settlements
+mod Settling
 mod Stepping

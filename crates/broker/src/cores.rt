@@ -4,6 +4,7 @@ mod closing;
 mod getting;
 mod publishing;
 mod running;
+mod settlements;
 mod settling;
 
 use crate::closes::{connection_close, connection_close_ok};
