@@ -5,6 +5,7 @@ mod Judging
 mod Opening
 mod Placing
 mod Purging
+mod Rejecting
 mod Settlements
 mod Settling
 mod Stepping

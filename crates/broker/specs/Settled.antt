@@ -1,5 +1,7 @@
 -- What was given out and is settled, by the places of its queues.
-use Rattle.std.specs.Prelude.{ℕ, List, [], ◌∷◌, ◌++◌, filter, find, flat_map, map, not}
+use Rattle.std.specs.Prelude.{ℕ, List, [], ◌∷◌, ◌++◌, filter, find, flat_map, map, not, Bool, slice_get}
+use Rattle.model.specs.Topology.{Topology}
+use Rattle.model.specs.Step.{has_dead_letters}
 use Rattle.model.specs.Entries.{is_under, is_held_as, freed}
 use Rattle.model.specs.Deliveries.{left_note}
 use Rattle.model.specs.declared.messages.Entry.{Entry}
@@ -21,6 +23,10 @@ leaving_note cause c h s o = left_note cause (queue_name s.topology o.queue) (fi
 -- the same of each of these
 abbrev pub leaving_notes : Cause → ℕ → ℕ → Store → List Outstanding → List Note
 leaving_notes cause c h s given = flat_map (leaving_note cause c h s) given
+
+-- it goes to a dead-letter exchange where it is rejected (RabbitMQ, "Dead Letter Exchanges")
+abbrev pub is_dead_lettered : Topology → Outstanding → Bool
+is_dead_lettered t o = has_dead_letters (slice_get t.queues o.queue)
 
 -- the queues without this message
 abbrev pub without_one : ℕ → ℕ → Store → Outstanding → Store
