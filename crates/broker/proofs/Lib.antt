@@ -1,7 +1,11 @@
+mod Agreeing
 mod Exchanges
 mod Getting
 mod Judging
 mod Opening
 mod Placing
 mod Purging
+mod Rejecting
+mod Settlements
+mod Settling
 mod Stepping

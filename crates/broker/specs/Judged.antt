@@ -1,10 +1,10 @@
 -- What is decided of a command.
-use Rattle.std.specs.Prelude.{◌≡◌, ◌<◌, length, ℕ, Option, Some, None, Result, Ok, Err, IsSome}
+use Rattle.std.specs.Prelude.{◌≡◌, ◌<◌, ◌⊎◌, Bool, true, false, length, ℕ, Option, Some, None, Result, Ok, Err, IsSome}
 use Rattle.model.specs.Words.{Text}
 use Rattle.model.specs.Topology.{Topology}
 use Rattle.model.specs.Broker.{Broker, Channel, Connection}
 use Rattle.model.specs.Step as step
-use Rattle.model.specs.Step.{Of_channel, Of_connection, refusal, refusal_of_large, refusal_of_publish, refusal_of_get, channel_or_new}
+use Rattle.model.specs.Step.{Of_channel, Of_connection, refusal, refusal_of_large, refusal_of_publish, refusal_of_get, refusal_of_settling, channel_or_new}
 use Rattle.model.specs.declared.methods.Close.{Close}
 use Rattle.model.specs.declared.methods.Method.{Method}
 use Rattle.model.specs.declared.methods.Method.TheVariants as method
@@ -44,12 +44,23 @@ abbrev pub IsLargeIgnored : Broker → ℕ → ℕ → Option Connection → Typ
 IsLargeIgnored b c h None = Unit {0}
 IsLargeIgnored b c h (Some conn) = refusal_of_large conn h (b.channel c h) ≡ step.Ignored
 
--- an event that wants no memory: an opening, a loss, a pause and its end, and what is ignored
+-- a rejection that requeues
+abbrev pub is_requeueing : Method → Bool
+is_requeueing (method.BasicReject m) = m.requeue
+is_requeueing (method.BasicNack m) = m.requeue
+is_requeueing _ = false
+
+-- a rejection that requeues, and nothing stands against it
+abbrev pub IsRequeued : Topology → Broker → ℕ → ℕ → Method → Option Connection → Type 0
+IsRequeued t b c h m None = ⊥
+IsRequeued t b c h m (Some conn) = (is_requeueing m ≡ true) × (refusal t b conn h m (b.channel c h) ≡ None)
+
+-- an event that wants no memory: an opening, a loss, a pause and its end, what is ignored, and a rejection that requeues
 abbrev pub WantsNoMemory : Topology → Broker → Event → Type 0
 WantsNoMemory t b (event.Open c) = Unit {0}
 WantsNoMemory t b (event.First c bytes) = Unit {0}
 WantsNoMemory t b (event.Running c max k) = ⊥
-WantsNoMemory t b (event.Command c h m content) = IsIgnored t b c h m (b.connection c)
+WantsNoMemory t b (event.Command c h m content) = IsIgnored t b c h m (b.connection c) ⊎ IsRequeued t b c h m (b.connection c)
 WantsNoMemory t b (event.TooLarge c h) = IsLargeIgnored b c h (b.connection c)
 WantsNoMemory t b (event.Fault c code) = ⊥
 WantsNoMemory t b (event.Lose c) = Unit {0}
@@ -73,6 +84,10 @@ Asks t b ch m (act.Publish p) = (m ≡ method.BasicPublish p.now) × IsSome ch �
 Asks t b ch m (act.Purge place p) = (m ≡ method.QueuePurge p.now) × IsSome ch × IsPlaceOf t p.now.queue place
 Asks t b ch m (act.Get place g) = (m ≡ method.BasicGet g.now) × IsSome ch × IsPlaceOf t g.now.queue place × (refusal_of_get t b (channel_or_new ch) g.now ≡ None)
 Asks t b ch m (act.Limit q) = (m ≡ method.BasicQos q.now) × IsSome ch
+Asks t b ch m (act.Acknowledge a) = (m ≡ method.BasicAck a.now) × IsSome ch × (refusal_of_settling (channel_or_new ch) a.now.delivery_tag a.now.multiple ≡ None)
+Asks t b ch m (act.Reject r) = (m ≡ method.BasicReject r.now) × IsSome ch × (refusal_of_settling (channel_or_new ch) r.now.delivery_tag false ≡ None)
+Asks t b ch m (act.Nack n) = (m ≡ method.BasicNack n.now) × IsSome ch × (refusal_of_settling (channel_or_new ch) n.now.delivery_tag n.now.multiple ≡ None)
+Asks t b ch m act.Recover = (m ≡ method.BasicRecover true) × IsSome ch
 Asks t b ch m (act.CloseChannel is_closing) = (x : Close) × (m ≡ method.ChannelClose x) × IsSome ch × ((channel_or_new ch).is_closing ≡ is_closing)
 Asks t b ch m act.EndChannel = (m ≡ method.ChannelCloseOk) × IsSome ch
 Asks t b ch m act.CloseConnection = (x : Close) × (m ≡ method.ConnectionClose x)

@@ -4,3 +4,4 @@ pub mod Placed
 pub mod Judged
 pub mod Sent
 pub mod Purged
+pub mod Settled

@@ -79,6 +79,11 @@ pub record PutsIn (old : Linked) (h : ℕ) (ch : Option Open) (new : Linked) : T
   pub pause : new.is_paused ≡ old.is_paused
   pub channels : (k : ℕ) → channel_in new k ≡ with_one (channel_in old) h ch k
 
+-- how many messages more a channel can give out without memory
+abbrev pub room_in : Option Open → ℕ
+room_in None = 0
+room_in (Some ch) = ch.given.room
+
 -- This stands at the channel h of the connection c now, and everything else stays.
 pub record Puts (old : List (ℕ × Linked)) (c h : ℕ) (ch : Option Open) (new : List (ℕ × Linked)) : Type 0 where
   pub connections : (d : ℕ) → connection_of new d ≡ connection_of old d

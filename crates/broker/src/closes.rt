@@ -116,6 +116,14 @@ pub(crate) fn qos_ok(connection: u64, channel: u16) -> Send
     reply(connection, channel, Method::BasicQosOk)
 }
 
+/// basic.recover-ok.
+pub(crate) fn recover_ok(connection: u64, channel: u16) -> Send
+    ensures send { result ≡ said.reply connection channel seen.BasicRecoverOk }
+    ensures own { IsOwn connection result }
+{
+    reply(connection, channel, Method::BasicRecoverOk)
+}
+
 /// Nack where some routed queue was full, else ack.
 pub(crate) fn answer_of(is_some_full: bool) -> Answer
     ensures { result ≡ said.answer_of is_some_full }

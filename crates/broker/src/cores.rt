@@ -4,6 +4,7 @@ mod closing;
 mod getting;
 mod publishing;
 mod running;
+mod settlements;
 mod settling;
 
 use crate::closes::{connection_close, connection_close_ok};
@@ -12,7 +13,7 @@ use crate::refusals::{Act, Refusal, judge, judge_large};
 use crate::steps::Step;
 use depot::Depot;
 use exchange_graph::Topology;
-use model::{Content, Event, Ids, Method};
+use model::{Cause, Content, Event, Ids, Method};
 use std::alloc::{AllocError, Global};
 use std::marker::Model;
 
@@ -118,6 +119,31 @@ impl Core {
             Act::Purge(place, purge) => self.purge(alloc, connection, channel, place, purge),
             Act::Get(place, get) => self.get(alloc, connection, channel, place, get),
             Act::Limit(qos) => self.limit(alloc, connection, channel, qos),
+            Act::Acknowledge(ack) => self.leave(
+                alloc,
+                connection,
+                channel,
+                ack.delivery_tag,
+                ack.multiple,
+                Cause::Acked,
+            ),
+            Act::Reject(reject) => self.reject(
+                alloc,
+                connection,
+                channel,
+                reject.delivery_tag,
+                false,
+                reject.requeue,
+            ),
+            Act::Nack(nack) => self.reject(
+                alloc,
+                connection,
+                channel,
+                nack.delivery_tag,
+                nack.multiple,
+                nack.requeue,
+            ),
+            Act::Recover => self.recover(alloc, connection, channel),
             Act::CloseChannel(is_closing) => self.answer_close(
                 alloc, connection, channel, is_closing,
             ),

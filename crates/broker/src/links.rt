@@ -9,14 +9,13 @@ ghost use Rattle.std.specs.Prelude.{
   [],
   ℕ,
   None,
+  Option,
   Some,
   false,
   IsSome,
   IfOk,
   OnOk,
   OnErr,
-  ◌<◌,
-  true,
   replicate,
   slice_set,
   slice_index_or,
@@ -30,10 +29,10 @@ ghost use Rattle.model.specs.Words.{Text as Name};
 ghost use Rattle.model.specs.Broker.{new_channel};
 ghost use Rattle.model.specs.Step.{started, next_of};
 ghost use Rattle.model.specs.declared.methods.Qos.{Qos as Limit};
-ghost use Rattle.channel.specs.Open.{Open, open_in, limited, given_on, settled_on};
-ghost use Rattle.broker.specs.Links.{CanCount, CanGive, HasRoom, IsSet, SetsRoom};
+ghost use Rattle.channel.specs.Open.{Open, open_in, limited, given_on, settled_on, without_settled};
+ghost use Rattle.broker.specs.Links.{CanCount, CanGive, HasRoom, IsSet, SetsRoom, room_in};
 
-use channel::Channel;
+use channel::{Channel, Outstanding};
 use model::{Qos, Taker};
 use std::alloc::{AllocError, Global};
 use std::collections::HashMap;
@@ -129,6 +128,15 @@ fn give_settled_in(slot: &mut Option<Channel>)
     }
 }
 
+/// What this tag settles is no longer outstanding on this channel.
+fn forget_in(slot: &mut Option<Channel>, tag: u64, multiple: bool)
+    ensures { (ch : Open) → slot.old ≡ Some ch → slot.new ≡ Some (without_settled ch tag multiple (room_in slot.new)) }
+{
+    if let Some(channel) = slot {
+        channel.forget(tag, multiple);
+    }
+}
+
 /// The same of the channel of this number.
 fn select_at(channels: &mut [Option<Channel>], number: u16)
     ensures { (ch : Open) → slice_index_or channels.old number None ≡ Some ch → IsSet channels.old number (Some (record ch { confirm = started ch.confirm })) channels.new }
@@ -196,6 +204,16 @@ fn give_settled_at(channels: &mut [Option<Channel>], number: u16)
     }
 }
 
+/// The same of the channel of this number.
+fn forget_at(channels: &mut [Option<Channel>], number: u16, tag: u64, multiple: bool)
+    ensures { (ch : Open) → slice_index_or channels.old number None ≡ Some ch → IsSet channels.old number (Some (without_settled ch tag multiple (room_in (slice_index_or channels.new number None)))) channels.new }
+{
+    let at = number as usize;
+    if at < channels.len() {
+        forget_in(&mut channels[at], tag, multiple);
+    }
+}
+
 /// This stands at the channel of this number from now on.
 fn put_at(channels: &mut [Option<Channel>], number: u16, channel: Option<Channel>)
     requires { IsSome (slice_index_or channels.old number None) }
@@ -213,8 +231,10 @@ impl Link {
     ghost use Rattle.model.specs.Words.{Text as Name};
     ghost use Rattle.model.specs.Step.{started, next_of, channels_up_to};
     ghost use Rattle.model.specs.declared.methods.Qos.{Qos as Limit};
-    ghost use Rattle.channel.specs.Open.{Open, open_in, limited, given_on, settled_on};
-    ghost use Rattle.broker.specs.Links.{channel_in, PutsIn, CanCount, CanGive, HasRoom, SetsRoom};
+    ghost use Rattle.model.specs.Settling.{settled};
+    ghost use Rattle.channel.specs.Outstanding.{tag_of};
+    ghost use Rattle.channel.specs.Open.{Open, open_in, limited, given_on, settled_on, without_settled};
+    ghost use Rattle.broker.specs.Links.{channel_in, room_in, PutsIn, CanCount, CanGive, HasRoom, SetsRoom};
 
     /// A connection with channels 1 to `channels` open and new.
     fn new(alloc: Global, channel_max: u16, channels: u16) -> Result<Link, AllocError>
@@ -314,6 +334,23 @@ impl Link {
         give_settled_at(&mut self.channels, number);
     }
 
+    /// What this tag settles on this channel, in tag order; none where it is refused.
+    fn settle(&self, number: u16, tag: u64, multiple: bool) -> Option<&[Outstanding]>
+        ensures { (ch : Open) → channel_in self.now number ≡ Some ch → option_map (λ s. s.now) result ≡ settled tag_of tag multiple ch.given.outstanding }
+    {
+        match self.channel(number) {
+            Some(channel) => channel.settle(tag, multiple),
+            None => None,
+        }
+    }
+
+    /// What this tag settles is no longer outstanding on this channel.
+    fn forget(&mut self, number: u16, tag: u64, multiple: bool)
+        ensures { (ch : Open) → channel_in self.old number ≡ Some ch → PutsIn self.old number (Some (without_settled ch tag multiple (room_in (channel_in self.new number)))) self.new }
+    {
+        forget_at(&mut self.channels, number, tag, multiple);
+    }
+
     /// This stands at the channel of this number from now on.
     fn put(&mut self, number: u16, channel: Option<Channel>)
         requires { IsSome (channel_in self.old number) }
@@ -361,16 +398,20 @@ impl Links {
       IfSome,
       OnOk,
       OnErr,
+      option_map,
     };
     ghost use Rattle.std.specs.Option.{option_copied};
     ghost use Rattle.model.specs.Broker.{with_one, with_row};
     ghost use Rattle.model.specs.Step.{started, next_of, paused};
     ghost use Rattle.model.specs.declared.methods.Qos.{Qos as Limit};
-    ghost use Rattle.channel.specs.Open.{Open, limited, given_on, settled_on};
+    ghost use Rattle.model.specs.Settling.{settled};
+    ghost use Rattle.channel.specs.Outstanding.{tag_of};
+    ghost use Rattle.channel.specs.Open.{Open, limited, given_on, settled_on, without_settled};
     ghost use Rattle.broker.specs.Links.{
       link_in,
       connection_of,
       channel_of,
+      room_in,
       CanCount,
       CanGive,
       HasRoom,
@@ -514,6 +555,32 @@ impl Links {
     {
         if let Some(link) = self.links.get_mut(&connection) {
             link.give_settled(channel);
+        }
+    }
+
+    /// What this tag settles on this channel, in tag order; none where it is refused.
+    pub fn settle(
+        &self,
+        connection: u64,
+        channel: u16,
+        tag: u64,
+        multiple: bool,
+    ) -> Option<&[Outstanding]>
+        ensures { (ch : Open) → channel_of self.now connection channel ≡ Some ch → option_map (λ s. s.now) result ≡ settled tag_of tag multiple ch.given.outstanding }
+    {
+        match self.get(connection) {
+            Some(link) => link.settle(channel, tag, multiple),
+            None => None,
+        }
+    }
+
+    /// What this tag settles is no longer outstanding on this channel. It takes no memory.
+    pub fn forget(&mut self, connection: u64, channel: u16, tag: u64, multiple: bool)
+        requires { IsSome (channel_of self.old connection channel) }
+        ensures { (ch : Open) → channel_of self.old connection channel ≡ Some ch → Puts self.old connection channel (Some (without_settled ch tag multiple (room_in (channel_of self.new connection channel)))) self.new }
+    {
+        if let Some(link) = self.links.get_mut(&connection) {
+            link.forget(channel, tag, multiple);
         }
     }
 

@@ -7,7 +7,7 @@ ghost use Rattle.std.specs.Option.{option_copied};
 ghost use Rattle.model.specs.Words.{Text as Name};
 ghost use Rattle.model.specs.Broker.{Broker};
 ghost use Rattle.model.specs.Broker.{Channel as Seen};
-ghost use Rattle.model.specs.Topology.{Topology as Handed};
+ghost use Rattle.model.specs.Topology.{Topology as Handed, queue_names};
 ghost use Rattle.model.specs.Step as said;
 ghost use Rattle.model.specs.Step.{greatest};
 ghost use Rattle.model.specs.Prefetch.{has_tag_left};
@@ -17,12 +17,16 @@ ghost use Rattle.model.specs.declared.methods.Method.TheVariants.{BasicPublish, 
 ghost use Rattle.broker.specs.Judged.{seen, seen_if, HasChannel, HasStore, Judges};
 ghost use Rattle.channel.specs.Open.{open_in};
 ghost use Rattle.broker.specs.Links.{limits_of, channel_seen};
+ghost use Rattle.broker.specs.Placed.{AreWithin, ArePlacedIn};
+
+mod settlements;
 
 use crate::links::Link;
+use crate::refusals::settlements::{judge_ack, judge_nack, judge_recover, judge_reject};
 use channel::Channel;
 use depot::Depot;
 use kept_routes::{Access, Router};
-use model::{Get, Method, Publish, Purge, Qos};
+use model::{Ack, Get, Method, Nack, Publish, Purge, Qos, Reject};
 
 /// Why a command is not performed.
 #[derive(Clone, Copy, Drop)]
@@ -47,6 +51,13 @@ pub(crate) enum Act<'a> {
     Get(usize, &'a Get),
     /// The channel is limited as this qos says.
     Limit(&'a Qos),
+    /// What the tag settles was taken, and leaves its queues.
+    Acknowledge(&'a Ack),
+    /// What the tag settles was not taken.
+    Reject(&'a Reject),
+    Nack(&'a Nack),
+    /// All that is outstanding on the channel is requeued.
+    Recover,
     /// The client closes the channel; true where the server has closed it too and awaits close-ok.
     CloseChannel(bool),
     /// The client agrees to the server's close of the channel.
@@ -182,8 +193,9 @@ fn judge_on_open<'a>(
     channel: &Channel,
     method: &'a Method,
 ) -> Result<Act<'a>, Refusal>
-    requires { channel.now.is_closing ≡ false }
-    ensures { (b : Broker) (names : List Name) → HasStore b depot.now → Judges depot.now.topology b (Some (open_in names channel.now)) method.now (said.refusal_of depot.now.topology b (open_in names channel.now) method.now) result }
+    requires open { channel.now.is_closing ≡ false }
+    requires placed { AreWithin depot.now.topology channel.now.given.outstanding }
+    ensures { (b : Broker) → HasStore b depot.now → Judges depot.now.topology b (Some (open_in (queue_names depot.now.topology.queues) channel.now)) method.now (said.refusal_of depot.now.topology b (open_in (queue_names depot.now.topology.queues) channel.now) method.now) result }
 {
     match method {
         Method::ConfirmSelect { no_wait } => Ok(Act::Select(*no_wait)),
@@ -193,6 +205,10 @@ fn judge_on_open<'a>(
         Method::QueuePurge(purge) => judge_purge(depot.router(), purge),
         Method::BasicGet(get) => judge_get(depot, channel, get),
         Method::BasicQos(qos) => judge_qos(qos),
+        Method::BasicAck(ack) => judge_ack(channel, ack),
+        Method::BasicReject(reject) => judge_reject(depot.topology(), channel, reject),
+        Method::BasicNack(nack) => judge_nack(depot.topology(), channel, nack),
+        Method::BasicRecover { requeue } => judge_recover(*requeue),
         Method::ChannelClose(_) => Ok(Act::CloseChannel(false)),
         Method::ChannelCloseOk
         | Method::ChannelOpenOk { .. }
@@ -228,8 +244,9 @@ fn judge_on_number<'a>(
     number: u16,
     method: &'a Method,
 ) -> Result<Act<'a>, Refusal>
-    requires { (names : List Name) → said.is_awaiting (channel_seen names link.now number) ≡ false }
-    ensures { (b : Broker) (names : List Name) → HasStore b depot.now → Judges depot.now.topology b (channel_seen names link.now number) method.now (said.refusal depot.now.topology b (limits_of link.now) number method.now (channel_seen names link.now number)) result }
+    requires open { (names : List Name) → said.is_awaiting (channel_seen names link.now number) ≡ false }
+    requires placed { ArePlacedIn depot.now.topology link.now }
+    ensures { (b : Broker) → HasStore b depot.now → Judges depot.now.topology b (channel_seen (queue_names depot.now.topology.queues) link.now number) method.now (said.refusal depot.now.topology b (limits_of link.now) number method.now (channel_seen (queue_names depot.now.topology.queues) link.now number)) result }
 {
     if number == 0 {
         return judge_on_zero(method);
@@ -263,7 +280,8 @@ pub(crate) fn judge<'a>(
     number: u16,
     method: &'a Method,
 ) -> Result<Act<'a>, Refusal>
-    ensures { (b : Broker) (names : List Name) → HasStore b depot.now → Judges depot.now.topology b (channel_seen names link.now number) method.now (said.refusal depot.now.topology b (limits_of link.now) number method.now (channel_seen names link.now number)) result }
+    requires { ArePlacedIn depot.now.topology link.now }
+    ensures { (b : Broker) → HasStore b depot.now → Judges depot.now.topology b (channel_seen (queue_names depot.now.topology.queues) link.now number) method.now (said.refusal depot.now.topology b (limits_of link.now) number method.now (channel_seen (queue_names depot.now.topology.queues) link.now number)) result }
 {
     if is_awaiting(link.channel(number)) {
         judge_while_closing(method)
