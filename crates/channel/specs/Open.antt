@@ -2,8 +2,10 @@
 use Rattle.std.specs.Prelude.{ℕ, ◌+◌, ◌-◌, List, [], map, Bool, Option, slice_index_or}
 use Rattle.model.specs.Words.{Text}
 use Rattle.model.specs.Broker as seen
+use Rattle.model.specs.Settling.{kept}
 use Rattle.model.specs.declared.methods.Qos.{Qos}
 use Rattle.model.specs.declared.messages.Taker.{Taker}
+use Rattle.channel.specs.Outstanding.{tag_of}
 use Rattle.channel.specs.Deliveries.{Given, with_limit, with_given}
 use Rattle.channel.specs.declared.pending.Outstanding.{Outstanding}
 use Rattle.channel.specs.declared.consumers.Consumer.{Consumer}
@@ -31,6 +33,10 @@ given_on ch queue arrival by = record ch { given = with_given ch.given queue arr
 -- the same of a message that needs no acknowledgement
 abbrev pub settled_on : Open → Open
 settled_on ch = record ch { given = record ch.given { next_tag = ch.given.next_tag + 1 } }
+
+-- the channel without what this tag settles, and with so much room (AMQP 0-9-1, basic.ack)
+abbrev pub without_settled : Open → ℕ → Bool → ℕ → Open
+without_settled ch tag multiple room = record ch { given = record ch.given { outstanding = kept tag_of tag multiple ch.given.outstanding; room = room } }
 
 -- what is outstanding, where queues have these names in the order of their places
 abbrev pub outstanding_in : List Text → Outstanding → seen.Outstanding

@@ -1,11 +1,14 @@
 //! What is kept of an open channel.
 
-ghost use Rattle.std.specs.Prelude.{◌≡◌, ◌<◌, ◌≤◌, None, true, false, OnOk, OnErr};
+ghost use Rattle.std.specs.Prelude.{◌≡◌, ◌<◌, ◌≤◌, None, true, false, OnOk, OnErr, option_map};
+ghost use Rattle.model.specs.Settling.{settled};
 ghost use Rattle.model.specs.Step.{started, next_of, is_spent};
 ghost use Rattle.model.specs.Prefetch.{has_tag_left};
-ghost use Rattle.channel.specs.Open.{nothing_given, limited, given_on, settled_on};
+ghost use Rattle.channel.specs.Outstanding.{tag_of};
+ghost use Rattle.channel.specs.Open.{nothing_given, limited, given_on, settled_on, without_settled};
 
 use crate::deliveries::Deliveries;
+use crate::pending::Outstanding;
 use model::{Qos, Taker};
 use std::alloc::{AllocError, Global};
 use std::marker::Model;
@@ -140,5 +143,18 @@ impl Channel {
         ensures { self.new ≡ settled_on self.old }
     {
         self.deliveries.give_settled();
+    }
+    /// What this tag settles, in tag order; none where it is refused, with 406. Source: AMQP 0-9-1, basic.ack.
+    pub fn settle(&self, tag: u64, multiple: bool) -> Option<&[Outstanding]>
+        ensures { option_map (λ s. s.now) result ≡ settled tag_of tag multiple self.now.given.outstanding }
+    {
+        self.deliveries.settle(tag, multiple)
+    }
+
+    /// Takes out what this tag settles; nothing where it is refused. It takes no memory.
+    pub fn forget(&mut self, tag: u64, multiple: bool)
+        ensures { self.new ≡ without_settled self.old tag multiple self.new.given.room }
+    {
+        self.deliveries.forget(tag, multiple);
     }
 }

@@ -1,9 +1,9 @@
 //! Publishes, requeueing, what the queues hold, and what is given out and settled.
 
-ghost use Rattle.std.specs.Prelude.{◌≡◌, [], IfOk, map, replicate};
+ghost use Rattle.std.specs.Prelude.{◌≡◌, ◌<◌, ℕ, [], IfOk, length, map, replicate};
 ghost use Rattle.model.specs.Entries.{by_channel, by_connection};
 ghost use Rattle.queue.specs.Line.{requeued};
-ghost use Rattle.depot.specs.Store.{entries_of};
+ghost use Rattle.depot.specs.Store.{Store, entries_of, IsWhole, IsNamed};
 
 use crate::places::{hold_at, purge_at, queue_at, release_at, remove_at, take_first_at};
 use crate::publishing::{note_of, publish_in};
@@ -308,3 +308,8 @@ fn requeue_connection_in(queues: &mut [Queue], connection: u64)
         queue.requeue_connection(connection);
     }
 }
+
+/// What stands at a place of the file stands under its name, in whatever depot.
+pub fn places_are_named()
+    ensures { (s : Store) (place : ℕ) → IsWhole s → place < length s.topology.queues → IsNamed s place }
+{}

@@ -9,4 +9,4 @@ mod places;
 mod publishing;
 mod turns;
 
-pub use depots::{Depot, Routed};
+pub use depots::{Depot, Routed, places_are_named};
