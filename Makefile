@@ -1,7 +1,7 @@
 # `make` alone lists the targets.
 SHELL := bash
 .SHELLFLAGS := -o pipefail -c
-.PHONY: help try run shop verdicts cases examples bench install test
+.PHONY: help try run shop verdicts serve clients cases examples bench install test
 
 # where `make install` puts the program
 PREFIX ?= /usr/local
@@ -11,6 +11,8 @@ help:
 	@echo "make run       proves and builds warren, and replays examples/first_publish"
 	@echo "make shop      replays examples/shop over its definitions file"
 	@echo "make verdicts  checks the guarantees of examples/shop, and replays its script under them"
+	@echo "make serve     serves the shop under its guarantees at 127.0.0.1:5672"
+	@echo "make clients   serves the shop, and publishes to it and takes from it with pika"
 	@echo "make cases     runs the cases of crates/cases, and tells of one that its list lacks"
 	@echo "make examples  replays the examples, and compares them with their outputs and with the cases"
 	@echo "make bench     prints what publishes, routes and large files cost"
@@ -40,6 +42,12 @@ verdicts:
 	@echo "one binding key changed, from orders.# to orders.*.#:"
 	@sed 's/"orders\.#"/"orders.*.#"/' examples/shop/definitions.json > crates/warren/out/changed.json
 	@cd crates/warren && { rt run -- check out/changed.json $(SHOP)/guarantees.json || [ $$? -eq 1 ]; }
+
+serve:
+	@cd crates/warren && rt run -- serve $(SHOP)/definitions.json $(SHOP)/guarantees.json $(SHOP)/certificates.json --listen 127.0.0.1:5672
+
+clients: run
+	@examples/clients/run crates/warren/out/warren
 
 cases:
 	@cd crates/cases && rt run -- data < stdin | diff stdout -
