@@ -1,5 +1,5 @@
 -- What a call did keeps the world consistent.
-use Rattle.std.proofs.Common.{◌≡◌, ℕ, List, [], Bool, true, false, Some, Result, Ok, Err, refl, sym, ap, subst}
+use Rattle.std.proofs.Common.{◌≡◌, ℕ, List, [], Bool, true, false, Some, Result, Ok, Err, refl, sym, subst}
 use Rattle.std.specs.Prelude.{IfOk, OnErr, MatchBool}
 use Rattle.model.specs.Run.{Happening}
 use Rattle.model.specs.Arrivals.{World, Same, Waits, is_over, is_gone, with_heard, Takes_off, Loses}

@@ -4,7 +4,7 @@ use Rattle.std.specs.Prelude.{is_some, Result, Ok, Err, IfOk, OnErr}
 use Rattle.std.proofs.lemmas.Bool.{false≢true}
 use Rattle.model.specs.Broker.{Broker}
 use Rattle.model.specs.Phases.{Session, Move}
-use Rattle.model.specs.Commands.{Stream, Yields, Ends, GoesOn, IsCommand, stays, with_max}
+use Rattle.model.specs.Commands.{Stream, Yields, Ends, GoesOn, IsCommand, stays}
 use Rattle.model.specs.Arrivals.{Reads, again, fresh, fault, SameToCome, still, waits, kept, IsSaid, event_of, is_ended, is_past_bound}
 use Rattle.model.specs.declared.events.Phase.{Phase}
 use Rattle.model.specs.declared.events.Phase.TheVariants as phase

@@ -1,6 +1,11 @@
 //! An engine takes single turns, so arrivals are run over it.
 
-ghost use Rattle.std.specs.Prelude.{◌≡◌, IfOk};
+ghost use Rattle.std.specs.Prelude.{◌≡◌, IfOk, OnErr};
+ghost use Rattle.model.specs.Commands.{Stream};
+ghost use Rattle.model.specs.Arrivals.{World, Same};
+ghost use Rattle.model.specs.declared.events.Event as event;
+ghost use Rattle.runs.specs.Opened.{IsOpened};
+ghost use Rattle.engine.specs.Opening.{OpenedBy};
 ghost use Rattle.engine.specs.Certified.{in_force, IsCertified};
 
 use crate::engines::{Engine, Refused};
@@ -19,21 +24,11 @@ impl Machine for Engine {
     ghost left = { λ e. left_in e.links };
 
     fn open(&mut self, alloc: Global) -> Result<Option<u64>, AllocError> {
-        match Engine::open(self, alloc) {
-            Ok(number) => Ok(Some(number)),
-            Err(Refused::Full) => Ok(None),
-            Err(Refused::Spent) => Ok(None),
-            Err(Refused::Memory) => Err(AllocError),
-        }
+        number_of(Engine::open(self, alloc))
     }
 
     fn open_ready(&mut self, alloc: Global, k: u8) -> Result<Option<u64>, AllocError> {
-        match Engine::open_ready(self, alloc, k) {
-            Ok(number) => Ok(Some(number)),
-            Err(Refused::Full) => Ok(None),
-            Err(Refused::Spent) => Ok(None),
-            Err(Refused::Memory) => Err(AllocError),
-        }
+        number_of(Engine::open_ready(self, alloc, k))
     }
 
     fn feed(&mut self, _alloc: Global, c: u64, bytes: &[u8]) -> Result<(), AllocError> {
@@ -62,6 +57,19 @@ impl Machine for Engine {
 
     fn is_over(&self, c: u64) -> bool {
         Engine::is_over(self, c)
+    }
+}
+
+/// The number of a connection that was opened; none where no more can be opened.
+fn number_of(opened: Result<u64, Refused>) -> Result<Option<u64>, AllocError>
+    ensures ok { (e : event.Event) (s : Stream) (old new : World) → OpenedBy e s old opened new → IfOk result (λ n. IsOpened e s old n new) }
+    ensures err { (e : event.Event) (s : Stream) (old new : World) → OpenedBy e s old opened new → OnErr result (Same old new) }
+{
+    match opened {
+        Ok(number) => Ok(Some(number)),
+        Err(Refused::Full) => Ok(None),
+        Err(Refused::Spent) => Ok(None),
+        Err(Refused::Memory) => Err(AllocError),
     }
 }
 

@@ -1,4 +1,4 @@
-use Rattle.std.proofs.Common.{refl, sym, ◌∙◌}
+use Rattle.std.proofs.Common.{refl, ◌∙◌}
 use Rattle.broker.specs.State.{broker_of}
 use Rattle.engine.proofs.Asked.{unmoved}
 use Rattle.engine.proofs.performing.open_if.Goals as goal

@@ -1,10 +1,9 @@
-use Rattle.std.proofs.Common.{◌≡◌, List, [], rules, subst, sym}
+use Rattle.std.proofs.Common.{◌≡◌, rules, subst, sym}
 use Rattle.model.specs.Topology.{Topology, IsWellFormed}
 use Rattle.model.specs.Guarantee.{AllHold}
 use Rattle.model.specs.Consistent.{IsConsistent}
 use Rattle.broker.specs.State.{topology_of}
-use Rattle.engine.specs.declared.links.Link.{Link}
-use Rattle.engine.specs.World.{AreLinks, IsEngine, Parts, world_of}
+use Rattle.engine.specs.World.{AreLinks, Parts, world_of}
 use Rattle.engine.proofs.engines.Engine.new.Goals as goal
 
 pub invariant_of-result : goal.invariant_of-result

@@ -1,4 +1,4 @@
-use Rattle.std.proofs.Common.{◌≡◌, refl, ap, subst, ◌∙◌, ◌+◌, ℕ, Some, List, ◌++◌, ◌∷◌, []}
+use Rattle.std.proofs.Common.{refl, ap, subst, ◌∙◌, ◌+◌, ℕ, Some, List, ◌++◌, ◌∷◌, []}
 use Rattle.std.proofs.lemmas.Result.{err_from_is_err_and}
 use Rattle.model.specs.Commands.{running_stream}
 use Rattle.model.specs.Phases.{running_session}
