@@ -50,17 +50,17 @@ step_of f old new e h p =
 run_one : (f : Config) (old new : State) (e : Event) (h : Happening) → Happens f old e h new → Run old (h ∷ []) new
 run_one f old new e h p = (p.before, step_of f old new e h p, sym p.after)
 
-told-append : (old mid new : World) (hs ks : List Happening) → Told old hs mid → Told mid ks new → Told old (hs ++ ks) new
+pub told-append : (old mid new : World) (hs ks : List Happening) → Told old hs mid → Told mid ks new → Told old (hs ++ ks) new
 told-append old mid new hs ks a b = record {
   run = run-append hs ks old.state mid.state new.state a.run b.run;
   each = all-append (IsTold old.config) hs ks a.each (subst (λ (f : Config). AllByRecursion (IsTold f) ks) a.config b.each);
   config = b.config ∙ a.config;
 }
 
-told_at : (old new : World) (hs ks : List Happening) → hs ≡ ks → Told old ks new → Told old hs new
+pub told_at : (old new : World) (hs ks : List Happening) → hs ≡ ks → Told old ks new → Told old hs new
 told_at old new hs ks e t = subst (λ (z : List Happening). Told old z new) (sym e) t
 
-told_same : (old new : World) (hs : List Happening) → (hs ≡ []) × Same old new → Told old hs new
+pub told_same : (old new : World) (hs : List Happening) → (hs ≡ []) × Same old new → Told old hs new
 told_same old new hs p = told_at old new hs [] p.0 (record { run = p.1.state; each = tt; config = p.1.config })
 
 -- a happening without sends
@@ -110,11 +110,11 @@ told_puts a b e c hs said p =
 pub told_turns : (a b : World) (c : ℕ) (hs : List Happening) → Turns a c hs b → Told a hs b
 told_turns a b c hs t = told_puts a b t.event c hs t.said t.puts
 
-told_works : (c : ℕ) (a b : World) (hs : List Happening) → Works c a hs b → Told a hs b
+pub told_works : (c : ℕ) (a b : World) (hs : List Happening) → Works c a hs b → Told a hs b
 told_works c a b hs none_more = record { run = refl; each = tt; config = refl }
 told_works c a b hs (one_more {mid = m} {first = f} {rest = r} t more e) = told_at a b hs (f ++ r) e (told-append a m b f r (told_turns a m c f t) (told_works c m b r more))
 
-told_waits : (c : ℕ) (a m b : World) (hs : List Happening) → Told a hs m → Waits m c b → Told a hs b
+pub told_waits : (c : ℕ) (a m b : World) (hs : List Happening) → Told a hs m → Waits m c b → Told a hs b
 told_waits c a m b hs t v = record {
   run = subst (λ (s : State). Run a.state hs s) (sym v.state) t.run;
   each = t.each;
@@ -125,7 +125,7 @@ told_works_off : (c : ℕ) (a b : World) (hs : List Happening) → WorksOff a c 
 told_works_off c a b hs w = told_waits c a w.mid b hs (told_works c a w.mid hs w.works) w.waits
 
 -- the bytes heard change neither what is in force nor the broker
-told_heard : (a b : World) (c : ℕ) (bytes : List ℕ) (hs : List Happening) → Told (with_heard a c bytes) hs b → Told a hs b
+pub told_heard : (a b : World) (c : ℕ) (bytes : List ℕ) (hs : List Happening) → Told (with_heard a c bytes) hs b → Told a hs b
 told_heard a b c bytes hs t = record { run = t.run; each = t.each; config = t.config }
 
 pub told_taken : (c n : ℕ) (a b : World) (hs : List Happening) → Takes_off a c n hs b → Told a hs b
@@ -148,7 +148,7 @@ told_opens a b e s hs said o = told_one a b e o.h hs said o.all o.happens o.sile
 pub told_loses : (a b : World) (c : ℕ) (hs : List Happening) → Loses a c hs b → Told a hs b
 told_loses a b c hs o = told_one a b (event.Lose c) o.h hs tt o.all o.happens o.silent o.config
 
-told_answers : (a b : World) (t : Arrival) (hs : List Happening) → Answers a t hs b → Told a hs b
+pub told_answers : (a b : World) (t : Arrival) (hs : List Happening) → Answers a t hs b → Told a hs b
 told_answers a b arrival.Open hs p = from_either (can_open a) (λ o. told_opens a b (event.Open _) _ hs tt o) (told_same a b hs) p
 told_answers a b (arrival.Ready k) hs p = from_either (can_open a) (λ o. told_opens a b (event.Running _ 255 k) _ hs tt o) (told_same a b hs) p
 told_answers a b (arrival.In c bytes) hs p = from_either (is_over a c) (told_same a b hs) (λ w. told_heard a b c bytes hs (told_works_off c (with_heard a c bytes) b hs w)) p

@@ -115,12 +115,12 @@ read_is c k s next e (fault y) = (refl, refl)
 -- ---- whole worlds
 
 -- what a connection was sent so far: where it stands tells it, and before it is opened it is nothing
-record Stands (given c : ℕ) (p : Phase) (sent : List Send) : Type 0 where
-  spoken : Spoken c p sent
-  unopened : given < c → (p ≡ phase.Over) × (sent ≡ [])
+pub record Stands (given c : ℕ) (p : Phase) (sent : List Send) : Type 0 where
+  pub spoken : Spoken c p sent
+  pub unopened : given < c → (p ≡ phase.Over) × (sent ≡ [])
 
 -- from one world to another each connection is spoken to as its phase says
-abbrev Speaks : World → List Happening → World → Type 0
+abbrev pub Speaks : World → List Happening → World → Type 0
 Speaks old hs new = (c : ℕ) (sent : List Send) → Stands old.given c (old.state.session c).phase sent → Stands new.given c (new.state.session c).phase (sent ++ sent_to c hs)
 
 stands_as : (given more c : ℕ) (p q : Phase) (sent sends : List Send) → more ≡ given → q ≡ p → sends ≡ sent → Stands given c p sent → Stands more c q sends
@@ -133,14 +133,14 @@ speaks_nothing : (old new : World) (hs : List Happening) (c : ℕ) (sent : List 
 speaks_nothing old new hs c sent given session none s =
     stands_as old.given new.given c _ _ sent (sent ++ sent_to c hs) given (ap (λ (z : Session). z.phase) session) (ap (λ (z : List Send). sent ++ z) none ∙ append-nil sent) s
 
-speaks_same : (old new : World) (hs : List Happening) → (hs ≡ []) × Same old new → Speaks old hs new
+pub speaks_same : (old new : World) (hs : List Happening) → (hs ≡ []) × Same old new → Speaks old hs new
 speaks_same old new hs p c sent s = speaks_nothing old new hs c sent p.1.given (ap (λ (z : State). z.session c) p.1.state) (ap (sent_to c) p.0) s
 
-speaks_append : (old mid new : World) (hs ks : List Happening) → Speaks old hs mid → Speaks mid ks new → Speaks old (hs ++ ks) new
+pub speaks_append : (old mid new : World) (hs ks : List Happening) → Speaks old hs mid → Speaks mid ks new → Speaks old (hs ++ ks) new
 speaks_append old mid new hs ks a b c sent s =
     subst (λ (z : List Send). Stands new.given c (new.state.session c).phase z) (append_assoc sent (sent_to c hs) (sent_to c ks) ∙ ap (λ (z : List Send). sent ++ z) (sym (sent_append c hs ks))) (b c (sent ++ sent_to c hs) (a c sent s))
 
-speaks_at : (old new : World) (hs ks : List Happening) → hs ≡ ks → Speaks old ks new → Speaks old hs new
+pub speaks_at : (old new : World) (hs ks : List Happening) → hs ≡ ks → Speaks old ks new → Speaks old hs new
 speaks_at old new hs ks e s = subst (λ (z : List Happening). Speaks old z new) (sym e) s
 
 -- ---- pauses
@@ -246,21 +246,25 @@ loses_speaks old new c hs o d sent s = by (d == c) refl
         let session : new.state.session d ≡ old.state.session d = o.happens.stepped.session d ∙ ap (λ (b : Bool). cond b no_session (old.state.session d)) e in
         speaks_nothing old new hs d sent o.given session none s
 
-takes_speaks : (c n : ℕ) (old new : World) (hs : List Happening) → Takes_off old c n hs new → Speaks old hs new
+pub takes_speaks : (c n : ℕ) (old new : World) (hs : List Happening) → Takes_off old c n hs new → Speaks old hs new
 takes_speaks c n old new hs t d sent s =
     speaks_nothing old new hs d sent t.given (settled_sessions old.config old.state new.state c _ _ hs t.settled d) (ap (sends_to d) (settled_silent old.config old.state new.state c _ _ hs t.settled)) s
 
 -- ---- arrivals
 
-works_speaks : (c : ℕ) (old new : World) (hs : List Happening) → Works c old hs new → Speaks old hs new
+pub works_speaks : (c : ℕ) (old new : World) (hs : List Happening) → Works c old hs new → Speaks old hs new
 works_speaks c old new hs none_more = speaks_same old old [] (refl, record { config = refl; state = refl; given = refl; wires = λ d. refl })
 works_speaks c old new hs (one_more {mid = m} {first = f} {rest = r} t more e) = speaks_at old new hs (f ++ r) e (speaks_append old m new f r (turn_speaks c old m f t) (works_speaks c m new r more))
 
-works_off_speaks : (c : ℕ) (old new : World) (hs : List Happening) → WorksOff old c hs new → Speaks old hs new
-works_off_speaks c old new hs w d sent s =
-    stands_as w.mid.given new.given d (w.mid.state.session d).phase _ (sent ++ sent_to d hs) (sent ++ sent_to d hs) w.waits.given (ap (λ (z : State). (z.session d).phase) w.waits.state) refl (works_speaks c old w.mid hs w.works d sent s)
+-- nothing is sent where nothing is performed
+pub waits_speaks : (c : ℕ) (old mid new : World) (hs : List Happening) → Speaks old hs mid → Waits mid c new → Speaks old hs new
+waits_speaks c old mid new hs s v d sent was =
+    stands_as mid.given new.given d (mid.state.session d).phase _ (sent ++ sent_to d hs) (sent ++ sent_to d hs) v.given (ap (λ (z : State). (z.session d).phase) v.state) refl (s d sent was)
 
-answer_speaks : (old new : World) (a : Arrival) (hs : List Happening) → Answers old a hs new → Speaks old hs new
+works_off_speaks : (c : ℕ) (old new : World) (hs : List Happening) → WorksOff old c hs new → Speaks old hs new
+works_off_speaks c old new hs w = waits_speaks c old w.mid new hs (works_speaks c old w.mid hs w.works) w.waits
+
+pub answer_speaks : (old new : World) (a : Arrival) (hs : List Happening) → Answers old a hs new → Speaks old hs new
 answer_speaks old new arrival.Open hs p = from_either (can_open old) (λ o. opens_speaks old new _ _ new_session hs o o.happens.stepped.steps.session refl) (speaks_same old new hs) p
 answer_speaks old new (arrival.Ready k) hs p = from_either (can_open old) (λ o. opens_speaks old new _ _ (record running_session { channel_max = 255 }) hs o o.happens.stepped.session tt) (speaks_same old new hs) p
 answer_speaks old new (arrival.In c bytes) hs p = from_either (is_over old c) (speaks_same old new hs) (λ w. works_off_speaks c (with_heard old c bytes) new hs w) p
@@ -273,7 +277,9 @@ play_speaks old new [] hs p = speaks_same old new hs p
 play_speaks old new (a ∷ arrivals) hs (mid, first, rest, e, brings, p) =
     speaks_at old new hs (first ++ rest) e (speaks_append old mid new first rest (answer_speaks old mid a first brings) (play_speaks mid new arrivals rest p))
 
--- In a run from the start a connection was sent commands, or the protocol header alone.
+-- From the start on a connection was sent commands, or the protocol header alone.
+pub spoken_from_start : (f : Config) (hs : List Happening) (w : World) → Speaks (new_world f) hs w → (c : ℕ) → AreCommandSends (sent_to c hs) ⊎ (sent_to c hs ≡ send.Greeting c ∷ [])
+spoken_from_start f hs w speaks c = spoken_over c (w.state.session c).phase (sent_to c hs) (speaks c [] (record { spoken = inl tt; unopened = λ lt. (refl, refl) })).spoken
+
 pub is_spoken : (f : Config) (arrivals : List Arrival) (hs : List Happening) (w : World) → Plays (new_world f) arrivals hs w → (c : ℕ) → AreCommandSends (sent_to c hs) ⊎ (sent_to c hs ≡ send.Greeting c ∷ [])
-is_spoken f arrivals hs w p c =
-    spoken_over c (w.state.session c).phase (sent_to c hs) (play_speaks (new_world f) w arrivals hs p c [] (record { spoken = inl tt; unopened = λ lt. (refl, refl) })).spoken
+is_spoken f arrivals hs w p c = spoken_from_start f hs w (play_speaks (new_world f) w arrivals hs p) c

@@ -18,7 +18,7 @@ use Rattle.model.specs.declared.events.Arrival.{Arrival}
 use Rattle.laws.specs.Promises.{ack_sent}
 use Rattle.laws.proofs.Counts.{all-append, filter_all}
 use Rattle.laws.proofs.Reading.{sent_acks, frames_each}
-use Rattle.laws.proofs.Plays.{IsPut, IsTold, said_each, told_turns, told_plays}
+use Rattle.laws.proofs.Plays.{IsPut, IsTold, Told, said_each, told_turns, told_plays}
 use Rattle.laws.proofs.Speaking.{IsCommandSend, AreCommandSends}
 use Rattle.laws.proofs.Spoken.{sent_to, is_spoken}
 use Rattle.laws.proofs.Never.{run_keeps}
@@ -130,15 +130,19 @@ turn_keeps old new c hs sound consistent turns =
     let told = told_turns old new c hs turns in
     run_keeps hs old.state new.state (sound_each old.config hs sound told.each) (said_each old.config hs told.each) consistent.counted told.run
 
-pub headline_holds : (f : Config) (arrivals : List Arrival) (hs : List Happening) (w : World) (seen : Seen)
-    → IsSound f → Plays (new_world f) arrivals hs w → Shows hs w seen → KeepsPromises hs w.state.broker seen.connections
-headline_holds f arrivals hs w seen sound plays shows =
-    let told = told_plays (new_world f) w arrivals hs plays in
+-- of what is a run, and spoke to each connection as its phase says
+pub promises_hold : (f : Config) (hs : List Happening) (w : World) (seen : Seen)
+    → IsSound f → Told (new_world f) hs w → ((c : ℕ) → AreCommandSends (sent_to c hs) ⊎ (sent_to c hs ≡ send.Greeting c ∷ [])) → Shows hs w seen → KeepsPromises hs w.state.broker seen.connections
+promises_hold f hs w seen sound told spoken shows =
     record {
       events = run_keeps hs empty_state w.state (sound_each f hs sound told.each) (said_each f hs told.each) (λ n q lt. refl) told.run;
       acks = λ i one e.
           let within : i < w.given = subst (λ (n : ℕ). i < n) shows.counted (slice_get_within seen.connections i one e) in
           let is : one ≡ shown hs w (i + 1) = same_Some one (shown hs w (i + 1)) (sym e ∙ shows.each i within) in
           let output : one.output ≡ put_out (i + 1) hs = ap (λ (s : Shown). s.output) is in
-          subst (λ (z : List ℕ). HasAcksOf (acked (i + 1) hs) z) (sym output) (has_acks f empty_state w.state (i + 1) hs told.each told.run (is_spoken f arrivals hs w plays (i + 1)));
+          subst (λ (z : List ℕ). HasAcksOf (acked (i + 1) hs) z) (sym output) (has_acks f empty_state w.state (i + 1) hs told.each told.run (spoken (i + 1)));
     }
+
+pub headline_holds : (f : Config) (arrivals : List Arrival) (hs : List Happening) (w : World) (seen : Seen)
+    → IsSound f → Plays (new_world f) arrivals hs w → Shows hs w seen → KeepsPromises hs w.state.broker seen.connections
+headline_holds f arrivals hs w seen sound plays shows = promises_hold f hs w seen sound (told_plays (new_world f) w arrivals hs plays) (is_spoken f arrivals hs w plays) shows

@@ -63,17 +63,17 @@ pub record IsQuiet (hs : List Happening) : Type 0 where
   pub noted : notes_of hs ≡ []
   pub silent : (d : ℕ) → put_out d hs ≡ []
 
-quiet_none : (hs : List Happening) → hs ≡ [] → IsQuiet hs
+pub quiet_none : (hs : List Happening) → hs ≡ [] → IsQuiet hs
 quiet_none hs e = record { noted = ap notes_of e; silent = λ d. ap (put_out d) e }
 
-quiet_one : (h : Happening) (hs : List Happening) → hs ≡ h ∷ [] → h.notes ≡ [] → h.sends ≡ [] → IsQuiet hs
+pub quiet_one : (h : Happening) (hs : List Happening) → hs ≡ h ∷ [] → h.notes ≡ [] → h.sends ≡ [] → IsQuiet hs
 quiet_one h hs e noted silent = record {
   noted = ap notes_of e ∙ append-nil h.notes ∙ noted;
   silent = λ d. ap (put_out d) e ∙ append-nil (spelling h.frame_max (sends_to d h.sends)) ∙ ap (λ (z : List Send). spelling h.frame_max (sends_to d z)) silent;
 }
 
 -- a pause or a resumption puts nothing out, and each session stays
-record Settled (mid : State) (hs : List Happening) (new : State) : Type 0 where
+pub record Settled (mid : State) (hs : List Happening) (new : State) : Type 0 where
   pub quiet : IsQuiet hs
   pub sessions : (d : ℕ) → new.session d ≡ mid.session d
 
@@ -86,7 +86,7 @@ pauses f mid new c h hs e p = record { quiet = quiet_one h hs e p.stepped.acts.n
 resumes : (f : Config) (mid new : State) (c : ℕ) (h : Happening) (hs : List Happening) → hs ≡ h ∷ [] → Happens f mid (event.Resume c) h new → Settled mid hs new
 resumes f mid new c h hs e p = record { quiet = quiet_one h hs e p.stepped.acts.noted p.stepped.acts.sent; sessions = p.stepped.session }
 
-settled : (f : Config) (mid new : State) (c : ℕ) (was is : Bool) (hs : List Happening) → Settles f mid c was is hs new → Settled mid hs new
+pub settled : (f : Config) (mid new : State) (c : ℕ) (was is : Bool) (hs : List Happening) → Settles f mid c was is hs new → Settled mid hs new
 settled f mid new c false true hs (h, e, p) = pauses f mid new c h hs e p
 settled f mid new c true false hs (h, e, p) = resumes f mid new c h hs e p
 settled f mid new c true true hs p = settled_none mid new hs p
@@ -118,7 +118,7 @@ puts_there a b e c hs d ne p =
     ap (λ (w : Wire). w.output) (p.others d ne) ∙ sym (append-nil (a.wire d).output)
     ∙ ap (λ (z : List ℕ). (a.wire d).output ++ z) (sym (puts_all a b e c hs d p ∙ ap (spelling p.h.frame_max) (other_sends c d p.h.sends ne p.own)))
 
-puts_each : (a b : World) (e : Event) (c : ℕ) (hs : List Happening) (d : ℕ) → Puts a e c hs b → (b.wire d).output ≡ (a.wire d).output ++ put_out d hs
+pub puts_each : (a b : World) (e : Event) (c : ℕ) (hs : List Happening) (d : ℕ) → Puts a e c hs b → (b.wire d).output ≡ (a.wire d).output ++ put_out d hs
 puts_each a b e c hs d p = go (eqb d c) refl
   where
     go : (x : Bool) → eqb d c ≡ x → (b.wire d).output ≡ (a.wire d).output ++ put_out d hs
@@ -130,7 +130,7 @@ awake_apart true paused e o = false≢true e
 awake_apart false paused e o = false≢true o
 
 -- of one that is over nothing is performed
-turns_apart : (a b : World) (c : ℕ) (hs : List Happening) (d : ℕ) → Turns a c hs b → is_over a d ≡ true → d ≢ c
+pub turns_apart : (a b : World) (c : ℕ) (hs : List Happening) (d : ℕ) → Turns a c hs b → is_over a d ≡ true → d ≢ c
 turns_apart a b c hs d t over e = awake_apart (is_over a c) (is_paused a c) t.awake (ap (is_over a) (sym e) ∙ over)
 
 pub tells_turns : (a b : World) (c : ℕ) (hs : List Happening) (s : Seen) (notes : List Note) → notes ≡ notes_of hs → Turns a c hs b → Tells a s hs b (record s { notes = s.notes ++ notes })

@@ -1,0 +1,138 @@
+-- However a server goes on, each slot has a connection of its own.
+use Rattle.std.proofs.Common.{◌≡◌, ◌≢◌, ◌≤◌, ◌<◌, ℕ, suc, zero, ◌+◌, List, [], ◌∷◌, ◌++◌, Bool, true, false, Option, Some, None, length, refl, sym, ap, subst, ◌∙◌, ◌⊎◌, inl, inr, slice_set, slice_index_or, arith}
+use Rattle.std.proofs.lemmas.Bool.{false≢true, cases_eq}
+use Rattle.std.proofs.lemmas.Option.{same_Some}
+use Rattle.std.specs.Prelude.{MatchBool}
+use Rattle.model.specs.Run.{Happening}
+use Rattle.model.specs.Arrivals.{World, Turns, Works, none_more, one_more, Waits, WorksOff, Answers, Same, with_heard, is_over, is_gone, can_open, Opens, Loses, TakesAndWorks}
+use Rattle.model.specs.declared.events.Arrival.{Arrival}
+use Rattle.model.specs.declared.events.Arrival.TheVariants as arrival
+use Rattle.serving.specs.Wire.{Ask}
+use Rattle.serving.specs.Coming.{Attempt, whole, FallsShort, Brings, Attempts}
+use Rattle.serving.specs.Story.{Served, At, Filled, Deed, Met, Turned_away, Met_no_one, Heard, Heard_partly, Heard_nothing, Heard_end, Gave, Gave_partly, Gave_nothing, Gave_up, Let_go, Paused, attempts, Table, Does, Story, Serves}
+use Rattle.serving.specs.Fit.{IsFit}
+use Rattle.serving.specs.declared.peers.Peer.{Peer}
+
+-- ---- numbers of connections are only given
+
+works_given : (c : ℕ) (a b : World) (hs : List Happening) → Works c a hs b → b.given ≡ a.given
+works_given c a b hs none_more = refl
+works_given c a b hs (one_more {mid = m} {first = f} {rest = r} t rest e) = works_given c m b r rest ∙ t.given
+
+worked_given : (c : ℕ) (a m b : World) (hs : List Happening) → Works c a hs m → Waits m c b → b.given ≡ a.given
+worked_given c a m b hs w v = v.given ∙ works_given c a m hs w
+
+either : (a b : World) (P : Type 0) (hs : List Happening) (x : Bool) → (P → a.given ≤ b.given) → MatchBool x ((hs ≡ []) × Same a b) P → a.given ≤ b.given
+either a b P hs true f p = let g = p.1.given in omega (arith, g)
+either a b P hs false f p = f p
+
+either_opens : (a b : World) (P : Type 0) (hs : List Happening) (x : Bool) → (P → b.given ≡ a.given + 1) → MatchBool x P ((hs ≡ []) × Same a b) → a.given ≤ b.given
+either_opens a b P hs true f p = let g = f p in omega (arith, g)
+either_opens a b P hs false f p = let g = p.1.given in omega (arith, g)
+
+answers_le : (a b : World) (t : Arrival) (hs : List Happening) → Answers a t hs b → a.given ≤ b.given
+answers_le a b arrival.Open hs p = either_opens a b _ hs (can_open a) (λ (o : Opens a _ _ hs b). o.given) p
+answers_le a b (arrival.Ready k) hs p = either_opens a b _ hs (can_open a) (λ (o : Opens a _ _ hs b). o.given) p
+answers_le a b (arrival.In c bytes) hs p = either a b _ hs (is_over a c) (λ (l : WorksOff (with_heard a c bytes) c hs b). let g = worked_given c (with_heard a c bytes) l.mid b hs l.works l.waits in omega (arith, g)) p
+answers_le a b (arrival.Sent c n) hs p =
+    either a b _ hs (is_gone a c) (λ (l : TakesAndWorks a c n hs b). let g = worked_given c l.mid l.works.mid b l.rest l.works.works l.works.waits in let h = l.takes.given in omega (arith, g, h)) p
+answers_le a b (arrival.Lose c) hs p = either a b _ hs (is_gone a c) (λ (l : Loses a c hs b). let g = l.given in omega (arith, g)) p
+
+short_le : (a b : World) (t : Arrival) (hs : List Happening) → FallsShort a t hs b → a.given ≤ b.given
+short_le a b arrival.Open hs p = let g = p.1.given in omega (arith, g)
+short_le a b (arrival.Ready k) hs p = let g = p.1.given in omega (arith, g)
+short_le a b (arrival.In c bytes) hs (inl p) = let g = p.1.given in omega (arith, g)
+short_le a b (arrival.In c bytes) hs (inr l) = let g = worked_given c (with_heard a c bytes) l.mid b hs l.works l.waits in omega (arith, g)
+short_le a b (arrival.Sent c n) hs l = let g = worked_given c l.mid l.works.mid b l.rest l.works.works l.works.waits in let h = l.takes.given in omega (arith, g, h)
+short_le a b (arrival.Lose c) hs p = absurd p
+
+brings_le : (a b : World) (t : Arrival) (x : Bool) (hs : List Happening) → MatchBool x (Answers a t hs b) (FallsShort a t hs b) → a.given ≤ b.given
+brings_le a b t true hs p = answers_le a b t hs p
+brings_le a b t false hs p = short_le a b t hs p
+
+pub attempts_le : (as' : List Attempt) (a b : World) (hs : List Happening) → Attempts a as' hs b → a.given ≤ b.given
+attempts_le [] a b hs p = let g = ap (λ (w : World). w.given) p.1 in omega (arith, g)
+attempts_le (t ∷ as') a b hs (mid, first, rest, e, br, p) = let g = brings_le a mid t.arrival t.is_whole first br in let h = attempts_le as' mid b rest p in omega (arith, g, h)
+
+opened_given : (a b : World) (hs : List Happening) (x : Bool) (P : Type 0) → x ≡ true → (P → b.given ≡ a.given + 1) → MatchBool x P ((hs ≡ []) × Same a b) → b.given ≡ a.given + 1
+opened_given a b hs true P e f p = f p
+opened_given a b hs false P e f p = absurd (false≢true e)
+
+pub met_given : (a b : World) (hs : List Happening) → can_open a ≡ true → Attempts a (whole arrival.Open ∷ []) hs b → b.given ≡ a.given + 1
+met_given a b hs can (mid, first, rest, e, br, p) =
+    ap (λ (w : World). w.given) p.1 ∙ opened_given a mid first (can_open a) _ can (λ (o : Opens a _ _ first mid). o.given) br
+
+-- ---- the slots
+
+-- what a slot holds after one of them was freed, it held before
+pub freed_at : (ps : List (Option Peer)) (i j : ℕ) (p : Peer) → At (slice_set ps i None) j p → At ps j p
+freed_at [] i j p at = at
+freed_at (q ∷ ps) zero zero p at = absurd (cc at)
+freed_at (q ∷ ps) zero (suc j) p at = at
+freed_at (q ∷ ps) (suc i) zero p at = at
+freed_at (q ∷ ps) (suc i) (suc j) p at = freed_at ps i j p at
+
+fit_within : (a b : World) (ps qs : List (Option Peer)) → a.given ≤ b.given → ((j : ℕ) (p : Peer) → At qs j p → At ps j p) → IsFit a ps → IsFit b qs
+fit_within a b ps qs le sub f = record {
+  apart = λ i j p q x y e. f.apart i j p q (sub i p x) (sub j q y) e;
+  given = λ i p x. let g = f.given i p (sub i p x) in omega (arith, g, le);
+}
+
+fit_same : (a b : Served) → a.world.given ≤ b.world.given → b.peers ≡ a.peers → IsFit a.world a.peers → IsFit b.world b.peers
+fit_same a b le e f = fit_within a.world b.world a.peers b.peers le (λ j p at. subst (λ (z : List (Option Peer)). At z j p) e at) f
+
+fit_freed : (a b : Served) (i : ℕ) → a.world.given ≤ b.world.given → b.peers ≡ slice_set a.peers i None → IsFit a.world a.peers → IsFit b.world b.peers
+fit_freed a b i le e f = fit_within a.world b.world a.peers b.peers le (λ j p at. freed_at a.peers i j p (subst (λ (z : List (Option Peer)). At z j p) e at)) f
+
+-- what a slot holds after one of them was filled is what it was filled with, or it held it before
+pub filled_at : (ps qs : List (Option Peer)) (i : ℕ) (p : Peer) → Filled ps i p qs → (j : ℕ) (q : Peer) → At qs j q → ((j ≡ i) × (q ≡ p)) ⊎ At ps j q
+filled_at ps qs i p f j q at = go (cases_eq j i)
+  where
+    go : (j ≡ i) ⊎ (j ≢ i) → ((j ≡ i) × (q ≡ p)) ⊎ At ps j q
+    go (inl e) = inl (e, same_Some q p (sym at ∙ ap (λ (k : ℕ). slice_index_or qs k None) e ∙ f.here))
+    go (inr ne) = inr (sym (f.others j ne) ∙ at)
+
+fit_filled : (a b : World) (ps qs : List (Option Peer)) (i : ℕ) (p : Peer) → p.connection ≡ a.given + 1 → b.given ≡ a.given + 1 → Filled ps i p qs → IsFit a ps → IsFit b qs
+fit_filled a b ps qs i p is more filled f = record {
+  apart = λ j k q r x y e. apart j k q r (filled_at ps qs i p filled j q x) (filled_at ps qs i p filled k r y) e;
+  given = λ j q x. given j q (filled_at ps qs i p filled j q x);
+}
+  where
+    apart : (j k : ℕ) (q r : Peer) → ((j ≡ i) × (q ≡ p)) ⊎ At ps j q → ((k ≡ i) × (r ≡ p)) ⊎ At ps k r → q.connection ≡ r.connection → j ≡ k
+    apart j k q r (inl x) (inl y) e = x.0 ∙ sym y.0
+    apart j k q r (inl x) (inr y) e = let g = f.given k r y in let n = ap (λ (z : Peer). z.connection) x.1 in absurd (omega (arith, g, n, is, e))
+    apart j k q r (inr x) (inl y) e = let g = f.given j q x in let n = ap (λ (z : Peer). z.connection) y.1 in absurd (omega (arith, g, n, is, e))
+    apart j k q r (inr x) (inr y) e = f.apart j k q r x y e
+
+    given : (j : ℕ) (q : Peer) → ((j ≡ i) × (q ≡ p)) ⊎ At ps j q → q.connection ≤ b.given
+    given j q (inl x) = let n = ap (λ (z : Peer). z.connection) x.1 in omega (arith, n, is, more)
+    given j q (inr x) = let g = f.given j q x in omega (arith, g, more)
+
+fit_does : (a b : Served) (d : Deed) (hs : List Happening) → Does a d hs b → IsFit a.world a.peers → IsFit b.world b.peers
+fit_does a b d hs does f = go d does.table (attempts_le (attempts d) a.world b.world hs does.brings) does.brings
+  where
+    go : (d : Deed) → Table a d b.peers → a.world.given ≤ b.world.given → Attempts a.world (attempts d) hs b.world → IsFit b.world b.peers
+    go (Met i p) t le br = fit_filled a.world b.world a.peers b.peers i p t.1 (met_given a.world b.world hs t.0 br) t.3 f
+    go (Turned_away s o) t le br = fit_same a b le t.1 f
+    go (Met_no_one x) t le br = fit_same a b le t f
+    go (Heard i p bytes) t le br = fit_same a b le t.1 f
+    go (Heard_partly i p bytes) t le br = fit_freed a b i le t.1 f
+    go (Heard_nothing i p) t le br = fit_same a b le t.1 f
+    go (Heard_end i p x) t le br = fit_freed a b i le t.1 f
+    go (Gave i p bytes) t le br = fit_same a b le t.1.1 f
+    go (Gave_partly i p bytes) t le br = fit_freed a b i le t.1.1 f
+    go (Gave_nothing i p) t le br = fit_same a b le t.1 f
+    go (Gave_up i p) t le br = fit_freed a b i le t.1 f
+    go (Let_go i p) t le br = fit_freed a b i le t.1.1 f
+    go Paused t le br = fit_same a b le t f
+
+fit_story : (ds : List Deed) (a b : Served) (hs : List Happening) → Story a ds hs b → IsFit a.world a.peers → IsFit b.world b.peers
+fit_story [] a b hs s f = subst (λ (z : Served). IsFit z.world z.peers) (sym s.1) f
+fit_story (d ∷ ds) a b hs (mid, first, rest, e, does, s) f = fit_story ds mid b rest s (fit_does a mid d first does f)
+
+pub serves_fit : (a b : Served) (xs : List Ask) (p : Bool) → Serves a xs p b → IsFit a.world a.peers → IsFit b.world b.peers
+serves_fit a b xs p s f = fit_story s.deeds a b s.happenings s.story f
+
+-- with no slot every server fits
+pub fit_none : (w : World) → IsFit w []
+fit_none w = record { apart = λ i j p q at. absurd (cc at); given = λ i p at. absurd (cc at) }

@@ -1,0 +1,88 @@
+-- What arrived for a connection is what its socket gave and took, deed by deed.
+use Rattle.std.proofs.Common.{◌≡◌, ◌+◌, ℕ, List, [], ◌∷◌, ◌++◌, Bool, true, false, Option, Some, None, length, refl, sym, ap, subst, ◌∙◌, flat_map, filter_map, count_by, arith}
+use Rattle.std.proofs.lemmas.List.Concat.{flat_map-append}
+use Rattle.std.proofs.lemmas.List.Elements.{filter_map-append}
+use Rattle.std.proofs.lemmas.List.Sums.{sum_by-append}
+use Rattle.std.specs.Prelude.{◌==◌, if◌then◌else◌}
+use Rattle.std.specs.List.{AllByRecursion}
+use Rattle.model.specs.Topology.{IsIn}
+use Rattle.model.specs.Run.{Happening}
+use Rattle.serving.specs.Wire.{Call}
+use Rattle.serving.specs.Coming.{Attempt, whole, short}
+use Rattle.serving.specs.Story.{Served, Deed, Met, Turned_away, Met_no_one, Heard, Heard_partly, Heard_nothing, Heard_end, Gave, Gave_partly, Gave_nothing, Gave_up, Let_go, Paused, calls, attempts, Table, Does, Story}
+use Rattle.serving.specs.Joined.{piece_for, amount_for, is_loss_of, is_short_for, got_of, took_of, count_of, is_end_of, IsJoined, AreJoined}
+use Rattle.model.specs.declared.events.Arrival.{Arrival}
+use Rattle.model.specs.declared.events.Arrival.TheVariants as arrival
+use Rattle.serving.specs.declared.peers.Peer.{Peer}
+use Rattle.serving.proofs.Pairs.{peer_of, PairsWith, pairs_in}
+
+joined_none : (p : Peer) → IsJoined p [] []
+joined_none p = record { pieces = refl; amounts = refl; losses = refl }
+
+joined_then : (p : Peer) (xs ys : List Call) (as' bs : List Attempt) → IsJoined p xs as' → IsJoined p ys bs → IsJoined p (xs ++ ys) (as' ++ bs)
+joined_then p xs ys as' bs j k = record {
+  pieces = filter_map-append (piece_for p.connection) as' bs ∙ ap (λ (z : List (List ℕ)). z ++ filter_map (piece_for p.connection) bs) j.pieces
+      ∙ ap (λ (z : List (List ℕ)). filter_map (got_of p.socket) xs ++ z) k.pieces ∙ sym (filter_map-append (got_of p.socket) xs ys);
+  amounts = filter_map-append (amount_for p.connection) as' bs ∙ ap (λ (z : List ℕ). z ++ filter_map (amount_for p.connection) bs) j.amounts
+      ∙ ap (λ (z : List ℕ). filter_map (count_of p.socket) xs ++ z) k.amounts ∙ sym (filter_map-append (count_of p.socket) xs ys);
+  losses =
+      let a : count_by (is_loss_of p.connection) (as' ++ bs) ≡ count_by (is_loss_of p.connection) as' + count_by (is_loss_of p.connection) bs = sum_by-append _ as' bs in
+      let b : count_by (is_end_of p.socket) (xs ++ ys) ≡ count_by (is_end_of p.socket) xs + count_by (is_end_of p.socket) ys = sum_by-append _ xs ys in
+      let c : count_by (is_short_for p.connection) (as' ++ bs) ≡ count_by (is_short_for p.connection) as' + count_by (is_short_for p.connection) bs = sum_by-append _ as' bs in
+      let d = j.losses in
+      let e = k.losses in
+      omega (arith, a, b, c, d, e);
+}
+
+-- of an opening nothing is told
+opening_joined : (p : Peer) (o : Attempt) (xs : List Call) → o.arrival ≡ arrival.Open → IsJoined p xs [] → IsJoined p xs (o ∷ [])
+opening_joined p o xs e j =
+    subst (λ (z : Arrival). IsJoined p xs (record { arrival = z; is_whole = o.is_whole } ∷ [])) (sym e) (go o.is_whole)
+  where
+    go : (b : Bool) → IsJoined p xs (record { arrival = arrival.Open; is_whole = b } ∷ [])
+    go true = record { pieces = j.pieces; amounts = j.amounts; losses = j.losses }
+    go false = record { pieces = j.pieces; amounts = j.amounts; losses = j.losses }
+
+-- ---- each deed of q, where q has p's connection exactly where it has p's socket
+
+same_bytes : (x y : Bool) (bytes : List ℕ) → x ≡ y → filter_map (λ (o : Option (List ℕ)). o) ((if x then Some bytes else None) ∷ []) ≡ filter_map (λ (o : Option (List ℕ)). o) ((if y then Some bytes else None) ∷ [])
+same_bytes x y bytes e = ap (λ (b : Bool). filter_map (λ (o : Option (List ℕ)). o) ((if b then Some bytes else None) ∷ [])) e
+
+same_amount : (x y : Bool) (n : ℕ) → x ≡ y → filter_map (λ (o : Option ℕ). o) ((if x then Some n else None) ∷ []) ≡ filter_map (λ (o : Option ℕ). o) ((if y then Some n else None) ∷ [])
+same_amount x y n e = ap (λ (b : Bool). filter_map (λ (o : Option ℕ). o) ((if b then Some n else None) ∷ [])) e
+
+short_loss : (x : Bool) → count_by (λ (b : Bool). b) (false ∷ x ∷ []) ≡ count_by (λ (b : Bool). b) (false ∷ false ∷ []) + count_by (λ (b : Bool). b) (x ∷ false ∷ [])
+short_loss true = refl
+short_loss false = refl
+
+end_loss : (x : Bool) → count_by (λ (b : Bool). b) (x ∷ []) ≡ count_by (λ (b : Bool). b) (x ∷ false ∷ []) + count_by (λ (b : Bool). b) (false ∷ [])
+end_loss true = refl
+end_loss false = refl
+
+same_end : (x y : Bool) → x ≡ y → count_by (λ (b : Bool). b) (x ∷ []) ≡ count_by (λ (b : Bool). b) (y ∷ false ∷ []) + count_by (λ (b : Bool). b) (false ∷ [])
+same_end x y e = ap (λ (b : Bool). count_by (λ (b : Bool). b) (b ∷ [])) e ∙ end_loss y
+
+joined_one : (p : Peer) (v w : Served) (d : Deed) (hs : List Happening) → Does v d hs w → PairsWith p (peer_of d) → IsJoined p (calls d) (attempts d)
+joined_one p v w (Met i q) hs does pair = record { pieces = refl; amounts = refl; losses = refl }
+joined_one p v w (Turned_away s o) hs does pair = opening_joined p o _ does.table.0 (record { pieces = refl; amounts = refl; losses = refl })
+joined_one p v w (Met_no_one true) hs does pair = record { pieces = refl; amounts = refl; losses = refl }
+joined_one p v w (Met_no_one false) hs does pair = record { pieces = refl; amounts = refl; losses = refl }
+joined_one p v w (Heard i q bytes) hs does pair = record { pieces = same_bytes (q.connection == p.connection) (q.socket == p.socket) bytes pair; amounts = refl; losses = refl }
+joined_one p v w (Heard_partly i q bytes) hs does pair = record { pieces = same_bytes (q.connection == p.connection) (q.socket == p.socket) bytes pair; amounts = refl; losses = short_loss (q.connection == p.connection) }
+joined_one p v w (Heard_nothing i q) hs does pair = record { pieces = refl; amounts = refl; losses = refl }
+joined_one p v w (Heard_end i q true) hs does pair = record { pieces = refl; amounts = refl; losses = same_end (q.connection == p.connection) (q.socket == p.socket) pair }
+joined_one p v w (Heard_end i q false) hs does pair = record { pieces = refl; amounts = refl; losses = same_end (q.connection == p.connection) (q.socket == p.socket) pair }
+joined_one p v w (Gave i q bytes) hs does pair = record { pieces = refl; amounts = same_amount (q.connection == p.connection) (q.socket == p.socket) (length bytes) pair; losses = refl }
+joined_one p v w (Gave_partly i q bytes) hs does pair = record { pieces = refl; amounts = same_amount (q.connection == p.connection) (q.socket == p.socket) (length bytes) pair; losses = short_loss (q.connection == p.connection) }
+joined_one p v w (Gave_nothing i q) hs does pair = record { pieces = refl; amounts = refl; losses = refl }
+joined_one p v w (Gave_up i q) hs does pair = record { pieces = refl; amounts = refl; losses = same_end (q.connection == p.connection) (q.socket == p.socket) pair }
+joined_one p v w (Let_go i q) hs does pair = record { pieces = refl; amounts = refl; losses = refl }
+joined_one p v w Paused hs does pair = record { pieces = refl; amounts = refl; losses = refl }
+
+joined_all : (p : Peer) (ds : List Deed) (v w : Served) (hs : List Happening) → Story v ds hs w → AllByRecursion (λ d. PairsWith p (peer_of d)) ds → IsJoined p (flat_map calls ds) (flat_map attempts ds)
+joined_all p [] v w hs s a = joined_none p
+joined_all p (d ∷ ds) v w hs (mid, first, rest, e, does, s) a = joined_then p (calls d) (flat_map calls ds) (attempts d) (flat_map attempts ds) (joined_one p v mid d first does a.0) (joined_all p ds mid w rest s a.1)
+
+-- from a server with no socket, over a wire that tells its calls
+pub are_joined : (ds : List Deed) (v w : Served) (hs : List Happening) (xs : List Call) → v.peers ≡ [] → v.told.calls ≡ Some xs → Story v ds hs w → AreJoined ds
+are_joined ds v w hs xs none tells s p i = joined_all p ds v w hs s (pairs_in ds v w hs xs none tells s p i)

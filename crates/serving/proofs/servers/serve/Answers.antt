@@ -1,0 +1,9 @@
+use Rattle.serving.specs.Story.{served}
+use Rattle.serving.proofs.Keeping.{rounds_serve}
+use Rattle.serving.proofs.servers.serve.Goals as goal
+
+pub returns-clause-served : goal.returns-clause-served
+returns-clause-served g c = λ f fresh none.
+    let world = g.M.Machine.world in
+    let told = g.W.Wire.told in
+    rounds_serve f c.loop.counter (world c.args.server.now.machine) c.args.server.now.peers (told c.args.wire.now) (served (world c.loop.server.machine) c.loop.server.peers (told c.loop.wire)) fresh none c.loop.invariant.rounds

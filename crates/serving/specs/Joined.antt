@@ -1,0 +1,93 @@
+-- What came of each socket, connection by connection (own): the pieces that arrived for a connection are what was read from its socket.
+use Rattle.std.specs.Prelude.{◌≡◌, ◌+◌, ℕ, List, [], ◌∷◌, ◌++◌, length, filter_map, flat_map, count_by, Bool, true, false, not, ◌==◌, ◌&&◌, Option, Some, None, if◌then◌else◌}
+use Rattle.model.specs.Topology.{IsIn}
+use Rattle.model.specs.Run.{Happening, put_out}
+use Rattle.model.specs.declared.events.Arrival.{Arrival}
+use Rattle.model.specs.declared.events.Arrival.TheVariants.{Open, Ready, In, Sent, Lose}
+use Rattle.serving.specs.Wire.{Call, Got, Read_ended, Read_failed, Took, Write_failed}
+use Rattle.serving.specs.Coming.{Attempt}
+use Rattle.serving.specs.Story.{Deed, Met, calls, attempts}
+use Rattle.serving.specs.declared.peers.Peer.{Peer}
+
+-- ---- of one connection
+
+-- a piece of its bytes that came
+abbrev pub piece_for : ℕ → Attempt → Option (List ℕ)
+piece_for c a = piece a.arrival
+  where
+    piece : Arrival → Option (List ℕ)
+    piece (In d bytes) = if d == c then Some bytes else None
+    piece other = None
+
+-- so many bytes of its output were taken
+abbrev pub amount_for : ℕ → Attempt → Option ℕ
+amount_for c a = amount a.arrival
+  where
+    amount : Arrival → Option ℕ
+    amount (Sent d n) = if d == c then Some n else None
+    amount other = None
+
+-- it is lost
+abbrev pub is_loss_of : ℕ → Attempt → Bool
+is_loss_of c a = is_loss a.arrival
+  where
+    is_loss : Arrival → Bool
+    is_loss (Lose d) = d == c
+    is_loss other = false
+
+-- memory was refused for it
+abbrev pub is_short_for : ℕ → Attempt → Bool
+is_short_for c a = not a.is_whole && is_of a.arrival
+  where
+    is_of : Arrival → Bool
+    is_of (In d bytes) = d == c
+    is_of (Sent d n) = d == c
+    is_of other = false
+
+-- ---- of one socket
+
+-- what a read of it gave
+abbrev pub got_of : ℕ → Call → Option (List ℕ)
+got_of s (Got t bytes) = if t == s then Some bytes else None
+got_of s call = None
+
+-- what a write to it took
+abbrev pub took_of : ℕ → Call → Option (List ℕ)
+took_of s (Took t bytes) = if t == s then Some bytes else None
+took_of s call = None
+
+-- how many bytes a write to it took
+abbrev pub count_of : ℕ → Call → Option ℕ
+count_of s (Took t bytes) = if t == s then Some (length bytes) else None
+count_of s call = None
+
+-- its input ended, or a read of it or a write to it failed
+abbrev pub is_end_of : ℕ → Call → Bool
+is_end_of s (Read_ended t) = t == s
+is_end_of s (Read_failed t) = t == s
+is_end_of s (Write_failed t) = t == s
+is_end_of s call = false
+
+-- ---- whose socket is which
+
+-- the socket that was met, and its connection
+abbrev pub met_by : Deed → List Peer
+met_by (Met i p) = p ∷ []
+met_by deed = []
+
+-- all that were met, in order
+abbrev pub all_met : List Deed → List Peer
+all_met deeds = flat_map met_by deeds
+
+-- Of one socket and its connection:
+pub record IsJoined (p : Peer) (asked : List Call) (arrived : List Attempt) : Type 0 where
+  -- each piece that came in for the connection was read from the socket, and each read came in
+  pub pieces : filter_map (piece_for p.connection) arrived ≡ filter_map (got_of p.socket) asked
+  -- the amounts that were taken of its output are what the socket took
+  pub amounts : filter_map (amount_for p.connection) arrived ≡ filter_map (count_of p.socket) asked
+  -- it was lost as often as the socket ended or failed, or memory was refused for it
+  pub losses : count_by (is_loss_of p.connection) arrived ≡ count_by (is_end_of p.socket) asked + count_by (is_short_for p.connection) arrived
+
+-- each socket that was met has its own connection
+abbrev pub AreJoined : List Deed → Type 0
+AreJoined deeds = (p : Peer) → IsIn p (all_met deeds) → IsJoined p (flat_map calls deeds) (flat_map attempts deeds)

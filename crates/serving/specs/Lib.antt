@@ -1,0 +1,9 @@
+pub mod Wire
+pub mod Answered
+pub mod Coming
+pub mod Story
+pub mod Fit
+pub mod Rounds
+pub mod Serving
+pub mod Joined
+pub mod Whole

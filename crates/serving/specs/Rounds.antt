@@ -1,0 +1,55 @@
+-- Rounds: one accept, a read of each connection that is awake, a write of each with output, and a rest where nothing was done (own).
+use Rattle.std.specs.Prelude.{◌≡◌, ℕ, zero, suc, List, [], ◌∷◌, flat_map, Bool, true, false, not, ◌||◌, Option, Some, None, if◌then◌else◌}
+use Rattle.model.specs.Arrivals.{World, is_awake, has_output}
+use Rattle.serving.specs.Wire.{Ask, To_accept, To_read, To_write, Rested, after}
+use Rattle.serving.specs.Story.{Served, served, Serves}
+use Rattle.serving.specs.declared.peers.Peer.{Peer}
+
+-- a read, where the connection is awake
+abbrev pub read_of : World → Option Peer → List Ask
+read_of w None = []
+read_of w (Some p) = if is_awake w p.connection then To_read p.socket ∷ [] else []
+
+-- a write, where it has output
+abbrev pub write_of : World → Option Peer → List Ask
+write_of w None = []
+write_of w (Some p) = if has_output w p.connection then To_write p.socket ∷ [] else []
+
+-- one of each connection that is neither paused nor over, by slot
+abbrev pub reads_due : Served → List Ask
+reads_due v = flat_map (read_of v.world) v.peers
+
+-- one of each with output, by slot
+abbrev pub writes_due : Served → List Ask
+writes_due v = flat_map (write_of v.world) v.peers
+
+-- One accept, the reads and the writes that are due then, and no other; and whether anything was done.
+pub record GoesRound (old : Served) (acted : Bool) (new : Served) : Type 0 where
+  pub met : Served
+  pub heard : Served
+  pub given : Served
+  pub has_met : Bool
+  pub has_heard : Bool
+  pub has_given : Bool
+  pub has_closed : Bool
+  pub accepts : Serves old (To_accept ∷ []) has_met met
+  pub reads : Serves met (reads_due met) has_heard heard
+  pub writes : Serves heard (writes_due heard) has_given given
+  pub closes : Serves given [] has_closed new
+  pub acts : acted ≡ (((has_met || has_heard) || has_given) || has_closed)
+
+-- one rest where nothing was done, and else none
+abbrev pub Rests : Served → Bool → Served → Type 0
+Rests old acted new = new ≡ (if acted then old else record old { told = after old.told (Rested ∷ []) })
+
+-- One round.
+pub record IsRound (old new : Served) : Type 0 where
+  pub acted : Bool
+  pub gone_round : Served
+  pub goes : GoesRound old acted gone_round
+  pub rests : Rests gone_round acted new
+
+-- that many rounds, one after the other
+abbrev pub Rounds : ℕ → Served → Served → Type 0
+Rounds zero old new = new ≡ old
+Rounds (suc n) old new = (mid : Served) × Rounds n old mid × IsRound mid new

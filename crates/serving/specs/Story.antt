@@ -1,0 +1,144 @@
+-- What a server does: what it asks of its wire, what is answered, and which arrivals it makes of that (own).
+use Rattle.std.specs.Prelude.{◌≡◌, ◌≢◌, ◌≤◌, ◌+◌, ℕ, List, [], ◌∷◌, ◌++◌, length, take, flat_map, Bool, true, false, Option, Some, None, slice_index_or, slice_set, if◌then◌else◌}
+use Rattle.std.specs.List.{list_any}
+use Rattle.model.specs.Run.{Happening}
+use Rattle.model.specs.Arrivals.{World, Answers, is_gone, can_open}
+use Rattle.model.specs.declared.events.Arrival.TheVariants as arrival
+use Rattle.serving.specs.Wire.{Call, Accepted, Not_accepted, Accept_failed, Got, Nothing_got, Read_ended, Read_failed, Took, Nothing_taken, Write_failed, Closed, Rested, Ask, asks, Told, after, IsFresh}
+use Rattle.serving.specs.Coming.{Attempt, whole, short, Brings, Attempts}
+use Rattle.serving.specs.declared.peers.Peer.{Peer}
+
+-- a machine's world, whose socket is which by slot, and what the wire tells
+pub record Served : Type 0 where
+  pub world : World
+  pub peers : List (Option Peer)
+  pub told : Told
+
+abbrev pub served : World → List (Option Peer) → Told → Served
+served w ps t = record { world = w; peers = ps; told = t }
+
+pub data Deed : Type 0 where
+  -- a socket came, and a connection was opened for it in this slot
+  Met : (slot : ℕ) → (peer : Peer) → Deed
+  -- a socket came, and no connection could be opened, or there was no memory
+  Turned_away : (socket : ℕ) → (opening : Attempt) → Deed
+  Met_no_one : (is_failure : Bool) → Deed
+  Heard : (slot : ℕ) → (peer : Peer) → (bytes : List ℕ) → Deed
+  -- memory was refused on the way
+  Heard_partly : (slot : ℕ) → (peer : Peer) → (bytes : List ℕ) → Deed
+  Heard_nothing : (slot : ℕ) → (peer : Peer) → Deed
+  -- the input of a socket ended, or its read failed
+  Heard_end : (slot : ℕ) → (peer : Peer) → (is_failure : Bool) → Deed
+  Gave : (slot : ℕ) → (peer : Peer) → (bytes : List ℕ) → Deed
+  -- memory was refused for what waited
+  Gave_partly : (slot : ℕ) → (peer : Peer) → (bytes : List ℕ) → Deed
+  Gave_nothing : (slot : ℕ) → (peer : Peer) → Deed
+  -- the write failed
+  Gave_up : (slot : ℕ) → (peer : Peer) → Deed
+  -- it is over with no output left
+  Let_go : (slot : ℕ) → (peer : Peer) → Deed
+  Paused : Deed
+
+-- what was asked of the wire by it, and answered
+abbrev pub calls : Deed → List Call
+calls (Met i p) = Accepted p.socket ∷ []
+calls (Turned_away s o) = Accepted s ∷ Closed s ∷ []
+calls (Met_no_one failed) = (if failed then Accept_failed else Not_accepted) ∷ []
+calls (Heard i p bytes) = Got p.socket bytes ∷ []
+calls (Heard_partly i p bytes) = Got p.socket bytes ∷ Closed p.socket ∷ []
+calls (Heard_nothing i p) = Nothing_got p.socket ∷ []
+calls (Heard_end i p failed) = (if failed then Read_failed p.socket else Read_ended p.socket) ∷ Closed p.socket ∷ []
+calls (Gave i p bytes) = Took p.socket bytes ∷ []
+calls (Gave_partly i p bytes) = Took p.socket bytes ∷ Closed p.socket ∷ []
+calls (Gave_nothing i p) = Nothing_taken p.socket ∷ []
+calls (Gave_up i p) = Write_failed p.socket ∷ Closed p.socket ∷ []
+calls (Let_go i p) = Closed p.socket ∷ []
+calls Paused = Rested ∷ []
+
+-- what arrives at the machine by it
+abbrev pub attempts : Deed → List Attempt
+attempts (Met i p) = whole arrival.Open ∷ []
+attempts (Turned_away s o) = o ∷ []
+attempts (Met_no_one failed) = []
+attempts (Heard i p bytes) = whole (arrival.In p.connection bytes) ∷ []
+attempts (Heard_partly i p bytes) = short (arrival.In p.connection bytes) ∷ whole (arrival.Lose p.connection) ∷ []
+attempts (Heard_nothing i p) = []
+attempts (Heard_end i p failed) = whole (arrival.Lose p.connection) ∷ []
+attempts (Gave i p bytes) = whole (arrival.Sent p.connection (length bytes)) ∷ []
+attempts (Gave_partly i p bytes) = short (arrival.Sent p.connection (length bytes)) ∷ whole (arrival.Lose p.connection) ∷ []
+attempts (Gave_nothing i p) = []
+attempts (Gave_up i p) = whole (arrival.Lose p.connection) ∷ []
+attempts (Let_go i p) = []
+attempts Paused = []
+
+-- something was done: a rest stands only where nothing was
+abbrev pub is_done : Deed → Bool
+is_done (Met_no_one failed) = false
+is_done (Heard_nothing i p) = false
+is_done (Gave_nothing i p) = false
+is_done Paused = false
+is_done deed = true
+
+-- ---- the slots
+
+-- this slot holds this peer
+abbrev pub At : List (Option Peer) → ℕ → Peer → Type 0
+At ps i p = slice_index_or ps i None ≡ Some p
+
+-- this slot was free and holds this peer, and every other slot is as it was
+pub record Filled (old : List (Option Peer)) (i : ℕ) (p : Peer) (new : List (Option Peer)) : Type 0 where
+  pub free : slice_index_or old i None ≡ None
+  pub here : At new i p
+  pub others : (j : ℕ) → j ≢ i → slice_index_or new j None ≡ slice_index_or old j None
+
+-- this slot held this peer and is free
+abbrev pub Freed : List (Option Peer) → ℕ → Peer → List (Option Peer) → Type 0
+Freed old i p new = At old i p × (new ≡ slice_set old i None)
+
+-- this slot holds this peer, and nothing changes
+abbrev pub Kept : List (Option Peer) → ℕ → Peer → List (Option Peer) → Type 0
+Kept old i p new = At old i p × (new ≡ old)
+
+-- these bytes are the first of c's output
+abbrev pub IsFront : World → ℕ → List ℕ → Type 0
+IsFront w c bytes = (n : ℕ) × (n ≤ length (w.wire c).output) × (bytes ≡ take n (w.wire c).output)
+
+-- what a deed is about stands so in the slots, and what was written is the connection's own output
+abbrev pub Table : Served → Deed → List (Option Peer) → Type 0
+Table v (Met i p) new = (can_open v.world ≡ true) × (p.connection ≡ v.world.given + 1) × IsFresh p.socket v.told × Filled v.peers i p new
+Table v (Turned_away s o) new = (o.arrival ≡ arrival.Open) × (new ≡ v.peers)
+Table v (Met_no_one failed) new = new ≡ v.peers
+Table v (Heard i p bytes) new = Kept v.peers i p new
+Table v (Heard_partly i p bytes) new = Freed v.peers i p new
+Table v (Heard_nothing i p) new = Kept v.peers i p new
+Table v (Heard_end i p failed) new = Freed v.peers i p new
+Table v (Gave i p bytes) new = IsFront v.world p.connection bytes × Kept v.peers i p new
+Table v (Gave_partly i p bytes) new = IsFront v.world p.connection bytes × Freed v.peers i p new
+Table v (Gave_nothing i p) new = Kept v.peers i p new
+Table v (Gave_up i p) new = Freed v.peers i p new
+Table v (Let_go i p) new = (is_gone v.world p.connection ≡ true) × Freed v.peers i p new
+Table v Paused new = new ≡ v.peers
+
+-- A socket that came is taken in, or it is not and nothing changes.
+abbrev pub TakesIn : World → List (Option Peer) → ℕ → Bool → World → List (Option Peer) → Type 0
+TakesIn old ps s true new now = (can_open old ≡ true) × ((hs : List Happening) × Answers old arrival.Open hs new) × ((i : ℕ) × Filled ps i (record { connection = old.given + 1; socket = s }) now)
+TakesIn old ps s false new now = ((o : Attempt) × (o.arrival ≡ arrival.Open) × Brings old o [] new) × (now ≡ ps)
+
+-- One deed.
+pub record Does (old : Served) (d : Deed) (hs : List Happening) (new : Served) : Type 0 where
+  pub table : Table old d new.peers
+  pub brings : Attempts old.world (attempts d) hs new.world
+  pub told : new.told ≡ after old.told (calls d)
+
+-- These deeds, one after another.
+abbrev pub Story : Served → List Deed → List Happening → Served → Type 0
+Story old [] hs new = (hs ≡ []) × (new ≡ old)
+Story old (d ∷ ds) hs new = (mid : Served) × (first : List Happening) × (rest : List Happening) × (hs ≡ first ++ rest) × Does old d first mid × Story mid ds rest new
+
+-- A server goes on so: it asks this of its wire, and does something or not.
+pub record Serves (old : Served) (asked : List Ask) (acted : Bool) (new : Served) : Type 0 where
+  pub deeds : List Deed
+  pub happenings : List Happening
+  pub story : Story old deeds happenings new
+  pub asks : asks (flat_map calls deeds) ≡ asked
+  pub done : list_any is_done deeds ≡ acted

@@ -1,0 +1,286 @@
+//! One round, slot by slot.
+
+ghost use Rattle.std.specs.Prelude.{◌≡◌, ◌⊎◌, ◌+◌, List, [], ◌∷◌, Option, Some, None, drop, flat_map, slice_index_or, slice_set, true};
+ghost use Rattle.model.specs.Run.{Happening};
+ghost use Rattle.model.specs.Arrivals.{Answers, has_output, is_awake};
+ghost use Rattle.model.specs.declared.events.Arrival.TheVariants as arrival;
+ghost use Rattle.slab.specs.Slab.{HasRoomFor};
+ghost use Rattle.serving.specs.Wire.{Closed, To_accept, To_read, To_write, after};
+ghost use Rattle.serving.specs.Story.{At, Serves, TakesIn, served};
+ghost use Rattle.serving.specs.Fit.{ApartFrom, IsFit};
+ghost use Rattle.serving.specs.Rounds.{GoesRound, IsRound, read_of, reads_due, write_of, writes_due};
+
+use crate::peers::Peer;
+use crate::turns::{give, has_output, hear, is_awake, is_gone};
+use crate::wire::{Accept, Read, Wire, Write};
+use runs::Machine;
+use slab::Slab;
+use std::alloc::Global;
+
+/// Accepts once. A socket for which no connection can be opened, or for which there is no memory, is closed.
+fn accept_one<M: Machine, W: Wire>(
+    alloc: Global,
+    machine: &mut M,
+    peers: &mut Slab<Peer>,
+    wire: &mut W,
+) -> bool
+    ensures { Serves (served (M.world machine.old) peers.old.slots (W.told wire.old)) (To_accept ∷ []) result (served (M.world machine.new) peers.new.slots (W.told wire.new)) }
+{
+    match wire.accept() {
+        Accept::Socket(socket) => {
+            if !take_in(alloc, machine, peers, socket) {
+                wire.close(socket);
+            }
+            true
+        }
+        Accept::Nothing => false,
+        Accept::Failed => false,
+    }
+}
+
+/// Opens a connection for a socket, if one can be and there is memory.
+fn take_in<M: Machine>(alloc: Global, machine: &mut M, peers: &mut Slab<Peer>, socket: u64) -> bool
+    ensures { TakesIn (M.world machine.old) peers.old.slots socket result (M.world machine.new) peers.new.slots }
+{
+    if peers.reserve(1).is_err() {
+        return false;
+    }
+    match machine.open(alloc) {
+        Ok(Some(connection)) => {
+            peers.insert_reserved(Peer { connection, socket });
+            true
+        }
+        Ok(None) => false,
+        Err(_) => false,
+    }
+}
+
+/// Loses a connection, and closes its socket.
+fn let_down<M: Machine, W: Wire>(
+    machine: &mut M,
+    peers: &mut Slab<Peer>,
+    slot: usize,
+    peer: Peer,
+    wire: &mut W,
+)
+    requires { At peers.old.slots slot peer }
+    ensures lost { (hs : List Happening) × Answers (M.world machine.old) (arrival.Lose peer.connection) hs (M.world machine.new) }
+    ensures freed { peers.new.slots ≡ slice_set peers.old.slots slot None }
+    ensures closed { W.told wire.new ≡ after (W.told wire.old) (Closed peer.socket ∷ []) }
+{
+    machine.lose(peer.connection);
+    peers.remove(slot);
+    wire.close(peer.socket);
+}
+
+/// Reads once from a socket, and does what came.
+fn read_one<M: Machine, W: Wire>(
+    alloc: Global,
+    machine: &mut M,
+    peers: &mut Slab<Peer>,
+    slot: usize,
+    peer: Peer,
+    wire: &mut W,
+    buffer: &mut [u8],
+) -> bool
+    requires at { At peers.old.slots slot peer }
+    requires awake { is_awake (M.world machine.old) peer.connection ≡ true }
+    ensures others { ApartFrom peer.connection (M.world machine.old) (M.world machine.new) }
+    ensures slots { (peers.new.slots ≡ peers.old.slots) ⊎ (peers.new.slots ≡ slice_set peers.old.slots slot None) }
+    ensures serves { Serves (served (M.world machine.old) peers.old.slots (W.told wire.old)) (To_read peer.socket ∷ []) result (served (M.world machine.new) peers.new.slots (W.told wire.new)) }
+{
+    match wire.read(peer.socket, buffer) {
+        Read::Got(n) => {
+            if hear(alloc, machine, peer.connection, &buffer[..n]).is_err() {
+                let_down(machine, peers, slot, peer, wire);
+            }
+            true
+        }
+        Read::Wait => false,
+        Read::End => {
+            let_down(machine, peers, slot, peer, wire);
+            true
+        }
+        Read::Failed => {
+            let_down(machine, peers, slot, peer, wire);
+            true
+        }
+    }
+}
+
+/// Writes once to a socket, and does what waited for that.
+fn write_one<M: Machine, W: Wire>(
+    alloc: Global,
+    machine: &mut M,
+    peers: &mut Slab<Peer>,
+    slot: usize,
+    peer: Peer,
+    wire: &mut W,
+) -> bool
+    requires at { At peers.old.slots slot peer }
+    requires output { has_output (M.world machine.old) peer.connection ≡ true }
+    ensures others { ApartFrom peer.connection (M.world machine.old) (M.world machine.new) }
+    ensures slots { (peers.new.slots ≡ peers.old.slots) ⊎ (peers.new.slots ≡ slice_set peers.old.slots slot None) }
+    ensures serves { Serves (served (M.world machine.old) peers.old.slots (W.told wire.old)) (To_write peer.socket ∷ []) result (served (M.world machine.new) peers.new.slots (W.told wire.new)) }
+{
+    match wire.write(peer.socket, machine.output(peer.connection)) {
+        Write::Took(n) => {
+            if give(alloc, machine, peer.connection, n).is_err() {
+                let_down(machine, peers, slot, peer, wire);
+            }
+            true
+        }
+        Write::Wait => false,
+        Write::Failed => {
+            let_down(machine, peers, slot, peer, wire);
+            true
+        }
+    }
+}
+
+/// Reads once for a slot, if its connection is awake.
+fn read_slot<M: Machine, W: Wire>(
+    alloc: Global,
+    machine: &mut M,
+    peers: &mut Slab<Peer>,
+    slot: usize,
+    wire: &mut W,
+    buffer: &mut [u8],
+) -> bool
+    requires fit { IsFit (M.world machine.old) peers.old.slots }
+    ensures later { drop (slot + 1) peers.new.slots ≡ drop (slot + 1) peers.old.slots }
+    ensures due { flat_map (read_of (M.world machine.new)) (drop (slot + 1) peers.old.slots) ≡ flat_map (read_of (M.world machine.old)) (drop (slot + 1) peers.old.slots) }
+    ensures serves { Serves (served (M.world machine.old) peers.old.slots (W.told wire.old)) (read_of (M.world machine.old) (slice_index_or peers.old.slots slot None)) result (served (M.world machine.new) peers.new.slots (W.told wire.new)) }
+{
+    let Some(peer) = peers.get(slot).copied() else {
+        return false;
+    };
+    if !is_awake(&*machine, peer.connection) {
+        return false;
+    }
+    read_one(alloc, machine, peers, slot, peer, wire, buffer)
+}
+
+/// Reads once for each connection that is neither paused nor over.
+fn read_all<M: Machine, W: Wire>(
+    alloc: Global,
+    machine: &mut M,
+    peers: &mut Slab<Peer>,
+    wire: &mut W,
+    buffer: &mut [u8],
+) -> bool
+    requires fit { IsFit (M.world machine.old) peers.old.slots }
+    ensures { Serves (served (M.world machine.old) peers.old.slots (W.told wire.old)) (reads_due (served (M.world machine.old) peers.old.slots (W.told wire.old))) result (served (M.world machine.new) peers.new.slots (W.told wire.new)) }
+{
+    let mut done = false;
+    for slot in 0..peers.capacity() {
+        done = done | read_slot(alloc, machine, peers, slot, wire, buffer);
+    }
+    done
+}
+
+/// Writes once for a slot, if its connection has output.
+fn write_slot<M: Machine, W: Wire>(
+    alloc: Global,
+    machine: &mut M,
+    peers: &mut Slab<Peer>,
+    slot: usize,
+    wire: &mut W,
+) -> bool
+    requires fit { IsFit (M.world machine.old) peers.old.slots }
+    ensures later { drop (slot + 1) peers.new.slots ≡ drop (slot + 1) peers.old.slots }
+    ensures due { flat_map (write_of (M.world machine.new)) (drop (slot + 1) peers.old.slots) ≡ flat_map (write_of (M.world machine.old)) (drop (slot + 1) peers.old.slots) }
+    ensures serves { Serves (served (M.world machine.old) peers.old.slots (W.told wire.old)) (write_of (M.world machine.old) (slice_index_or peers.old.slots slot None)) result (served (M.world machine.new) peers.new.slots (W.told wire.new)) }
+{
+    let Some(peer) = peers.get(slot).copied() else {
+        return false;
+    };
+    if !has_output(&*machine, peer.connection) {
+        return false;
+    }
+    write_one(alloc, machine, peers, slot, peer, wire)
+}
+
+/// Writes once for each connection with output.
+fn write_all<M: Machine, W: Wire>(
+    alloc: Global,
+    machine: &mut M,
+    peers: &mut Slab<Peer>,
+    wire: &mut W,
+) -> bool
+    requires fit { IsFit (M.world machine.old) peers.old.slots }
+    ensures { Serves (served (M.world machine.old) peers.old.slots (W.told wire.old)) (writes_due (served (M.world machine.old) peers.old.slots (W.told wire.old))) result (served (M.world machine.new) peers.new.slots (W.told wire.new)) }
+{
+    let mut done = false;
+    for slot in 0..peers.capacity() {
+        done = done | write_slot(alloc, machine, peers, slot, wire);
+    }
+    done
+}
+
+/// Lets go of a slot whose connection is over with no output left.
+fn close_slot<M: Machine, W: Wire>(
+    machine: &M,
+    peers: &mut Slab<Peer>,
+    slot: usize,
+    wire: &mut W,
+) -> bool
+    ensures { Serves (served (M.world machine.now) peers.old.slots (W.told wire.old)) [] result (served (M.world machine.now) peers.new.slots (W.told wire.new)) }
+{
+    let Some(peer) = peers.get(slot).copied() else {
+        return false;
+    };
+    if !is_gone(machine, peer.connection) {
+        return false;
+    }
+    peers.remove(slot);
+    wire.close(peer.socket);
+    true
+}
+
+/// Lets go of each connection that is over with no output left.
+fn close_all<M: Machine, W: Wire>(machine: &M, peers: &mut Slab<Peer>, wire: &mut W) -> bool
+    ensures { Serves (served (M.world machine.now) peers.old.slots (W.told wire.old)) [] result (served (M.world machine.now) peers.new.slots (W.told wire.new)) }
+{
+    let mut done = false;
+    for slot in 0..peers.capacity() {
+        done = done | close_slot(machine, peers, slot, wire);
+    }
+    done
+}
+
+/// An accept, reads, writes and closes, and whether anything was done.
+fn go_round<M: Machine, W: Wire>(
+    alloc: Global,
+    machine: &mut M,
+    peers: &mut Slab<Peer>,
+    wire: &mut W,
+    buffer: &mut [u8],
+) -> bool
+    requires fit { IsFit (M.world machine.old) peers.old.slots }
+    ensures fit { IsFit (M.world machine.new) peers.new.slots }
+    ensures round { GoesRound (served (M.world machine.old) peers.old.slots (W.told wire.old)) result (served (M.world machine.new) peers.new.slots (W.told wire.new)) }
+{
+    let has_met = accept_one(alloc, machine, peers, wire);
+    let has_heard = read_all(alloc, machine, peers, wire, buffer);
+    let has_given = write_all(alloc, machine, peers, wire);
+    let has_closed = close_all(&*machine, peers, wire);
+    has_met | has_heard | has_given | has_closed
+}
+
+/// One round, with a rest where nothing was done.
+pub(crate) fn round<M: Machine, W: Wire>(
+    alloc: Global,
+    machine: &mut M,
+    peers: &mut Slab<Peer>,
+    wire: &mut W,
+    buffer: &mut [u8],
+)
+    requires fit { IsFit (M.world machine.old) peers.old.slots }
+    ensures fit { IsFit (M.world machine.new) peers.new.slots }
+    ensures round { IsRound (served (M.world machine.old) peers.old.slots (W.told wire.old)) (served (M.world machine.new) peers.new.slots (W.told wire.new)) }
+{
+    if !go_round(alloc, machine, peers, wire, buffer) {
+        wire.rest();
+    }
+}

@@ -1,0 +1,79 @@
+//! A server, and how long it serves.
+
+ghost use Rattle.std.specs.Prelude.{◌≡◌, IfOk, []};
+ghost use Rattle.model.specs.Arrivals.{new_world};
+ghost use Rattle.model.specs.State.{Config};
+ghost use Rattle.serving.specs.Story.{served};
+ghost use Rattle.serving.specs.Rounds.{IsRound, Rounds};
+ghost use Rattle.serving.specs.Whole.{IsServed};
+
+use crate::peers::Peer;
+use crate::rounds::round;
+use crate::wire::Wire;
+use runs::Machine;
+use slab::Slab;
+use std::alloc::{AllocError, Global};
+use std::marker::Model;
+
+/// The most bytes that one read takes.
+const READ_BOUND: usize = 65_536;
+
+/// A machine, and whose socket is which.
+#[derive(Drop)]
+pub struct Server<M: Machine> {
+    machine: M,
+    peers: Slab<Peer>,
+    buffer: Vec<u8>,
+}
+
+impl<M: Machine> Model for Server<M> {
+    ghost use Rattle.serving.specs.Serving.{Serving};
+    ghost use Rattle.serving.specs.Fit.{IsFit};
+
+    ghost Value = { Serving M };
+
+    ghost view = { λ s. record { machine = s.machine; peers = s.peers.slots } };
+
+    ghost invariant = { λ s. IsFit (M.world s.machine) s.peers.slots };
+}
+
+impl<M: Machine> Server<M> {
+    /// A server of this machine, with no socket yet.
+    pub fn new(alloc: Global, machine: M) -> Result<Server<M>, AllocError>
+    where
+        M: Drop,
+        ensures { IfOk result (λ s. s ≡ record { machine = machine; peers = [] }) }
+    {
+        let buffer = vec![in alloc; 0; READ_BOUND]?;
+        Ok(Server {
+            machine,
+            peers: Slab::new(alloc),
+            buffer,
+        })
+    }
+
+    /// One round: an accept, a read of each connection that is neither paused nor over, a write of each with output, the
+    /// end of those that are over with no output left, and a rest where nothing was done.
+    pub fn round<W: Wire>(&mut self, alloc: Global, wire: &mut W)
+        ensures { IsRound (served (M.world self.old.machine) self.old.peers (W.told wire.old)) (served (M.world self.new.machine) self.new.peers (W.told wire.new)) }
+    {
+        round(
+            alloc,
+            &mut self.machine,
+            &mut self.peers,
+            wire,
+            self.buffer.as_mut_slice(),
+        );
+    }
+}
+
+/// That many rounds.
+pub fn serve<M: Machine, W: Wire>(alloc: Global, server: &mut Server<M>, wire: &mut W, turns: u64)
+    ensures rounds { Rounds turns (served (M.world server.old.machine) server.old.peers (W.told wire.old)) (served (M.world server.new.machine) server.new.peers (W.told wire.new)) }
+    // From a new server of a machine with no connection: what arrived, and that the promises are kept.
+    ensures served { (f : Config) → M.world server.old.machine ≡ new_world f → server.old.peers ≡ [] → IsServed f (W.told wire.old) (served (M.world server.new.machine) server.new.peers (W.told wire.new)) }
+{
+    for _ in 0..turns {
+        server.round(alloc, wire);
+    }
+}
