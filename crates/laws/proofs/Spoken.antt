@@ -12,7 +12,7 @@ use Rattle.model.specs.Phases.{Session, running_session, no_session, after_metho
 use Rattle.model.specs.State.{Config, State, Step}
 use Rattle.model.specs.Run.{Happening, sends_of}
 use Rattle.model.specs.Spelling.{receiver, sends_to}
-use Rattle.model.specs.Arrivals.{World, new_world, is_ended, is_over, is_paused, is_gone, can_open, event_of, Reads, again, fresh, fault, Settles, Puts, Turns, Works, none_more, one_more, WorksOff, Same, Takes_off, Opens, Loses, Answers, Plays, with_heard}
+use Rattle.model.specs.Arrivals.{World, new_world, is_ended, is_over, is_paused, is_gone, can_open, event_of, Reads, again, fresh, fault, Settles, Puts, Turns, Waits, Works, none_more, one_more, WorksOff, Same, Takes_off, Opens, Loses, Answers, Plays, with_heard}
 use Rattle.model.specs.declared.methods.Method.{Method}
 use Rattle.model.specs.declared.methods.Method.TheVariants.{ConnectionClose, ConnectionCloseOk}
 use Rattle.model.specs.declared.events.Command.{Command}

@@ -6,8 +6,8 @@ use Rattle.std.proofs.lemmas.List.{append-nil}
 use Rattle.std.proofs.lemmas.Bool.Decides.{nat_tests}
 use Rattle.model.specs.Words.{Text}
 use Rattle.model.specs.declared.events.Arrival.{Arrival}
-use Rattle.model.specs.declared.events.Arrival.TheVariants.{Open, Ready, In}
-use Rattle.scripts.specs.Script.{cut, piece, number, connection, opening, ready, bytes_in, by_word, arrival_of, line_of, arrivals_from, opened_after, onto, with_line}
+use Rattle.model.specs.declared.events.Arrival.TheVariants.{Open, Ready, In, Sent, Lose}
+use Rattle.scripts.specs.Script.{cut, piece, number, connection, opening, ready, bytes_in, sent, lost, by_word, arrival_of, line_of, arrivals_from, opened_after, onto, with_line}
 
 -- how much is left, counting one for a text that has no bytes
 abbrev pub left : Option Text → ℕ
@@ -62,15 +62,31 @@ cut_few : (opened : ℕ) (f : Option (Text × Text)) → opened ≤ 1024 → ope
 cut_few opened None h = h
 cut_few opened (Some f) h = in_few opened (connection opened f.0) (piece f.1) h
 
-word_at : (opened : ℕ) (f : Text × Text) (v w : Bool) → opened ≤ 1024
-    → opened_after opened (option_map (λ (x : Arrival). Some x) (cond v (ready opened f.1) (cond w (option_and_then (bytes_in opened) (cut f.1)) None))) ≤ 1024
-word_at opened f true w h = ready_few opened (number f.1) h
-word_at opened f false true h = cut_few opened (cut f.1) h
-word_at opened f false false h = h
+sent_few : (opened : ℕ) (c n : Option ℕ) → opened ≤ 1024
+    → opened_after opened (option_map (λ (x : Arrival). Some x) (option_and_then (λ (k : ℕ). option_map (λ (count : ℕ). Sent k count) n) c)) ≤ 1024
+sent_few opened None n h = h
+sent_few opened (Some k) None h = h
+sent_few opened (Some k) (Some count) h = h
+
+cut_sent_few : (opened : ℕ) (f : Option (Text × Text)) → opened ≤ 1024 → opened_after opened (option_map (λ (x : Arrival). Some x) (option_and_then (sent opened) f)) ≤ 1024
+cut_sent_few opened None h = h
+cut_sent_few opened (Some f) h = sent_few opened (connection opened f.0) (number f.1) h
+
+lost_few : (opened : ℕ) (c : Option ℕ) → opened ≤ 1024 → opened_after opened (option_map (λ (x : Arrival). Some x) (option_map (λ (n : ℕ). Lose n) c)) ≤ 1024
+lost_few opened None h = h
+lost_few opened (Some n) h = h
+
+word_at : (opened : ℕ) (f : Text × Text) (v w y z : Bool) → opened ≤ 1024
+    → opened_after opened (option_map (λ (x : Arrival). Some x) (cond v (ready opened f.1) (cond w (option_and_then (bytes_in opened) (cut f.1)) (cond y (option_and_then (sent opened) (cut f.1)) (cond z (lost opened f.1) None))))) ≤ 1024
+word_at opened f true w y z h = ready_few opened (number f.1) h
+word_at opened f false true y z h = cut_few opened (cut f.1) h
+word_at opened f false false true z h = cut_sent_few opened (cut f.1) h
+word_at opened f false false false true h = lost_few opened (connection opened f.1) h
+word_at opened f false false false false h = h
 
 word_few : (opened : ℕ) (f : Option (Text × Text)) → opened ≤ 1024 → opened_after opened (option_map (λ (x : Arrival). Some x) (option_and_then (by_word opened) f)) ≤ 1024
 word_few opened None h = h
-word_few opened (Some f) h = word_at opened f (bytes_eq f.0 (codes "ready")) (bytes_eq f.0 (codes "in")) h
+word_few opened (Some f) h = word_at opened f (bytes_eq f.0 (codes "ready")) (bytes_eq f.0 (codes "in")) (bytes_eq f.0 (codes "sent")) (bytes_eq f.0 (codes "lose")) h
 
 arrival_at : (opened : ℕ) (l : Text) (v : Bool) → opened ≤ 1024 → opened_after opened (option_map (λ (x : Arrival). Some x) (cond v (opening opened) (option_and_then (by_word opened) (cut l)))) ≤ 1024
 arrival_at opened l true h = opening_at opened (nat_lt opened 1024) refl h
