@@ -90,10 +90,10 @@ fn a_connection_is_answered_from_its_first_eight_bytes(rt: HostRuntime) {
     let started = turned(alloc, &mut engine, 1);
     assert_eq!(rt; started, Done::Did(0));
     assert_eq!(rt; engine.output(1).len(), 136);
-    assert_eq!(rt;
-        engine.output(1)[..11],
-        [1, 0, 0, 0, 0, 0, 128, 0, 10, 0, 10]
-    );
+    let starts = engine
+        .output(1)
+        .starts_with([1, 0, 0, 0, 0, 0, 128, 0, 10, 0, 10].as_slice());
+    assert!(rt; starts);
     assert!(rt; !engine.is_over(1));
 }
 
