@@ -1,18 +1,31 @@
 -- What the broker's state is after a message was given out.
-use Rattle.std.proofs.Common.{◌≡◌, ◌+◌, ◌++◌, ◌∷◌, [], ℕ, List, Bool, true, false, ◌&&◌, ◌==◌, Option, Some, None, map, refl, sym, ap, subst, ◌∙◌, if◌then◌else◌}
-use Rattle.std.specs.Prelude.{option_map, slice_index_or}
+use Rattle.std.proofs.Common.{◌≡◌, ◌+◌, ◌-◌, ◌<◌, ◌++◌, ◌∷◌, [], ℕ, List, Bool, true, false, cond, ◌&&◌, ◌==◌, Option, Some, None, inl, inr, map, filter, length, refl, sym, ap, subst, ◌∙◌, arith, if◌then◌else◌}
+use Rattle.std.specs.Prelude.{option_map, slice_index_or, find, is_some}
+use Rattle.std.specs.List.{AllByRecursion}
+use Rattle.std.specs.Str.{bytes_eq}
+use Rattle.std.proofs.lemmas.Bool.{eqb-true, false≢true}
 use Rattle.std.proofs.lemmas.List.{map-append}
+use Rattle.std.proofs.lemmas.Option.{same_Some}
+use Rattle.std.proofs.lemmas.Slice.Eq.{bytes_eq-Decides}
 use Rattle.model.specs.Words.{Text}
-use Rattle.model.specs.Topology.{queue_names}
+use Rattle.model.specs.Topology.{Topology, queue_names, IsIn}
+use Rattle.model.specs.Agreement.{IsAgreed}
 use Rattle.model.specs.Broker as model
-use Rattle.model.specs.Broker.{is_ready, with_pair}
-use Rattle.model.specs.Entries.{held_as, change_first, without_first}
+use Rattle.model.specs.Broker.{Broker, is_ready, with_pair}
+use Rattle.model.specs.Entries.{is_held_as, held_as, change_first, without_first}
 use Rattle.model.specs.Prefetch.{has_tag_left}
 use Rattle.model.specs.Deliveries as seen
-use Rattle.model.specs.Deliveries.{after_delivery, channel_after}
-use Rattle.model.specs.Step.{Is, channel_or_new}
+use Rattle.model.specs.Deliveries.{first_ready, ready_in, after_giving, after_delivery, channel_after, delivery_notes}
+use Rattle.model.specs.Sending.{IsCarried, AreCarried}
+use Rattle.model.specs.Step.{Is, Gets, Refusal, Of_connection, or_else, refusal_in, refusal_of_tags, refusal_of_get, channel_or_new, get_ok}
+use Rattle.model.specs.declared.events.Send.{Send}
+use Rattle.model.specs.declared.notes.Note.{Note}
+use Rattle.model.specs.declared.methods.Get.{Get}
 use Rattle.model.specs.declared.messages.Entry.{Entry}
 use Rattle.model.specs.declared.messages.Holder.{Holder}
+use Rattle.model.specs.declared.messages.Mark.{Mark}
+use Rattle.model.specs.declared.messages.Mark.TheVariants.{Ready, Held}
+use Rattle.model.specs.declared.messages.Taker.{Taker}
 use Rattle.model.specs.declared.messages.Taker.TheVariants as taker
 use Rattle.exchange_graph.specs.Marks.{queue_name}
 use Rattle.depot.specs.Store.{Store, IsNamed, queue_of, queue_at, with_queue}
@@ -70,3 +83,123 @@ puts_twice old mid new c h one two a b = record {
     go : (v : Bool) (d k : ℕ) → channel_of mid d k ≡ (if v then one else channel_of old d k) → (if v then two else channel_of mid d k) ≡ (if v then two else channel_of old d k)
     go true d k e = refl
     go false d k e = e
+
+-- ---- no message is held under the next tag
+
+find_in : {A : Type 0} (p : A → Bool) (x : A) (xs : List A) → find p xs ≡ Some x → IsIn x xs × (p x ≡ true)
+find_in p x [] e = absurd (false≢true (ap is_some e))
+find_in {A = A} p x (y ∷ ys) e = go (p y) refl (find_in p x ys) e
+  where
+    go : (v : Bool) → p y ≡ v → (find p ys ≡ Some x → IsIn x ys × (p x ≡ true)) → cond v (Some y) (find p ys) ≡ Some x → IsIn x (y ∷ ys) × (p x ≡ true)
+    go true q more e = (inl (sym (same_Some y x e)), subst (λ (z : A). p z ≡ true) (same_Some y x e) q)
+    go false q more e = (inr (more e).0, (more e).1)
+
+all_in : {A : Type 0} (P : A → Type 0) (x : A) (xs : List A) → AllByRecursion P xs → IsIn x xs → P x
+all_in P x [] a i = absurd i
+all_in P x (y ∷ ys) a (inl e) = subst P (sym e) a.0
+all_in P x (y ∷ ys) a (inr i) = all_in P x ys a.1 i
+
+-- what is held under a tag is so by one who holds that tag of that channel
+data HeldUnder (g : Holder) (e : Entry) : Type 0 where
+  held : (holder : Holder) → e.mark ≡ Held holder → holder.connection ≡ g.connection → holder.channel ≡ g.channel → holder.tag ≡ g.tag → HeldUnder g e
+
+held_under : (g : Holder) (e : Entry) → is_held_as g e ≡ true → HeldUnder g e
+held_under g e is = go e.mark refl is
+  where
+    parts : (holder : Holder) → e.mark ≡ Held holder → (u : Bool) → (holder.connection == g.connection) ≡ u → (v : Bool) → (holder.channel == g.channel) ≡ v → (w : Bool) → (holder.tag == g.tag) ≡ w → ((u && v) && w) ≡ true → HeldUnder g e
+    parts holder at true a true b true c f = held holder at (eqb-true holder.connection g.connection a) (eqb-true holder.channel g.channel b) (eqb-true holder.tag g.tag c)
+    parts holder at true a true b false c f = absurd (false≢true f)
+    parts holder at true a false b w c f = absurd (false≢true f)
+    parts holder at false a v b w c f = absurd (false≢true f)
+
+    go : (m : Mark) → e.mark ≡ m → is_held_as g (record { message = e.message; mark = m }) ≡ true → HeldUnder g e
+    go Ready at f = absurd (false≢true f)
+    go (Held holder) at f = parts holder at (holder.connection == g.connection) refl (holder.channel == g.channel) refl (holder.tag == g.tag) refl f
+
+-- no message is held under the tag that is next on its channel
+pub next_free : (b : Broker) → IsAgreed b → (c h : ℕ) (by : Taker) (q : Text) → find (is_held_as (record { connection = c; channel = h; tag = (channel_or_new (b.channel c h)).next_tag; by = by })) (b.queue q) ≡ None
+next_free b a c h by q = go (find (is_held_as g) (b.queue q)) refl
+  where
+    g : Holder
+    g = record { connection = c; channel = h; tag = (channel_or_new (b.channel c h)).next_tag; by = by }
+
+    none : (e : Entry) → IsIn e (b.queue q) → HeldUnder g e → ⊥
+    none e i (held holder at same_c same_h same_tag) =
+        let o = a.held q e holder i at in
+        let own : channel_or_new (b.channel c h) ≡ o.channel = ap channel_or_new (ap (λ (d : ℕ). b.channel d h) (sym same_c) ∙ ap (b.channel holder.connection) (sym same_h) ∙ o.there) in
+        let below : o.delivery.tag < o.channel.next_tag = all_in (λ (x : model.Outstanding). x.tag < o.channel.next_tag) o.delivery o.channel.outstanding (a.before holder.connection holder.channel o.channel o.there) o.outstanding in
+        let next : o.channel.next_tag ≡ o.delivery.tag = ap (λ (x : model.Channel). x.next_tag) (sym own) ∙ sym same_tag ∙ sym o.tag in
+        omega (arith, below, next)
+
+    go : (o : Option Entry) → find (is_held_as g) (b.queue q) ≡ o → o ≡ None
+    go None e = refl
+    go (Some e) f = let at = find_in (is_held_as g) e (b.queue q) f in absurd (none e at.0 (held_under g e at.1))
+
+-- ---- what remains
+
+-- without the first ready message one fewer is ready
+ready_without : (es : List Entry) (e : Entry) → find is_ready es ≡ Some e → ready_in es ≡ ready_in (without_first is_ready es) + 1
+ready_without [] e f = absurd (false≢true (ap is_some f))
+ready_without (x ∷ xs) e f = go (is_ready x) refl (ready_without xs e) f
+  where
+    go : (v : Bool) → is_ready x ≡ v → (find is_ready xs ≡ Some e → ready_in xs ≡ ready_in (without_first is_ready xs) + 1) → cond v (Some x) (find is_ready xs) ≡ Some e
+        → length (cond v (x ∷ filter is_ready xs) (filter is_ready xs)) ≡ ready_in (if v then xs else x ∷ without_first is_ready xs) + 1
+    go true is more g = let n = refl in omega arith
+    go false is more g = more g ∙ ap (λ (b : Bool). length (cond b (x ∷ filter is_ready (without_first is_ready xs)) (filter is_ready (without_first is_ready xs))) + 1) (sym is)
+
+-- and so where it is held
+ready_held : (holder : Holder) (es : List Entry) (e : Entry) → find is_ready es ≡ Some e → ready_in es ≡ ready_in (change_first is_ready (held_as holder) es) + 1
+ready_held holder [] e f = absurd (false≢true (ap is_some f))
+ready_held holder (x ∷ xs) e f = go (is_ready x) refl (ready_held holder xs e) f
+  where
+    go : (v : Bool) → is_ready x ≡ v → (find is_ready xs ≡ Some e → ready_in xs ≡ ready_in (change_first is_ready (held_as holder) xs) + 1) → cond v (Some x) (find is_ready xs) ≡ Some e
+        → length (cond v (x ∷ filter is_ready xs) (filter is_ready xs)) ≡ ready_in (if v then held_as holder x ∷ xs else x ∷ change_first is_ready (held_as holder) xs) + 1
+    go true is more g = omega arith
+    go false is more g = more g ∙ ap (λ (b : Bool). length (cond b (x ∷ filter is_ready (change_first is_ready (held_as holder) xs)) (filter is_ready (change_first is_ready (held_as holder) xs))) + 1) (sym is)
+
+remaining_in : (no_ack : Bool) (holder : Holder) (es : List Entry) (e : Entry) → find is_ready es ≡ Some e → ready_in (after_giving no_ack holder es) ≡ ready_in es - 1
+remaining_in true holder es e f = let more = ready_without es e f in omega (arith, more)
+remaining_in false holder es e f = let more = ready_held holder es e f in omega (arith, more)
+
+-- as many messages remain in the queue as were ready behind the one that is given out
+remaining_are : (b : Broker) (c h : ℕ) (ch : model.Channel) (no_ack : Bool) (q : Text) (e : Entry) → first_ready (b.queue q) ≡ Some e
+    → ready_in ((after_delivery b c h ch no_ack q taker.Get).queue q) ≡ ready_in (b.queue q) - 1
+remaining_are b c h ch no_ack q e f =
+    let holder : Holder = record { connection = c; channel = h; tag = ch.next_tag; by = taker.Get } in
+    ap (λ (v : Bool). ready_in (if v then after_giving no_ack holder (b.queue q) else b.queue q)) ((bytes_eq-Decides q q).1 refl)
+    ∙ remaining_in no_ack holder (b.queue q) e f
+
+-- ---- what a get does
+
+-- a message was given out
+pub gotten : (old new : Broker) (c h : ℕ) (ch : model.Channel) (get : Get) (q : Text) (e : Entry) (tag remaining : ℕ) (sends : List Send) (notes : List Note)
+    → q ≡ get.queue → first_ready (old.queue q) ≡ Some e → tag ≡ ch.next_tag → remaining ≡ ready_in (old.queue q) - 1
+    → sends ≡ get_ok c h tag e remaining ∷ [] → notes ≡ delivery_notes get.no_ack e.message.number get.queue
+    → Is (after_delivery old c h ch get.no_ack q taker.Get) new
+    → Gets old c h ch get (first_ready (old.queue get.queue)) sends notes new
+gotten old new c h ch get q e tag remaining sends notes named found tagged count sent noted left =
+    let here : first_ready (old.queue get.queue) ≡ Some e = subst (λ (z : Text). first_ready (old.queue z) ≡ Some e) named found in
+    let rest : remaining ≡ ready_in ((after_delivery old c h ch get.no_ack get.queue taker.Get).queue get.queue) =
+    count ∙ ap (λ (z : Text). ready_in (old.queue z) - 1) named ∙ sym (remaining_are old c h ch get.no_ack get.queue e here) in
+    subst (λ (o : Option Entry). Gets old c h ch get o sends notes new) (sym here)
+    (record {
+      sent = sent ∙ ap (λ (t : ℕ). get_ok c h t e remaining ∷ []) tagged ∙ ap (λ (n : ℕ). get_ok c h ch.next_tag e n ∷ []) rest;
+      noted = noted;
+      left = subst (λ (z : Text). Is (after_delivery old c h ch get.no_ack z taker.Get) new) named left;
+    })
+
+-- a tag is left where a get is not refused and there is a message for it
+pub tag_left : (t : Topology) (b : Broker) (ch : model.Channel) (get : Get) (e : Entry) → refusal_of_get t b ch get ≡ None → first_ready (b.queue get.queue) ≡ Some e → has_tag_left ch.next_tag ≡ true
+tag_left t b ch get e accepted found = go (has_tag_left ch.next_tag) (past (refusal_in t get.queue) (subst (λ (o : Option Entry). or_else (refusal_in t get.queue) (refusal_of_tags ch o) ≡ None) found accepted))
+  where
+    past : (first : Option Refusal) → or_else first (refusal_of_tags ch (Some e)) ≡ None → refusal_of_tags ch (Some e) ≡ None
+    past None f = f
+    past (Some r) f = absurd (false≢true (sym (ap is_some f)))
+
+    go : (v : Bool) → (if v then None else Some (Of_connection 541)) ≡ None → v ≡ true
+    go true f = refl
+    go false f = absurd (false≢true (sym (ap is_some f)))
+
+-- the first message that is ready can be given out, where each can
+pub first_carried : (b : Broker) (q : Text) (e : Entry) → AreCarried b → first_ready (b.queue q) ≡ Some e → IsCarried e.message
+first_carried b q e carried found = all_in (λ (x : Entry). IsCarried x.message) e (b.queue q) (carried q) (find_in is_ready e (b.queue q) found).0

@@ -1,5 +1,5 @@
 -- What is decided of a command, from the first test that holds.
-use Rattle.std.proofs.Common.{◌≡◌, ◌≢◌, ◌<◌, ℕ, zero, suc, List, [], ◌∷◌, length, get_or, inl, inr, Bool, true, false, ◌||◌, Option, Some, None, Result, arith, refl, subst, sym, ap, ◌∙◌, nat_eq, nat_lt, if◌then◌else◌}
+use Rattle.std.proofs.Common.{◌≡◌, ◌≢◌, ◌<◌, ℕ, zero, suc, List, [], ◌∷◌, length, get_or, inl, inr, Bool, true, false, ◌||◌, ◌&&◌, not, Option, Some, None, Result, arith, refl, subst, sym, ap, ◌∙◌, nat_eq, nat_lt, if◌then◌else◌}
 use Rattle.std.specs.Prelude.{◌==◌, is_some}
 use Rattle.std.specs.Str.{bytes_eq}
 use Rattle.std.proofs.lemmas.Bool.Decides.{nat_tests}
@@ -8,9 +8,13 @@ use Rattle.model.specs.Words.{Text}
 use Rattle.model.specs.Topology.{Topology, queue_names, IsIn}
 use Rattle.model.specs.declared.topologies.DeclaredQueue.{DeclaredQueue}
 use Rattle.model.specs.Broker.{Broker, Channel, Connection, queue_named}
-use Rattle.model.specs.Step.{Refusal, Of_connection, greatest, is_spent, or_else, refusal_to, refusal_of_count, refusal_of_publish, is_awaiting, is_of_connection, refusal, refusal_while_closing, refusal_on_zero, refusal_of}
+use Rattle.model.specs.Step.{Refusal, Of_connection, greatest, is_spent, or_else, refusal_to, refusal_in, refusal_of_tags, refusal_of_get, refusal_of_count, refusal_of_publish, is_awaiting, is_of_connection, refusal, refusal_while_closing, refusal_on_zero, refusal_of}
 use Rattle.model.specs.declared.methods.Method.{Method}
 use Rattle.model.specs.declared.methods.Publish.{Publish}
+use Rattle.model.specs.declared.methods.Get.{Get}
+use Rattle.model.specs.declared.messages.Entry.{Entry}
+use Rattle.model.specs.Deliveries.{first_ready}
+use Rattle.model.specs.Prefetch.{has_tag_left}
 use Rattle.broker.specs.Judged.{Judges, HasChannel}
 use Rattle.broker.specs.declared.refusals.Refusal as declared
 use Rattle.broker.specs.declared.refusals.Refusal.TheVariants as refused
@@ -74,3 +78,17 @@ queue_absent (q ∷ qs) name none = chosen (bytes_eq q.name name) refl (queue_ab
     chosen : (b : Bool) → bytes_eq q.name name ≡ b → is_some (queue_named qs name) ≡ false → is_some (if b then Some q else queue_named qs name) ≡ false
     chosen true is rest = absurd (none (inl (sym ((bytes_eq-Decides q.name name).0 is))))
     chosen false is rest = rest
+
+-- a get from a queue that is there is refused where a message is ready and no tag is left for it
+pub get_judged : (t : Topology) (b : Broker) (ch : Channel) (m : Get) (entries : List Entry) (lacks : Bool) → refusal_in t m.queue ≡ None → b.queue m.queue ≡ entries
+    → lacks ≡ (is_some (first_ready entries) && not (has_tag_left ch.next_tag)) → refusal_of_get t b ch m ≡ (if lacks then Some (Of_connection 541) else None)
+get_judged t b ch m entries lacks there at e =
+    ap (λ (r : Option Refusal). or_else r (refusal_of_tags ch (first_ready (b.queue m.queue)))) there
+    ∙ ap (λ (es : List Entry). refusal_of_tags ch (first_ready es)) at
+    ∙ tags (first_ready entries) (has_tag_left ch.next_tag) refl
+    ∙ ap (λ (x : Bool). if x then Some (Of_connection 541) else None) (sym e)
+  where
+    tags : (o : Option Entry) (v : Bool) → has_tag_left ch.next_tag ≡ v → refusal_of_tags ch o ≡ (if is_some o && not v then Some (Of_connection 541) else None)
+    tags None v f = refl
+    tags (Some x) true f = ap (λ (y : Bool). if y then None else Some (Of_connection 541)) f
+    tags (Some x) false f = ap (λ (y : Bool). if y then None else Some (Of_connection 541)) f

@@ -1,3 +1,4 @@
+mod Agreeing
 mod Exchanges
 mod Getting
 mod Judging

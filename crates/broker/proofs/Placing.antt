@@ -8,7 +8,9 @@ use Rattle.model.specs.Topology.{Topology}
 use Rattle.model.specs.Broker as seen
 use Rattle.model.specs.Broker.{new_channel, with_one, with_row}
 use Rattle.model.specs.Step.{channels_up_to}
-use Rattle.channel.specs.Open.{Open, open_in, outstanding_in}
+use Rattle.model.specs.declared.methods.Qos.{Qos}
+use Rattle.channel.specs.Open.{Open, open_in, outstanding_in, limited}
+use Rattle.channel.specs.Deliveries.{with_limit}
 use Rattle.channel.specs.declared.pending.Outstanding.{Outstanding}
 use Rattle.broker.specs.Links.{Linked, channel_of, connection_of, seen_in, AreLinks, Puts, Opens}
 use Rattle.broker.specs.Placed.{AreWithin, ArePlaced}
@@ -70,3 +72,11 @@ within_more t [] o lt within zero d l = lt
 within_more t [] o lt within (suc k) d l = absurd (omega (arith, l))
 within_more t (x ∷ xs) o lt within zero d l = within zero d (omega arith)
 within_more t (x ∷ xs) o lt within (suc k) d l = within_more t xs o lt (λ i e m. within (suc i) e (omega (arith, m))) k d (omega (arith, l))
+
+-- a qos leaves what is outstanding
+pub same_limited : (ch : Open) (m : Qos) → (limited ch m).given.outstanding ≡ ch.given.outstanding
+same_limited ch m = go m.global
+  where
+    go : (b : Bool) → (with_limit ch.given m.prefetch_count b).outstanding ≡ ch.given.outstanding
+    go true = refl
+    go false = refl

@@ -9,14 +9,14 @@ use model::{Ids, Send};
 use std::alloc::{AllocError, Global};
 
 impl Core {
-    ghost use Rattle.std.specs.Prelude.{◌≡◌, ◌∷◌, [], None, IsSome, IfOk, IsOk, OnErr, option_map};
+    ghost use Rattle.std.specs.Prelude.{◌≡◌, ◌∷◌, [], None, Some, IsSome, IfOk, IsOk, OnErr, option_map};
     ghost use Rattle.model.specs.Grammar.{ids};
     ghost use Rattle.model.specs.Step as said;
     ghost use Rattle.model.specs.Entries.{by_channel};
     ghost use Rattle.model.specs.Step.{Does, Is, Refuses, with_gone, with_closing, with_channel, after_close, reply, channel_or_new};
     ghost use Rattle.model.specs.declared.methods.Method.TheVariants.{ChannelCloseOk};
     ghost use Rattle.broker.specs.State.{broker_of, topology_of, names_of};
-    ghost use Rattle.channel.specs.Open.{open_in};
+    ghost use Rattle.channel.specs.Open.{Open, open_in};
     ghost use Rattle.broker.specs.Judged.{seen as said_of, HasChannel};
     ghost use Rattle.broker.specs.Sent.{IsOwn, AreOwn};
 
@@ -40,7 +40,8 @@ impl Core {
 
     /// What the channel held is ready again, and this stands in its place.
     fn clear(&mut self, connection: u64, number: u16, channel: Option<Channel>)
-        requires { IsSome ((broker_of self.old).channel connection number) }
+        requires there { IsSome ((broker_of self.old).channel connection number) }
+        requires nothing { (k : Open) → channel ≡ Some k → k.given.outstanding ≡ [] }
         ensures cleared { Is (said.with_freed (with_channel (broker_of self.old) connection number (option_map (open_in (names_of self.old)) channel)) (by_channel connection number)) (broker_of self.new) }
         ensures topology { topology_of self.new ≡ topology_of self.old }
     {

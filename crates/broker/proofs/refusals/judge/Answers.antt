@@ -11,4 +11,4 @@ pub returns-then-is_awaiting : goal.returns-then-is_awaiting
 returns-then-is_awaiting c =
     let closing : (names : List Text) → is_awaiting (channel_seen names c.args.link.now c.args.number) ≡ true =
     λ names. sym (ap (λ (o : Option Open). is_awaiting (option_map (open_in names) o)) c.channel.ensures) ∙ sym (c.is_awaiting.ensures names) ∙ c.if-is_awaiting.true in
-    λ b names e. closing_judged c.args.router.now b (limits_of c.args.link.now) c.args.number c.args.method.now c.judge_while_closing.result (channel_seen names c.args.link.now c.args.number) (closing names) (λ k is. c.judge_while_closing.ensures c.args.router.now b k is)
+    λ b names e. closing_judged c.args.depot.now.topology b (limits_of c.args.link.now) c.args.number c.args.method.now c.judge_while_closing.result (channel_seen names c.args.link.now c.args.number) (closing names) (λ k is. c.judge_while_closing.ensures c.args.depot.now.topology b k is)

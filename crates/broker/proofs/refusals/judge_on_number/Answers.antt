@@ -9,7 +9,7 @@ use Rattle.broker.proofs.Judging.{zero_judged, open_judged}
 use Rattle.broker.proofs.refusals.judge_on_number.Goals as goal
 
 pub returns-then-number-eq0 : goal.returns-then-number-eq0
-returns-then-number-eq0 c = λ b names e. zero_judged c.args.router.now b (limits_of c.args.link.now) c.args.number c.args.method.now c.judge_on_zero.result (channel_seen names c.args.link.now c.args.number) (c.requires names) c.if-number-eq0.true (c.judge_on_zero.ensures c.args.router.now b (channel_seen names c.args.link.now c.args.number))
+returns-then-number-eq0 c = λ b names e. zero_judged c.args.depot.now.topology b (limits_of c.args.link.now) c.args.number c.args.method.now c.judge_on_zero.result (channel_seen names c.args.link.now c.args.number) (c.requires names) c.if-number-eq0.true (c.judge_on_zero.ensures c.args.depot.now.topology b (channel_seen names c.args.link.now c.args.number))
 
 pub judge_on_open-requires : goal.judge_on_open-requires
 judge_on_open-requires c =
@@ -23,5 +23,5 @@ returns-in-Some c =
     let class : is_of_connection c.args.method.now ≡ false = sym c.is_of_connection.ensures ∙ c.if-is_of_connection.false in
     let within : (limits_of c.args.link.now).channel_max < c.args.number → ⊥ = λ l. absurd (omega arith) in
     λ b names e.
-    subst (λ (o : Option Open). Judges c.args.router.now b (option_map (open_in names) o) c.args.method.now (refusal c.args.router.now b (limits_of c.args.link.now) c.args.number c.args.method.now (option_map (open_in names) o)) c.judge_on_open.result) (sym is)
-    (open_judged c.args.router.now b (limits_of c.args.link.now) c.args.number c.args.method.now c.judge_on_open.result (open_in names c.in-Some.channel.now) runs c.if-number-eq0.false class within (c.judge_on_open.ensures b names e))
+    subst (λ (o : Option Open). Judges c.args.depot.now.topology b (option_map (open_in names) o) c.args.method.now (refusal c.args.depot.now.topology b (limits_of c.args.link.now) c.args.number c.args.method.now (option_map (open_in names) o)) c.judge_on_open.result) (sym is)
+    (open_judged c.args.depot.now.topology b (limits_of c.args.link.now) c.args.number c.args.method.now c.judge_on_open.result (open_in names c.in-Some.channel.now) runs c.if-number-eq0.false class within (c.judge_on_open.ensures b names e))

@@ -9,6 +9,7 @@ use Rattle.channel.specs.Open as opened
 use Rattle.broker.specs.Links.{channel_of}
 use Rattle.broker.specs.State.{Kept, broker_of, names_of}
 use Rattle.broker.proofs.Stepping.{put_is, kept_there, kept_one, limited_is}
+use Rattle.broker.proofs.Placing.{placed_put, placed_at, same_limited}
 use Rattle.broker.proofs.cores.Core.limit.Goals as goal
 
 pub limit-requires : goal.limit-requires
@@ -31,3 +32,11 @@ returns-clause-ok c =
       left = subst (λ (ch : Channel). Is (with_channel (broker_of old) connection number (Some ch)) (broker_of new)) changed
           (put_is old new connection number (Some (opened.limited there.0 c.args.qos.now)) refl (c.limit.ensures there.0 there.1));
     })
+
+pub invariant_of-self : goal.invariant_of-self
+invariant_of-self c =
+    let old : Kept = record { store = c.self.inside.depot; links = c.self.inside.links } in
+    let new : Kept = record { store = c.self.inside.depot; links = c.limit.new.self } in
+    let there = kept_one (channel_of old.links c.args.connection c.args.channel) (kept_there old c.args.self.now c.args.connection c.args.channel c.self.view_is c.requires) in
+    placed_put old new c.args.connection c.args.channel (Some (opened.limited there.0 c.args.qos.now)) refl (c.limit.ensures there.0 there.1)
+    (placed_at old c.args.connection c.args.channel there.0 (opened.limited there.0 c.args.qos.now) c.self.invariant there.1 (same_limited there.0 c.args.qos.now)) c.self.invariant

@@ -8,8 +8,8 @@ use Rattle.broker.specs.declared.refusals.Act.{Act}
 use Rattle.broker.proofs.Stepping.{performs_on, ignored_by, performed_not}
 use Rattle.broker.proofs.cores.Core.perform.Goals as goal
 
-pub act-requires : goal.act-requires
-act-requires c =
+pub act-requires-clause-can : goal.act-requires-clause-can
+act-requires-clause-can c =
     let t = topology_of c.args.self.now in
     let b = broker_of c.args.self.now in
     let ch = b.channel c.args.connection c.args.channel in
@@ -38,7 +38,7 @@ returns-in-Some-Ok-clause-own c =
     let judged = c.in-Some-Ok.ensures in
     let judges : Judges t b ch c.args.method.now (refusal t b judged.0 c.args.channel c.args.method.now ch) (Ok c.in-Some-Ok.act) =
     subst (λ (r : Result Act Refusal). Judges t b ch c.args.method.now (refusal t b judged.0 c.args.channel c.args.method.now ch) r) c.in-Some-Ok.field-0-is judged.2 in
-    IfOk-weaker c.act.result _ _ (λ s own said. own c.args.method.now judges.1 said) c.act.ensures.own
+    IfOk-weaker c.act.result _ _ (λ s own said carried. own c.args.method.now judges.1 said carried) c.act.ensures.own
 
 pub returns-in-Some-Ok-clause-ignored : goal.returns-in-Some-Ok-clause-ignored
 returns-in-Some-Ok-clause-ignored c = λ is.

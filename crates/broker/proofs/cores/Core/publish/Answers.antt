@@ -10,6 +10,8 @@ use Rattle.broker.specs.Links.{channel_of}
 use Rattle.broker.specs.Sent.{AreOwn, return_if, sent_back}
 use Rattle.broker.specs.State.{Kept, broker_of, topology_of, names_of}
 use Rattle.broker.proofs.Stepping.{published_is, open_there, back_own}
+use Rattle.std.proofs.Common.{refl}
+use Rattle.broker.proofs.Placing.{placed_put, placed_at}
 use Rattle.broker.proofs.cores.Core.publish.Goals as goal
 
 pub returns-clause-ok : goal.returns-clause-ok
@@ -55,3 +57,11 @@ returns-clause-own c = λ said.
     c.send_back.ensures.sends ∙ ap (λ (z : List Send). z ++ sent_back c.in_ok-routed.routed.is_none c.in_ok-returned.returned) (c.in_ok-reserve_exact.ensures.items ∙ c.nothing-step.ensures.sends) in
     subst (AreOwn c.args.connection) (sym (c.confirm.ensures.sends ∙ ap (λ (z : List Send). z ++ confirm_sends c.args.connection c.args.channel c.next_confirm-confirm.result (answer_of c.in_ok-routed.routed.is_some_full)) sends))
     (back_own c.args.connection c.in_ok-routed.routed.is_none c.in_ok-returned.returned (confirm_sends c.args.connection c.args.channel c.next_confirm-confirm.result (answer_of c.in_ok-routed.routed.is_some_full)) (c.in_ok-returned.ensures.own said) c.confirm.ensures.own)
+
+pub invariant_of-self-2 : goal.invariant_of-self-2
+invariant_of-self-2 c =
+    let old : Kept = record { store = c.self.inside.depot; links = c.self.inside.links } in
+    let new : Kept = record { store = c.publish.new.self; links = c.count_publish.new.self } in
+    let there = open_there (names_of old) (channel_of old.links c.args.connection c.args.channel) (subst (λ (k : Kept). IsSome ((broker_of k).channel c.args.connection c.args.channel)) (sym c.self.view_is) c.requires.there) in
+    placed_put old new c.args.connection c.args.channel (Some (record there.0 { confirm = next_of there.0.confirm })) c.in_ok-routed.ensures.ok.publishes.topology (c.count_publish.ensures there.0 there.1)
+    (placed_at old c.args.connection c.args.channel there.0 (record there.0 { confirm = next_of there.0.confirm }) c.self.invariant there.1 refl) c.self.invariant

@@ -4,6 +4,8 @@ use Rattle.model.specs.Step.{started, Is, with_channel}
 use Rattle.broker.specs.Links.{channel_of}
 use Rattle.broker.specs.State.{Kept, broker_of, names_of}
 use Rattle.broker.proofs.Stepping.{put_is, kept_there, seen_there}
+use Rattle.broker.proofs.Stepping.{kept_one}
+use Rattle.broker.proofs.Placing.{placed_put, placed_at}
 use Rattle.broker.proofs.cores.Core.select.Goals as goal
 
 pub select-requires : goal.select-requires
@@ -22,3 +24,11 @@ returns-clause-ok c =
       left = subst (λ (x : Channel). Is (with_channel (broker_of old) c.args.connection c.args.channel (Some (record x { confirm = started x.confirm }))) (broker_of new)) seen.same
           (put_is old new c.args.connection c.args.channel (Some (record seen.kept { confirm = started seen.kept.confirm })) refl (c.select.ensures seen.kept seen.there));
     })
+
+pub invariant_of-self : goal.invariant_of-self
+invariant_of-self c =
+    let old : Kept = record { store = c.self.inside.depot; links = c.self.inside.links } in
+    let new : Kept = record { store = c.self.inside.depot; links = c.select.new.self } in
+    let there = kept_one (channel_of old.links c.args.connection c.args.channel) (kept_there old c.args.self.now c.args.connection c.args.channel c.self.view_is c.requires) in
+    placed_put old new c.args.connection c.args.channel (Some (record there.0 { confirm = started there.0.confirm })) refl (c.select.ensures there.0 there.1)
+    (placed_at old c.args.connection c.args.channel there.0 (record there.0 { confirm = started there.0.confirm }) c.self.invariant there.1 refl) c.self.invariant

@@ -1,0 +1,13 @@
+-- What both outcomes of a call give.
+use Rattle.std.proofs.Common.{Result, Ok, Err}
+use Rattle.std.specs.Prelude.{OnOk, OnErr}
+
+-- what follows from success and from failure follows
+pub either_way : {A E : Type 0} {X Y Z : Type 0} (r : Result A E) → OnOk r X → OnErr r Y → (X → Z) → (Y → Z) → Z
+either_way (Ok x) ok err f g = f ok
+either_way (Err e) ok err f g = g err
+
+-- what success gives, and what follows from it
+pub on_ok : {A E : Type 0} {X Y : Type 0} (r : Result A E) → OnOk r X → (X → Y) → OnOk r Y
+on_ok (Ok x) ok f = f ok
+on_ok (Err e) ok f = ok
