@@ -283,7 +283,7 @@ requeues_by t b ch m (act.Get place g) asked is = sym (ap is_requeueing asked.0)
 requeues_by t b ch m (act.Limit q) asked is = sym (ap is_requeueing asked.0) ∙ is
 requeues_by t b ch m (act.Acknowledge a) asked is = sym (ap is_requeueing asked.0) ∙ is
 requeues_by t b ch m act.Recover asked is = sym (ap is_requeueing asked.0) ∙ is
-requeues_by t b ch m (act.CloseChannel is_closing) (x, e, there) is = sym (ap is_requeueing e) ∙ is
+requeues_by t b ch m (act.CloseChannel is_closing) (x, e, there, closing) is = sym (ap is_requeueing e) ∙ is
 requeues_by t b ch m act.EndChannel asked is = sym (ap is_requeueing asked.0) ∙ is
 requeues_by t b ch m act.CloseConnection (x, e) is = sym (ap is_requeueing e) ∙ is
 

@@ -8,7 +8,7 @@ pub returns-in-BasicPublish : goal.returns-in-BasicPublish
 returns-in-BasicPublish c = λ b e. rw (c.in-BasicPublish.is, ← c.router.ensures) (c.judge_publish.ensures b (queue_names c.router.result.now.queues) (e.counted ∙ sym c.published.ensures))
 
 pub returns-in-QueuePurge : goal.returns-in-QueuePurge
-returns-in-QueuePurge c = λ b e. rw (c.in-QueuePurge.is, ← c.router.ensures) (c.judge_purge.ensures b (open_in (queue_names c.router.result.now.queues) c.args.channel.now))
+returns-in-QueuePurge c = λ b e. rw (c.in-QueuePurge.is, ← c.router-in-QueuePurge.ensures) (c.judge_purge.ensures b (open_in (queue_names c.router-in-QueuePurge.result.now.queues) c.args.channel.now))
 
 pub returns-in-BasicGet : goal.returns-in-BasicGet
 returns-in-BasicGet c = λ b e. rw c.in-BasicGet.is (c.judge_get.ensures b (queue_names c.args.depot.now.topology.queues) e)
@@ -26,10 +26,10 @@ pub returns-in-BasicReject : goal.returns-in-BasicReject
 returns-in-BasicReject c = λ b e. rw (c.in-BasicReject.is, ← c.topology.ensures) (c.judge_reject.ensures b)
 
 pub judge_nack-requires : goal.judge_nack-requires
-judge_nack-requires c = subst (λ (t : Topology). AreWithin t c.args.channel.now.given.outstanding) (sym c.topology-2.ensures) c.requires.placed
+judge_nack-requires c = subst (λ (t : Topology). AreWithin t c.args.channel.now.given.outstanding) (sym c.topology-in-BasicNack.ensures) c.requires.placed
 
 pub returns-in-BasicNack : goal.returns-in-BasicNack
-returns-in-BasicNack c = λ b e. rw (c.in-BasicNack.is, ← c.topology-2.ensures) (c.judge_nack.ensures b)
+returns-in-BasicNack c = λ b e. rw (c.in-BasicNack.is, ← c.topology-in-BasicNack.ensures) (c.judge_nack.ensures b)
 
 pub returns-in-BasicRecover : goal.returns-in-BasicRecover
 returns-in-BasicRecover c = λ b e. rw c.in-BasicRecover.is (c.judge_recover.ensures c.args.depot.now.topology b (open_in (queue_names c.args.depot.now.topology.queues) c.args.channel.now))
