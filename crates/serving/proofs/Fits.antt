@@ -72,6 +72,12 @@ freed_at (q ∷ ps) zero (suc j) p at = at
 freed_at (q ∷ ps) (suc i) zero p at = at
 freed_at (q ∷ ps) (suc i) (suc j) p at = freed_at ps i j p at
 
+-- a slot that holds a peer is one of them
+pub slot_within : (ps : List (Option Peer)) (i : ℕ) (p : Peer) → At ps i p → i < length ps
+slot_within [] i p at = absurd (cc at)
+slot_within (q ∷ ps) zero p at = omega arith
+slot_within (q ∷ ps) (suc i) p at = let lt = slot_within ps i p at in omega (arith, lt)
+
 fit_within : (a b : World) (ps qs : List (Option Peer)) → a.given ≤ b.given → ((j : ℕ) (p : Peer) → At qs j p → At ps j p) → IsFit a ps → IsFit b qs
 fit_within a b ps qs le sub f = record {
   apart = λ i j p q x y e. f.apart i j p q (sub i p x) (sub j q y) e;

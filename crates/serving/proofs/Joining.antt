@@ -10,7 +10,7 @@ use Rattle.model.specs.Run.{Happening}
 use Rattle.serving.specs.Wire.{Call}
 use Rattle.serving.specs.Coming.{Attempt, whole, short}
 use Rattle.serving.specs.Story.{Served, Deed, Met, Turned_away, Met_no_one, Heard, Heard_partly, Heard_nothing, Heard_end, Gave, Gave_partly, Gave_nothing, Gave_up, Let_go, Paused, calls, attempts, Table, Does, Story}
-use Rattle.serving.specs.Joined.{piece_for, amount_for, is_loss_of, is_short_for, got_of, took_of, count_of, is_end_of, IsJoined, AreJoined}
+use Rattle.serving.specs.Joined.{piece_for, amount_for, is_loss_of, is_short_for, got_of, count_of, is_end_of, IsJoined, AreJoined}
 use Rattle.model.specs.declared.events.Arrival.{Arrival}
 use Rattle.model.specs.declared.events.Arrival.TheVariants as arrival
 use Rattle.serving.specs.declared.peers.Peer.{Peer}

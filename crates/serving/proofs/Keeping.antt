@@ -21,6 +21,7 @@ use Rattle.serving.specs.declared.peers.Peer.{Peer}
 use Rattle.serving.proofs.Onward.{after_none, after_then, story-append, serves_not, serves_then}
 use Rattle.serving.proofs.Deeds.{paused, same_not}
 use Rattle.serving.proofs.Joining.{are_joined}
+use Rattle.serving.proofs.Flowing.{are_beginnings}
 
 -- ---- what is performed of an arrival that met want of memory
 
@@ -151,6 +152,7 @@ is_served f told new (ds, hs, s) =
           (told_attempts (arrived ds) (new_world f) new.world hs arrives)
           (spoken_from_start f hs new.world (attempts_speak (arrived ds) (new_world f) new.world hs arrives)) (shows_all hs new.world);
       joined = λ before tells. are_joined ds (served (new_world f) [] told) new hs before refl tells s;
+      written = λ before tells. are_beginnings f ds told new hs before tells s;
     }
 
 -- rounds from the start

@@ -5,4 +5,5 @@ pub mod Apart
 pub mod Fits
 pub mod Pairs
 pub mod Joining
+pub mod Flowing
 pub mod Keeping

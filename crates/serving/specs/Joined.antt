@@ -51,10 +51,10 @@ abbrev pub got_of : ℕ → Call → Option (List ℕ)
 got_of s (Got t bytes) = if t == s then Some bytes else None
 got_of s call = None
 
--- what a write to it took
-abbrev pub took_of : ℕ → Call → Option (List ℕ)
-took_of s (Took t bytes) = if t == s then Some bytes else None
-took_of s call = None
+-- the bytes that a write to it took
+abbrev pub written_to : ℕ → Call → List ℕ
+written_to s (Took t bytes) = if t == s then bytes else []
+written_to s call = []
 
 -- how many bytes a write to it took
 abbrev pub count_of : ℕ → Call → Option ℕ
@@ -91,3 +91,7 @@ pub record IsJoined (p : Peer) (asked : List Call) (arrived : List Attempt) : Ty
 -- each socket that was met has its own connection
 abbrev pub AreJoined : List Deed → Type 0
 AreJoined deeds = (p : Peer) → IsIn p (all_met deeds) → IsJoined p (flat_map calls deeds) (flat_map attempts deeds)
+
+-- all that a socket took, in order, is a beginning of what was put out for its connection
+abbrev pub AreBeginnings : List Deed → List Happening → Type 0
+AreBeginnings deeds hs = (p : Peer) → IsIn p (all_met deeds) → (rest : List ℕ) × (flat_map (written_to p.socket) (flat_map calls deeds) ++ rest ≡ put_out p.connection hs)

@@ -1,8 +1,8 @@
 -- Rounds: one accept, a read of each connection that is awake, a write of each with output, and a rest where nothing was done (own).
 use Rattle.std.specs.Prelude.{◌≡◌, ℕ, zero, suc, List, [], ◌∷◌, flat_map, Bool, true, false, not, ◌||◌, Option, Some, None, if◌then◌else◌}
-use Rattle.model.specs.Arrivals.{World, is_awake, has_output}
+use Rattle.model.specs.Arrivals.{World, is_awake, is_gone, has_output}
 use Rattle.serving.specs.Wire.{Ask, To_accept, To_read, To_write, Rested, after}
-use Rattle.serving.specs.Story.{Served, served, Serves}
+use Rattle.serving.specs.Story.{Served, served, At, Serves}
 use Rattle.serving.specs.declared.peers.Peer.{Peer}
 
 -- a read, where the connection is awake
@@ -23,6 +23,10 @@ reads_due v = flat_map (read_of v.world) v.peers
 abbrev pub writes_due : Served → List Ask
 writes_due v = flat_map (write_of v.world) v.peers
 
+-- this slot holds no connection that is over with no output left
+abbrev pub HasEnded : World → List (Option Peer) → ℕ → Type 0
+HasEnded w ps i = (p : Peer) → At ps i p → is_gone w p.connection ≡ false
+
 -- One accept, the reads and the writes that are due then, and no other; and whether anything was done.
 pub record GoesRound (old : Served) (acted : Bool) (new : Served) : Type 0 where
   pub met : Served
@@ -36,6 +40,8 @@ pub record GoesRound (old : Served) (acted : Bool) (new : Served) : Type 0 where
   pub reads : Serves met (reads_due met) has_heard heard
   pub writes : Serves heard (writes_due heard) has_given given
   pub closes : Serves given [] has_closed new
+  -- each connection that was over with no output left has ended
+  pub ended : (i : ℕ) → HasEnded new.world new.peers i
   pub acts : acted ≡ (((has_met || has_heard) || has_given) || has_closed)
 
 -- one rest where nothing was done, and else none

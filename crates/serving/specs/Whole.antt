@@ -9,7 +9,7 @@ use Rattle.model.specs.declared.events.Arrival.{Arrival}
 use Rattle.serving.specs.Wire.{Call, Told, after}
 use Rattle.serving.specs.Coming.{Attempt, Attempts, IsWhole}
 use Rattle.serving.specs.Story.{Served, served, Deed, calls, attempts, Story}
-use Rattle.serving.specs.Joined.{AreJoined}
+use Rattle.serving.specs.Joined.{AreJoined, AreBeginnings}
 
 -- all that arrived at the machine by these deeds, in order
 abbrev pub arrived : List Deed → List Attempt
@@ -43,3 +43,5 @@ pub record IsServed (f : Config) (told : Told) (new : Served) : Type 0 where
   pub promises : IsSound f → KeepsPromises happenings new.world.state.broker (seen_of happenings new.world)
   -- over a wire that tells its calls, what arrived for a connection is what its socket gave and took
   pub joined : (before : List Call) → told.calls ≡ Some before → AreJoined deeds
+  -- and what its socket took is a beginning of what was put out for it
+  pub written : (before : List Call) → told.calls ≡ Some before → AreBeginnings deeds happenings

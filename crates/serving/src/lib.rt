@@ -8,6 +8,8 @@
 mod peers;
 mod rounds;
 mod servers;
+#[cfg(test)]
+mod tests;
 mod turns;
 mod wire;
 

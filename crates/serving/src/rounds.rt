@@ -1,6 +1,6 @@
 //! One round, slot by slot.
 
-ghost use Rattle.std.specs.Prelude.{◌≡◌, ◌⊎◌, ◌+◌, List, [], ◌∷◌, Option, Some, None, drop, flat_map, slice_index_or, slice_set, true};
+ghost use Rattle.std.specs.Prelude.{◌≡◌, ◌⊎◌, ◌+◌, ℕ, length, List, [], ◌∷◌, Option, Some, None, drop, flat_map, slice_index_or, slice_set, true};
 ghost use Rattle.model.specs.Run.{Happening};
 ghost use Rattle.model.specs.Arrivals.{Answers, has_output, is_awake};
 ghost use Rattle.model.specs.declared.events.Arrival.TheVariants as arrival;
@@ -8,7 +8,7 @@ ghost use Rattle.slab.specs.Slab.{HasRoomFor};
 ghost use Rattle.serving.specs.Wire.{Closed, To_accept, To_read, To_write, after};
 ghost use Rattle.serving.specs.Story.{At, Serves, TakesIn, served};
 ghost use Rattle.serving.specs.Fit.{ApartFrom, IsFit};
-ghost use Rattle.serving.specs.Rounds.{GoesRound, IsRound, read_of, reads_due, write_of, writes_due};
+ghost use Rattle.serving.specs.Rounds.{GoesRound, HasEnded, IsRound, read_of, reads_due, write_of, writes_due};
 
 use crate::peers::Peer;
 use crate::turns::{give, has_output, hear, is_awake, is_gone};
@@ -225,7 +225,10 @@ fn close_slot<M: Machine, W: Wire>(
     slot: usize,
     wire: &mut W,
 ) -> bool
-    ensures { Serves (served (M.world machine.now) peers.old.slots (W.told wire.old)) [] result (served (M.world machine.now) peers.new.slots (W.told wire.new)) }
+    ensures ended { HasEnded (M.world machine.now) peers.new.slots slot }
+    ensures others { (i : ℕ) (p : Peer) → At peers.new.slots i p → At peers.old.slots i p }
+    ensures length { length peers.new.slots ≡ length peers.old.slots }
+    ensures serves { Serves (served (M.world machine.now) peers.old.slots (W.told wire.old)) [] result (served (M.world machine.now) peers.new.slots (W.told wire.new)) }
 {
     let Some(peer) = peers.get(slot).copied() else {
         return false;
@@ -240,7 +243,8 @@ fn close_slot<M: Machine, W: Wire>(
 
 /// Lets go of each connection that is over with no output left.
 fn close_all<M: Machine, W: Wire>(machine: &M, peers: &mut Slab<Peer>, wire: &mut W) -> bool
-    ensures { Serves (served (M.world machine.now) peers.old.slots (W.told wire.old)) [] result (served (M.world machine.now) peers.new.slots (W.told wire.new)) }
+    ensures ended { (i : ℕ) → HasEnded (M.world machine.now) peers.new.slots i }
+    ensures serves { Serves (served (M.world machine.now) peers.old.slots (W.told wire.old)) [] result (served (M.world machine.now) peers.new.slots (W.told wire.new)) }
 {
     let mut done = false;
     for slot in 0..peers.capacity() {

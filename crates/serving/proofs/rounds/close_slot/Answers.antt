@@ -4,8 +4,8 @@ use Rattle.serving.specs.declared.peers.Peer.{Peer}
 use Rattle.serving.proofs.Deeds.{let_go}
 use Rattle.serving.proofs.rounds.close_slot.Goals as goal
 
-pub returns : goal.returns
-returns g c =
+pub returns-clause-serves : goal.returns-clause-serves
+returns-clause-serves g c =
     let w = g.M.Machine.world c.args.machine.now in
     let told = g.W.Wire.told in
     let at : At c.args.peers.now.slots c.args.slot c.in-Some.peer = sym c.get.ensures ∙ sym c.copied.ensures ∙ c.in-Some.is in

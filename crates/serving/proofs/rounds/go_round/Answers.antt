@@ -30,7 +30,7 @@ returns g c =
     let given = served (world c.write_all-has_given.new.machine) c.write_all-has_given.new.peers.slots (told c.write_all-has_given.new.wire) in
     let closed = served given.world c.close_all-has_closed.new.peers.slots (told c.close_all-has_closed.new.wire) in
     record {
-      fit = serves_fit given closed _ _ c.close_all-has_closed.ensures
+      fit = serves_fit given closed _ _ c.close_all-has_closed.ensures.serves
           (serves_fit heard given _ _ c.write_all-has_given.ensures (serves_fit met heard _ _ c.read_all-has_heard.ensures (serves_fit old met _ _ c.accept_one-has_met.ensures c.requires.fit)));
       round = record {
         met = met;
@@ -43,7 +43,8 @@ returns g c =
         accepts = c.accept_one-has_met.ensures;
         reads = c.read_all-has_heard.ensures;
         writes = c.write_all-has_given.ensures;
-        closes = c.close_all-has_closed.ensures;
+        closes = c.close_all-has_closed.ensures.serves;
+        ended = c.close_all-has_closed.ensures.ended;
         acts = refl;
       };
     }

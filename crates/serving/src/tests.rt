@@ -1,0 +1,102 @@
+//! Rounds over a wire that is scripted, of a machine on which no connection can be opened.
+
+use crate::servers::{Server, serve};
+use crate::wire::{Accept, Read, Wire, Write};
+use model::Note;
+use runs::Machine;
+use std::alloc::{AllocError, Global};
+use std::test::Fail;
+
+#[derive(Drop)]
+struct Full;
+
+impl Machine for Full {
+    ghost use Rattle.std.specs.Prelude.{[]};
+    ghost use Rattle.model.specs.Arrivals.{new_world};
+
+    ghost world = { λ s. new_world (record { topology = record { exchanges = []; queues = []; bindings = [] }; guarantees = []; users = [] }) };
+
+    ghost left = { λ s. 0 };
+
+    fn open(&mut self, _alloc: Global) -> Result<Option<u64>, AllocError> {
+        Err(AllocError)
+    }
+
+    fn open_ready(&mut self, _alloc: Global, _k: u8) -> Result<Option<u64>, AllocError> {
+        Err(AllocError)
+    }
+
+    fn feed(&mut self, _alloc: Global, _c: u64, _bytes: &[u8]) -> Result<(), AllocError> {
+        Ok(())
+    }
+
+    fn turn(&mut self, _alloc: Global, _c: u64) -> Result<Option<Vec<Note>>, AllocError> {
+        Ok(None)
+    }
+
+    fn sent(&mut self, _c: u64, _n: u64) {}
+
+    fn lose(&mut self, _c: u64) {}
+
+    fn output(&self, _c: u64) -> &[u8] {
+        &[]
+    }
+
+    fn is_over(&self, _c: u64) -> bool {
+        true
+    }
+}
+
+/// One socket comes at the first accept, and none after it.
+#[derive(Drop)]
+struct OneCaller {
+    has_come: bool,
+    closed: Option<u64>,
+    rests: u64,
+}
+
+impl Wire for OneCaller {
+    ghost use Rattle.std.specs.Prelude.{None};
+
+    ghost told = { λ s. record { calls = None; failures = 0 } };
+
+    fn accept(&mut self) -> Accept {
+        if self.has_come {
+            return Accept::Nothing;
+        }
+        self.has_come = true;
+        Accept::Socket(7)
+    }
+
+    fn read(&mut self, _socket: u64, _buffer: &mut [u8]) -> Read {
+        Read::Wait
+    }
+
+    fn write(&mut self, _socket: u64, _bytes: &[u8]) -> Write {
+        Write::Wait
+    }
+
+    fn close(&mut self, socket: u64) {
+        self.closed = Some(socket);
+    }
+
+    fn rest(&mut self) {
+        self.rests = self.rests.saturating_add(1);
+    }
+}
+
+#[test]
+fn a_socket_that_is_refused_is_closed_and_quiet_rounds_rest(rt: HostRuntime) -> Result<(), Fail> {
+    let alloc = rt.alloc();
+    let mut server = Server::new(alloc, Full)?;
+    let mut wire = OneCaller {
+        has_come: false,
+        closed: None,
+        rests: 0,
+    };
+    serve(alloc, &mut server, &mut wire, 5);
+    assert!(rt; wire.has_come);
+    assert!(rt; wire.closed == Some(7));
+    assert_eq!(rt; wire.rests, 4);
+    Ok(())
+}
