@@ -1,6 +1,6 @@
 -- What both outcomes of a call give.
 use Rattle.std.proofs.Common.{Result, Ok, Err}
-use Rattle.std.specs.Prelude.{OnOk, OnErr}
+use Rattle.std.specs.Prelude.{IfOk, OnOk, OnErr}
 
 -- what follows from success and from failure follows
 pub either_way : {A E : Type 0} {X Y Z : Type 0} (r : Result A E) → OnOk r X → OnErr r Y → (X → Z) → (Y → Z) → Z
@@ -11,3 +11,8 @@ either_way (Err e) ok err f g = g err
 pub on_ok : {A E : Type 0} {X Y : Type 0} (r : Result A E) → OnOk r X → (X → Y) → OnOk r Y
 on_ok (Ok x) ok f = f ok
 on_ok (Err e) ok f = ok
+
+-- two facts of what a call gives are both so, and what follows from them
+pub both_ok : {A E : Type 0} (r : Result A E) (P Q R : A → Type 0) → IfOk r P → IfOk r Q → ((x : A) → P x → Q x → R x) → IfOk r R
+both_ok (Ok x) P Q R p q f = f x p q
+both_ok (Err e) P Q R p q f = p

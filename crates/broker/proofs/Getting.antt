@@ -3,7 +3,7 @@ use Rattle.std.proofs.Common.{◌≡◌, ◌+◌, ◌-◌, ◌<◌, ◌++◌, �
 use Rattle.std.specs.Prelude.{option_map, slice_index_or, find, is_some}
 use Rattle.std.specs.List.{AllByRecursion}
 use Rattle.std.specs.Str.{bytes_eq}
-use Rattle.std.proofs.lemmas.Bool.{eqb-true, false≢true}
+use Rattle.std.proofs.lemmas.Bool.{eqb-true, eq-eqb, false≢true}
 use Rattle.std.proofs.lemmas.List.{map-append}
 use Rattle.std.proofs.lemmas.Option.{same_Some}
 use Rattle.std.proofs.lemmas.Slice.Eq.{bytes_eq-Decides}
@@ -17,10 +17,11 @@ use Rattle.model.specs.Prefetch.{has_tag_left}
 use Rattle.model.specs.Deliveries as seen
 use Rattle.model.specs.Deliveries.{first_ready, ready_in, after_giving, after_delivery, channel_after, delivery_notes}
 use Rattle.model.specs.Sending.{IsCarried, AreCarried}
-use Rattle.model.specs.Step.{Is, Gets, Refusal, Of_connection, or_else, refusal_in, refusal_of_tags, refusal_of_get, channel_or_new, get_ok}
+use Rattle.model.specs.Step.{Is, Gets, Refusal, Of_connection, or_else, refusal_in, refusal_of_tags, refusal_of_get, channel_or_new, get_ok, reply}
 use Rattle.model.specs.declared.events.Send.{Send}
 use Rattle.model.specs.declared.notes.Note.{Note}
 use Rattle.model.specs.declared.methods.Get.{Get}
+use Rattle.model.specs.declared.methods.Method.TheVariants.{BasicGetEmpty}
 use Rattle.model.specs.declared.messages.Entry.{Entry}
 use Rattle.model.specs.declared.messages.Holder.{Holder}
 use Rattle.model.specs.declared.messages.Mark.{Mark}
@@ -30,7 +31,7 @@ use Rattle.model.specs.declared.messages.Taker.TheVariants as taker
 use Rattle.exchange_graph.specs.Marks.{queue_name}
 use Rattle.depot.specs.Store.{Store, IsNamed, queue_of, queue_at, with_queue}
 use Rattle.channel.specs.Open.{Open, open_in, outstanding_in, given_on, settled_on}
-use Rattle.broker.specs.Links.{Linked, CanGive, Puts, channel_of}
+use Rattle.broker.specs.Links.{Linked, CanGive, SetsRoom, Puts, channel_of}
 use Rattle.broker.specs.State.{Kept, broker_of, topology_of, names_of}
 use Rattle.broker.proofs.Stepping.{seen_put}
 
@@ -83,6 +84,33 @@ puts_twice old mid new c h one two a b = record {
     go : (v : Bool) (d k : ℕ) → channel_of mid d k ≡ (if v then one else channel_of old d k) → (if v then two else channel_of mid d k) ≡ (if v then two else channel_of old d k)
     go true d k e = refl
     go false d k e = e
+
+-- The channel has room for one delivery more, and is else as it was.
+pub record Roomy (old mid : List (ℕ × Linked)) (c h : ℕ) (ch : Open) : Type 0 where
+  pub channel : Open
+  pub there : channel_of mid c h ≡ Some channel
+  pub puts : Puts old c h (Some channel) mid
+  pub outstanding : channel.given.outstanding ≡ ch.given.outstanding
+  pub seen : (names : List Text) → open_in names channel ≡ open_in names ch
+
+pub roomy : (old mid : List (ℕ × Linked)) (c h : ℕ) (ch : Open) (o : Option Open) → SetsRoom ch o → Puts old c h o mid → Roomy old mid c h ch
+roomy old mid c h ch o set put =
+    let channel : Open = record ch { given = record ch.given { room = set.room } } in
+    record {
+      channel = channel;
+      there = put.channels c h
+          ∙ ap (λ (b : Bool). if b && (h == h) then o else channel_of old c h) (eq-eqb c c refl)
+          ∙ ap (λ (b : Bool). if true && b then o else channel_of old c h) (eq-eqb h h refl)
+          ∙ set.is;
+      puts = subst (λ (x : Option Open). Puts old c h x mid) set.is put;
+      outstanding = refl;
+      seen = λ names. refl;
+    }
+
+-- a message is given out on a channel for which room was made
+pub given_puts : (old mid new : List (ℕ × Linked)) (c h : ℕ) (ch : Open) (place arrival : ℕ) (room : Roomy old mid c h ch) → Puts mid c h (Some (given_on room.channel place arrival taker.Get)) new
+    → Puts old c h (Some (given_on room.channel place arrival taker.Get)) new
+given_puts old mid new c h ch place arrival room put = puts_twice old mid new c h (Some room.channel) (Some (given_on room.channel place arrival taker.Get)) room.puts put
 
 -- ---- no message is held under the next tag
 
@@ -144,7 +172,7 @@ ready_without (x ∷ xs) e f = go (is_ready x) refl (ready_without xs e) f
   where
     go : (v : Bool) → is_ready x ≡ v → (find is_ready xs ≡ Some e → ready_in xs ≡ ready_in (without_first is_ready xs) + 1) → cond v (Some x) (find is_ready xs) ≡ Some e
         → length (cond v (x ∷ filter is_ready xs) (filter is_ready xs)) ≡ ready_in (if v then xs else x ∷ without_first is_ready xs) + 1
-    go true is more g = let n = refl in omega arith
+    go true is more g = omega arith
     go false is more g = more g ∙ ap (λ (b : Bool). length (cond b (x ∷ filter is_ready (without_first is_ready xs)) (filter is_ready (without_first is_ready xs))) + 1) (sym is)
 
 -- and so where it is held
@@ -203,3 +231,15 @@ tag_left t b ch get e accepted found = go (has_tag_left ch.next_tag) (past (refu
 -- the first message that is ready can be given out, where each can
 pub first_carried : (b : Broker) (q : Text) (e : Entry) → AreCarried b → first_ready (b.queue q) ≡ Some e → IsCarried e.message
 first_carried b q e carried found = all_in (λ (x : Entry). IsCarried x.message) e (b.queue q) (carried q) (find_in is_ready e (b.queue q) found).0
+
+-- there was no message to give out
+pub nothing_gotten : (old : Broker) (c h : ℕ) (ch : model.Channel) (get : Get) (sends : List Send) (notes : List Note)
+    → first_ready (old.queue get.queue) ≡ None → sends ≡ reply c h (BasicGetEmpty []) ∷ [] → notes ≡ []
+    → Gets old c h ch get (first_ready (old.queue get.queue)) sends notes old
+nothing_gotten old c h ch get sends notes none sent noted =
+    subst (λ (o : Option Entry). Gets old c h ch get o sends notes old) (sym none)
+    (record {
+      sent = sent;
+      noted = noted;
+      left = record { counted = refl; queues = λ q. refl; connections = λ d. refl; channels = λ d k. refl };
+    })

@@ -6,6 +6,7 @@ mod Opening
 mod Placing
 mod Purging
 mod Rejecting
+mod Setting
 mod Settlements
 mod Settling
 mod Stepping

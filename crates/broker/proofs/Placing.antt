@@ -12,9 +12,13 @@ use Rattle.model.specs.declared.methods.Qos.{Qos}
 use Rattle.channel.specs.Open.{Open, open_in, outstanding_in, limited}
 use Rattle.channel.specs.Deliveries.{with_limit}
 use Rattle.channel.specs.declared.pending.Outstanding.{Outstanding}
-use Rattle.broker.specs.Links.{Linked, channel_of, connection_of, seen_in, AreLinks, Puts, Opens}
-use Rattle.broker.specs.Placed.{AreWithin, ArePlaced}
+use Rattle.broker.specs.Links.{Linked, link_in, channel_at, channel_of, connection_of, seen_in, AreLinks, Puts, Opens}
+use Rattle.broker.specs.Placed.{AreWithin, ArePlacedIn, ArePlaced}
 use Rattle.broker.specs.State.{Kept, topology_of}
+
+-- each connection's channels are placed
+pub placed_in : (kept : Kept) (c : ℕ) (l : Linked) → link_in kept.links c ≡ Some l → ArePlaced kept → ArePlacedIn (topology_of kept) l
+placed_in kept c l there placed h ch is = placed c h ch (ap (λ (o : Option Linked). channel_at o h) there ∙ is)
 
 -- the channels are as they were
 pub placed_same : (old new : Kept) → topology_of new ≡ topology_of old → ((c h : ℕ) → channel_of new.links c h ≡ channel_of old.links c h) → ArePlaced old → ArePlaced new

@@ -1,5 +1,5 @@
 -- A tag is refused where it is not outstanding, and a rejection where it makes a dead letter.
-use Rattle.std.proofs.Common.{◌≡◌, ◌∙◌, ◌<◌, ℕ, zero, suc, List, [], ◌∷◌, Bool, true, false, cond, Option, Some, None, length, get_or, map, not, refl, sym, ap, subst, arith, inl, inr}
+use Rattle.std.proofs.Common.{◌≡◌, ◌∙◌, ◌<◌, ℕ, zero, suc, List, [], ◌∷◌, Bool, true, false, cond, Option, Some, None, length, get_or, map, filter, not, refl, sym, ap, subst, arith, inl, inr}
 use Rattle.std.specs.Prelude.{option_map, is_some, find, slice_get, ◌==◌, ◌&&◌, ◌||◌, if◌then◌else◌}
 use Rattle.std.specs.List.{list_any}
 use Rattle.std.specs.Str.{bytes_eq}
@@ -7,8 +7,9 @@ use Rattle.std.proofs.lemmas.Bool.{false≢true}
 use Rattle.std.proofs.lemmas.Slice.Eq.{bytes_eq-Decides}
 use Rattle.model.specs.Words.{Text}
 use Rattle.model.specs.Topology.{Topology, queue_names, IsIn, AreApart}
+use Rattle.model.specs.Broker as seen
 use Rattle.model.specs.Broker.{Channel, queue_named}
-use Rattle.model.specs.Settling.{is_refused, settled}
+use Rattle.model.specs.Settling.{takes, is_refused, settled}
 use Rattle.model.specs.Step as step
 use Rattle.model.specs.Step.{Refusal, Of_channel, Of_connection, or_else, has_dead_letters, refusal_of_settling, refusal_of_dead, refusal_of_rejection}
 use Rattle.model.specs.declared.topologies.DeclaredQueue.{DeclaredQueue}
@@ -25,7 +26,10 @@ use Rattle.broker.proofs.Settlements.{refused_seen, settled_seen}
 pub accepted : (names : List Text) (ch : Open) (tag : ℕ) (multiple : Bool) (gone : List Outstanding) → settled tag_of tag multiple ch.given.outstanding ≡ Some gone → refusal_of_settling (open_in names ch) tag multiple ≡ None
 accepted names ch tag multiple gone e = go (is_refused step.tag_of tag multiple (map (outstanding_in names) ch.given.outstanding)) (settled_seen names tag multiple ch.given.outstanding ∙ ap (option_map (map (outstanding_in names))) e)
   where
-    go : (v : Bool) → {all : List _} → (if v then None else Some all) ≡ Some (map (outstanding_in names) gone) → (if v then Some (Of_channel 406) else None) ≡ None
+    all : List seen.Outstanding
+    all = filter (takes step.tag_of tag multiple) (map (outstanding_in names) ch.given.outstanding)
+
+    go : (v : Bool) → (if v then None else Some all) ≡ Some (map (outstanding_in names) gone) → (if v then Some (Of_channel 406) else None) ≡ None
     go true f = absurd (false≢true (ap is_some f))
     go false f = refl
 
@@ -33,7 +37,10 @@ accepted names ch tag multiple gone e = go (is_refused step.tag_of tag multiple 
 pub refused : (names : List Text) (ch : Open) (tag : ℕ) (multiple : Bool) → settled tag_of tag multiple ch.given.outstanding ≡ None → refusal_of_settling (open_in names ch) tag multiple ≡ Some (Of_channel 406)
 refused names ch tag multiple e = go (is_refused step.tag_of tag multiple (map (outstanding_in names) ch.given.outstanding)) (settled_seen names tag multiple ch.given.outstanding ∙ ap (option_map (map (outstanding_in names))) e)
   where
-    go : (v : Bool) → {all : List _} → (if v then None else Some all) ≡ None → (if v then Some (Of_channel 406) else None) ≡ Some (Of_channel 406)
+    all : List seen.Outstanding
+    all = filter (takes step.tag_of tag multiple) (map (outstanding_in names) ch.given.outstanding)
+
+    go : (v : Bool) → (if v then None else Some all) ≡ None → (if v then Some (Of_channel 406) else None) ≡ Some (Of_channel 406)
     go true f = refl
     go false f = absurd (false≢true (sym (ap is_some f)))
 
@@ -78,7 +85,7 @@ pub rejected : (t : Topology) (ch : Open) (tag : ℕ) (multiple requeue dead : B
     → dead ≡ (not requeue && list_any (is_dead_lettered t) gone) → refusal_of_rejection t (open_in (queue_names t.queues) ch) tag multiple requeue ≡ (if dead then Some (Of_connection 540) else None)
 rejected t ch tag multiple requeue dead gone apart within e is =
     ap (λ (r : Option Refusal). or_else r (if requeue then None else refusal_of_dead t (settled step.tag_of tag multiple (map (outstanding_in names) ch.given.outstanding)))) (accepted names ch tag multiple gone e)
-    ∙ ap (λ (o : Option (List _)). if requeue then None else refusal_of_dead t o) (settled_seen names tag multiple ch.given.outstanding ∙ ap (option_map (map (outstanding_in names))) e)
+    ∙ ap (λ (o : Option (List seen.Outstanding)). if requeue then None else refusal_of_dead t o) (settled_seen names tag multiple ch.given.outstanding ∙ ap (option_map (map (outstanding_in names))) e)
     ∙ ap (λ (b : Bool). if requeue then None else (if b then Some (Of_connection 540) else None)) (any_dead t gone apart within)
     ∙ chosen requeue (list_any (is_dead_lettered t) gone)
     ∙ ap (λ (b : Bool). if b then Some (Of_connection 540) else None) (sym is)
@@ -93,8 +100,8 @@ rejected t ch tag multiple requeue dead gone apart within e is =
 -- one whose tag is refused is refused for that
 pub refused_first : (t : Topology) (ch : Open) (tag : ℕ) (multiple requeue : Bool) → settled tag_of tag multiple ch.given.outstanding ≡ None → refusal_of_rejection t (open_in (queue_names t.queues) ch) tag multiple requeue ≡ Some (Of_channel 406)
 refused_first t ch tag multiple requeue e =
-    let seen = open_in (queue_names t.queues) ch in
-    ap (λ (r : Option Refusal). or_else r (if requeue then None else refusal_of_dead t (settled step.tag_of tag multiple seen.outstanding))) (refused (queue_names t.queues) ch tag multiple e)
+    let channel = open_in (queue_names t.queues) ch in
+    ap (λ (r : Option Refusal). or_else r (if requeue then None else refusal_of_dead t (settled step.tag_of tag multiple channel.outstanding))) (refused (queue_names t.queues) ch tag multiple e)
 
 first_none : (first rest : Option Refusal) → or_else first rest ≡ None → first ≡ None
 first_none None rest e = refl

@@ -27,9 +27,10 @@ use Rattle.channel.specs.Deliveries.{with_limit}
 use Rattle.broker.specs.Links.{Linked, link_in, channel_seen, limits_of, connection_at, channel_at, connection_of, channel_of, seen_in, CanCount, AreLinks, Puts, Opens}
 use Rattle.broker.specs.Sent.{IsOwn, AreOwn, return_if, sent_back}
 use Rattle.broker.specs.State.{Kept, broker_of, topology_of, names_of}
-use Rattle.broker.specs.Judged.{seen, HasChannel, IsIgnored, IsLargeIgnored, Judges, JudgesOn, JudgesLarge}
+use Rattle.broker.specs.Judged.{seen, HasChannel, IsIgnored, IsLargeIgnored, IsRequeued, is_requeueing, requeues, Asks, Judges, JudgesOn, JudgesLarge}
 use Rattle.broker.specs.declared.refusals.Refusal as declared
 use Rattle.broker.specs.declared.refusals.Act as wanted
+use Rattle.broker.specs.declared.refusals.Act.TheVariants as act
 
 -- queues with no entry have none by any name
 pub listed_none : (names : List Text) (n : ℕ) (q : Text) → listed names (replicate n []) q ≡ []
@@ -268,3 +269,33 @@ limited_is names ch m = chosen m.global
     chosen : (b : Bool) → open_in names (record ch { given = with_limit ch.given m.prefetch_count b }) ≡ (if b then record (open_in names ch) { limit = m.prefetch_count } else record (open_in names ch) { each_limit = m.prefetch_count })
     chosen true = refl
     chosen false = refl
+
+-- ---- rejections that requeue
+
+-- the act of a rejection that requeues requeues
+pub requeues_by : (t : Topology) (b : Broker) (ch : Option Channel) (m : Method) (a : wanted.Act) → Asks t b ch m a → is_requeueing m ≡ true → requeues a ≡ true
+requeues_by t b ch m (act.Reject r) asked is = sym (ap is_requeueing asked.0) ∙ is
+requeues_by t b ch m (act.Nack n) asked is = sym (ap is_requeueing asked.0) ∙ is
+requeues_by t b ch m (act.Select no_wait) asked is = sym (ap is_requeueing asked.0) ∙ is
+requeues_by t b ch m (act.Publish p) asked is = sym (ap is_requeueing asked.0) ∙ is
+requeues_by t b ch m (act.Purge place p) asked is = sym (ap is_requeueing asked.0) ∙ is
+requeues_by t b ch m (act.Get place g) asked is = sym (ap is_requeueing asked.0) ∙ is
+requeues_by t b ch m (act.Limit q) asked is = sym (ap is_requeueing asked.0) ∙ is
+requeues_by t b ch m (act.Acknowledge a) asked is = sym (ap is_requeueing asked.0) ∙ is
+requeues_by t b ch m act.Recover asked is = sym (ap is_requeueing asked.0) ∙ is
+requeues_by t b ch m (act.CloseChannel is_closing) (x, e, there, closing) is = sym (ap is_requeueing e) ∙ is
+requeues_by t b ch m act.EndChannel asked is = sym (ap is_requeueing asked.0) ∙ is
+requeues_by t b ch m act.CloseConnection (x, e) is = sym (ap is_requeueing e) ∙ is
+
+-- what is accepted of it is not refused
+pub requeued_not : (t : Topology) (b : Broker) (c h : ℕ) (m : Method) (e : declared.Refusal) → JudgesOn t b c h m (Some (Err e)) → IsRequeued t b c h m (b.connection c) → ⊥
+requeued_not t b c h m e (conn, at, judged) is =
+    let accepted = subst (λ (o : Option Connection). IsRequeued t b c h m o) at is in
+    let none_is_some : None ≡ Some (seen e) = sym accepted.1 ∙ judged.0 in
+    cc
+
+-- and its act requeues
+pub requeued_by : (t : Topology) (b : Broker) (c h : ℕ) (m : Method) (a : wanted.Act) → JudgesOn t b c h m (Some (Ok a)) → IsRequeued t b c h m (b.connection c) → requeues a ≡ true
+requeued_by t b c h m a (conn, at, judged) is =
+    let accepted = subst (λ (o : Option Connection). IsRequeued t b c h m o) at is in
+    requeues_by t b (b.channel c h) m a judged.1 accepted.0

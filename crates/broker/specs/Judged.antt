@@ -50,6 +50,12 @@ is_requeueing (method.BasicReject m) = m.requeue
 is_requeueing (method.BasicNack m) = m.requeue
 is_requeueing _ = false
 
+-- the act is such a rejection
+abbrev pub requeues : Act → Bool
+requeues (act.Reject r) = r.now.requeue
+requeues (act.Nack n) = n.now.requeue
+requeues _ = false
+
 -- a rejection that requeues, and nothing stands against it
 abbrev pub IsRequeued : Topology → Broker → ℕ → ℕ → Method → Option Connection → Type 0
 IsRequeued t b c h m None = ⊥

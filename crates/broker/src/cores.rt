@@ -48,7 +48,7 @@ impl Model for Core {
 }
 
 impl Core {
-    ghost use Rattle.std.specs.Prelude.{◌≡◌, [], IfOk, IsOk, OnErr};
+    ghost use Rattle.std.specs.Prelude.{◌≡◌, [], true, IfOk, IsOk, OnErr};
     ghost use Rattle.model.specs.Agreement.{IsAgreed};
     ghost use Rattle.model.specs.Arrivals.{IsSaid};
     ghost use Rattle.model.specs.Sending.{AreCarried};
@@ -56,7 +56,7 @@ impl Core {
     ghost use Rattle.model.specs.Step.{Acts, Is, OnConnection, OnLarge, Performs, channel_or_new};
     ghost use Rattle.model.specs.declared.methods.Method.{Method as Seen};
     ghost use Rattle.broker.specs.State.{broker_of, topology_of, nothing};
-    ghost use Rattle.broker.specs.Judged.{IsIgnored, IsLargeIgnored, WantsNoMemory, JudgesOn, JudgesLarge, Asks, CanAct};
+    ghost use Rattle.broker.specs.Judged.{requeues, IsRequeued, IsIgnored, IsLargeIgnored, WantsNoMemory, JudgesOn, JudgesLarge, Asks, CanAct};
     ghost use Rattle.broker.specs.Sent.{AreOwn, connection_of_event};
 
     /// The broker of this topology: its queues are empty, and no connection runs.
@@ -110,6 +110,7 @@ impl Core {
         ensures own { IfOk result (λ s. (m : Seen) → Asks (topology_of self.old) (broker_of self.old) ((broker_of self.old).channel connection channel) m act.entry → IsMethod m → AreCarried (broker_of self.old) → AreOwn connection s.sends.items) }
         ensures topology { topology_of self.new ≡ topology_of self.old }
         ensures err { OnErr result (self.new ≡ self.old) }
+        ensures quiet { requeues act.entry ≡ true → IsOk result }
     {
         match act {
             Act::Select(no_wait) => self.select(alloc, connection, channel, no_wait),
@@ -165,6 +166,7 @@ impl Core {
     ) -> Result<Step, AllocError>
         requires { IsAgreed (broker_of self.old) }
         ensures ok { IfOk result (λ s. OnConnection (topology_of self.old) (broker_of self.old) connection channel method.now content.now s.sends.items s.notes.items (broker_of self.new) ((broker_of self.old).connection connection)) }
+        ensures requeued { IsRequeued (topology_of self.old) (broker_of self.old) connection channel method.now ((broker_of self.old).connection connection) → IsOk result }
         ensures ignored { IsIgnored (topology_of self.old) (broker_of self.old) connection channel method.now ((broker_of self.old).connection connection) → IsOk result }
         ensures own { IfOk result (λ s. IsMethod method.now → AreCarried (broker_of self.old) → AreOwn connection s.sends.items) }
         ensures topology { topology_of self.new ≡ topology_of self.old }
@@ -197,7 +199,8 @@ impl Core {
     }
 
     /// One event: what it sends, what it notes, and the state after it. Where the event's method has a spelling, each send
-    /// is for the event's own connection, by a method with a spelling. Where memory is wanting, nothing has changed; a loss, a pause and its end, and a command that is ignored want none.
+    /// is for the event's own connection, by a method with a spelling. Where memory is wanting, nothing has changed; an opening,
+    /// a loss, a pause and its end, a command that is ignored, and a rejection that requeues want none.
     pub fn step(&mut self, alloc: Global, event: &Event) -> Result<Step, AllocError>
         requires { IsAgreed (broker_of self.old) }
         ensures ok { IfOk result (λ s. Acts (topology_of self.old) (broker_of self.old) event.now s.sends.items s.notes.items (broker_of self.new)) }

@@ -105,6 +105,34 @@ impl Core {
         }
     }
 
+    /// The first ready message of the queue at this place is given out under this tag, the next one of the channel. It leaves
+    /// the queue where it needs no acknowledgement. Nothing is held under the tag yet.
+    fn give_out(
+        &mut self,
+        connection: u64,
+        channel: u16,
+        place: usize,
+        tag: u64,
+        no_ack: bool,
+    ) -> Result<(), AllocError>
+        requires within { place < length (topology_of self.old).queues }
+        requires there { IsSome ((broker_of self.old).channel connection channel) }
+        requires left { has_tag_left (channel_or_new ((broker_of self.old).channel connection channel)).next_tag ≡ true }
+        requires tag { (channel_or_new ((broker_of self.old).channel connection channel)).next_tag ≡ tag }
+        requires free { (q : Name) → find (is_held_as (record { connection = connection; channel = channel; tag = tag; by = taker.Get })) ((broker_of self.old).queue q) ≡ None }
+        requires ready { IsSome (first_ready ((broker_of self.old).queue (queue_name (topology_of self.old) place))) }
+        ensures left { OnOk result (Is (after_delivery (broker_of self.old) connection channel (channel_or_new ((broker_of self.old).channel connection channel)) no_ack (queue_name (topology_of self.old) place) taker.Get) (broker_of self.new)) }
+        ensures topology { topology_of self.new ≡ topology_of self.old }
+        ensures err { OnErr result (self.new ≡ self.old) }
+    {
+        if no_ack {
+            self.take_out(connection, channel, place);
+            Ok(())
+        } else {
+            self.hand_out(connection, channel, place, tag)
+        }
+    }
+
     /// A get from the queue at this place: its first ready message is given out, and leaves the queue where it needs no
     /// acknowledgement; or it is answered that there is none. All that takes memory is made before the first change.
     pub(crate) fn get(
@@ -124,17 +152,14 @@ impl Core {
         ensures topology { topology_of self.new ≡ topology_of self.old }
         ensures err { OnErr result (self.new ≡ self.old) }
     {
+        self.depot.is_named(place);
         let tag = self.links.next_tag(connection, channel);
         let remaining = self.depot.ready_at(place).saturating_sub(1);
         let step = match self.depot.first_ready(place) {
             Some(entry) => answer_get(alloc, connection, channel, tag, get, entry, remaining)?,
             None => return Step::sending(alloc, get_empty(connection, channel)),
         };
-        if get.no_ack {
-            self.take_out(connection, channel, place);
-        } else {
-            self.hand_out(connection, channel, place, tag)?;
-        }
+        self.give_out(connection, channel, place, tag, get.no_ack)?;
         Ok(step)
     }
 }

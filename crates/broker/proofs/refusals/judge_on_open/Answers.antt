@@ -1,15 +1,35 @@
-use Rattle.std.proofs.Common.{◌≡◌, ◌∙◌, sym}
+use Rattle.std.proofs.Common.{◌≡◌, ◌∙◌, sym, subst}
+use Rattle.model.specs.Topology.{Topology, queue_names}
 use Rattle.channel.specs.Open.{open_in}
+use Rattle.broker.specs.Placed.{AreWithin}
 use Rattle.broker.proofs.refusals.judge_on_open.Goals as goal
 
 pub returns-in-BasicPublish : goal.returns-in-BasicPublish
-returns-in-BasicPublish c = λ b names e. rw (c.in-BasicPublish.is, ← c.router.ensures) (c.judge_publish.ensures b names (e.counted ∙ sym c.published.ensures))
+returns-in-BasicPublish c = λ b e. rw (c.in-BasicPublish.is, ← c.router.ensures) (c.judge_publish.ensures b (queue_names c.router.result.now.queues) (e.counted ∙ sym c.published.ensures))
 
 pub returns-in-QueuePurge : goal.returns-in-QueuePurge
-returns-in-QueuePurge c = λ b names e. rw (c.in-QueuePurge.is, ← c.router.ensures) (c.judge_purge.ensures b (open_in names c.args.channel.now))
+returns-in-QueuePurge c = λ b e. rw (c.in-QueuePurge.is, ← c.router-in-QueuePurge.ensures) (c.judge_purge.ensures b (open_in (queue_names c.router-in-QueuePurge.result.now.queues) c.args.channel.now))
 
 pub returns-in-BasicGet : goal.returns-in-BasicGet
-returns-in-BasicGet c = λ b names e. rw c.in-BasicGet.is (c.judge_get.ensures b names e)
+returns-in-BasicGet c = λ b e. rw c.in-BasicGet.is (c.judge_get.ensures b (queue_names c.args.depot.now.topology.queues) e)
 
 pub returns-in-BasicQos : goal.returns-in-BasicQos
-returns-in-BasicQos c = λ b names e. rw c.in-BasicQos.is (c.judge_qos.ensures c.args.depot.now.topology b (open_in names c.args.channel.now))
+returns-in-BasicQos c = λ b e. rw c.in-BasicQos.is (c.judge_qos.ensures c.args.depot.now.topology b (open_in (queue_names c.args.depot.now.topology.queues) c.args.channel.now))
+
+pub returns-in-BasicAck : goal.returns-in-BasicAck
+returns-in-BasicAck c = λ b e. rw c.in-BasicAck.is (c.judge_ack.ensures c.args.depot.now.topology b (queue_names c.args.depot.now.topology.queues))
+
+pub judge_reject-requires : goal.judge_reject-requires
+judge_reject-requires c = subst (λ (t : Topology). AreWithin t c.args.channel.now.given.outstanding) (sym c.topology.ensures) c.requires.placed
+
+pub returns-in-BasicReject : goal.returns-in-BasicReject
+returns-in-BasicReject c = λ b e. rw (c.in-BasicReject.is, ← c.topology.ensures) (c.judge_reject.ensures b)
+
+pub judge_nack-requires : goal.judge_nack-requires
+judge_nack-requires c = subst (λ (t : Topology). AreWithin t c.args.channel.now.given.outstanding) (sym c.topology-in-BasicNack.ensures) c.requires.placed
+
+pub returns-in-BasicNack : goal.returns-in-BasicNack
+returns-in-BasicNack c = λ b e. rw (c.in-BasicNack.is, ← c.topology-in-BasicNack.ensures) (c.judge_nack.ensures b)
+
+pub returns-in-BasicRecover : goal.returns-in-BasicRecover
+returns-in-BasicRecover c = λ b e. rw c.in-BasicRecover.is (c.judge_recover.ensures c.args.depot.now.topology b (open_in (queue_names c.args.depot.now.topology.queues) c.args.channel.now))

@@ -1,14 +1,20 @@
 use Rattle.std.proofs.Common.{◌≡◌, ◌∙◌, ap, refl, sym, subst, Some}
 use Rattle.std.specs.Option.{option_copied}
 use Rattle.broker.specs.Links.{link_in}
-use Rattle.broker.specs.State.{Kept, broker_of, topology_of, names_of}
+use Rattle.broker.specs.State.{Kept, broker_of, topology_of}
 use Rattle.broker.specs.Judged.{JudgesOn}
+use Rattle.broker.proofs.Placing.{placed_in}
 use Rattle.broker.proofs.Stepping.{judged_on}
 use Rattle.broker.proofs.cores.Core.judge_command.Goals as goal
+
+pub judge-requires : goal.judge-requires
+judge-requires c =
+    let kept : Kept = record { store = c.self.inside.depot; links = c.self.inside.links } in
+    placed_in kept c.args.connection c.in-Some.link.now (sym c.get.ensures ∙ ap option_copied c.in-Some.is) c.self.invariant
 
 pub returns-in-Some : goal.returns-in-Some
 returns-in-Some c =
     let kept : Kept = record { store = c.self.inside.depot; links = c.self.inside.links } in
     let there : link_in kept.links c.args.connection ≡ Some c.in-Some.link.now = sym c.get.ensures ∙ ap option_copied c.in-Some.is in
     subst (λ (k : Kept). JudgesOn (topology_of k) (broker_of k) c.args.connection c.args.channel c.args.method.now (Some c.judge.result)) c.self.view_is
-    (judged_on kept c.args.connection c.args.channel c.args.method.now c.judge.result c.in-Some.link.now there (c.judge.ensures (broker_of kept) (names_of kept) (record { counted = refl; queues = λ q. refl })))
+    (judged_on kept c.args.connection c.args.channel c.args.method.now c.judge.result c.in-Some.link.now there (c.judge.ensures (broker_of kept) (record { counted = refl; queues = λ q. refl })))

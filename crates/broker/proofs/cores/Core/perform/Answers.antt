@@ -5,7 +5,7 @@ use Rattle.broker.specs.State.{broker_of, topology_of}
 use Rattle.broker.specs.Judged.{Judges, JudgesOn}
 use Rattle.broker.specs.declared.refusals.Refusal.{Refusal}
 use Rattle.broker.specs.declared.refusals.Act.{Act}
-use Rattle.broker.proofs.Stepping.{performs_on, ignored_by, performed_not}
+use Rattle.broker.proofs.Stepping.{performs_on, ignored_by, performed_not, requeued_not, requeued_by}
 use Rattle.broker.proofs.cores.Core.perform.Goals as goal
 
 pub act-requires-clause-can : goal.act-requires-clause-can
@@ -52,4 +52,18 @@ returns-in-Some-Err-clause-ignored c = λ is.
     let t = topology_of c.args.self.now in
     let b = broker_of c.args.self.now in
     c.refuse.ensures.ignored (ignored_by t b c.args.connection c.args.channel c.args.method.now c.in-Some-Err.refusal
+    (subst (λ (r : Result Act Refusal). JudgesOn t b c.args.connection c.args.channel c.args.method.now (Some r)) c.in-Some-Err.field-0-is c.in-Some-Err.ensures) is)
+
+pub returns-in-Some-Ok-clause-requeued : goal.returns-in-Some-Ok-clause-requeued
+returns-in-Some-Ok-clause-requeued c = λ is.
+    let t = topology_of c.args.self.now in
+    let b = broker_of c.args.self.now in
+    c.act.ensures.quiet (requeued_by t b c.args.connection c.args.channel c.args.method.now c.in-Some-Ok.act
+    (subst (λ (r : Result Act Refusal). JudgesOn t b c.args.connection c.args.channel c.args.method.now (Some r)) c.in-Some-Ok.field-0-is c.in-Some-Ok.ensures) is)
+
+pub returns-in-Some-Err-clause-requeued : goal.returns-in-Some-Err-clause-requeued
+returns-in-Some-Err-clause-requeued c = λ is.
+    let t = topology_of c.args.self.now in
+    let b = broker_of c.args.self.now in
+    absurd (requeued_not t b c.args.connection c.args.channel c.args.method.now c.in-Some-Err.refusal
     (subst (λ (r : Result Act Refusal). JudgesOn t b c.args.connection c.args.channel c.args.method.now (Some r)) c.in-Some-Err.field-0-is c.in-Some-Err.ensures) is)

@@ -1,4 +1,4 @@
-use Rattle.std.proofs.Common.{◌≡◌, ◌∙◌, ap, sym, refl, None}
+use Rattle.std.proofs.Common.{◌≡◌, ◌∙◌, ap, sym, refl, false, None}
 use Rattle.model.specs.Topology.{queue_names}
 use Rattle.model.specs.Step.{refusal_of_settling, refusal_of_rejection}
 use Rattle.channel.specs.Open.{open_in}
@@ -11,7 +11,7 @@ pub returns-in-None : goal.returns-in-None
 returns-in-None c = λ b.
     let t = c.args.topology.now in
     let r = sym c.refusal_of_rejection.ensures ∙ ap seen_if c.in-None.is in
-    (r, (refl, (refl, tag_accepted t (open_in (queue_names t.queues) c.args.channel.now) c.args.reject.now.delivery_tag false c.args.reject.now.requeue r)))
+    (r, (refl, refl, tag_accepted t (open_in (queue_names t.queues) c.args.channel.now) c.args.reject.now.delivery_tag false c.args.reject.now.requeue r))
 
 pub returns-in-Some : goal.returns-in-Some
 returns-in-Some c = λ b. (sym c.refusal_of_rejection.ensures ∙ ap seen_if c.in-Some.is, has_open c.in-Some.refusal (open_in (queue_names c.args.topology.now.queues) c.args.channel.now))
