@@ -299,3 +299,11 @@ pub requeued_by : (t : Topology) (b : Broker) (c h : ℕ) (m : Method) (a : want
 requeued_by t b c h m a (conn, at, judged) is =
     let accepted = subst (λ (o : Option Connection). IsRequeued t b c h m o) at is in
     requeues_by t b (b.channel c h) m a judged.1 accepted.0
+
+-- a connection that runs is kept
+kept_link : (o : Option Linked) → IsSome (connection_at o) → IsSome o
+kept_link None h = h
+kept_link (Some l) h = refl
+
+pub link_there : (old kept : Kept) (c : ℕ) → old ≡ kept → IsSome ((broker_of kept).connection c) → IsSome (link_in old.links c)
+link_there old kept c e some = kept_link (link_in old.links c) (subst (λ (k : Kept). IsSome ((broker_of k).connection c)) (sym e) some)
