@@ -16,3 +16,8 @@ on_ok (Err e) ok f = ok
 pub both_ok : {A E : Type 0} (r : Result A E) (P Q R : A → Type 0) → IfOk r P → IfOk r Q → ((x : A) → P x → Q x → R x) → IfOk r R
 both_ok (Ok x) P Q R p q f = f x p q
 both_ok (Err e) P Q R p q f = p
+
+-- what follows from failure
+pub on_err : {A E : Type 0} {X Y : Type 0} (r : Result A E) → OnErr r X → (X → Y) → OnErr r Y
+on_err (Ok x) failed f = failed
+on_err (Err e) failed f = f failed

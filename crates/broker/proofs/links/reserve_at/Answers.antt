@@ -1,4 +1,4 @@
-use Rattle.std.proofs.Common.{◌∙◌}
+use Rattle.std.proofs.Common.{◌∙◌, None}
 use Rattle.broker.proofs.Agreeing.{on_ok}
 use Rattle.broker.proofs.Setting.{same_default, set_is}
 use Rattle.broker.proofs.links.reserve_at.Goals as goal
@@ -8,6 +8,6 @@ returns-then-at-channels-clause-ok c =
     on_ok c.reserve_in.result c.reserve_in.ensures.ok
     (λ made ch is. (
       c.reserve_in.new.slot,
-      made ch (c.index-channels-at.is ∙ same_default c.args.channels.now c.args.number c.index-channels-at.result _ c.if-at-channels.true ∙ is),
+      made ch (same_default c.args.channels.now c.args.number c.index-channels-at.result None c.if-at-channels.true ∙ is),
       set_is c.args.channels.now c.args.number c.reserve_in.new.slot c.if-at-channels.true,
     ))

@@ -1,7 +1,7 @@
 use Rattle.std.proofs.Common.{◌≡◌, ◌-◌, ◌∙◌, ◌∷◌, [], ap, sym, subst, ℕ, None, Option, Some}
 use Rattle.std.specs.Prelude.{option_map, is_some, find}
 use Rattle.model.specs.Words.{Text}
-use Rattle.model.specs.Deliveries.{first_ready, ready_in}
+use Rattle.model.specs.Deliveries.{first_ready, ready_in, after_delivery}
 use Rattle.model.specs.Entries.{is_held_as}
 use Rattle.model.specs.Step.{Is, Gets, channel_or_new}
 use Rattle.model.specs.declared.messages.Entry.{Entry}
@@ -24,8 +24,7 @@ returns-in-None-clause-ok c =
     subst (λ (q : Text). first_ready ((broker_of c.args.self.now).queue q) ≡ None) c.requires.at.named
     (subst (λ (k : Kept). first_ready ((broker_of k).queue (queue_name (topology_of k) c.args.place)) ≡ None) c.self.view_is found) in
     both_ok c.sending.result _ _ _ c.sending.ensures.sends c.sending.ensures.notes
-    (λ s sent noted. subst (λ (k : Kept). Gets (broker_of c.args.self.now) c.args.connection c.args.channel (channel_or_new ((broker_of c.args.self.now).channel c.args.connection c.args.channel)) c.args.get.now (first_ready ((broker_of c.args.self.now).queue c.args.get.now.queue)) s.sends.items s.notes.items (broker_of k)) (sym c.self.view_is)
-    (nothing_gotten (broker_of c.args.self.now) c.args.connection c.args.channel _ c.args.get.now s.sends.items s.notes.items here (sent ∙ ap (λ x. x ∷ []) c.get_empty.ensures.send) noted))
+    (λ s sent noted. nothing_gotten (broker_of c.args.self.now) c.args.connection c.args.channel (channel_or_new ((broker_of c.args.self.now).channel c.args.connection c.args.channel)) c.args.get.now s.sends.items s.notes.items here (sent ∙ ap (λ x. x ∷ []) c.get_empty.ensures.send) noted)
 
 pub give_out-requires-clause-left : goal.give_out-requires-clause-left
 give_out-requires-clause-left c =
@@ -35,7 +34,7 @@ give_out-requires-clause-left c =
     let here : first_ready ((broker_of c.args.self.now).queue c.args.get.now.queue) ≡ Some e =
     subst (λ (q : Text). first_ready ((broker_of c.args.self.now).queue q) ≡ Some e) c.requires.at.named
     (subst (λ (k : Kept). first_ready ((broker_of k).queue (queue_name (topology_of k) c.args.place)) ≡ Some e) c.self.view_is found) in
-    tag_left (topology_of c.args.self.now) (broker_of c.args.self.now) _ c.args.get.now e c.requires.accepted here
+    tag_left (topology_of c.args.self.now) (broker_of c.args.self.now) (channel_or_new ((broker_of c.args.self.now).channel c.args.connection c.args.channel)) c.args.get.now e c.requires.accepted here
 
 pub give_out-requires-clause-free : goal.give_out-requires-clause-free
 give_out-requires-clause-free c = λ q.
@@ -69,11 +68,13 @@ returns-clause-ok c =
     let there = kept_one (channel_of old.links connection number) (kept_there old c.args.self.now connection number c.self.view_is c.requires.there) in
     let tagged : c.next_tag-tag.result ≡ (channel_or_new ((broker_of old).channel connection number)).next_tag =
     c.next_tag-tag.ensures there.0 there.1 ∙ ap (λ (o : Option Open). (channel_or_new (option_map (open_in (names_of old)) o)).next_tag) (sym there.1) in
+    let left : Is (after_delivery (broker_of old) connection number (channel_or_new ((broker_of old).channel connection number)) asked.no_ack q taker.Get) (broker_of new) =
+    subst (λ (k : Kept). Is (after_delivery (broker_of k) connection number (channel_or_new ((broker_of k).channel connection number)) asked.no_ack (queue_name (topology_of k) c.args.place) taker.Get) (broker_of new)) (sym c.self.view_is) c.in_ok-give_out.ensures.left in
     let count : c.saturating_sub-remaining.result ≡ ready_in ((broker_of old).queue q) - 1 =
     c.saturating_sub-remaining.ensures ∙ ap (λ (n : ℕ). n - 1) (c.ready_at.ensures ∙ sym (ap ready_in c.is_named.ensures.entries_are)) in
     subst (λ (k : Kept). Gets (broker_of k) connection number (channel_or_new ((broker_of k).channel connection number)) asked (first_ready ((broker_of k).queue asked.queue)) c.in_ok-step-in-Some.step.sends.items c.in_ok-step-in-Some.step.notes.items (broker_of new)) c.self.view_is
     (gotten (broker_of old) (broker_of new) connection number (channel_or_new ((broker_of old).channel connection number)) asked q e c.next_tag-tag.result c.saturating_sub-remaining.result
-    c.in_ok-step-in-Some.step.sends.items c.in_ok-step-in-Some.step.notes.items named found tagged count c.in_ok-step-in-Some.ensures.sends c.in_ok-step-in-Some.ensures.notes c.in_ok-give_out.ensures.left)
+    c.in_ok-step-in-Some.step.sends.items c.in_ok-step-in-Some.step.notes.items named found tagged count c.in_ok-step-in-Some.ensures.sends c.in_ok-step-in-Some.ensures.notes left)
 
 pub returns-clause-own : goal.returns-clause-own
 returns-clause-own c = λ carried.
