@@ -8,7 +8,7 @@ use Rattle.model.specs.Words.{Text}
 use Rattle.model.specs.Topology.{Topology, queue_names, IsIn}
 use Rattle.model.specs.declared.topologies.DeclaredQueue.{DeclaredQueue}
 use Rattle.model.specs.Broker.{Broker, Channel, Connection, queue_named}
-use Rattle.model.specs.Step.{Refusal, Of_channel, Of_connection, exchange_named, refusal_of_exchange, refusal_on, greatest, is_spent, or_else, refusal_to, refusal_in, refusal_of_tags, refusal_of_get, refusal_of_count, refusal_of_publish, is_awaiting, is_of_connection, refusal, refusal_while_closing, refusal_on_zero, refusal_of}
+use Rattle.model.specs.Step.{Refusal, Of_connection, refusal_on, greatest, is_spent, or_else, refusal_to, refusal_in, refusal_of_tags, refusal_of_get, refusal_of_count, refusal_of_publish, is_awaiting, is_of_connection, refusal, refusal_while_closing, refusal_on_zero, refusal_of}
 use Rattle.model.specs.declared.methods.Method.{Method}
 use Rattle.model.specs.declared.methods.Publish.{Publish}
 use Rattle.model.specs.declared.methods.Get.{Get}
@@ -51,12 +51,6 @@ absent_judged t b conn h m r z n l f =
     let within : nat_lt conn.channel_max h ≡ false = grind (arith, nat_tests) in
     let same : refusal t b conn h m None ≡ refusal_on t b None m = rw (zero, n, within) refl in
     subst (λ (x : Option Refusal). Judges t b None m x r) (sym same) f
-
--- an exchange is found by its name, and the default exchange always
-pub exchange_found : (t : Topology) (name : Text) (found : Bool) → found ≡ ((length name == 0) || is_some (exchange_named t.exchanges name))
-    → refusal_of_exchange t name ≡ (if found then None else Some (Of_channel 404))
-exchange_found t [] found e = rw e refl
-exchange_found t (b ∷ bs) found e = rw e refl
 
 -- any refusal can be made on an open channel
 pub has_open : (r : declared.Refusal) (ch : Channel) → HasChannel r (Some ch)

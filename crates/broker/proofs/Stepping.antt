@@ -276,6 +276,9 @@ limited_is names ch m = chosen m.global
 pub requeues_by : (t : Topology) (b : Broker) (ch : Option Channel) (m : Method) (a : wanted.Act) → Asks t b ch m a → is_requeueing m ≡ true → requeues a ≡ true
 requeues_by t b ch m (act.Reject r) asked is = sym (ap is_requeueing asked.0) ∙ is
 requeues_by t b ch m (act.Nack n) asked is = sym (ap is_requeueing asked.0) ∙ is
+requeues_by t b ch m act.OpenChannel (reserved, e) is = sym (ap is_requeueing e) ∙ is
+requeues_by t b ch m act.Flow asked is = sym (ap is_requeueing asked.0) ∙ is
+requeues_by t b ch m (act.FindExchange d) asked is = sym (ap is_requeueing asked.0) ∙ is
 requeues_by t b ch m (act.Select no_wait) asked is = sym (ap is_requeueing asked.0) ∙ is
 requeues_by t b ch m (act.Publish p) asked is = sym (ap is_requeueing asked.0) ∙ is
 requeues_by t b ch m (act.Purge place p) asked is = sym (ap is_requeueing asked.0) ∙ is

@@ -28,8 +28,8 @@ returns-clause-ok c =
           (put_is old new connection number (Some c.new.result) refl c.in_ok-open_channel.ensures.ok);
     })
 
-pub invariant_of-self : goal.invariant_of-self
-invariant_of-self c =
+pub invariant_of-self-2 : goal.invariant_of-self-2
+invariant_of-self-2 c =
     let old : Kept = record { store = c.self.inside.depot; links = c.self.inside.links } in
     let new : Kept = record { store = c.self.inside.depot; links = c.open_channel.new.self } in
     placed_put old new c.args.connection c.args.channel (Some c.new.result) refl c.in_ok-open_channel.ensures.ok
