@@ -8,7 +8,7 @@ use Rattle.model.specs.Words.{Text}
 use Rattle.model.specs.Topology.{Topology, queue_names, IsIn}
 use Rattle.model.specs.declared.topologies.DeclaredQueue.{DeclaredQueue}
 use Rattle.model.specs.Broker.{Broker, Channel, Connection, queue_named}
-use Rattle.model.specs.Step.{Refusal, Of_connection, greatest, is_spent, or_else, refusal_to, refusal_in, refusal_of_tags, refusal_of_get, refusal_of_count, refusal_of_publish, is_awaiting, is_of_connection, refusal, refusal_while_closing, refusal_on_zero, refusal_of}
+use Rattle.model.specs.Step.{Refusal, Of_connection, refusal_on, greatest, is_spent, or_else, refusal_to, refusal_in, refusal_of_tags, refusal_of_get, refusal_of_count, refusal_of_publish, is_awaiting, is_of_connection, refusal, refusal_while_closing, refusal_on_zero, refusal_of}
 use Rattle.model.specs.declared.methods.Method.{Method}
 use Rattle.model.specs.declared.methods.Publish.{Publish}
 use Rattle.model.specs.declared.methods.Get.{Get}
@@ -41,6 +41,16 @@ open_judged t b conn h m r k e z n l f =
     let within : nat_lt conn.channel_max h ≡ false = grind (arith, nat_tests) in
     let same : refusal t b conn h m (Some k) ≡ refusal_of t b k m = rw (e, zero, n, within) refl in
     subst (λ (x : Option Refusal). Judges t b (Some k) m x r) (sym same) f
+
+-- the same of a channel that is not open
+pub absent_judged : (t : Topology) (b : Broker) (conn : Connection) (h : ℕ) (m : Method) (r : Result wanted.Act declared.Refusal)
+    → h ≢ 0 → is_of_connection m ≡ false → (conn.channel_max < h → ⊥) → Judges t b None m (refusal_on t b None m) r
+    → Judges t b None m (refusal t b conn h m None) r
+absent_judged t b conn h m r z n l f =
+    let zero : nat_eq h 0 ≡ false = grind (arith, nat_tests) in
+    let within : nat_lt conn.channel_max h ≡ false = grind (arith, nat_tests) in
+    let same : refusal t b conn h m None ≡ refusal_on t b None m = rw (zero, n, within) refl in
+    subst (λ (x : Option Refusal). Judges t b None m x r) (sym same) f
 
 -- any refusal can be made on an open channel
 pub has_open : (r : declared.Refusal) (ch : Channel) → HasChannel r (Some ch)

@@ -276,6 +276,9 @@ limited_is names ch m = chosen m.global
 pub requeues_by : (t : Topology) (b : Broker) (ch : Option Channel) (m : Method) (a : wanted.Act) → Asks t b ch m a → is_requeueing m ≡ true → requeues a ≡ true
 requeues_by t b ch m (act.Reject r) asked is = sym (ap is_requeueing asked.0) ∙ is
 requeues_by t b ch m (act.Nack n) asked is = sym (ap is_requeueing asked.0) ∙ is
+requeues_by t b ch m act.OpenChannel (reserved, e) is = sym (ap is_requeueing e) ∙ is
+requeues_by t b ch m act.Flow asked is = sym (ap is_requeueing asked.0) ∙ is
+requeues_by t b ch m (act.FindExchange d) asked is = sym (ap is_requeueing asked.0) ∙ is
 requeues_by t b ch m (act.Select no_wait) asked is = sym (ap is_requeueing asked.0) ∙ is
 requeues_by t b ch m (act.Publish p) asked is = sym (ap is_requeueing asked.0) ∙ is
 requeues_by t b ch m (act.Purge place p) asked is = sym (ap is_requeueing asked.0) ∙ is
@@ -299,3 +302,11 @@ pub requeued_by : (t : Topology) (b : Broker) (c h : ℕ) (m : Method) (a : want
 requeued_by t b c h m a (conn, at, judged) is =
     let accepted = subst (λ (o : Option Connection). IsRequeued t b c h m o) at is in
     requeues_by t b (b.channel c h) m a judged.1 accepted.0
+
+-- a connection that runs is kept
+kept_link : (o : Option Linked) → IsSome (connection_at o) → IsSome o
+kept_link None h = h
+kept_link (Some l) h = refl
+
+pub link_there : (old kept : Kept) (c : ℕ) → old ≡ kept → IsSome ((broker_of kept).connection c) → IsSome (link_in old.links c)
+link_there old kept c e some = kept_link (link_in old.links c) (subst (λ (k : Kept). IsSome ((broker_of k).connection c)) (sym e) some)

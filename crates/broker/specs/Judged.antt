@@ -85,6 +85,9 @@ pub record HasStore (b : Broker) (s : Store) : Type 0 where
 
 -- the method asks for this act on the channel, which is there where it needs to be
 abbrev pub Asks : Topology → Broker → Option Channel → Method → Act → Type 0
+Asks t b ch m act.OpenChannel = (reserved : Text) × (m ≡ method.ChannelOpen reserved)
+Asks t b ch m act.Flow = (m ≡ method.ChannelFlow true) × IsSome ch
+Asks t b ch m (act.FindExchange d) = (m ≡ method.ExchangeDeclare d.now) × IsSome ch
 Asks t b ch m (act.Select no_wait) = (m ≡ method.ConfirmSelect no_wait) × IsSome ch
 Asks t b ch m (act.Publish p) = (m ≡ method.BasicPublish p.now) × IsSome ch × (refusal_of_publish t b (channel_or_new ch) p.now ≡ None)
 Asks t b ch m (act.Purge place p) = (m ≡ method.QueuePurge p.now) × IsSome ch × IsPlaceOf t p.now.queue place

@@ -80,6 +80,36 @@ pub(crate) fn connection_close_ok(connection: u64) -> Send
     reply(connection, 0, Method::ConnectionCloseOk)
 }
 
+/// channel.open-ok.
+pub(crate) fn open_ok(connection: u64, channel: u16) -> Send
+    ensures send { result ≡ said.reply connection channel (seen.ChannelOpenOk []) }
+    ensures own { IsOwn connection result }
+{
+    reply(
+        connection,
+        channel,
+        Method::ChannelOpenOk {
+            reserved: Text::empty(),
+        },
+    )
+}
+
+/// channel.flow-ok, of a flow that goes on.
+pub(crate) fn flow_ok(connection: u64, channel: u16) -> Send
+    ensures send { result ≡ said.reply connection channel (seen.ChannelFlowOk true) }
+    ensures own { IsOwn connection result }
+{
+    reply(connection, channel, Method::ChannelFlowOk { active: true })
+}
+
+/// exchange.declare-ok.
+pub(crate) fn exchange_ok(connection: u64, channel: u16) -> Send
+    ensures send { result ≡ said.reply connection channel seen.ExchangeDeclareOk }
+    ensures own { IsOwn connection result }
+{
+    reply(connection, channel, Method::ExchangeDeclareOk)
+}
+
 /// confirm.select-ok.
 pub(crate) fn select_ok(connection: u64, channel: u16) -> Send
     ensures send { result ≡ said.reply connection channel seen.ConfirmSelectOk }

@@ -1,7 +1,9 @@
 //! What the broker keeps, and its step, case by case.
 
 mod closing;
+mod declaring;
 mod getting;
+mod opening;
 mod publishing;
 mod running;
 mod settlements;
@@ -48,7 +50,7 @@ impl Model for Core {
 }
 
 impl Core {
-    ghost use Rattle.std.specs.Prelude.{◌≡◌, [], true, IfOk, IsOk, OnErr};
+    ghost use Rattle.std.specs.Prelude.{◌≡◌, [], true, IsSome, IfOk, IsOk, OnErr};
     ghost use Rattle.model.specs.Agreement.{IsAgreed};
     ghost use Rattle.model.specs.Arrivals.{IsSaid};
     ghost use Rattle.model.specs.Sending.{AreCarried};
@@ -105,6 +107,7 @@ impl Core {
         content: &Option<Content>,
     ) -> Result<Step, AllocError>
         requires agreed { IsAgreed (broker_of self.old) }
+        requires runs { IsSome ((broker_of self.old).connection connection) }
         requires can { CanAct (topology_of self.old) (broker_of self.old) ((broker_of self.old).channel connection channel) act }
         ensures ok { IfOk result (λ s. (m : Seen) → Asks (topology_of self.old) (broker_of self.old) ((broker_of self.old).channel connection channel) m act.entry → Performs (topology_of self.old) (broker_of self.old) connection channel (channel_or_new ((broker_of self.old).channel connection channel)) m content.now s.sends.items s.notes.items (broker_of self.new)) }
         ensures own { IfOk result (λ s. (m : Seen) → Asks (topology_of self.old) (broker_of self.old) ((broker_of self.old).channel connection channel) m act.entry → IsMethod m → AreCarried (broker_of self.old) → AreOwn connection s.sends.items) }
@@ -113,6 +116,11 @@ impl Core {
         ensures quiet { requeues act.entry ≡ true → IsOk result }
     {
         match act {
+            Act::OpenChannel => self.open_channel(alloc, connection, channel),
+            Act::Flow => self.flow(alloc, connection, channel),
+            Act::FindExchange(declare) => {
+                self.find_exchange(alloc, connection, channel, declare.no_wait)
+            }
             Act::Select(no_wait) => self.select(alloc, connection, channel, no_wait),
             Act::Publish(publish) => self.publish_content(
                 alloc, connection, channel, publish, content,

@@ -6,6 +6,7 @@ ghost use Rattle.std.specs.Prelude.{
   ◌≡◌,
   ◌+◌,
   ◌∷◌,
+  ◌++◌,
   [],
   ℕ,
   None,
@@ -214,6 +215,35 @@ fn forget_at(channels: &mut [Option<Channel>], number: u16, tag: u64, multiple: 
     }
 }
 
+/// There are places for so many channels more, which are not open. Where memory is wanting, nothing has changed.
+fn grow(channels: &mut Vec<Option<Channel>>, more: usize) -> Result<(), AllocError>
+    ensures ok { OnOk result (channels.new.items ≡ channels.old.items ++ replicate more None) }
+    ensures err { OnErr result (channels.new.items ≡ channels.old.items) }
+{
+    channels.reserve(more)?;
+    for _ in 0..more {
+        channels.push_reserved(None);
+    }
+    Ok(())
+}
+
+/// This stands at the channel of this number from now on, where none may have been open yet. Where memory is wanting, nothing
+/// has changed.
+fn open_at(
+    channels: &mut Vec<Option<Channel>>,
+    number: u16,
+    channel: Channel,
+) -> Result<(), AllocError>
+    ensures ok { OnOk result (IsSet channels.old.items number (Some channel) channels.new.items) }
+    ensures err { OnErr result (channels.new.items ≡ channels.old.items) }
+{
+    let at = number as usize;
+    let more = (at + 1).saturating_sub(channels.len());
+    grow(channels, more)?;
+    channels[at] = Some(channel);
+    Ok(())
+}
+
 /// This stands at the channel of this number from now on.
 fn put_at(channels: &mut [Option<Channel>], number: u16, channel: Option<Channel>)
     requires { IsSome (slice_index_or channels.old number None) }
@@ -349,6 +379,15 @@ impl Link {
         ensures { (ch : Open) → channel_in self.old number ≡ Some ch → PutsIn self.old number (Some (without_settled ch tag multiple (room_in (channel_in self.new number)))) self.new }
     {
         forget_at(&mut self.channels, number, tag, multiple);
+    }
+
+    /// This stands at the channel of this number from now on, where none may have been open yet. Where memory is wanting,
+    /// nothing has changed.
+    fn open_channel(&mut self, number: u16, channel: Channel) -> Result<(), AllocError>
+        ensures ok { OnOk result (PutsIn self.old number (Some channel) self.new) }
+        ensures err { OnErr result (self.new ≡ self.old) }
+    {
+        open_at(&mut self.channels, number, channel)
     }
 
     /// This stands at the channel of this number from now on.
@@ -581,6 +620,24 @@ impl Links {
     {
         if let Some(link) = self.links.get_mut(&connection) {
             link.forget(channel, tag, multiple);
+        }
+    }
+
+    /// This stands at this channel from now on, where none may have been open yet. Where memory is wanting, nothing has
+    /// changed.
+    pub fn open_channel(
+        &mut self,
+        connection: u64,
+        number: u16,
+        channel: Channel,
+    ) -> Result<(), AllocError>
+        requires { IsSome (link_in self.old connection) }
+        ensures ok { OnOk result (Puts self.old connection number (Some channel) self.new) }
+        ensures err { OnErr result (self.new ≡ self.old) }
+    {
+        match self.links.get_mut(&connection) {
+            Some(link) => link.open_channel(number, channel),
+            None => Ok(()),
         }
     }
 

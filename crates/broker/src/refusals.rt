@@ -19,14 +19,16 @@ ghost use Rattle.channel.specs.Open.{open_in};
 ghost use Rattle.broker.specs.Links.{limits_of, channel_seen};
 ghost use Rattle.broker.specs.Placed.{AreWithin, ArePlacedIn};
 
+mod declares;
 mod settlements;
 
 use crate::links::Link;
+use crate::refusals::declares::{judge_exchange_declare, judge_flow};
 use crate::refusals::settlements::{judge_ack, judge_nack, judge_recover, judge_reject};
 use channel::Channel;
 use depot::Depot;
 use kept_routes::{Access, Router};
-use model::{Ack, Get, Method, Nack, Publish, Purge, Qos, Reject};
+use model::{Ack, ExchangeDeclare, Get, Method, Nack, Publish, Purge, Qos, Reject};
 
 /// Why a command is not performed.
 #[derive(Clone, Copy, Drop)]
@@ -42,6 +44,12 @@ pub(crate) enum Refusal {
 /// What a command that is not refused asks for.
 #[derive(Clone, Copy, Drop)]
 pub(crate) enum Act<'a> {
+    /// The channel is opened.
+    OpenChannel,
+    /// What is given out on the channel flows on.
+    Flow,
+    /// The exchange is there, which is answered where an answer is wanted.
+    FindExchange(&'a ExchangeDeclare),
     /// Publishes are to be confirmed; an answer is not wanted where this is true.
     Select(bool),
     Publish(&'a Publish),
@@ -127,6 +135,16 @@ fn judge_on_zero(method: &Method) -> Result<Act<'_>, Refusal>
     }
 }
 
+/// A method on a channel that is not open: it can only be opened.
+fn judge_on_closed(method: &Method) -> Result<Act<'_>, Refusal>
+    ensures { (t : Handed) (b : Broker) → Judges t b None method.now (said.refusal_on t b None method.now) result }
+{
+    match method {
+        Method::ChannelOpen { .. } => Ok(Act::OpenChannel),
+        _ => Err(Refusal::Connection(504)),
+    }
+}
+
 /// A publish on an open channel.
 fn judge_publish<'a>(
     router: &Router,
@@ -209,6 +227,15 @@ fn judge_on_open<'a>(
         Method::BasicReject(reject) => judge_reject(depot.topology(), channel, reject),
         Method::BasicNack(nack) => judge_nack(depot.topology(), channel, nack),
         Method::BasicRecover { requeue } => judge_recover(*requeue),
+        Method::ChannelOpen { .. } => Err(Refusal::Connection(504)),
+        Method::ChannelFlow { active } => judge_flow(*active),
+        Method::ExchangeDeclare(declare) => judge_exchange_declare(depot.topology(), declare),
+        Method::ExchangeDelete
+        | Method::ExchangeBind
+        | Method::ExchangeUnbind
+        | Method::QueueBind
+        | Method::QueueDelete
+        | Method::QueueUnbind => Err(Refusal::Channel(403)),
         Method::ChannelClose(_) => Ok(Act::CloseChannel(false)),
         Method::ChannelCloseOk
         | Method::ChannelOpenOk { .. }
@@ -237,7 +264,7 @@ fn is_of_connection(method: &Method) -> bool
 }
 
 /// A method on a channel that awaits nothing, of a connection that runs: on channel 0 only a close of the connection is
-/// known, and elsewhere no method of its class; a channel that is not open knows no method.
+/// known, and elsewhere no method of its class; a channel that is not open can only be opened.
 fn judge_on_number<'a>(
     depot: &Depot,
     link: &Link,
@@ -258,7 +285,7 @@ fn judge_on_number<'a>(
         return Err(Refusal::Connection(504));
     }
     match link.channel(number) {
-        None => Err(Refusal::Connection(504)),
+        None => judge_on_closed(method),
         Some(channel) => judge_on_open(depot, channel, method),
     }
 }

@@ -154,9 +154,9 @@ refusal_of_exchange t (b ∷ bs) = if is_some (exchange_named t.exchanges (b ∷
 abbrev pub refusal_of_exchange_declare : Topology → DeclaresExchange → Option Refusal
 refusal_of_exchange_declare t m = if m.passive then refusal_of_exchange t m.exchange else Some (Of_channel 403)
 
--- or whether the queue is
-abbrev pub refusal_of_queue_declare : Topology → DeclaresQueue → Option Refusal
-refusal_of_queue_declare t m = if m.passive then refusal_in t m.queue else Some (Of_channel 403)
+-- or whether the queue is, which is not built yet: it is not implemented
+abbrev pub refusal_of_queue_declare : DeclaresQueue → Option Refusal
+refusal_of_queue_declare m = if m.passive then Some (Of_connection 540) else Some (Of_channel 403)
 
 -- the connection class
 abbrev pub is_of_connection : Method → Bool
@@ -179,7 +179,7 @@ refusal_of t b ch (ExchangeDeclare m) = refusal_of_exchange_declare t m
 refusal_of t b ch ExchangeDelete = Some (Of_channel 403)
 refusal_of t b ch ExchangeBind = Some (Of_channel 403)
 refusal_of t b ch ExchangeUnbind = Some (Of_channel 403)
-refusal_of t b ch (QueueDeclare m) = refusal_of_queue_declare t m
+refusal_of t b ch (QueueDeclare m) = refusal_of_queue_declare m
 refusal_of t b ch QueueBind = Some (Of_channel 403)
 refusal_of t b ch QueueDelete = Some (Of_channel 403)
 refusal_of t b ch QueueUnbind = Some (Of_channel 403)

@@ -1,4 +1,4 @@
-use Rattle.std.proofs.Common.{◌≡◌, ◌<◌, ◌∙◌, ap, sym, subst, arith, [], false, Some, Option}
+use Rattle.std.proofs.Common.{◌≡◌, ◌<◌, ◌∙◌, ap, sym, subst, arith, [], false, Some, None, Option}
 use Rattle.std.specs.Prelude.{option_map}
 use Rattle.std.specs.Option.{option_copied}
 use Rattle.model.specs.Topology.{queue_names}
@@ -6,7 +6,7 @@ use Rattle.model.specs.Step.{is_awaiting, is_of_connection, refusal}
 use Rattle.channel.specs.Open.{Open, open_in}
 use Rattle.broker.specs.Judged.{Judges}
 use Rattle.broker.specs.Links.{channel_in, channel_seen, limits_of}
-use Rattle.broker.proofs.Judging.{zero_judged, open_judged}
+use Rattle.broker.proofs.Judging.{zero_judged, open_judged, absent_judged}
 use Rattle.broker.proofs.refusals.judge_on_number.Goals as goal
 
 pub returns-then-number-eq0 : goal.returns-then-number-eq0
@@ -32,3 +32,13 @@ returns-in-Some c =
     λ b e.
     subst (λ (o : Option Open). Judges c.args.depot.now.topology b (option_map (open_in names) o) c.args.method.now (refusal c.args.depot.now.topology b (limits_of c.args.link.now) c.args.number c.args.method.now (option_map (open_in names) o)) c.judge_on_open.result) (sym is)
     (open_judged c.args.depot.now.topology b (limits_of c.args.link.now) c.args.number c.args.method.now c.judge_on_open.result (open_in names c.in-Some.channel.now) runs c.if-number-eq0.false class within (c.judge_on_open.ensures b e))
+
+pub returns-in-None : goal.returns-in-None
+returns-in-None c =
+    let is : channel_in c.args.link.now c.args.number ≡ None = sym c.channel.ensures ∙ ap option_copied c.in-None.is in
+    let class : is_of_connection c.args.method.now ≡ false = sym c.is_of_connection.ensures ∙ c.if-is_of_connection.false in
+    let within : (limits_of c.args.link.now).channel_max < c.args.number → ⊥ = λ l. absurd (omega arith) in
+    let names = queue_names c.args.depot.now.topology.queues in
+    λ b e.
+    subst (λ (o : Option Open). Judges c.args.depot.now.topology b (option_map (open_in names) o) c.args.method.now (refusal c.args.depot.now.topology b (limits_of c.args.link.now) c.args.number c.args.method.now (option_map (open_in names) o)) c.judge_on_closed.result) (sym is)
+    (absent_judged c.args.depot.now.topology b (limits_of c.args.link.now) c.args.number c.args.method.now c.judge_on_closed.result c.if-number-eq0.false class within (c.judge_on_closed.ensures c.args.depot.now.topology b))

@@ -1,4 +1,4 @@
-use Rattle.std.proofs.Common.{◌∙◌, sym, subst}
+use Rattle.std.proofs.Common.{◌≡◌, ◌∙◌, sym, subst}
 use Rattle.model.specs.Topology.{Topology, queue_names}
 use Rattle.channel.specs.Open.{open_in}
 use Rattle.broker.specs.Placed.{AreWithin}
@@ -33,3 +33,9 @@ returns-in-BasicNack c = λ b e. rw (c.in-BasicNack.is, ← c.topology-in-BasicN
 
 pub returns-in-BasicRecover : goal.returns-in-BasicRecover
 returns-in-BasicRecover c = λ b e. rw c.in-BasicRecover.is (c.judge_recover.ensures c.args.depot.now.topology b (open_in (queue_names c.args.depot.now.topology.queues) c.args.channel.now))
+
+pub returns-in-ChannelFlow : goal.returns-in-ChannelFlow
+returns-in-ChannelFlow c = λ b e. rw c.in-ChannelFlow.is (c.judge_flow.ensures c.args.depot.now.topology b (open_in (queue_names c.args.depot.now.topology.queues) c.args.channel.now))
+
+pub returns-in-ExchangeDeclare : goal.returns-in-ExchangeDeclare
+returns-in-ExchangeDeclare c = λ b e. rw (c.in-ExchangeDeclare.is, ← c.topology-in-ExchangeDeclare.ensures) (c.judge_exchange_declare.ensures b (open_in (queue_names c.topology-in-ExchangeDeclare.result.now.queues) c.args.channel.now))

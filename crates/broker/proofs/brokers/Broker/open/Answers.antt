@@ -1,4 +1,4 @@
-use Rattle.std.proofs.Common.{[], sym, subst}
+use Rattle.std.proofs.Common.{◌≡◌, [], sym, subst}
 use Rattle.model.specs.Agreement.{IsAgreed}
 use Rattle.model.specs.declared.events.Event.TheVariants.{Running}
 use Rattle.broker.specs.State.{Kept, broker_of, topology_of}

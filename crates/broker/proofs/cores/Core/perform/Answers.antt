@@ -1,4 +1,5 @@
-use Rattle.std.proofs.Common.{subst, Result, Ok, Some}
+use Rattle.std.proofs.Common.{ap, subst, Result, Ok, Some}
+use Rattle.std.specs.Prelude.{is_some}
 use Rattle.std.proofs.lemmas.Result.{IfOk-weaker}
 use Rattle.model.specs.Step.{refusal}
 use Rattle.broker.specs.State.{broker_of, topology_of}
@@ -17,6 +18,9 @@ act-requires-clause-can c =
     let judges : Judges t b ch c.args.method.now (refusal t b judged.0 c.args.channel c.args.method.now ch) (Ok c.in-Some-Ok.act) =
     subst (λ (r : Result Act Refusal). Judges t b ch c.args.method.now (refusal t b judged.0 c.args.channel c.args.method.now ch) r) c.in-Some-Ok.field-0-is judged.2 in
     (c.args.method.now, judges.1)
+
+pub act-requires-clause-runs : goal.act-requires-clause-runs
+act-requires-clause-runs c = ap is_some c.in-Some-Ok.ensures.1
 
 pub returns-in-Some-Ok-clause-ok : goal.returns-in-Some-Ok-clause-ok
 returns-in-Some-Ok-clause-ok c =
