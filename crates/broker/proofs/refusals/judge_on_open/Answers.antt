@@ -1,4 +1,4 @@
-use Rattle.std.proofs.Common.{◌≡◌, ◌∙◌, sym, subst}
+use Rattle.std.proofs.Common.{◌∙◌, sym, subst}
 use Rattle.model.specs.Topology.{Topology, queue_names}
 use Rattle.channel.specs.Open.{open_in}
 use Rattle.broker.specs.Placed.{AreWithin}
