@@ -1,8 +1,8 @@
-mod Agreeing
 mod Exchanges
 mod Getting
 mod Judging
 mod Opening
+mod Outcomes
 mod Placing
 mod Purging
 mod Rejecting

@@ -1,9 +1,8 @@
 -- What is outstanding stays within the queues that are there.
-use Rattle.std.proofs.Common.{◌≡◌, ◌∙◌, ◌&&◌, ◌==◌, ◌<◌, ◌+◌, ◌++◌, ◌∷◌, [], ℕ, zero, suc, List, Bool, true, false, Option, Some, None, length, get_or, map, refl, sym, ap, subst, arith, if◌then◌else◌}
+use Rattle.std.proofs.Common.{◌≡◌, ◌∙◌, ◌&&◌, ◌==◌, ◌<◌, ◌++◌, ◌∷◌, [], ℕ, zero, suc, List, Bool, true, false, Option, Some, None, length, map, refl, sym, ap, subst, arith, if◌then◌else◌}
 use Rattle.std.specs.Prelude.{option_map, is_some}
-use Rattle.std.proofs.lemmas.Bool.{eq-eqb, false≢true}
+use Rattle.std.proofs.lemmas.Bool.{false≢true}
 use Rattle.std.proofs.lemmas.Option.{same_Some}
-use Rattle.model.specs.Words.{Text}
 use Rattle.model.specs.Topology.{Topology}
 use Rattle.model.specs.Broker as seen
 use Rattle.model.specs.Broker.{new_channel, with_one, with_row}
@@ -12,7 +11,7 @@ use Rattle.model.specs.declared.methods.Qos.{Qos}
 use Rattle.channel.specs.Open.{Open, open_in, outstanding_in, limited}
 use Rattle.channel.specs.Deliveries.{with_limit}
 use Rattle.channel.specs.declared.pending.Outstanding.{Outstanding}
-use Rattle.broker.specs.Links.{Linked, link_in, channel_at, channel_of, connection_of, seen_in, AreLinks, Puts, Opens}
+use Rattle.broker.specs.Links.{Linked, link_in, channel_at, channel_of, seen_in, Puts, Opens}
 use Rattle.broker.specs.Placed.{AreWithin, ArePlacedIn, ArePlaced}
 use Rattle.broker.specs.State.{Kept, topology_of}
 

@@ -1,6 +1,6 @@
 -- A tag is refused where it is not outstanding, and a rejection where it makes a dead letter.
 use Rattle.std.proofs.Common.{◌≡◌, ◌∙◌, ◌<◌, ℕ, zero, suc, List, [], ◌∷◌, Bool, true, false, cond, Option, Some, None, length, get_or, map, filter, not, refl, sym, ap, subst, arith, inl, inr}
-use Rattle.std.specs.Prelude.{option_map, is_some, find, slice_get, ◌==◌, ◌&&◌, ◌||◌, if◌then◌else◌}
+use Rattle.std.specs.Prelude.{option_map, is_some, slice_get, ◌&&◌, ◌||◌, if◌then◌else◌}
 use Rattle.std.specs.List.{list_any}
 use Rattle.std.specs.Str.{bytes_eq}
 use Rattle.std.proofs.lemmas.Bool.{false≢true}
@@ -18,7 +18,7 @@ use Rattle.channel.specs.Open.{Open, open_in, outstanding_in}
 use Rattle.channel.specs.declared.pending.Outstanding.{Outstanding}
 use Rattle.broker.specs.Placed.{AreWithin}
 use Rattle.broker.specs.Settled.{is_dead_lettered}
-use Rattle.broker.proofs.Settlements.{refused_seen, settled_seen}
+use Rattle.broker.proofs.Settlements.{settled_seen}
 
 -- ---- tags
 

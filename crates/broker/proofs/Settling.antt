@@ -1,6 +1,6 @@
 -- What a settlement leaves, as the model's state.
-use Rattle.std.proofs.Common.{◌≡◌, ◌<◌, ◌≤◌, ℕ, List, [], ◌∷◌, ◌++◌, Bool, true, false, refl, sym, ap, subst, ◌∙◌, map, filter, length, get_or, arith, Option, Some, None}
-use Rattle.std.specs.Prelude.{option_map, is_some, ◌==◌, ◌&&◌, if◌then◌else◌}
+use Rattle.std.proofs.Common.{◌≡◌, ℕ, List, [], ◌∷◌, Bool, true, false, refl, sym, ap, subst, ◌∙◌, map, filter, arith, Option, Some, None}
+use Rattle.std.specs.Prelude.{option_map, is_some, if◌then◌else◌}
 use Rattle.std.proofs.Math.ListN as numbered
 use Rattle.std.proofs.lemmas.Bool.{false≢true}
 use Rattle.std.proofs.lemmas.Option.{same_Some}
@@ -16,12 +16,11 @@ use Rattle.model.specs.Step.{Settles, Of_channel, Refusal, channel_or_new, refus
 use Rattle.model.specs.Deliveries.{Leaves, Returns, AreLeft, AreReturned}
 use Rattle.model.specs.declared.events.Send.{Send}
 use Rattle.model.specs.declared.notes.Cause.{Cause}
-use Rattle.model.specs.declared.notes.Note.{Note}
 use Rattle.channel.specs.Outstanding.{tag_of}
 use Rattle.channel.specs.Open.{Open, open_in, outstanding_in, without_settled}
 use Rattle.channel.specs.declared.pending.Outstanding.{Outstanding}
 use Rattle.depot.specs.Store.{Store, queue_of, IsWhole}
-use Rattle.broker.specs.Links.{Linked, channel_of, Puts, seen_in}
+use Rattle.broker.specs.Links.{channel_of, Puts, seen_in}
 use Rattle.broker.specs.Placed.{AreWithin, ArePlaced}
 use Rattle.broker.specs.Settled.{leaving_notes, without_one, without_all, returned_one, returned_all}
 use Rattle.broker.specs.State.{Kept, broker_of, topology_of, names_of}

@@ -1,5 +1,5 @@
 -- What was given out and is settled, by the places of its queues.
-use Rattle.std.specs.Prelude.{ℕ, List, [], ◌∷◌, ◌++◌, filter, find, flat_map, map, not, Bool, slice_get}
+use Rattle.std.specs.Prelude.{ℕ, List, [], ◌∷◌, filter, find, flat_map, map, not, Bool, slice_get}
 use Rattle.model.specs.Topology.{Topology}
 use Rattle.model.specs.Step.{has_dead_letters}
 use Rattle.model.specs.Entries.{is_under, is_held_as, freed}

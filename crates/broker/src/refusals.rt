@@ -23,7 +23,7 @@ mod declares;
 mod settlements;
 
 use crate::links::Link;
-use crate::refusals::declares::{judge_exchange_declare, judge_flow};
+use crate::refusals::declares::{judge_exchange_declare, judge_flow, refusal_of_queue_declare};
 use crate::refusals::settlements::{judge_ack, judge_nack, judge_recover, judge_reject};
 use channel::Channel;
 use depot::Depot;
@@ -230,6 +230,7 @@ fn judge_on_open<'a>(
         Method::ChannelOpen { .. } => Err(Refusal::Connection(504)),
         Method::ChannelFlow { active } => judge_flow(*active),
         Method::ExchangeDeclare(declare) => judge_exchange_declare(depot.topology(), declare),
+        Method::QueueDeclare(declare) => Err(refusal_of_queue_declare(declare)),
         Method::ExchangeDelete
         | Method::ExchangeBind
         | Method::ExchangeUnbind

@@ -7,11 +7,11 @@ ghost use Rattle.model.specs.Topology.{Topology as Handed};
 ghost use Rattle.model.specs.Step as said;
 ghost use Rattle.model.specs.Step.{Of_channel};
 ghost use Rattle.model.specs.declared.methods.Method.TheVariants.{ChannelFlow, ExchangeDeclare as DeclaresExchange};
-ghost use Rattle.broker.specs.Judged.{Judges};
+ghost use Rattle.broker.specs.Judged.{seen, Judges};
 
 use crate::refusals::{Act, Refusal};
 use exchange_graph::Topology;
-use model::ExchangeDeclare;
+use model::{ExchangeDeclare, QueueDeclare};
 
 /// A flow on an open channel. One that stops is not implemented.
 pub(crate) fn judge_flow<'a>(active: bool) -> Result<Act<'a>, Refusal>
@@ -45,5 +45,16 @@ pub(crate) fn judge_exchange_declare<'a>(
         Ok(Act::FindExchange(declare))
     } else {
         Err(Refusal::Channel(404))
+    }
+}
+
+/// A declare of a queue on an open channel. It may only ask whether the queue is there, which is not built yet.
+pub(crate) fn refusal_of_queue_declare(declare: &QueueDeclare) -> Refusal
+    ensures { said.refusal_of_queue_declare declare.now ≡ Some (seen result) }
+{
+    if declare.passive {
+        Refusal::Connection(540)
+    } else {
+        Refusal::Channel(403)
     }
 }

@@ -1,5 +1,5 @@
 use Rattle.std.proofs.Common.{◌∙◌, None}
-use Rattle.broker.proofs.Agreeing.{on_ok}
+use Rattle.broker.proofs.Outcomes.{on_ok}
 use Rattle.broker.proofs.Setting.{same_default, set_is}
 use Rattle.broker.proofs.links.reserve_at.Goals as goal
 

@@ -1,15 +1,11 @@
-use Rattle.std.proofs.Common.{◌≡◌, ◌<◌, ◌∙◌, ◌&&◌, not, ap, refl, sym, subst, length, List, Bool, true, false, Option, Some, None, if◌then◌else◌}
-use Rattle.std.specs.Prelude.{is_some}
+use Rattle.std.proofs.Common.{◌≡◌, ◌<◌, ◌∙◌, ap, refl, sym, subst, length, Bool, true, false, Option, Some, None, if◌then◌else◌}
 use Rattle.model.specs.Words.{Text}
 use Rattle.model.specs.Topology.{Topology, queue_names, IsIn}
-use Rattle.model.specs.Broker.{Broker}
-use Rattle.model.specs.Prefetch.{has_tag_left}
 use Rattle.model.specs.Deliveries.{first_ready}
-use Rattle.model.specs.Step.{Of_channel, Of_connection, Refusal, or_else, refusal_in, refusal_of_tags, refusal_of_get}
+use Rattle.model.specs.Step.{Of_channel, Refusal, or_else, refusal_in, refusal_of_tags, refusal_of_get}
 use Rattle.exchange_graph.specs.Marks.{queue_name}
-use Rattle.depot.specs.Store.{Store, queue_at, queue_of}
+use Rattle.depot.specs.Store.{queue_at, queue_of}
 use Rattle.channel.specs.Open.{open_in}
-use Rattle.broker.specs.Judged.{HasStore, IsPlaceOf}
 use Rattle.broker.proofs.Judging.{queue_there, queue_absent, get_judged}
 use Rattle.broker.proofs.refusals.judge_get.Goals as goal
 

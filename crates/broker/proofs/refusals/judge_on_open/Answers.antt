@@ -1,7 +1,8 @@
-use Rattle.std.proofs.Common.{◌≡◌, ◌∙◌, sym, subst}
+use Rattle.std.proofs.Common.{◌∙◌, sym, subst}
 use Rattle.model.specs.Topology.{Topology, queue_names}
 use Rattle.channel.specs.Open.{open_in}
 use Rattle.broker.specs.Placed.{AreWithin}
+use Rattle.broker.proofs.Judging.{has_open}
 use Rattle.broker.proofs.refusals.judge_on_open.Goals as goal
 
 pub returns-in-BasicPublish : goal.returns-in-BasicPublish
@@ -39,3 +40,6 @@ returns-in-ChannelFlow c = λ b e. rw c.in-ChannelFlow.is (c.judge_flow.ensures 
 
 pub returns-in-ExchangeDeclare : goal.returns-in-ExchangeDeclare
 returns-in-ExchangeDeclare c = λ b e. rw (c.in-ExchangeDeclare.is, ← c.topology-in-ExchangeDeclare.ensures) (c.judge_exchange_declare.ensures b (open_in (queue_names c.topology-in-ExchangeDeclare.result.now.queues) c.args.channel.now))
+
+pub returns-in-QueueDeclare : goal.returns-in-QueueDeclare
+returns-in-QueueDeclare c = λ b e. rw c.in-QueueDeclare.is (c.refusal_of_queue_declare.ensures, has_open c.refusal_of_queue_declare.result (open_in (queue_names c.args.depot.now.topology.queues) c.args.channel.now))

@@ -1,4 +1,4 @@
-use Rattle.std.proofs.Common.{◌≡◌, ◌∙◌, ◌||◌, ap, sym, refl, ℕ, true, false, None}
+use Rattle.std.proofs.Common.{◌≡◌, ◌∙◌, ◌||◌, ap, sym, ℕ, true, false, None}
 use Rattle.std.specs.Prelude.{◌==◌}
 use Rattle.model.specs.Step.{greatest, is_spent, refusal_to}
 use Rattle.channel.specs.Open.{open_in}

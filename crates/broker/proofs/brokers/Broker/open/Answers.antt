@@ -1,8 +1,8 @@
-use Rattle.std.proofs.Common.{◌≡◌, [], sym, subst}
+use Rattle.std.proofs.Common.{[], sym, subst}
 use Rattle.model.specs.Agreement.{IsAgreed}
 use Rattle.model.specs.declared.events.Event.TheVariants.{Running}
 use Rattle.broker.specs.State.{Kept, broker_of, topology_of}
-use Rattle.broker.proofs.Agreeing.{either_way}
+use Rattle.broker.proofs.Outcomes.{either_way}
 use Rattle.broker.proofs.brokers.Broker.open.Goals as goal
 
 pub invariant_of-self : goal.invariant_of-self

@@ -7,11 +7,10 @@ use Rattle.model.specs.Step.{Is, Gets, channel_or_new}
 use Rattle.model.specs.declared.messages.Entry.{Entry}
 use Rattle.model.specs.declared.messages.Taker.TheVariants as taker
 use Rattle.exchange_graph.specs.Marks.{queue_name}
-use Rattle.depot.specs.Store.{queue_of}
 use Rattle.channel.specs.Open.{Open, open_in}
 use Rattle.broker.specs.Links.{channel_of}
 use Rattle.broker.specs.State.{Kept, broker_of, topology_of, names_of}
-use Rattle.broker.proofs.Agreeing.{both_ok}
+use Rattle.broker.proofs.Outcomes.{both_ok}
 use Rattle.broker.proofs.Stepping.{kept_there, kept_one}
 use Rattle.broker.proofs.Getting.{next_free, gotten, nothing_gotten, tag_left, first_carried}
 use Rattle.broker.proofs.cores.Core.get.Goals as goal

@@ -1,4 +1,4 @@
-use Rattle.std.proofs.Common.{◌≡◌, ◌<◌, ◌∙◌, ap, refl, sym, subst, ℕ, false, length, Option, Some}
+use Rattle.std.proofs.Common.{◌≡◌, ◌<◌, ◌∙◌, ap, sym, subst, ℕ, false, length, Option, Some}
 use Rattle.std.specs.Prelude.{option_map}
 use Rattle.model.specs.Broker.{Channel, is_ready}
 use Rattle.model.specs.Entries.{change_first, held_as}

@@ -1,15 +1,12 @@
-use Rattle.std.proofs.Common.{◌≡◌, ◌∙◌, ap, sym, subst, Bool, List, [], Option, Some, None}
+use Rattle.std.proofs.Common.{◌≡◌, ◌∙◌, ap, sym, subst, [], Option, Some, None}
 use Rattle.std.specs.Prelude.{option_map}
 use Rattle.model.specs.Agreement.{IsAgreed}
 use Rattle.model.specs.Broker.{Channel}
 use Rattle.model.specs.Settling.{settled}
 use Rattle.model.specs.Deliveries.{Leaves}
-use Rattle.model.specs.Step.{Settles, channel_or_new, refusal_of_settling}
-use Rattle.model.specs.declared.events.Send.{Send}
-use Rattle.model.specs.declared.notes.Note.{Note}
+use Rattle.model.specs.Step.{Settles, channel_or_new}
 use Rattle.channel.specs.Outstanding.{tag_of}
 use Rattle.channel.specs.Open.{Open, open_in}
-use Rattle.channel.specs.declared.pending.Outstanding.{Outstanding}
 use Rattle.broker.specs.Links.{channel_of, room_in}
 use Rattle.broker.specs.Placed.{ArePlaced}
 use Rattle.broker.specs.State.{Kept, broker_of, topology_of, names_of}

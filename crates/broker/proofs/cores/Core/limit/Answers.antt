@@ -1,8 +1,7 @@
 use Rattle.std.proofs.Common.{◌≡◌, ◌∙◌, ap, refl, sym, subst, [], ◌∷◌, Option, Some}
 use Rattle.std.specs.Prelude.{option_map}
 use Rattle.model.specs.Broker.{Channel}
-use Rattle.model.specs.Step.{Does, Is, with_channel, channel_or_new, limited, reply}
-use Rattle.model.specs.declared.methods.Method.TheVariants.{BasicQosOk}
+use Rattle.model.specs.Step.{Is, with_channel, channel_or_new, limited}
 use Rattle.model.specs.declared.events.Send.{Send}
 use Rattle.channel.specs.Open.{Open, open_in}
 use Rattle.channel.specs.Open as opened

@@ -1,5 +1,4 @@
 use Rattle.std.proofs.Common.{◌≡◌, ◌∙◌, ap, refl, sym, subst, ℕ, List, ◌++◌, map, filter, replicate}
-use Rattle.model.specs.Words.{Text}
 use Rattle.model.specs.Broker.{is_ready}
 use Rattle.model.specs.Entries.{number_of}
 use Rattle.model.specs.Step.{Purges, purge_sends}

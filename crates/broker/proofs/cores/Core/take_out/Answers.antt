@@ -1,4 +1,4 @@
-use Rattle.std.proofs.Common.{◌≡◌, ◌∙◌, ap, refl, sym, subst, true, Option, Some}
+use Rattle.std.proofs.Common.{◌≡◌, ap, refl, sym, subst, true, Option, Some}
 use Rattle.std.specs.Prelude.{option_map}
 use Rattle.model.specs.Broker.{Channel}
 use Rattle.model.specs.Prefetch.{has_tag_left}

@@ -1,6 +1,6 @@
 use Rattle.std.proofs.Common.{◌≡◌, ◌∙◌, ap, sym, Some}
 use Rattle.std.specs.Option.{option_copied_mut}
-use Rattle.broker.proofs.Agreeing.{on_err}
+use Rattle.broker.proofs.Outcomes.{on_err}
 use Rattle.broker.proofs.Setting.{set_same}
 use Rattle.broker.proofs.links.Links.open_channel.Goals.{in-Some, in-None}
 use Rattle.broker.proofs.links.Links.open_channel.Goals as goal

@@ -1,6 +1,5 @@
-use Rattle.std.proofs.Common.{◌≡◌, ◌∙◌, ap, sym, refl, false, None}
+use Rattle.std.proofs.Common.{◌∙◌, ap, sym, refl, false}
 use Rattle.model.specs.Topology.{queue_names}
-use Rattle.model.specs.Step.{refusal_of_settling, refusal_of_rejection}
 use Rattle.channel.specs.Open.{open_in}
 use Rattle.broker.specs.Judged.{seen_if}
 use Rattle.broker.proofs.Judging.{has_open}

@@ -1,10 +1,7 @@
-use Rattle.std.proofs.Common.{◌≡◌, ◌∙◌, ap, sym, true, false, Some, None}
-use Rattle.std.specs.Prelude.{◌&&◌, not, option_map}
-use Rattle.std.specs.List.{list_any}
+use Rattle.std.proofs.Common.{◌≡◌, ◌∙◌, ap, sym, true, false, Some}
+use Rattle.std.specs.Prelude.{option_map}
 use Rattle.model.specs.Settling.{settled}
-use Rattle.model.specs.Step.{Refusal, or_else, refusal_of_dead}
 use Rattle.channel.specs.Outstanding.{tag_of}
-use Rattle.broker.specs.Settled.{is_dead_lettered}
 use Rattle.broker.proofs.Rejecting.{rejected, refused_first}
 use Rattle.broker.proofs.Settlements.{gone_within}
 use Rattle.broker.proofs.refusals.settlements.refusal_of_rejection.Goals as goal

@@ -1,4 +1,4 @@
-use Rattle.std.proofs.Common.{◌≡◌, ◌∙◌, ap, sym, Some, None}
+use Rattle.std.proofs.Common.{◌∙◌, ap, sym}
 use Rattle.std.specs.Prelude.{option_map}
 use Rattle.broker.proofs.Rejecting.{accepted, refused}
 use Rattle.broker.proofs.refusals.settlements.refusal_of_settling.Goals as goal
