@@ -112,13 +112,15 @@ struct Serving<'a> {
 /// What the words ask of `serve`, if they name it.
 fn serving<'a>(alloc: Global, words: &'a [String]) -> Option<Serving<'a>> {
     match command(alloc, words) {
-        Ok(Asked::Serve {
-            definitions,
-            guarantees,
-            certificates,
-            listen,
-            turns,
-        }) => Some(Serving {
+        Ok(
+            Asked::Serve {
+                definitions,
+                guarantees,
+                certificates,
+                listen,
+                turns,
+            },
+        ) => Some(Serving {
             definitions,
             guarantees,
             certificates,
