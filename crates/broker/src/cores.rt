@@ -198,9 +198,10 @@ impl Core {
         }
     }
 
-    /// One event: what it sends, what it notes, and the state after it. Where the event's method has a spelling, each send
-    /// is for the event's own connection, by a method with a spelling. Where memory is wanting, nothing has changed; an opening,
-    /// a loss, a pause and its end, a command that is ignored, and a rejection that requeues want none.
+    /// One event: what it sends, what it notes, and the state after it. Where the event's method has a spelling, and each
+    /// message that stands in a queue can be given out, each send is for the event's own connection, by a method with a
+    /// spelling. Where memory is wanting, nothing has changed; an opening, a loss, a pause and its end, a command that is
+    /// ignored, and a rejection that requeues want none.
     pub fn step(&mut self, alloc: Global, event: &Event) -> Result<Step, AllocError>
         requires { IsAgreed (broker_of self.old) }
         ensures ok { IfOk result (λ s. Acts (topology_of self.old) (broker_of self.old) event.now s.sends.items s.notes.items (broker_of self.new)) }
