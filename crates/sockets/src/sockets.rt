@@ -171,6 +171,7 @@ impl Wire for Sockets {
             return Write::Wait;
         };
         match accepted.stream.write(bytes) {
+            Ok(0) => Write::Wait,
             Ok(count) => Write::Took(count),
             Err(error) if is_wait(&error) => Write::Wait,
             Err(_) if self.fail() => Write::Failed,
