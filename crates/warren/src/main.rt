@@ -110,7 +110,7 @@ struct Serving<'a> {
 }
 
 /// What the words ask of `serve`, if they name it.
-fn serving<'a>(alloc: Global, words: &'a [String]) -> Option<Serving<'a>> {
+fn asked_to_serve<'a>(alloc: Global, words: &'a [String]) -> Option<Serving<'a>> {
     match command(alloc, words) {
         Ok(
             Asked::Serve {
@@ -193,7 +193,7 @@ fn run<O: Write, E: Write>(
     out: &mut O,
     err: &mut E,
 ) -> u8 {
-    match serving(rt.alloc(), words) {
+    match asked_to_serve(rt.alloc(), words) {
         Some(asked) => serve_clients(rt, asked, files, out, err),
         None => program(rt.alloc(), words, files, out, err),
     }

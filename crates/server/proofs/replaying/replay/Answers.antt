@@ -15,6 +15,9 @@ returns-in-Ok-replayed_file-clause-answers g c =
       good = refl;
     }
 
+pub returns-in-Err-clause-answers : goal.returns-in-Err-clause-answers
+returns-in-Err-clause-answers g c = c.in-Err.ensures.force (Replay c.args.script.now _ _ _) replays
+
 pub returns-in-Err-replayed_file-clause-answers : goal.returns-in-Err-replayed_file-clause-answers
 returns-in-Err-replayed_file-clause-answers g c =
     unplayed (in_force c.in-Ok.force.0 c.in-Ok.force.1.items) c.in-Err-replayed_file.why (c.in-Ok.ensures.force (Replay c.args.script.now _ _ _) replays)
