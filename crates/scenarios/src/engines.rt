@@ -74,39 +74,3 @@ fn a_lost_connection_is_over_and_its_number_is_not_given_again(rt: HostRuntime) 
     assert_eq!(rt; second, Some(2));
     assert!(rt; !engine.is_over(2));
 }
-
-#[test]
-fn a_connection_is_answered_from_its_first_eight_bytes(rt: HostRuntime) {
-    let alloc = rt.alloc();
-    let mut engine = new_engine(alloc).expect(&rt, "memory");
-    let first = engine.open(alloc).ok();
-    assert_eq!(rt; first, Some(1));
-    let fed = engine.feed(1, b"AMQP\x00\x00\x09".as_slice()).is_ok();
-    assert!(rt; fed);
-    let unfinished = turned(alloc, &mut engine, 1);
-    assert_eq!(rt; unfinished, Done::Idle);
-    let ended = engine.feed(1, b"\x01".as_slice()).is_ok();
-    assert!(rt; ended);
-    let started = turned(alloc, &mut engine, 1);
-    assert_eq!(rt; started, Done::Did(0));
-    assert_eq!(rt; engine.output(1).len(), 136);
-    let starts = engine
-        .output(1)
-        .starts_with([1, 0, 0, 0, 0, 0, 128, 0, 10, 0, 10].as_slice());
-    assert!(rt; starts);
-    assert!(rt; !engine.is_over(1));
-}
-
-#[test]
-fn another_protocol_is_told_this_one_and_ends(rt: HostRuntime) {
-    let alloc = rt.alloc();
-    let mut engine = new_engine(alloc).expect(&rt, "memory");
-    let first = engine.open(alloc).ok();
-    assert_eq!(rt; first, Some(1));
-    let fed = engine.feed(1, b"HTTP/1.1".as_slice()).is_ok();
-    assert!(rt; fed);
-    let told = turned(alloc, &mut engine, 1);
-    assert_eq!(rt; told, Done::Did(0));
-    assert_eq!(rt; engine.output(1), b"AMQP\x00\x00\x09\x01".as_slice());
-    assert!(rt; engine.is_over(1));
-}
