@@ -7,8 +7,8 @@ use Rattle.server.proofs.starting.started.Goals as goal
 pub returns-in-Err-clause-started : goal.returns-in-Err-clause-started
 returns-in-Err-clause-started g c = λ listen turns. c.in-Err.ensures.force (Serve c.args.definitions.now c.args.guarantees.now c.args.certificates.now listen turns) serves
 
-pub returns-in-Ok-clause-started : goal.returns-in-Ok-clause-started
-returns-in-Ok-clause-started g c =
+pub returns-in-Ok-new-clause-started : goal.returns-in-Ok-new-clause-started
+returns-in-Ok-new-clause-started g c =
     (in_force c.in-Ok.force.0 c.in-Ok.force.1.items,
         c.in-Ok.ensures.force (Serve c.args.definitions.now c.args.guarantees.now c.args.certificates.now [] None) serves, c.in-Ok-new.ensures)
 
