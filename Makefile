@@ -12,7 +12,7 @@ help:
 	@echo "make shop      replays examples/shop over its definitions file"
 	@echo "make verdicts  checks the guarantees of examples/shop, and replays its script under them"
 	@echo "make serve     serves the shop under its guarantees at 127.0.0.1:5672"
-	@echo "make clients   serves the shop, and publishes to it and takes from it with pika"
+	@echo "make clients   serves the shop, and publishes to it, takes and consumes from it with pika"
 	@echo "make cases     runs the cases of crates/cases, and tells of one that its list lacks"
 	@echo "make examples  replays the examples, and compares them with their outputs and with the cases"
 	@echo "make bench     prints what publishes, routes and large files cost"

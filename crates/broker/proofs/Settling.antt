@@ -3,7 +3,6 @@ use Rattle.std.proofs.Common.{◌≡◌, ℕ, List, [], ◌∷◌, Bool, true, f
 use Rattle.std.specs.Prelude.{option_map, is_some, if◌then◌else◌}
 use Rattle.std.proofs.Math.ListN as numbered
 use Rattle.std.proofs.lemmas.Bool.{false≢true}
-use Rattle.std.proofs.lemmas.Option.{same_Some}
 use Rattle.std.proofs.lemmas.List.{length-map}
 use Rattle.model.specs.Words.{Text}
 use Rattle.model.specs.Topology.{Topology, queue_names}
@@ -21,11 +20,11 @@ use Rattle.channel.specs.Open.{Open, open_in, outstanding_in, without_settled}
 use Rattle.channel.specs.declared.pending.Outstanding.{Outstanding}
 use Rattle.depot.specs.Store.{Store, queue_of, IsWhole}
 use Rattle.broker.specs.Links.{channel_of, Puts, seen_in}
-use Rattle.broker.specs.Placed.{AreWithin, ArePlaced}
+use Rattle.broker.specs.Placed.{ArePlaced}
 use Rattle.broker.specs.Settled.{leaving_notes, without_one, without_all, returned_one, returned_all}
 use Rattle.broker.specs.State.{Kept, broker_of, topology_of, names_of}
 use Rattle.broker.proofs.Settlements.{AreNamed, refused_seen, settled_seen, kept_seen, gone_within, gone_rises, kept_within, left_by_names, returned_by_names}
-use Rattle.broker.proofs.Placing.{placed_put}
+use Rattle.broker.proofs.Placing.{placed_put, placed_some}
 use Rattle.broker.proofs.Stepping.{seen_put}
 
 -- ---- what stays
@@ -75,7 +74,8 @@ pub stays_placed : (old new : Kept) (c h tag room : ℕ) (multiple : Bool) (ch :
     → Puts old.links c h (Some (without_settled ch tag multiple room)) new.links → ArePlaced old → ArePlaced new
 stays_placed old new c h tag room multiple ch same there put placed =
     placed_put old new c h (Some (without_settled ch tag multiple room)) same put
-    (λ k e. subst (λ (x : Open). AreWithin (topology_of old) x.given.outstanding) (same_Some (without_settled ch tag multiple room) k e) (kept_within (topology_of old) tag multiple ch.given.outstanding (placed c h ch there))) placed
+    (placed_some (topology_of old) (without_settled ch tag multiple room)
+    (record { outstanding = kept_within (topology_of old) tag multiple ch.given.outstanding (placed c h ch there).outstanding; consumers = (placed c h ch there).consumers })) placed
 
 -- a tag that is not refused settles something
 pub not_none : (names : List Text) (tag : ℕ) (multiple : Bool) (ch : Open) → refusal_of_settling (open_in names ch) tag multiple ≡ None → settled tag_of tag multiple ch.given.outstanding ≡ None → ⊥
@@ -110,7 +110,7 @@ left_is are cause old new c h tag room multiple ch gone whole agreed placed ther
       gone = map (outstanding_in names) gone;
       settled_are = settled_seen names tag multiple ch.given.outstanding ∙ ap (option_map (map (outstanding_in names))) all;
       queues = subst (λ (s : Store). AreLeft cause c h (map (outstanding_in names) gone) (queue_of old.store) (leaving_notes cause c h old.store gone) (queue_of s)) (sym made)
-          (left_by_names are cause c h gone old.store whole agreed.apart (gone_rises tag multiple ch.given.outstanding gone all rises) (gone_within (topology_of old) tag multiple ch.given.outstanding gone all (placed c h ch there)));
+          (left_by_names are cause c h gone old.store whole agreed.apart (gone_rises tag multiple ch.given.outstanding gone all rises) (gone_within (topology_of old) tag multiple ch.given.outstanding gone all (placed c h ch there).outstanding));
       sent = refl;
       counted = ap (λ (s : Store). s.published) made ∙ without_published c h gone old.store;
       connections = put.connections;
@@ -129,7 +129,7 @@ returned_is are old new c h tag room multiple ch gone sends whole placed there a
       queues = (
         refl,
         subst (λ (s : Store). AreReturned c h (map (outstanding_in names) gone) (queue_of old.store) (queue_of s)) (sym made)
-            (returned_by_names are c h gone old.store whole (gone_within (topology_of old) tag multiple ch.given.outstanding gone all (placed c h ch there))),
+            (returned_by_names are c h gone old.store whole (gone_within (topology_of old) tag multiple ch.given.outstanding gone all (placed c h ch there).outstanding)),
       );
       sent = refl;
       counted = ap (λ (s : Store). s.published) made ∙ returned_published c h gone old.store;

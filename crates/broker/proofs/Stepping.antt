@@ -145,13 +145,6 @@ ignored_by t b c h m e (conn, at, judged) is =
     let ignored : refusal t b conn h m (b.channel c h) ≡ Some Ignored = subst (λ (o : Option Connection). IsIgnored t b c h m o) at is in
     some_same (seen e) Ignored (sym judged.0 ∙ ignored)
 
--- and nothing that is ignored is performed
-pub performed_not : (t : Topology) (b : Broker) (c h : ℕ) (m : Method) (a : wanted.Act) → JudgesOn t b c h m (Some (Ok a)) → IsIgnored t b c h m (b.connection c) → ⊥
-performed_not t b c h m a (conn, at, judged) is =
-    let ignored : refusal t b conn h m (b.channel c h) ≡ Some Ignored = subst (λ (o : Option Connection). IsIgnored t b c h m o) at is in
-    let none_is_some : None ≡ Some Ignored = sym judged.0 ∙ ignored in
-    cc
-
 pub large_ignored_by : (b : Broker) (c h : ℕ) (e : declared.Refusal) → JudgesLarge b c h (Some e) → IsLargeIgnored b c h (b.connection c) → seen e ≡ Ignored
 large_ignored_by b c h e (conn, at, judged, has) is = judged ∙ subst (λ (o : Option Connection). IsLargeIgnored b c h o) at is
 
@@ -248,12 +241,12 @@ can_count t b names o p h k e =
     let accepted : refusal_of_publish t b (open_in names k) p ≡ None = subst (λ (x : Option Open). refusal_of_publish t b (channel_or_new (option_map (open_in names) x)) p ≡ None) e h in
     unspent (b.published == greatest) (is_spent k.confirm) (past_first (refusal_to t p.exchange) (refusal_of_count b (open_in names k)) (past p.immediate (or_else (refusal_to t p.exchange) (refusal_of_count b (open_in names k))) accepted))
 
--- what is performed where nothing is said against it is what the command does
-pub performs_on : (t : Topology) (b : Broker) (c h : ℕ) (m : Method) (content : Option Content) (sends : List Send) (notes : List Note) (new : Broker) (conn : Connection)
-    → b.connection c ≡ Some conn → refusal t b conn h m (b.channel c h) ≡ None
-    → Performs t b c h (channel_or_new (b.channel c h)) m content sends notes new
+-- what is decided of a command is what it does
+pub decides_on : (t : Topology) (b : Broker) (c h : ℕ) (m : Method) (content : Option Content) (left : Option Refusal) (sends : List Send) (notes : List Note) (new : Broker) (conn : Connection)
+    → b.connection c ≡ Some conn → refusal t b conn h m (b.channel c h) ≡ left
+    → Decides t b c h m content left sends notes new
     → OnConnection t b c h m content sends notes new (b.connection c)
-performs_on t b c h m content sends notes new conn e r p =
+decides_on t b c h m content left sends notes new conn e r p =
     subst (λ (o : Option Connection). OnConnection t b c h m content sends notes new o) (sym e)
     (subst (λ (x : Option Refusal). Decides t b c h m content x sends notes new) (sym r) p)
 
@@ -283,6 +276,8 @@ requeues_by t b ch m (act.Select no_wait) asked is = sym (ap is_requeueing asked
 requeues_by t b ch m (act.Publish p) asked is = sym (ap is_requeueing asked.0) ∙ is
 requeues_by t b ch m (act.Purge place p) asked is = sym (ap is_requeueing asked.0) ∙ is
 requeues_by t b ch m (act.Get place g) asked is = sym (ap is_requeueing asked.0) ∙ is
+requeues_by t b ch m (act.Consume place k) asked is = sym (ap is_requeueing asked.0) ∙ is
+requeues_by t b ch m (act.Cancel k) asked is = sym (ap is_requeueing asked.0) ∙ is
 requeues_by t b ch m (act.Limit q) asked is = sym (ap is_requeueing asked.0) ∙ is
 requeues_by t b ch m (act.Acknowledge a) asked is = sym (ap is_requeueing asked.0) ∙ is
 requeues_by t b ch m act.Recover asked is = sym (ap is_requeueing asked.0) ∙ is

@@ -4,7 +4,7 @@ use Rattle.model.specs.Words.{Text}
 use Rattle.model.specs.Topology.{Topology}
 use Rattle.model.specs.Broker.{Broker, Channel, Connection}
 use Rattle.model.specs.Step as step
-use Rattle.model.specs.Step.{Of_channel, Of_connection, refusal, refusal_of_large, refusal_of_publish, refusal_of_get, refusal_of_settling, channel_or_new}
+use Rattle.model.specs.Step.{Of_channel, Of_connection, refusal, refusal_of_large, refusal_of_publish, refusal_of_get, refusal_of_seat, refusal_of_settling, channel_or_new}
 use Rattle.model.specs.declared.methods.Close.{Close}
 use Rattle.model.specs.declared.methods.Method.{Method}
 use Rattle.model.specs.declared.methods.Method.TheVariants as method
@@ -72,6 +72,12 @@ WantsNoMemory t b (event.Fault c code) = ⊥
 WantsNoMemory t b (event.Lose c) = Unit {0}
 WantsNoMemory t b (event.Pause c) = Unit {0}
 WantsNoMemory t b (event.Resume c) = Unit {0}
+WantsNoMemory t b (event.Deliver c) = ⊥
+
+-- it comes from a connection or from what becomes of one; a delivery is the broker's own (own)
+abbrev pub IsAsked : Event → Type 0
+IsAsked (event.Deliver c) = ⊥
+IsAsked e = Unit {0}
 
 -- the queue of this name stands at this place of the file
 pub record IsPlaceOf (t : Topology) (name : Text) (place : ℕ) : Type 0 where
@@ -92,6 +98,8 @@ Asks t b ch m (act.Select no_wait) = (m ≡ method.ConfirmSelect no_wait) × IsS
 Asks t b ch m (act.Publish p) = (m ≡ method.BasicPublish p.now) × IsSome ch × (refusal_of_publish t b (channel_or_new ch) p.now ≡ None)
 Asks t b ch m (act.Purge place p) = (m ≡ method.QueuePurge p.now) × IsSome ch × IsPlaceOf t p.now.queue place
 Asks t b ch m (act.Get place g) = (m ≡ method.BasicGet g.now) × IsSome ch × IsPlaceOf t g.now.queue place × (refusal_of_get t b (channel_or_new ch) g.now ≡ None)
+Asks t b ch m (act.Consume place k) = (m ≡ method.BasicConsume k.now) × IsSome ch × IsPlaceOf t k.now.queue place
+Asks t b ch m (act.Cancel k) = (m ≡ method.BasicCancel k.now) × IsSome ch
 Asks t b ch m (act.Limit q) = (m ≡ method.BasicQos q.now) × IsSome ch
 Asks t b ch m (act.Acknowledge a) = (m ≡ method.BasicAck a.now) × IsSome ch × (refusal_of_settling (channel_or_new ch) a.now.delivery_tag a.now.multiple ≡ None)
 Asks t b ch m (act.Reject r) = (m ≡ method.BasicReject r.now) × IsSome ch × (refusal_of_settling (channel_or_new ch) r.now.delivery_tag false ≡ None)
@@ -105,9 +113,14 @@ Asks t b ch m act.CloseConnection = (x : Close) × (m ≡ method.ConnectionClose
 abbrev pub CanAct : Topology → Broker → Option Channel → Act → Type 0
 CanAct t b ch asked = (m : Method) × Asks t b ch m asked
 
--- Either the method is refused as the model says, or nothing is said against it and it asks for this act.
+-- what is still to be said against an act on a channel of this record: of one consumer more the channel decides
+abbrev pub left_of : Channel → Act → Option step.Refusal
+left_of ch (act.Consume place m) = refusal_of_seat ch m.now
+left_of ch _ = None
+
+-- Either the method is refused as the model says, or it asks for this act, and nothing is said against it but what is left to say.
 abbrev pub Judges : Topology → Broker → Option Channel → Method → Option step.Refusal → Result Act Refusal → Type 0
-Judges t b ch m r (Ok asked) = (r ≡ None) × Asks t b ch m asked
+Judges t b ch m r (Ok asked) = (r ≡ left_of (channel_or_new ch) asked) × Asks t b ch m asked
 Judges t b ch m r (Err e) = (r ≡ Some (seen e)) × HasChannel e ch
 
 -- The same of a command on a connection, which is silent where that doesn't run.

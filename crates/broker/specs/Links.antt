@@ -84,6 +84,11 @@ abbrev pub room_in : Option Open → ℕ
 room_in None = 0
 room_in (Some ch) = ch.given.room
 
+-- and how many consumers more can be made on it
+abbrev pub seats_in : Option Open → ℕ
+seats_in None = 0
+seats_in (Some ch) = ch.given.seats
+
 -- This stands at the channel h of the connection c now, and everything else stays.
 pub record Puts (old : List (ℕ × Linked)) (c h : ℕ) (ch : Option Open) (new : List (ℕ × Linked)) : Type 0 where
   pub connections : (d : ℕ) → connection_of new d ≡ connection_of old d

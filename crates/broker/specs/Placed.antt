@@ -1,8 +1,9 @@
--- What is outstanding was given out from queues that are there.
+-- What is outstanding was given out from queues that are there, and consumers take from such queues.
 use Rattle.std.specs.Prelude.{◌≡◌, ◌<◌, ℕ, List, Some, length, All}
 use Rattle.model.specs.Topology.{Topology}
 use Rattle.channel.specs.Open.{Open}
 use Rattle.channel.specs.declared.pending.Outstanding.{Outstanding}
+use Rattle.channel.specs.declared.consumers.Consumer.{Consumer}
 use Rattle.broker.specs.Links.{Linked, channel_in, channel_of}
 use Rattle.broker.specs.State.{Kept, topology_of}
 
@@ -10,10 +11,19 @@ use Rattle.broker.specs.State.{Kept, topology_of}
 abbrev pub AreWithin : Topology → List Outstanding → Type 0
 AreWithin t given = All (λ (o : Outstanding). o.queue < length t.queues) given
 
--- so was what is outstanding on each channel of a connection
-abbrev pub ArePlacedIn : Topology → Linked → Type 0
-ArePlacedIn t l = (h : ℕ) (ch : Open) → channel_in l h ≡ Some ch → AreWithin t ch.given.outstanding
+-- each of these takes from a queue at a place of the file
+abbrev pub TakeWithin : Topology → List Consumer → Type 0
+TakeWithin t consumers = All (λ (k : Consumer). k.queue < length t.queues) consumers
 
--- and on each channel of all
+-- So it is with what is outstanding on this channel, and with its consumers.
+pub record IsPlaced (t : Topology) (ch : Open) : Type 0 where
+  pub outstanding : AreWithin t ch.given.outstanding
+  pub consumers : TakeWithin t ch.given.consumers
+
+-- with each channel of a connection
+abbrev pub ArePlacedIn : Topology → Linked → Type 0
+ArePlacedIn t l = (h : ℕ) (ch : Open) → channel_in l h ≡ Some ch → IsPlaced t ch
+
+-- and with each channel of all
 abbrev pub ArePlaced : Kept → Type 0
-ArePlaced kept = (c h : ℕ) (ch : Open) → channel_of kept.links c h ≡ Some ch → AreWithin (topology_of kept) ch.given.outstanding
+ArePlaced kept = (c h : ℕ) (ch : Open) → channel_of kept.links c h ≡ Some ch → IsPlaced (topology_of kept) ch

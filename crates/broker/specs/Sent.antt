@@ -7,7 +7,7 @@ use Rattle.model.specs.declared.contents.Content.{Content}
 use Rattle.model.specs.declared.methods.Publish.{Publish}
 use Rattle.model.specs.declared.events.Send.{Send}
 use Rattle.model.specs.declared.events.Event.{Event}
-use Rattle.model.specs.declared.events.Event.TheVariants.{Open, First, Running, Command, TooLarge, Fault, Lose, Pause, Resume}
+use Rattle.model.specs.declared.events.Event.TheVariants.{Open, First, Running, Command, TooLarge, Fault, Lose, Pause, Resume, Deliver}
 
 -- it goes to this connection, and its method has a spelling
 abbrev pub IsOwn : ℕ → Send → Type 0
@@ -38,3 +38,4 @@ connection_of_event (Fault c code) = c
 connection_of_event (Lose c) = c
 connection_of_event (Pause c) = c
 connection_of_event (Resume c) = c
+connection_of_event (Deliver c) = c

@@ -1,44 +1,49 @@
 //! The broker as its callers have it.
 
 use crate::cores::Core;
+use crate::roster::{Pick, Roster};
 use crate::steps::Step;
 use exchange_graph::Topology;
-use laws::brokers_stay_agreed;
+use laws::{brokers_stay_agreed, consumers_are_made};
 use model::Event;
 use std::alloc::{AllocError, Global};
 use std::marker::Model;
 
-/// Queues, and the connections that run with their channels.
+/// Queues, and the connections that run with their channels and consumers.
 pub struct Broker {
     core: Core,
+    roster: Roster,
 }
 
 /// Written out, so that a drop is one call.
 impl Drop for Broker {
     fn drop(self) {
-        let Broker { core: _ } = self;
+        let Broker { core: _, roster: _ } = self;
     }
 }
 
 impl Model for Broker {
-    ghost use Rattle.model.specs.Agreement.{IsAgreed};
-    ghost use Rattle.broker.specs.State.{Kept, broker_of};
+    ghost use Rattle.broker.specs.State.{Kept};
+    ghost use Rattle.broker.specs.Roster.{IsServing};
 
     ghost Value = { Kept };
 
     ghost view = { λ b. b.core };
 
-    ghost invariant = { λ b. IsAgreed (broker_of b.core) };
+    ghost invariant = { λ b. IsServing b.core b.roster };
 }
 
 impl Broker {
-    ghost use Rattle.std.specs.Prelude.{◌≡◌, [], IfOk, IsOk, OnOk, OnErr};
+    ghost use Rattle.std.specs.Prelude.{◌≡◌, [], ℕ, None, IfSome, IfOk, IsOk, OnOk, OnErr};
     ghost use Rattle.model.specs.Arrivals.{IsSaid};
+    ghost use Rattle.model.specs.Consuming.{CanDeliver};
+    ghost use Rattle.model.specs.Naming.{AreNamed};
     ghost use Rattle.model.specs.Sending.{AreCarried};
     ghost use Rattle.model.specs.Step.{Acts, Is};
     ghost use Rattle.model.specs.declared.events.Event.TheVariants as event_is;
     ghost use Rattle.broker.specs.State.{broker_of, topology_of, nothing};
-    ghost use Rattle.broker.specs.Judged.{WantsNoMemory};
+    ghost use Rattle.broker.specs.Judged.{IsAsked, WantsNoMemory};
+    ghost use Rattle.broker.specs.Picked.{IsPick};
     ghost use Rattle.broker.specs.Sent.{AreOwn, connection_of_event};
 
     /// The broker of this topology: its queues are empty, and no connection runs.
@@ -49,6 +54,7 @@ impl Broker {
         brokers_stay_agreed();
         Ok(Broker {
             core: Core::new(alloc, topology)?,
+            roster: Roster::new(alloc),
         })
     }
 
@@ -56,6 +62,7 @@ impl Broker {
     /// is for the event's own connection, by a method with a spelling. Where memory is wanting, nothing has changed; an opening,
     /// a loss, a pause and its end, a command that is ignored, and a rejection that requeues want none.
     pub fn step(&mut self, alloc: Global, event: &Event) -> Result<Step, AllocError>
+        requires asked { IsAsked event.now }
         ensures ok { IfOk result (λ s. Acts (topology_of self.old) (broker_of self.old) event.now s.sends.items s.notes.items (broker_of self.new)) }
         ensures own { IfOk result (λ s. IsSaid event.now → AreCarried (broker_of self.old) → AreOwn (connection_of_event event.now) s.sends.items) }
         ensures topology { topology_of self.new ≡ topology_of self.old }
@@ -63,7 +70,34 @@ impl Broker {
         ensures quiet { WantsNoMemory (topology_of self.old) (broker_of self.old) event.now → IsOk result }
     {
         brokers_stay_agreed();
+        consumers_are_made();
+        self.roster.seat_next(&self.core, event)?;
         self.core.step(alloc, event)
+    }
+
+    /// A delivery that can be made, if there is any. Consumers are gone round, from the one behind that which was picked last.
+    /// It takes no memory.
+    pub fn pick(&mut self) -> Option<Pick>
+        ensures same { self.new ≡ self.old }
+        ensures some { IfSome result (λ p. IsPick (broker_of self.old) p) }
+        ensures none { result ≡ None → (c : ℕ) → CanDeliver (broker_of self.old) c → ⊥ }
+    {
+        self.roster.pick(&self.core)
+    }
+
+    /// The delivery that was picked is made: the first ready message of the consumer's queue goes to it. Where each message can
+    /// be given out and consumers are named, the send is for the consumer's own connection, by a method with a spelling. Where
+    /// memory is wanting, nothing has changed.
+    pub fn pump(&mut self, alloc: Global, pick: Pick) -> Result<Step, AllocError>
+        requires { IsPick (broker_of self.old) pick }
+        ensures ok { IfOk result (λ s. Acts (topology_of self.old) (broker_of self.old) (event_is.Deliver pick.connection) s.sends.items s.notes.items (broker_of self.new)) }
+        ensures own { IfOk result (λ s. AreCarried (broker_of self.old) → AreNamed (topology_of self.old) (broker_of self.old) → AreOwn pick.connection s.sends.items) }
+        ensures topology { topology_of self.new ≡ topology_of self.old }
+        ensures err { OnErr result (self.new ≡ self.old) }
+    {
+        brokers_stay_agreed();
+        consumers_are_made();
+        self.core.deliver(alloc, pick)
     }
 
     /// The connection runs from now on, with channels 1 to `channels` open and new. What one of its number held is ready
@@ -80,6 +114,7 @@ impl Broker {
         ensures err { OnErr result (self.new ≡ self.old) }
     {
         brokers_stay_agreed();
+        consumers_are_made();
         self.core.open(alloc, connection, channel_max, channels)
     }
 
@@ -89,6 +124,7 @@ impl Broker {
         ensures topology { topology_of self.new ≡ topology_of self.old }
     {
         brokers_stay_agreed();
+        consumers_are_made();
         self.core.lose(connection);
     }
 
@@ -98,6 +134,7 @@ impl Broker {
         ensures topology { topology_of self.new ≡ topology_of self.old }
     {
         brokers_stay_agreed();
+        consumers_are_made();
         self.core.pause(connection);
     }
 
@@ -107,6 +144,7 @@ impl Broker {
         ensures topology { topology_of self.new ≡ topology_of self.old }
     {
         brokers_stay_agreed();
+        consumers_are_made();
         self.core.resume(connection);
     }
 }

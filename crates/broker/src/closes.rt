@@ -11,8 +11,8 @@ ghost use Rattle.broker.specs.Sent as sent;
 ghost use Rattle.broker.specs.Sent.{IsOwn};
 
 use model::{
-    Ack, Answer, Close, Content, Entry, GetOk, Ids, Method, Nack, Publish, Return, Send, Text,
-    reply_text,
+    Ack, Answer, Close, Content, Deliver, Entry, GetOk, Ids, Method, Nack, Publish, Return, Send,
+    Text, reply_text,
 };
 use std::alloc::AllocError;
 
@@ -138,6 +138,22 @@ fn written(count: usize) -> u32
     }
 }
 
+/// basic.consume-ok of the consumer of this tag.
+pub(crate) fn consume_ok(connection: u64, channel: u16, consumer_tag: Text) -> Send
+    ensures send { result ≡ said.reply connection channel (seen.BasicConsumeOk consumer_tag) }
+    ensures own { length consumer_tag < 256 → IsOwn connection result }
+{
+    reply(connection, channel, Method::BasicConsumeOk { consumer_tag })
+}
+
+/// basic.cancel-ok of this tag.
+pub(crate) fn cancel_ok(connection: u64, channel: u16, consumer_tag: Text) -> Send
+    ensures send { result ≡ said.reply connection channel (seen.BasicCancelOk consumer_tag) }
+    ensures own { length consumer_tag < 256 → IsOwn connection result }
+{
+    reply(connection, channel, Method::BasicCancelOk { consumer_tag })
+}
+
 /// basic.qos-ok.
 pub(crate) fn qos_ok(connection: u64, channel: u16) -> Send
     ensures send { result ≡ said.reply connection channel seen.BasicQosOk }
@@ -260,6 +276,33 @@ pub(crate) fn get_ok(
             exchange: message.exchange().clone()?,
             routing_key: message.key().clone()?,
             message_count: written(remaining),
+        }),
+        content: Some(message.content().clone()?),
+    })
+}
+
+/// basic.deliver of this message under this delivery tag, to the consumer of this tag. It carries the message's content, whose
+/// bytes are shared.
+pub(crate) fn deliver(
+    connection: u64,
+    channel: u16,
+    tag: u64,
+    consumer_tag: &Text,
+    entry: &Entry,
+) -> Result<Send, AllocError>
+    ensures send { IfOk result (λ s. s ≡ said.deliver connection channel tag consumer_tag.now entry.now) }
+    ensures own { IfOk result (λ s. length consumer_tag.now < 256 → IsCarried entry.now.message → IsOwn connection s) }
+{
+    let message = &entry.message;
+    Ok(Send::Command {
+        connection,
+        channel,
+        method: Method::BasicDeliver(Deliver {
+            consumer_tag: consumer_tag.clone()?,
+            delivery_tag: tag,
+            redelivered: message.is_redelivered(),
+            exchange: message.exchange().clone()?,
+            routing_key: message.key().clone()?,
         }),
         content: Some(message.content().clone()?),
     })

@@ -1,11 +1,15 @@
 //! What the broker keeps, and its step, case by case.
 
 mod closing;
+mod consuming;
 mod declaring;
+mod delivering;
 mod getting;
+mod giving;
 mod opening;
 mod publishing;
 mod running;
+mod seating;
 mod settlements;
 mod settling;
 
@@ -55,10 +59,10 @@ impl Core {
     ghost use Rattle.model.specs.Arrivals.{IsSaid};
     ghost use Rattle.model.specs.Sending.{AreCarried};
     ghost use Rattle.model.specs.Grammar.{IsMethod};
-    ghost use Rattle.model.specs.Step.{Acts, Is, OnConnection, OnLarge, Performs, channel_or_new};
+    ghost use Rattle.model.specs.Step.{Acts, Is, OnConnection, OnLarge, Decides, channel_or_new};
     ghost use Rattle.model.specs.declared.methods.Method.{Method as Seen};
     ghost use Rattle.broker.specs.State.{broker_of, topology_of, nothing};
-    ghost use Rattle.broker.specs.Judged.{requeues, IsRequeued, IsIgnored, IsLargeIgnored, WantsNoMemory, JudgesOn, JudgesLarge, Asks, CanAct};
+    ghost use Rattle.broker.specs.Judged.{requeues, left_of, IsAsked, IsRequeued, IsIgnored, IsLargeIgnored, WantsNoMemory, JudgesOn, JudgesLarge, Asks, CanAct};
     ghost use Rattle.broker.specs.Sent.{AreOwn, connection_of_event};
 
     /// The broker of this topology: its queues are empty, and no connection runs.
@@ -97,7 +101,7 @@ impl Core {
         }
     }
 
-    /// What a command that is not refused asks for is done.
+    /// What a command that is not refused asks for is done, or refused where its channel has still something against it.
     fn act(
         &mut self,
         alloc: Global,
@@ -109,7 +113,7 @@ impl Core {
         requires agreed { IsAgreed (broker_of self.old) }
         requires runs { IsSome ((broker_of self.old).connection connection) }
         requires can { CanAct (topology_of self.old) (broker_of self.old) ((broker_of self.old).channel connection channel) act }
-        ensures ok { IfOk result (λ s. (m : Seen) → Asks (topology_of self.old) (broker_of self.old) ((broker_of self.old).channel connection channel) m act.entry → Performs (topology_of self.old) (broker_of self.old) connection channel (channel_or_new ((broker_of self.old).channel connection channel)) m content.now s.sends.items s.notes.items (broker_of self.new)) }
+        ensures ok { IfOk result (λ s. (m : Seen) → Asks (topology_of self.old) (broker_of self.old) ((broker_of self.old).channel connection channel) m act.entry → Decides (topology_of self.old) (broker_of self.old) connection channel m content.now (left_of (channel_or_new ((broker_of self.old).channel connection channel)) act.entry) s.sends.items s.notes.items (broker_of self.new)) }
         ensures own { IfOk result (λ s. (m : Seen) → Asks (topology_of self.old) (broker_of self.old) ((broker_of self.old).channel connection channel) m act.entry → IsMethod m → AreCarried (broker_of self.old) → AreOwn connection s.sends.items) }
         ensures topology { topology_of self.new ≡ topology_of self.old }
         ensures err { OnErr result (self.new ≡ self.old) }
@@ -127,6 +131,10 @@ impl Core {
             ),
             Act::Purge(place, purge) => self.purge(alloc, connection, channel, place, purge),
             Act::Get(place, get) => self.get(alloc, connection, channel, place, get),
+            Act::Consume(place, consume) => {
+                self.consume(alloc, connection, channel, place, consume)
+            }
+            Act::Cancel(cancel) => self.cancel(alloc, connection, channel, cancel),
             Act::Limit(qos) => self.limit(alloc, connection, channel, qos),
             Act::Acknowledge(ack) => self.leave(
                 alloc,
@@ -210,7 +218,8 @@ impl Core {
     /// is for the event's own connection, by a method with a spelling. Where memory is wanting, nothing has changed; an opening,
     /// a loss, a pause and its end, a command that is ignored, and a rejection that requeues want none.
     pub fn step(&mut self, alloc: Global, event: &Event) -> Result<Step, AllocError>
-        requires { IsAgreed (broker_of self.old) }
+        requires agreed { IsAgreed (broker_of self.old) }
+        requires asked { IsAsked event.now }
         ensures ok { IfOk result (λ s. Acts (topology_of self.old) (broker_of self.old) event.now s.sends.items s.notes.items (broker_of self.new)) }
         ensures own { IfOk result (λ s. IsSaid event.now → AreCarried (broker_of self.old) → AreOwn (connection_of_event event.now) s.sends.items) }
         ensures topology { topology_of self.new ≡ topology_of self.old }
@@ -257,6 +266,7 @@ impl Core {
                 self.resume(*connection);
                 Ok(Step::nothing(alloc))
             }
+            Event::Deliver { .. } => unreachable!(),
         }
     }
 }

@@ -9,7 +9,9 @@ mod closes;
 mod cores;
 mod links;
 mod refusals;
+mod roster;
 mod steps;
 
 pub use brokers::Broker;
+pub use roster::Pick;
 pub use steps::Step;

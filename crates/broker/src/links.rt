@@ -14,6 +14,7 @@ ghost use Rattle.std.specs.Prelude.{
   Some,
   false,
   IsSome,
+  IfSome,
   IfOk,
   OnOk,
   OnErr,
@@ -30,11 +31,12 @@ ghost use Rattle.model.specs.Words.{Text as Name};
 ghost use Rattle.model.specs.Broker.{new_channel};
 ghost use Rattle.model.specs.Step.{started, next_of};
 ghost use Rattle.model.specs.declared.methods.Qos.{Qos as Limit};
-ghost use Rattle.channel.specs.Open.{Open, open_in, limited, given_on, settled_on, without_settled};
-ghost use Rattle.broker.specs.Links.{CanCount, CanGive, HasRoom, IsSet, SetsRoom, room_in};
+ghost use Rattle.channel.specs.Open.{Open, open_in, limited, given_on, settled_on, without_settled, without_named, Seats, IsTaker, HasNoTaker};
+ghost use Rattle.broker.specs.Links.{CanCount, CanGive, HasRoom, IsSet, SetsRoom, room_in, seats_in};
+ghost use Rattle.broker.specs.Roster.{next_number};
 
-use channel::{Channel, Outstanding};
-use model::{Qos, Taker};
+use channel::{Channel, Consumer, Outstanding, Refusal};
+use model::{Consume, Qos, Taker, Text};
 use std::alloc::{AllocError, Global};
 use std::collections::HashMap;
 use std::marker::Model;
@@ -94,6 +96,32 @@ fn limit_in(slot: &mut Option<Channel>, qos: &Qos)
 {
     if let Some(channel) = slot {
         channel.limit(qos);
+    }
+}
+
+/// A consumer of the queue at this place is made on this channel, or refused: then nothing changes. Tells its tag.
+fn consume_in(
+    slot: &mut Option<Channel>,
+    alloc: Global,
+    queue: usize,
+    consume: &Consume,
+) -> Result<Text, Refusal>
+    requires { IsSome slot.old }
+    ensures seats { (ch : Open) → slot.old ≡ Some ch → (new : Open) × (slot.new ≡ Some new) × Seats ch queue consume.now result new }
+    ensures err { OnErr result (slot.new ≡ slot.old) }
+{
+    match slot {
+        Some(channel) => channel.consume(alloc, queue, consume),
+        None => unreachable!(),
+    }
+}
+
+/// The consumer of this tag is this channel's no more.
+fn cancel_in(slot: &mut Option<Channel>, tag: &[u8])
+    ensures { (ch : Open) → slot.old ≡ Some ch → slot.new ≡ Some (without_named ch tag.now (seats_in slot.new)) }
+{
+    if let Some(channel) = slot {
+        channel.cancel(tag);
     }
 }
 
@@ -166,6 +194,36 @@ fn limit_at(channels: &mut [Option<Channel>], number: u16, qos: &Qos)
     let at = number as usize;
     if at < channels.len() {
         limit_in(&mut channels[at], qos);
+    }
+}
+
+/// The same of the channel of this number.
+fn consume_at(
+    channels: &mut [Option<Channel>],
+    number: u16,
+    alloc: Global,
+    queue: usize,
+    consume: &Consume,
+) -> Result<Text, Refusal>
+    requires { IsSome (slice_index_or channels.old number None) }
+    ensures seats { (ch : Open) → slice_index_or channels.old number None ≡ Some ch → (new : Open) × Seats ch queue consume.now result new × IsSet channels.old number (Some new) channels.new }
+    ensures err { OnErr result (channels.new ≡ channels.old) }
+{
+    let at = number as usize;
+    if at < channels.len() {
+        consume_in(&mut channels[at], alloc, queue, consume)
+    } else {
+        unreachable!()
+    }
+}
+
+/// The same of the channel of this number.
+fn cancel_at(channels: &mut [Option<Channel>], number: u16, tag: &[u8])
+    ensures { (ch : Open) → slice_index_or channels.old number None ≡ Some ch → IsSet channels.old number (Some (without_named ch tag.now (seats_in (slice_index_or channels.new number None)))) channels.new }
+{
+    let at = number as usize;
+    if at < channels.len() {
+        cancel_in(&mut channels[at], tag);
     }
 }
 
@@ -255,6 +313,29 @@ fn put_at(channels: &mut [Option<Channel>], number: u16, channel: Option<Channel
     }
 }
 
+/// The number of the next consumer, where close-ok is not awaited on the channel.
+fn number_of(channel: &Channel) -> Option<u64>
+    ensures { result ≡ next_number (Some channel.now) }
+{
+    if channel.is_closing() {
+        None
+    } else {
+        Some(channel.next_number())
+    }
+}
+
+/// The consumer of this number, exactly where close-ok is not awaited on the channel and it may be given a message now.
+fn taker_of(channel: &Channel, number: u64) -> Option<&Consumer>
+    ensures some { IfSome result (λ k. (channel.now.is_closing ≡ false) × IsTaker channel.now number k.now) }
+    ensures none { result ≡ None → channel.now.is_closing ≡ false → HasNoTaker channel.now number }
+{
+    if channel.is_closing() {
+        None
+    } else {
+        channel.taker(number)
+    }
+}
+
 impl Link {
     ghost use Rattle.std.specs.Prelude.{◌≡◌, ◌+◌, ◌<◌, ◌^◌, ℕ, List, Option, None, Some, false, IsSome, IfSome, IfOk, OnOk, OnErr, option_map};
     ghost use Rattle.std.specs.Option.{option_copied};
@@ -263,8 +344,10 @@ impl Link {
     ghost use Rattle.model.specs.declared.methods.Qos.{Qos as Limit};
     ghost use Rattle.model.specs.Settling.{settled};
     ghost use Rattle.channel.specs.Outstanding.{tag_of};
-    ghost use Rattle.channel.specs.Open.{Open, open_in, limited, given_on, settled_on, without_settled};
-    ghost use Rattle.broker.specs.Links.{channel_in, room_in, PutsIn, CanCount, CanGive, HasRoom, SetsRoom};
+    ghost use Rattle.channel.specs.Open.{Open, open_in, limited, given_on, settled_on, without_settled, without_named, Seats};
+    ghost use Rattle.broker.specs.Picked.{TellsOn};
+    ghost use Rattle.broker.specs.Roster.{next_number};
+    ghost use Rattle.broker.specs.Links.{channel_in, room_in, seats_in, PutsIn, CanCount, CanGive, HasRoom, SetsRoom};
 
     /// A connection with channels 1 to `channels` open and new.
     fn new(alloc: Global, channel_max: u16, channels: u16) -> Result<Link, AllocError>
@@ -293,6 +376,30 @@ impl Link {
         match self.channels.get(number as usize) {
             Some(Some(channel)) => Some(channel),
             _ => None,
+        }
+    }
+
+    /// The number of the next consumer on this channel, 1 where it is not open; none where close-ok is awaited.
+    pub fn next_number(&self, number: u16) -> Option<u64>
+        ensures { result ≡ next_number (channel_in self.now number) }
+    {
+        match self.channel(number) {
+            Some(channel) => number_of(channel),
+            None => Some(1),
+        }
+    }
+
+    /// The consumer of this number on the channel, exactly where it may be given a message now: the connection is not paused,
+    /// the channel is open, and the consumer is its and may take one.
+    pub fn taker(&self, channel: u16, number: u64) -> Option<&Consumer>
+        ensures { TellsOn self.now channel number (option_map (λ k. k.now) result) }
+    {
+        if self.is_paused {
+            return None;
+        }
+        match self.channel(channel) {
+            Some(channel) => taker_of(channel, number),
+            None => None,
         }
     }
 
@@ -337,6 +444,28 @@ impl Link {
         ensures { (ch : Open) → channel_in self.old number ≡ Some ch → PutsIn self.old number (Some (limited ch qos.now)) self.new }
     {
         limit_at(&mut self.channels, number, qos);
+    }
+
+    /// A consumer of the queue at this place is made on this channel, or refused: then nothing changes. Tells its tag.
+    fn consume(
+        &mut self,
+        number: u16,
+        alloc: Global,
+        queue: usize,
+        consume: &Consume,
+    ) -> Result<Text, Refusal>
+        requires { IsSome (channel_in self.old number) }
+        ensures seats { (ch : Open) → channel_in self.old number ≡ Some ch → (new : Open) × Seats ch queue consume.now result new × PutsIn self.old number (Some new) self.new }
+        ensures err { OnErr result (self.new ≡ self.old) }
+    {
+        consume_at(&mut self.channels, number, alloc, queue, consume)
+    }
+
+    /// The consumer of this tag is this channel's no more.
+    fn cancel(&mut self, number: u16, tag: &[u8])
+        ensures { (ch : Open) → channel_in self.old number ≡ Some ch → PutsIn self.old number (Some (without_named ch tag.now (seats_in (channel_in self.new number)))) self.new }
+    {
+        cancel_at(&mut self.channels, number, tag);
     }
 
     /// Room is made for one message more that is given out on this channel.
@@ -445,12 +574,13 @@ impl Links {
     ghost use Rattle.model.specs.declared.methods.Qos.{Qos as Limit};
     ghost use Rattle.model.specs.Settling.{settled};
     ghost use Rattle.channel.specs.Outstanding.{tag_of};
-    ghost use Rattle.channel.specs.Open.{Open, limited, given_on, settled_on, without_settled};
+    ghost use Rattle.channel.specs.Open.{Open, limited, given_on, settled_on, without_settled, without_named, Seats};
     ghost use Rattle.broker.specs.Links.{
       link_in,
       connection_of,
       channel_of,
       room_in,
+      seats_in,
       CanCount,
       CanGive,
       HasRoom,
@@ -474,6 +604,16 @@ impl Links {
         ensures { option_copied result ≡ link_in self.now connection }
     {
         self.links.get(&connection)
+    }
+
+    /// The open channel of this number on the connection, if that runs.
+    pub fn channel(&self, connection: u64, number: u16) -> Option<&Channel>
+        ensures { option_copied result ≡ channel_of self.now connection number }
+    {
+        match self.get(connection) {
+            Some(link) => link.channel(number),
+            None => None,
+        }
     }
 
     /// The connection runs from now on, with channels 1 to `channels` open and new.
@@ -559,6 +699,35 @@ impl Links {
     {
         if let Some(link) = self.links.get_mut(&connection) {
             link.limit(channel, qos);
+        }
+    }
+
+    /// A consumer of the queue at this place is made on this channel, or refused: then nothing changes. Tells its tag.
+    pub fn consume(
+        &mut self,
+        connection: u64,
+        channel: u16,
+        alloc: Global,
+        queue: usize,
+        consume: &Consume,
+    ) -> Result<Text, Refusal>
+        requires { IsSome (channel_of self.old connection channel) }
+        ensures seats { (ch : Open) → channel_of self.old connection channel ≡ Some ch → (new : Open) × Seats ch queue consume.now result new × Puts self.old connection channel (Some new) self.new }
+        ensures err { OnErr result (self.new ≡ self.old) }
+    {
+        match self.links.get_mut(&connection) {
+            Some(link) => link.consume(channel, alloc, queue, consume),
+            None => unreachable!(),
+        }
+    }
+
+    /// The consumer of this tag is this channel's no more. It takes no memory.
+    pub fn cancel(&mut self, connection: u64, channel: u16, tag: &[u8])
+        requires { IsSome (channel_of self.old connection channel) }
+        ensures { (ch : Open) → channel_of self.old connection channel ≡ Some ch → Puts self.old connection channel (Some (without_named ch tag.now (seats_in (channel_of self.new connection channel)))) self.new }
+    {
+        if let Some(link) = self.links.get_mut(&connection) {
+            link.cancel(channel, tag);
         }
     }
 

@@ -19,16 +19,20 @@ ghost use Rattle.channel.specs.Open.{open_in};
 ghost use Rattle.broker.specs.Links.{limits_of, channel_seen};
 ghost use Rattle.broker.specs.Placed.{AreWithin, ArePlacedIn};
 
+mod consumers;
 mod declares;
 mod settlements;
 
 use crate::links::Link;
+use crate::refusals::consumers::judge_consume;
 use crate::refusals::declares::{judge_exchange_declare, judge_flow, refusal_of_queue_declare};
 use crate::refusals::settlements::{judge_ack, judge_nack, judge_recover, judge_reject};
 use channel::Channel;
 use depot::Depot;
 use kept_routes::{Access, Router};
-use model::{Ack, ExchangeDeclare, Get, Method, Nack, Publish, Purge, Qos, Reject};
+use model::{
+    Ack, Cancel, Consume, ExchangeDeclare, Get, Method, Nack, Publish, Purge, Qos, Reject,
+};
 
 /// Why a command is not performed.
 #[derive(Clone, Copy, Drop)]
@@ -57,6 +61,10 @@ pub(crate) enum Act<'a> {
     Purge(usize, &'a Purge),
     /// The first ready message of the queue at this place is given out.
     Get(usize, &'a Get),
+    /// A consumer of the queue at this place is made, if the channel can have one more.
+    Consume(usize, &'a Consume),
+    /// The consumer of this tag is the channel's no more.
+    Cancel(&'a Cancel),
     /// The channel is limited as this qos says.
     Limit(&'a Qos),
     /// What the tag settles was taken, and leaves its queues.
@@ -222,6 +230,8 @@ fn judge_on_open<'a>(
         }
         Method::QueuePurge(purge) => judge_purge(depot.router(), purge),
         Method::BasicGet(get) => judge_get(depot, channel, get),
+        Method::BasicConsume(consume) => judge_consume(depot.topology(), consume),
+        Method::BasicCancel(cancel) => Ok(Act::Cancel(cancel)),
         Method::BasicQos(qos) => judge_qos(qos),
         Method::BasicAck(ack) => judge_ack(channel, ack),
         Method::BasicReject(reject) => judge_reject(depot.topology(), channel, reject),

@@ -1,3 +1,5 @@
 pub mod Runs
 pub mod Settlement
 pub mod Counting
+pub mod Seating
+pub mod Numbering

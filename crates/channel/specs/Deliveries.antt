@@ -46,6 +46,14 @@ may_of limit outstanding (Some c) = may_hold taker_of limit c.no_ack c.limit c.n
 abbrev pub may_take : Given → ℕ → Bool
 may_take g number = has_tag_left g.next_tag && may_of g.limit g.outstanding (find (λ (c : Consumer). c.number == number) g.consumers)
 
+-- the consumer of this number
+abbrev pub consumer_at : Given → ℕ → Option Consumer
+consumer_at g number = find (λ (c : Consumer). c.number == number) g.consumers
+
+-- the consumer of this number, where it may be given one message more
+abbrev pub taker_at : Given → ℕ → Option Consumer
+taker_at g number = if may_take g number then consumer_at g number else None
+
 -- one consumer more, under the next number and the limit set for each (AMQP 0-9-1, basic.consume)
 abbrev pub with_consumer : Given → Text → ℕ → Bool → ℕ → Given
 with_consumer g name queue no_ack seats = record g { seats = seats; next_number = g.next_number + 1; consumers = g.consumers ++ record { number = g.next_number; tag = name; queue = queue; no_ack = no_ack; limit = g.each_limit } ∷ [] }
@@ -70,11 +78,12 @@ RefusesUnnamed g Spent = (length g.consumers < 256) × ((g.next_number ≡ great
 RefusesUnnamed g Memory = (length g.consumers < 256) × (g.next_number < greatest)
 
 -- A consumer was made under the next name, of this number.
-pub record IsMadeUnder (old : Given) (queue : ℕ) (no_ack : Bool) (new : Given) (n : ℕ) : Type 0 where
+pub record IsMadeUnder (old : Given) (queue : ℕ) (no_ack : Bool) (tag : Text) (new : Given) (n : ℕ) : Type 0 where
   pub next : IsNextName old.consumers old.next_name n
+  pub named : tag ≡ server_name n
   pub made : new ≡ record (with_consumer old (server_name n) queue no_ack new.seats) { next_name = n + 1 }
 
--- A consumer was made under the next name that is not in use, or refused: then nothing changed.
-abbrev pub ConsumesUnnamed : Given → ℕ → Bool → Result ℕ Refusal → Given → Type 0
-ConsumesUnnamed old queue no_ack (Ok number) new = (length old.consumers < 256) × ((old.next_number < greatest) × ((number ≡ old.next_number) × ((old.seats ≤ new.seats + 1) × ((n : ℕ) × IsMadeUnder old queue no_ack new n))))
+-- A consumer was made under the next name that is not in use, which is told, or refused: then nothing changed.
+abbrev pub ConsumesUnnamed : Given → ℕ → Bool → Result Text Refusal → Given → Type 0
+ConsumesUnnamed old queue no_ack (Ok tag) new = (length old.consumers < 256) × ((old.next_number < greatest) × ((old.seats ≤ new.seats + 1) × ((n : ℕ) × IsMadeUnder old queue no_ack tag new n)))
 ConsumesUnnamed old queue no_ack (Err refusal) new = RefusesUnnamed old refusal × (new ≡ old)

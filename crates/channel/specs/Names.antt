@@ -15,15 +15,18 @@ server_name n = codes "amq.ctag-" ++ decimal n
 -- Of the names from this number on, it is the first that no consumer has.
 pub record IsNextName (consumers : List Consumer) (from n : ℕ) : Type 0 where
   pub least : from ≤ n
+  -- the greatest 64-bit number is never given
+  pub left : n < greatest
   pub free : list_any (is_named (server_name n)) consumers ≡ false
   pub before : (k : ℕ) → from ≤ k → k < n → list_any (is_named (server_name k)) consumers ≡ true
 
 -- Consumers have all names from this number on.
-abbrev pub AreNamesSpent : List Consumer → ℕ → Type 0
-AreNamesSpent consumers from = (k : ℕ) → from ≤ k → k < greatest → list_any (is_named (server_name k)) consumers ≡ true
+pub record AreNamesSpent (consumers : List Consumer) (from : ℕ) : Type 0 where
+  pub within : from ≤ greatest
+  pub used : (k : ℕ) → from ≤ k → k < greatest → list_any (is_named (server_name k)) consumers ≡ true
 
 -- The next name was made, or none is left, or memory was wanting.
 abbrev pub Finds : List Consumer → ℕ → Result (Option Name) AllocError → Type 0
-Finds consumers from (Ok (Some name)) = IsNextName consumers from name.number × ((name.tag ≡ server_name name.number) × (name.number < greatest))
+Finds consumers from (Ok (Some name)) = IsNextName consumers from name.number × (name.tag ≡ server_name name.number)
 Finds consumers from (Ok None) = AreNamesSpent consumers from
 Finds consumers from (Err e) = Unit {0}

@@ -1,14 +1,21 @@
 -- An open channel as it is kept, with queues by their places in the file, and as the model has it, with queues by their names.
-use Rattle.std.specs.Prelude.{ℕ, ◌+◌, ◌-◌, List, [], map, Bool, Option, slice_index_or}
+use Rattle.std.specs.Prelude.{◌≡◌, ℕ, ◌+◌, ◌-◌, List, [], ◌∷◌, ◌++◌, map, filter, not, Bool, true, false, Option, Some, None, Result, Ok, Err, slice_index_or}
 use Rattle.model.specs.Words.{Text}
+use Rattle.model.specs.Topology.{IsIn}
 use Rattle.model.specs.Broker as seen
 use Rattle.model.specs.Settling.{kept}
+use Rattle.model.specs.Consuming.{tag_for, with_consumer, may_take}
+use Rattle.model.specs.Step.{Of_connection, refusal_of_seat}
+use Rattle.model.specs.declared.methods.Consume.{Consume}
 use Rattle.model.specs.declared.methods.Qos.{Qos}
 use Rattle.model.specs.declared.messages.Taker.{Taker}
 use Rattle.channel.specs.Outstanding.{tag_of}
+use Rattle.channel.specs.Seats.{is_named}
 use Rattle.channel.specs.Deliveries.{Given, with_limit, with_given}
 use Rattle.channel.specs.declared.pending.Outstanding.{Outstanding}
 use Rattle.channel.specs.declared.consumers.Consumer.{Consumer}
+use Rattle.channel.specs.declared.consumers.Refusal.{Refusal}
+use Rattle.channel.specs.declared.consumers.Refusal.TheVariants.{InUse, TooMany, Spent, Memory}
 
 -- an open channel
 pub record Open : Type 0 where
@@ -38,6 +45,10 @@ settled_on ch = record ch { given = record ch.given { next_tag = ch.given.next_t
 abbrev pub without_settled : Open → ℕ → Bool → ℕ → Open
 without_settled ch tag multiple room = record ch { given = record ch.given { outstanding = kept tag_of tag multiple ch.given.outstanding; room = room } }
 
+-- the channel without the consumers of this tag, and with so much room (AMQP 0-9-1, basic.cancel)
+abbrev pub without_named : Open → Text → ℕ → Open
+without_named ch tag seats = record ch { given = record ch.given { consumers = filter (λ c. not (is_named tag c)) ch.given.consumers; seats = seats } }
+
 -- what is outstanding, where queues have these names in the order of their places
 abbrev pub outstanding_in : List Text → Outstanding → seen.Outstanding
 outstanding_in names o = record { tag = o.tag; queue = slice_index_or names o.queue []; by = o.by }
@@ -51,6 +62,7 @@ abbrev pub open_in : List Text → Open → seen.Channel
 open_in names ch = record {
   confirm = ch.confirm;
   next_tag = ch.given.next_tag;
+  next_number = ch.given.next_number;
   next_name = ch.given.next_name;
   is_closing = ch.is_closing;
   consumers = map (consumer_in names) ch.given.consumers;
@@ -58,3 +70,48 @@ open_in names ch = record {
   limit = ch.given.limit;
   outstanding = map (outstanding_in names) ch.given.outstanding;
 }
+
+-- the places of their queues, in the order in which they were made
+abbrev pub places_of : List Consumer → List ℕ
+places_of consumers = map (λ (c : Consumer). c.queue) consumers
+
+-- A consumer of the queue at this place was made under this tag (AMQP 0-9-1, basic.consume).
+pub record IsSeated (old : Open) (queue : ℕ) (m : Consume) (tag : Text) (new : Open) : Type 0 where
+  -- nothing stood against it
+  pub free : (names : List Text) → refusal_of_seat (open_in names old) m ≡ None
+  pub named : (names : List Text) → tag ≡ tag_for (open_in names old) m.consumer_tag
+  -- so the channel has it, where the queue at this place has the name that the consume gives
+  pub made : (names : List Text) → slice_index_or names queue [] ≡ m.queue → open_in names new ≡ with_consumer (open_in names old) m
+  -- what was given out stays, and so do the other consumers' places
+  pub outstanding : new.given.outstanding ≡ old.given.outstanding
+  pub places : places_of new.given.consumers ≡ places_of old.given.consumers ++ queue ∷ []
+
+-- why none was made: as the model says, or for want of memory
+abbrev pub IsUnseated : Open → Consume → Refusal → Type 0
+IsUnseated old m InUse = (names : List Text) → refusal_of_seat (open_in names old) m ≡ Some (Of_connection 530)
+IsUnseated old m TooMany = (names : List Text) → refusal_of_seat (open_in names old) m ≡ Some (Of_connection 506)
+IsUnseated old m Spent = (names : List Text) → refusal_of_seat (open_in names old) m ≡ Some (Of_connection 541)
+IsUnseated old m Memory = Unit {0}
+
+-- A consumer was made under this tag, or refused: then nothing changed.
+abbrev pub Seats : Open → ℕ → Consume → Result Text Refusal → Open → Type 0
+Seats old queue m (Ok tag) new = IsSeated old queue m tag new
+Seats old queue m (Err refusal) new = IsUnseated old m refusal × (new ≡ old)
+
+-- The consumer of this number is the channel's, the only one of this number, and may be given one message more.
+pub record IsTaker (ch : Open) (number : ℕ) (k : Consumer) : Type 0 where
+  pub numbered : k.number ≡ number
+  pub seat : IsIn k ch.given.consumers
+  -- so the model has it, where queues have these names
+  pub its : (names : List Text) → IsIn (consumer_in names k) (open_in names ch).consumers
+  pub only : (names : List Text) (other : seen.Consumer) → IsIn other (open_in names ch).consumers → other.number ≡ number → other ≡ consumer_in names k
+  pub may : (names : List Text) → may_take (open_in names ch) (consumer_in names k) ≡ true
+
+-- No consumer of this number may be given one message more.
+abbrev pub HasNoTaker : Open → ℕ → Type 0
+HasNoTaker ch number = (names : List Text) (k : seen.Consumer) → IsIn k (open_in names ch).consumers → k.number ≡ number → may_take (open_in names ch) k ≡ false
+
+-- The consumer of this number is told, exactly where it may be given one message more.
+abbrev pub TellsTaker : Open → ℕ → Option Consumer → Type 0
+TellsTaker ch number (Some k) = IsTaker ch number k
+TellsTaker ch number None = HasNoTaker ch number

@@ -1,5 +1,6 @@
 -- The consumers of a channel, each with the count of what it was given and is not settled (own).
-use Rattle.std.specs.Prelude.{◌≡◌, ℕ, List, map, Bool, false, ◌==◌, ◌&&◌, ◌||◌, if◌then◌else◌, ◌+◌, ◌-◌, Option, Some, None, count_by}
+use Rattle.std.specs.Prelude.{◌≡◌, ◌<◌, ℕ, List, [], ◌∷◌, map, Bool, false, ◌==◌, ◌&&◌, ◌||◌, if◌then◌else◌, ◌+◌, ◌-◌, Option, Some, None, count_by}
+use Rattle.std.specs.List.{AllByRecursion}
 use Rattle.std.specs.Str.{bytes_eq}
 use Rattle.model.specs.Words.{Text}
 use Rattle.model.specs.Prefetch.{is_to, is_below, count_to, count_given}
@@ -53,6 +54,11 @@ may_held limit given (Some s) = s.consumer.no_ack || (is_below s.consumer.limit 
 pub record AreCounted (s : Seated) (outstanding : List Outstanding) : Type 0 where
   pub each : s.held ≡ map (λ (c : Consumer). count_to taker_of c.number outstanding) s.consumers
   pub all : s.given ≡ count_given taker_of outstanding
+
+-- Their numbers rise, and each is below the next one.
+abbrev pub AreNumbered : ℕ → List Consumer → Type 0
+AreNumbered next [] = Unit {0}
+AreNumbered next (c ∷ cs) = (c.number < next) × (AllByRecursion (λ (d : Consumer). c.number < d.number) cs × AreNumbered next cs)
 
 -- What was outstanding is what is gone and what is left: each kind of taker has as many in both as there were.
 abbrev pub AreParts : List Outstanding → List Outstanding → List Outstanding → Type 0

@@ -1,15 +1,20 @@
 //! What is kept of an open channel.
 
-ghost use Rattle.std.specs.Prelude.{◌≡◌, ◌<◌, ◌≤◌, None, true, false, OnOk, OnErr, option_map};
+ghost use Rattle.std.specs.Prelude.{◌≡◌, ◌<◌, ◌≤◌, List, None, true, false, OnOk, OnErr, is_some, option_map};
+ghost use Rattle.model.specs.Words.{Text as Name};
+ghost use Rattle.model.specs.Consuming.{without_consumer};
 ghost use Rattle.model.specs.Settling.{settled};
 ghost use Rattle.model.specs.Step.{started, next_of, is_spent};
 ghost use Rattle.model.specs.Prefetch.{has_tag_left};
 ghost use Rattle.channel.specs.Outstanding.{tag_of};
-ghost use Rattle.channel.specs.Open.{nothing_given, limited, given_on, settled_on, without_settled};
+ghost use Rattle.channel.specs.Deliveries.{consumer_at};
+ghost use Rattle.channel.specs.Open.{nothing_given, limited, given_on, settled_on, without_settled, without_named, open_in, Seats, TellsTaker};
 
+use crate::consumers::{Consumer, Refusal};
 use crate::deliveries::Deliveries;
 use crate::pending::Outstanding;
-use model::{Qos, Taker};
+use laws::next_tags_are_found;
+use model::{Consume, Qos, Taker, Text};
 use std::alloc::{AllocError, Global};
 use std::marker::Model;
 
@@ -103,6 +108,61 @@ impl Channel {
         ensures { self.new ≡ limited self.old qos.now }
     {
         self.deliveries.limit(qos.prefetch_count, qos.global);
+    }
+
+    /// Makes a consumer of the queue at this place, under the tag that the consume gives, or where it gives none under one of
+    /// the server's. Tells its tag. Refused, in this order: where a consumer of the channel has the tag (530), where the channel
+    /// has 256 consumers (506), and where the numbers or the server's tags are spent (541). Where it is refused, or memory is
+    /// wanting, nothing changes. Source: AMQP 0-9-1, basic.consume.
+    pub fn consume(
+        &mut self,
+        alloc: Global,
+        queue: usize,
+        consume: &Consume,
+    ) -> Result<Text, Refusal>
+        ensures { Seats self.old queue consume.now result self.new }
+    {
+        if consume.consumer_tag.len() == 0 {
+            next_tags_are_found();
+            return self
+                .deliveries
+                .consume_unnamed(alloc, queue, consume.no_ack);
+        }
+        let tag = consume.consumer_tag.clone()?;
+        self.deliveries
+            .consume(consume.consumer_tag.clone()?, queue, consume.no_ack)?;
+        Ok(tag)
+    }
+
+    /// Takes out the consumer of this tag, if there is one; what it was given stays outstanding. It takes no memory. Source:
+    /// AMQP 0-9-1, basic.cancel.
+    pub fn cancel(&mut self, tag: &[u8])
+        ensures whole { self.new ≡ without_named self.old tag.now self.new.given.seats }
+        ensures seen { (names : List Name) → open_in names self.new ≡ without_consumer (open_in names self.old) tag.now }
+    {
+        self.deliveries.cancel(tag);
+    }
+
+    /// The number of the next consumer: none was made under it yet.
+    pub fn next_number(&self) -> u64
+        ensures { result ≡ self.now.given.next_number }
+    {
+        self.deliveries.next_number()
+    }
+
+    /// The consumer of this number, exactly where it is the channel's and may be given a message now: a delivery tag is left,
+    /// and neither its limit nor the channel's is reached. Source: RabbitMQ, "Consumer Prefetch".
+    pub fn taker(&self, number: u64) -> Option<&Consumer>
+        ensures { TellsTaker self.now number (option_map (λ k. k.now) result) }
+    {
+        self.deliveries.taker(number)
+    }
+
+    /// Whether the channel has a consumer of this number.
+    pub fn has_number(&self, number: u64) -> bool
+        ensures { result ≡ is_some (consumer_at self.now.given number) }
+    {
+        self.deliveries.has_number(number)
     }
 
     /// Whether a delivery tag is left.

@@ -8,6 +8,7 @@ ghost use Rattle.channel.specs.Seats.{is_of, has_name, counted_in, counted_out, 
 
 use crate::pending::Outstanding;
 use model::{Taker, Text};
+use std::alloc::AllocError;
 
 /// One who takes a queue's messages. Source: AMQP 0-9-1, basic.consume.
 #[derive(Drop)]
@@ -41,6 +42,16 @@ pub enum Refusal {
     Memory,
 }
 
+impl From<AllocError> for Refusal {
+    ghost use Rattle.channel.specs.declared.consumers.Refusal.TheVariants.{Memory};
+
+    ghost from_gives = { λ _ r. r ≡ Memory };
+
+    fn from(_: AllocError) -> Refusal {
+        Refusal::Memory
+    }
+}
+
 /// Some consumer has this tag.
 pub(crate) fn is_in_use(seats: &[Seat], tag: &[u8]) -> bool
     ensures { result ≡ list_any (has_name tag.now) seats.now }
@@ -53,6 +64,16 @@ fn seat_of(seats: &[Seat], number: u64) -> Option<&Seat>
     ensures { option_map (λ s. s.now) result ≡ find (is_of number) seats.now }
 {
     seats.iter().find(|s| s.consumer.number == number)
+}
+
+/// The consumer of this number.
+pub(crate) fn consumer_of(seats: &[Seat], number: u64) -> Option<&Consumer>
+    ensures { option_map (λ k. k.now) result ≡ option_map (λ s. s.consumer) (find (is_of number) seats.now) }
+{
+    match seat_of(seats, number) {
+        Some(seat) => Some(&seat.consumer),
+        None => None,
+    }
 }
 
 /// Takes out the consumers of this tag.

@@ -22,23 +22,23 @@ pub struct Deliveries {
 
 impl Model for Deliveries {
     ghost use Rattle.channel.specs.Outstanding.{AreBefore};
-    ghost use Rattle.channel.specs.Seats.{AreCounted};
+    ghost use Rattle.channel.specs.Seats.{AreCounted, AreNumbered};
     ghost use Rattle.channel.specs.Deliveries.{Given};
 
     ghost Value = { Given };
 
     ghost view = { λ d. record { next_tag = d.next_tag; next_number = d.next_number; next_name = d.next_name; each_limit = d.each_limit; limit = d.limit; consumers = d.seats.consumers; outstanding = d.pending.outstanding; room = d.pending.room; seats = d.seats.room } };
 
-    ghost invariant = { λ d. AreBefore d.next_tag d.pending.outstanding × AreCounted d.seats d.pending.outstanding };
+    ghost invariant = { λ d. AreBefore d.next_tag d.pending.outstanding × AreCounted d.seats d.pending.outstanding × AreNumbered d.next_number d.seats.consumers };
 }
 
 impl Deliveries {
-    ghost use Rattle.std.specs.Prelude.{◌≡◌, ◌<◌, ◌≤◌, ◌+◌, ◌-◌, [], true, filter, not, option_map, OnOk, OnErr};
+    ghost use Rattle.std.specs.Prelude.{◌≡◌, ◌<◌, ◌≤◌, ◌+◌, ◌-◌, [], true, filter, not, is_some, option_map, OnOk, OnErr};
     ghost use Rattle.model.specs.Settling.{settled, kept};
     ghost use Rattle.model.specs.Prefetch.{has_tag_left};
     ghost use Rattle.channel.specs.Outstanding.{tag_of};
-    ghost use Rattle.channel.specs.Seats.{consumers_of, is_named};
-    ghost use Rattle.channel.specs.Deliveries.{with_given, with_limit, may_take, Consumes, ConsumesUnnamed};
+    ghost use Rattle.channel.specs.Seats.{AreNumbered, consumers_of, is_named};
+    ghost use Rattle.channel.specs.Deliveries.{with_given, with_limit, may_take, consumer_at, taker_at, Consumes, ConsumesUnnamed};
 
     /// Nothing was given out, there is no consumer and no limit. It takes no memory.
     pub fn new(alloc: Global) -> Deliveries
@@ -145,12 +145,38 @@ impl Deliveries {
         }
     }
 
+    /// The number of the next consumer.
+    pub fn next_number(&self) -> u64
+        ensures { result ≡ self.now.next_number }
+    {
+        self.next_number
+    }
+
     /// Whether the consumer of this number is the channel's, and may be given a message now: a tag is left, and neither its
     /// limit nor the channel's is reached.
     pub fn may_take(&self, number: u64) -> bool
         ensures { result ≡ may_take self.now number }
     {
         self.has_tag_left() && self.seats.may_take(number, self.limit)
+    }
+
+    /// The consumer of this number, where it may be given a message now.
+    pub fn taker(&self, number: u64) -> Option<&Consumer>
+        ensures taker { option_map (λ k. k.now) result ≡ taker_at self.now number }
+        ensures numbered { AreNumbered self.now.next_number self.now.consumers }
+    {
+        let found = self.seats.numbered(number);
+        if !self.may_take(number) {
+            return None;
+        }
+        found
+    }
+
+    /// Whether the channel has a consumer of this number.
+    pub fn has_number(&self, number: u64) -> bool
+        ensures { result ≡ is_some (consumer_at self.now number) }
+    {
+        self.seats.numbered(number).is_some()
     }
 
     /// Makes a consumer of this tag. Tells its number. Refused, in this order: where a consumer of the channel has the tag
@@ -186,13 +212,13 @@ impl Deliveries {
     }
 
     /// Makes a consumer for whom the client gave no tag: its tag is `amq.ctag-N`, N counted from 1 on the channel, past those
-    /// in use. Refused as with `consume`, and where the names are spent (541).
+    /// in use. Tells the tag. Refused as with `consume`, and where the names are spent (541).
     pub fn consume_unnamed(
         &mut self,
         alloc: Global,
         queue: usize,
         no_ack: bool,
-    ) -> Result<u64, Refusal>
+    ) -> Result<Text, Refusal>
         ensures { ConsumesUnnamed self.old queue no_ack result self.new }
     {
         if self.seats.len() >= 256 {
@@ -205,9 +231,10 @@ impl Deliveries {
             Err(_) => Err(Refusal::Memory),
             Ok(None) => Err(Refusal::Spent),
             Ok(Some(name)) => {
-                let number = self.consume(name.tag, queue, no_ack)?;
+                let tag = name.tag.clone()?;
+                self.consume(name.tag, queue, no_ack)?;
                 self.next_name = name.number + 1;
-                Ok(number)
+                Ok(tag)
             }
         }
     }

@@ -3,8 +3,8 @@
 ghost use Rattle.std.specs.Prelude.{◌≡◌};
 
 use crate::consumers::{
-    Consumer, Seat, count_in, count_out, given_to_all, is_in_use, may_one, one_if_consumed,
-    take_out,
+    Consumer, Seat, consumer_of, count_in, count_out, given_to_all, is_in_use, may_one,
+    one_if_consumed, take_out,
 };
 use crate::pending::Outstanding;
 use model::Taker;
@@ -29,7 +29,7 @@ impl Model for Seats {
 }
 
 impl Seats {
-    ghost use Rattle.std.specs.Prelude.{◌≡◌, ◌+◌, ◌-◌, ◌<◌, ◌≤◌, ◌^◌, ◌++◌, ◌∷◌, [], ℕ, List, length, find, filter, not, ◌==◌, OnOk, OnErr};
+    ghost use Rattle.std.specs.Prelude.{◌≡◌, ◌+◌, ◌-◌, ◌<◌, ◌≤◌, ◌^◌, ◌++◌, ◌∷◌, [], ℕ, List, length, find, filter, not, ◌==◌, option_map, OnOk, OnErr};
     ghost use Rattle.std.specs.List.{list_any, All};
     ghost use Rattle.model.specs.Prefetch.{count_to};
     ghost use Rattle.channel.specs.Outstanding.{taker_of};
@@ -68,6 +68,13 @@ impl Seats {
         ensures { result ≡ list_any (is_named tag.now) self.now.consumers }
     {
         is_in_use(&self.seats, tag)
+    }
+
+    /// The consumer of this number.
+    pub(crate) fn numbered(&self, number: u64) -> Option<&Consumer>
+        ensures { option_map (λ k. k.now) result ≡ find (λ (c : One). c.number == number) self.now.consumers }
+    {
+        consumer_of(&self.seats, number)
     }
 
     /// Whether the consumer of this number is there and may be given one message more, under this limit of all.

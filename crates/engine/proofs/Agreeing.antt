@@ -1,51 +1,76 @@
--- What a call did keeps the world consistent.
-use Rattle.std.proofs.Common.{◌≡◌, ℕ, List, [], Bool, true, false, Some, Result, Ok, Err, refl, sym, subst}
+-- What a call did keeps the world consistent, with its consumers named as they should be.
+use Rattle.std.proofs.Common.{◌≡◌, ◌+◌, ℕ, List, Bool, true, false, Some, Result, Ok, Err, refl, sym, subst}
 use Rattle.std.specs.Prelude.{IfOk, OnErr, MatchBool}
 use Rattle.model.specs.Run.{Happening}
-use Rattle.model.specs.Arrivals.{World, Same, Waits, is_over, is_gone, with_heard, Takes_off, Loses}
+use Rattle.model.specs.Commands.{new_stream, running_stream}
+use Rattle.model.specs.Arrivals.{World, Same, Turns, Waits, is_over, is_gone, with_heard, Takes_off, Delivers, delivers, Loses}
 use Rattle.model.specs.Consistent.{IsConsistent}
-use Rattle.laws.proofs.Consistency.{same_consistent, turns_consistent, waits_consistent, hears_consistent, takes_consistent, opens_consistent, awaits_consistent, loses_consistent}
+use Rattle.model.specs.declared.events.Event.TheVariants as event
+use Rattle.laws.specs.Consumers.{IsNamed}
+use Rattle.laws.proofs.Consistency.{stay_consistent}
+use Rattle.laws.proofs.Naming.{worlds_named}
 use Rattle.runs.specs.Opened.{OpensNew, OpensReady, Hears, Takes, IsLost}
+use Rattle.runs.proofs.Worlds.{world_same}
+use Rattle.engine.specs.World.{Parts, world_of, IsEngine}
 use Rattle.engine.specs.Engines.{Turned}
 use Rattle.engine.specs.declared.turning.Turn.{Turn}
 use Rattle.engine.specs.declared.turning.Turn.TheVariants as turn
 
-pub same_agrees : (old new : World) → IsConsistent old → Same old new → IsConsistent new
-same_agrees old new k same = same_consistent old new [] k (refl, same)
+-- what an engine keeps of its world
+pub record Agrees (w : World) : Type 0 where
+  pub consistent : IsConsistent w
+  pub named : IsNamed w
 
-pub hears_agrees : (old new : World) (c : ℕ) (bytes : List ℕ) → IsConsistent old → Hears old c bytes new → IsConsistent new
+pub agreed : (p : Parts) → IsEngine p → Agrees (world_of p)
+agreed p e = record { consistent = e.consistent; named = e.named }
+
+pub same_agrees : (old new : World) → Agrees old → Same old new → Agrees new
+same_agrees old new k same = subst Agrees (sym (world_same old new same)) k
+
+turns_agrees : (old new : World) (c : ℕ) (hs : List Happening) → Agrees old → Turns old c hs new → Agrees new
+turns_agrees old new c hs k t = record { consistent = stay_consistent.turns old new c hs k.consistent t; named = worlds_named.turns old new c hs k.named t }
+
+waits_agrees : (old new : World) (c : ℕ) → Agrees old → Waits old c new → Agrees new
+waits_agrees old new c k w = record { consistent = stay_consistent.waits old new c k.consistent w; named = worlds_named.waits old new c k.named w }
+
+pub hears_agrees : (old new : World) (c : ℕ) (bytes : List ℕ) → Agrees old → Hears old c bytes new → Agrees new
 hears_agrees old new c bytes k heard = go (is_over old c) heard
   where
-    go : (v : Bool) → MatchBool v (Same old new) (new ≡ with_heard old c bytes) → IsConsistent new
+    go : (v : Bool) → MatchBool v (Same old new) (new ≡ with_heard old c bytes) → Agrees new
     go true same = same_agrees old new k same
-    go false is = subst IsConsistent (sym is) (hears_consistent old c bytes k)
+    go false is = subst Agrees (sym is) (record { consistent = stay_consistent.hears old c bytes k.consistent; named = worlds_named.hears old c bytes k.named })
 
-pub takes_agrees : (old new : World) (c n : ℕ) → IsConsistent old → Takes old c n new → IsConsistent new
-takes_agrees old new c n k took = go (is_gone old c) took
-  where
-    go : (v : Bool) → MatchBool v (Same old new) ((hs : List Happening) × Takes_off old c n hs new) → IsConsistent new
-    go true same = same_agrees old new k same
-    go false (hs, t) = takes_consistent old new c n hs k t
+pub takes_off_agrees : (old new : World) (c n : ℕ) (hs : List Happening) → Agrees old → Takes_off old c n hs new → Agrees new
+takes_off_agrees old new c n hs k t = record { consistent = stay_consistent.takes old new c n hs k.consistent t; named = worlds_named.takes old new c n hs k.named t }
 
-pub loses_agrees : (old new : World) (c : ℕ) → IsConsistent old → IsLost old c new → IsConsistent new
+pub loses_agrees : (old new : World) (c : ℕ) → Agrees old → IsLost old c new → Agrees new
 loses_agrees old new c k lost = go (is_gone old c) lost
   where
-    go : (v : Bool) → MatchBool v (Same old new) ((hs : List Happening) × Loses old c hs new) → IsConsistent new
+    go : (v : Bool) → MatchBool v (Same old new) ((hs : List Happening) × Loses old c hs new) → Agrees new
     go true same = same_agrees old new k same
-    go false (hs, l) = loses_consistent old new c hs k l
+    go false (hs, l) = record { consistent = stay_consistent.loses old new c hs k.consistent l; named = worlds_named.loses old new c hs k.named l }
 
-pub opens_new_agrees : (old new : World) (n : ℕ) → IsConsistent old → OpensNew old (Some n) new → IsConsistent new
-opens_new_agrees old new n is o = awaits_consistent old new _ o.2.0 is o.2.1
+pub opens_new_agrees : (old new : World) (n : ℕ) → Agrees old → OpensNew old (Some n) new → Agrees new
+opens_new_agrees old new n k o = record {
+  consistent = stay_consistent.awaits old new new_stream o.2.0 k.consistent o.2.1;
+  named = worlds_named.opens old new (event.Open (old.given + 1)) new_stream o.2.0 tt k.named o.2.1;
+}
 
-pub opens_ready_agrees : (old new : World) (k n : ℕ) → IsConsistent old → OpensReady old k (Some n) new → IsConsistent new
-opens_ready_agrees old new k n is o = opens_consistent old new k _ o.2.0 is o.2.1
+pub opens_ready_agrees : (old new : World) (k n : ℕ) → Agrees old → OpensReady old k (Some n) new → Agrees new
+opens_ready_agrees old new k n is o = record {
+  consistent = stay_consistent.opens old new k running_stream o.2.0 is.consistent o.2.1;
+  named = worlds_named.opens old new (event.Running (old.given + 1) 255 k) running_stream o.2.0 tt is.named o.2.1;
+}
 
-turned_agrees : (old new : World) (c : ℕ) (what : Turn) → IsConsistent old → Turned old c what new → IsConsistent new
-turned_agrees old new c (turn.Did notes) k t = turns_consistent old new c t.happenings k t.turns
-turned_agrees old new c turn.Idle k t = waits_consistent old new c k t.2
-turned_agrees old new c turn.Paused k t = waits_consistent old new c k t.2
-turned_agrees old new c turn.Over k t = waits_consistent old new c k t.1
+pub delivers_agrees : (old new : World) (c : ℕ) (hs : List Happening) → Agrees old → Delivers old c hs new → Agrees new
+delivers_agrees old new c hs k d = record { consistent = stay_consistent.pumps old new hs k.consistent (delivers d); named = worlds_named.pumps old new hs k.named (delivers d) }
 
-pub turn_agrees : {E : Type 0} (r : Result Turn E) (old new : World) (c : ℕ) → IsConsistent old → IfOk r (λ t. Turned old c t new) → OnErr r (Waits old c new) → IsConsistent new
+turned_agrees : (old new : World) (c : ℕ) (what : Turn) → Agrees old → Turned old c what new → Agrees new
+turned_agrees old new c (turn.Did notes) k t = turns_agrees old new c t.happenings k t.turns
+turned_agrees old new c turn.Idle k t = waits_agrees old new c k t.2
+turned_agrees old new c turn.Paused k t = waits_agrees old new c k t.2
+turned_agrees old new c turn.Over k t = waits_agrees old new c k t.1
+
+pub turn_agrees : {E : Type 0} (r : Result Turn E) (old new : World) (c : ℕ) → Agrees old → IfOk r (λ t. Turned old c t new) → OnErr r (Waits old c new) → Agrees new
 turn_agrees (Ok t) old new c k ok err = turned_agrees old new c t k ok
-turn_agrees (Err e) old new c k ok err = waits_consistent old new c k err
+turn_agrees (Err e) old new c k ok err = waits_agrees old new c k err

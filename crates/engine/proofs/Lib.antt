@@ -11,4 +11,5 @@ pub mod Lifted
 pub mod Openings
 pub mod Tooks
 pub mod Swept
+pub mod Delivered
 pub mod Certifying

@@ -132,13 +132,13 @@ ended f mid new c false false p s = record { hs = []; settled = (refl, λ i. rec
 
 -- ---- the turn
 
-at_own : {A : Type 0} (f : ℕ → A) (n : ℕ) (a : A) → with_one f n a n ≡ a
+pub at_own : {A : Type 0} (f : ℕ → A) (n : ℕ) (a : A) → with_one f n a n ≡ a
 at_own f n a = ap (λ (b : Bool). cond b a (f n)) (eq-eqb n n refl)
 
-at_others : {A : Type 0} (f : ℕ → A) (n d : ℕ) (a : A) → d ≢ n → with_one f n a d ≡ f d
+pub at_others : {A : Type 0} (f : ℕ → A) (n d : ℕ) (a : A) → d ≢ n → with_one f n a d ≡ f d
 at_others f n d a ne = ap (λ (b : Bool). cond b a (f d)) (Rattle.engine.proofs.Numbered.other_false d n ne)
 
-same_config : (old new : Parts) (l l' : Link) → Becomes old l l' new → config_of new ≡ config_of old
+pub same_config : (old new : Parts) (l l' : Link) → Becomes old l l' new → config_of new ≡ config_of old
 same_config old new l l' b = λ i. record { topology = b.topology i; guarantees = b.guarantees i; users = b.users i }
 
 -- of one that is awake, the connection's own fields are what its world shows
@@ -146,7 +146,7 @@ wire_open : (b : Bool) (l : Link) → b ≡ false → wire_in b l ≡ record { k
 wire_open false l e = refl
 wire_open true l e = absurd (Rattle.std.proofs.lemmas.Bool.false≢true (sym e))
 
-output_in : (b : Bool) (l : Link) → (wire_in b l).output ≡ l.output.bytes
+pub output_in : (b : Bool) (l : Link) → (wire_in b l).output ≡ l.output.bytes
 output_in true l = refl
 output_in false l = refl
 
@@ -208,7 +208,7 @@ turned old new l l' notes b found open_still below did =
 
 -- ---- nothing was performed
 
-with_same : {A : Type 0} (f : ℕ → A) (n : ℕ) (a : A) → a ≡ f n → (d : ℕ) → with_one f n a d ≡ f d
+pub with_same : {A : Type 0} (f : ℕ → A) (n : ℕ) (a : A) → a ≡ f n → (d : ℕ) → with_one f n a d ≡ f d
 with_same f n a e d = go (d == n) refl
   where
     go : (b : Bool) → (d == n) ≡ b → cond b a (f d) ≡ f d

@@ -12,7 +12,6 @@ use Rattle.model.specs.Step.{Acts, Is}
 use Rattle.model.specs.Run.{Happening}
 use Rattle.model.specs.Topology.{Topology}
 use Rattle.model.specs.Guarantee.{Guarantee}
-use Rattle.model.specs.Consistent.{IsConsistent}
 use Rattle.model.specs.Arrivals.{Wire, new_wire, new_world, is_ended, can_open, standing, Same}
 use Rattle.model.specs.declared.events.Event.{Event}
 use Rattle.model.specs.declared.events.Event.TheVariants as event
@@ -26,6 +25,7 @@ use Rattle.engine.specs.declared.engines.Refused.TheVariants.{Full, Spent, Memor
 use Rattle.engine.specs.declared.links.Link.{Link}
 use Rattle.engine.proofs.Numbered.{link_in-push, rising-push, other_false}
 use Rattle.engine.proofs.Standing.{standing_is}
+use Rattle.engine.proofs.Agreeing.{Agrees}
 use Rattle.engine.proofs.Asked.{is_same}
 use Rattle.engine.proofs.Changed.{either}
 
@@ -159,13 +159,14 @@ opened_ready old new l n k a numbers m acts =
     subst (λ (c : ℕ). IsOpened (event.Running (old.given + 1) 255 k) running_stream (world_of old) (Some c) (world_of new)) (sym numbers.0)
     (opened old new l (event.Running (old.given + 1) 255 k) running_session running_stream a numbers.1 numbers.2 m (steps_ready old new l k a m here))
 
-pub engine_opened : (old new : Parts) (l : Link) (sess : Session) (st : Stream) → IsEngine old → IsOneMore old new l sess st → IsConsistent (world_of new) → IsEngine new
-engine_opened old new l sess st e m agreed = record {
+pub engine_opened : (old new : Parts) (l : Link) (sess : Session) (st : Stream) → IsEngine old → IsOneMore old new l sess st → Agrees (world_of new) → IsEngine new
+engine_opened old new l sess st e m k = record {
   hold = subst (λ (gs : List Guarantee). Rattle.model.specs.Guarantee.AllHold (topology_of new.broker) gs) (sym m.guarantees)
       (subst (λ (x : Topology). Rattle.model.specs.Guarantee.AllHold x old.guarantees) (sym m.topology) e.hold);
   formed = subst (λ (x : Topology). Rattle.model.specs.Topology.IsWellFormed x) (sym m.topology) e.formed;
   links = subst (λ (k : ℕ). AreLinks k new.links) (sym m.given) (subst (λ (z : List Link). AreLinks (old.given + 1) z) (sym m.links) (links_opened old.given old.links l sess st e.links m.is m.awake));
-  consistent = agreed;
+  consistent = k.consistent;
+  named = k.named;
 }
 
 -- ---- refusals

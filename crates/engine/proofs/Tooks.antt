@@ -8,13 +8,11 @@ use Rattle.engine.specs.Performing.{Rules, rules_of}
 use Rattle.model.specs.Step.{Acts}
 use Rattle.model.specs.Run.{Happening}
 use Rattle.model.specs.Headline.{IsSound}
-use Rattle.model.specs.Consistent.{IsConsistent}
 use Rattle.model.specs.Arrivals.{Same, Waits, is_ended, is_over, is_gone, is_past_bound, Takes_off, Loses, with_heard}
 use Rattle.model.specs.declared.events.Event.{Event}
 use Rattle.model.specs.declared.events.Event.TheVariants as event
 use Rattle.model.specs.declared.notes.Note.{Note}
 use Rattle.laws.proofs.Whole.{turn_keeps}
-use Rattle.laws.proofs.Consistency.{takes_consistent}
 use Rattle.runs.specs.Opened.{Hears, Takes, IsLost}
 use Rattle.runs.proofs.Worlds.{waits_not}
 use Rattle.assembly.specs.Held.{stream_of}
@@ -30,7 +28,7 @@ use Rattle.engine.proofs.Numbered.{link_in-place, link_in-remove, rising-remove,
 use Rattle.engine.proofs.Standing.{gone_none, gone_some}
 use Rattle.engine.proofs.Changed.{sessions_change, wires_change, links_change, left_change}
 use Rattle.engine.proofs.Turned.{same_coming}
-use Rattle.engine.proofs.Agreeing.{same_agrees, hears_agrees, loses_agrees, turn_agrees}
+use Rattle.engine.proofs.Agreeing.{Agrees, agreed, same_agrees, hears_agrees, takes_off_agrees, loses_agrees, turn_agrees}
 use Rattle.engine.proofs.Lifted.{turned, waited, idle, taken, hears, lost}
 
 -- all but the broker and the connections is as before
@@ -53,13 +51,14 @@ becomes old new i l l' st r ch = record {
 pub sound : (p : Parts) → IsEngine p → IsSound (config_of p)
 sound p e = record { wf = e.formed; hold = e.hold }
 
-pub engine_with : (old new : Parts) → IsEngine old → Stays old new → AreLinks old.given new.links → IsConsistent (world_of new) → IsEngine new
-engine_with old new e st a agreed = record {
+pub engine_with : (old new : Parts) → IsEngine old → Stays old new → AreLinks old.given new.links → Agrees (world_of new) → IsEngine new
+engine_with old new e st a k = record {
   hold = subst (λ (g : List _). Rattle.model.specs.Guarantee.AllHold (topology_of new.broker) g) (sym st.guarantees)
       (subst (λ (t : Topology). Rattle.model.specs.Guarantee.AllHold t old.guarantees) (sym st.topology) e.hold);
   formed = subst (λ (t : Topology). Rattle.model.specs.Topology.IsWellFormed t) (sym st.topology) e.formed;
   links = subst (λ (n : ℕ). AreLinks n new.links) (sym st.given) a;
-  consistent = agreed;
+  consistent = k.consistent;
+  named = k.named;
 }
 
 -- where the broker and the connections are as before, so is the world
@@ -72,8 +71,8 @@ world_stays old new st broker links = record {
 }
 
 -- every engine stays one
-pub engine_change : (old new : Parts) (i : ℕ) (l l' : Link) → IsEngine old → Stays old new → Changes old.links i l l' new.links → IsConsistent (world_of new) → IsEngine new
-engine_change old new i l l' e st ch agreed = engine_with old new e st (links_change old.given old.links i l l' new.links e.links ch) agreed
+pub engine_change : (old new : Parts) (i : ℕ) (l l' : Link) → IsEngine old → Stays old new → Changes old.links i l l' new.links → Agrees (world_of new) → IsEngine new
+engine_change old new i l l' e st ch k = engine_with old new e st (links_change old.given old.links i l l' new.links e.links ch) k
 
 -- ---- turns
 
@@ -143,7 +142,7 @@ pub took_engine : {E : Type 0} (old new : Parts) (i : ℕ) (what : Result Turn E
     → LinksTook (rules_of (topology_of old.broker) old.users) (broker_of old.broker) old.links i what (broker_of new.broker) new.links → IsEngine new
 took_engine old new i what e st t =
     let out = outcome old new i t.old t.new what e st t.changes t.took in
-    engine_change old new i t.old t.new e st t.changes (turn_agrees what (world_of old) (world_of new) t.old.number e.consistent out.ok out.err)
+    engine_change old new i t.old t.new e st t.changes (turn_agrees what (world_of old) (world_of new) t.old.number (agreed old e) out.ok out.err)
 
 -- of a connection that is not there nothing is performed
 pub not_there : (p : Parts) (c : ℕ) → link_in p.links c ≡ None → (is_over (world_of p) c ≡ true) × Waits (world_of p) c (world_of p)
@@ -180,7 +179,7 @@ sends_engine old new i n e st s =
     let found = link_in-place 0 old.links i s.old e.links.rising s.changes.within s.changes.here in
     let b = becomes old new i s.old s.new st e.links.rising s.changes in
     let off = taken old new s.old s.new n b found s.sent in
-    engine_change old new i s.old s.new e st s.changes (takes_consistent (world_of old) (world_of new) s.old.number n off.0 e.consistent off.1)
+    engine_change old new i s.old s.new e st s.changes (takes_off_agrees (world_of old) (world_of new) s.old.number n off.0 (agreed old e) off.1)
 
 -- ---- bytes that are heard
 
@@ -213,7 +212,7 @@ feeds_engine old new i bytes e st same f =
     let ch = fed_changes old.given old.links new.links i bytes e.links f in
     let found = link_in-place 0 old.links i f.old e.links.rising f.within f.here in
     let b = becomes old new i f.old f.new st e.links.rising ch in
-    engine_change old new i f.old f.new e st ch (hears_agrees (world_of old) (world_of new) f.old.number bytes e.consistent (hears old new f.old f.new bytes b found same f.fed))
+    engine_change old new i f.old f.new e st ch (hears_agrees (world_of old) (world_of new) f.old.number bytes (agreed old e) (hears old new f.old f.new bytes b found same f.fed))
 
 pub hears_none : (p : Parts) (c : ℕ) (bytes : List ℕ) → link_in p.links c ≡ None → Hears (world_of p) c bytes (world_of p)
 hears_none p c bytes none = on_true (Same (world_of p) (world_of p)) (world_of p ≡ with_heard (world_of p) c bytes) (is_over (world_of p) c) (not_there p c none).0 (nothing_changes p)
@@ -239,14 +238,14 @@ pub loses_engine : (old new : Parts) (c i : ℕ) → IsEngine old → Stays old 
     → Acts (topology_of old.broker) (broker_of old.broker) (event.Lose c) [] [] (broker_of new.broker) → IsEngine new
 loses_engine old new c i e st place left acts = engine_with old new e st
     (subst (λ (z : List Link). AreLinks old.given z) (sym left) (record { rising = rising-remove 0 old.links i e.links.rising; each = all-remove (Rattle.engine.specs.World.IsLink old.given) old.links i e.links.each }))
-    (loses_agrees (world_of old) (world_of new) c e.consistent (loses old new c i e st place left acts))
+    (loses_agrees (world_of old) (world_of new) c (agreed old e) (loses old new c i e st place left acts))
 
 -- ---- bytes that are heard, or memory was wanting
 
 pub fed_engine : {T E : Type 0} (r : Result T E) (old new : Parts) (i : ℕ) (bytes : List ℕ) → IsEngine old → Stays old new → broker_of new.broker ≡ broker_of old.broker → OnOk r (LinksFed old.links i bytes new.links) → OnErr r (new.links ≡ old.links) → IsEngine new
 fed_engine (Ok x) old new i bytes e st same ok err = feeds_engine old new i bytes e st same ok
 fed_engine (Err x) old new i bytes e st same ok err =
-    engine_with old new e st (subst (λ (z : List Link). AreLinks old.given z) (sym err) e.links) (same_agrees (world_of old) (world_of new) e.consistent (world_stays old new st same err))
+    engine_with old new e st (subst (λ (z : List Link). AreLinks old.given z) (sym err) e.links) (same_agrees (world_of old) (world_of new) (agreed old e) (world_stays old new st same err))
 
 pub fed_ok : {T E : Type 0} (r : Result T E) (old new : Parts) (c i : ℕ) (bytes : List ℕ) → IsEngine old → Stays old new → broker_of new.broker ≡ broker_of old.broker → IsPlaceOf old.links c (Some i)
     → OnOk r (LinksFed old.links i bytes new.links) → OnOk r (Hears (world_of old) c bytes (world_of new))

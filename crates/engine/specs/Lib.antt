@@ -3,6 +3,7 @@ pub mod Sending
 pub mod Reading
 pub mod Performing
 pub mod Turning
+pub mod Pumping
 pub mod World
 pub mod Engines
 pub mod Opening

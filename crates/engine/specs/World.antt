@@ -8,6 +8,7 @@ use Rattle.model.specs.Phases.{Session, no_session}
 use Rattle.model.specs.State.{Config, State}
 use Rattle.model.specs.Arrivals.{Wire, World, new_wire, is_ended}
 use Rattle.model.specs.Consistent.{IsConsistent}
+use Rattle.model.specs.Naming.{AreNamed}
 use Rattle.model.specs.declared.messages.User.{User}
 use Rattle.assembly.specs.Held.{stream_of}
 use Rattle.broker.specs.State as broker
@@ -92,3 +93,5 @@ pub record IsEngine (p : Parts) : Type 0 where
   pub formed : IsWellFormed (topology_of p.broker)
   pub links : AreLinks p.given p.links
   pub consistent : IsConsistent (world_of p)
+  -- consumers are named as they should be
+  pub named : AreNamed (topology_of p.broker) (broker_of p.broker)

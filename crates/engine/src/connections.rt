@@ -41,7 +41,7 @@ use model::User;
 use std::alloc::{AllocError, Global};
 
 /// How many bytes spell what one event sends, at most.
-const MOST_SENT: usize = 1_060_000;
+pub(crate) const MOST_SENT: usize = 1_060_000;
 
 /// An output of so many bytes pauses its connection.
 const BOUND: usize = 1_048_576;

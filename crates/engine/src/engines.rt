@@ -1,21 +1,23 @@
 //! The engine.
 
-ghost use Rattle.std.specs.Prelude.{◌≡◌, ◌<◌, true, IfOk, IsOk, OnErr, OnOk, vec_len, vec_capacity};
+ghost use Rattle.std.specs.Prelude.{◌≡◌, ◌<◌, true, IfOk, IsOk, OnErr, OnOk, MatchOption, vec_len, vec_capacity};
 ghost use Rattle.model.specs.Arrivals.{Same, Waits, new_world, is_over};
-ghost use Rattle.runs.specs.Opened.{Hears, Takes, IsLost};
+ghost use Rattle.runs.specs.Opened.{Hears, Idles, Takes, IsLost};
 ghost use Rattle.engine.specs.World.{world_of};
 ghost use Rattle.engine.specs.Engines.{Turned, OnDid, left_in};
+ghost use Rattle.engine.specs.Pumping.{IsPump};
 ghost use Rattle.engine.specs.Opening.{Numbers, OpenedNew, OpenedReady};
 ghost use Rattle.engine.specs.Certified.{in_force};
 
 use crate::connections::{feed_at, place_of, take_at, turn_at};
 use crate::links::Link;
+use crate::pumping::pump_among;
 use crate::scratch::Scratch;
 use crate::turning::Turn;
 use broker::Broker;
 use certificate::Checked;
 use guarantees::Guarantee;
-use model::User;
+use model::{Note, User};
 use std::alloc::{AllocError, Global};
 use std::marker::Model;
 
@@ -156,6 +158,28 @@ impl Engine {
                 place,
             ),
             None => Ok(Turn::Over),
+        }
+    }
+
+    /// Makes one delivery to a consumer, of whatever connection, and gives its notes: none where no delivery can be made.
+    ///
+    /// Where memory is refused nothing is delivered.
+    pub fn pump(&mut self, alloc: Global) -> Result<Option<Vec<Note>>, AllocError>
+        ensures ok { IfOk result (λ did. MatchOption did (Idles (world_of self.old) (world_of self.new)) (λ notes. IsPump (world_of self.old) notes.items (world_of self.new))) }
+        ensures err { OnErr result (Same (world_of self.old) (world_of self.new)) }
+    {
+        match self.broker.pick() {
+            Some(pick) => {
+                let notes = pump_among(
+                    alloc,
+                    &mut self.broker,
+                    &mut self.scratch,
+                    &mut self.links,
+                    pick,
+                )?;
+                Ok(Some(notes))
+            }
+            None => Ok(None),
         }
     }
 

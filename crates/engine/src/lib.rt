@@ -10,6 +10,7 @@ mod links;
 mod machines;
 mod output;
 mod performing;
+mod pumping;
 mod reading;
 mod scratch;
 mod sending;

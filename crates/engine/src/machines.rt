@@ -43,6 +43,10 @@ impl Machine for Engine {
         }
     }
 
+    fn pump(&mut self, alloc: Global) -> Result<Option<Vec<Note>>, AllocError> {
+        Engine::pump(self, alloc)
+    }
+
     fn sent(&mut self, c: u64, n: u64) {
         Engine::sent(self, c, n);
     }

@@ -1,13 +1,15 @@
 //! One turn of one connection.
 
-ghost use Rattle.std.specs.Prelude.{◌≡◌, ◌≤◌, Some, None, false, IfOk, OnErr};
+ghost use Rattle.std.specs.Prelude.{◌≡◌, ◌≤◌, ◌++◌, Some, None, false, IfOk, OnErr};
+ghost use Rattle.std.specs.List.{AllByRecursion};
 ghost use Rattle.model.specs.Arrivals.{IsSaid, is_ended, is_past_bound};
-ghost use Rattle.model.specs.Sending.{AreCarried, most_sent};
+ghost use Rattle.model.specs.Sending.{AreCarried, AreOwn, most_sent};
+ghost use Rattle.model.specs.Spelling.{receiver, spelling, IsSpelled};
 ghost use Rattle.model.specs.declared.events.Event as event;
 ghost use Rattle.model.specs.declared.events.Event.TheVariants as happens;
 ghost use Rattle.broker.specs.State.{topology_of, broker_of};
 ghost use Rattle.engine.specs.Reading.{IsKept, IsMade};
-ghost use Rattle.engine.specs.Performing.{IsAsked, rules_of};
+ghost use Rattle.engine.specs.Performing.{IsAsked, PausesOr, rules_of};
 ghost use Rattle.engine.specs.Turning.{Performed, DidEvent, LinkTook, LinkWaits};
 
 use crate::links::Link;
@@ -17,7 +19,7 @@ use crate::reading::{Next, forget, read_next};
 use crate::scratch::Scratch;
 use crate::sending::put_sends;
 use broker::Broker;
-use model::{Event, Note, User};
+use model::{Event, Note, Send, User};
 use session::Session;
 use std::alloc::{AllocError, Global};
 
@@ -32,6 +34,30 @@ pub enum Turn {
     Paused,
     /// The connection is over, or gone.
     Over,
+}
+
+/// Puts out what is sent to the connection `c` at one event, for which there is room, and tells the broker of the pause
+/// that this brings. The output was below the bound.
+pub(crate) fn put_out(
+    c: u64,
+    broker: &mut Broker,
+    scratch: &mut Scratch,
+    output: &mut Output,
+    max: u32,
+    sends: &[Send],
+)
+    requires own { AreOwn c sends.now }
+    requires max { 4096 ≤ max }
+    requires room { most_sent ≤ output.old.room }
+    ensures bytes { output.new.bytes ≡ output.old.bytes ++ spelling max sends.now }
+    ensures spelled { AllByRecursion (IsSpelled max) sends.now }
+    ensures own { AllByRecursion (λ s. receiver s ≡ c) sends.now }
+    ensures pauses { PausesOr (topology_of broker.old) c false (is_past_bound output.new.bytes) (broker_of broker.old) (broker_of broker.new) }
+    ensures topology { topology_of broker.new ≡ topology_of broker.old }
+{
+    put_sends(c, output, scratch, max, sends);
+    let is_past = output.bytes().len() >= 1_048_576;
+    pause_if(broker, c, is_past);
 }
 
 /// What the connection `c` asks for, or the fault of its stream, with room for what it sends.
@@ -57,9 +83,7 @@ fn do_event(
 {
     let max = session.frame_max();
     let step = perform(c, alloc, users, broker, session, event)?;
-    put_sends(c, output, scratch, max, &step.sends);
-    let is_past = output.bytes().len() >= 1_048_576;
-    pause_if(broker, c, is_past);
+    put_out(c, broker, scratch, output, max, &step.sends);
     Ok(step.notes)
 }
 

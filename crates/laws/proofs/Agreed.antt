@@ -1,9 +1,9 @@
 -- Every event of the broker leaves what is held and what is outstanding in agreement.
-use Rattle.std.proofs.Common.{◌≡◌, ℕ, zero, suc, ◌+◌, ◌<◌, ◌≤◌, ◌⊎◌, List, [], ◌∷◌, ◌++◌, Bool, true, false, cond, eqb, refl, sym, ap, subst, ◌∙◌, map, filter, length, get_or, not, arith, Option, Some, None, inl, inr}
-use Rattle.std.specs.Prelude.{count_by, find, is_some, nat_le, nat_lt, ◌==◌, ◌&&◌, if◌then◌else◌}
-use Rattle.std.specs.List.{AllByRecursion, AllPairs}
+use Rattle.std.proofs.Common.{◌≡◌, ℕ, zero, suc, ◌+◌, ◌<◌, ◌≤◌, ◌⊎◌, List, [], ◌∷◌, ◌++◌, Bool, true, false, cond, refl, sym, ap, subst, ◌∙◌, map, filter, length, get_or, not, arith, Option, Some, None, inl, inr}
+use Rattle.std.specs.Prelude.{count_by, is_some, nat_le, nat_lt, ◌==◌, ◌&&◌, if◌then◌else◌}
+use Rattle.std.specs.List.{AllByRecursion}
 use Rattle.std.specs.Str.{bytes_eq}
-use Rattle.std.proofs.lemmas.Bool.{eqb-true, eqb-false, eq-eqb, false≢true}
+use Rattle.std.proofs.lemmas.Bool.{eqb-true, eq-eqb, false≢true}
 use Rattle.std.proofs.lemmas.Option.{same_Some}
 use Rattle.std.proofs.lemmas.List.Kept.{AllPairs-filter}
 use Rattle.std.proofs.lemmas.List.Quantifiers.{all_pairs_push}
@@ -11,11 +11,10 @@ use Rattle.model.specs.Words.{Text}
 use Rattle.model.specs.Topology.{Topology, IsIn}
 use Rattle.model.specs.Grammar.{Ids, ids_of}
 use Rattle.model.specs.Broker.{Outstanding, Channel, Connection, Broker, new_channel, is_full, is_ready, with_pair, with_row}
-use Rattle.model.specs.Entries.{is_under, is_held_as, by_channel, by_connection, freed, held_as, change_first, without_first}
+use Rattle.model.specs.Entries.{is_under, is_held_as, by_channel, by_connection, freed, held_as, change_first}
 use Rattle.model.specs.Settling.{Rises, is_refused, settled, kept, takes}
-use Rattle.model.specs.Prefetch.{has_tag_left}
-use Rattle.model.specs.Deliveries.{Settlement, Leaves, Returns, AreSettled, with_queue, first_ready, holder_of, after_delivery, channel_after, after_purge}
-use Rattle.model.specs.Step.{tag_of, Refusal, Ignored, Of_channel, Of_connection, Acts, Does, Makes, Gets, Settles, Performs, Refuses, Decides, OnConnection, OnLarge, IsPublish, Is, channel_or_new, channels_up_to, comes_to, empty_publish, refusal, refusal_of_large, reply, with_freed, with_channel, is_awaiting}
+use Rattle.model.specs.Deliveries.{Settlement, Leaves, Returns, AreSettled, first_ready, holder_of, after_delivery, channel_after}
+use Rattle.model.specs.Step.{tag_of, Refusal, Ignored, Of_channel, Of_connection, Acts, Does, Makes, Gets, Settles, Performs, Refuses, Decides, OnConnection, OnLarge, IsPublish, IsDelivery, Is, channel_or_new, channels_up_to, comes_to, empty_publish, refusal, refusal_of_large, reply, with_freed, with_channel, is_awaiting}
 use Rattle.model.specs.Run.{empty_broker}
 use Rattle.model.specs.Agreement.{IsOutstanding, IsAgreed}
 use Rattle.model.specs.Message.{Message}
@@ -27,15 +26,15 @@ use Rattle.model.specs.declared.messages.Taker.TheVariants as taker
 use Rattle.model.specs.declared.contents.Content.{Content}
 use Rattle.model.specs.declared.events.Send.{Send}
 use Rattle.model.specs.declared.events.Event.{Event}
-use Rattle.model.specs.declared.events.Event.TheVariants.{Open, First, Running, Command, TooLarge, Fault, Lose, Pause, Resume}
+use Rattle.model.specs.declared.events.Event.TheVariants.{Open, First, Running, Command, TooLarge, Fault, Lose, Pause, Resume, Deliver}
 use Rattle.model.specs.declared.methods.Get.{Get}
 use Rattle.model.specs.declared.methods.Method.{Method}
-use Rattle.model.specs.declared.methods.Method.TheVariants.{ConnectionClose, ChannelOpen, ChannelFlow, ChannelClose, ChannelCloseOk, ExchangeDeclare, QueueDeclare, QueuePurge, BasicQos, BasicPublish, BasicGet, BasicAck, BasicReject, BasicNack, BasicRecover, ConfirmSelect}
+use Rattle.model.specs.declared.methods.Method.TheVariants.{ConnectionClose, ChannelOpen, ChannelFlow, ChannelClose, ChannelCloseOk, ExchangeDeclare, QueueDeclare, QueuePurge, BasicQos, BasicPublish, BasicGet, BasicAck, BasicReject, BasicNack, BasicRecover, ConfirmSelect, BasicConsume, BasicCancel}
 use Rattle.model.specs.declared.notes.Note.{Note}
 use Rattle.laws.specs.Agreeing.{BrokersStayAgreed}
 use Rattle.laws.proofs.Counts.{count-append, count-cons, in-append, all_in, all-append, all_each}
 use Rattle.model.specs.declared.messages.Mark.{Mark}
-use Rattle.laws.proofs.Agreement.{Passes, number, HeldIn, Shrinks, shrinks_same, shrinks_freed, shrinks_without, shrinks_filter, left_shrinks, returned_shrinks, left_clear, returned_clear, in_freed, held_here, counted_in, find_counted, ready_not_held, same_holder, self_under, at_own, here_eq, shrinks_on}
+use Rattle.laws.proofs.Agreement.{Passes, number, HeldIn, Shrinks, shrinks_same, shrinks_freed, shrinks_without, shrinks_filter, left_shrinks, returned_shrinks, left_clear, returned_clear, in_freed, held_here, counted_in, find_counted, ready_not_held, same_holder, shrinks_on}
 use Rattle.laws.proofs.Leaving.{at_queue}
 
 -- ---- channels
@@ -193,7 +192,7 @@ none_arrives_held t entries m q holder (r ∷ rs) = go (bytes_eq r q && not (is_
     go true e = let one = count-cons (is_held_as holder) (record { message = m; mark = Ready }) rest in omega (arith, one, e)
     go false e = e
 
-shrinks_arrivals : (t : Topology) (old new : Text → List Entry) (entries : Text → List Entry) (m : Message) (rs : List Text) → ((q : Text) → new q ≡ old q ++ comes_to t entries m q rs) → Shrinks old new
+pub shrinks_arrivals : (t : Topology) (old new : Text → List Entry) (entries : Text → List Entry) (m : Message) (rs : List Text) → ((q : Text) → new q ≡ old q ++ comes_to t entries m q rs) → Shrinks old new
 shrinks_arrivals t old new entries m rs is = record {
   held = λ q e holder i mark. go q e holder mark (in-append e (old q) (comes_to t entries m q rs) (subst (IsIn e) (is q) i));
   fewer = λ q holder.
@@ -554,6 +553,8 @@ module _ (t : Topology) (old new : Broker) (a : IsAgreed old) where
   performs sends notes c h (ExchangeDeclare m) content conn accepted p = nothing sends _ notes p
   performs sends notes c h (QueueDeclare m) content conn accepted p = nothing sends _ notes p.does
   performs sends notes c h (BasicQos m) content conn accepted p = limits sends _ notes c h m.prefetch_count m.global p
+  performs sends notes c h (BasicConsume m) content conn accepted p = agreed_record old new c h _ a (shrinks_same old.queue new.queue p.left.queues) p.left.channels refl refl refl
+  performs sends notes c h (BasicCancel m) content conn accepted p = agreed_record old new c h _ a (shrinks_same old.queue new.queue p.left.queues) p.left.channels refl refl refl
   performs sends notes c h (BasicGet m) content conn accepted p = gets sends notes c h m (first_ready (old.queue m.queue)) (not_awaited conn h m (old.channel c h) accepted) p
   performs sends notes c h (BasicAck m) content conn accepted p = settles_agree _ old new c h m.delivery_tag m.multiple [] sends notes a p
   performs sends notes c h (BasicReject m) content conn accepted p = settles_agree _ old new c h m.delivery_tag false [] sends notes a p
@@ -582,6 +583,13 @@ module _ (t : Topology) (old new : Broker) (a : IsAgreed old) where
       by true e = subst IsGood (same_Some new_channel ch e) good_new
       by false e = absurd (false≢true (ap is_some e))
 
+  delivers : (sends : List Send) (notes : List Note) (c : ℕ) → IsDelivery old c sends notes new → IsAgreed new
+  delivers sends notes c p =
+      let o = p.made in
+      let is : channel_or_new (old.channel c o.number) ≡ o.channel = ap channel_or_new o.taker.there in
+      delivery_agrees old new c o.number o.consumer.no_ack o.consumer.queue (taker.Consumer o.consumer.number) (ap (λ (ch : Channel). ch.is_closing) is ∙ o.taker.open_still) a
+      (subst (λ (ch : Channel). Is (after_delivery old c o.number ch o.consumer.no_ack o.consumer.queue (taker.Consumer o.consumer.number)) new) (sym is) p.makes.left)
+
   -- Each event keeps the agreement.
   pub onward : (e : Event) (sends : List Send) (notes : List Note) → Acts t old e sends notes new → IsAgreed new
   onward (Open c) sends notes p = nothing sends _ notes p
@@ -593,6 +601,7 @@ module _ (t : Topology) (old new : Broker) (a : IsAgreed old) where
   onward (Lose c) sends notes p = goes sends _ notes c p
   onward (Pause c) sends notes p = agreed_same old new a (shrinks_same old.queue new.queue p.left.queues) p.left.channels
   onward (Resume c) sends notes p = agreed_same old new a (shrinks_same old.queue new.queue p.left.queues) p.left.channels
+  onward (Deliver c) sends notes p = delivers sends notes c p
 
 -- in the empty broker nothing is held
 none_held : IsAgreed empty_broker

@@ -1,21 +1,14 @@
 -- What is held in queues is outstanding on channels, whatever the broker does.
-use Rattle.std.proofs.Common.{◌≡◌, ℕ, zero, suc, ◌+◌, ◌<◌, ◌≤◌, ◌⊎◌, List, [], ◌∷◌, ◌++◌, Bool, true, false, cond, eqb, refl, sym, ap, subst, ◌∙◌, map, filter, length, get_or, not, arith, Option, Some, None, inl, inr}
-use Rattle.std.specs.Prelude.{count_by, find, is_some, ◌==◌, ◌&&◌, if◌then◌else◌}
-use Rattle.std.specs.List.{AllByRecursion, AllPairs}
+use Rattle.std.proofs.Common.{◌≡◌, ℕ, zero, ◌≤◌, List, [], ◌∷◌, Bool, true, false, cond, refl, sym, ap, subst, ◌∙◌, map, filter, arith, inl, inr}
+use Rattle.std.specs.Prelude.{count_by, if◌then◌else◌}
 use Rattle.std.specs.Str.{bytes_eq}
-use Rattle.std.proofs.lemmas.Bool.{eqb-true, eqb-false, eq-eqb, ne_eqb, false≢true}
-use Rattle.std.proofs.lemmas.Option.{same_Some}
-use Rattle.std.proofs.lemmas.List.Kept.{AllPairs-filter}
-use Rattle.std.proofs.lemmas.List.Quantifiers.{all_pairs_push}
+use Rattle.std.proofs.lemmas.Bool.{eq-eqb, false≢true}
 use Rattle.std.proofs.lemmas.Slice.Eq.{bytes_eq-Decides}
 use Rattle.model.specs.Words.{Text}
-use Rattle.model.specs.Topology.{Topology, IsIn}
-use Rattle.model.specs.Broker.{Outstanding, Channel, Broker, is_ready, with_pair, with_row}
-use Rattle.model.specs.Entries.{is_under, is_held_as, by_channel, by_connection, freed, held_as, change_first, without_first}
-use Rattle.model.specs.Settling.{Rises, is_refused, settled, kept, takes}
-use Rattle.model.specs.Step.{tag_of}
+use Rattle.model.specs.Topology.{IsIn}
+use Rattle.model.specs.Broker.{Outstanding}
+use Rattle.model.specs.Entries.{is_under, is_held_as, freed, without_first}
 use Rattle.model.specs.Deliveries.{with_queue, holder_of, without_given, with_returned, AreLeft, AreReturned}
-use Rattle.model.specs.Agreement.{IsOutstanding, IsAgreed}
 use Rattle.model.specs.Message.{Message}
 use Rattle.model.specs.declared.messages.Entry.{Entry}
 use Rattle.model.specs.declared.messages.Holder.{Holder}
@@ -23,7 +16,7 @@ use Rattle.model.specs.declared.messages.Mark.{Mark}
 use Rattle.model.specs.declared.messages.Mark.TheVariants.{Ready, Held}
 use Rattle.model.specs.declared.notes.Cause.{Cause}
 use Rattle.model.specs.declared.notes.Note.{Note}
-use Rattle.laws.proofs.Counts.{count-append, count-cons, count-cons_yes}
+use Rattle.laws.proofs.Counts.{count-cons, count-cons_yes}
 use Rattle.laws.proofs.Leaving.{at_queue}
 
 -- ---- marks

@@ -17,7 +17,7 @@ use Rattle.model.specs.Arrivals.{IsSaid}
 use Rattle.model.specs.Phases.{is_running}
 use Rattle.model.specs.State.{Config, State, Step}
 use Rattle.model.specs.Run.{Happening, Run}
-use Rattle.model.specs.Step.{Refusal, Ignored, Of_channel, Of_connection, Acts, Does, Makes, Gets, Settles, Performs, Refuses, Decides, OnConnection, OnLarge, IsPublish, Is, channel_or_new, comes_to, content_or_none, confirm_sends, returned_sends, select_sends, purge_sends, declare_sends, empty_publish, message, next_of, answer_of, is_none, is_some_full, refusal, refusal_of_large, reply, with_freed, with_channel}
+use Rattle.model.specs.Step.{Refusal, Ignored, Of_channel, Of_connection, Acts, Does, Makes, Gets, Settles, Performs, Refuses, Decides, OnConnection, OnLarge, IsPublish, Is, channel_or_new, comes_to, content_or_none, confirm_sends, returned_sends, select_sends, purge_sends, declare_sends, empty_publish, message, next_of, answer_of, is_none, is_some_full, refusal, refusal_of_large, reply, with_freed, with_channel, consume_sends, cancel_sends, IsDelivery}
 use Rattle.model.specs.declared.contents.Content.{Content}
 use Rattle.model.specs.declared.messages.Entry.{Entry}
 use Rattle.model.specs.declared.messages.Holder.{Holder}
@@ -27,11 +27,11 @@ use Rattle.model.specs.declared.messages.Taker.TheVariants as taker
 use Rattle.model.specs.declared.events.Send.{Send}
 use Rattle.model.specs.declared.events.Send.TheVariants as send
 use Rattle.model.specs.declared.events.Event.{Event}
-use Rattle.model.specs.declared.events.Event.TheVariants.{Open, First, Running, Command, TooLarge, Fault, Lose, Pause, Resume}
+use Rattle.model.specs.declared.events.Event.TheVariants.{Open, First, Running, Command, TooLarge, Fault, Lose, Pause, Resume, Deliver}
 use Rattle.model.specs.declared.methods.Get.{Get}
 use Rattle.model.specs.declared.methods.Publish.{Publish}
 use Rattle.model.specs.declared.methods.Method.{Method}
-use Rattle.model.specs.declared.methods.Method.TheVariants.{ConnectionClose, ChannelOpen, ChannelFlow, ChannelClose, ChannelCloseOk, ExchangeDeclare, QueueDeclare, QueuePurge, BasicQos, BasicPublish, BasicGet, BasicAck, BasicReject, BasicNack, BasicRecover, ConfirmSelect}
+use Rattle.model.specs.declared.methods.Method.TheVariants.{ConnectionClose, ChannelOpen, ChannelFlow, ChannelClose, ChannelCloseOk, ExchangeDeclare, QueueDeclare, QueuePurge, BasicQos, BasicPublish, BasicGet, BasicAck, BasicReject, BasicNack, BasicRecover, ConfirmSelect, BasicConsume, BasicCancel}
 use Rattle.model.specs.declared.notes.Cause.{Cause}
 use Rattle.model.specs.declared.notes.Note.{Note}
 use Rattle.model.specs.declared.notes.Answer.{Answer}
@@ -157,6 +157,14 @@ purge_light : (c h : ℕ) (no_wait : Bool) (count : ℕ) → AreLight (purge_sen
 purge_light c h true count = tt
 purge_light c h false count = (tt, tt)
 
+consume_light : (c h : ℕ) (no_wait : Bool) (tag : Text) → AreLight (consume_sends c h no_wait tag)
+consume_light c h true tag = tt
+consume_light c h false tag = (tt, tt)
+
+cancel_light : (c h : ℕ) (no_wait : Bool) (tag : Text) → AreLight (cancel_sends c h no_wait tag)
+cancel_light c h true tag = tt
+cancel_light c h false tag = (tt, tt)
+
 -- ---- all cases
 
 -- after an event each message can be given out, and what was sent carries no content that is too large
@@ -204,6 +212,8 @@ module _ (t : Topology) (old new : Broker) (sends : List Send) (notes : List Not
   performs c h ch (ExchangeDeclare m) content said within p = does _ _ p (declare_light c h m.no_wait _) a
   performs c h ch (QueueDeclare m) content said within p = does _ _ p.does (declare_light c h m.no_wait _) a
   performs c h ch (BasicQos m) content said within p = does _ _ p (tt, tt) a
+  performs c h ch (BasicConsume m) content said within p = does _ _ p (consume_light c h m.no_wait _) a
+  performs c h ch (BasicCancel m) content said within p = does _ _ p (cancel_light c h m.no_wait _) a
   performs c h ch (BasicGet m) content said within p = gets c h ch m (first_ready (old.queue m.queue)) refl p
   performs c h ch (BasicAck m) content said within p = settles _ c h ch m.delivery_tag m.multiple [] p tt
   performs c h ch (BasicReject m) content said within p = settles _ c h ch m.delivery_tag false [] p tt
@@ -230,6 +240,12 @@ module _ (t : Topology) (old new : Broker) (sends : List Send) (notes : List Not
   too_large c h None p = does _ _ p tt a
   too_large c h (Some conn) p = refuses c h (ids_of empty_publish) (refusal_of_large conn h (old.channel c h)) p
 
+  delivers : (c : ℕ) → IsDelivery old c sends notes new → Carries new sends
+  delivers c p =
+      let o = p.made in
+      makes _ _ _ p.makes ((all_in (λ (x : Entry). IsCarried x.message) o.entry (old.queue o.consumer.queue) (a o.consumer.queue) (find_in is_ready o.entry (old.queue o.consumer.queue) o.first).0).content, tt)
+      (in_one old.queue o.consumer.queue _ (given_all o.consumer.no_ack _ (old.queue o.consumer.queue) (a o.consumer.queue)) a)
+
   -- Each event of the broker keeps that.
   pub carries : (e : Event) → IsSaid e → Acts t old e sends notes new → Carries new sends
   carries (Open c) said p = does _ _ p tt a
@@ -241,6 +257,7 @@ module _ (t : Topology) (old new : Broker) (sends : List Send) (notes : List Not
   carries (Lose c) said p = does _ _ p tt (freed_in (by_connection c))
   carries (Pause c) said p = does _ _ p tt a
   carries (Resume c) said p = does _ _ p tt a
+  carries (Deliver c) said p = delivers c p
 
 pub stay_carried : MessagesStayCarried
 stay_carried = record { empty = λ q. tt; acts = λ t old new e sends notes said a p. (carries t old new sends notes a e said p).queues }

@@ -7,7 +7,7 @@ use Rattle.model.specs.State.{Config, State}
 use Rattle.model.specs.Run.{Happening, AreCounted}
 use Rattle.model.specs.Sending.{AreCarried}
 use Rattle.model.specs.Commands.{Stream}
-use Rattle.model.specs.Arrivals.{IsSaid, World, Wire, new_world, is_over, is_paused, is_past_bound, is_gone, can_open, Same, Turns, Waits, Works, none_more, one_more, WorksOff, Takes_off, Opens, Loses, Answers, Plays, with_heard}
+use Rattle.model.specs.Arrivals.{IsSaid, World, Wire, new_world, is_over, is_paused, is_past_bound, is_gone, can_open, Same, Turns, Waits, Works, none_more, one_more, WorksOff, Puts, Delivers, Pumps, delivers, idles, Takes_off, Opens, Loses, Answers, Plays, with_heard}
 use Rattle.model.specs.Consistent.{IsConsistent}
 use Rattle.model.specs.declared.events.Arrival.{Arrival}
 use Rattle.model.specs.declared.events.Arrival.TheVariants as arrival
@@ -18,7 +18,7 @@ use Rattle.laws.proofs.Counts.{from_either}
 use Rattle.laws.proofs.Balance.{run_counts}
 use Rattle.laws.proofs.Carried.{run_carries}
 use Rattle.laws.proofs.Linked.{Agrees, with_here, read_agrees, settled_agrees, step_agrees}
-use Rattle.laws.proofs.Plays.{Told, said_each, told_turns, told_taken, told_opens, told_loses}
+use Rattle.laws.proofs.Plays.{Told, said_each, told_puts, told_taken, told_opens, told_loses}
 
 agreed : (w : World) → IsConsistent w → Agrees w.state.broker w.state.session (is_paused w)
 agreed w c = record { running = c.running; paused = c.paused }
@@ -52,15 +52,19 @@ is_awake_still over false e = refl
 is_awake_still true true e = absurd (false≢true e)
 is_awake_still false true e = absurd (false≢true e)
 
+-- an event whose sends are put out, after which the broker agrees with the phases
+puts_consistent : (old new : World) (e : Event) (c : ℕ) (hs : List Happening) → IsSaid e → IsConsistent old → (p : Puts old e c hs new) → Agrees p.mid.broker p.mid.session (is_paused old) → IsConsistent new
+puts_consistent old new e c hs said k p mid =
+    let after : Agrees new.state.broker new.state.session (is_paused new) =
+    settled_agrees old.config p.mid new.state c (is_paused old c) (is_paused new c) p.rest (is_paused old) (is_paused new) p.settled mid refl refl (λ d ne. ap (λ (w : Wire). is_past_bound w.output) (p.others d ne)) in
+    let messages = told_messages hs old new k (told_puts old new e c hs said p) in
+    record { counted = messages.counted; carried = messages.carried; running = after.running; paused = after.paused }
+
 pub turns_consistent : (old new : World) (c : ℕ) (hs : List Happening) → IsConsistent old → Turns old c hs new → IsConsistent new
 turns_consistent old new c hs k t =
     let p = t.puts in
-    let mid : Agrees p.mid.broker p.mid.session (is_paused old) =
-    read_agrees c (old.wire c).kept (old.wire c).stream t.next t.event old.config old.state p.mid p.h.sends p.h.notes (is_paused old) t.read (agreed old k) (is_awake_still (is_over old c) (is_paused old c) t.awake) p.happens.stepped in
-    let after : Agrees new.state.broker new.state.session (is_paused new) =
-    settled_agrees old.config p.mid new.state c (is_paused old c) (is_paused new c) p.rest (is_paused old) (is_paused new) p.settled mid refl refl (λ d ne. ap (λ (w : Wire). is_past_bound w.output) (p.others d ne)) in
-    let messages = told_messages hs old new k (told_turns old new c hs t) in
-    record { counted = messages.counted; carried = messages.carried; running = after.running; paused = after.paused }
+    puts_consistent old new t.event c hs t.said k p
+    (read_agrees c (old.wire c).kept (old.wire c).stream t.next t.event old.config old.state p.mid p.h.sends p.h.notes (is_paused old) t.read (agreed old k) (is_awake_still (is_over old c) (is_paused old c) t.awake) p.happens.stepped)
 
 pub waits_consistent : (old new : World) (c : ℕ) → IsConsistent old → Waits old c new → IsConsistent new
 waits_consistent old new c k v = consistent_same old new k v.state (others_and_own old new c (λ d ne. ap (λ (w : Wire). w.output) (v.others d ne)) v.output)
@@ -110,6 +114,19 @@ loses_consistent old new c hs k o =
     let messages = told_messages hs old new k (told_loses old new c hs o) in
     record { counted = messages.counted; carried = messages.carried; running = after.running; paused = after.paused }
 
+delivers_consistent : (old new : World) (c : ℕ) (hs : List Happening) → IsConsistent old → Delivers old c hs new → IsConsistent new
+delivers_consistent old new c hs k d =
+    let p = d.puts in
+    puts_consistent old new (event.Deliver c) c hs tt k p
+    (step_agrees old.config old.state p.mid (event.Deliver c) p.h.sends p.h.notes (is_paused old) (is_paused old) (agreed old k) (λ x ne. refl) refl p.happens.stepped)
+
+pub same_consistent : (old new : World) (hs : List Happening) → IsConsistent old → (hs ≡ []) × Same old new → IsConsistent new
+same_consistent old new hs k p = consistent_same old new k p.1.state (λ d. ap (λ (w : Wire). w.output) (p.1.wires d))
+
+pub pumps_consistent : (old new : World) (hs : List Happening) → IsConsistent old → Pumps old hs new → IsConsistent new
+pumps_consistent old new hs k (delivers {c = c} d) = delivers_consistent old new c hs k d
+pumps_consistent old new hs k (idles n p) = same_consistent old new hs k p
+
 pub new_is_consistent : (f : Config) → IsConsistent (new_world f)
 new_is_consistent f = record { counted = λ n q lt. refl; carried = λ q. tt; running = λ c. refl; paused = λ c conn e. absurd (false≢true (ap Rattle.std.specs.Prelude.is_some e)) }
 
@@ -123,6 +140,7 @@ stay_consistent = record {
   opens = opens_consistent;
   awaits = awaits_consistent;
   loses = loses_consistent;
+  pumps = pumps_consistent;
 }
 
 -- ---- arrivals
@@ -134,14 +152,12 @@ works_consistent c old new hs k (one_more {mid = m} {first = f} {rest = r} t mor
 works_off_consistent : (c : ℕ) (old new : World) (hs : List Happening) → IsConsistent old → WorksOff old c hs new → IsConsistent new
 works_off_consistent c old new hs k w = waits_consistent w.mid new c (works_consistent c old w.mid hs k w.works) w.waits
 
-pub same_consistent : (old new : World) (hs : List Happening) → IsConsistent old → (hs ≡ []) × Same old new → IsConsistent new
-same_consistent old new hs k p = consistent_same old new k p.1.state (λ d. ap (λ (w : Wire). w.output) (p.1.wires d))
-
-answers_consistent : (old new : World) (a : Arrival) (hs : List Happening) → IsConsistent old → Answers old a hs new → IsConsistent new
+pub answers_consistent : (old new : World) (a : Arrival) (hs : List Happening) → IsConsistent old → Answers old a hs new → IsConsistent new
 answers_consistent old new arrival.Open hs k p = from_either (can_open old) (λ o. awaits_consistent old new _ hs k o) (same_consistent old new hs k) p
 answers_consistent old new (arrival.Ready n) hs k p = from_either (can_open old) (λ o. opens_consistent old new n _ hs k o) (same_consistent old new hs k) p
 answers_consistent old new (arrival.In c bytes) hs k p = from_either (is_over old c) (same_consistent old new hs k) (λ w. works_off_consistent c (with_heard old c bytes) new hs (hears_consistent old c bytes k) w) p
 answers_consistent old new (arrival.Sent c n) hs k p = from_either (is_gone old c) (same_consistent old new hs k) (λ t. works_off_consistent c t.mid new t.rest (takes_consistent old t.mid c n t.first k t.takes) t.works) p
+answers_consistent old new arrival.Pump hs k p = pumps_consistent old new hs k p
 answers_consistent old new (arrival.Lose c) hs k p = from_either (is_gone old c) (same_consistent old new hs k) (λ o. loses_consistent old new c hs k o) p
 
 pub plays_consistent : (old new : World) (arrivals : List Arrival) (hs : List Happening) → IsConsistent old → Plays old arrivals hs new → IsConsistent new

@@ -1,5 +1,5 @@
 -- What leaves a queue by its notes, and what stays: for messages given out, settled and purged.
-use Rattle.std.proofs.Common.{◌≡◌, ℕ, ◌+◌, ◌⊎◌, List, [], ◌∷◌, ◌++◌, Bool, true, false, cond, eqb, refl, sym, ap, subst, ◌∙◌, map, filter, not, arith, Option, Some, None, inl, inr}
+use Rattle.std.proofs.Common.{◌≡◌, ℕ, ◌+◌, List, [], ◌∷◌, Bool, true, false, cond, eqb, refl, sym, ap, subst, ◌∙◌, filter, not, arith, Option, Some, None, inl, inr}
 use Rattle.std.specs.Prelude.{count_by, find, ◌==◌, ◌&&◌, if◌then◌else◌}
 use Rattle.std.specs.List.{AllByRecursion, list_any}
 use Rattle.std.specs.Str.{bytes_eq}
@@ -8,10 +8,10 @@ use Rattle.std.proofs.lemmas.Option.{same_Some}
 use Rattle.std.proofs.lemmas.Bool.{false≢true}
 use Rattle.model.specs.Words.{Text}
 use Rattle.model.specs.Topology.{IsIn}
-use Rattle.model.specs.Broker.{Outstanding, Channel, Broker, is_ready, new_channel}
+use Rattle.model.specs.Broker.{Outstanding, is_ready}
 use Rattle.model.specs.Entries.{is_under, is_held_as, freed, held_as, change_first, without_first}
 use Rattle.model.specs.Settling.{is_refused, settled, takes}
-use Rattle.model.specs.Deliveries.{with_queue, first_ready, holder_of, given_in, without_given, with_returned, left_note, AreLeft, AreReturned, purge_notes}
+use Rattle.model.specs.Deliveries.{with_queue, holder_of, given_in, without_given, left_note, AreLeft, AreReturned, purge_notes}
 use Rattle.model.specs.Run.{has_number, is_left}
 use Rattle.model.specs.Message.{Message}
 use Rattle.model.specs.declared.messages.Holder.{Holder}
@@ -22,7 +22,7 @@ use Rattle.model.specs.declared.notes.Cause.{Cause}
 use Rattle.model.specs.declared.notes.Cause.TheVariants.{Purged}
 use Rattle.model.specs.declared.notes.Note.{Note}
 use Rattle.model.specs.declared.notes.Note.TheVariants.{Left}
-use Rattle.laws.proofs.Counts.{count-append, count-cons, count-map, count_none, all-append}
+use Rattle.laws.proofs.Counts.{count-append, count-cons, count-map, all-append}
 
 -- ---- notes of leavings
 

@@ -5,10 +5,16 @@ pub mod Agreement
 pub mod Agreed
 pub mod Speaking
 pub mod View
+pub mod Tags
+pub mod Named
+pub mod Made
 pub mod Carried
 pub mod Sizes
 pub mod Sent
 pub mod Balance
+pub mod Parts
+pub mod Ordered
+pub mod Giving
 pub mod Once
 pub mod Acks
 pub mod Never
@@ -18,6 +24,7 @@ pub mod Plays
 pub mod Linked
 pub mod Consistency
 pub mod Spoken
+pub mod Naming
 pub mod Openings
 pub mod Whole
 pub mod Rows

@@ -94,6 +94,7 @@ IsFlagAfter (event.Fault c code) was is = (was ≡ false) × (is ≡ false)
 IsFlagAfter (event.Lose c) was is = Unit {0}
 IsFlagAfter (event.Pause c) was is = is ≡ true
 IsFlagAfter (event.Resume c) was is = is ≡ false
+IsFlagAfter (event.Deliver c) was is = is ≡ was
 
 awake_after : (e : Event) (was is : Bool) → is_read e ≡ true → IsFlagAfter e was is → is ≡ false
 awake_after (event.Open c) was is read x = absurd (false≢true read)
@@ -101,6 +102,7 @@ awake_after (event.Running c max k) was is read x = x
 awake_after (event.Lose c) was is read x = absurd (false≢true read)
 awake_after (event.Pause c) was is read x = absurd (false≢true read)
 awake_after (event.Resume c) was is read x = x
+awake_after (event.Deliver c) was is read x = absurd (false≢true read)
 awake_after _ was is read x = x.1
 
 module _ (b : Broker) (sessions : ℕ → Session) (p : ℕ → Bool) (sends : List Send) (a : Agrees b sessions p) where
@@ -112,6 +114,7 @@ module _ (b : Broker) (sessions : ℕ → Session) (p : ℕ → Bool) (sends : L
   runs_after (event.TooLarge c h) runs free = runs_on (after_sends sends) (b.connection c) (sessions c) (a.running c ∙ runs refl)
   runs_after (event.Pause c) runs free = some_flag true (b.connection c) ∙ a.running c
   runs_after (event.Resume c) runs free = some_flag false (b.connection c) ∙ a.running c
+  runs_after (event.Deliver c) runs free = a.running c
   runs_after _ runs free = refl
 
   kept_flag : (c : ℕ) (v is : Bool) (conn : Connection) → (p c ≡ false) × (is ≡ false) → cond v (b.connection c) None ≡ Some conn → conn.is_paused ≡ is
@@ -126,6 +129,7 @@ module _ (b : Broker) (sessions : ℕ → Session) (p : ℕ → Bool) (sends : L
   flag_after (event.TooLarge c h) is x free conn e = kept_flag c (is_running (after_sends sends)) is conn x e
   flag_after (event.Pause c) is x free conn e = flagged true (b.connection c) conn e ∙ sym x
   flag_after (event.Resume c) is x free conn e = flagged false (b.connection c) conn e ∙ sym x
+  flag_after (event.Deliver c) is x free conn e = a.paused c conn e ∙ sym x
   flag_after _ is x free conn e = none_is_some _ conn e
 
 module _ (f : Config) (old new : State) (e : Event) (sends : List Send) (notes : List Note) (p q : ℕ → Bool) (a : Agrees old.broker old.session p)

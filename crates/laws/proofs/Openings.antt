@@ -8,7 +8,7 @@ use Rattle.model.specs.Opening.{new_session}
 use Rattle.model.specs.Phases.{Session, running_session, no_session}
 use Rattle.model.specs.State.{Config, State, Step}
 use Rattle.model.specs.Run.{Happening}
-use Rattle.model.specs.Arrivals.{World, Wire, new_world, new_wire, wire_after, is_ended, is_over, is_gone, can_open, event_of, Reads, again, fresh, fault, SameToCome, still, waits, kept, Turns, Waits, Works, none_more, one_more, WorksOff, Takes_off, Answers, Plays, with_heard}
+use Rattle.model.specs.Arrivals.{World, Wire, new_world, new_wire, wire_after, is_ended, is_over, is_gone, can_open, event_of, Reads, again, fresh, fault, SameToCome, still, waits, kept, Turns, Waits, Works, none_more, one_more, WorksOff, Takes_off, Delivers, Pumps, delivers, idles, Answers, Plays, with_heard}
 use Rattle.model.specs.declared.events.Command.{Command}
 use Rattle.model.specs.declared.events.Command.TheVariants.{Head, Plain, Full, TooLarge}
 use Rattle.model.specs.declared.events.Send.{Send}
@@ -166,6 +166,24 @@ takes_all c n old new hs t a d =
     by true e = subst (λ (x : ℕ). AreToCome (is_header (old.state.session d).phase) (old.wire x).kept (old.wire x).stream) (eqb-true d c e) (a d)
     by false e = a d
 
+-- a delivery changes neither what is still to come nor the phase
+delivers_all : (c : ℕ) (old new : World) (hs : List Happening) → Delivers old c hs new → All old → All new
+delivers_all c old new hs t a d = by (d == c) refl
+  where
+    session : (x : ℕ) → new.state.session x ≡ old.state.session x
+    session x = settled_sessions old.config t.puts.mid new.state c _ _ t.puts.rest t.puts.settled x ∙ t.puts.happens.stepped.session x
+
+    here : ReadsByPhase new c
+    here = subst (OfWire (is_header (new.state.session c).phase)) (sym t.wire) (subst (λ (b : Bool). AreToCome b (old.wire c).kept (old.wire c).stream) (sym (session_as (old.state.session c) (new.state.session c) (session c))) (a c))
+
+    by : (v : Bool) → (d == c) ≡ v → ReadsByPhase new d
+    by true e = subst (ReadsByPhase new) (sym (eqb-true d c e)) here
+    by false e = wire_as _ _ (old.wire d) (new.wire d) (session_as (old.state.session d) (new.state.session d) (session d)) (t.puts.others d (eqb-false d c e)) (a d)
+
+pumps_all : (old new : World) (hs : List Happening) → Pumps old hs new → All old → All new
+pumps_all old new hs (delivers {c = c} t) a = delivers_all c old new hs t a
+pumps_all old new hs (idles n s) a = same_all old new a s.1.state s.1.wires
+
 -- ---- arrivals
 
 works_all : (c : ℕ) (old new : World) (hs : List Happening) → Works c old hs new → All old → All new
@@ -182,6 +200,7 @@ answer_all old new (arrival.Ready k) hs p a =
     from_either (can_open old) (λ o. one_all old new (old.given + 1) (record running_session { channel_max = 255 }) (record new_wire { stream = running_stream }) a o.happens.stepped.session o.wires refl) (λ s. same_all old new a s.1.state s.1.wires) p
 answer_all old new (arrival.In c bytes) hs p a = from_either (is_over old c) (λ s. same_all old new a s.1.state s.1.wires) (λ w. works_off_all c (with_heard old c bytes) new hs w (heard_all old c bytes a)) p
 answer_all old new (arrival.Sent c n) hs p a = from_either (is_gone old c) (λ s. same_all old new a s.1.state s.1.wires) (λ t. works_off_all c t.mid new t.rest t.works (takes_all c n old t.mid t.first t.takes a)) p
+answer_all old new arrival.Pump hs p a = pumps_all old new hs p a
 answer_all old new (arrival.Lose c) hs p a = from_either (is_gone old c) (λ s. same_all old new a s.1.state s.1.wires) (λ o. one_all old new c no_session new_wire a o.happens.stepped.session o.wires refl) p
 
 play_all : (old new : World) (arrivals : List Arrival) (hs : List Happening) → Plays old arrivals hs new → All old → All new

@@ -5,7 +5,7 @@ use Rattle.model.specs.State.{Config, State, Step}
 use Rattle.model.specs.Run.{Happening, Run}
 use Rattle.model.specs.Spelling.{IsSpelled}
 use Rattle.model.specs.Commands.{Stream}
-use Rattle.model.specs.Arrivals.{World, Turns, Works, none_more, one_more, Waits, WorksOff, Answers, Same, with_heard, is_over, is_gone, can_open, Opens, Loses, Takes_off, TakesAndWorks, Puts, Settles, Happens, IsSaid, Plays}
+use Rattle.model.specs.Arrivals.{World, Turns, Works, none_more, one_more, Waits, WorksOff, Answers, Same, with_heard, is_over, is_gone, can_open, Opens, Loses, Pumps, delivers, idles, Takes_off, TakesAndWorks, Puts, Settles, Happens, IsSaid, Plays}
 use Rattle.model.specs.declared.events.Send.{Send}
 use Rattle.model.specs.declared.events.Event.{Event}
 use Rattle.model.specs.declared.events.Event.TheVariants as event
@@ -93,7 +93,7 @@ settled_is f mid new c true false hs (h, all, p) = settled_one f mid new (event.
 settled_is f mid new c true true hs p = settled_none f mid new hs p
 settled_is f mid new c false false hs p = settled_none f mid new hs p
 
-told_puts : (a b : World) (e : Event) (c : ℕ) (hs : List Happening) → IsSaid e → Puts a e c hs b → Told a hs b
+pub told_puts : (a b : World) (e : Event) (c : ℕ) (hs : List Happening) → IsSaid e → Puts a e c hs b → Told a hs b
 told_puts a b e c hs said p =
     let rest = settled_is a.config p.mid b.state c _ _ p.rest p.settled in
     let put : IsPut p.h = record {
@@ -148,11 +148,16 @@ told_opens a b e s hs said o = told_one a b e o.h hs said o.all o.happens o.sile
 pub told_loses : (a b : World) (c : ℕ) (hs : List Happening) → Loses a c hs b → Told a hs b
 told_loses a b c hs o = told_one a b (event.Lose c) o.h hs tt o.all o.happens o.silent o.config
 
+pub told_pumps : (a b : World) (hs : List Happening) → Pumps a hs b → Told a hs b
+told_pumps a b hs (delivers {c = c} d) = told_puts a b (event.Deliver c) c hs tt d.puts
+told_pumps a b hs (idles n p) = told_same a b hs p
+
 pub told_answers : (a b : World) (t : Arrival) (hs : List Happening) → Answers a t hs b → Told a hs b
 told_answers a b arrival.Open hs p = from_either (can_open a) (λ o. told_opens a b (event.Open _) _ hs tt o) (told_same a b hs) p
 told_answers a b (arrival.Ready k) hs p = from_either (can_open a) (λ o. told_opens a b (event.Running _ 255 k) _ hs tt o) (told_same a b hs) p
 told_answers a b (arrival.In c bytes) hs p = from_either (is_over a c) (told_same a b hs) (λ w. told_heard a b c bytes hs (told_works_off c (with_heard a c bytes) b hs w)) p
 told_answers a b (arrival.Sent c n) hs p = from_either (is_gone a c) (told_same a b hs) (λ w. told_taken_and_works c n a b hs w) p
+told_answers a b arrival.Pump hs p = told_pumps a b hs p
 told_answers a b (arrival.Lose c) hs p = from_either (is_gone a c) (told_same a b hs) (λ o. told_loses a b c hs o) p
 
 -- Whatever arrives, what happens is a run.

@@ -1,13 +1,16 @@
 -- The worked examples.
-use Rattle.std.proofs.Common.{◌≡◌, ℕ, List, [], ◌∷◌, ◌++◌, refl, sym, ap, ◌∙◌, arith, get_or, drop, lit≤, inl, inr, length}
-use Rattle.std.specs.Prelude.{codes}
+use Rattle.std.proofs.Common.{◌≡◌, ℕ, suc, ◌+◌, ◌-◌, Bool, true, false, List, [], ◌∷◌, ◌++◌, refl, sym, ap, ◌∙◌, arith, get_or, drop, lit≤, inl, inr, length}
+use Rattle.std.specs.Prelude.{codes, decimal, if◌then◌else◌}
 use Rattle.std.specs.List.{AllByRecursion}
 use Rattle.std.proofs.lemmas.Bool.{false≢true}
-use Rattle.model.specs.Words.{none, word}
+use Rattle.std.proofs.lemmas.Fmt.{decimal_digit}
+use Rattle.model.specs.Words.{Text, none, word}
 use Rattle.model.specs.Frames.{Frame, frame_bytes, IsFrame, Begins}
 use Rattle.model.specs.Guarantee.{CoversKey}
-use Rattle.model.specs.Spelling.{method_frame}
-use Rattle.model.specs.Broker.{Broker}
+use Rattle.model.specs.Spelling.{method_frame, spelling}
+use Rattle.model.specs.Step.{consume_sends}
+use Rattle.model.specs.Consuming.{is_in_use, server_tag, first_free}
+use Rattle.model.specs.Broker.{Consumer, Broker}
 use Rattle.model.specs.State.{State}
 use Rattle.model.specs.Run.{Stays}
 use Rattle.model.specs.Headline.{Ack, acks_in, HasAcksOf, IsReading, EnteredOnce, AreAllowed, ack_for}
@@ -16,7 +19,7 @@ use Rattle.model.specs.declared.notes.Note.TheVariants.{Entered, Left}
 use Rattle.model.specs.declared.notes.Way.TheVariants.{Dead}
 use Rattle.model.specs.declared.notes.Cause.TheVariants.{Acked}
 use Rattle.model.specs.declared.methods.Method.TheVariants.{ConfirmSelectOk, BasicAck}
-use Rattle.laws.specs.Rows.{WordsOfKeys, FirstInput, FirstOutput, BadEnd, TooLargeContent, HeadlineRefuses, select_ok, first_ack, multiple_ack, first_entry, with_entries, forbids, event_of_notes, vanishing, bad_end, wanted, first_acked, notes_without_entry}
+use Rattle.laws.specs.Rows.{WordsOfKeys, FirstConsumer, RefusedConsumes, FirstInput, FirstOutput, BadEnd, TooLargeContent, HeadlineRefuses, select_ok, first_ack, multiple_ack, first_entry, with_entries, forbids, event_of_notes, vanishing, bad_end, wanted, first_acked, notes_without_entry, consumer_under, consuming_under}
 use Rattle.laws.proofs.Reading.{reading_apart, size_at, size_is, rest_is}
 
 pub words_of_keys : WordsOfKeys
@@ -119,3 +122,56 @@ headline_refuses = record {
   forbidden_entry = forbidden;
   left_by_no_cause = λ has. has.0;
 }
+
+-- ---- consumers
+
+one_digit : decimal 1 ≡ 49 ∷ []
+one_digit = decimal_digit 1 (lit≤ tt)
+
+two_digit : decimal 2 ≡ 50 ∷ []
+two_digit = decimal_digit 2 (lit≤ tt)
+
+answer_bytes : (digits : Text) → digits ≡ 49 ∷ [] → spelling 131072 (consume_sends 1 1 false (codes "amq.ctag-" ++ digits))
+    ≡ 1 ∷ 0 ∷ 1 ∷ 0 ∷ 0 ∷ 0 ∷ 15 ∷ 0 ∷ 60 ∷ 0 ∷ 21 ∷ 10 ∷ 97 ∷ 109 ∷ 113 ∷ 46 ∷ 99 ∷ 116 ∷ 97 ∷ 103 ∷ 45 ∷ 49 ∷ 206 ∷ []
+answer_bytes digits e = ap (λ (z : Text). spelling 131072 (consume_sends 1 1 false (codes "amq.ctag-" ++ z))) e
+
+-- a number whose tag is free is the next one, and one whose tag is in use is passed over
+found_free : (more : ℕ) (consumers : List Consumer) (n : ℕ) → is_in_use (server_tag n) consumers ≡ false → first_free (suc more) consumers n ≡ n
+unfolding first_free
+found_free more consumers n e = ap (λ (b : Bool). if b then first_free more consumers (n + 1) else n) e
+
+passed_over : (more : ℕ) (consumers : List Consumer) (n : ℕ) → is_in_use (server_tag n) consumers ≡ true → first_free (suc more) consumers n ≡ first_free more consumers (n + 1)
+unfolding first_free
+passed_over more consumers n e = ap (λ (b : Bool). if b then first_free more consumers (n + 1) else n) e
+
+-- the second tag is not the first
+second_is_free : is_in_use (server_tag 2) (consuming_under []).consumers ≡ false
+second_is_free =
+    ap (λ (n : ℕ). is_in_use (server_tag 2) (record (consumer_under []) { tag = server_tag n } ∷ [])) (found_free 18446744073709551613 [] 1 refl)
+    ∙ ap (λ (z : Text). is_in_use (server_tag 2) (record (consumer_under []) { tag = codes "amq.ctag-" ++ z } ∷ [])) one_digit
+    ∙ ap (λ (z : Text). is_in_use (codes "amq.ctag-" ++ z) (record (consumer_under []) { tag = codes "amq.ctag-1" } ∷ [])) two_digit
+
+-- the first is in use where a client took it, and the second is free
+first_is_taken : is_in_use (server_tag 1) (consuming_under (codes "amq.ctag-1")).consumers ≡ true
+first_is_taken = ap (λ (z : Text). is_in_use (codes "amq.ctag-" ++ z) (consuming_under (codes "amq.ctag-1")).consumers) one_digit
+
+second_is_left : is_in_use (server_tag 2) (consuming_under (codes "amq.ctag-1")).consumers ≡ false
+second_is_left = ap (λ (z : Text). is_in_use (codes "amq.ctag-" ++ z) (consuming_under (codes "amq.ctag-1")).consumers) two_digit
+
+second_tag : (n : ℕ) → n ≡ 2 → server_tag n ≡ codes "amq.ctag-2"
+second_tag n e = ap server_tag e ∙ ap (λ (z : Text). codes "amq.ctag-" ++ z) two_digit
+
+pub first_consumes : FirstConsumer
+first_consumes = record {
+  answer = ap (λ (n : ℕ). spelling 131072 (consume_sends 1 1 false (server_tag n))) (found_free 18446744073709551613 [] 1 refl) ∙ answer_bytes (decimal 1) one_digit;
+  next = second_tag _ (ap (λ (n : ℕ). first_free (18446744073709551615 - (n + 1)) (consuming_under []).consumers (n + 1)) (found_free 18446744073709551613 [] 1 refl) ∙ found_free 18446744073709551612 (consuming_under []).consumers 2 second_is_free);
+  past = second_tag _ (passed_over 18446744073709551613 (consuming_under (codes "amq.ctag-1")).consumers 1 first_is_taken ∙ found_free 18446744073709551612 (consuming_under (codes "amq.ctag-1")).consumers 2 second_is_left);
+  may = refl;
+  full = refl;
+  got = refl;
+  another = refl;
+  oldest = refl;
+}
+
+pub refused_consumes : RefusedConsumes
+refused_consumes = record { no_queue = refl; exclusive = refl; in_use = refl; too_many = refl; spent = refl; none = refl }

@@ -1,5 +1,5 @@
 -- What the broker sends at one event can be put out, and is not too much.
-use Rattle.std.proofs.Common.{◌≡◌, ◌+◌, ◌≤◌, ℕ, List, [], ◌∷◌, ◌++◌, length, Bool, true, false, Option, Some, None, sym, ap, subst, arith, length-append, inl, inr}
+use Rattle.std.proofs.Common.{◌≡◌, ◌≤◌, ℕ, List, [], ◌∷◌, ◌++◌, length, Bool, true, false, Option, Some, None, sym, ap, subst, arith, length-append, inl, inr}
 use Rattle.std.specs.List.{AllByRecursion}
 use Rattle.std.proofs.lemmas.Bool.{false≢true}
 use Rattle.std.proofs.lemmas.Grind.{common_steps}
@@ -11,7 +11,7 @@ use Rattle.model.specs.Step.{returned_sends, confirm_sends, confirm_method}
 use Rattle.model.specs.declared.contents.Content.{Content}
 use Rattle.model.specs.declared.methods.Publish.{Publish}
 use Rattle.model.specs.declared.methods.Method.{Method}
-use Rattle.model.specs.declared.methods.Method.TheVariants.{ConnectionTune, ConnectionOpenOk, ConnectionClose, ConnectionCloseOk, ChannelOpenOk, ChannelFlowOk, ChannelClose, ChannelCloseOk, ExchangeDeclareOk, QueueDeclareOk, QueuePurgeOk, BasicQosOk, BasicReturn, BasicGetOk, BasicGetEmpty, BasicRecoverOk, ConfirmSelectOk}
+use Rattle.model.specs.declared.methods.Method.TheVariants.{ConnectionTune, ConnectionOpenOk, ConnectionClose, ConnectionCloseOk, ChannelOpenOk, ChannelFlowOk, ChannelClose, ChannelCloseOk, ExchangeDeclareOk, QueueDeclareOk, QueuePurgeOk, BasicQosOk, BasicReturn, BasicGetOk, BasicGetEmpty, BasicRecoverOk, ConfirmSelectOk, BasicConsumeOk, BasicCancelOk, BasicDeliver}
 use Rattle.model.specs.declared.notes.Answer.{Answer}
 use Rattle.model.specs.declared.notes.Answer.TheVariants as answer
 use Rattle.model.specs.declared.events.Send.{Send}
@@ -36,6 +36,9 @@ short_reply ExchangeDeclareOk e is = omega arith
 short_reply (QueueDeclareOk m) e is = grind (arith, common_steps, is)
 short_reply (QueuePurgeOk count) e is = grind (arith, common_steps, is)
 short_reply BasicQosOk e is = omega arith
+short_reply (BasicConsumeOk tag) e is = grind (arith, common_steps, is)
+short_reply (BasicCancelOk tag) e is = grind (arith, common_steps, is)
+short_reply (BasicDeliver m) e is = grind (arith, common_steps, is)
 short_reply (BasicGetOk m) e is = grind (arith, common_steps, is)
 short_reply (BasicGetEmpty reserved) e is = grind (arith, common_steps, is)
 short_reply BasicRecoverOk e is = omega arith

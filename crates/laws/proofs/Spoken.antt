@@ -1,6 +1,6 @@
 -- Whatever arrives, what a connection was sent so far is as its phase says: commands, or the protocol header alone.
 use Rattle.std.proofs.Common.{◌≡◌, ◌≢◌, ◌<◌, ◌+◌, ℕ, List, [], ◌∷◌, ◌++◌, Bool, true, false, cond, refl, sym, ap, subst, ◌∙◌, ◌⊎◌, inl, inr, append-nil, append_assoc, arith, Option}
-use Rattle.std.specs.Prelude.{◌==◌, ◌&&◌, filter, not}
+use Rattle.std.specs.Prelude.{◌==◌, ◌&&◌, filter, not, is_some}
 use Rattle.std.specs.List.{AllByRecursion}
 use Rattle.std.proofs.lemmas.Grind.{flat_map-append}
 use Rattle.std.proofs.lemmas.List.Elements.{filter-append}
@@ -8,11 +8,12 @@ use Rattle.std.proofs.lemmas.Bool.{eq-eqb, eqb-true, eqb-false, ne_eqb, false≢
 use Rattle.model.specs.Broker.{with_one}
 use Rattle.model.specs.Commands.{Stream}
 use Rattle.model.specs.Opening.{new_session}
-use Rattle.model.specs.Phases.{Session, running_session, no_session, after_method, after_sends, to_phase}
+use Rattle.model.specs.Consistent.{IsConsistent}
+use Rattle.model.specs.Phases.{Session, running_session, no_session, is_running, after_method, after_sends, to_phase}
 use Rattle.model.specs.State.{Config, State, Step}
 use Rattle.model.specs.Run.{Happening, sends_of}
 use Rattle.model.specs.Spelling.{receiver, sends_to}
-use Rattle.model.specs.Arrivals.{World, new_world, is_ended, is_over, is_paused, is_gone, can_open, event_of, Reads, again, fresh, fault, Settles, Puts, Turns, Waits, Works, none_more, one_more, WorksOff, Same, Takes_off, Opens, Loses, Answers, Plays, with_heard}
+use Rattle.model.specs.Arrivals.{World, new_world, is_ended, is_over, is_paused, is_gone, can_open, event_of, Reads, again, fresh, fault, Settles, Puts, Turns, Waits, Works, none_more, one_more, WorksOff, Same, Takes_off, Opens, Loses, Answers, Plays, with_heard, Delivers, Pumps, delivers, idles}
 use Rattle.model.specs.declared.methods.Method.{Method}
 use Rattle.model.specs.declared.methods.Method.TheVariants.{ConnectionClose, ConnectionCloseOk}
 use Rattle.model.specs.declared.events.Command.{Command}
@@ -31,6 +32,7 @@ use Rattle.laws.specs.Openings.{is_header}
 use Rattle.laws.proofs.Speaking.{IsCommandSend, AreCommandSends, Spoken, spoken_commands, spoken_over, spoken_on}
 use Rattle.laws.proofs.View.{connection_of, session_after, is_read, goes, acted, acted_commands, Performed, Answered}
 use Rattle.laws.proofs.Linked.{with_here}
+use Rattle.laws.proofs.Consistency.{new_is_consistent, answers_consistent}
 
 -- ---- what is sent to one connection
 
@@ -78,6 +80,7 @@ read_no_header s (event.Running c max k) sends read = absurd (false≢true read)
 read_no_header s (event.Lose c) sends read = absurd (false≢true read)
 read_no_header s (event.Pause c) sends read = absurd (false≢true read)
 read_no_header s (event.Resume c) sends read = absurd (false≢true read)
+read_no_header s (event.Deliver c) sends read = absurd (false≢true read)
 
 module _ (f : Config) (old new : State) (e : Event) (sends : List Send) (notes : List Note) where
   -- what is sent to the connection of an event goes on as its phase says
@@ -100,6 +103,22 @@ module _ (f : Config) (old new : State) (e : Event) (sends : List Send) (notes :
 
   step_spoken : is_read e ≡ true → Step f old e sends notes new → GoesOn (connection_of e)
   step_spoken read s = elim (goes f old new sends notes e s) [ inl p ↦ performed_spoken read p | inr a ↦ answered_spoken a ]
+
+-- a connection that runs is not over, and awaits no first eight bytes
+running_stands : (p : Phase) → is_running p ≡ true → is_ended p ≡ false
+running_stands phase.Running r = refl
+running_stands _ r = absurd (false≢true r)
+
+running_no_header : (p : Phase) → is_running p ≡ true → is_header p ≡ false
+running_no_header phase.Running r = refl
+running_no_header _ r = absurd (false≢true r)
+
+-- what is delivered is sent to a connection that runs, and it runs on
+delivered_spoken : (f : Config) (old new : State) (c : ℕ) (sends : List Send) (notes : List Note) → is_running (old.session c).phase ≡ true → Step f old (event.Deliver c) sends notes new → GoesOn f old new (event.Deliver c) sends notes c
+delivered_spoken f old new c sends notes runs s stands sent was =
+    let commands : AreCommandSends sends = acted_commands f.topology old.broker new.broker (event.Deliver c) sends notes (acted f.topology old.broker new.broker sends notes (event.Deliver c) s.acts) in
+    spoken_on c (new.session c).phase (sent ++ sends) (ap (λ (z : Session). is_header z.phase) (s.session c) ∙ running_no_header (old.session c).phase runs)
+    (all-append IsCommandSend sent sends (spoken_commands c (old.session c).phase sent stands was) commands)
 
 command_is_read : (c : ℕ) (m : Command) → (connection_of (event_of c m) ≡ c) × (is_read (event_of c m) ≡ true)
 command_is_read c (Head bytes) = (refl, refl)
@@ -167,41 +186,49 @@ puts_sends : (a b : World) (e : Event) (c : ℕ) (hs : List Happening) (p : Puts
 puts_sends a b e c hs p =
     ap sends_of p.all ∙ ap (λ (z : List Send). p.h.sends ++ z) (settled_silent a.config p.mid b.state c _ _ p.rest p.settled) ∙ append-nil p.h.sends
 
-turn_speaks : (c : ℕ) (old new : World) (hs : List Happening) → Turns old c hs new → Speaks old hs new
-turn_speaks c old new hs t d sent s = by (d == c) refl
+-- an event of c whose sends are put out, of which it is known how they go on
+put_speaks : (c : ℕ) (old new : World) (e : Event) (hs : List Happening) (p : Puts old e c hs new) → new.given ≡ old.given → is_ended (old.state.session c).phase ≡ false
+    → GoesOn old.config old.state p.mid e p.h.sends p.h.notes c → Speaks old hs new
+put_speaks c old new e hs p given stands goes_on d sent s = by (d == c) refl
   where
-    p : Puts old t.event c hs new
-    p = t.puts
-
-    stands : is_ended (old.state.session c).phase ≡ false
-    stands = awake_stands (is_over old c) (is_paused old c) t.awake
-
-    of_it : connection_of t.event ≡ c
-    of_it = (read_is c _ _ _ t.event t.read).0
-
     own : sent_to c hs ≡ p.h.sends
-    own = ap (sends_to c) (puts_sends old new t.event c hs p) ∙ own_sends c p.h.sends p.own
+    own = ap (sends_to c) (puts_sends old new e c hs p) ∙ own_sends c p.h.sends p.own
 
     after : new.state.session c ≡ p.mid.session c
     after = settled_sessions old.config p.mid new.state c _ _ p.rest p.settled c
 
-    -- what the turn sends to its own connection
-    spoken : (sent : List Send) → Spoken c (old.state.session c).phase sent → Spoken c (p.mid.session c).phase (sent ++ p.h.sends)
-    spoken = subst (λ (x : ℕ). GoesOn old.config old.state p.mid t.event p.h.sends p.h.notes x) of_it (step_spoken old.config old.state p.mid t.event p.h.sends p.h.notes (read_is c _ _ _ t.event t.read).1 p.happens.stepped) stands
-
     here : Stands old.given c (old.state.session c).phase sent → Stands new.given c (new.state.session c).phase (sent ++ sent_to c hs)
     here s = record {
-      spoken = subst (λ (z : List Send). Spoken c (new.state.session c).phase (sent ++ z)) (sym own) (subst (λ (z : Session). Spoken c z.phase (sent ++ p.h.sends)) (sym after) (spoken sent s.spoken));
-      unopened = λ lt. absurd (false≢true (sym stands ∙ ap is_ended (s.unopened (subst (λ (n : ℕ). n < c) t.given lt)).0));
+      spoken = subst (λ (z : List Send). Spoken c (new.state.session c).phase (sent ++ z)) (sym own) (subst (λ (z : Session). Spoken c z.phase (sent ++ p.h.sends)) (sym after) (goes_on stands sent s.spoken));
+      unopened = λ lt. absurd (false≢true (sym stands ∙ ap is_ended (s.unopened (subst (λ (n : ℕ). n < c) given lt)).0));
     }
 
     by : (v : Bool) → (d == c) ≡ v → Stands new.given d (new.state.session d).phase (sent ++ sent_to d hs)
-    by true e =
-        let is : d ≡ c = eqb-true d c e in
+    by true x =
+        let is : d ≡ c = eqb-true d c x in
         subst (λ (x : ℕ). Stands old.given x (old.state.session x).phase sent → Stands new.given x (new.state.session x).phase (sent ++ sent_to x hs)) (sym is) here s
-    by false e =
-        let ne : d ≢ c = eqb-false d c e in
-        speaks_nothing old new hs d sent t.given (p.rests d ne) (ap (sends_to d) (puts_sends old new t.event c hs p) ∙ other_sends c d p.h.sends ne p.own) s
+    by false x =
+        let ne : d ≢ c = eqb-false d c x in
+        speaks_nothing old new hs d sent given (p.rests d ne) (ap (sends_to d) (puts_sends old new e c hs p) ∙ other_sends c d p.h.sends ne p.own) s
+
+turn_speaks : (c : ℕ) (old new : World) (hs : List Happening) → Turns old c hs new → Speaks old hs new
+turn_speaks c old new hs t =
+    let p = t.puts in
+    let read = read_is c _ _ _ t.event t.read in
+    put_speaks c old new t.event hs p t.given (awake_stands (is_over old c) (is_paused old c) t.awake)
+    (subst (λ (x : ℕ). GoesOn old.config old.state p.mid t.event p.h.sends p.h.notes x) read.0 (step_spoken old.config old.state p.mid t.event p.h.sends p.h.notes read.1 p.happens.stepped))
+
+-- ---- deliveries
+
+delivers_speaks : (c : ℕ) (old new : World) (hs : List Happening) → IsConsistent old → Delivers old c hs new → Speaks old hs new
+delivers_speaks c old new hs k d =
+    let p = d.puts in
+    let runs : is_running (old.state.session c).phase ≡ true = sym (k.running c) ∙ ap is_some p.happens.stepped.acts.made.taker.runs in
+    put_speaks c old new (event.Deliver c) hs p d.given (running_stands (old.state.session c).phase runs) (delivered_spoken old.config old.state p.mid c p.h.sends p.h.notes runs p.happens.stepped)
+
+pumps_speaks : (old new : World) (hs : List Happening) → IsConsistent old → Pumps old hs new → Speaks old hs new
+pumps_speaks old new hs k (delivers {c = c} d) = delivers_speaks c old new hs k d
+pumps_speaks old new hs k (idles n p) = speaks_same old new hs p
 
 -- ---- openings and losses
 
@@ -264,22 +291,23 @@ waits_speaks c old mid new hs s v d sent was =
 works_off_speaks : (c : ℕ) (old new : World) (hs : List Happening) → WorksOff old c hs new → Speaks old hs new
 works_off_speaks c old new hs w = waits_speaks c old w.mid new hs (works_speaks c old w.mid hs w.works) w.waits
 
-pub answer_speaks : (old new : World) (a : Arrival) (hs : List Happening) → Answers old a hs new → Speaks old hs new
-answer_speaks old new arrival.Open hs p = from_either (can_open old) (λ o. opens_speaks old new _ _ new_session hs o o.happens.stepped.steps.session refl) (speaks_same old new hs) p
-answer_speaks old new (arrival.Ready k) hs p = from_either (can_open old) (λ o. opens_speaks old new _ _ (record running_session { channel_max = 255 }) hs o o.happens.stepped.session tt) (speaks_same old new hs) p
-answer_speaks old new (arrival.In c bytes) hs p = from_either (is_over old c) (speaks_same old new hs) (λ w. works_off_speaks c (with_heard old c bytes) new hs w) p
-answer_speaks old new (arrival.Sent c n) hs p =
+pub answer_speaks : (old new : World) (a : Arrival) (hs : List Happening) → IsConsistent old → Answers old a hs new → Speaks old hs new
+answer_speaks old new arrival.Open hs k p = from_either (can_open old) (λ o. opens_speaks old new _ _ new_session hs o o.happens.stepped.steps.session refl) (speaks_same old new hs) p
+answer_speaks old new (arrival.Ready n) hs k p = from_either (can_open old) (λ o. opens_speaks old new _ _ (record running_session { channel_max = 255 }) hs o o.happens.stepped.session tt) (speaks_same old new hs) p
+answer_speaks old new (arrival.In c bytes) hs k p = from_either (is_over old c) (speaks_same old new hs) (λ w. works_off_speaks c (with_heard old c bytes) new hs w) p
+answer_speaks old new (arrival.Sent c n) hs k p =
     from_either (is_gone old c) (speaks_same old new hs) (λ t. speaks_at old new hs (t.first ++ t.rest) t.all (speaks_append old t.mid new t.first t.rest (takes_speaks c n old t.mid t.first t.takes) (works_off_speaks c t.mid new t.rest t.works))) p
-answer_speaks old new (arrival.Lose c) hs p = from_either (is_gone old c) (speaks_same old new hs) (λ o. loses_speaks old new c hs o) p
+answer_speaks old new arrival.Pump hs k p = pumps_speaks old new hs k p
+answer_speaks old new (arrival.Lose c) hs k p = from_either (is_gone old c) (speaks_same old new hs) (λ o. loses_speaks old new c hs o) p
 
-play_speaks : (old new : World) (arrivals : List Arrival) (hs : List Happening) → Plays old arrivals hs new → Speaks old hs new
-play_speaks old new [] hs p = speaks_same old new hs p
-play_speaks old new (a ∷ arrivals) hs (mid, first, rest, e, brings, p) =
-    speaks_at old new hs (first ++ rest) e (speaks_append old mid new first rest (answer_speaks old mid a first brings) (play_speaks mid new arrivals rest p))
+play_speaks : (old new : World) (arrivals : List Arrival) (hs : List Happening) → IsConsistent old → Plays old arrivals hs new → Speaks old hs new
+play_speaks old new [] hs k p = speaks_same old new hs p
+play_speaks old new (a ∷ arrivals) hs k (mid, first, rest, e, brings, p) =
+    speaks_at old new hs (first ++ rest) e (speaks_append old mid new first rest (answer_speaks old mid a first k brings) (play_speaks mid new arrivals rest (answers_consistent old mid a first k brings) p))
 
 -- From the start on a connection was sent commands, or the protocol header alone.
 pub spoken_from_start : (f : Config) (hs : List Happening) (w : World) → Speaks (new_world f) hs w → (c : ℕ) → AreCommandSends (sent_to c hs) ⊎ (sent_to c hs ≡ send.Greeting c ∷ [])
 spoken_from_start f hs w speaks c = spoken_over c (w.state.session c).phase (sent_to c hs) (speaks c [] (record { spoken = inl tt; unopened = λ lt. (refl, refl) })).spoken
 
 pub is_spoken : (f : Config) (arrivals : List Arrival) (hs : List Happening) (w : World) → Plays (new_world f) arrivals hs w → (c : ℕ) → AreCommandSends (sent_to c hs) ⊎ (sent_to c hs ≡ send.Greeting c ∷ [])
-is_spoken f arrivals hs w p c = spoken_from_start f hs w (play_speaks (new_world f) w arrivals hs p) c
+is_spoken f arrivals hs w p c = spoken_from_start f hs w (play_speaks (new_world f) w arrivals hs (new_is_consistent f) p) c

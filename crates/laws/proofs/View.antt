@@ -1,5 +1,5 @@
 -- The ways in which a step can go. Here alone all cases of `Step` are walked over: a new command is a new line here.
-use Rattle.std.proofs.Common.{◌≡◌, ℕ, ◌+◌, append-nil, filter, arith, ◌⊎◌, List, [], ◌∷◌, ◌++◌, Bool, true, false, cond, eqb, refl, sym, ap, subst, ◌∙◌, map, Option, Some, None, inl, inr}
+use Rattle.std.proofs.Common.{◌≡◌, ℕ, ◌+◌, append-nil, filter, arith, ◌⊎◌, List, [], ◌∷◌, ◌++◌, Bool, true, false, cond, refl, sym, ap, subst, ◌∙◌, map, Option, Some, None, inl, inr}
 use Rattle.std.specs.Prelude.{codes, count_by, ◌==◌, if◌then◌else◌}
 use Rattle.std.specs.Str.{bytes_eq}
 use Rattle.std.specs.List.{AllByRecursion}
@@ -7,21 +7,19 @@ use Rattle.std.proofs.lemmas.Bool.{eqb-true, false≢true}
 use Rattle.model.specs.Words.{Text}
 use Rattle.model.specs.Topology.{Topology, IsIn}
 use Rattle.model.specs.Broker.{Outstanding, Channel, Connection, Broker, is_ready, with_one}
-use Rattle.model.specs.Step.{Refusal, Ignored, Of_channel, Of_connection, Does, Makes, Gets, Settles, tag_of, get_ok, purge_sends, declare_sends, IsPublish, Performs, Refuses, Decides, OnConnection, OnLarge, Acts, empty_publish, refusal_of_large, with_channel, with_freed, reply, content_or_none, returned_sends, confirm_sends, is_some_full, next_of, answer_of, refusal, channel_or_new, opened, paused}
+use Rattle.model.specs.Step.{Refusal, Ignored, Of_channel, Of_connection, Does, Makes, Gets, Settles, tag_of, get_ok, purge_sends, declare_sends, IsPublish, Performs, Refuses, Decides, OnConnection, OnLarge, Acts, empty_publish, refusal_of_large, with_channel, with_freed, reply, content_or_none, returned_sends, confirm_sends, is_some_full, next_of, answer_of, refusal, channel_or_new, opened, paused, consume_sends, cancel_sends, deliver}
 use Rattle.model.specs.Entries.{freed, by_channel, by_connection, is_held_as}
 use Rattle.model.specs.Grammar.{Ids, ids_of}
-use Rattle.model.specs.Phases.{Session, Move, running_session, no_session, is_running, after_method, after_sends, stays_in, to_phase, while_closing, faulted}
+use Rattle.model.specs.Phases.{Session, Move, running_session, no_session, is_running, after_sends, stays_in, to_phase, while_closing, faulted}
 use Rattle.model.specs.Opening.{IsAnswered, Opens, new_session, first_move, start, opening_move, on_zero, or_closed, at_start, at_tune, at_open, answers_with, closes_with, is_taken, tuned, tune, open_ok}
-use Rattle.model.specs.State.{Config, State, Moves, AnswersBy, OfFirst, OfCommand, OfLarge, OfFault, Step}
+use Rattle.model.specs.State.{Config, State, Moves, OfFirst, OfCommand, OfLarge, OfFault, Step}
 use Rattle.model.specs.declared.messages.User.{User}
 use Rattle.model.specs.Run.{Happening, has_number, is_left}
 use Rattle.model.specs.Headline.{WasGiven, IsCauseIn, IsCauseAt}
 use Rattle.model.specs.Settling.{takes}
 use Rattle.model.specs.Deliveries.{Settlement, Leaves, Returns, of_rejected, AreSettled, first_ready, ready_in, holder_of, after_delivery, delivery_notes, after_purge, purge_notes}
-use Rattle.model.specs.Message.{Message}
+use Rattle.model.specs.Consuming.{CanDeliver}
 use Rattle.model.specs.declared.messages.Holder.{Holder}
-use Rattle.model.specs.declared.messages.Mark.{Mark}
-use Rattle.model.specs.declared.messages.Mark.TheVariants.{Ready, Held}
 use Rattle.model.specs.declared.messages.Entry.{Entry}
 use Rattle.model.specs.declared.contents.Content.{Content}
 use Rattle.model.specs.declared.events.Send.{Send}
@@ -29,13 +27,13 @@ use Rattle.model.specs.declared.events.Send.TheVariants as send
 use Rattle.model.specs.declared.events.Phase.{Phase}
 use Rattle.model.specs.declared.events.Phase.TheVariants as phase
 use Rattle.model.specs.declared.events.Event.{Event}
-use Rattle.model.specs.declared.events.Event.TheVariants.{Open, First, Running, Command, TooLarge, Fault, Lose, Pause, Resume}
+use Rattle.model.specs.declared.events.Event.TheVariants.{Open, First, Running, Command, TooLarge, Fault, Lose, Pause, Resume, Deliver}
 use Rattle.model.specs.declared.methods.Publish.{Publish}
 use Rattle.model.specs.declared.methods.Method.{Method}
 use Rattle.model.specs.declared.methods.Get.{Get}
 use Rattle.model.specs.declared.methods.Ack.{Ack}
 use Rattle.model.specs.declared.methods.Purge.{Purge}
-use Rattle.model.specs.declared.methods.Method.TheVariants.{ConnectionStart, ConnectionStartOk, ConnectionTune, ConnectionTuneOk, ConnectionOpen, ConnectionOpenOk, ConnectionClose, ConnectionCloseOk, ChannelOpen, ChannelOpenOk, ChannelFlow, ChannelFlowOk, ChannelClose, ChannelCloseOk, ExchangeDeclare, ExchangeDeclareOk, QueueDeclare, QueueDeclareOk, QueuePurge, QueuePurgeOk, BasicQos, BasicQosOk, BasicPublish, BasicGet, BasicGetOk, BasicGetEmpty, BasicAck, BasicReject, BasicNack, BasicRecover, BasicRecoverOk, ConfirmSelect, ConfirmSelectOk}
+use Rattle.model.specs.declared.methods.Method.TheVariants.{ConnectionStart, ConnectionStartOk, ConnectionTune, ConnectionTuneOk, ConnectionOpen, ConnectionOpenOk, ConnectionClose, ConnectionCloseOk, ChannelOpen, ChannelOpenOk, ChannelFlow, ChannelFlowOk, ChannelClose, ChannelCloseOk, ExchangeDeclare, ExchangeDeclareOk, QueueDeclare, QueueDeclareOk, QueuePurge, QueuePurgeOk, BasicQos, BasicQosOk, BasicPublish, BasicGet, BasicGetOk, BasicGetEmpty, BasicAck, BasicReject, BasicNack, BasicRecover, BasicRecoverOk, ConfirmSelect, ConfirmSelectOk, BasicConsume, BasicConsumeOk, BasicCancel, BasicCancelOk, BasicDeliver}
 use Rattle.model.specs.declared.messages.Taker.TheVariants as taker
 use Rattle.model.specs.declared.notes.Cause.{Cause}
 use Rattle.model.specs.declared.notes.Cause.TheVariants.{Acked, Auto, Rejected}
@@ -52,7 +50,7 @@ use Rattle.laws.proofs.Leaving.{is_leaving, OfLeft, at_queue, count_change, free
 
 -- ---- what is sent
 
--- a close, or an answer to a method other than a publish
+-- a close, an answer to a method other than a publish, or a delivery
 abbrev pub is_reply : Method → Bool
 is_reply (ConnectionTune m) = true
 is_reply (ConnectionOpenOk reserved) = true
@@ -69,6 +67,9 @@ is_reply (QueueDeclareOk m) = true
 is_reply (QueuePurgeOk count) = true
 is_reply (BasicGetEmpty reserved) = true
 is_reply (BasicGetOk m) = true
+is_reply (BasicConsumeOk tag) = true
+is_reply (BasicCancelOk tag) = true
+is_reply (BasicDeliver m) = true
 is_reply BasicRecoverOk = true
 is_reply m = false
 
@@ -166,6 +167,7 @@ connection_of (Fault c code) = c
 connection_of (Lose c) = c
 connection_of (Pause c) = c
 connection_of (Resume c) = c
+connection_of (Deliver c) = c
 
 -- after these sends it is there if it runs on
 abbrev pub kept_after : Broker → ℕ → List Send → Option Connection
@@ -182,6 +184,7 @@ connection_after old (Fault c code) sends = None
 connection_after old (Lose c) sends = None
 connection_after old (Pause c) sends = paused true (old.connection c)
 connection_after old (Resume c) sends = paused false (old.connection c)
+connection_after old (Deliver c) sends = old.connection c
 
 abbrev IsAlone : Broker → ℕ → Option Connection → Broker → Type 0
 IsAlone old c o new = (d : ℕ) → new.connection d ≡ with_one old.connection c o d
@@ -280,6 +283,27 @@ module _ (t : Topology) (old new : Broker) (sends : List Send) (notes : List Not
   gets : (c h : ℕ) (ch : Channel) (m : Get) (content : Option Content) (o : Option Entry) → first_ready (old.queue m.queue) ≡ o → Gets old c h ch m o sends notes new → Quiet old new (Command c h (BasicGet m) content) c (kept_after old c) sends notes
   gets c h ch m content None is p = noting old new _ _ c (kept_after old c) sends _ notes [] p (refl, refl) (stay old c) refl tt (λ n q. none_left n q _ _ refl) tt
   gets c h ch m content (Some e) is p = given c h ch m content e m.no_ack refl is p
+
+  -- ---- consumers
+
+  consumes : (e : Event) (c h : ℕ) (no_wait : Bool) (tag : Text) (ch : Channel) → Does sends notes new (consume_sends c h no_wait tag) (with_channel old c h (Some ch)) → Quiet old new e c (kept_after old c) sends notes
+  consumes e c h true tag ch p = still e c _ _ p tt (record { same = refl; kept = λ n q. refl }) (stay old c)
+  consumes e c h false tag ch p = still e c _ _ p (refl, refl) (record { same = refl; kept = λ n q. refl }) (stay old c)
+
+  cancels : (e : Event) (c h : ℕ) (no_wait : Bool) (tag : Text) (ch : Channel) → Does sends notes new (cancel_sends c h no_wait tag) (with_channel old c h (Some ch)) → Quiet old new e c (kept_after old c) sends notes
+  cancels e c h true tag ch p = still e c _ _ p tt (record { same = refl; kept = λ n q. refl }) (stay old c)
+  cancels e c h false tag ch p = still e c _ _ p (refl, refl) (record { same = refl; kept = λ n q. refl }) (stay old c)
+
+  -- a delivery takes its message out, or it is held
+  delivers : (c : ℕ) (o : CanDeliver old c) (no_ack : Bool) → o.consumer.no_ack ≡ no_ack
+      → Makes sends notes new (deliver c o.number o.channel.next_tag o.consumer.tag o.entry ∷ []) (delivery_notes no_ack o.entry.message.number o.consumer.queue) (after_delivery old c o.number o.channel no_ack o.consumer.queue (taker.Consumer o.consumer.number))
+      → Quiet old new (Deliver c) c (λ s. old.connection c) sends notes
+  delivers c o true is p =
+      noting old new _ _ c (λ s. old.connection c) sends _ notes _ p (refl, refl) (stay old c) refl (refl, tt) (taken_balances is_ready old.queue o.consumer.queue Auto o.entry o.first)
+      (record { made = o; no_ack = is; queue = refl; number = refl }, tt)
+  delivers c o false is p =
+      noting old new _ _ c (λ s. old.connection c) sends _ notes _ p (refl, refl) (stay old c) refl tt
+      (λ n q. none_left n q _ _ (sym (at_queue (λ (r : Text) (es : List Entry). count_by (has_number n) es ≡ count_by (has_number n) (old.queue r)) old.queue o.consumer.queue _ (count_change (has_number n) is_ready _ (λ x. refl) (old.queue o.consumer.queue)) (λ r other. refl) q))) tt
 
   -- ---- what a tag settles
 
@@ -413,6 +437,8 @@ module _ (t : Topology) (old new : Broker) (sends : List Send) (notes : List Not
   performs c h (ExchangeDeclare m) content conn accepted p = quiet_acts t old new _ sends notes (declared _ c h ExchangeDeclareOk m.no_wait refl refl p)
   performs c h (QueueDeclare m) content conn accepted p = quiet_acts t old new _ sends notes (declared _ c h _ m.no_wait refl refl p.does)
   performs c h (BasicQos m) content conn accepted p = quiet_acts t old new _ sends notes (still _ c _ _ p (refl, refl) (record { same = refl; kept = λ n q. refl }) (stay old c))
+  performs c h (BasicConsume m) content conn accepted p = quiet_acts t old new _ sends notes (consumes _ c h m.no_wait _ _ p)
+  performs c h (BasicCancel m) content conn accepted p = quiet_acts t old new _ sends notes (cancels _ c h m.no_wait _ _ p)
   performs c h (BasicGet m) content conn accepted p = quiet_acts t old new _ sends notes (gets c h (channel_or_new (old.channel c h)) m content (first_ready (old.queue m.queue)) refl p)
   performs c h (BasicAck m) content conn accepted p = quiet_acts t old new _ sends notes (acknowledges c h m content p)
   performs c h (BasicReject m) content conn accepted p = quiet_acts t old new _ sends notes (rejects c h m.delivery_tag false m.requeue (BasicReject m) content (λ n q e g. (e, g)) p)
@@ -449,6 +475,7 @@ module _ (t : Topology) (old new : Broker) (sends : List Send) (notes : List Not
   acted (Lose c) p = quiet_acts t old new _ sends notes (quiet old new _ _ c _ sends _ notes p tt (record { same = refl; kept = freed_count old (by_connection c) }) (λ d. refl))
   acted (Pause c) p = quiet_acts t old new _ sends notes (quiet old new _ _ c _ sends _ notes p tt (record { same = refl; kept = λ n q. refl }) (λ d. refl))
   acted (Resume c) p = quiet_acts t old new _ sends notes (quiet old new _ _ c _ sends _ notes p tt (record { same = refl; kept = λ n q. refl }) (λ d. refl))
+  acted (Deliver c) p = quiet_acts t old new _ sends notes (delivers c p.made p.made.consumer.no_ack refl p.makes)
 
 -- ---- what the broker sends is commands
 
@@ -479,6 +506,7 @@ session_after s (Fault c code) sends = to_phase s phase.Over
 session_after s (Lose c) sends = no_session
 session_after s (Pause c) sends = s
 session_after s (Resume c) sends = s
+session_after s (Deliver c) sends = s
 
 -- the first eight bytes, a command, or a fault of its stream
 abbrev pub is_read : Event → Bool
@@ -640,6 +668,7 @@ module _ (f : Config) (old new : State) (sends : List Send) (notes : List Note) 
   goes (Lose c) s = inl (record { runs = λ r. absurd (false≢true r); free = λ r. absurd (false≢true r); acts = s.acts; sessions = s.session })
   goes (Pause c) s = inl (record { runs = λ r. absurd (false≢true r); free = λ r. absurd (false≢true r); acts = s.acts; sessions = λ d. s.session d ∙ sym (with_same old.session c (old.session c) refl d) })
   goes (Resume c) s = inl (record { runs = λ r. absurd (false≢true r); free = λ r. absurd (false≢true r); acts = s.acts; sessions = λ d. s.session d ∙ sym (with_same old.session c (old.session c) refl d) })
+  goes (Deliver c) s = inl (record { runs = λ r. absurd (false≢true r); free = λ r. absurd (false≢true r); acts = s.acts; sessions = λ d. s.session d ∙ sym (with_same old.session c (old.session c) refl d) })
 
   -- a move to Running leaves the count of publishes and the messages of each queue as they are, as any other
   answered_adds : (e : Event) → Answered old e sends notes new → AddsNothing old.broker new.broker e sends notes

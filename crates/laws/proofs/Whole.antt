@@ -10,7 +10,7 @@ use Rattle.model.specs.Consistent.{IsConsistent}
 use Rattle.model.specs.State.{Config, State}
 use Rattle.model.specs.Run.{Happening, Run, sends_of, put_out, empty_state}
 use Rattle.model.specs.Spelling.{frames_of, send_bytes, spelling, receiver, sends_to, eight_bytes}
-use Rattle.model.specs.Arrivals.{World, new_world, Turns, Plays, Shows, Shown, Seen, shown}
+use Rattle.model.specs.Arrivals.{World, new_world, Turns, Pumps, Plays, Shows, Shown, Seen, shown}
 use Rattle.model.specs.Headline.{Ack, acks_in, IsSound, KeepsEvents, KeepsPromises, HasAcksOf, acked}
 use Rattle.model.specs.declared.events.Send.{Send}
 use Rattle.model.specs.declared.events.Send.TheVariants as send
@@ -18,7 +18,7 @@ use Rattle.model.specs.declared.events.Arrival.{Arrival}
 use Rattle.laws.specs.Promises.{ack_sent}
 use Rattle.laws.proofs.Counts.{all-append, filter_all}
 use Rattle.laws.proofs.Reading.{sent_acks, frames_each}
-use Rattle.laws.proofs.Plays.{IsPut, IsTold, Told, said_each, told_turns, told_plays}
+use Rattle.laws.proofs.Plays.{IsPut, IsTold, Told, said_each, told_turns, told_plays, told_pumps}
 use Rattle.laws.proofs.Speaking.{IsCommandSend, AreCommandSends}
 use Rattle.laws.proofs.Spoken.{sent_to, is_spoken}
 use Rattle.laws.proofs.Never.{run_keeps}
@@ -128,6 +128,11 @@ has_acks f old new c hs a run (inr greeting) = record {
 pub turn_keeps : (old new : World) (c : ℕ) (hs : List Happening) → IsSound old.config → IsConsistent old → Turns old c hs new → KeepsEvents old.state.broker hs new.state.broker
 turn_keeps old new c hs sound consistent turns =
     let told = told_turns old new c hs turns in
+    run_keeps hs old.state new.state (sound_each old.config hs sound told.each) (said_each old.config hs told.each) consistent.counted told.run
+
+pub pump_keeps : (old new : World) (hs : List Happening) → IsSound old.config → IsConsistent old → Pumps old hs new → KeepsEvents old.state.broker hs new.state.broker
+pump_keeps old new hs sound consistent pumps =
+    let told = told_pumps old new hs pumps in
     run_keeps hs old.state new.state (sound_each old.config hs sound told.each) (said_each old.config hs told.each) consistent.counted told.run
 
 -- of what is a run, and spoke to each connection as its phase says

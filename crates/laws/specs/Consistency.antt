@@ -3,7 +3,7 @@ use Rattle.std.specs.Prelude.{◌+◌, ℕ, List}
 use Rattle.model.specs.State.{Config}
 use Rattle.model.specs.Run.{Happening}
 use Rattle.model.specs.Commands.{Stream}
-use Rattle.model.specs.Arrivals.{World, new_world, Turns, Waits, Takes_off, Opens, Loses, Plays, with_heard}
+use Rattle.model.specs.Arrivals.{World, new_world, Turns, Waits, Takes_off, Opens, Loses, Pumps, Plays, with_heard}
 use Rattle.model.specs.Consistent.{IsConsistent}
 use Rattle.model.specs.declared.events.Arrival.{Arrival}
 use Rattle.model.specs.declared.events.Event.TheVariants as event
@@ -18,6 +18,7 @@ pub record WorldsStayConsistent : Type 0 where
   pub opens : (old new : World) (k : ℕ) (s : Stream) (hs : List Happening) → IsConsistent old → Opens old (event.Running (old.given + 1) 255 k) s hs new → IsConsistent new
   pub awaits : (old new : World) (s : Stream) (hs : List Happening) → IsConsistent old → Opens old (event.Open (old.given + 1)) s hs new → IsConsistent new
   pub loses : (old new : World) (c : ℕ) (hs : List Happening) → IsConsistent old → Loses old c hs new → IsConsistent new
+  pub pumps : (old new : World) (hs : List Happening) → IsConsistent old → Pumps old hs new → IsConsistent new
 
 -- And so it is after any arrivals.
 abbrev pub PlaysStayConsistent : Type 0

@@ -4,7 +4,7 @@ use Rattle.model.specs.Frames.{Frame}
 use Rattle.model.specs.State.{Config}
 use Rattle.model.specs.Run.{Happening}
 use Rattle.model.specs.Consistent.{IsConsistent}
-use Rattle.model.specs.Arrivals.{World, new_world, Turns, Plays, Shows, Seen}
+use Rattle.model.specs.Arrivals.{World, new_world, Turns, Pumps, Plays, Shows, Seen}
 use Rattle.model.specs.Headline.{IsReading, IsSound, KeepsEvents, KeepsPromises}
 use Rattle.model.specs.declared.events.Arrival.{Arrival}
 
@@ -15,6 +15,10 @@ OneReading = (output : List ℕ) (fs gs : List Frame) → IsReading output fs �
 -- in a world that a run reaches, one command and the pause that it brings keep the promises of their events
 abbrev pub TurnsKeep : Type 0
 TurnsKeep = (old new : World) (c : ℕ) (hs : List Happening) → IsSound old.config → IsConsistent old → Turns old c hs new → KeepsEvents old.state.broker hs new.state.broker
+
+-- and so do a delivery and the pause that it brings
+abbrev pub PumpsKeep : Type 0
+PumpsKeep = (old new : World) (hs : List Happening) → IsSound old.config → IsConsistent old → Pumps old hs new → KeepsEvents old.state.broker hs new.state.broker
 
 -- Whatever arrives, the headline holds of what happened and of what was seen.
 abbrev pub HeadlineHolds : Config → Type 0

@@ -8,3 +8,5 @@ pub mod Rows
 pub mod Consistency
 pub mod Agreeing
 pub mod Carrying
+pub mod Consumers
+pub mod Order

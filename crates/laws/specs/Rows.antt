@@ -1,20 +1,26 @@
 -- Worked examples, that the checker computes: a definition that says something else shows at once.
-use Rattle.std.specs.Prelude.{◌≡◌, ◌++◌, ℕ, List, [], ◌∷◌, codes, true, false, Some, if◌then◌else◌}
+use Rattle.std.specs.Prelude.{◌≡◌, ◌++◌, ℕ, List, Bool, [], ◌∷◌, codes, true, false, Some, None, replicate, if◌then◌else◌}
 use Rattle.std.specs.Str.{bytes_eq}
 use Rattle.model.specs.Words.{Text, words}
+use Rattle.model.specs.Topology.{Topology}
 use Rattle.model.specs.Guarantee.{Guarantee}
+use Rattle.model.specs.Broker.{Consumer, Channel, new_channel}
+use Rattle.model.specs.Deliveries.{first_ready, channel_after}
+use Rattle.model.specs.Consuming.{tag_for, consumer_of, with_consumer, may_take}
 use Rattle.model.specs.Frames.{frame_bytes, IsBroken}
 use Rattle.model.specs.Grammar.{ids, ids_of}
 use Rattle.model.specs.Headers.{header_bytes, no_properties}
 use Rattle.model.specs.Spelling.{method_frame, body_frame, spelling}
 use Rattle.model.specs.Commands.{Goes_on, Makes, Breaks, Drops, is_too_large, taken_dropped}
-use Rattle.model.specs.Step.{channel_close, connection_close, select_sends, confirm_sends, empty_publish}
+use Rattle.model.specs.Step.{channel_close, connection_close, select_sends, confirm_sends, consume_sends, empty_publish, greatest, Of_channel, Of_connection, refusal_of_consume}
 use Rattle.model.specs.Phases.{no_session}
 use Rattle.model.specs.State.{Config, State}
 use Rattle.model.specs.Run.{Happening, Stays, empty_broker}
 use Rattle.model.specs.Headline.{Acked as AckedPublish, HasAcksOf, EnteredOnce, AreAllowed, HaveCauses}
 use Rattle.model.specs.declared.contents.Content.{Content}
 use Rattle.model.specs.declared.messages.Entry.{Entry}
+use Rattle.model.specs.declared.messages.Taker.TheVariants as taker
+use Rattle.model.specs.declared.methods.Consume.{Consume}
 use Rattle.model.specs.declared.messages.Mark.TheVariants.{Ready}
 use Rattle.model.specs.declared.events.Event.TheVariants.{Resume}
 use Rattle.model.specs.declared.notes.Cause.TheVariants.{Acked}
@@ -156,3 +162,65 @@ pub record HeadlineRefuses : Type 0 where
   pub forbidden_entry : AreAllowed (event_of_notes (forbids ∷ []) (with_entries (first_entry ∷ [])) (Entered 1 (codes "bin") Dead ∷ []) (with_entries (first_entry ∷ []))) → ⊥
   -- a message that leaves by an event that takes none out
   pub left_by_no_cause : HaveCauses (event_of_notes [] (with_entries (first_entry ∷ [])) (Left 1 (codes "audit") Acked ∷ []) (with_entries [])) → ⊥
+
+-- ---- consumers
+
+-- a consume of `audit` that gives this tag
+abbrev pub consume_of : Text → Consume
+consume_of tag = record { reserved = 0; queue = codes "audit"; consumer_tag = tag; no_local = false; no_ack = false; exclusive = false; no_wait = false; arguments = [] }
+
+-- a new channel, on which each consumer may hold one message
+abbrev pub one_each : Channel
+one_each = record new_channel { each_limit = 1 }
+
+-- the consumer of this tag that is made there, and the channel with it
+abbrev pub consumer_under : Text → Consumer
+consumer_under tag = consumer_of one_each (consume_of tag)
+
+abbrev pub consuming_under : Text → Channel
+consuming_under tag = with_consumer one_each (consume_of tag)
+
+-- what stands against it after these messages were given out there
+abbrev pub may_after : (Channel → Channel) → Bool
+may_after given = may_take (given (consuming_under (codes "mine"))) (consumer_under (codes "mine"))
+
+-- a publish after the first one
+abbrev pub second_entry : Entry
+second_entry = record first_entry { message = record first_entry.message { number = 2 } }
+
+-- what a consume makes, and what its consumer may take
+pub record FirstConsumer : Type 0 where
+  -- where the client gives no tag, the answer on channel 1 is basic.consume-ok with the tag amq.ctag-1
+  pub answer : spelling 131072 (consume_sends 1 1 false (consumer_under []).tag)
+      ≡ 1 ∷ 0 ∷ 1 ∷ 0 ∷ 0 ∷ 0 ∷ 15 ∷ 0 ∷ 60 ∷ 0 ∷ 21 ∷ 10 ∷ 97 ∷ 109 ∷ 113 ∷ 46 ∷ 99 ∷ 116 ∷ 97 ∷ 103 ∷ 45 ∷ 49 ∷ 206 ∷ []
+  -- the next tag is another, and one that a client took is passed over
+  pub next : tag_for (consuming_under []) [] ≡ codes "amq.ctag-2"
+  pub past : tag_for (consuming_under (codes "amq.ctag-1")) [] ≡ codes "amq.ctag-2"
+  -- it may take a message, and none more while it holds one; what a get gave, or another consumer has, does not count
+  pub may : may_after (λ ch. ch) ≡ true
+  pub full : may_after (channel_after false (codes "audit") (taker.Consumer 1)) ≡ false
+  pub got : may_after (channel_after false (codes "audit") taker.Get) ≡ true
+  pub another : may_after (channel_after false (codes "audit") (taker.Consumer 2)) ≡ true
+  -- what it is given is the oldest
+  pub oldest : first_ready (first_entry ∷ second_entry ∷ []) ≡ Some first_entry
+
+-- a topology with the queue `audit` alone
+abbrev pub audit_alone : Topology
+audit_alone = record { exchanges = []; queues = record { name = codes "audit"; limit = None; dead_letter_exchange = None; dead_letter_key = None } ∷ []; bindings = [] }
+
+-- a channel with so many consumers, under the tag `mine`
+abbrev pub crowded : ℕ → Channel
+crowded n = record new_channel { consumers = replicate n (consumer_under (codes "mine")) }
+
+-- a consume that asks to be the only one
+abbrev pub exclusive_consume : Consume
+exclusive_consume = record (consume_of (codes "mine")) { exclusive = true }
+
+-- What stands against a consume, in the order in which it is looked for.
+pub record RefusedConsumes : Type 0 where
+  pub no_queue : refusal_of_consume (under []).topology (crowded 256) exclusive_consume ≡ Some (Of_channel 404)
+  pub exclusive : refusal_of_consume audit_alone (crowded 256) exclusive_consume ≡ Some (Of_connection 540)
+  pub in_use : refusal_of_consume audit_alone (crowded 256) (consume_of (codes "mine")) ≡ Some (Of_connection 530)
+  pub too_many : refusal_of_consume audit_alone (record (crowded 256) { next_number = greatest }) (consume_of (codes "other")) ≡ Some (Of_connection 506)
+  pub spent : refusal_of_consume audit_alone (record (crowded 255) { next_number = greatest }) (consume_of (codes "other")) ≡ Some (Of_connection 541)
+  pub none : refusal_of_consume audit_alone (crowded 255) (consume_of (codes "other")) ≡ None

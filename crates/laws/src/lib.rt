@@ -8,12 +8,14 @@ ghost use Rattle.std.specs.Prelude.{◌≡◌};
 ghost use Rattle.laws.specs.Agreeing.{BrokersStayAgreed};
 ghost use Rattle.laws.specs.Alone.{SoundForWords};
 ghost use Rattle.laws.specs.Carrying.{MessagesStayCarried, SendsAreOwn};
+ghost use Rattle.laws.specs.Consumers.{ConsumersAreMade, ConsumersStayNamed, DeliveriesAreAddressed, NextTagsAreFound, PlaysStayNamed, WorldsStayNamed};
 ghost use Rattle.laws.specs.Consistency.{PlaysStayConsistent, WorldsStayConsistent};
-ghost use Rattle.laws.specs.Delivery.{OneReading, HeadlineHolds, TurnsKeep};
+ghost use Rattle.laws.specs.Delivery.{OneReading, HeadlineHolds, PumpsKeep, TurnsKeep};
 ghost use Rattle.laws.specs.OneStep.{EveryRunBalances, EveryRunCounts, EveryRunStays};
 ghost use Rattle.laws.specs.Openings.{OpeningsReadByPhase};
+ghost use Rattle.laws.specs.Order.{GivenAfterThoseAhead, GivenInOrder, HeldAreGiven};
 ghost use Rattle.laws.specs.Promises.{AckedEnterOnce, AcksAreAcked, CausesAreShown, ForbiddenAreNotEntered, ForbiddenAreNotEnteredAtEvents, RunsKeepEvents};
-ghost use Rattle.laws.specs.Rows.{WordsOfKeys, FirstInput, FirstOutput, BadEnd, TooLargeContent, HeadlineRefuses};
+ghost use Rattle.laws.specs.Rows.{WordsOfKeys, FirstInput, FirstOutput, BadEnd, TooLargeContent, HeadlineRefuses, FirstConsumer, RefusedConsumes};
 ghost use Rattle.laws.specs.Streams.{CuttingDoesNotMatter, FaultsStay, FirstBytesComeFirst, TuningDoesNotMatter};
 ghost use Rattle.model.specs.Guarantee.{Guarantee};
 ghost use Rattle.model.specs.State.{Config};
@@ -126,6 +128,40 @@ pub fn sends_can_be_put_out()
     ensures { SendsAreOwn }
 {}
 
+/// Whatever happens, the consumers of each channel take from queues that are there, under tags and numbers of their own.
+pub fn consumers_stay_named()
+    ensures { ConsumersStayNamed }
+{}
+
+/// So it is in every world, whatever is done there and whatever arrives.
+pub fn worlds_stay_named()
+    ensures worlds { WorldsStayNamed }
+    ensures plays { PlaysStayNamed }
+{}
+
+/// No consumer comes but by a consume, under the next number of its channel.
+pub fn consumers_are_made()
+    ensures { ConsumersAreMade }
+{}
+
+/// The tag that the server makes for a consumer is the next that is not in use on its channel.
+pub fn next_tags_are_found()
+    ensures { NextTagsAreFound }
+{}
+
+/// What is delivered to a consumer has an address: its tags, its names and its key can be spelled.
+pub fn deliveries_are_addressed()
+    ensures { DeliveriesAreAddressed }
+{}
+
+/// In every run messages are first given out of a queue, to gets and to consumers, in the order in which they entered it, and
+/// each only after all that stand ahead of it. No message comes to be held in another way.
+pub fn messages_are_given_in_order()
+    ensures in_order { GivenInOrder }
+    ensures ahead { GivenAfterThoseAhead }
+    ensures held { HeldAreGiven }
+{}
+
 /// A client reads an output in one way.
 pub fn one_reading()
     ensures { OneReading }
@@ -134,6 +170,11 @@ pub fn one_reading()
 /// A turn keeps the promises of its own events.
 pub fn turns_keep()
     ensures { TurnsKeep }
+{}
+
+/// A pump keeps the promises of its own events.
+pub fn pumps_keep()
+    ensures { PumpsKeep }
 {}
 
 /// Certified delivery: whatever arrives, the headline holds of the outputs and the notes.
@@ -149,4 +190,6 @@ pub fn worked_examples()
     ensures bad_end { BadEnd }
     ensures large { TooLargeContent }
     ensures refused { HeadlineRefuses }
+    ensures consumer { FirstConsumer }
+    ensures refused_consumers { RefusedConsumes }
 {}

@@ -1,8 +1,9 @@
--- Everything that comes, and all that is done for it (own): pieces of bytes, openings, output taken, losses.
+-- Everything that comes, and all that is done for it (own): pieces of bytes, openings, output taken, deliveries, losses.
 use Rattle.std.specs.Prelude.{◌≡◌, ◌≢◌, ◌+◌, ◌<◌, ◌≤◌, ℕ, suc, zero, List, [], ◌∷◌, ◌++◌, length, drop, Bool, true, false, nat_lt, nat_le, ◌&&◌, not, Option, Some, None, ◌⊎◌, MatchBool, if◌then◌else◌, slice_get}
 use Rattle.std.specs.List.{AllByRecursion}
 use Rattle.model.specs.Broker.{with_one}
 use Rattle.model.specs.State.{Config, State, Step}
+use Rattle.model.specs.Consuming.{CanDeliver}
 use Rattle.model.specs.Grammar.{IsMethod}
 use Rattle.model.specs.Phases.{Session}
 use Rattle.model.specs.Run.{Happening, notes_of, put_out, empty_state}
@@ -15,7 +16,7 @@ use Rattle.model.specs.declared.events.Command.TheVariants.{Head, Plain, Full, T
 use Rattle.model.specs.declared.events.Event.{Event}
 use Rattle.model.specs.declared.events.Event.TheVariants as event
 use Rattle.model.specs.declared.events.Arrival.{Arrival}
-use Rattle.model.specs.declared.events.Arrival.TheVariants.{Open, Ready, In, Sent, Lose}
+use Rattle.model.specs.declared.events.Arrival.TheVariants.{Open, Ready, In, Sent, Pump, Lose}
 use Rattle.model.specs.declared.methods.Method.TheVariants.{BasicPublish}
 use Rattle.model.specs.declared.notes.Note.{Note}
 
@@ -241,12 +242,28 @@ pub record TakesAndWorks (old : World) (c n : ℕ) (hs : List Happening) (new : 
 abbrev pub Nothing_happens : World → List Happening → World → Type 0
 Nothing_happens old hs new = (hs ≡ []) × Same old new
 
+-- A message is delivered to a consumer of connection c, and put out; the connection may be paused by that.
+pub record Delivers (old : World) (c : ℕ) (hs : List Happening) (new : World) : Type 0 where
+  pub puts : Puts old (event.Deliver c) c hs new
+  pub given : new.given ≡ old.given
+  pub wire : new.wire c ≡ record (old.wire c) { output = (new.wire c).output }
+
+-- no delivery can be made, to whatever connection
+abbrev pub NoneCanDeliver : World → Type 0
+NoneCanDeliver w = (c : ℕ) → CanDeliver w.state.broker c → ⊥
+
+-- One delivery is made where any can be, and nothing is done where none can.
+pub data Pumps : World → List Happening → World → Type 0 where
+  delivers : {old new : World} {c : ℕ} {hs : List Happening} → Delivers old c hs new → Pumps old hs new
+  idles : {old new : World} {hs : List Happening} → NoneCanDeliver old → Nothing_happens old hs new → Pumps old hs new
+
 -- What one arrival brings: one for a connection that is gone does nothing, nor do bytes for one that is over.
 abbrev pub Answers : World → Arrival → List Happening → World → Type 0
 Answers old Open hs new = MatchBool (can_open old) (Opens old (event.Open (old.given + 1)) new_stream hs new) (Nothing_happens old hs new)
 Answers old (Ready k) hs new = MatchBool (can_open old) (Opens old (event.Running (old.given + 1) 255 k) running_stream hs new) (Nothing_happens old hs new)
 Answers old (In c bytes) hs new = MatchBool (is_over old c) (Nothing_happens old hs new) (WorksOff (with_heard old c bytes) c hs new)
 Answers old (Sent c n) hs new = MatchBool (is_gone old c) (Nothing_happens old hs new) (TakesAndWorks old c n hs new)
+Answers old Pump hs new = Pumps old hs new
 Answers old (Lose c) hs new = MatchBool (is_gone old c) (Nothing_happens old hs new) (Loses old c hs new)
 
 -- A whole list of arrivals.

@@ -29,6 +29,8 @@ pub record Channel : Type 0 where
   -- the last confirm number, where publishes are confirmed (RabbitMQ, "Publisher Confirms")
   pub confirm : Option ℕ
   pub next_tag : ℕ
+  -- the number of the next consumer: none is used again
+  pub next_number : ℕ
   -- the number of the next consumer tag that the server makes
   pub next_name : ℕ
   -- a close was sent, and close-ok is awaited
@@ -55,7 +57,7 @@ pub record Broker : Type 0 where
 
 -- a channel with nothing on it
 abbrev pub new_channel : Channel
-new_channel = record { confirm = None; next_tag = 1; next_name = 1; is_closing = false; consumers = []; each_limit = 0; limit = 0; outstanding = [] }
+new_channel = record { confirm = None; next_tag = 1; next_number = 1; next_name = 1; is_closing = false; consumers = []; each_limit = 0; limit = 0; outstanding = [] }
 
 -- the message can be given out
 abbrev pub is_ready : Entry → Bool

@@ -13,6 +13,7 @@ use Rattle.model.specs.Entries.{is_held_as}
 use Rattle.model.specs.Settling.{takes}
 use Rattle.model.specs.Step.{tag_of}
 use Rattle.model.specs.Deliveries.{first_ready, holder_of}
+use Rattle.model.specs.Consuming.{CanDeliver}
 use Rattle.model.specs.State.{Config}
 use Rattle.model.specs.Run.{Happening, notes_of, Stays, empty_broker}
 use Rattle.model.specs.Arrivals.{World, new_world, Plays, Shows, Seen, Shown}
@@ -22,7 +23,7 @@ use Rattle.model.specs.declared.messages.Entry.{Entry}
 use Rattle.model.specs.declared.methods.Method.{Method}
 use Rattle.model.specs.declared.methods.Method.TheVariants.{QueuePurge, BasicGet, BasicAck, BasicReject, BasicNack}
 use Rattle.model.specs.declared.events.Event.{Event}
-use Rattle.model.specs.declared.events.Event.TheVariants.{Command}
+use Rattle.model.specs.declared.events.Event.TheVariants.{Command, Deliver}
 use Rattle.model.specs.declared.notes.Cause.{Cause}
 use Rattle.model.specs.declared.notes.Cause.TheVariants.{Acked as Acknowledged, Auto, Rejected, Purged}
 use Rattle.model.specs.declared.notes.Note.{Note}
@@ -195,9 +196,22 @@ IsCauseIn b c h m n q Auto = ByGiving b m n q
 IsCauseIn b c h m n q Rejected = ByRejection b c h m n q
 IsCauseIn b c h m n q Purged = ByPurge b m n q
 
--- By this event, in this state: no event but a command takes a message out.
+-- A delivery that can be made to connection c takes out a message of this number from this queue: the first ready one, for a consumer that needs no acknowledgement (AMQP 0-9-1, basic.consume, no-ack).
+pub record ByDelivery (b : Broker) (c n : ℕ) (q : Text) : Type 0 where
+  pub made : CanDeliver b c
+  pub no_ack : made.consumer.no_ack ≡ true
+  pub queue : made.consumer.queue ≡ q
+  pub number : made.entry.message.number ≡ n
+
+-- a delivery takes messages out for no other cause
+abbrev pub IsCauseOfDelivery : Broker → ℕ → ℕ → Text → Cause → Type 0
+IsCauseOfDelivery b c n q Auto = ByDelivery b c n q
+IsCauseOfDelivery b c n q cause = ⊥
+
+-- By this event, in this state: no event but a command or a delivery takes a message out.
 abbrev pub IsCauseAt : Broker → Event → ℕ → Text → Cause → Type 0
 IsCauseAt b (Command c h m content) n q cause = IsCauseIn b c h m n q cause
+IsCauseAt b (Deliver c) n q cause = IsCauseOfDelivery b c n q cause
 IsCauseAt b e n q cause = ⊥
 
 -- By this event a message of this number may leave this queue for this cause, as the state before it says.

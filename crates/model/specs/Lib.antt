@@ -18,6 +18,7 @@ pub mod Deliveries
 pub mod Declaring
 pub mod Settling
 pub mod Prefetch
+pub mod Consuming
 pub mod Commands
 pub mod Codes
 pub mod Step
@@ -30,5 +31,6 @@ pub mod Arrivals
 pub mod Headline
 pub mod Consistent
 pub mod Agreement
+pub mod Naming
 pub mod Login
 pub mod Opening

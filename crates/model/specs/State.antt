@@ -91,3 +91,4 @@ Step f old (event.Fault c code) sends notes new = OfFault f old (old.session c).
 Step f old (event.Lose c) sends notes new = Steps f old c (event.Lose c) sends notes no_session new
 Step f old (event.Pause c) sends notes new = StepsAlone f old (event.Pause c) sends notes new
 Step f old (event.Resume c) sends notes new = StepsAlone f old (event.Resume c) sends notes new
+Step f old (event.Deliver c) sends notes new = StepsAlone f old (event.Deliver c) sends notes new

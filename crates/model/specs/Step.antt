@@ -12,6 +12,7 @@ use Rattle.model.specs.Settling.{is_refused, settled, kept}
 use Rattle.model.specs.Prefetch.{has_tag_left}
 use Rattle.model.specs.Deliveries.{Settlement, Leaves, Returns, of_rejected, AreSettled, first_ready, ready_in, written_count, after_giving, after_delivery, delivery_notes, after_purge, purge_notes}
 use Rattle.model.specs.Declaring.{HasConsumers}
+use Rattle.model.specs.Consuming.{tag_for, is_tag_taken, is_tag_wanting, with_consumer, without_consumer, CanDeliver}
 use Rattle.model.specs.Grammar.{Ids, ids, ids_of}
 use Rattle.model.specs.Headers.{no_properties}
 use Rattle.model.specs.Codes.{code_text}
@@ -20,18 +21,20 @@ use Rattle.model.specs.declared.topologies.DeclaredQueue.{DeclaredQueue}
 use Rattle.model.specs.Message.{Message}
 use Rattle.model.specs.declared.messages.Holder.{Holder}
 use Rattle.model.specs.declared.messages.Entry.{Entry}
-use Rattle.model.specs.declared.messages.Mark.TheVariants.{Ready, Held}
+use Rattle.model.specs.declared.messages.Mark.TheVariants.{Ready}
 use Rattle.model.specs.declared.contents.Content.{Content}
 use Rattle.model.specs.declared.events.Send.{Send}
 use Rattle.model.specs.declared.events.Send.TheVariants as send
 use Rattle.model.specs.declared.methods.Publish.{Publish}
+use Rattle.model.specs.declared.methods.Consume.{Consume}
+use Rattle.model.specs.declared.methods.Cancel.{Cancel}
 use Rattle.model.specs.declared.methods.Get.{Get}
 use Rattle.model.specs.declared.methods.Purge.{Purge}
 use Rattle.model.specs.declared.methods.ExchangeDeclare.{ExchangeDeclare as DeclaresExchange}
 use Rattle.model.specs.declared.methods.QueueDeclare.{QueueDeclare as DeclaresQueue}
 use Rattle.model.specs.declared.methods.Qos.{Qos}
 use Rattle.model.specs.declared.methods.Method.{Method}
-use Rattle.model.specs.declared.methods.Method.TheVariants.{ConnectionClose, ConnectionCloseOk, ChannelOpen, ChannelOpenOk, ChannelFlow, ChannelFlowOk, ChannelClose, ChannelCloseOk, ExchangeDeclare, ExchangeDeclareOk, ExchangeDelete, ExchangeBind, ExchangeUnbind, QueueDeclare, QueueDeclareOk, QueueBind, QueueDelete, QueueUnbind, QueuePurge, QueuePurgeOk, BasicQos, BasicQosOk, BasicConsumeOk, BasicCancelOk, BasicPublish, BasicReturn, BasicDeliver, BasicGet, BasicGetOk, BasicGetEmpty, BasicAck, BasicReject, BasicRecover, BasicRecoverOk, BasicNack, ConfirmSelect, ConfirmSelectOk}
+use Rattle.model.specs.declared.methods.Method.TheVariants.{ConnectionClose, ConnectionCloseOk, ChannelOpen, ChannelOpenOk, ChannelFlow, ChannelFlowOk, ChannelClose, ChannelCloseOk, ExchangeDeclare, ExchangeDeclareOk, ExchangeDelete, ExchangeBind, ExchangeUnbind, QueueDeclare, QueueDeclareOk, QueueBind, QueueDelete, QueueUnbind, QueuePurge, QueuePurgeOk, BasicQos, BasicQosOk, BasicConsumeOk, BasicCancelOk, BasicPublish, BasicReturn, BasicDeliver, BasicGet, BasicGetOk, BasicGetEmpty, BasicAck, BasicReject, BasicRecover, BasicRecoverOk, BasicNack, ConfirmSelect, ConfirmSelectOk, BasicConsume, BasicCancel}
 use Rattle.model.specs.declared.messages.Taker.TheVariants as taker
 use Rattle.model.specs.declared.notes.Cause.TheVariants.{Acked}
 use Rattle.model.specs.declared.notes.Note.{Note}
@@ -41,7 +44,7 @@ use Rattle.model.specs.declared.notes.Answer.TheVariants as answer
 use Rattle.model.specs.declared.notes.Way.{Way}
 use Rattle.model.specs.declared.notes.Way.TheVariants as way
 use Rattle.model.specs.declared.events.Event.{Event}
-use Rattle.model.specs.declared.events.Event.TheVariants.{Open, First, Running, Command, TooLarge, Fault, Lose, Pause, Resume}
+use Rattle.model.specs.declared.events.Event.TheVariants.{Open, First, Running, Command, TooLarge, Fault, Lose, Pause, Resume, Deliver}
 
 -- ---- refusals, in the order in which they are looked for
 
@@ -133,6 +136,30 @@ abbrev pub refusal_of_rejection : Topology → Channel → ℕ → Bool → Bool
 refusal_of_rejection t ch tag multiple requeue =
     or_else (refusal_of_settling ch tag multiple) (if requeue then None else refusal_of_dead t (settled tag_of tag multiple ch.outstanding))
 
+-- what a consume asks for that is not implemented: to be the only one, not to get messages of its own connection, or any argument
+abbrev pub refusal_of_asking : Consume → Option Refusal
+refusal_of_asking m = if m.exclusive || m.no_local || not (bytes_eq m.arguments []) then Some (Of_connection 540) else None
+
+-- a tag that is in use on the channel is refused (AMQP 0-9-1, basic.consume, not-allowed)
+abbrev pub refusal_of_tag : Channel → Text → Option Refusal
+refusal_of_tag ch tag = if is_tag_taken ch tag then Some (Of_connection 530) else None
+
+-- a channel has at most 256 consumers (own)
+abbrev pub refusal_of_many : Channel → Option Refusal
+refusal_of_many ch = if nat_le 256 (length ch.consumers) then Some (Of_connection 506) else None
+
+-- a number must be left for the consumer, and a tag where it was given none
+abbrev pub refusal_of_numbers : Channel → Text → Option Refusal
+refusal_of_numbers ch tag = if (ch.next_number == greatest) || is_tag_wanting ch tag then Some (Of_connection 541) else None
+
+-- what stands against one consumer more on the channel: its tag, how many there are, and the counters
+abbrev pub refusal_of_seat : Channel → Consume → Option Refusal
+refusal_of_seat ch m = or_else (refusal_of_tag ch m.consumer_tag) (or_else (refusal_of_many ch) (refusal_of_numbers ch m.consumer_tag))
+
+-- a consume: the queue is looked for, then what it asks for, and then what stands against one consumer more
+abbrev pub refusal_of_consume : Topology → Channel → Consume → Option Refusal
+refusal_of_consume t ch m = or_else (refusal_in t m.queue) (or_else (refusal_of_asking m) (refusal_of_seat ch m))
+
 -- a limit by the size of messages is not implemented
 abbrev pub refusal_of_qos : Qos → Option Refusal
 refusal_of_qos m = if m.prefetch_size == 0 then None else Some (Of_connection 540)
@@ -168,6 +195,8 @@ refusal_of t b ch (ConfirmSelect no_wait) = None
 refusal_of t b ch (BasicPublish p) = refusal_of_publish t b ch p
 refusal_of t b ch (QueuePurge m) = refusal_in t m.queue
 refusal_of t b ch (BasicQos m) = refusal_of_qos m
+refusal_of t b ch (BasicConsume m) = refusal_of_consume t ch m
+refusal_of t b ch (BasicCancel m) = None
 refusal_of t b ch (BasicGet m) = refusal_of_get t b ch m
 refusal_of t b ch (BasicAck m) = refusal_of_settling ch m.delivery_tag m.multiple
 refusal_of t b ch (BasicReject m) = refusal_of_rejection t ch m.delivery_tag false m.requeue
@@ -441,6 +470,39 @@ pub record Finds (old : Broker) (c h : ℕ) (m : DeclaresQueue) (sends : List Se
   pub has : HasConsumers old m.queue consumers
   pub does : Does sends notes new (declare_sends c h m.no_wait (queue_declared m.queue (ready_in (old.queue m.queue)) consumers)) old
 
+-- ---- consumers
+
+-- a consume is answered by the tag of its consumer, unless its no-wait bit says not to (AMQP 0-9-1, basic.consume-ok)
+abbrev pub consume_sends : ℕ → ℕ → Bool → Text → List Send
+consume_sends c h no_wait tag = if no_wait then [] else reply c h (BasicConsumeOk tag) ∷ []
+
+-- What a consume does: a consumer more on its channel.
+abbrev pub Consumes : Broker → ℕ → ℕ → Channel → Consume → List Send → List Note → Broker → Type 0
+Consumes old c h ch m sends notes new =
+    Does sends notes new (consume_sends c h m.no_wait (tag_for ch m.consumer_tag)) (with_channel old c h (Some (with_consumer ch m)))
+
+-- a cancel is answered by the tag that it names, which no consumer need have, unless its no-wait bit says not to (AMQP 0-9-1, basic.cancel-ok)
+abbrev pub cancel_sends : ℕ → ℕ → Bool → Text → List Send
+cancel_sends c h no_wait tag = if no_wait then [] else reply c h (BasicCancelOk tag) ∷ []
+
+-- What a cancel does: the consumer of its tag is the channel's no more.
+abbrev pub Cancels : Broker → ℕ → ℕ → Channel → Cancel → List Send → List Note → Broker → Type 0
+Cancels old c h ch m sends notes new =
+    Does sends notes new (cancel_sends c h m.no_wait m.consumer_tag) (with_channel old c h (Some (without_consumer ch m.consumer_tag)))
+
+-- a message as it goes to a consumer, with its content (AMQP 0-9-1, basic.deliver)
+abbrev pub deliver : ℕ → ℕ → ℕ → Text → Entry → Send
+deliver c h tag consumer_tag e =
+    send.Command c h (BasicDeliver (record { consumer_tag = consumer_tag; delivery_tag = tag; redelivered = e.message.redelivered; exchange = e.message.exchange; routing_key = e.message.key })) (Some e.message.content)
+
+-- What a delivery to connection c does: of those that can be made, one is made.
+pub record IsDelivery (old : Broker) (c : ℕ) (sends : List Send) (notes : List Note) (new : Broker) : Type 0 where
+  pub made : CanDeliver old c
+  pub makes : Makes sends notes new
+      (deliver c made.number made.channel.next_tag made.consumer.tag made.entry ∷ [])
+      (delivery_notes made.consumer.no_ack made.entry.message.number made.consumer.queue)
+      (after_delivery old c made.number made.channel made.consumer.no_ack made.consumer.queue (taker.Consumer made.consumer.number))
+
 -- a publish without a content counts as one with none of it
 abbrev pub content_or_none : Option Content → Content
 content_or_none (Some content) = content
@@ -468,6 +530,10 @@ Performs t old c h ch (QueueDeclare m) content sends notes new =
     Finds old c h m sends notes new
 Performs t old c h ch (BasicQos m) content sends notes new =
     Does sends notes new (reply c h BasicQosOk ∷ []) (with_channel old c h (Some (limited ch m)))
+Performs t old c h ch (BasicConsume m) content sends notes new =
+    Consumes old c h ch m sends notes new
+Performs t old c h ch (BasicCancel m) content sends notes new =
+    Cancels old c h ch m sends notes new
 Performs t old c h ch (BasicGet m) content sends notes new =
     Gets old c h ch m (first_ready (old.queue m.queue)) sends notes new
 Performs t old c h ch (BasicAck m) content sends notes new =
@@ -557,3 +623,4 @@ Acts t old (Fault c code) sends notes new = Does sends notes new (connection_clo
 Acts t old (Lose c) sends notes new = Does sends notes new [] (with_gone old c)
 Acts t old (Pause c) sends notes new = Does sends notes new [] (with_paused old c true)
 Acts t old (Resume c) sends notes new = Does sends notes new [] (with_paused old c false)
+Acts t old (Deliver c) sends notes new = IsDelivery old c sends notes new

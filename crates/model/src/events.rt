@@ -91,6 +91,10 @@ pub enum Event {
     Resume {
         connection: u64,
     },
+    /// A message goes to a consumer of the connection.
+    Deliver {
+        connection: u64,
+    },
 }
 
 /// What a run is given, one after another. Connections are numbered from 1 in the order of their openings.
@@ -104,6 +108,8 @@ pub enum Arrival {
     In(u64, Text),
     /// So many bytes of a connection's output are taken, at most what is there.
     Sent(u64, u64),
+    /// One delivery is made, if any can be.
+    Pump,
     /// A connection is lost.
     Lose(u64),
 }

@@ -4,13 +4,14 @@ use Rattle.model.specs.State.{Config}
 use Rattle.model.specs.Run.{Happening}
 use Rattle.model.specs.Arrivals.{World, Seen, Shown, Shows, Plays, new_world, is_over}
 use Rattle.model.specs.declared.events.Arrival.{Arrival}
+use Rattle.laws.proofs.Consistency.{new_is_consistent}
 use Rattle.laws.proofs.Whole.{headline_holds}
 use Rattle.runs.specs.Told.{taken_at, AreFinished, Records, Tells}
 use Rattle.runs.specs.Runs.{PlaysAndTells, IsRunOf}
 
 -- a world with no connection
 no_records : (f : Config) → Records [] (new_world f) (record { connections = []; notes = [] })
-no_records f = record { noted = refl; counted = refl; each = λ i. refl; unopened = λ i le. (refl, refl) }
+no_records f = record { noted = refl; counted = refl; each = λ i. refl; unopened = λ i le. (refl, refl); consistent = new_is_consistent f }
 
 element : (ss : List Shown) (i : ℕ) → i < length ss → (s : Shown) × (slice_get ss i ≡ Some s) × (taken_at ss i ≡ s.output)
 element [] i lt = absurd (omega arith)

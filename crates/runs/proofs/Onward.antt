@@ -5,14 +5,15 @@ use Rattle.std.proofs.lemmas.List.{drop_more}
 use Rattle.model.specs.Opening.{new_session}
 use Rattle.model.specs.Phases.{running_session}
 use Rattle.model.specs.Run.{Happening}
-use Rattle.model.specs.Arrivals.{World, Seen, Turns, Works, none_more, one_more, Same, with_heard, is_over, is_gone, can_open, Loses, Takes_off, Plays}
+use Rattle.model.specs.Arrivals.{World, Seen, Turns, Works, none_more, one_more, Same, with_heard, is_over, is_gone, can_open, Loses, Takes_off, delivers, idles, Plays}
 use Rattle.model.specs.declared.notes.Note.{Note}
 use Rattle.model.specs.declared.events.Arrival.{Arrival}
 use Rattle.model.specs.declared.events.Arrival.TheVariants as arrival
+use Rattle.laws.proofs.Consistency.{opens_consistent, awaits_consistent}
 use Rattle.runs.specs.Told.{Tells, gathered, with_opened}
-use Rattle.runs.specs.Opened.{OpensNew, OpensReady, Hears, Did, DidNothing, Takes, IsLost}
+use Rattle.runs.specs.Opened.{OpensNew, OpensReady, Hears, Did, DidNothing, Idles, Pumped, Takes, IsLost}
 use Rattle.runs.specs.Runs.{WorksAndTells, AnswersAndTells, PlaysAndTells}
-use Rattle.runs.proofs.Steps.{tells_then, tells_not, tells_same, tells_turns, tells_waits, tells_heard, tells_takes, tells_loses, tells_opens}
+use Rattle.runs.proofs.Steps.{tells_then, tells_not, tells_same, tells_turns, tells_delivers, tells_waits, tells_heard, tells_takes, tells_loses, tells_opens}
 
 -- ---- tests
 
@@ -66,7 +67,7 @@ so_far_ends a b d c s t f nothing = (
 pub opens_new : (a b : World) (n : ℕ) (s t : Seen) → OpensNew a (Some n) b → t ≡ record s { connections = with_opened s.connections } → AnswersAndTells a arrival.Open s b t
 opens_new a b n s t o e =
     let by = o.2.1 in
-    (o.2.0, match_true (can_open a) _ _ o.0 by, subst (λ (z : Seen). Tells a s o.2.0 b z) (sym e) (tells_opens a b _ _ new_session o.2.0 s by by.happens.stepped.steps.acts.noted by.happens.stepped.steps.session))
+    (o.2.0, match_true (can_open a) _ _ o.0 by, subst (λ (z : Seen). Tells a s o.2.0 b z) (sym e) (tells_opens a b _ _ new_session o.2.0 s by by.happens.stepped.steps.acts.noted (λ k. awaits_consistent a b _ o.2.0 k by) by.happens.stepped.steps.session))
 
 pub opens_new_not : (a b : World) (s : Seen) → OpensNew a None b → AnswersAndTells a arrival.Open s b s
 opens_new_not a b s o = ([], match_false (can_open a) _ _ o.0 (refl, o.1), tells_same a b s o.1)
@@ -74,7 +75,7 @@ opens_new_not a b s o = ([], match_false (can_open a) _ _ o.0 (refl, o.1), tells
 pub opens_ready : (a b : World) (k n : ℕ) (s t : Seen) → OpensReady a k (Some n) b → t ≡ record s { connections = with_opened s.connections } → AnswersAndTells a (arrival.Ready k) s b t
 opens_ready a b k n s t o e =
     let by = o.2.1 in
-    (o.2.0, match_true (can_open a) _ _ o.0 by, subst (λ (z : Seen). Tells a s o.2.0 b z) (sym e) (tells_opens a b _ _ running_session o.2.0 s by by.happens.stepped.acts.noted by.happens.stepped.session))
+    (o.2.0, match_true (can_open a) _ _ o.0 by, subst (λ (z : Seen). Tells a s o.2.0 b z) (sym e) (tells_opens a b _ _ running_session o.2.0 s by by.happens.stepped.acts.noted (λ is. opens_consistent a b k _ o.2.0 is by) by.happens.stepped.session))
 
 pub opens_ready_not : (a b : World) (k : ℕ) (s : Seen) → OpensReady a k None b → AnswersAndTells a (arrival.Ready k) s b s
 opens_ready_not a b k s o = ([], match_false (can_open a) _ _ o.0 (refl, o.1), tells_same a b s o.1)
@@ -98,6 +99,13 @@ pub loses : (a b : World) (c : ℕ) (s t : Seen) → is_gone a c ≡ false → t
 loses a b c s t e gathers lost =
     let loss : (hs : List Happening) × Loses a c hs b = of_false (is_gone a c) (Same a b) _ e lost in
     (loss.0, match_false (is_gone a c) _ _ e loss.1, subst (λ (z : Seen). Tells a s loss.0 b z) (sym gathers) (tells_loses a b c loss.0 s loss.1))
+
+-- a delivery was made, and what was noted is told
+pub pumps : (a b : World) (s t : Seen) (notes : List Note) → Pumped a notes b → t ≡ record s { notes = s.notes ++ notes } → AnswersAndTells a arrival.Pump s b t
+pumps a b s t notes (c, hs, noted, made) e = (hs, delivers made, subst (λ (z : Seen). Tells a s hs b z) (sym e) (tells_delivers a b c hs s notes noted made))
+
+pub pumps_not : (a b : World) (s : Seen) → Idles a b → AnswersAndTells a arrival.Pump s b s
+pumps_not a b s i = ([], idles i.0 (refl, i.1), tells_same a b s i.1)
 
 -- ---- lists of arrivals
 

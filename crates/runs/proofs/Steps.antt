@@ -1,17 +1,21 @@
 -- What each happening adds to what is written down.
 use Rattle.std.proofs.Common.{◌≡◌, ◌≢◌, ℕ, zero, suc, ◌+◌, ◌-◌, ◌<◌, ◌≤◌, List, [], ◌∷◌, ◌++◌, Bool, true, false, cond, not, eqb, length, take, drop, refl, sym, ap, subst, ◌∙◌, arith, append-nil, append_assoc, eq-eqb, ne_eqb}
-use Rattle.std.specs.Prelude.{◌&&◌}
+use Rattle.std.specs.Prelude.{◌&&◌, is_some}
 use Rattle.std.specs.List.{AllByRecursion}
 use Rattle.std.proofs.lemmas.Bool.{eqb-true, eqb-false, false≢true}
 use Rattle.std.proofs.lemmas.List.Concat.{flat_map-append}
 use Rattle.model.specs.State.{Config, State}
-use Rattle.model.specs.Phases.{Session, no_session}
+use Rattle.model.specs.Phases.{Session, no_session, is_running}
 use Rattle.model.specs.Broker.{with_one}
 use Rattle.model.specs.Run.{Happening, notes_of, put_out}
 use Rattle.model.specs.Spelling.{receiver, sends_to, spelling}
 use Rattle.model.specs.Commands.{Stream}
-use Rattle.model.specs.Arrivals.{World, Wire, Shown, Seen, is_over, is_paused, is_ended, Settles, Happens, Puts, Turns, Waits, Same, with_heard, Takes_off, Opens, Loses}
+use Rattle.model.specs.Arrivals.{World, Wire, Shown, Seen, is_over, is_paused, is_ended, Settles, Happens, Puts, Turns, Waits, Same, with_heard, Takes_off, Opens, Delivers, delivers, Loses}
+use Rattle.model.specs.Consistent.{IsConsistent}
+use Rattle.laws.proofs.Consistency.{consistent_same, turns_consistent, takes_consistent, pumps_consistent, loses_consistent}
 use Rattle.model.specs.declared.notes.Note.{Note}
+use Rattle.model.specs.declared.events.Phase.{Phase}
+use Rattle.model.specs.declared.events.Phase.TheVariants as phase
 use Rattle.model.specs.declared.events.Send.{Send}
 use Rattle.model.specs.declared.events.Event.{Event}
 use Rattle.model.specs.declared.events.Event.TheVariants as event
@@ -41,16 +45,18 @@ tells_not a s = record { keeps = λ done r. subst (λ (z : List Happening). Reco
 tells_by : (old new : World) (seen after : Seen) (hs : List Happening)
     → after.notes ≡ seen.notes ++ notes_of hs
     → (length seen.connections ≡ old.given → length after.connections ≡ new.given)
-    → (AreUnopened old → AreUnopened new)
+    → (IsConsistent old → IsConsistent new)
+    → (IsConsistent old → AreUnopened old → AreUnopened new)
     → ((i : ℕ) → length seen.connections ≡ old.given → AreUnopened old
     → taken_at after.connections i ++ (new.wire (i + 1)).output ≡ (taken_at seen.connections i ++ (old.wire (i + 1)).output) ++ put_out (i + 1) hs)
     → Tells old seen hs new after
-tells_by old new seen after hs noted counted unopened local = record {
+tells_by old new seen after hs noted counted consistent unopened local = record {
   keeps = λ done r. record {
     noted = noted ∙ ap (λ (z : List Note). z ++ notes_of hs) r.noted ∙ sym (notes-append done hs);
     counted = counted r.counted;
     each = λ i. local i r.counted r.unopened ∙ ap (λ (z : List ℕ). z ++ put_out (i + 1) hs) (r.each i) ∙ sym (put_out-append (i + 1) done hs);
-    unopened = unopened r.unopened;
+    unopened = unopened r.consistent r.unopened;
+    consistent = consistent r.consistent;
   };
 }
 
@@ -138,11 +144,40 @@ tells_turns a b c hs s notes noted t =
     tells_by a b s (record s { notes = s.notes ++ notes }) hs
     (ap (λ (z : List Note). s.notes ++ z) noted)
     (λ n. n ∙ sym t.given)
-    (λ none i le.
+    (λ k. turns_consistent a b c hs k t)
+    (λ k none i le.
     let was = none i (subst (λ (n : ℕ). n ≤ i) t.given le) in
     let ne = turns_apart a b c hs (i + 1) t was.1 in
     (ap (λ (w : Wire). w.output) (t.puts.others (i + 1) ne) ∙ was.0, ap (λ (z : Session). is_ended z.phase) (t.puts.rests (i + 1) ne) ∙ was.1))
     (λ i n none. ap (λ (z : List ℕ). taken_at s.connections i ++ z) (puts_each a b t.event c hs (i + 1) t.puts) ∙ sym (append_assoc (taken_at s.connections i) (a.wire (i + 1)).output (put_out (i + 1) hs)))
+
+-- ---- a delivery
+
+-- a connection of the broker is not over
+runs_apart : (b : Bool) (p : Phase) → b ≡ is_running p → b ≡ true → is_ended p ≡ true → ⊥
+runs_apart b phase.Header is e over = false≢true over
+runs_apart b phase.Start is e over = false≢true over
+runs_apart b phase.Tune is e over = false≢true over
+runs_apart b phase.Open is e over = false≢true over
+runs_apart b phase.Running is e over = false≢true over
+runs_apart b phase.Closing is e over = false≢true over
+runs_apart b phase.Over is e over = false≢true (sym is ∙ e)
+
+-- to one that is over nothing is delivered
+pub delivers_apart : (a b : World) (c : ℕ) (hs : List Happening) (d : ℕ) → IsConsistent a → Delivers a c hs b → is_over a d ≡ true → d ≢ c
+delivers_apart a b c hs d k v over e = runs_apart _ (a.state.session c).phase (k.running c) (ap is_some v.puts.happens.stepped.acts.made.taker.runs) (ap (is_over a) (sym e) ∙ over)
+
+pub tells_delivers : (a b : World) (c : ℕ) (hs : List Happening) (s : Seen) (notes : List Note) → notes ≡ notes_of hs → Delivers a c hs b → Tells a s hs b (record s { notes = s.notes ++ notes })
+tells_delivers a b c hs s notes noted v =
+    tells_by a b s (record s { notes = s.notes ++ notes }) hs
+    (ap (λ (z : List Note). s.notes ++ z) noted)
+    (λ n. n ∙ sym v.given)
+    (λ k. pumps_consistent a b hs k (delivers v))
+    (λ k none i le.
+    let was = none i (subst (λ (n : ℕ). n ≤ i) v.given le) in
+    let ne = delivers_apart a b c hs (i + 1) k v was.1 in
+    (ap (λ (w : Wire). w.output) (v.puts.others (i + 1) ne) ∙ was.0, ap (λ (z : Session). is_ended z.phase) (v.puts.rests (i + 1) ne) ∙ was.1))
+    (λ i n none. ap (λ (z : List ℕ). taken_at s.connections i ++ z) (puts_each a b (event.Deliver c) c hs (i + 1) v.puts) ∙ sym (append_assoc (taken_at s.connections i) (a.wire (i + 1)).output (put_out (i + 1) hs)))
 
 -- ---- nothing happens, and no output changes
 
@@ -151,7 +186,8 @@ tells_idle a b s given state outputs =
     tells_by a b s s []
     (sym (append-nil s.notes))
     (λ n. n ∙ sym given)
-    (λ none i le. let was = none i (subst (λ (n : ℕ). n ≤ i) given le) in (outputs (i + 1) ∙ was.0, ap (λ (z : State). is_ended (z.session (i + 1)).phase) state ∙ was.1))
+    (λ k. consistent_same a b k state outputs)
+    (λ k none i le. let was = none i (subst (λ (n : ℕ). n ≤ i) given le) in (outputs (i + 1) ∙ was.0, ap (λ (z : State). is_ended (z.session (i + 1)).phase) state ∙ was.1))
     (λ i n none. ap (λ (z : List ℕ). taken_at s.connections i ++ z) (outputs (i + 1)) ∙ sym (append-nil (taken_at s.connections i ++ (a.wire (i + 1)).output)))
 
 pub tells_waits : (a b : World) (c : ℕ) (s : Seen) → Waits a c b → Tells a s [] b s
@@ -218,7 +254,8 @@ tells_takes a b c n hs s t =
     tells_by a b s (record s { connections = gathered s.connections c (take n out) }) hs
     (quiet_notes hs s.notes after.quiet)
     (λ e. length-gathered s.connections c (take n out) ∙ e ∙ sym t.given)
-    (unopened_still a b c t.given (λ e. here ∙ drop_nothing n out e) (λ e. over c ∙ e) there (λ d ne. over d))
+    (λ k. takes_consistent a b c n hs k t)
+    (λ k. unopened_still a b c t.given (λ e. here ∙ drop_nothing n out e) (λ e. over c ∙ e) there (λ d ne. over d))
     (gathered_each a b c (take n out) (drop n out) s.connections hs after.quiet (take_and_drop n out) (take_nothing n out) here there)
 
 pub tells_loses : (a b : World) (c : ℕ) (hs : List Happening) (s : Seen) → Loses a c hs b → Tells a s hs b (record s { connections = gathered s.connections c (a.wire c).output })
@@ -232,13 +269,14 @@ tells_loses a b c hs s l =
     tells_by a b s (record s { connections = gathered s.connections c out }) hs
     (quiet_notes hs s.notes quiet)
     (λ e. length-gathered s.connections c out ∙ e ∙ sym l.given)
-    (unopened_still a b c l.given (λ e. here) (λ e. over) there others)
+    (λ k. loses_consistent a b c hs k l)
+    (λ k. unopened_still a b c l.given (λ e. here) (λ e. over) there others)
     (gathered_each a b c out [] s.connections hs quiet (append-nil out) (λ e. e) here there)
 
 -- an opening by an event that notes nothing, after which the new connection is in this session
-pub tells_opens : (a b : World) (e : Event) (st : Stream) (after : Session) (hs : List Happening) (s : Seen) (o : Opens a e st hs b) → o.h.notes ≡ [] → ((d : ℕ) → b.state.session d ≡ with_one a.state.session (a.given + 1) after d)
+pub tells_opens : (a b : World) (e : Event) (st : Stream) (after : Session) (hs : List Happening) (s : Seen) (o : Opens a e st hs b) → o.h.notes ≡ [] → (IsConsistent a → IsConsistent b) → ((d : ℕ) → b.state.session d ≡ with_one a.state.session (a.given + 1) after d)
     → Tells a s hs b (record s { connections = with_opened s.connections })
-tells_opens a b e st after hs s o noted sessions =
+tells_opens a b e st after hs s o noted consistent sessions =
     let quiet : IsQuiet hs = quiet_one o.h hs o.all noted o.silent in
     let here : (b.wire (a.given + 1)).output ≡ [] = ap (λ (w : Wire). w.output) (o.wires (a.given + 1) ∙ with_here a.wire (a.given + 1) (a.given + 1) _ refl) in
     let there : (d : ℕ) → d ≢ a.given + 1 → (b.wire d).output ≡ (a.wire d).output = λ d ne. ap (λ (w : Wire). w.output) (o.wires d ∙ with_other a.wire (a.given + 1) d _ ne) in
@@ -246,7 +284,8 @@ tells_opens a b e st after hs s o noted sessions =
     tells_by a b s (record s { connections = with_opened s.connections }) hs
     (quiet_notes hs s.notes quiet)
     (λ e. opened_length s.connections a.given e ∙ sym o.given)
-    (λ none i le.
+    consistent
+    (λ k none i le.
     let more : a.given + 1 ≤ i = subst (λ (n : ℕ). n ≤ i) o.given le in
     let ne : i + 1 ≢ a.given + 1 = λ e. omega arith in
     let was = none i (omega arith) in

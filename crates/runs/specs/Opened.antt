@@ -2,7 +2,7 @@
 use Rattle.std.specs.Prelude.{◌≡◌, ◌+◌, ℕ, List, true, false, Option, Some, None, MatchBool}
 use Rattle.model.specs.Run.{Happening, notes_of}
 use Rattle.model.specs.Commands.{Stream, new_stream, running_stream}
-use Rattle.model.specs.Arrivals.{World, Same, Waits, Rests, Turns, Opens, Loses, Takes_off, can_open, is_over, is_gone, with_heard}
+use Rattle.model.specs.Arrivals.{World, Same, Waits, Rests, Turns, Opens, Loses, Takes_off, Delivers, NoneCanDeliver, can_open, is_over, is_gone, with_heard}
 use Rattle.model.specs.declared.events.Event.{Event}
 use Rattle.model.specs.declared.events.Event.TheVariants as event
 use Rattle.model.specs.declared.notes.Note.{Note}
@@ -31,6 +31,14 @@ Did old c notes new = (hs : List Happening) × (notes ≡ notes_of hs) × Turns 
 -- nothing is left to perform
 abbrev pub DidNothing : World → ℕ → World → Type 0
 DidNothing old c new = Rests old c × Waits old c new
+
+-- one delivery was made, to one of the connections, with these notes
+abbrev pub Pumped : World → List Note → World → Type 0
+Pumped old notes new = (c : ℕ) × (hs : List Happening) × (notes ≡ notes_of hs) × Delivers old c hs new
+
+-- no delivery can be made, to whatever connection, and nothing was done
+abbrev pub Idles : World → World → Type 0
+Idles old new = NoneCanDeliver old × Same old new
 
 -- so many bytes of the output are taken, unless the connection is gone
 abbrev pub Takes : World → ℕ → ℕ → World → Type 0

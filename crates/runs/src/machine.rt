@@ -7,7 +7,7 @@ use std::alloc::{AllocError, Global};
 pub trait Machine {
     ghost use Rattle.std.specs.Prelude.{◌≡◌, ◌<◌, ℕ, IfOk, OnOk, OnErr, OnSome, MatchOption, MatchBool};
     ghost use Rattle.model.specs.Arrivals.{World, Same, Waits, is_over};
-    ghost use Rattle.runs.specs.Opened.{OpensNew, OpensReady, Hears, Did, DidNothing, Takes, IsLost};
+    ghost use Rattle.runs.specs.Opened.{OpensNew, OpensReady, Hears, Did, DidNothing, Idles, Pumped, Takes, IsLost};
 
     // what it stands for
     ghost world: { Self → World };
@@ -35,6 +35,11 @@ pub trait Machine {
         ensures ok { IfOk result (λ did. MatchOption did (DidNothing (world self.old) c (world self.new)) (λ notes. Did (world self.old) c notes.items (world self.new))) }
         ensures fewer { IfOk result (λ did. OnSome did (left self.new < left self.old)) }
         ensures err { OnErr result (Waits (world self.old) c (world self.new)) };
+
+    /// Makes one delivery, to one of the connections, and gives its notes; none where no delivery can be made.
+    fn pump(&mut self, alloc: Global) -> Result<Option<Vec<Note>>, AllocError>
+        ensures ok { IfOk result (λ did. MatchOption did (Idles (world self.old) (world self.new)) (λ notes. Pumped (world self.old) notes.items (world self.new))) }
+        ensures err { OnErr result (Same (world self.old) (world self.new)) };
 
     /// Takes `n` bytes from the front of `c`'s output, at most what is there.
     fn sent(&mut self, c: u64, n: u64)

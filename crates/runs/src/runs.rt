@@ -53,6 +53,7 @@ fn arrive<M: Machine>(
         Arrival::Ready(k) => open_ready(alloc, machine, *k, transcript),
         Arrival::In(c, bytes) => hear(alloc, machine, *c, bytes.as_bytes(), transcript),
         Arrival::Sent(c, n) => take(alloc, machine, *c, *n, transcript),
+        Arrival::Pump => pump(alloc, machine, transcript),
         Arrival::Lose(c) => lose(machine, *c, transcript),
     }
 }
@@ -119,6 +120,20 @@ fn take<M: Machine>(
     transcript.gather(c, front(machine.output(c), n))?;
     machine.sent(c, n);
     work(alloc, machine, c, transcript)
+}
+
+/// One delivery is made, if any can be.
+fn pump<M: Machine>(
+    alloc: Global,
+    machine: &mut M,
+    transcript: &mut Transcript,
+) -> Result<(), AllocError>
+    ensures { OnOk result (AnswersAndTells (M.world machine.old) arrival.Pump transcript.old (M.world machine.new) transcript.new) }
+{
+    match machine.pump(alloc)? {
+        Some(notes) => transcript.note(notes),
+        None => Ok(()),
+    }
 }
 
 /// A connection is lost, unless it is gone, and what is left of its output is never taken.

@@ -34,6 +34,10 @@ impl Machine for Closed {
         Ok(None)
     }
 
+    fn pump(&mut self, _alloc: Global) -> Result<Option<Vec<Note>>, AllocError> {
+        Ok(None)
+    }
+
     fn sent(&mut self, _c: u64, _n: u64) {}
 
     fn lose(&mut self, _c: u64) {}
@@ -51,7 +55,12 @@ impl Machine for Closed {
 fn arrivals_for_no_connection_do_nothing(rt: HostRuntime) -> Result<(), Fail> {
     let alloc = rt.alloc();
     let bytes = Text::from_slice(alloc, b"AMQP")?;
-    let arrivals = [Arrival::In(1, bytes), Arrival::Sent(1, 5), Arrival::Lose(2)];
+    let arrivals = [
+        Arrival::In(1, bytes),
+        Arrival::Sent(1, 5),
+        Arrival::Pump,
+        Arrival::Lose(2),
+    ];
     let mut machine = Closed;
     let transcript = run_over(alloc, &mut machine, &arrivals)?;
     assert!(rt; transcript.connections().is_empty());

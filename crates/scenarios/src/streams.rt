@@ -62,7 +62,7 @@ fn output_that_is_not_taken_has_status_four(rt: HostRuntime) {
 #[test]
 fn a_complaint_that_is_not_taken_has_status_four(rt: HostRuntime) {
     let alloc = rt.alloc();
-    let mut files = Disk { text: b"pump" };
+    let mut files = Disk { text: b"begin" };
     let mut out: Vec<u8> = Vec::new(alloc);
     let status = program(alloc, REPLAY.as_slice(), &mut files, &mut out, &mut Closed);
     assert_eq!(rt; status, 4);

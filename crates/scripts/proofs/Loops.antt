@@ -6,7 +6,7 @@ use Rattle.std.proofs.lemmas.List.{append-nil}
 use Rattle.std.proofs.lemmas.Bool.Decides.{nat_tests}
 use Rattle.model.specs.Words.{Text}
 use Rattle.model.specs.declared.events.Arrival.{Arrival}
-use Rattle.model.specs.declared.events.Arrival.TheVariants.{Open, Ready, In, Sent, Lose}
+use Rattle.model.specs.declared.events.Arrival.TheVariants.{Open, Ready, In, Sent, Pump, Lose}
 use Rattle.scripts.specs.Script.{cut, piece, number, connection, opening, ready, bytes_in, sent, lost, by_word, arrival_of, line_of, arrivals_from, opened_after, onto, with_line}
 
 -- how much is left, counting one for a text that has no bytes
@@ -88,13 +88,14 @@ word_few : (opened : ℕ) (f : Option (Text × Text)) → opened ≤ 1024 → op
 word_few opened None h = h
 word_few opened (Some f) h = word_at opened f (bytes_eq f.0 (codes "ready")) (bytes_eq f.0 (codes "in")) (bytes_eq f.0 (codes "sent")) (bytes_eq f.0 (codes "lose")) h
 
-arrival_at : (opened : ℕ) (l : Text) (v : Bool) → opened ≤ 1024 → opened_after opened (option_map (λ (x : Arrival). Some x) (cond v (opening opened) (option_and_then (by_word opened) (cut l)))) ≤ 1024
-arrival_at opened l true h = opening_at opened (nat_lt opened 1024) refl h
-arrival_at opened l false h = word_few opened (cut l) h
+arrival_at : (opened : ℕ) (l : Text) (v w : Bool) → opened ≤ 1024 → opened_after opened (option_map (λ (x : Arrival). Some x) (cond v (opening opened) (cond w (Some Pump) (option_and_then (by_word opened) (cut l))))) ≤ 1024
+arrival_at opened l true w h = opening_at opened (nat_lt opened 1024) refl h
+arrival_at opened l false true h = h
+arrival_at opened l false false h = word_few opened (cut l) h
 
 line_at : (opened b : ℕ) (bs : Text) (v : Bool) → opened ≤ 1024 → opened_after opened (cond v (Some None) (option_map (λ (x : Arrival). Some x) (arrival_of opened (b ∷ bs)))) ≤ 1024
 line_at opened b bs true h = h
-line_at opened b bs false h = arrival_at opened (b ∷ bs) (bytes_eq (b ∷ bs) (codes "open")) h
+line_at opened b bs false h = arrival_at opened (b ∷ bs) (bytes_eq (b ∷ bs) (codes "open")) (bytes_eq (b ∷ bs) (codes "pump")) h
 
 pub line_few : (opened : ℕ) (line : Text) → opened ≤ 1024 → opened_after opened (line_of opened line) ≤ 1024
 line_few opened [] h = h

@@ -4,7 +4,7 @@ use Rattle.std.specs.Str.{bytes_eq}
 use Rattle.hex.specs.Hex.{decode_of}
 use Rattle.model.specs.Words.{Text, onto_first}
 use Rattle.model.specs.declared.events.Arrival.{Arrival}
-use Rattle.model.specs.declared.events.Arrival.TheVariants.{Open, Ready, In, Sent, Lose}
+use Rattle.model.specs.declared.events.Arrival.TheVariants.{Open, Ready, In, Sent, Pump, Lose}
 use Rattle.scripts.specs.declared.script.Fault.{Fault}
 use Rattle.scripts.specs.declared.script.Fault.TheVariants.{Line, Memory}
 
@@ -81,9 +81,12 @@ by_word opened f =
     if bytes_eq f.0 (codes "lose") then lost opened f.1 else
     None
 
--- the arrival of a line that is not skipped
+-- the arrival of a line that is not skipped; `pump` alone: a message is delivered, where one can be
 abbrev pub arrival_of : ℕ → Text → Option Arrival
-arrival_of opened l = if bytes_eq l (codes "open") then opening opened else option_and_then (by_word opened) (cut l)
+arrival_of opened l =
+    if bytes_eq l (codes "open") then opening opened else
+    if bytes_eq l (codes "pump") then Some Pump else
+    option_and_then (by_word opened) (cut l)
 
 -- A line is skipped, brings an arrival, or is at fault. Skipped are the empty line and those that begin with `#`.
 abbrev pub line_of : ℕ → Text → Option (Option Arrival)

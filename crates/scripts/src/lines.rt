@@ -201,6 +201,9 @@ fn arrival_of(alloc: Global, opened: u64, line: &[u8]) -> Result<Arrival, Bad>
     if line == b"open".as_slice() {
         return opening(opened).ok_or(Bad::Malformed);
     }
+    if line == b"pump".as_slice() {
+        return Ok(Arrival::Pump);
+    }
     match cut(line) {
         Some((word, rest)) => by_word(alloc, opened, word, rest),
         None => Err(Bad::Malformed),

@@ -44,7 +44,8 @@ fn take_line(alloc: Global, found: &mut Vec<Arrival>, opened: u64, line: &[u8]) 
 ///
 /// The script is read whole: lines that LF ends, of fields that one space parts. Empty lines and those that begin with
 /// `#` are skipped; `open` opens a connection of which no byte has come, `ready K` one that runs with channels 1 to K
-/// open, and `in C HEX` is a piece of bytes from connection C. The first line at fault is told by its number, counted from 1.
+/// open, `in C HEX` is a piece of bytes from connection C, `sent C N` takes N bytes of C's output, `pump` delivers a message
+/// where one can be, and `lose C` loses C. The first line at fault is told by its number, counted from 1.
 pub fn read_script(alloc: Global, text: &[u8]) -> Result<Vec<Arrival>, Fault>
     ensures { MatchResult result (λ found. script text.now ≡ Ok found.items) (λ fault. Refuses fault (script text.now)) }
 {

@@ -1,12 +1,12 @@
 -- An arrival of one connection leaves the others as they were, and so what is due of them.
-use Rattle.std.proofs.Common.{◌≡◌, ◌≢◌, ◌≤◌, ◌<◌, ℕ, ◌+◌, List, [], ◌∷◌, ◌++◌, Bool, true, false, not, cond, eqb, eqb→eq, T, get_or, drop, suc, zero, slice_index_or, append_assoc, Option, Some, None, length, refl, sym, ap, subst, ◌∙◌, flat_map, ◌⊎◌, inl, inr, arith}
+use Rattle.std.proofs.Common.{◌≡◌, ◌≢◌, ℕ, ◌+◌, List, [], ◌∷◌, ◌++◌, Bool, true, false, not, cond, eqb→eq, T, drop, suc, zero, slice_index_or, append_assoc, Option, Some, None, length, refl, sym, ap, subst, ◌∙◌, flat_map, inl, inr, arith}
 use Rattle.std.proofs.lemmas.List.{get_or-drop}
 use Rattle.std.specs.Prelude.{nat_lt, MatchBool, ◌&&◌, ◌==◌, if◌then◌else◌}
 use Rattle.model.specs.Broker.{with_one}
 use Rattle.model.specs.Phases.{Session}
 use Rattle.model.specs.State.{Config, State}
 use Rattle.model.specs.Run.{Happening}
-use Rattle.model.specs.Arrivals.{World, Wire, Turns, Works, none_more, one_more, Waits, WorksOff, Answers, Takes_off, TakesAndWorks, Loses, Settles, Same, with_heard, is_over, is_gone, is_paused, is_past_bound, is_ended, is_awake, has_output}
+use Rattle.model.specs.Arrivals.{World, Wire, Works, none_more, one_more, Waits, WorksOff, Answers, Takes_off, TakesAndWorks, Loses, Settles, Same, with_heard, is_over, is_gone, is_past_bound, is_ended, is_awake}
 use Rattle.model.specs.declared.events.Arrival.TheVariants as arrival
 use Rattle.serving.specs.Wire.{Ask, To_read, To_write}
 use Rattle.serving.specs.Coming.{FallsShort}

@@ -1,15 +1,15 @@
 -- Each deed, as a server goes on by it.
-use Rattle.std.proofs.Common.{true, false, ◌≡◌, ◌≤◌, ℕ, ◌+◌, List, [], ◌∷◌, ◌++◌, Bool, Option, Some, None, length, take, refl, sym, ap, subst, ◌∙◌, slice_set}
+use Rattle.std.proofs.Common.{true, false, ◌≡◌, ◌≤◌, ℕ, ◌+◌, List, [], ◌∷◌, ◌++◌, Option, None, length, take, refl, sym, subst, slice_set}
 use Rattle.std.proofs.lemmas.List.{length-take-le}
 use Rattle.model.specs.Run.{Happening}
-use Rattle.model.specs.Arrivals.{World, Same, can_open, is_gone, Answers}
+use Rattle.model.specs.Arrivals.{World, Same, can_open, is_gone, Answers, Delivers, NoneCanDeliver, delivers, idles}
 use Rattle.model.specs.declared.events.Arrival.TheVariants as arrival
-use Rattle.serving.specs.Wire.{Call, Accepted, Not_accepted, Accept_failed, Got, Nothing_got, Read_ended, Read_failed, Took, Nothing_taken, Write_failed, Closed, Rested, To_accept, To_read, To_write, Told, after, IsFresh}
+use Rattle.serving.specs.Wire.{Accepted, Not_accepted, Accept_failed, Got, Nothing_got, Read_ended, Read_failed, Took, Nothing_taken, Write_failed, Closed, Rested, To_accept, To_read, To_write, Told, after, IsFresh}
 use Rattle.serving.specs.Coming.{Attempt, whole, short, Brings, FallsShort}
-use Rattle.serving.specs.Story.{Served, served, At, TakesIn, Met, Turned_away, Met_no_one, Heard, Heard_partly, Heard_nothing, Heard_end, Gave, Gave_partly, Gave_nothing, Gave_up, Let_go, Paused, Serves}
+use Rattle.serving.specs.Story.{Served, served, At, TakesIn, Met, Turned_away, Met_no_one, Heard, Heard_partly, Heard_nothing, Heard_end, Gave, Gave_partly, Gave_nothing, Gave_up, Pumped, Pumped_nothing, Pump_refused, Let_go, Paused, Serves, PumpsOnce}
 use Rattle.serving.specs.declared.peers.Peer.{Peer}
 use Rattle.serving.proofs.Turning.{match_false}
-use Rattle.serving.proofs.Onward.{after_two, serves_one, attempt_one, attempt_two}
+use Rattle.serving.proofs.Onward.{after_none, after_two, serves_one, attempt_one, attempt_two}
 
 -- ---- accepts
 
@@ -17,18 +17,18 @@ pub met : (a b : World) (ps qs : List (Option Peer)) (s : ℕ) (told now : Told)
 met a b ps qs s told now (can, answers, filled) fresh e =
     let p : Peer = record { connection = a.given + 1; socket = s } in
     serves_one (served a ps told) (served b qs now) _ _ (Met filled.0 p) answers.0
-    (record { table = (can, refl, fresh, filled.1); brings = attempt_one a b (whole arrival.Open) answers.0 answers.1; told = e }) refl refl
+    (record { table = (can, refl, fresh, filled.1); brings = attempt_one a b (whole arrival.Open) answers.0 answers.1; told = e }) refl refl refl
 
 pub turned_away : (a b : World) (ps qs : List (Option Peer)) (s : ℕ) (told mid now : Told) → TakesIn a ps s false b qs → mid ≡ after told (Accepted s ∷ []) → now ≡ after mid (Closed s ∷ []) → Serves (served a ps told) (To_accept ∷ []) true (served b qs now)
 turned_away a b ps qs s told mid now t e f =
     serves_one (served a ps told) (served b qs now) _ _ (Turned_away s t.0.0) []
-    (record { table = (t.0.1, t.1); brings = attempt_one a b t.0.0 [] t.0.2; told = after_two told mid now _ _ e f }) refl refl
+    (record { table = (t.0.1, t.1); brings = attempt_one a b t.0.0 [] t.0.2; told = after_two told mid now _ _ e f }) refl refl refl
 
 pub met_nothing : (a : World) (ps : List (Option Peer)) (told now : Told) → now ≡ after told (Not_accepted ∷ []) → Serves (served a ps told) (To_accept ∷ []) false (served a ps now)
-met_nothing a ps told now e = serves_one (served a ps told) (served a ps now) _ _ (Met_no_one false) [] (record { table = refl; brings = (refl, refl); told = e }) refl refl
+met_nothing a ps told now e = serves_one (served a ps told) (served a ps now) _ _ (Met_no_one false) [] (record { table = refl; brings = (refl, refl); told = e }) refl refl refl
 
 pub met_failure : (a : World) (ps : List (Option Peer)) (told now : Told) → now ≡ after told (Accept_failed ∷ []) → Serves (served a ps told) (To_accept ∷ []) false (served a ps now)
-met_failure a ps told now e = serves_one (served a ps told) (served a ps now) _ _ (Met_no_one true) [] (record { table = refl; brings = (refl, refl); told = e }) refl refl
+met_failure a ps told now e = serves_one (served a ps told) (served a ps now) _ _ (Met_no_one true) [] (record { table = refl; brings = (refl, refl); told = e }) refl refl refl
 
 -- ---- reads
 
@@ -36,7 +36,7 @@ pub heard : (a b : World) (ps : List (Option Peer)) (i : ℕ) (p : Peer) (bytes 
     → Serves (served a ps told) (To_read p.socket ∷ []) true (served b ps now)
 heard a b ps i p bytes told now at ans e =
     serves_one (served a ps told) (served b ps now) _ _ (Heard i p bytes) ans.0
-    (record { table = (at, refl); brings = attempt_one a b (whole (arrival.In p.connection bytes)) ans.0 ans.1; told = e }) refl refl
+    (record { table = (at, refl); brings = attempt_one a b (whole (arrival.In p.connection bytes)) ans.0 ans.1; told = e }) refl refl refl
 
 pub heard_partly : (a m b : World) (ps : List (Option Peer)) (i : ℕ) (p : Peer) (bytes : List ℕ) (told mid now : Told) → At ps i p → (hs : List Happening) × FallsShort a (arrival.In p.connection bytes) hs m
     → (hs : List Happening) × Answers m (arrival.Lose p.connection) hs b → mid ≡ after told (Got p.socket bytes ∷ []) → now ≡ after mid (Closed p.socket ∷ [])
@@ -47,22 +47,22 @@ heard_partly a m b ps i p bytes told mid now at falls lost e f =
       table = (at, refl);
       brings = attempt_two a m b (short (arrival.In p.connection bytes)) (whole (arrival.Lose p.connection)) falls.0 lost.0 falls.1 lost.1;
       told = after_two told mid now _ _ e f;
-    }) refl refl
+    }) refl refl refl
 
 pub heard_nothing : (a : World) (ps : List (Option Peer)) (i : ℕ) (p : Peer) (told now : Told) → At ps i p → now ≡ after told (Nothing_got p.socket ∷ []) → Serves (served a ps told) (To_read p.socket ∷ []) false (served a ps now)
-heard_nothing a ps i p told now at e = serves_one (served a ps told) (served a ps now) _ _ (Heard_nothing i p) [] (record { table = (at, refl); brings = (refl, refl); told = e }) refl refl
+heard_nothing a ps i p told now at e = serves_one (served a ps told) (served a ps now) _ _ (Heard_nothing i p) [] (record { table = (at, refl); brings = (refl, refl); told = e }) refl refl refl
 
 pub heard_end : (a b : World) (ps : List (Option Peer)) (i : ℕ) (p : Peer) (told mid now : Told) → At ps i p → (hs : List Happening) × Answers a (arrival.Lose p.connection) hs b
     → mid ≡ after told (Read_ended p.socket ∷ []) → now ≡ after mid (Closed p.socket ∷ []) → Serves (served a ps told) (To_read p.socket ∷ []) true (served b (slice_set ps i None) now)
 heard_end a b ps i p told mid now at lost e f =
     serves_one (served a ps told) (served b (slice_set ps i None) now) _ _ (Heard_end i p false) lost.0
-    (record { table = (at, refl); brings = attempt_one a b (whole (arrival.Lose p.connection)) lost.0 lost.1; told = after_two told mid now _ _ e f }) refl refl
+    (record { table = (at, refl); brings = attempt_one a b (whole (arrival.Lose p.connection)) lost.0 lost.1; told = after_two told mid now _ _ e f }) refl refl refl
 
 pub heard_failure : (a b : World) (ps : List (Option Peer)) (i : ℕ) (p : Peer) (told mid now : Told) → At ps i p → (hs : List Happening) × Answers a (arrival.Lose p.connection) hs b
     → mid ≡ after told (Read_failed p.socket ∷ []) → now ≡ after mid (Closed p.socket ∷ []) → Serves (served a ps told) (To_read p.socket ∷ []) true (served b (slice_set ps i None) now)
 heard_failure a b ps i p told mid now at lost e f =
     serves_one (served a ps told) (served b (slice_set ps i None) now) _ _ (Heard_end i p true) lost.0
-    (record { table = (at, refl); brings = attempt_one a b (whole (arrival.Lose p.connection)) lost.0 lost.1; told = after_two told mid now _ _ e f }) refl refl
+    (record { table = (at, refl); brings = attempt_one a b (whole (arrival.Lose p.connection)) lost.0 lost.1; told = after_two told mid now _ _ e f }) refl refl refl
 
 -- ---- writes
 
@@ -73,7 +73,7 @@ gave a b ps i p n told now at le ans e =
     let is : length (take n out) ≡ n = length-take-le n out le in
     let brings : Answers a (arrival.Sent p.connection (length (take n out))) ans.0 b = subst (λ (k : ℕ). Answers a (arrival.Sent p.connection k) ans.0 b) (sym is) ans.1 in
     serves_one (served a ps told) (served b ps now) _ _ (Gave i p (take n out)) ans.0
-    (record { table = ((n, le, refl), (at, refl)); brings = attempt_one a b (whole (arrival.Sent p.connection (length (take n out)))) ans.0 brings; told = e }) refl refl
+    (record { table = ((n, le, refl), (at, refl)); brings = attempt_one a b (whole (arrival.Sent p.connection (length (take n out)))) ans.0 brings; told = e }) refl refl refl
 
 pub gave_partly : (a m b : World) (ps : List (Option Peer)) (i : ℕ) (p : Peer) (n : ℕ) (told mid now : Told) → At ps i p → n ≤ length (a.wire p.connection).output → (hs : List Happening) × FallsShort a (arrival.Sent p.connection n) hs m
     → (hs : List Happening) × Answers m (arrival.Lose p.connection) hs b → mid ≡ after told (Took p.socket (take n (a.wire p.connection).output) ∷ []) → now ≡ after mid (Closed p.socket ∷ [])
@@ -87,24 +87,53 @@ gave_partly a m b ps i p n told mid now at le falls lost e f =
       table = ((n, le, refl), (at, refl));
       brings = attempt_two a m b (short (arrival.Sent p.connection (length (take n out)))) (whole (arrival.Lose p.connection)) falls.0 lost.0 brings lost.1;
       told = after_two told mid now _ _ e f;
-    }) refl refl
+    }) refl refl refl
 
 pub gave_nothing : (a : World) (ps : List (Option Peer)) (i : ℕ) (p : Peer) (told now : Told) → At ps i p → now ≡ after told (Nothing_taken p.socket ∷ []) → Serves (served a ps told) (To_write p.socket ∷ []) false (served a ps now)
-gave_nothing a ps i p told now at e = serves_one (served a ps told) (served a ps now) _ _ (Gave_nothing i p) [] (record { table = (at, refl); brings = (refl, refl); told = e }) refl refl
+gave_nothing a ps i p told now at e = serves_one (served a ps told) (served a ps now) _ _ (Gave_nothing i p) [] (record { table = (at, refl); brings = (refl, refl); told = e }) refl refl refl
 
 pub gave_up : (a b : World) (ps : List (Option Peer)) (i : ℕ) (p : Peer) (told mid now : Told) → At ps i p → (hs : List Happening) × Answers a (arrival.Lose p.connection) hs b
     → mid ≡ after told (Write_failed p.socket ∷ []) → now ≡ after mid (Closed p.socket ∷ []) → Serves (served a ps told) (To_write p.socket ∷ []) true (served b (slice_set ps i None) now)
 gave_up a b ps i p told mid now at lost e f =
     serves_one (served a ps told) (served b (slice_set ps i None) now) _ _ (Gave_up i p) lost.0
-    (record { table = (at, refl); brings = attempt_one a b (whole (arrival.Lose p.connection)) lost.0 lost.1; told = after_two told mid now _ _ e f }) refl refl
+    (record { table = (at, refl); brings = attempt_one a b (whole (arrival.Lose p.connection)) lost.0 lost.1; told = after_two told mid now _ _ e f }) refl refl refl
+
+-- ---- pumps
+
+pub pumped : (a b : World) (ps : List (Option Peer)) (told : Told) (c : ℕ) (hs : List Happening) → Delivers a c hs b → PumpsOnce (served a ps told) true (served b ps told)
+pumped a b ps told c hs d = record {
+  deed = Pumped;
+  happenings = hs;
+  does = record { table = ((c, d.puts.happens.stepped.acts.made), refl); brings = attempt_one a b (whole arrival.Pump) hs (delivers d); told = sym (after_none told) };
+  pump = refl;
+  done = refl;
+}
+
+pub pumped_nothing : (a b : World) (ps : List (Option Peer)) (told : Told) → NoneCanDeliver a → Same a b → PumpsOnce (served a ps told) false (served b ps told)
+pumped_nothing a b ps told none same = record {
+  deed = Pumped_nothing;
+  happenings = [];
+  does = record { table = (none, refl); brings = attempt_one a b (whole arrival.Pump) [] (idles none (refl, same)); told = sym (after_none told) };
+  pump = refl;
+  done = refl;
+}
+
+pub pump_refused : (a b : World) (ps : List (Option Peer)) (told : Told) → Same a b → PumpsOnce (served a ps told) false (served b ps told)
+pump_refused a b ps told same = record {
+  deed = Pump_refused;
+  happenings = [];
+  does = record { table = refl; brings = attempt_one a b (short arrival.Pump) [] (refl, same); told = sym (after_none told) };
+  pump = refl;
+  done = refl;
+}
 
 -- ---- ends and rests
 
 pub let_go : (a : World) (ps : List (Option Peer)) (i : ℕ) (p : Peer) (told now : Told) → At ps i p → is_gone a p.connection ≡ true → now ≡ after told (Closed p.socket ∷ []) → Serves (served a ps told) [] true (served a (slice_set ps i None) now)
-let_go a ps i p told now at gone e = serves_one (served a ps told) (served a (slice_set ps i None) now) _ _ (Let_go i p) [] (record { table = (gone, (at, refl)); brings = (refl, refl); told = e }) refl refl
+let_go a ps i p told now at gone e = serves_one (served a ps told) (served a (slice_set ps i None) now) _ _ (Let_go i p) [] (record { table = (gone, (at, refl)); brings = (refl, refl); told = e }) refl refl refl
 
 pub paused : (v : Served) → Serves v [] false (record v { told = after v.told (Rested ∷ []) })
-paused v = serves_one v (record v { told = after v.told (Rested ∷ []) }) _ _ Paused [] (record { table = refl; brings = (refl, refl); told = refl }) refl refl
+paused v = serves_one v (record v { told = after v.told (Rested ∷ []) }) _ _ Paused [] (record { table = refl; brings = (refl, refl); told = refl }) refl refl refl
 
 -- ---- what is not taken in
 

@@ -1,15 +1,15 @@
 -- However a server goes on, each slot has a connection of its own.
-use Rattle.std.proofs.Common.{◌≡◌, ◌≢◌, ◌≤◌, ◌<◌, ℕ, suc, zero, ◌+◌, List, [], ◌∷◌, ◌++◌, Bool, true, false, Option, Some, None, length, refl, sym, ap, subst, ◌∙◌, ◌⊎◌, inl, inr, slice_set, slice_index_or, arith}
+use Rattle.std.proofs.Common.{◌≡◌, ◌≢◌, ◌≤◌, ◌<◌, ℕ, suc, zero, ◌+◌, List, [], ◌∷◌, Bool, true, false, Option, None, length, refl, sym, ap, subst, ◌∙◌, ◌⊎◌, inl, inr, slice_set, slice_index_or, arith}
 use Rattle.std.proofs.lemmas.Bool.{false≢true, cases_eq}
 use Rattle.std.proofs.lemmas.Option.{same_Some}
 use Rattle.std.specs.Prelude.{MatchBool}
 use Rattle.model.specs.Run.{Happening}
-use Rattle.model.specs.Arrivals.{World, Turns, Works, none_more, one_more, Waits, WorksOff, Answers, Same, with_heard, is_over, is_gone, can_open, Opens, Loses, TakesAndWorks}
+use Rattle.model.specs.Arrivals.{World, Works, none_more, one_more, Waits, WorksOff, Answers, Same, with_heard, is_over, is_gone, can_open, Opens, Loses, TakesAndWorks, Pumps, delivers, idles}
 use Rattle.model.specs.declared.events.Arrival.{Arrival}
 use Rattle.model.specs.declared.events.Arrival.TheVariants as arrival
 use Rattle.serving.specs.Wire.{Ask}
-use Rattle.serving.specs.Coming.{Attempt, whole, FallsShort, Brings, Attempts}
-use Rattle.serving.specs.Story.{Served, At, Filled, Deed, Met, Turned_away, Met_no_one, Heard, Heard_partly, Heard_nothing, Heard_end, Gave, Gave_partly, Gave_nothing, Gave_up, Let_go, Paused, attempts, Table, Does, Story, Serves}
+use Rattle.serving.specs.Coming.{Attempt, whole, FallsShort, Attempts}
+use Rattle.serving.specs.Story.{Served, At, Filled, Deed, Met, Turned_away, Met_no_one, Heard, Heard_partly, Heard_nothing, Heard_end, Gave, Gave_partly, Gave_nothing, Gave_up, Pumped, Pumped_nothing, Pump_refused, Let_go, Paused, attempts, Table, Does, Story, Serves, PumpsUp}
 use Rattle.serving.specs.Fit.{IsFit}
 use Rattle.serving.specs.declared.peers.Peer.{Peer}
 
@@ -30,12 +30,17 @@ either_opens : (a b : World) (P : Type 0) (hs : List Happening) (x : Bool) → (
 either_opens a b P hs true f p = let g = f p in omega (arith, g)
 either_opens a b P hs false f p = let g = p.1.given in omega (arith, g)
 
+pumps_le : (a b : World) (hs : List Happening) → Pumps a hs b → a.given ≤ b.given
+pumps_le a b hs (delivers d) = let g = d.given in omega (arith, g)
+pumps_le a b hs (idles n p) = let g = p.1.given in omega (arith, g)
+
 answers_le : (a b : World) (t : Arrival) (hs : List Happening) → Answers a t hs b → a.given ≤ b.given
 answers_le a b arrival.Open hs p = either_opens a b _ hs (can_open a) (λ (o : Opens a _ _ hs b). o.given) p
 answers_le a b (arrival.Ready k) hs p = either_opens a b _ hs (can_open a) (λ (o : Opens a _ _ hs b). o.given) p
 answers_le a b (arrival.In c bytes) hs p = either a b _ hs (is_over a c) (λ (l : WorksOff (with_heard a c bytes) c hs b). let g = worked_given c (with_heard a c bytes) l.mid b hs l.works l.waits in omega (arith, g)) p
 answers_le a b (arrival.Sent c n) hs p =
     either a b _ hs (is_gone a c) (λ (l : TakesAndWorks a c n hs b). let g = worked_given c l.mid l.works.mid b l.rest l.works.works l.works.waits in let h = l.takes.given in omega (arith, g, h)) p
+answers_le a b arrival.Pump hs p = pumps_le a b hs p
 answers_le a b (arrival.Lose c) hs p = either a b _ hs (is_gone a c) (λ (l : Loses a c hs b). let g = l.given in omega (arith, g)) p
 
 short_le : (a b : World) (t : Arrival) (hs : List Happening) → FallsShort a t hs b → a.given ≤ b.given
@@ -44,6 +49,7 @@ short_le a b (arrival.Ready k) hs p = let g = p.1.given in omega (arith, g)
 short_le a b (arrival.In c bytes) hs (inl p) = let g = p.1.given in omega (arith, g)
 short_le a b (arrival.In c bytes) hs (inr l) = let g = worked_given c (with_heard a c bytes) l.mid b hs l.works l.waits in omega (arith, g)
 short_le a b (arrival.Sent c n) hs l = let g = worked_given c l.mid l.works.mid b l.rest l.works.works l.works.waits in let h = l.takes.given in omega (arith, g, h)
+short_le a b arrival.Pump hs p = let g = p.1.given in omega (arith, g)
 short_le a b (arrival.Lose c) hs p = absurd p
 
 brings_le : (a b : World) (t : Arrival) (x : Bool) (hs : List Happening) → MatchBool x (Answers a t hs b) (FallsShort a t hs b) → a.given ≤ b.given
@@ -129,6 +135,9 @@ fit_does a b d hs does f = go d does.table (attempts_le (attempts d) a.world b.w
     go (Gave_partly i p bytes) t le br = fit_freed a b i le t.1.1 f
     go (Gave_nothing i p) t le br = fit_same a b le t.1 f
     go (Gave_up i p) t le br = fit_freed a b i le t.1 f
+    go Pumped t le br = fit_same a b le t.1 f
+    go Pumped_nothing t le br = fit_same a b le t.1 f
+    go Pump_refused t le br = fit_same a b le t f
     go (Let_go i p) t le br = fit_freed a b i le t.1.1 f
     go Paused t le br = fit_same a b le t f
 
@@ -138,6 +147,9 @@ fit_story (d ∷ ds) a b hs (mid, first, rest, e, does, s) f = fit_story ds mid 
 
 pub serves_fit : (a b : Served) (xs : List Ask) (p : Bool) → Serves a xs p b → IsFit a.world a.peers → IsFit b.world b.peers
 serves_fit a b xs p s f = fit_story s.deeds a b s.happenings s.story f
+
+pub pumps_fit : (n : ℕ) (a b : Served) (p : Bool) → PumpsUp n a p b → IsFit a.world a.peers → IsFit b.world b.peers
+pumps_fit n a b p s f = fit_story s.deeds a b s.happenings s.story f
 
 -- with no slot every server fits
 pub fit_none : (w : World) → IsFit w []

@@ -1,11 +1,10 @@
 -- What was taken of an output, with what waits there, is what was put out; of one that is gone it is a beginning.
-use Rattle.std.proofs.Common.{◌≡◌, ◌≢◌, ◌≤◌, ◌<◌, ℕ, zero, suc, ◌+◌, List, [], ◌∷◌, ◌++◌, Bool, true, false, eqb, length, take, drop, refl, sym, ap, subst, ◌∙◌, append_assoc, append-nil, flat_map, ◌⊎◌, inl, inr, Option, Some, arith}
+use Rattle.std.proofs.Common.{◌≡◌, ◌≢◌, ◌<◌, ℕ, ◌+◌, List, [], ◌∷◌, ◌++◌, Bool, true, false, eqb, length, take, drop, refl, sym, ap, subst, ◌∙◌, append_assoc, append-nil, flat_map, ◌⊎◌, inl, inr, Some, arith}
 use Rattle.std.proofs.lemmas.Bool.{eqb-true, eqb-false, false≢true, lt-ltb}
 use Rattle.std.proofs.lemmas.List.{length-take-le}
 use Rattle.std.proofs.lemmas.List.Concat.{flat_map-append}
 use Rattle.std.specs.Prelude.{◌==◌, ◌&&◌, not, nat_lt, if◌then◌else◌, MatchBool}
 use Rattle.std.specs.List.{AllByRecursion}
-use Rattle.model.specs.Topology.{IsIn}
 use Rattle.model.specs.Opening.{new_session}
 use Rattle.model.specs.Phases.{Session, no_session, running_session}
 use Rattle.model.specs.Spelling.{sends_to, spelling}
@@ -13,17 +12,21 @@ use Rattle.model.specs.Broker.{with_one}
 use Rattle.model.specs.Commands.{Stream}
 use Rattle.model.specs.State.{Config, State}
 use Rattle.model.specs.Run.{Happening, put_out}
-use Rattle.model.specs.Arrivals.{World, Wire, new_wire, new_world, is_over, is_gone, is_ended, can_open, Turns, Works, none_more, one_more, Waits, WorksOff, Same, with_heard, Takes_off, TakesAndWorks, Opens, Loses, Answers}
+use Rattle.model.specs.Arrivals.{World, Wire, new_world, is_over, is_gone, is_ended, can_open, Turns, Works, none_more, one_more, Waits, WorksOff, Same, with_heard, Takes_off, TakesAndWorks, Opens, Loses, Puts, Pumps, delivers, idles, Answers}
+use Rattle.model.specs.Consistent.{IsConsistent}
 use Rattle.model.specs.declared.events.Event.{Event}
+use Rattle.model.specs.declared.events.Event.TheVariants as event
 use Rattle.model.specs.declared.events.Arrival.{Arrival}
 use Rattle.model.specs.declared.events.Arrival.TheVariants as arrival
-use Rattle.runs.proofs.Steps.{quiet_one, settled, puts_each, turns_apart}
+use Rattle.runs.proofs.Steps.{settled, puts_each, turns_apart, delivers_apart}
 use Rattle.runs.proofs.Places.{with_here, with_other, take_nothing, drop_nothing, take_and_drop}
 use Rattle.serving.specs.Wire.{Call, Told}
 use Rattle.serving.specs.Coming.{Attempt, whole, short, FallsShort, Attempts}
-use Rattle.serving.specs.Story.{Served, served, Deed, Met, Turned_away, Met_no_one, Heard, Heard_partly, Heard_nothing, Heard_end, Gave, Gave_partly, Gave_nothing, Gave_up, Let_go, Paused, calls, attempts, IsFront, Does, Story}
-use Rattle.serving.specs.Joined.{all_met, written_to, AreBeginnings}
+use Rattle.serving.specs.Story.{Served, served, Deed, Met, Turned_away, Met_no_one, Heard, Heard_partly, Heard_nothing, Heard_end, Gave, Gave_partly, Gave_nothing, Gave_up, Pumped, Pumped_nothing, Pump_refused, Let_go, Paused, calls, attempts, IsFront, Does, Story}
+use Rattle.serving.specs.Joined.{written_to, AreBeginnings}
 use Rattle.serving.specs.declared.peers.Peer.{Peer}
+use Rattle.laws.proofs.Consistency.{new_is_consistent}
+use Rattle.serving.proofs.Staying.{brings_stays, attempts_stay}
 use Rattle.serving.proofs.Pairs.{peer_of, PairsWith, pairs_in}
 
 -- of connection d these bytes were taken and those were put out
@@ -82,18 +85,19 @@ flows_nothing d a b hs p = flows_not d a b hs (ap (λ (w : World). w.given) p.1)
 nothing_left : (xs ys zs : List ℕ) → xs ≡ ys ++ zs → xs ≡ [] → ys ≡ [] → zs ≡ []
 nothing_left xs ys zs e none nil = ap (λ (z : List ℕ). z ++ zs) (sym nil) ∙ sym e ∙ none
 
-flows_turn : (d c : ℕ) (a b : World) (hs : List Happening) → Turns a c hs b → Flows d a [] hs b
-flows_turn d c a b hs t = record { keeps = λ bytes put acc. record { fits = fits bytes put acc.fits; unopened = λ lt. unopened bytes put lt (acc.unopened (subst (λ (n : ℕ). n < d) t.given lt)) } }
+-- what is put out for c, where nothing is for one that is over
+flows_puts : (d c : ℕ) (a b : World) (e : Event) (hs : List Happening) → Puts a e c hs b → b.given ≡ a.given → (is_over a d ≡ true → d ≢ c) → Flows d a [] hs b
+flows_puts d c a b e hs p given apart = record { keeps = λ bytes put acc. record { fits = fits bytes put acc.fits; unopened = λ lt. unopened bytes put lt (acc.unopened (subst (λ (n : ℕ). n < d) given lt)) } }
   where
     each : (b.wire d).output ≡ (a.wire d).output ++ put_out d hs
-    each = puts_each a b t.event c hs d t.puts
+    each = puts_each a b e c hs d p
 
     -- one that is over is another
     stays : is_over a d ≡ true → (a.wire d).output ≡ [] → ((b.wire d).output ≡ []) × (is_over b d ≡ true) × (put_out d hs ≡ [])
     stays over none =
-        let ne : d ≢ c = turns_apart a b c hs d t over in
-        let left : (b.wire d).output ≡ [] = ap (λ (w : Wire). w.output) (t.puts.others d ne) ∙ none in
-        (left, ap (λ (s : Session). is_ended s.phase) (t.puts.rests d ne) ∙ over, nothing_left (b.wire d).output (a.wire d).output (put_out d hs) each left none)
+        let ne : d ≢ c = apart over in
+        let left : (b.wire d).output ≡ [] = ap (λ (w : Wire). w.output) (p.others d ne) ∙ none in
+        (left, ap (λ (s : Session). is_ended s.phase) (p.rests d ne) ∙ over, nothing_left (b.wire d).output (a.wire d).output (put_out d hs) each left none)
 
     fits : (bytes put : List ℕ) → (bytes ++ (a.wire d).output ≡ put) ⊎ ((is_over a d ≡ true) × ((a.wire d).output ≡ []) × ((rest : List ℕ) × (bytes ++ rest ≡ put)))
         → ((bytes ++ []) ++ (b.wire d).output ≡ put ++ put_out d hs) ⊎ ((is_over b d ≡ true) × ((b.wire d).output ≡ []) × ((rest : List ℕ) × ((bytes ++ []) ++ rest ≡ put ++ put_out d hs)))
@@ -107,6 +111,9 @@ flows_turn d c a b hs t = record { keeps = λ bytes put acc. record { fits = fit
     unopened bytes put lt u =
         let s = stays u.1 u.0 in
         (s.0, s.1, append-nil bytes ∙ u.2 ∙ sym (append-nil put) ∙ ap (λ (z : List ℕ). put ++ z) (sym s.2))
+
+flows_turn : (d c : ℕ) (a b : World) (hs : List Happening) → Turns a c hs b → Flows d a [] hs b
+flows_turn d c a b hs t = flows_puts d c a b t.event hs t.puts t.given (turns_apart a b c hs d t)
 
 flows_works : (d c : ℕ) (a b : World) (hs : List Happening) → Works c a hs b → Flows d a [] hs b
 flows_works d c a b hs none_more = flows_nothing d a a [] (refl, refl)
@@ -239,6 +246,7 @@ taken_by d w (arrival.Sent c n) = if c == d then take n (w.wire c).output else [
 taken_by d w arrival.Open = []
 taken_by d w (arrival.Ready k) = []
 taken_by d w (arrival.In c bytes) = []
+taken_by d w arrival.Pump = []
 taken_by d w (arrival.Lose c) = []
 
 gone_empty : (over : Bool) (out : List ℕ) → over && not (nat_lt 0 (length out)) ≡ true → out ≡ []
@@ -271,12 +279,17 @@ flows_sent : (d c n : ℕ) (a b : World) (hs : List Happening) (x : Bool) → is
 flows_sent d c n a b hs true e p = subst (λ (z : List ℕ). Flows d a z hs b) (gone_taken d c n a e) (flows_same d a b hs p)
 flows_sent d c n a b hs false e l = flows_taken d c n a l.mid l.works.mid b hs l.first l.rest l.all l.takes l.works.works l.works.waits
 
-flows_answers : (d : ℕ) (a b : World) (t : Arrival) (hs : List Happening) → Answers a t hs b → Flows d a (taken_by d a t) hs b
-flows_answers d a b arrival.Open hs p = flows_opening d a b _ hs (can_open a) (λ (o : Opens a _ _ hs b). flows_opens d a b _ _ new_session hs o o.happens.stepped.steps.session) p
-flows_answers d a b (arrival.Ready k) hs p = flows_opening d a b _ hs (can_open a) (λ (o : Opens a _ _ hs b). flows_opens d a b _ _ (record running_session { channel_max = 255 }) hs o o.happens.stepped.session) p
-flows_answers d a b (arrival.In c bytes) hs p = flows_by d a b _ hs (is_over a c) (λ (l : WorksOff (with_heard a c bytes) c hs b). flows_heard d c a b bytes hs (flows_worked d c (with_heard a c bytes) l.mid b hs l.works l.waits)) p
-flows_answers d a b (arrival.Sent c n) hs p = flows_sent d c n a b hs (is_gone a c) refl p
-flows_answers d a b (arrival.Lose c) hs p = flows_by d a b _ hs (is_gone a c) (λ (l : Loses a c hs b). flows_loses d c a b hs l) p
+flows_pumps : (d : ℕ) (a b : World) (hs : List Happening) → IsConsistent a → Pumps a hs b → Flows d a [] hs b
+flows_pumps d a b hs k (delivers {c = c} v) = flows_puts d c a b (event.Deliver c) hs v.puts v.given (delivers_apart a b c hs d k v)
+flows_pumps d a b hs k (idles n p) = flows_same d a b hs p
+
+flows_answers : (d : ℕ) (a b : World) (t : Arrival) (hs : List Happening) → IsConsistent a → Answers a t hs b → Flows d a (taken_by d a t) hs b
+flows_answers d a b arrival.Open hs k p = flows_opening d a b _ hs (can_open a) (λ (o : Opens a _ _ hs b). flows_opens d a b _ _ new_session hs o o.happens.stepped.steps.session) p
+flows_answers d a b (arrival.Ready n) hs k p = flows_opening d a b _ hs (can_open a) (λ (o : Opens a _ _ hs b). flows_opens d a b _ _ (record running_session { channel_max = 255 }) hs o o.happens.stepped.session) p
+flows_answers d a b (arrival.In c bytes) hs k p = flows_by d a b _ hs (is_over a c) (λ (l : WorksOff (with_heard a c bytes) c hs b). flows_heard d c a b bytes hs (flows_worked d c (with_heard a c bytes) l.mid b hs l.works l.waits)) p
+flows_answers d a b (arrival.Sent c n) hs k p = flows_sent d c n a b hs (is_gone a c) refl p
+flows_answers d a b arrival.Pump hs k p = flows_pumps d a b hs k p
+flows_answers d a b (arrival.Lose c) hs k p = flows_by d a b _ hs (is_gone a c) (λ (l : Loses a c hs b). flows_loses d c a b hs l) p
 
 flows_short : (d : ℕ) (a b : World) (t : Arrival) (hs : List Happening) → FallsShort a t hs b → Flows d a (taken_by d a t) hs b
 flows_short d a b arrival.Open hs p = flows_same d a b hs p
@@ -284,21 +297,22 @@ flows_short d a b (arrival.Ready k) hs p = flows_same d a b hs p
 flows_short d a b (arrival.In c bytes) hs (inl p) = flows_same d a b hs p
 flows_short d a b (arrival.In c bytes) hs (inr l) = flows_heard d c a b bytes hs (flows_worked d c (with_heard a c bytes) l.mid b hs l.works l.waits)
 flows_short d a b (arrival.Sent c n) hs l = flows_taken d c n a l.mid l.works.mid b hs l.first l.rest l.all l.takes l.works.works l.works.waits
+flows_short d a b arrival.Pump hs p = flows_same d a b hs p
 flows_short d a b (arrival.Lose c) hs p = absurd p
 
-flows_brings : (d : ℕ) (a b : World) (t : Arrival) (x : Bool) (hs : List Happening) → MatchBool x (Answers a t hs b) (FallsShort a t hs b) → Flows d a (taken_by d a t) hs b
-flows_brings d a b t true hs p = flows_answers d a b t hs p
-flows_brings d a b t false hs p = flows_short d a b t hs p
+flows_brings : (d : ℕ) (a b : World) (t : Arrival) (x : Bool) (hs : List Happening) → IsConsistent a → MatchBool x (Answers a t hs b) (FallsShort a t hs b) → Flows d a (taken_by d a t) hs b
+flows_brings d a b t true hs k p = flows_answers d a b t hs k p
+flows_brings d a b t false hs k p = flows_short d a b t hs p
 
-flows_one : (d : ℕ) (a b : World) (t : Attempt) (hs : List Happening) → Attempts a (t ∷ []) hs b → Flows d a (taken_by d a t.arrival) hs b
-flows_one d a b t hs (mid, first, rest, e, br, p) =
+flows_one : (d : ℕ) (a b : World) (t : Attempt) (hs : List Happening) → IsConsistent a → Attempts a (t ∷ []) hs b → Flows d a (taken_by d a t.arrival) hs b
+flows_one d a b t hs k (mid, first, rest, e, br, p) =
     flows_at d a b _ hs (first ++ rest) e (subst (λ (z : List ℕ). Flows d a z (first ++ rest) b) (append-nil (taken_by d a t.arrival))
-    (flows_then d a mid b (taken_by d a t.arrival) [] first rest (flows_brings d a mid t.arrival t.is_whole first br) (flows_nothing d mid b rest p)))
+    (flows_then d a mid b (taken_by d a t.arrival) [] first rest (flows_brings d a mid t.arrival t.is_whole first k br) (flows_nothing d mid b rest p)))
 
-flows_lost : (d : ℕ) (a b : World) (t : Attempt) (c : ℕ) (hs : List Happening) → Attempts a (t ∷ record { arrival = arrival.Lose c; is_whole = true } ∷ []) hs b → Flows d a (taken_by d a t.arrival) hs b
-flows_lost d a b t c hs (mid, first, rest, e, br, p) =
+flows_lost : (d : ℕ) (a b : World) (t : Attempt) (c : ℕ) (hs : List Happening) → IsConsistent a → Attempts a (t ∷ record { arrival = arrival.Lose c; is_whole = true } ∷ []) hs b → Flows d a (taken_by d a t.arrival) hs b
+flows_lost d a b t c hs k (mid, first, rest, e, br, p) =
     flows_at d a b _ hs (first ++ rest) e (subst (λ (z : List ℕ). Flows d a z (first ++ rest) b) (append-nil (taken_by d a t.arrival))
-    (flows_then d a mid b (taken_by d a t.arrival) [] first rest (flows_brings d a mid t.arrival t.is_whole first br) (flows_one d mid b (record { arrival = arrival.Lose c; is_whole = true }) rest p)))
+    (flows_then d a mid b (taken_by d a t.arrival) [] first rest (flows_brings d a mid t.arrival t.is_whole first k br) (flows_one d mid b (record { arrival = arrival.Lose c; is_whole = true }) rest (brings_stays a mid t.arrival t.is_whole first k br) p)))
 
 -- ---- deeds
 
@@ -312,30 +326,33 @@ taken_written p q w bytes front pair =
     ∙ ap (λ (x : Bool). if x then bytes else []) pair
     ∙ sym (append-nil (if q.socket == p.socket then bytes else []))
 
-flows_deed : (p : Peer) (v w : Served) (d : Deed) (hs : List Happening) → Does v d hs w → PairsWith p (peer_of d) → Flows p.connection v.world (flat_map (written_to p.socket) (calls d)) hs w.world
-flows_deed p v w (Met i q) hs does pair = flows_one p.connection v.world w.world (whole arrival.Open) hs does.brings
-flows_deed p v w (Turned_away s o) hs does pair = subst (λ (t : Arrival). Flows p.connection v.world (taken_by p.connection v.world t) hs w.world) does.table.0 (flows_one p.connection v.world w.world o hs does.brings)
-flows_deed p v w (Met_no_one true) hs does pair = flows_nothing p.connection v.world w.world hs does.brings
-flows_deed p v w (Met_no_one false) hs does pair = flows_nothing p.connection v.world w.world hs does.brings
-flows_deed p v w (Heard i q bytes) hs does pair = flows_one p.connection v.world w.world (whole (arrival.In q.connection bytes)) hs does.brings
-flows_deed p v w (Heard_partly i q bytes) hs does pair = flows_lost p.connection v.world w.world (short (arrival.In q.connection bytes)) q.connection hs does.brings
-flows_deed p v w (Heard_nothing i q) hs does pair = flows_nothing p.connection v.world w.world hs does.brings
-flows_deed p v w (Heard_end i q true) hs does pair = flows_one p.connection v.world w.world (whole (arrival.Lose q.connection)) hs does.brings
-flows_deed p v w (Heard_end i q false) hs does pair = flows_one p.connection v.world w.world (whole (arrival.Lose q.connection)) hs does.brings
-flows_deed p v w (Gave i q bytes) hs does pair =
-    subst (λ (z : List ℕ). Flows p.connection v.world z hs w.world) (taken_written p q v.world bytes does.table.0 pair) (flows_one p.connection v.world w.world (whole (arrival.Sent q.connection (length bytes))) hs does.brings)
-flows_deed p v w (Gave_partly i q bytes) hs does pair =
-    subst (λ (z : List ℕ). Flows p.connection v.world z hs w.world) (taken_written p q v.world bytes does.table.0 pair) (flows_lost p.connection v.world w.world (short (arrival.Sent q.connection (length bytes))) q.connection hs does.brings)
-flows_deed p v w (Gave_nothing i q) hs does pair = flows_nothing p.connection v.world w.world hs does.brings
-flows_deed p v w (Gave_up i q) hs does pair = flows_one p.connection v.world w.world (whole (arrival.Lose q.connection)) hs does.brings
-flows_deed p v w (Let_go i q) hs does pair = flows_nothing p.connection v.world w.world hs does.brings
-flows_deed p v w Paused hs does pair = flows_nothing p.connection v.world w.world hs does.brings
+flows_deed : (p : Peer) (v w : Served) (d : Deed) (hs : List Happening) → IsConsistent v.world → Does v d hs w → PairsWith p (peer_of d) → Flows p.connection v.world (flat_map (written_to p.socket) (calls d)) hs w.world
+flows_deed p v w (Met i q) hs k does pair = flows_one p.connection v.world w.world (whole arrival.Open) hs k does.brings
+flows_deed p v w (Turned_away s o) hs k does pair = subst (λ (t : Arrival). Flows p.connection v.world (taken_by p.connection v.world t) hs w.world) does.table.0 (flows_one p.connection v.world w.world o hs k does.brings)
+flows_deed p v w (Met_no_one true) hs k does pair = flows_nothing p.connection v.world w.world hs does.brings
+flows_deed p v w (Met_no_one false) hs k does pair = flows_nothing p.connection v.world w.world hs does.brings
+flows_deed p v w (Heard i q bytes) hs k does pair = flows_one p.connection v.world w.world (whole (arrival.In q.connection bytes)) hs k does.brings
+flows_deed p v w (Heard_partly i q bytes) hs k does pair = flows_lost p.connection v.world w.world (short (arrival.In q.connection bytes)) q.connection hs k does.brings
+flows_deed p v w (Heard_nothing i q) hs k does pair = flows_nothing p.connection v.world w.world hs does.brings
+flows_deed p v w (Heard_end i q true) hs k does pair = flows_one p.connection v.world w.world (whole (arrival.Lose q.connection)) hs k does.brings
+flows_deed p v w (Heard_end i q false) hs k does pair = flows_one p.connection v.world w.world (whole (arrival.Lose q.connection)) hs k does.brings
+flows_deed p v w (Gave i q bytes) hs k does pair =
+    subst (λ (z : List ℕ). Flows p.connection v.world z hs w.world) (taken_written p q v.world bytes does.table.0 pair) (flows_one p.connection v.world w.world (whole (arrival.Sent q.connection (length bytes))) hs k does.brings)
+flows_deed p v w (Gave_partly i q bytes) hs k does pair =
+    subst (λ (z : List ℕ). Flows p.connection v.world z hs w.world) (taken_written p q v.world bytes does.table.0 pair) (flows_lost p.connection v.world w.world (short (arrival.Sent q.connection (length bytes))) q.connection hs k does.brings)
+flows_deed p v w (Gave_nothing i q) hs k does pair = flows_nothing p.connection v.world w.world hs does.brings
+flows_deed p v w (Gave_up i q) hs k does pair = flows_one p.connection v.world w.world (whole (arrival.Lose q.connection)) hs k does.brings
+flows_deed p v w Pumped hs k does pair = flows_one p.connection v.world w.world (whole arrival.Pump) hs k does.brings
+flows_deed p v w Pumped_nothing hs k does pair = flows_one p.connection v.world w.world (whole arrival.Pump) hs k does.brings
+flows_deed p v w Pump_refused hs k does pair = flows_one p.connection v.world w.world (short arrival.Pump) hs k does.brings
+flows_deed p v w (Let_go i q) hs k does pair = flows_nothing p.connection v.world w.world hs does.brings
+flows_deed p v w Paused hs k does pair = flows_nothing p.connection v.world w.world hs does.brings
 
-flows_story : (p : Peer) (ds : List Deed) (v w : Served) (hs : List Happening) → Story v ds hs w → AllByRecursion (λ d. PairsWith p (peer_of d)) ds → Flows p.connection v.world (flat_map (written_to p.socket) (flat_map calls ds)) hs w.world
-flows_story p [] v w hs s a = flows_nothing p.connection v.world w.world hs (s.0, ap (λ (z : Served). z.world) s.1)
-flows_story p (d ∷ ds) v w hs (mid, first, rest, e, does, s) a =
+flows_story : (p : Peer) (ds : List Deed) (v w : Served) (hs : List Happening) → IsConsistent v.world → Story v ds hs w → AllByRecursion (λ d. PairsWith p (peer_of d)) ds → Flows p.connection v.world (flat_map (written_to p.socket) (flat_map calls ds)) hs w.world
+flows_story p [] v w hs k s a = flows_nothing p.connection v.world w.world hs (s.0, ap (λ (z : Served). z.world) s.1)
+flows_story p (d ∷ ds) v w hs k (mid, first, rest, e, does, s) a =
     flows_at p.connection v.world w.world _ hs (first ++ rest) e (subst (λ (z : List ℕ). Flows p.connection v.world z (first ++ rest) w.world) (sym (flat_map-append (written_to p.socket) (calls d) (flat_map calls ds)))
-    (flows_then p.connection v.world mid.world w.world _ _ first rest (flows_deed p v mid d first does a.0) (flows_story p ds mid w rest s a.1)))
+    (flows_then p.connection v.world mid.world w.world _ _ first rest (flows_deed p v mid d first k does a.0) (flows_story p ds mid w rest (attempts_stay (attempts d) v.world mid.world first k does.brings) s a.1)))
 
 -- what was taken so far is a beginning of what was put out
 beginning : (d : ℕ) (taken put : List ℕ) (w : World) → Accounts d taken put w → (rest : List ℕ) × (taken ++ rest ≡ put)
@@ -348,5 +365,5 @@ beginning d taken put w acc = go acc.fits
 pub are_beginnings : (f : Config) (ds : List Deed) (told : Told) (new : Served) (hs : List Happening) (xs : List Call) → told.calls ≡ Some xs → Story (served (new_world f) [] told) ds hs new → AreBeginnings ds hs
 are_beginnings f ds told new hs xs tells s p i =
     let start : Accounts p.connection [] [] (new_world f) = record { fits = inl refl; unopened = λ lt. (refl, refl, refl) } in
-    let flows = flows_story p ds (served (new_world f) [] told) new hs s (pairs_in ds (served (new_world f) [] told) new hs xs refl tells s p i) in
+    let flows = flows_story p ds (served (new_world f) [] told) new hs (new_is_consistent f) s (pairs_in ds (served (new_world f) [] told) new hs xs refl tells s p i) in
     beginning p.connection (flat_map (written_to p.socket) (flat_map calls ds)) (put_out p.connection hs) new.world (flows.keeps [] [] start)

@@ -1,15 +1,13 @@
 -- What arrived for a connection is what its socket gave and took, deed by deed.
 use Rattle.std.proofs.Common.{◌≡◌, ◌+◌, ℕ, List, [], ◌∷◌, ◌++◌, Bool, true, false, Option, Some, None, length, refl, sym, ap, subst, ◌∙◌, flat_map, filter_map, count_by, arith}
-use Rattle.std.proofs.lemmas.List.Concat.{flat_map-append}
 use Rattle.std.proofs.lemmas.List.Elements.{filter_map-append}
 use Rattle.std.proofs.lemmas.List.Sums.{sum_by-append}
 use Rattle.std.specs.Prelude.{◌==◌, if◌then◌else◌}
 use Rattle.std.specs.List.{AllByRecursion}
-use Rattle.model.specs.Topology.{IsIn}
 use Rattle.model.specs.Run.{Happening}
 use Rattle.serving.specs.Wire.{Call}
-use Rattle.serving.specs.Coming.{Attempt, whole, short}
-use Rattle.serving.specs.Story.{Served, Deed, Met, Turned_away, Met_no_one, Heard, Heard_partly, Heard_nothing, Heard_end, Gave, Gave_partly, Gave_nothing, Gave_up, Let_go, Paused, calls, attempts, Table, Does, Story}
+use Rattle.serving.specs.Coming.{Attempt}
+use Rattle.serving.specs.Story.{Served, Deed, Met, Turned_away, Met_no_one, Heard, Heard_partly, Heard_nothing, Heard_end, Gave, Gave_partly, Gave_nothing, Gave_up, Pumped, Pumped_nothing, Pump_refused, Let_go, Paused, calls, attempts, Does, Story}
 use Rattle.serving.specs.Joined.{piece_for, amount_for, is_loss_of, is_short_for, got_of, count_of, is_end_of, IsJoined, AreJoined}
 use Rattle.model.specs.declared.events.Arrival.{Arrival}
 use Rattle.model.specs.declared.events.Arrival.TheVariants as arrival
@@ -76,6 +74,9 @@ joined_one p v w (Gave i q bytes) hs does pair = record { pieces = refl; amounts
 joined_one p v w (Gave_partly i q bytes) hs does pair = record { pieces = refl; amounts = same_amount (q.connection == p.connection) (q.socket == p.socket) (length bytes) pair; losses = short_loss (q.connection == p.connection) }
 joined_one p v w (Gave_nothing i q) hs does pair = record { pieces = refl; amounts = refl; losses = refl }
 joined_one p v w (Gave_up i q) hs does pair = record { pieces = refl; amounts = refl; losses = same_end (q.connection == p.connection) (q.socket == p.socket) pair }
+joined_one p v w Pumped hs does pair = record { pieces = refl; amounts = refl; losses = refl }
+joined_one p v w Pumped_nothing hs does pair = record { pieces = refl; amounts = refl; losses = refl }
+joined_one p v w Pump_refused hs does pair = record { pieces = refl; amounts = refl; losses = refl }
 joined_one p v w (Let_go i q) hs does pair = record { pieces = refl; amounts = refl; losses = refl }
 joined_one p v w Paused hs does pair = record { pieces = refl; amounts = refl; losses = refl }
 

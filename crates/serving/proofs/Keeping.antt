@@ -1,25 +1,26 @@
 -- What a server did is one story, in which the promises are kept.
-use Rattle.std.proofs.Common.{◌≡◌, ◌<◌, ℕ, zero, suc, ◌+◌, List, [], ◌∷◌, ◌++◌, Bool, true, false, Option, Some, None, length, slice_get, refl, sym, ap, subst, ◌∙◌, append_assoc, append-nil, map, flat_map, ◌⊎◌, inl, inr, arith}
-use Rattle.std.proofs.lemmas.Bool.{false≢true}
-use Rattle.std.specs.Prelude.{◌||◌, MatchBool, if◌then◌else◌}
+use Rattle.std.proofs.Common.{◌≡◌, ◌<◌, ℕ, zero, suc, ◌+◌, List, [], ◌∷◌, ◌++◌, Bool, true, false, Option, Some, length, slice_get, refl, sym, ap, subst, ◌∙◌, append_assoc, flat_map, inl, inr, arith}
+use Rattle.std.specs.Prelude.{MatchBool}
 use Rattle.std.specs.List.{AllByRecursion}
 use Rattle.model.specs.State.{Config}
 use Rattle.model.specs.Run.{Happening, notes_of}
-use Rattle.model.specs.Arrivals.{World, new_world, Answers, Same, Shown, Seen, Shows, shown, Plays, Works, Waits, with_heard}
-use Rattle.model.specs.Headline.{IsSound, KeepsPromises}
+use Rattle.model.specs.Arrivals.{World, new_world, Answers, Same, Shows, shown, Plays, with_heard}
+use Rattle.model.specs.Consistent.{IsConsistent}
 use Rattle.model.specs.declared.events.Arrival.{Arrival}
 use Rattle.model.specs.declared.events.Arrival.TheVariants as arrival
+use Rattle.laws.proofs.Consistency.{new_is_consistent}
 use Rattle.laws.proofs.Plays.{Told as ToldOf, told-append, told_at, told_same, told_works, told_waits, told_heard, told_taken, told_answers}
 use Rattle.laws.proofs.Spoken.{Speaks, speaks_same, speaks_append, speaks_at, works_speaks, waits_speaks, takes_speaks, answer_speaks, spoken_from_start}
 use Rattle.laws.proofs.Whole.{promises_hold}
-use Rattle.serving.specs.Wire.{Ask, Call, Rested, Told, after}
-use Rattle.serving.specs.Coming.{Attempt, WorksPartly, FallsShort, Brings, Attempts, IsWhole}
-use Rattle.serving.specs.Story.{Served, served, Deed, calls, attempts, Does, Story, Serves}
-use Rattle.serving.specs.Rounds.{GoesRound, Rests, IsRound, Rounds}
+use Rattle.serving.specs.Wire.{Ask, Rested, Told, after}
+use Rattle.serving.specs.Coming.{Attempt, WorksPartly, FallsShort, Attempts, IsWhole}
+use Rattle.serving.specs.Story.{Served, served, Deed, calls, attempts, Story, Serves, PumpsUp}
+use Rattle.serving.specs.Rounds.{Rests, IsRound, Rounds}
 use Rattle.serving.specs.Whole.{arrived, arrivals_of, seen_after, seen_of, IsServed}
 use Rattle.serving.specs.declared.peers.Peer.{Peer}
-use Rattle.serving.proofs.Onward.{after_none, after_then, story-append, serves_not, serves_then}
+use Rattle.serving.proofs.Onward.{after_none, after_then, story-append, serves_not}
 use Rattle.serving.proofs.Deeds.{paused, same_not}
+use Rattle.serving.proofs.Staying.{brings_stays}
 use Rattle.serving.proofs.Joining.{are_joined}
 use Rattle.serving.proofs.Flowing.{are_beginnings}
 
@@ -34,6 +35,7 @@ told_short a b (arrival.Ready k) hs p = told_same a b hs p
 told_short a b (arrival.In c bytes) hs (inl p) = told_same a b hs p
 told_short a b (arrival.In c bytes) hs (inr l) = told_heard a b c bytes hs (told_part c (with_heard a c bytes) b hs l)
 told_short a b (arrival.Sent c n) hs l = told_at a b hs (l.first ++ l.rest) l.all (told-append a l.mid b l.first l.rest (told_taken c n a l.mid l.first l.takes) (told_part c l.mid b l.rest l.works))
+told_short a b arrival.Pump hs p = told_same a b hs p
 told_short a b (arrival.Lose c) hs p = absurd p
 
 speaks_part : (c : ℕ) (a b : World) (hs : List Happening) → WorksPartly a c hs b → Speaks a hs b
@@ -45,6 +47,7 @@ short_speaks a b (arrival.Ready k) hs p = speaks_same a b hs p
 short_speaks a b (arrival.In c bytes) hs (inl p) = speaks_same a b hs p
 short_speaks a b (arrival.In c bytes) hs (inr l) = speaks_part c (with_heard a c bytes) b hs l
 short_speaks a b (arrival.Sent c n) hs l = speaks_at a b hs (l.first ++ l.rest) l.all (speaks_append a l.mid b l.first l.rest (takes_speaks c n a l.mid l.first l.takes) (speaks_part c l.mid b l.rest l.works))
+short_speaks a b arrival.Pump hs p = speaks_same a b hs p
 short_speaks a b (arrival.Lose c) hs p = absurd p
 
 -- ---- all that arrives
@@ -53,9 +56,9 @@ told_brings : (a b : World) (t : Arrival) (x : Bool) (hs : List Happening) → M
 told_brings a b t true hs p = told_answers a b t hs p
 told_brings a b t false hs p = told_short a b t hs p
 
-brings_speaks : (a b : World) (t : Arrival) (x : Bool) (hs : List Happening) → MatchBool x (Answers a t hs b) (FallsShort a t hs b) → Speaks a hs b
-brings_speaks a b t true hs p = answer_speaks a b t hs p
-brings_speaks a b t false hs p = short_speaks a b t hs p
+brings_speaks : (a b : World) (t : Arrival) (x : Bool) (hs : List Happening) → IsConsistent a → MatchBool x (Answers a t hs b) (FallsShort a t hs b) → Speaks a hs b
+brings_speaks a b t true hs k p = answer_speaks a b t hs k p
+brings_speaks a b t false hs k p = short_speaks a b t hs p
 
 nothing : (a b : World) (hs : List Happening) → (hs ≡ []) × (b ≡ a) → (hs ≡ []) × Same a b
 nothing a b hs p = (p.0, subst (λ (w : World). Same a w) (sym p.1) (same_not a))
@@ -64,9 +67,10 @@ told_attempts : (as' : List Attempt) (a b : World) (hs : List Happening) → Att
 told_attempts [] a b hs p = told_same a b hs (nothing a b hs p)
 told_attempts (t ∷ as') a b hs (mid, first, rest, e, br, p) = told_at a b hs (first ++ rest) e (told-append a mid b first rest (told_brings a mid t.arrival t.is_whole first br) (told_attempts as' mid b rest p))
 
-attempts_speak : (as' : List Attempt) (a b : World) (hs : List Happening) → Attempts a as' hs b → Speaks a hs b
-attempts_speak [] a b hs p = speaks_same a b hs (nothing a b hs p)
-attempts_speak (t ∷ as') a b hs (mid, first, rest, e, br, p) = speaks_at a b hs (first ++ rest) e (speaks_append a mid b first rest (brings_speaks a mid t.arrival t.is_whole first br) (attempts_speak as' mid b rest p))
+attempts_speak : (as' : List Attempt) (a b : World) (hs : List Happening) → IsConsistent a → Attempts a as' hs b → Speaks a hs b
+attempts_speak [] a b hs k p = speaks_same a b hs (nothing a b hs p)
+attempts_speak (t ∷ as') a b hs k (mid, first, rest, e, br, p) =
+    speaks_at a b hs (first ++ rest) e (speaks_append a mid b first rest (brings_speaks a mid t.arrival t.is_whole first k br) (attempts_speak as' mid b rest (brings_stays a mid t.arrival t.is_whole first k br) p))
 
 -- where memory was never refused, these are the arrivals
 plays_all : (as' : List Attempt) (a b : World) (hs : List Happening) → AllByRecursion IsWhole as' → Attempts a as' hs b → Plays a (arrivals_of as') hs b
@@ -123,6 +127,9 @@ went_then a b c (ds, hs, s) (es, ks, t) = (ds ++ es, hs ++ ks, story-append ds e
 went : (a b : Served) (xs : List Ask) (p : Bool) → Serves a xs p b → Went a b
 went a b xs p s = (s.deeds, s.happenings, s.story)
 
+went_pumps : (n : ℕ) (a b : Served) (p : Bool) → PumpsUp n a p b → Went a b
+went_pumps n a b p s = (s.deeds, s.happenings, s.story)
+
 went_rests : (v w : Served) (acted : Bool) → Rests v acted w → Went v w
 went_rests v w true e = subst (λ (z : Served). Went v z) (sym e) (went v v [] false (serves_not v))
 went_rests v w false e = subst (λ (z : Served). Went v z) (sym e) (went v (record v { told = after v.told (Rested ∷ []) }) [] false (paused v))
@@ -130,9 +137,12 @@ went_rests v w false e = subst (λ (z : Served). Went v z) (sym e) (went v (reco
 went_round : (a b : Served) → IsRound a b → Went a b
 went_round a b r =
     let g = r.goes in
-    went_then a r.gone_round b
-    (went_then a g.given r.gone_round (went_then a g.heard g.given (went_then a g.met g.heard (went a g.met _ _ g.accepts) (went g.met g.heard _ _ g.reads)) (went g.heard g.given _ _ g.writes)) (went g.given r.gone_round _ _ g.closes))
-    (went_rests r.gone_round b r.acted r.rests)
+    went_then a r.gone_round b (went_then a g.given r.gone_round (went_then a g.pumped g.given reads_and_pumps (went g.pumped g.given _ _ g.writes)) (went g.given r.gone_round _ _ g.closes)) (went_rests r.gone_round b r.acted r.rests)
+  where
+    reads_and_pumps : Went a r.goes.pumped
+    reads_and_pumps =
+        let g = r.goes in
+        went_then a g.heard g.pumped (went_then a g.met g.heard (went a g.met _ _ g.accepts) (went g.met g.heard _ _ g.reads)) (went_pumps _ g.heard g.pumped _ g.pumps)
 
 went_rounds : (n : ℕ) (a b : Served) → Rounds n a b → Went a b
 went_rounds zero a b e = subst (λ (z : Served). Went a z) (sym e) (went a a [] false (serves_not a))
@@ -150,10 +160,14 @@ is_served f told new (ds, hs, s) =
       plays = λ all. plays_all (arrived ds) (new_world f) new.world hs all arrives;
       promises = λ sound. promises_hold f hs new.world (record { connections = seen_of hs new.world; notes = notes_of hs }) sound
           (told_attempts (arrived ds) (new_world f) new.world hs arrives)
-          (spoken_from_start f hs new.world (attempts_speak (arrived ds) (new_world f) new.world hs arrives)) (shows_all hs new.world);
+          (spoken_from_start f hs new.world (attempts_speak (arrived ds) (new_world f) new.world hs (new_is_consistent f) arrives)) (shows_all hs new.world);
       joined = λ before tells. are_joined ds (served (new_world f) [] told) new hs before refl tells s;
       written = λ before tells. are_beginnings f ds told new hs before tells s;
     }
+
+-- one round more
+pub rounds_more : (n : ℕ) (a b c : Served) → Rounds n a b → IsRound b c → Rounds (n + 1) a c
+rounds_more n a b c rs r = let next : suc n ≡ n + 1 = omega arith in subst (λ (m : ℕ). Rounds m a c) next (b, rs, r)
 
 -- rounds from the start
 pub rounds_serve : (f : Config) (n : ℕ) (w : World) (ps : List (Option Peer)) (told : Told) (new : Served) → w ≡ new_world f → ps ≡ [] → Rounds n (served w ps told) new → IsServed f told new

@@ -1,6 +1,8 @@
 pub mod Turning
 pub mod Onward
 pub mod Deeds
+pub mod Pumping
+pub mod Staying
 pub mod Apart
 pub mod Fits
 pub mod Pairs

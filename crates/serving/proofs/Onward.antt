@@ -1,5 +1,5 @@
 -- One more deed, and what a server does after what it did.
-use Rattle.std.proofs.Common.{◌≡◌, ◌+◌, ℕ, List, [], ◌∷◌, ◌++◌, Bool, true, false, Option, Some, None, filter_map, flat_map, count_by, length, refl, sym, ap, subst, ◌∙◌, append_assoc, append-nil, arith}
+use Rattle.std.proofs.Common.{◌≡◌, ◌+◌, ℕ, List, [], ◌∷◌, ◌++◌, Bool, true, false, Option, Some, None, flat_map, count_by, refl, sym, ap, subst, ◌∙◌, append_assoc, append-nil, arith}
 use Rattle.std.specs.Prelude.{◌||◌, if◌then◌else◌}
 use Rattle.std.specs.List.{list_any}
 use Rattle.std.proofs.lemmas.List.Concat.{flat_map-append}
@@ -10,7 +10,7 @@ use Rattle.model.specs.Run.{Happening}
 use Rattle.model.specs.Arrivals.{World}
 use Rattle.serving.specs.Wire.{Call, Rested, Ask, ask, asks, Told, after, and_these, is_failed}
 use Rattle.serving.specs.Coming.{Attempt, Brings, Attempts}
-use Rattle.serving.specs.Story.{Served, served, Deed, calls, is_done, Does, Story, Serves}
+use Rattle.serving.specs.Story.{Served, served, Deed, calls, is_done, is_pump, Does, Story, Serves}
 use Rattle.serving.specs.Rounds.{Rests}
 
 -- ---- what a wire tells
@@ -43,7 +43,7 @@ after_two told mid now x y e f = f ∙ ap (λ (z : Told). after z (y ∷ [])) e 
 -- ---- what a server does
 
 pub serves_not : (v : Served) → Serves v [] false v
-serves_not v = record { deeds = []; happenings = []; story = (refl, refl); asks = refl; done = refl }
+serves_not v = record { deeds = []; happenings = []; story = (refl, refl); asks = refl; unpumped = refl; done = refl }
 
 pub story-append : (ds es : List Deed) (a b c : Served) (hs ks : List Happening) → Story a ds hs b → Story b es ks c → Story a (ds ++ es) (hs ++ ks) c
 story-append [] es a b c hs ks s t =
@@ -58,6 +58,7 @@ serves_then a b c xs ys p q s t = record {
   story = story-append s.deeds t.deeds a b c s.happenings t.happenings s.story t.story;
   asks = ap asks (flat_map-append calls s.deeds t.deeds) ∙ filter_map-append ask (flat_map calls s.deeds) (flat_map calls t.deeds)
       ∙ ap (λ (z : List Ask). z ++ asks (flat_map calls t.deeds)) s.asks ∙ ap (λ (z : List Ask). xs ++ z) t.asks;
+  unpumped = list_any-append is_pump s.deeds t.deeds ∙ ap (λ (z : Bool). z || list_any is_pump t.deeds) s.unpumped ∙ t.unpumped;
   done = list_any-append is_done s.deeds t.deeds ∙ ap (λ (z : Bool). z || list_any is_done t.deeds) s.done ∙ ap (λ (z : Bool). p || z) t.done;
 }
 
@@ -65,12 +66,13 @@ or_false : (p : Bool) → (p || false) ≡ p
 or_false true = refl
 or_false false = refl
 
-pub serves_one : (a b : Served) (xs : List Ask) (p : Bool) (d : Deed) (hs : List Happening) → Does a d hs b → asks (calls d) ≡ xs → is_done d ≡ p → Serves a xs p b
-serves_one a b xs p d hs does asked done = record {
+pub serves_one : (a b : Served) (xs : List Ask) (p : Bool) (d : Deed) (hs : List Happening) → Does a d hs b → asks (calls d) ≡ xs → is_pump d ≡ false → is_done d ≡ p → Serves a xs p b
+serves_one a b xs p d hs does asked pump done = record {
   deeds = d ∷ [];
   happenings = hs;
   story = (b, hs, [], sym (append-nil hs), does, (refl, refl));
   asks = ap asks (append-nil (calls d)) ∙ asked;
+  unpumped = or_false (is_pump d) ∙ pump;
   done = or_false (is_done d) ∙ done;
 }
 

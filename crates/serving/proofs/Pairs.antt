@@ -1,14 +1,12 @@
 -- In every story a connection has one socket, and a socket one connection.
-use Rattle.std.proofs.Common.{◌≡◌, ◌≢◌, ◌≤◌, ◌<◌, ℕ, suc, zero, ◌+◌, List, [], ◌∷◌, ◌++◌, Bool, true, false, Option, Some, None, length, refl, sym, ap, subst, ◌∙◌, ◌⊎◌, inl, inr, slice_set, slice_index_or, flat_map, arith}
+use Rattle.std.proofs.Common.{◌≡◌, ◌≢◌, ◌≤◌, ℕ, ◌+◌, List, [], ◌∷◌, ◌++◌, Option, Some, None, refl, sym, ap, subst, ◌∙◌, ◌⊎◌, inl, inr, slice_set, arith}
 use Rattle.std.proofs.lemmas.Bool.{eq-eqb, ne_eqb}
-use Rattle.std.proofs.lemmas.Option.{same_Some}
 use Rattle.std.specs.Prelude.{◌==◌}
 use Rattle.std.specs.List.{AllByRecursion}
 use Rattle.model.specs.Topology.{IsIn}
 use Rattle.model.specs.Run.{Happening}
-use Rattle.model.specs.Arrivals.{World}
 use Rattle.serving.specs.Wire.{Call, Accepted, Told, after, and_these, IsFresh}
-use Rattle.serving.specs.Story.{Served, At, Filled, Deed, Met, Turned_away, Met_no_one, Heard, Heard_partly, Heard_nothing, Heard_end, Gave, Gave_partly, Gave_nothing, Gave_up, Let_go, Paused, calls, attempts, Table, Does, Story}
+use Rattle.serving.specs.Story.{Served, At, Filled, Deed, Met, Turned_away, Met_no_one, Heard, Heard_partly, Heard_nothing, Heard_end, Gave, Gave_partly, Gave_nothing, Gave_up, Pumped, Pumped_nothing, Pump_refused, Let_go, Paused, attempts, Table, Does, Story}
 use Rattle.serving.specs.Joined.{met_by, all_met}
 use Rattle.serving.specs.declared.peers.Peer.{Peer}
 use Rattle.serving.proofs.Fits.{freed_at, filled_at, attempts_le, met_given}
@@ -35,6 +33,9 @@ peer_of (Gave i p bytes) = Some p
 peer_of (Gave_partly i p bytes) = Some p
 peer_of (Gave_nothing i p) = Some p
 peer_of (Gave_up i p) = Some p
+peer_of Pumped = None
+peer_of Pumped_nothing = None
+peer_of Pump_refused = None
 peer_of (Let_go i p) = Some p
 peer_of Paused = None
 
@@ -140,6 +141,9 @@ goes known v w d hs does k = go d does.table (attempts_le (attempts d) v.world w
     go (Gave_partly i p bytes) t le does = record { knows = knows_freed known v w i _ t.1.1 le does.told k; mine = k.slots i p t.1.0 }
     go (Gave_nothing i p) t le does = record { knows = knows_same known v w _ t.1 le does.told k; mine = k.slots i p t.0 }
     go (Gave_up i p) t le does = record { knows = knows_freed known v w i _ t.1 le does.told k; mine = k.slots i p t.0 }
+    go Pumped t le does = record { knows = knows_same known v w _ t.1 le does.told k; mine = tt }
+    go Pumped_nothing t le does = record { knows = knows_same known v w _ t.1 le does.told k; mine = tt }
+    go Pump_refused t le does = record { knows = knows_same known v w _ t le does.told k; mine = tt }
     go (Let_go i p) t le does = record { knows = knows_freed known v w i _ t.1.1 le does.told k; mine = k.slots i p t.1.0 }
     go Paused t le does = record { knows = knows_same known v w _ t le does.told k; mine = tt }
 

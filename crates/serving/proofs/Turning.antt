@@ -1,12 +1,12 @@
 -- Turns, one after another, and the arrivals that they make whole.
-use Rattle.std.proofs.Common.{◌≡◌, ◌<◌, ℕ, zero, suc, List, [], ◌∷◌, ◌++◌, Bool, true, false, not, length, refl, sym, ap, subst, ◌∙◌, append_assoc, append-nil, ◌⊎◌, inl, inr}
+use Rattle.std.proofs.Common.{◌≡◌, ℕ, List, [], ◌++◌, Bool, true, false, not, refl, sym, ap, subst, ◌∙◌, append_assoc, append-nil, inr}
 use Rattle.std.specs.Prelude.{MatchBool, ◌&&◌, Result, Ok, Err, OnOk, OnErr, is_err}
 use Rattle.std.proofs.lemmas.Bool.{false≢true}
 use Rattle.model.specs.Run.{Happening}
-use Rattle.model.specs.Arrivals.{World, Turns, Works, none_more, one_more, Same, Waits, WorksOff, Answers, Takes_off, Loses, TakesAndWorks, with_heard, is_over, is_paused, is_awake, is_gone, has_output}
+use Rattle.model.specs.Arrivals.{World, Turns, Works, none_more, one_more, Same, WorksOff, Answers, Takes_off, Loses, with_heard, is_over, is_paused, is_awake, is_gone, has_output}
 use Rattle.model.specs.declared.events.Arrival.TheVariants as arrival
-use Rattle.runs.specs.Opened.{Hears, Takes, IsLost, DidNothing}
-use Rattle.serving.specs.Coming.{WorksPartly, TakesAndWorksPartly, FallsShort}
+use Rattle.runs.specs.Opened.{Hears, Takes, IsLost}
+use Rattle.serving.specs.Coming.{WorksPartly, FallsShort}
 
 -- ---- tests
 

@@ -3,7 +3,7 @@ use Rattle.std.specs.Prelude.{◌≡◌, ℕ, List, [], ◌∷◌, ◌++◌, Boo
 use Rattle.model.specs.Run.{Happening}
 use Rattle.model.specs.Arrivals.{World, Works, Waits, Answers, Takes_off, Nothing_happens, with_heard}
 use Rattle.model.specs.declared.events.Arrival.{Arrival}
-use Rattle.model.specs.declared.events.Arrival.TheVariants.{Open, Ready, In, Sent, Lose}
+use Rattle.model.specs.declared.events.Arrival.TheVariants.{Open, Ready, In, Sent, Pump, Lose}
 
 -- an arrival, or as much of it as memory was there for
 pub record Attempt : Type 0 where
@@ -37,6 +37,7 @@ FallsShort old Open hs new = Nothing_happens old hs new
 FallsShort old (Ready k) hs new = Nothing_happens old hs new
 FallsShort old (In c bytes) hs new = Nothing_happens old hs new ⊎ WorksPartly (with_heard old c bytes) c hs new
 FallsShort old (Sent c n) hs new = TakesAndWorksPartly old c n hs new
+FallsShort old Pump hs new = Nothing_happens old hs new
 FallsShort old (Lose c) hs new = ⊥
 
 -- what an attempt brings

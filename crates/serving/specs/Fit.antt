@@ -1,5 +1,5 @@
 -- Which connection has which slot, and what one connection's arrivals leave as it was.
-use Rattle.std.specs.Prelude.{◌≡◌, ◌≢◌, ◌≤◌, ℕ, List, Option, Some, None}
+use Rattle.std.specs.Prelude.{◌≡◌, ◌≢◌, ◌≤◌, ℕ, List, Option}
 use Rattle.model.specs.Arrivals.{World}
 use Rattle.serving.specs.Story.{At}
 use Rattle.serving.specs.declared.peers.Peer.{Peer}

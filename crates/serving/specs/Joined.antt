@@ -1,9 +1,9 @@
 -- What came of each socket, connection by connection (own): the pieces that arrived for a connection are what was read from its socket.
-use Rattle.std.specs.Prelude.{◌≡◌, ◌+◌, ℕ, List, [], ◌∷◌, ◌++◌, length, filter_map, flat_map, count_by, Bool, true, false, not, ◌==◌, ◌&&◌, Option, Some, None, if◌then◌else◌}
+use Rattle.std.specs.Prelude.{◌≡◌, ◌+◌, ℕ, List, [], ◌∷◌, ◌++◌, length, filter_map, flat_map, count_by, Bool, false, not, ◌==◌, ◌&&◌, Option, Some, None, if◌then◌else◌}
 use Rattle.model.specs.Topology.{IsIn}
 use Rattle.model.specs.Run.{Happening, put_out}
 use Rattle.model.specs.declared.events.Arrival.{Arrival}
-use Rattle.model.specs.declared.events.Arrival.TheVariants.{Open, Ready, In, Sent, Lose}
+use Rattle.model.specs.declared.events.Arrival.TheVariants.{In, Sent, Lose}
 use Rattle.serving.specs.Wire.{Call, Got, Read_ended, Read_failed, Took, Write_failed}
 use Rattle.serving.specs.Coming.{Attempt}
 use Rattle.serving.specs.Story.{Deed, Met, calls, attempts}

@@ -1,8 +1,8 @@
--- Rounds: one accept, a read of each connection that is awake, a write of each with output, and a rest where nothing was done (own).
-use Rattle.std.specs.Prelude.{◌≡◌, ℕ, zero, suc, List, [], ◌∷◌, flat_map, Bool, true, false, not, ◌||◌, Option, Some, None, if◌then◌else◌}
+-- Rounds: one accept, a read of each connection that is awake, pumps, a write of each with output, and a rest where nothing was done (own).
+use Rattle.std.specs.Prelude.{◌≡◌, ℕ, zero, suc, List, [], ◌∷◌, flat_map, Bool, false, ◌||◌, Option, Some, None, if◌then◌else◌}
 use Rattle.model.specs.Arrivals.{World, is_awake, is_gone, has_output}
 use Rattle.serving.specs.Wire.{Ask, To_accept, To_read, To_write, Rested, after}
-use Rattle.serving.specs.Story.{Served, served, At, Serves}
+use Rattle.serving.specs.Story.{Served, At, Serves, PumpsUp}
 use Rattle.serving.specs.declared.peers.Peer.{Peer}
 
 -- a read, where the connection is awake
@@ -27,22 +27,29 @@ writes_due v = flat_map (write_of v.world) v.peers
 abbrev pub HasEnded : World → List (Option Peer) → ℕ → Type 0
 HasEnded w ps i = (p : Peer) → At ps i p → is_gone w p.connection ≡ false
 
--- One accept, the reads and the writes that are due then, and no other; and whether anything was done.
+-- at most 256 pumps in a round
+abbrev pub most_pumps : ℕ
+most_pumps = 256
+
+-- One accept, the reads that are due then, pumps, the writes that are due after them, and no other; and whether anything was done.
 pub record GoesRound (old : Served) (acted : Bool) (new : Served) : Type 0 where
   pub met : Served
   pub heard : Served
+  pub pumped : Served
   pub given : Served
   pub has_met : Bool
   pub has_heard : Bool
+  pub has_pumped : Bool
   pub has_given : Bool
   pub has_closed : Bool
   pub accepts : Serves old (To_accept ∷ []) has_met met
   pub reads : Serves met (reads_due met) has_heard heard
-  pub writes : Serves heard (writes_due heard) has_given given
+  pub pumps : PumpsUp most_pumps heard has_pumped pumped
+  pub writes : Serves pumped (writes_due pumped) has_given given
   pub closes : Serves given [] has_closed new
   -- each connection that was over with no output left has ended
   pub ended : (i : ℕ) → HasEnded new.world new.peers i
-  pub acts : acted ≡ (((has_met || has_heard) || has_given) || has_closed)
+  pub acts : acted ≡ ((((has_met || has_heard) || has_pumped) || has_given) || has_closed)
 
 -- one rest where nothing was done, and else none
 abbrev pub Rests : Served → Bool → Served → Type 0

@@ -1,8 +1,9 @@
--- What a server does: what it asks of its wire, what is answered, and which arrivals it makes of that (own).
-use Rattle.std.specs.Prelude.{◌≡◌, ◌≢◌, ◌≤◌, ◌+◌, ℕ, List, [], ◌∷◌, ◌++◌, length, take, flat_map, Bool, true, false, Option, Some, None, slice_index_or, slice_set, if◌then◌else◌}
+-- What a server does: what it asks of its wire, what is answered, and which arrivals it makes of that, and the pumps that it makes by itself (own).
+use Rattle.std.specs.Prelude.{◌≡◌, ◌≢◌, ◌≤◌, ◌+◌, ℕ, zero, suc, List, [], ◌∷◌, ◌++◌, length, take, flat_map, Bool, true, false, Option, Some, None, slice_index_or, slice_set, if◌then◌else◌, MatchBool}
 use Rattle.std.specs.List.{list_any}
 use Rattle.model.specs.Run.{Happening}
-use Rattle.model.specs.Arrivals.{World, Answers, is_gone, can_open}
+use Rattle.model.specs.Consuming.{CanDeliver}
+use Rattle.model.specs.Arrivals.{World, Answers, NoneCanDeliver, is_gone, can_open}
 use Rattle.model.specs.declared.events.Arrival.TheVariants as arrival
 use Rattle.serving.specs.Wire.{Call, Accepted, Not_accepted, Accept_failed, Got, Nothing_got, Read_ended, Read_failed, Took, Nothing_taken, Write_failed, Closed, Rested, Ask, asks, Told, after, IsFresh}
 use Rattle.serving.specs.Coming.{Attempt, whole, short, Brings, Attempts}
@@ -35,6 +36,12 @@ pub data Deed : Type 0 where
   Gave_nothing : (slot : ℕ) → (peer : Peer) → Deed
   -- the write failed
   Gave_up : (slot : ℕ) → (peer : Peer) → Deed
+  -- a pump by which a message was delivered
+  Pumped : Deed
+  -- a pump for which no delivery could be made
+  Pumped_nothing : Deed
+  -- a pump for which memory was refused
+  Pump_refused : Deed
   -- it is over with no output left
   Let_go : (slot : ℕ) → (peer : Peer) → Deed
   Paused : Deed
@@ -52,6 +59,9 @@ calls (Gave i p bytes) = Took p.socket bytes ∷ []
 calls (Gave_partly i p bytes) = Took p.socket bytes ∷ Closed p.socket ∷ []
 calls (Gave_nothing i p) = Nothing_taken p.socket ∷ []
 calls (Gave_up i p) = Write_failed p.socket ∷ Closed p.socket ∷ []
+calls Pumped = []
+calls Pumped_nothing = []
+calls Pump_refused = []
 calls (Let_go i p) = Closed p.socket ∷ []
 calls Paused = Rested ∷ []
 
@@ -68,6 +78,9 @@ attempts (Gave i p bytes) = whole (arrival.Sent p.connection (length bytes)) ∷
 attempts (Gave_partly i p bytes) = short (arrival.Sent p.connection (length bytes)) ∷ whole (arrival.Lose p.connection) ∷ []
 attempts (Gave_nothing i p) = []
 attempts (Gave_up i p) = whole (arrival.Lose p.connection) ∷ []
+attempts Pumped = whole arrival.Pump ∷ []
+attempts Pumped_nothing = whole arrival.Pump ∷ []
+attempts Pump_refused = short arrival.Pump ∷ []
 attempts (Let_go i p) = []
 attempts Paused = []
 
@@ -76,8 +89,17 @@ abbrev pub is_done : Deed → Bool
 is_done (Met_no_one failed) = false
 is_done (Heard_nothing i p) = false
 is_done (Gave_nothing i p) = false
+is_done Pumped_nothing = false
+is_done Pump_refused = false
 is_done Paused = false
 is_done deed = true
+
+-- it is a pump, for which nothing is asked of the wire
+abbrev pub is_pump : Deed → Bool
+is_pump Pumped = true
+is_pump Pumped_nothing = true
+is_pump Pump_refused = true
+is_pump deed = false
 
 -- ---- the slots
 
@@ -103,7 +125,7 @@ Kept old i p new = At old i p × (new ≡ old)
 abbrev pub IsFront : World → ℕ → List ℕ → Type 0
 IsFront w c bytes = (n : ℕ) × (n ≤ length (w.wire c).output) × (bytes ≡ take n (w.wire c).output)
 
--- what a deed is about stands so in the slots, and what was written is the connection's own output
+-- what a deed is about stands so in the slots, what was written is the connection's own output, and a delivery could be made where one was
 abbrev pub Table : Served → Deed → List (Option Peer) → Type 0
 Table v (Met i p) new = (can_open v.world ≡ true) × (p.connection ≡ v.world.given + 1) × IsFresh p.socket v.told × Filled v.peers i p new
 Table v (Turned_away s o) new = (o.arrival ≡ arrival.Open) × (new ≡ v.peers)
@@ -116,6 +138,9 @@ Table v (Gave i p bytes) new = IsFront v.world p.connection bytes × Kept v.peer
 Table v (Gave_partly i p bytes) new = IsFront v.world p.connection bytes × Freed v.peers i p new
 Table v (Gave_nothing i p) new = Kept v.peers i p new
 Table v (Gave_up i p) new = Freed v.peers i p new
+Table v Pumped new = ((c : ℕ) × CanDeliver v.world.state.broker c) × (new ≡ v.peers)
+Table v Pumped_nothing new = NoneCanDeliver v.world × (new ≡ v.peers)
+Table v Pump_refused new = new ≡ v.peers
 Table v (Let_go i p) new = (is_gone v.world p.connection ≡ true) × Freed v.peers i p new
 Table v Paused new = new ≡ v.peers
 
@@ -135,10 +160,33 @@ abbrev pub Story : Served → List Deed → List Happening → Served → Type 0
 Story old [] hs new = (hs ≡ []) × (new ≡ old)
 Story old (d ∷ ds) hs new = (mid : Served) × (first : List Happening) × (rest : List Happening) × (hs ≡ first ++ rest) × Does old d first mid × Story mid ds rest new
 
--- A server goes on so: it asks this of its wire, and does something or not.
+-- A server goes on so: it asks this of its wire, makes no pump, and does something or not.
 pub record Serves (old : Served) (asked : List Ask) (acted : Bool) (new : Served) : Type 0 where
   pub deeds : List Deed
   pub happenings : List Happening
   pub story : Story old deeds happenings new
   pub asks : asks (flat_map calls deeds) ≡ asked
+  pub unpumped : list_any is_pump deeds ≡ false
+  pub done : list_any is_done deeds ≡ acted
+
+-- One pump, and whether a message was delivered by it.
+pub record PumpsOnce (old : Served) (acted : Bool) (new : Served) : Type 0 where
+  pub deed : Deed
+  pub happenings : List Happening
+  pub does : Does old deed happenings new
+  pub pump : is_pump deed ≡ true
+  pub done : is_done deed ≡ acted
+
+-- pumps, so many at most, and fewer only where the last delivered nothing: no delivery could be made, or there was no memory
+abbrev pub ArePumps : ℕ → List Deed → Type 0
+ArePumps zero deeds = deeds ≡ []
+ArePumps (suc n) [] = ⊥
+ArePumps (suc n) (d ∷ ds) = (is_pump d ≡ true) × MatchBool (is_done d) (ArePumps n ds) (ds ≡ [])
+
+-- A server makes so many pumps at most, and delivers something by them or not.
+pub record PumpsUp (most : ℕ) (old : Served) (acted : Bool) (new : Served) : Type 0 where
+  pub deeds : List Deed
+  pub happenings : List Happening
+  pub story : Story old deeds happenings new
+  pub pumps : ArePumps most deeds
   pub done : list_any is_done deeds ≡ acted

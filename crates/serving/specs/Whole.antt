@@ -1,5 +1,5 @@
 -- All that a server did from its start, and what is promised of it (own).
-use Rattle.std.specs.Prelude.{◌≡◌, ◌+◌, ℕ, zero, suc, List, [], ◌∷◌, map, flat_map, Option, Some}
+use Rattle.std.specs.Prelude.{◌≡◌, ◌+◌, ℕ, zero, suc, List, [], ◌∷◌, map, flat_map, Some}
 use Rattle.std.specs.List.{AllByRecursion}
 use Rattle.model.specs.State.{Config}
 use Rattle.model.specs.Run.{Happening}

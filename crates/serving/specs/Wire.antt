@@ -1,5 +1,5 @@
 -- What is asked of a wire, and what it answers (own).
-use Rattle.std.specs.Prelude.{◌≡◌, ◌+◌, ℕ, List, [], ◌∷◌, ◌++◌, Option, Some, None, Bool, true, false, filter_map, count_by}
+use Rattle.std.specs.Prelude.{◌≡◌, ◌+◌, ℕ, List, ◌++◌, Option, Some, None, Bool, true, false, filter_map, count_by}
 use Rattle.model.specs.Topology.{IsIn}
 
 pub data Call : Type 0 where

@@ -5,10 +5,10 @@ ghost use Rattle.model.specs.Run.{Happening};
 ghost use Rattle.model.specs.Arrivals.{Answers, has_output, is_awake};
 ghost use Rattle.model.specs.declared.events.Arrival.TheVariants as arrival;
 ghost use Rattle.slab.specs.Slab.{HasRoomFor};
-ghost use Rattle.serving.specs.Wire.{Closed, To_accept, To_read, To_write, after};
-ghost use Rattle.serving.specs.Story.{At, Serves, TakesIn, served};
+ghost use Rattle.serving.specs.Wire.{Closed, To_accept, To_read, To_write, Told, after};
+ghost use Rattle.serving.specs.Story.{At, PumpsOnce, PumpsUp, Serves, TakesIn, served};
 ghost use Rattle.serving.specs.Fit.{ApartFrom, IsFit};
-ghost use Rattle.serving.specs.Rounds.{GoesRound, HasEnded, IsRound, read_of, reads_due, write_of, writes_due};
+ghost use Rattle.serving.specs.Rounds.{GoesRound, HasEnded, IsRound, most_pumps, read_of, reads_due, write_of, writes_due};
 
 use crate::peers::Peer;
 use crate::turns::{give, has_output, hear, is_awake, is_gone};
@@ -16,6 +16,9 @@ use crate::wire::{Accept, Read, Wire, Write};
 use runs::Machine;
 use slab::Slab;
 use std::alloc::Global;
+
+/// The most pumps of a round.
+const MOST_PUMPS: u32 = 256;
 
 /// Accepts once. A socket for which no connection can be opened, or for which there is no memory, is closed.
 fn accept_one<M: Machine, W: Wire>(
@@ -179,6 +182,31 @@ fn read_all<M: Machine, W: Wire>(
     done
 }
 
+/// Makes one delivery, if one can be made and there is memory for it.
+fn pump_once<M: Machine>(alloc: Global, machine: &mut M) -> bool
+    ensures { (ps : List (Option Peer)) (told : Told) → PumpsOnce (served (M.world machine.old) ps told) result (served (M.world machine.new) ps told) }
+{
+    match machine.pump(alloc) {
+        Ok(Some(_)) => true,
+        Ok(None) => false,
+        Err(_) => false,
+    }
+}
+
+/// Makes deliveries, until none can be made, there is no memory for one, or as many are made as a round may make.
+fn pump_all<M: Machine>(alloc: Global, machine: &mut M) -> bool
+    ensures { (ps : List (Option Peer)) (told : Told) → PumpsUp most_pumps (served (M.world machine.old) ps told) result (served (M.world machine.new) ps told) }
+{
+    let mut done = false;
+    for _ in 0..MOST_PUMPS {
+        if !pump_once(alloc, machine) {
+            return done;
+        }
+        done = true;
+    }
+    done
+}
+
 /// Writes once for a slot, if its connection has output.
 fn write_slot<M: Machine, W: Wire>(
     alloc: Global,
@@ -253,7 +281,7 @@ fn close_all<M: Machine, W: Wire>(machine: &M, peers: &mut Slab<Peer>, wire: &mu
     done
 }
 
-/// An accept, reads, writes and closes, and whether anything was done.
+/// An accept, reads, pumps, writes and closes, and whether anything was done.
 fn go_round<M: Machine, W: Wire>(
     alloc: Global,
     machine: &mut M,
@@ -267,9 +295,10 @@ fn go_round<M: Machine, W: Wire>(
 {
     let has_met = accept_one(alloc, machine, peers, wire);
     let has_heard = read_all(alloc, machine, peers, wire, buffer);
+    let has_pumped = pump_all(alloc, machine);
     let has_given = write_all(alloc, machine, peers, wire);
     let has_closed = close_all(&*machine, peers, wire);
-    has_met | has_heard | has_given | has_closed
+    has_met | has_heard | has_pumped | has_given | has_closed
 }
 
 /// One round, with a rest where nothing was done.

@@ -52,8 +52,8 @@ impl<M: Machine> Server<M> {
         })
     }
 
-    /// One round: an accept, a read of each connection that is neither paused nor over, a write of each with output, the
-    /// end of those that are over with no output left, and a rest where nothing was done.
+    /// One round: an accept, a read of each connection that is neither paused nor over, at most 256 pumps, a write of each
+    /// with output, the end of those that are over with no output left, and a rest where nothing was done.
     pub fn round<W: Wire>(&mut self, alloc: Global, wire: &mut W)
         ensures { IsRound (served (M.world self.old.machine) self.old.peers (W.told wire.old)) (served (M.world self.new.machine) self.new.peers (W.told wire.new)) }
     {

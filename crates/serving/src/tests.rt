@@ -1,4 +1,4 @@
-//! Rounds over a wire that is scripted, of a machine on which no connection can be opened.
+//! Rounds over a wire that is scripted, of a machine on which no connection can be opened, and which has no memory.
 
 use crate::servers::{Server, serve};
 use crate::wire::{Accept, Read, Wire, Write};
@@ -7,10 +7,13 @@ use runs::Machine;
 use std::alloc::{AllocError, Global};
 use std::test::Fail;
 
+/// It counts how often it is to make a delivery.
 #[derive(Drop)]
-struct Full;
+struct Full<'a> {
+    pumps: &'a mut u64,
+}
 
-impl Machine for Full {
+impl<'a> Machine for Full<'a> {
     ghost use Rattle.std.specs.Prelude.{[]};
     ghost use Rattle.model.specs.Arrivals.{new_world};
 
@@ -35,6 +38,11 @@ impl Machine for Full {
     }
 
     fn sent(&mut self, _c: u64, _n: u64) {}
+
+    fn pump(&mut self, _alloc: Global) -> Result<Option<Vec<Note>>, AllocError> {
+        *self.pumps = self.pumps.saturating_add(1);
+        Err(AllocError)
+    }
 
     fn lose(&mut self, _c: u64) {}
 
@@ -88,7 +96,8 @@ impl Wire for OneCaller {
 #[test]
 fn a_socket_that_is_refused_is_closed_and_quiet_rounds_rest(rt: HostRuntime) -> Result<(), Fail> {
     let alloc = rt.alloc();
-    let mut server = Server::new(alloc, Full)?;
+    let mut pumps = 0;
+    let mut server = Server::new(alloc, Full { pumps: &mut pumps })?;
     let mut wire = OneCaller {
         has_come: false,
         closed: None,
@@ -98,5 +107,22 @@ fn a_socket_that_is_refused_is_closed_and_quiet_rounds_rest(rt: HostRuntime) -> 
     assert!(rt; wire.has_come);
     assert!(rt; wire.closed == Some(7));
     assert_eq!(rt; wire.rests, 4);
+    Ok(())
+}
+
+#[test]
+fn want_of_memory_ends_the_pumps_of_a_round(rt: HostRuntime) -> Result<(), Fail> {
+    let alloc = rt.alloc();
+    let mut pumps = 0;
+    let mut server = Server::new(alloc, Full { pumps: &mut pumps })?;
+    let mut wire = OneCaller {
+        has_come: true,
+        closed: None,
+        rests: 0,
+    };
+    serve(alloc, &mut server, &mut wire, 3);
+    drop(server);
+    assert_eq!(rt; pumps, 3);
+    assert_eq!(rt; wire.rests, 3);
     Ok(())
 }

@@ -42,6 +42,7 @@ impl Core {
     fn clear(&mut self, connection: u64, number: u16, channel: Option<Channel>)
         requires there { IsSome ((broker_of self.old).channel connection number) }
         requires nothing { (k : Open) → channel ≡ Some k → k.given.outstanding ≡ [] }
+        requires free { (k : Open) → channel ≡ Some k → k.given.consumers ≡ [] }
         ensures cleared { Is (said.with_freed (with_channel (broker_of self.old) connection number (option_map (open_in (names_of self.old)) channel)) (by_channel connection number)) (broker_of self.new) }
         ensures topology { topology_of self.new ≡ topology_of self.old }
     {

@@ -20,7 +20,7 @@ judge_on_open-requires-clause-open c =
     sym (ap (λ (o : Option Open). is_awaiting (option_map (open_in []) o)) is) ∙ c.requires.open []
 
 pub judge_on_open-requires-clause-placed : goal.judge_on_open-requires-clause-placed
-judge_on_open-requires-clause-placed c = c.requires.placed c.args.number c.in-Some.channel.now (sym c.channel.ensures ∙ ap option_copied c.in-Some.is)
+judge_on_open-requires-clause-placed c = (c.requires.placed c.args.number c.in-Some.channel.now (sym c.channel.ensures ∙ ap option_copied c.in-Some.is)).outstanding
 
 pub returns-in-Some : goal.returns-in-Some
 returns-in-Some c =

@@ -14,6 +14,9 @@ returns-in-QueuePurge c = λ b e. rw (c.in-QueuePurge.is, ← c.router-in-QueueP
 pub returns-in-BasicGet : goal.returns-in-BasicGet
 returns-in-BasicGet c = λ b e. rw c.in-BasicGet.is (c.judge_get.ensures b (queue_names c.args.depot.now.topology.queues) e)
 
+pub returns-in-BasicConsume : goal.returns-in-BasicConsume
+returns-in-BasicConsume c = λ b e. rw (c.in-BasicConsume.is, ← c.topology.ensures) (c.judge_consume.ensures b (open_in (queue_names c.topology.result.now.queues) c.args.channel.now))
+
 pub returns-in-BasicQos : goal.returns-in-BasicQos
 returns-in-BasicQos c = λ b e. rw c.in-BasicQos.is (c.judge_qos.ensures c.args.depot.now.topology b (open_in (queue_names c.args.depot.now.topology.queues) c.args.channel.now))
 
@@ -21,10 +24,10 @@ pub returns-in-BasicAck : goal.returns-in-BasicAck
 returns-in-BasicAck c = λ b e. rw c.in-BasicAck.is (c.judge_ack.ensures c.args.depot.now.topology b (queue_names c.args.depot.now.topology.queues))
 
 pub judge_reject-requires : goal.judge_reject-requires
-judge_reject-requires c = subst (λ (t : Topology). AreWithin t c.args.channel.now.given.outstanding) (sym c.topology.ensures) c.requires.placed
+judge_reject-requires c = subst (λ (t : Topology). AreWithin t c.args.channel.now.given.outstanding) (sym c.topology-in-BasicReject.ensures) c.requires.placed
 
 pub returns-in-BasicReject : goal.returns-in-BasicReject
-returns-in-BasicReject c = λ b e. rw (c.in-BasicReject.is, ← c.topology.ensures) (c.judge_reject.ensures b)
+returns-in-BasicReject c = λ b e. rw (c.in-BasicReject.is, ← c.topology-in-BasicReject.ensures) (c.judge_reject.ensures b)
 
 pub judge_nack-requires : goal.judge_nack-requires
 judge_nack-requires c = subst (λ (t : Topology). AreWithin t c.args.channel.now.given.outstanding) (sym c.topology-in-BasicNack.ensures) c.requires.placed

@@ -9,9 +9,9 @@ returns-clause-ok c =
       sends = c.in_ok-step.step.sends.items;
       mid = broker_of c.perform.new.broker;
       decides = c.in_ok-step.ensures.ok;
-      own = rw (← sends) c.put_sends.ensures.own;
+      own = rw (← sends) c.put_out.ensures.own;
       bounded = rw (← max.value) max.most;
-      spelled = rw (← max.value, ← sends) c.put_sends.ensures.spelled;
-      put = rw (← max.value, ← sends) c.put_sends.ensures.bytes;
-      pauses = rw (← c.bytes.ensures, ← c.perform.ensures.topology) c.pause_if.ensures.pauses;
+      spelled = rw (← max.value, ← sends) c.put_out.ensures.spelled;
+      put = rw (← max.value, ← sends) c.put_out.ensures.bytes;
+      pauses = rw (← c.perform.ensures.topology) c.put_out.ensures.pauses;
     }

@@ -1,5 +1,5 @@
-use Rattle.std.proofs.Common.{◌≡◌, ◌∙◌, [], ◌∷◌, false, true, subst, Bool}
-use Rattle.serving.specs.Wire.{Accepted, Not_accepted, Accept_failed, after}
+use Rattle.std.proofs.Common.{◌≡◌, [], ◌∷◌, false, true}
+use Rattle.serving.specs.Wire.{Not_accepted, Accept_failed, after}
 use Rattle.serving.specs.Story.{TakesIn}
 use Rattle.serving.proofs.Deeds.{met, turned_away, met_nothing, met_failure}
 use Rattle.serving.proofs.rounds.accept_one.Goals as goal

@@ -1,4 +1,4 @@
-use Rattle.std.proofs.Common.{◌≡◌, ◌∙◌, [], true, Option, Some, None, List, sym, ap, subst, slice_set, slice_index_or}
+use Rattle.std.proofs.Common.{◌∙◌, [], true, Option, List, sym, subst}
 use Rattle.serving.specs.Story.{Serves, served, At}
 use Rattle.serving.specs.declared.peers.Peer.{Peer}
 use Rattle.serving.proofs.Deeds.{let_go}

@@ -1,4 +1,4 @@
-use Rattle.std.proofs.Common.{◌≡◌, ◌∙◌, [], ◌∷◌, Option, None, List, sym, subst, slice_set}
+use Rattle.std.proofs.Common.{◌≡◌, ◌∙◌, [], ◌∷◌, Option, List, sym, subst}
 use Rattle.serving.specs.Wire.{To_read, Nothing_got, Read_ended, Read_failed, after}
 use Rattle.serving.specs.Story.{Serves, served}
 use Rattle.serving.specs.declared.peers.Peer.{Peer}

@@ -1,6 +1,5 @@
-use Rattle.std.proofs.Common.{◌≡◌, ◌∙◌, ◌+◌, Option, Some, None, List, sym, drop}
+use Rattle.std.proofs.Common.{◌∙◌, ◌+◌, sym, drop}
 use Rattle.serving.specs.Story.{At}
-use Rattle.serving.specs.declared.peers.Peer.{Peer}
 use Rattle.serving.proofs.Apart.{absent_behind, reads_as}
 use Rattle.serving.proofs.rounds.read_slot.Goals as goal
 

@@ -1,4 +1,4 @@
-use Rattle.std.proofs.Common.{List, Option, None, ap}
+use Rattle.std.proofs.Common.{None, ap}
 use Rattle.slab.specs.Slab.{Slab}
 use Rattle.runs.specs.Opened.{OpensNew}
 use Rattle.serving.specs.declared.peers.Peer.{Peer}

@@ -1,4 +1,4 @@
-use Rattle.std.proofs.Common.{◌≡◌, ◌≤◌, ◌∙◌, ℕ, [], ◌++◌, Option, None, List, sym, ap, refl, subst, drop, slice_index_or, append-nil}
+use Rattle.std.proofs.Common.{◌∙◌, ◌++◌, None, refl, slice_index_or}
 use Rattle.serving.specs.Story.{served}
 use Rattle.serving.specs.Rounds.{write_of, writes_due}
 use Rattle.serving.proofs.Onward.{serves_then}

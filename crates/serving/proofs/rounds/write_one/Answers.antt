@@ -1,4 +1,4 @@
-use Rattle.std.proofs.Common.{◌≡◌, ◌≤◌, ◌∙◌, ℕ, [], ◌∷◌, Option, None, List, length, take, sym, ap, subst, slice_set}
+use Rattle.std.proofs.Common.{◌≡◌, ◌≤◌, ◌∙◌, ℕ, [], ◌∷◌, Option, List, length, take, sym, ap, subst}
 use Rattle.serving.specs.Wire.{To_write, Took, Nothing_taken, Write_failed, after}
 use Rattle.serving.specs.Story.{Serves, served}
 use Rattle.serving.specs.declared.peers.Peer.{Peer}

@@ -1,7 +1,10 @@
-use Rattle.std.proofs.Common.{[]}
+use Rattle.std.proofs.Common.{[], refl}
 use Rattle.model.specs.declared.events.Event.TheVariants.{Pause}
-use Rattle.broker.specs.State.{broker_of, topology_of}
+use Rattle.broker.specs.State.{topology_of}
+use Rattle.broker.proofs.Seated.{serves_still}
 use Rattle.broker.proofs.brokers.Broker.pause.Goals as goal
 
 pub invariant_of-self : goal.invariant_of-self
-invariant_of-self c = c.brokers_stay_agreed.ensures.acts (topology_of c.self.inside.core) (broker_of c.self.inside.core) (broker_of c.pause.new.self) (Pause c.args.connection) [] [] c.self.invariant c.pause.ensures.acts
+invariant_of-self c =
+    serves_still c.brokers_stay_agreed.ensures.acts c.consumers_are_made.ensures (topology_of c.self.inside.core) c.self.inside.core c.pause.new.self (Pause c.args.connection) [] [] c.self.inside.roster c.pause.ensures.acts refl
+    c.self.invariant

@@ -1,7 +1,7 @@
 use Rattle.broker.proofs.Stepping.{cleared_is}
 use Rattle.std.proofs.Common.{ap}
 use Rattle.depot.specs.Store.{Store}
-use Rattle.broker.proofs.Placing.{placed_put, none_within}
+use Rattle.broker.proofs.Placing.{placed_put, placed_new}
 use Rattle.broker.proofs.cores.Core.clear.Goals as goal
 
 pub returns-clause-cleared : goal.returns-clause-cleared
@@ -12,4 +12,4 @@ returns-clause-cleared c =
 pub invariant_of-self : goal.invariant_of-self
 invariant_of-self c =
     placed_put (record { store = c.self.inside.depot; links = c.self.inside.links }) (record { store = c.requeue_channel.new.self; links = c.put.new.self }) c.args.connection c.args.number c.args.channel (ap (λ (s : Store). s.topology) c.requeue_channel.ensures) c.put.ensures
-    (λ k is. none_within c.self.inside.depot.topology k.given.outstanding (c.requires.nothing k is)) c.self.invariant
+    (λ k is. placed_new c.self.inside.depot.topology k (c.requires.nothing k is) (c.requires.free k is)) c.self.invariant

@@ -12,7 +12,8 @@ use Rattle.broker.specs.Links.{channel_of}
 use Rattle.broker.specs.State.{Kept, broker_of, topology_of, names_of}
 use Rattle.broker.proofs.Outcomes.{both_ok}
 use Rattle.broker.proofs.Stepping.{kept_there, kept_one}
-use Rattle.broker.proofs.Getting.{next_free, gotten, nothing_gotten, tag_left, first_carried}
+use Rattle.broker.proofs.Giving.{next_free}
+use Rattle.broker.proofs.Getting.{gotten, nothing_gotten, tag_left, first_carried}
 use Rattle.broker.proofs.cores.Core.get.Goals as goal
 
 pub returns-in-None-clause-ok : goal.returns-in-None-clause-ok

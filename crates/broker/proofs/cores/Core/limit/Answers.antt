@@ -8,7 +8,7 @@ use Rattle.channel.specs.Open as opened
 use Rattle.broker.specs.Links.{channel_of}
 use Rattle.broker.specs.State.{Kept, broker_of, names_of}
 use Rattle.broker.proofs.Stepping.{put_is, kept_there, kept_one, limited_is}
-use Rattle.broker.proofs.Placing.{placed_put, placed_at, same_limited}
+use Rattle.broker.proofs.Placing.{placed_put, placed_at, same_limited, same_consumers_limited}
 use Rattle.broker.proofs.cores.Core.limit.Goals as goal
 
 pub limit-requires : goal.limit-requires
@@ -38,4 +38,4 @@ invariant_of-self c =
     let new : Kept = record { store = c.self.inside.depot; links = c.limit.new.self } in
     let there = kept_one (channel_of old.links c.args.connection c.args.channel) (kept_there old c.args.self.now c.args.connection c.args.channel c.self.view_is c.requires) in
     placed_put old new c.args.connection c.args.channel (Some (opened.limited there.0 c.args.qos.now)) refl (c.limit.ensures there.0 there.1)
-    (placed_at old c.args.connection c.args.channel there.0 (opened.limited there.0 c.args.qos.now) c.self.invariant there.1 (same_limited there.0 c.args.qos.now)) c.self.invariant
+    (placed_at old c.args.connection c.args.channel there.0 (opened.limited there.0 c.args.qos.now) c.self.invariant there.1 (same_limited there.0 c.args.qos.now) (same_consumers_limited there.0 c.args.qos.now)) c.self.invariant

@@ -1,13 +1,11 @@
 use Rattle.std.proofs.Common.{◌≡◌, ◌∙◌, ap, refl, sym, subst, [], ◌∷◌, Some}
-use Rattle.std.proofs.lemmas.Option.{same_Some}
 use Rattle.model.specs.Broker.{Channel, new_channel}
 use Rattle.model.specs.Step.{Is, with_channel}
 use Rattle.model.specs.declared.events.Send.{Send}
 use Rattle.channel.specs.Open.{Open, open_in}
-use Rattle.broker.specs.Placed.{AreWithin}
 use Rattle.broker.specs.State.{Kept, broker_of, topology_of, names_of}
 use Rattle.broker.proofs.Stepping.{put_is, link_there}
-use Rattle.broker.proofs.Placing.{placed_put, none_within}
+use Rattle.broker.proofs.Placing.{placed_put, placed_new, placed_some}
 use Rattle.broker.proofs.cores.Core.open_channel.Goals as goal
 
 pub open_channel-requires : goal.open_channel-requires
@@ -33,6 +31,6 @@ invariant_of-self-2 c =
     let old : Kept = record { store = c.self.inside.depot; links = c.self.inside.links } in
     let new : Kept = record { store = c.self.inside.depot; links = c.open_channel.new.self } in
     placed_put old new c.args.connection c.args.channel (Some c.new.result) refl c.in_ok-open_channel.ensures.ok
-    (λ k e. subst (λ (x : Open). AreWithin (topology_of old) x.given.outstanding) (same_Some c.new.result k e)
-    (none_within (topology_of old) c.new.result.given.outstanding (ap (λ (x : Open). x.given.outstanding) c.new.ensures)))
+    (placed_some (topology_of old) c.new.result
+    (placed_new (topology_of old) c.new.result (ap (λ (x : Open). x.given.outstanding) c.new.ensures) (ap (λ (x : Open). x.given.consumers) c.new.ensures)))
     c.self.invariant

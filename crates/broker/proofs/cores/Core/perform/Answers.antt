@@ -1,12 +1,13 @@
 use Rattle.std.proofs.Common.{ap, subst, Result, Ok, Some}
 use Rattle.std.specs.Prelude.{is_some}
 use Rattle.std.proofs.lemmas.Result.{IfOk-weaker}
-use Rattle.model.specs.Step.{refusal}
+use Rattle.model.specs.Step.{refusal, channel_or_new}
 use Rattle.broker.specs.State.{broker_of, topology_of}
-use Rattle.broker.specs.Judged.{Judges, JudgesOn}
+use Rattle.broker.specs.Judged.{Judges, JudgesOn, left_of}
 use Rattle.broker.specs.declared.refusals.Refusal.{Refusal}
 use Rattle.broker.specs.declared.refusals.Act.{Act}
-use Rattle.broker.proofs.Stepping.{performs_on, ignored_by, performed_not, requeued_not, requeued_by}
+use Rattle.broker.proofs.Consuming.{performed_not}
+use Rattle.broker.proofs.Stepping.{decides_on, ignored_by, requeued_not, requeued_by}
 use Rattle.broker.proofs.cores.Core.perform.Goals as goal
 
 pub act-requires-clause-can : goal.act-requires-clause-can
@@ -31,7 +32,7 @@ returns-in-Some-Ok-clause-ok c =
     let judges : Judges t b ch c.args.method.now (refusal t b judged.0 c.args.channel c.args.method.now ch) (Ok c.in-Some-Ok.act) =
     subst (λ (r : Result Act Refusal). Judges t b ch c.args.method.now (refusal t b judged.0 c.args.channel c.args.method.now ch) r) c.in-Some-Ok.field-0-is judged.2 in
     IfOk-weaker c.act.result _ _
-    (λ s does. performs_on t b c.args.connection c.args.channel c.args.method.now c.args.content.now s.sends.items s.notes.items (broker_of c.act.new.self) judged.0 judged.1 judges.0 (does c.args.method.now judges.1))
+    (λ s does. decides_on t b c.args.connection c.args.channel c.args.method.now c.args.content.now (left_of (channel_or_new ch) c.in-Some-Ok.act) s.sends.items s.notes.items (broker_of c.act.new.self) judged.0 judged.1 judges.0 (does c.args.method.now judges.1))
     c.act.ensures.ok
 
 pub returns-in-Some-Ok-clause-own : goal.returns-in-Some-Ok-clause-own

@@ -4,6 +4,7 @@ use Rattle.model.specs.Broker.{Channel}
 use Rattle.model.specs.Step.{IsPublish, channel_or_new, next_of, answer_of, confirm_sends, confirm_notes, returned_notes}
 use Rattle.model.specs.declared.events.Send.{Send}
 use Rattle.model.specs.declared.notes.Note.{Note}
+use Rattle.depot.specs.Store.{Store}
 use Rattle.depot.specs.Publishing.{Publishes}
 use Rattle.channel.specs.Open.{Open, open_in}
 use Rattle.broker.specs.Links.{channel_of}
@@ -11,7 +12,7 @@ use Rattle.broker.specs.Sent.{AreOwn, return_if, sent_back}
 use Rattle.broker.specs.State.{Kept, broker_of, topology_of, names_of}
 use Rattle.broker.proofs.Stepping.{published_is, open_there, back_own}
 use Rattle.std.proofs.Common.{refl}
-use Rattle.broker.proofs.Placing.{placed_put, placed_at}
+use Rattle.broker.proofs.Placing.{placed_put, placed_at, placed_same}
 use Rattle.broker.proofs.cores.Core.publish.Goals as goal
 
 pub returns-clause-ok : goal.returns-clause-ok
@@ -64,4 +65,8 @@ invariant_of-self-2 c =
     let new : Kept = record { store = c.publish.new.self; links = c.count_publish.new.self } in
     let there = open_there (names_of old) (channel_of old.links c.args.connection c.args.channel) (subst (λ (k : Kept). IsSome ((broker_of k).channel c.args.connection c.args.channel)) (sym c.self.view_is) c.requires.there) in
     placed_put old new c.args.connection c.args.channel (Some (record there.0 { confirm = next_of there.0.confirm })) c.in_ok-routed.ensures.ok.publishes.topology (c.count_publish.ensures there.0 there.1)
-    (placed_at old c.args.connection c.args.channel there.0 (record there.0 { confirm = next_of there.0.confirm }) c.self.invariant there.1 refl) c.self.invariant
+    (placed_at old c.args.connection c.args.channel there.0 (record there.0 { confirm = next_of there.0.confirm }) c.self.invariant there.1 refl refl) c.self.invariant
+
+pub invariant_of-self : goal.invariant_of-self
+invariant_of-self c =
+    placed_same (record { store = c.self.inside.depot; links = c.self.inside.links }) (record { store = c.publish.new.self; links = c.self.inside.links }) (ap (λ (s : Store). s.topology) c.in_err-routed.ensures.store) (λ d k. refl) c.self.invariant

@@ -27,7 +27,7 @@ put_back-requires c =
     let ch = kept_one (channel_of old.links c.args.connection c.args.channel) (kept_there old c.args.self.now c.args.connection c.args.channel c.self.view_is c.requires.there) in
     let placed : ArePlaced old = c.self.invariant in
     let all : settled tag_of c.args.tag c.args.multiple ch.0.given.outstanding ≡ Some c.in-Some.gone.now = sym (c.settle.ensures ch.0 ch.1) ∙ ap (option_map (λ s. s.now)) c.in-Some.is in
-    gone_within (topology_of old) c.args.tag c.args.multiple ch.0.given.outstanding c.in-Some.gone.now all (placed c.args.connection c.args.channel ch.0 ch.1)
+    gone_within (topology_of old) c.args.tag c.args.multiple ch.0.given.outstanding c.in-Some.gone.now all (placed c.args.connection c.args.channel ch.0 ch.1).outstanding
 
 pub returns-clause-settles : goal.returns-clause-settles
 returns-clause-settles c = λ sends.

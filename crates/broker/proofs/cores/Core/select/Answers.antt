@@ -31,4 +31,4 @@ invariant_of-self c =
     let new : Kept = record { store = c.self.inside.depot; links = c.select.new.self } in
     let there = kept_one (channel_of old.links c.args.connection c.args.channel) (kept_there old c.args.self.now c.args.connection c.args.channel c.self.view_is c.requires) in
     placed_put old new c.args.connection c.args.channel (Some (record there.0 { confirm = started there.0.confirm })) refl (c.select.ensures there.0 there.1)
-    (placed_at old c.args.connection c.args.channel there.0 (record there.0 { confirm = started there.0.confirm }) c.self.invariant there.1 refl) c.self.invariant
+    (placed_at old c.args.connection c.args.channel there.0 (record there.0 { confirm = started there.0.confirm }) c.self.invariant there.1 refl refl) c.self.invariant

@@ -1,4 +1,4 @@
-use Rattle.std.proofs.Common.{◌≡◌, ◌-◌, ◌∙◌, ap, arith, ℕ}
+use Rattle.std.proofs.Common.{◌≡◌, ◌-◌, ◌∙◌, ap, arith}
 use Rattle.channel.specs.Deliveries.{Given, with_given}
 use Rattle.channel.proofs.channels.Channel.give.Goals as goal
 

@@ -1,8 +1,11 @@
-use Rattle.std.proofs.Common.{◌≡◌, rules, subst, sym}
+use Rattle.std.proofs.Common.{◌≡◌, ◌∙◌, ap, rules, subst, sym}
+use Rattle.std.specs.Prelude.{is_some}
+use Rattle.std.proofs.lemmas.Bool.{false≢true}
 use Rattle.model.specs.Topology.{Topology, IsWellFormed}
 use Rattle.model.specs.Guarantee.{AllHold}
 use Rattle.model.specs.Consistent.{IsConsistent}
-use Rattle.broker.specs.State.{topology_of}
+use Rattle.model.specs.Naming.{AreNamed}
+use Rattle.broker.specs.State.{topology_of, broker_of}
 use Rattle.engine.specs.World.{AreLinks, Parts, world_of}
 use Rattle.engine.proofs.engines.Engine.new.Goals as goal
 
@@ -14,4 +17,5 @@ invariant_of-result c =
     let parts : Parts = record { broker = c.in_ok-new.field-0; guarantees = c.into_parts-topology.result.1.items; users = c.args.users.items; given = 0; links = c.new-2.result.items } in
     let links' : AreLinks 0 c.new-2.result.items = rw c.new-2.ensures.items (record { rising = tt; each = tt }) in
     let consistent' : IsConsistent (world_of parts) = search rules in
-    record { hold = hold'; formed = formed'; links = links'; consistent = consistent' }
+    let named' : AreNamed (topology_of c.in_ok-new.field-0) (broker_of c.in_ok-new.field-0) = λ d h ch e. absurd (false≢true (ap is_some (sym (c.in_ok-new.ensures.empty.channels d h) ∙ e))) in
+    record { hold = hold'; formed = formed'; links = links'; consistent = consistent'; named = named' }

@@ -8,7 +8,7 @@ use Rattle.engine.specs.declared.links.Link.{Link}
 use Rattle.engine.specs.World.{Parts, world_of, IsNew}
 use Rattle.engine.specs.Opening.{OpenedNew}
 use Rattle.engine.proofs.Openings.{IsOneMore, refused_so, engine_opened, opened_new}
-use Rattle.engine.proofs.Agreeing.{opens_new_agrees}
+use Rattle.engine.proofs.Agreeing.{agreed, opens_new_agrees}
 use Rattle.engine.proofs.Tooks.{world_stays}
 use Rattle.engine.proofs.engines.Engine.open.Goals as goal
 
@@ -38,7 +38,7 @@ invariant_of-self-2 c =
       awake = refl;
     } in
     engine_opened old new c.new.result new_session new_stream c.self.invariant more
-    (opens_new_agrees (world_of old) (world_of new) c.in_ok-number.number c.self.invariant.consistent (opened_new old new c.new.result c.in_ok-number.number c.self.invariant.links numbers more refl))
+    (opens_new_agrees (world_of old) (world_of new) c.in_ok-number.number (agreed old c.self.invariant) (opened_new old new c.new.result c.in_ok-number.number c.self.invariant.links numbers more refl))
 
 pub returns : goal.returns
 returns c =

@@ -10,7 +10,7 @@ use Rattle.engine.specs.declared.links.Link.{Link}
 use Rattle.engine.specs.World.{Parts, world_of, IsNew}
 use Rattle.engine.specs.Opening.{OpenedReady}
 use Rattle.engine.proofs.Openings.{IsOneMore, refused_so, refused_memory, engine_opened, opened_ready}
-use Rattle.engine.proofs.Agreeing.{opens_ready_agrees}
+use Rattle.engine.proofs.Agreeing.{agreed, opens_ready_agrees}
 use Rattle.engine.proofs.Tooks.{world_stays}
 use Rattle.engine.proofs.engines.Engine.open_ready.Goals as goal
 
@@ -52,7 +52,7 @@ invariant_of-self-2 c =
     let acts : Acts (topology_of i.broker) (broker_of i.broker) (event.Running c.in_ok-number.number 255 c.args.channels) [] [] (broker_of c.open.new.self) =
     subst (λ (k : ℕ). Acts (topology_of i.broker) (broker_of i.broker) (event.Running c.in_ok-number.number 255 k) [] [] (broker_of c.open.new.self)) c.from.ensures c.in_ok-open.ensures.ok in
     engine_opened old new c.running.result running_session running_stream c.self.invariant more
-    (opens_ready_agrees (world_of old) (world_of new) c.args.channels c.in_ok-number.number c.self.invariant.consistent (opened_ready old new c.running.result c.in_ok-number.number c.args.channels c.self.invariant.links numbers more acts))
+    (opens_ready_agrees (world_of old) (world_of new) c.args.channels c.in_ok-number.number (agreed old c.self.invariant) (opened_ready old new c.running.result c.in_ok-number.number c.args.channels c.self.invariant.links numbers more acts))
 
 pub returns : goal.returns
 returns c =

@@ -1,0 +1,30 @@
+use Rattle.std.proofs.Common.{◌≡◌, ◌∙◌, ap, sym, subst, true, Option, Some}
+use Rattle.std.specs.Prelude.{option_map, is_some}
+use Rattle.model.specs.Deliveries.{first_ready}
+use Rattle.model.specs.declared.messages.Entry.{Entry}
+use Rattle.exchange_graph.specs.Marks.{queue_name}
+use Rattle.broker.specs.State.{Kept, broker_of, topology_of}
+use Rattle.broker.proofs.Outcomes.{some_of, some_mapped}
+use Rattle.broker.proofs.Delivering.{picked, ready_for, none_picked}
+use Rattle.broker.proofs.cores.Core.may_deliver.Goals as goal
+
+pub returns-in-Some-clause-yes : goal.returns-in-Some-clause-yes
+returns-in-Some-clause-yes c = λ is.
+    let old : Kept = record { store = c.self.inside.depot; links = c.self.inside.links } in
+    let place = c.in-Some.consumer.now.queue in
+    let same : first_ready ((broker_of c.args.self.now).queue (queue_name (topology_of c.args.self.now) place)) ≡ option_map (λ e. e.now) c.first_ready.result =
+    subst (λ (k : Kept). first_ready ((broker_of k).queue (queue_name (topology_of k) place)) ≡ option_map (λ e. e.now) c.first_ready.result) c.self.view_is
+    (ap first_ready c.is_named.ensures.entries_are ∙ sym c.first_ready.ensures) in
+    let some = some_of (first_ready ((broker_of c.args.self.now).queue (queue_name (topology_of c.args.self.now) place))) (ap is_some same ∙ some_mapped (λ e. e.now) c.first_ready.result ∙ sym c.is_some.ensures ∙ is) in
+    picked c.args.self.now c.args.pick c.in-Some.consumer.now some.0 c.in-Some.ensures some.1
+
+pub returns-in-Some-clause-no : goal.returns-in-Some-clause-no
+returns-in-Some-clause-no c = λ pick.
+    let place = c.in-Some.consumer.now.queue in
+    let same : first_ready ((broker_of c.args.self.now).queue (queue_name (topology_of c.args.self.now) place)) ≡ option_map (λ e. e.now) c.first_ready.result =
+    subst (λ (k : Kept). first_ready ((broker_of k).queue (queue_name (topology_of k) place)) ≡ option_map (λ e. e.now) c.first_ready.result) c.self.view_is
+    (ap first_ready c.is_named.ensures.entries_are ∙ sym c.first_ready.ensures) in
+    c.is_some.ensures ∙ sym (some_mapped (λ e. e.now) c.first_ready.result) ∙ ap is_some (sym same) ∙ ap is_some (ready_for c.args.self.now c.args.pick c.in-Some.consumer.now c.in-Some.ensures pick)
+
+pub returns-in-None-clause-no : goal.returns-in-None-clause-no
+returns-in-None-clause-no c = λ pick. absurd (none_picked c.args.self.now c.args.pick c.in-None.ensures pick)

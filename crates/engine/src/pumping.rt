@@ -1,0 +1,71 @@
+//! One delivery to one connection.
+
+ghost use Rattle.std.specs.Prelude.{◌≡◌, None, IfOk, OnErr};
+ghost use Rattle.model.specs.Naming.{AreNamed};
+ghost use Rattle.model.specs.Sending.{AreCarried};
+ghost use Rattle.broker.specs.State.{topology_of, broker_of};
+ghost use Rattle.broker.specs.Picked.{IsPick};
+ghost use Rattle.engine.specs.World.{link_in, AreRising};
+ghost use Rattle.engine.specs.Pumping.{LinkPumped, LinksPumped, LinksNotPumped};
+
+use crate::connections::{MOST_SENT, place_of};
+use crate::links::Link;
+use crate::scratch::Scratch;
+use crate::turning::put_out;
+use broker::{Broker, Pick};
+use model::Note;
+use std::alloc::{AllocError, Global};
+
+/// The delivery that was picked, to its connection, with room made for the greatest.
+fn pump_link(
+    alloc: Global,
+    broker: &mut Broker,
+    scratch: &mut Scratch,
+    link: &mut Link,
+    pick: Pick,
+) -> Result<Vec<Note>, AllocError>
+    requires picked { IsPick (broker_of broker.old) pick }
+    requires carried { AreCarried (broker_of broker.old) }
+    requires named { AreNamed (topology_of broker.old) (broker_of broker.old) }
+    ensures ok { IfOk result (λ notes. LinkPumped (topology_of broker.old) (broker_of broker.old) pick.connection link.old notes.items (broker_of broker.new) link.new) }
+    ensures rest { link.new ≡ record link.old { output = link.new.output } }
+    ensures broker_kept { OnErr result (broker.new ≡ broker.old) }
+    ensures output_kept { OnErr result (link.new.output.bytes ≡ link.old.output.bytes) }
+    ensures topology { topology_of broker.new ≡ topology_of broker.old }
+{
+    link.output.reserve(MOST_SENT)?;
+    let max = link.session.frame_max();
+    let step = broker.pump(alloc, pick)?;
+    put_out(
+        pick.connection,
+        broker,
+        scratch,
+        &mut link.output,
+        max,
+        &step.sends,
+    );
+    Ok(step.notes)
+}
+
+/// The same among all connections, of which its own is one.
+pub(crate) fn pump_among(
+    alloc: Global,
+    broker: &mut Broker,
+    scratch: &mut Scratch,
+    links: &mut Vec<Link>,
+    pick: Pick,
+) -> Result<Vec<Note>, AllocError>
+    requires rising { AreRising 0 links.old.items }
+    requires there { link_in links.old.items pick.connection ≡ None → ⊥ }
+    requires picked { IsPick (broker_of broker.old) pick }
+    requires carried { AreCarried (broker_of broker.old) }
+    requires named { AreNamed (topology_of broker.old) (broker_of broker.old) }
+    ensures ok { IfOk result (λ notes. LinksPumped (topology_of broker.old) (broker_of broker.old) pick.connection links.old.items notes.items (broker_of broker.new) links.new.items) }
+    ensures err { OnErr result (LinksNotPumped (broker_of broker.old) pick.connection links.old.items (broker_of broker.new) links.new.items) }
+    ensures topology { topology_of broker.new ≡ topology_of broker.old }
+{
+    match place_of(links, pick.connection) {
+        Some(place) => pump_link(alloc, broker, scratch, &mut links[place], pick),
+        None => unreachable!(),
+    }
+}

@@ -1,0 +1,359 @@
+-- The consumers of each channel stay named, whatever the broker does, and what is delivered to them can be addressed.
+use Rattle.std.proofs.Common.{◌≡◌, ℕ, zero, suc, ◌+◌, ◌<◌, ◌≤◌, List, [], ◌∷◌, Bool, true, false, cond, refl, sym, ap, subst, ◌∙◌, filter, length, length-append, get_or, not, arith, Option, Some, None, inl, inr}
+use Rattle.std.specs.Prelude.{is_some, nat_le, nat_lt, codes, decimal, ◌==◌, ◌&&◌, ◌||◌, if◌then◌else◌}
+use Rattle.std.specs.List.{AllByRecursion, AllPairs, list_any}
+use Rattle.std.specs.Str.{bytes_eq}
+use Rattle.std.proofs.lemmas.Bool.{leb-true, leb-false, ne_eqb, false≢true}
+use Rattle.std.proofs.lemmas.Option.{same_Some}
+use Rattle.std.proofs.lemmas.Fmt.{length-decimal-le}
+use Rattle.std.proofs.lemmas.List.Kept.{AllPairs-filter}
+use Rattle.std.proofs.lemmas.List.Quantifiers.{all_pairs_push}
+use Rattle.model.specs.Words.{Text}
+use Rattle.model.specs.Topology.{Topology, IsIn}
+use Rattle.model.specs.Grammar.{Ids, ids_of, IsMethod}
+use Rattle.model.specs.Broker.{Consumer, Outstanding, Channel, Connection, Broker, new_channel, queue_named, is_ready, with_pair, with_row}
+use Rattle.model.specs.Entries.{by_channel}
+use Rattle.model.specs.Settling.{is_refused, kept, takes}
+use Rattle.model.specs.Prefetch.{is_to, has_tag_left}
+use Rattle.model.specs.Deliveries.{Settlement, first_ready, outstanding_after}
+use Rattle.model.specs.Consuming.{is_tagged, is_in_use, server_tag, next_free, tag_for, is_tag_taken, is_tag_wanting, consumer_of, with_consumer, without_consumer}
+use Rattle.model.specs.Step.{Is, tag_of, opened, greatest, Refusal, Ignored, Of_channel, Of_connection, Acts, Does, Gets, Settles, Performs, Refuses, Decides, OnConnection, OnLarge, IsDelivery, channel_or_new, channels_up_to, empty_publish, or_else, refusal, refusal_of, refusal_in, refusal_of_asking, refusal_of_tag, refusal_of_many, refusal_of_consume, refusal_of_large, with_freed, with_channel}
+use Rattle.model.specs.Arrivals.{IsSaid}
+use Rattle.model.specs.Naming.{IsGivenBelow, AreNamedOn, AreNamed}
+use Rattle.model.specs.Sending.{IsCarried, IsAddressed}
+use Rattle.model.specs.declared.messages.Entry.{Entry}
+use Rattle.model.specs.declared.messages.Taker.{Taker}
+use Rattle.model.specs.declared.messages.Taker.TheVariants as taker
+use Rattle.model.specs.declared.contents.Content.{Content}
+use Rattle.model.specs.declared.events.Send.{Send}
+use Rattle.model.specs.declared.events.Event.{Event}
+use Rattle.model.specs.declared.events.Event.TheVariants.{Open, First, Running, Command, TooLarge, Fault, Lose, Pause, Resume, Deliver}
+use Rattle.model.specs.declared.methods.Consume.{Consume}
+use Rattle.model.specs.declared.methods.Get.{Get}
+use Rattle.model.specs.declared.methods.Qos.{Qos}
+use Rattle.model.specs.declared.methods.Method.{Method}
+use Rattle.model.specs.declared.methods.Method.TheVariants.{ConnectionClose, ChannelOpen, ChannelFlow, ChannelClose, ChannelCloseOk, ExchangeDeclare, QueueDeclare, QueuePurge, BasicQos, BasicConsume, BasicCancel, BasicPublish, BasicGet, BasicAck, BasicReject, BasicNack, BasicRecover, ConfirmSelect}
+use Rattle.model.specs.declared.notes.Note.{Note}
+use Rattle.laws.specs.Consumers.{ConsumersStayNamed, DeliveriesAreAddressed}
+use Rattle.laws.proofs.Counts.{count_none, all-append, all_each, all_in, filter_all}
+use Rattle.laws.proofs.Leaving.{find_in}
+use Rattle.laws.proofs.Tags.{next_is_free}
+
+-- ---- tags of the server
+
+-- a tag of the server is short
+server_short : (n : ℕ) → n < 18446744073709551615 → length (server_tag n) < 256
+server_short n lt =
+    let digits = length-decimal-le 20 n (omega arith) (omega (arith, lt)) (omega (arith, lt)) in
+    let all = length-append (codes "amq.ctag-") (decimal n) in
+    omega (arith, digits, all)
+
+-- ---- what is not refused
+
+first_none : (a b : Option Refusal) → or_else a b ≡ None → (a ≡ None) × (b ≡ None)
+first_none None b e = (refl, e)
+first_none (Some r) b e = absurd (false≢true (sym (ap is_some e)))
+
+is_not : (v : Bool) (r : Refusal) → (if v then Some r else None) ≡ None → v ≡ false
+is_not true r e = absurd (false≢true (sym (ap is_some e)))
+is_not false r e = refl
+
+-- a consume that is not refused
+record Accepted (t : Topology) (ch : Channel) (m : Consume) : Type 0 where
+  queue : is_some (queue_named t.queues m.queue) ≡ true
+  free : is_tag_taken ch m.consumer_tag ≡ false
+  few : nat_le 256 (length ch.consumers) ≡ false
+  left : is_tag_wanting ch m.consumer_tag ≡ false
+
+accepted : (t : Topology) (ch : Channel) (m : Consume) → refusal_of_consume t ch m ≡ None → Accepted t ch m
+accepted t ch m e =
+    let queue = first_none (refusal_in t m.queue) _ e in
+    let asking = first_none (refusal_of_asking m) _ queue.1 in
+    let tag = first_none (refusal_of_tag ch m.consumer_tag) _ asking.1 in
+    let many = first_none (refusal_of_many ch) _ tag.1 in
+    record {
+      queue = found (is_some (queue_named t.queues m.queue)) queue.0;
+      free = is_not _ _ tag.0;
+      few = is_not _ _ many.0;
+      left = second (ch.next_number == greatest) (is_tag_wanting ch m.consumer_tag) (is_not _ _ many.1);
+    }
+  where
+    found : (v : Bool) → (if v then None else Some (Of_channel 404)) ≡ None → v ≡ true
+    found true e = refl
+    found false e = absurd (false≢true (sym (ap is_some e)))
+
+    second : (a b : Bool) → (a || b) ≡ false → b ≡ false
+    second true b e = absurd (false≢true (sym e))
+    second false b e = e
+
+-- the tag of the new consumer is free, and has a spelling
+record GoodTag (ch : Channel) (tag : Text) : Type 0 where
+  free : is_in_use tag ch.consumers ≡ false
+  short : length tag < 256
+
+good_tag : (ch : Channel) (given : Text) → length given < 256 → is_tag_taken ch given ≡ false → is_tag_wanting ch given ≡ false → GoodTag ch (tag_for ch given)
+good_tag ch [] short free left = let lt = leb-false 18446744073709551615 (next_free ch) left in record { free = next_is_free ch lt; short = server_short (next_free ch) lt }
+good_tag ch (b ∷ bs) short free left = record { free = free; short = short }
+
+-- ---- what is outstanding
+
+given_later : (next : ℕ) (by : Taker) → IsGivenBelow next by → IsGivenBelow (next + 1) by
+given_later next taker.Get i = tt
+given_later next (taker.Consumer number) lt = omega (arith, lt)
+
+-- one message more is outstanding, or none
+given_more : (no_ack : Bool) (next tag : ℕ) (queue : Text) (by : Taker) (os : List Outstanding) → IsGivenBelow next by → AllByRecursion (λ (o : Outstanding). IsGivenBelow next o.by) os
+    → AllByRecursion (λ (o : Outstanding). IsGivenBelow next o.by) (outstanding_after no_ack tag queue by os)
+given_more true next tag queue by os i a = a
+given_more false next tag queue by os i a = all-append _ os _ a (i, tt)
+
+given_kept : (next tag : ℕ) (multiple : Bool) (os : List Outstanding) → AllByRecursion (λ (o : Outstanding). IsGivenBelow next o.by) os → AllByRecursion (λ (o : Outstanding). IsGivenBelow next o.by) (kept tag_of tag multiple os)
+given_kept next tag multiple os a = go (is_refused tag_of tag multiple os)
+  where
+    go : (v : Bool) → AllByRecursion (λ (o : Outstanding). IsGivenBelow next o.by) (if v then os else filter (λ x. not (takes tag_of tag multiple x)) os)
+    go true = a
+    go false = filter_all _ (λ (x : Outstanding). not (takes tag_of tag multiple x)) os a
+
+-- nothing was given to the next one
+none_to_next : (next : ℕ) (by : Taker) → IsGivenBelow next by → is_to next by ≡ false
+none_to_next next taker.Get i = refl
+none_to_next next (taker.Consumer number) lt = ne_eqb number next (λ e. omega (arith, lt, e))
+
+-- ---- single channels
+
+named_new : (t : Topology) (ch : Channel) → ch.consumers ≡ [] → ch.outstanding ≡ [] → AreNamedOn t ch
+named_new t ch e none = record {
+  queues = subst (λ (ks : List Consumer). AllByRecursion (λ (k : Consumer). is_some (queue_named t.queues k.queue) ≡ true) ks) (sym e) tt;
+  spelled = subst (λ (ks : List Consumer). AllByRecursion (λ (k : Consumer). length k.tag < 256) ks) (sym e) tt;
+  apart = subst (λ (ks : List Consumer). AllPairs (λ (a b : Consumer). bytes_eq a.tag b.tag ≡ false) ks) (sym e) (λ i j x lt le. absurd (omega arith));
+  rising = subst (λ (ks : List Consumer). AllPairs (λ (a b : Consumer). a.number < b.number) ks) (sym e) (λ i j x lt le. absurd (omega arith));
+  before = subst (λ (ks : List Consumer). AllByRecursion (λ (k : Consumer). k.number < ch.next_number) ks) (sym e) tt;
+  given = subst (λ (os : List Outstanding). AllByRecursion (λ (o : Outstanding). IsGivenBelow ch.next_number o.by) os) (sym none) tt;
+  few = let n = ap length e in omega (arith, n);
+}
+
+-- another record of the channel with the same consumers
+named_as : (t : Topology) (ch other : Channel) → other.consumers ≡ ch.consumers → other.next_number ≡ ch.next_number → AllByRecursion (λ (o : Outstanding). IsGivenBelow ch.next_number o.by) other.outstanding → AreNamedOn t ch → AreNamedOn t other
+named_as t ch other e next given n = record {
+  queues = subst (λ (ks : List Consumer). AllByRecursion (λ (k : Consumer). is_some (queue_named t.queues k.queue) ≡ true) ks) (sym e) n.queues;
+  spelled = subst (λ (ks : List Consumer). AllByRecursion (λ (k : Consumer). length k.tag < 256) ks) (sym e) n.spelled;
+  apart = subst (λ (ks : List Consumer). AllPairs (λ (a b : Consumer). bytes_eq a.tag b.tag ≡ false) ks) (sym e) n.apart;
+  rising = subst (λ (ks : List Consumer). AllPairs (λ (a b : Consumer). a.number < b.number) ks) (sym e) n.rising;
+  before = subst (λ (m : ℕ). AllByRecursion (λ (k : Consumer). k.number < m) other.consumers) (sym next) (subst (λ (ks : List Consumer). AllByRecursion (λ (k : Consumer). k.number < ch.next_number) ks) (sym e) n.before);
+  given = subst (λ (m : ℕ). AllByRecursion (λ (o : Outstanding). IsGivenBelow m o.by) other.outstanding) (sym next) given;
+  few = subst (λ (ks : List Consumer). length ks ≤ 256) (sym e) n.few;
+}
+
+-- what none passes, each fails
+each_fails : (p : Consumer → Bool) (ks : List Consumer) → list_any p ks ≡ false → AllByRecursion (λ (k : Consumer). p k ≡ false) ks
+each_fails p [] e = tt
+each_fails p (k ∷ ks) e = go (p k) refl (each_fails p ks) e
+  where
+    go : (v : Bool) → p k ≡ v → (list_any p ks ≡ false → AllByRecursion (λ (x : Consumer). p x ≡ false) ks) → (v || list_any p ks) ≡ false → (p k ≡ false) × AllByRecursion (λ (x : Consumer). p x ≡ false) ks
+    go true is rest e = absurd (false≢true (sym e))
+    go false is rest e = (is, rest e)
+
+in_at : (ks : List Consumer) (i : ℕ) (d : Consumer) → i < length ks → IsIn (get_or ks i d) ks
+in_at [] i d lt = absurd (omega arith)
+in_at (k ∷ ks) zero d lt = inl refl
+in_at (k ∷ ks) (suc i) d lt = inr (in_at ks i d (omega arith))
+
+-- one consumer more
+named_more : (t : Topology) (ch : Channel) (m : Consume) → Accepted t ch m → length m.consumer_tag < 256 → AreNamedOn t ch → AreNamedOn t (with_consumer ch m)
+named_more t ch m is short n = record {
+  queues = all-append _ ch.consumers (k ∷ []) n.queues (is.queue, tt);
+  spelled = all-append _ ch.consumers (k ∷ []) n.spelled (tag.short, tt);
+  apart = all_pairs_push (λ (a b : Consumer). bytes_eq a.tag b.tag ≡ false) ch.consumers k n.apart (λ i d lt. all_in (λ (a : Consumer). bytes_eq a.tag k.tag ≡ false) (get_or ch.consumers i d) ch.consumers (each_fails (is_tagged k.tag) ch.consumers tag.free) (in_at ch.consumers i d lt));
+  rising = all_pairs_push (λ (a b : Consumer). a.number < b.number) ch.consumers k n.rising (λ i d lt. all_in (λ (a : Consumer). a.number < ch.next_number) (get_or ch.consumers i d) ch.consumers n.before (in_at ch.consumers i d lt));
+  before = all-append (λ (a : Consumer). a.number < ch.next_number + 1) ch.consumers (k ∷ []) (all_each _ _ (λ a lt. omega (arith, lt)) ch.consumers n.before) (omega arith, tt);
+  given = all_each _ _ (λ o i. given_later ch.next_number o.by i) ch.outstanding n.given;
+  few = let more = length-append ch.consumers (k ∷ []) in let lt = leb-false 256 (length ch.consumers) is.few in omega (arith, more, lt);
+}
+  where
+    k : Consumer
+    k = consumer_of ch m
+
+    tag : GoodTag ch k.tag
+    tag = good_tag ch m.consumer_tag short is.free is.left
+
+fewer_left : (p : Consumer → Bool) (ks : List Consumer) → length (filter p ks) ≤ length ks
+fewer_left p [] = omega arith
+fewer_left p (k ∷ ks) = go (p k) (fewer_left p ks)
+  where
+    go : (v : Bool) → length (filter p ks) ≤ length ks → length (cond v (k ∷ filter p ks) (filter p ks)) ≤ length (k ∷ ks)
+    go true le = omega (arith, le)
+    go false le = omega (arith, le)
+
+-- some consumers fewer
+named_fewer : (t : Topology) (ch : Channel) (tag : Text) → AreNamedOn t ch → AreNamedOn t (without_consumer ch tag)
+named_fewer t ch tag n = record {
+  queues = filter_all _ (λ (k : Consumer). not (is_tagged tag k)) ch.consumers n.queues;
+  spelled = filter_all _ (λ (k : Consumer). not (is_tagged tag k)) ch.consumers n.spelled;
+  apart = AllPairs-filter (λ (a b : Consumer). bytes_eq a.tag b.tag ≡ false) (λ (k : Consumer). not (is_tagged tag k)) ch.consumers n.apart;
+  rising = AllPairs-filter (λ (a b : Consumer). a.number < b.number) (λ (k : Consumer). not (is_tagged tag k)) ch.consumers n.rising;
+  before = filter_all _ (λ (k : Consumer). not (is_tagged tag k)) ch.consumers n.before;
+  given = n.given;
+  few = let le = fewer_left (λ (k : Consumer). not (is_tagged tag k)) ch.consumers in let few = n.few in omega (arith, le, few);
+}
+
+-- ---- all cases
+
+module _ (t : Topology) (old new : Broker) (a : AreNamed t old) where
+  abbrev mine : ℕ → ℕ → Channel
+  mine c h = channel_or_new (old.channel c h)
+
+  named_mine : (c h : ℕ) → AreNamedOn t (mine c h)
+  named_mine c h = go (old.channel c h) refl
+    where
+      go : (o : Option Channel) → old.channel c h ≡ o → AreNamedOn t (channel_or_new o)
+      go None e = named_new t new_channel refl refl
+      go (Some ch) e = a c h ch e
+
+  same : ((c h : ℕ) → new.channel c h ≡ old.channel c h) → AreNamed t new
+  same is c h ch e = a c h ch (sym (is c h) ∙ e)
+
+  with_this : (c h : ℕ) (x : Option Channel) → ((d k : ℕ) → new.channel d k ≡ with_pair old.channel c h x d k) → ((ch : Channel) → x ≡ Some ch → AreNamedOn t ch) → AreNamed t new
+  with_this c h x is good d k ch e = go (d == c) (k == h) (sym (is d k) ∙ e)
+    where
+      go : (v w : Bool) → (if v && w then x else old.channel d k) ≡ Some ch → AreNamedOn t ch
+      go true true e = good ch e
+      go true false e = a d k ch e
+      go false w e = a d k ch e
+
+  with_some : (c h : ℕ) (ch : Channel) → ((d k : ℕ) → new.channel d k ≡ with_pair old.channel c h (Some ch) d k) → AreNamedOn t ch → AreNamed t new
+  with_some c h ch is good = with_this c h (Some ch) is (λ x e. subst (AreNamedOn t) (same_Some ch x e) good)
+
+  with_none : (c h : ℕ) → ((d k : ℕ) → new.channel d k ≡ with_pair old.channel c h None d k) → AreNamed t new
+  with_none c h is = with_this c h None is (λ ch e. absurd (false≢true (ap is_some e)))
+
+  with_these : (c : ℕ) (row : ℕ → Option Channel) → ((d k : ℕ) → new.channel d k ≡ with_row old.channel c row d k) → ((k : ℕ) (ch : Channel) → row k ≡ Some ch → AreNamedOn t ch) → AreNamed t new
+  with_these c row is good d k ch e = go (d == c) (sym (is d k) ∙ e)
+    where
+      go : (v : Bool) → (if v then row k else old.channel d k) ≡ Some ch → AreNamedOn t ch
+      go true e = good k ch e
+      go false e = a d k ch e
+
+  gone : (c : ℕ) → ((d k : ℕ) → new.channel d k ≡ with_row old.channel c (λ h. None) d k) → AreNamed t new
+  gone c is = with_these c (λ h. None) is (λ k ch e. absurd (false≢true (ap is_some e)))
+
+  closes : (sends wanted : List Send) (notes : List Note) (c h : ℕ) (v : Bool) → Does sends notes new wanted (if v then old else with_freed (with_channel old c h None) (by_channel c h)) → AreNamed t new
+  closes sends wanted notes c h true p = same p.left.channels
+  closes sends wanted notes c h false p = with_none c h p.left.channels
+
+  limits : (sends wanted : List Send) (notes : List Note) (c h : ℕ) (m : Qos) (v : Bool) → Does sends notes new wanted (with_channel old c h (Some (if v then record (mine c h) { limit = m.prefetch_count } else record (mine c h) { each_limit = m.prefetch_count }))) → AreNamed t new
+  limits sends wanted notes c h m true p = with_some c h _ p.left.channels (named_as t (mine c h) _ refl refl (named_mine c h).given (named_mine c h))
+  limits sends wanted notes c h m false p = with_some c h _ p.left.channels (named_as t (mine c h) _ refl refl (named_mine c h).given (named_mine c h))
+
+  gets : (sends : List Send) (notes : List Note) (c h : ℕ) (m : Get) (o : Option Entry) → Gets old c h (mine c h) m o sends notes new → AreNamed t new
+  gets sends notes c h m None p = same p.left.channels
+  gets sends notes c h m (Some e) p = with_some c h _ p.left.channels (named_as t (mine c h) _ refl refl (given_more m.no_ack _ _ _ taker.Get (mine c h).outstanding tt (named_mine c h).given) (named_mine c h))
+
+  settles : (how : Settlement) (sends wanted : List Send) (notes : List Note) (c h tag : ℕ) (multiple : Bool) → Settles how old c h (mine c h) tag multiple wanted sends notes new → AreNamed t new
+  settles how sends wanted notes c h tag multiple p = with_some c h _ p.channels (named_as t (mine c h) _ refl refl (given_kept _ tag multiple (mine c h).outstanding (named_mine c h).given) (named_mine c h))
+
+  not_refused : (ch : Channel) (m : Consume) → refusal_of t old ch (BasicConsume m) ≡ None → refusal_of_consume t ch m ≡ None
+  not_refused ch m e = e
+
+  consume_accepted : (conn : Connection) (h : ℕ) (m : Consume) (ch : Option Channel) → refusal t old conn h (BasicConsume m) ch ≡ None → refusal_of_consume t (channel_or_new ch) m ≡ None
+  consume_accepted conn h m None e = by (h == 0) (nat_lt conn.channel_max h) e
+    where
+      by : (u v : Bool) → (if u then Some (Of_connection 503) else if v then Some (Of_connection 504) else Some (Of_connection 504)) ≡ None → refusal_of_consume t new_channel m ≡ None
+      by true v e = absurd (false≢true (sym (ap is_some e)))
+      by false true e = absurd (false≢true (sym (ap is_some e)))
+      by false false e = absurd (false≢true (sym (ap is_some e)))
+  consume_accepted conn h m (Some ch) e = not_refused ch m (by ch.is_closing (h == 0) (nat_lt conn.channel_max h) (refusal_of t old ch (BasicConsume m)) e)
+    where
+      by : (w u v : Bool) (rest : Option Refusal) → (if w then Some Ignored else if u then Some (Of_connection 503) else if v then Some (Of_connection 504) else rest) ≡ None → rest ≡ None
+      by true u v rest e = absurd (false≢true (sym (ap is_some e)))
+      by false true v rest e = absurd (false≢true (sym (ap is_some e)))
+      by false false true rest e = absurd (false≢true (sym (ap is_some e)))
+      by false false false rest e = e
+
+  performs : (sends : List Send) (notes : List Note) (c h : ℕ) (m : Method) (content : Option Content) (conn : Connection) → IsMethod m → refusal t old conn h m (old.channel c h) ≡ None → Performs t old c h (mine c h) m content sends notes new → AreNamed t new
+  performs sends notes c h (ConfirmSelect no_wait) content conn said e p = with_some c h _ p.left.channels (named_as t (mine c h) _ refl refl (named_mine c h).given (named_mine c h))
+  performs sends notes c h (BasicPublish publish) content conn said e p = with_some c h _ p.left.channels (named_as t (mine c h) _ refl refl (named_mine c h).given (named_mine c h))
+  performs sends notes c h (ChannelOpen reserved) content conn said e p = with_some c h new_channel p.left.channels (named_new t new_channel refl refl)
+  performs sends notes c h (ChannelFlow active) content conn said e p = same p.left.channels
+  performs sends notes c h (ChannelClose m) content conn said e p = closes sends _ notes c h (mine c h).is_closing p
+  performs sends notes c h ChannelCloseOk content conn said e p = with_none c h p.left.channels
+  performs sends notes c h (ConnectionClose m) content conn said e p = gone c p.left.channels
+  performs sends notes c h (ExchangeDeclare m) content conn said e p = same p.left.channels
+  performs sends notes c h (QueueDeclare m) content conn said e p = same p.does.left.channels
+  performs sends notes c h (BasicQos m) content conn said e p = limits sends _ notes c h m m.global p
+  performs sends notes c h (BasicConsume m) content conn said e p = with_some c h _ p.left.channels (named_more t (mine c h) m (accepted t (mine c h) m (consume_accepted conn h m (old.channel c h) e)) said.1.1.0 (named_mine c h))
+  performs sends notes c h (BasicCancel m) content conn said e p = with_some c h _ p.left.channels (named_fewer t (mine c h) m.consumer_tag (named_mine c h))
+  performs sends notes c h (BasicGet m) content conn said e p = gets sends notes c h m (first_ready (old.queue m.queue)) p
+  performs sends notes c h (BasicAck m) content conn said e p = settles _ sends _ notes c h _ _ p
+  performs sends notes c h (BasicReject m) content conn said e p = settles _ sends _ notes c h _ _ p
+  performs sends notes c h (BasicNack m) content conn said e p = settles _ sends _ notes c h _ _ p
+  performs sends notes c h (BasicRecover requeue) content conn said e p = settles _ sends _ notes c h _ _ p
+  performs sends notes c h (QueuePurge m) content conn said e p = same p.left.channels
+  performs sends notes c h _ content conn said e p = absurd p
+
+  refuses : (sends : List Send) (notes : List Note) (c h : ℕ) (cause : Ids) (r : Refusal) → Refuses old c h cause r sends notes new → AreNamed t new
+  refuses sends notes c h cause Ignored p = same p.left.channels
+  refuses sends notes c h cause (Of_channel code) p = with_some c h _ p.left.channels (named_new t _ refl refl)
+  refuses sends notes c h cause (Of_connection code) p = gone c p.left.channels
+
+  decides : (sends : List Send) (notes : List Note) (c h : ℕ) (m : Method) (content : Option Content) (conn : Connection) (r : Option Refusal) → IsMethod m → refusal t old conn h m (old.channel c h) ≡ r → Decides t old c h m content r sends notes new → AreNamed t new
+  decides sends notes c h m content conn None said e p = performs sends notes c h m content conn said e p
+  decides sends notes c h m content conn (Some r) said e p = refuses sends notes c h (ids_of m) r p
+
+  commanded : (sends : List Send) (notes : List Note) (c h : ℕ) (m : Method) (content : Option Content) (o : Option Connection) → IsMethod m → OnConnection t old c h m content sends notes new o → AreNamed t new
+  commanded sends notes c h m content None said p = same p.left.channels
+  commanded sends notes c h m content (Some conn) said p = decides sends notes c h m content conn (refusal t old conn h m (old.channel c h)) said refl p
+
+  too_large : (sends : List Send) (notes : List Note) (c h : ℕ) (o : Option Connection) → OnLarge old c h sends notes new o → AreNamed t new
+  too_large sends notes c h None p = same p.left.channels
+  too_large sends notes c h (Some conn) p = refuses sends notes c h (ids_of empty_publish) (refusal_of_large conn h (old.channel c h)) p
+
+  row_named : (k n : ℕ) (ch : Channel) → channels_up_to k n ≡ Some ch → AreNamedOn t ch
+  row_named k n ch e = by (nat_le 1 n && nat_le n k) e
+    where
+      by : (v : Bool) → (if v then Some new_channel else None) ≡ Some ch → AreNamedOn t ch
+      by true e = subst (AreNamedOn t) (same_Some new_channel ch e) (named_new t new_channel refl refl)
+      by false e = absurd (false≢true (ap is_some e))
+
+  delivers : (sends : List Send) (notes : List Note) (c : ℕ) → IsDelivery old c sends notes new → AreNamed t new
+  delivers sends notes c p =
+      let o = p.made in
+      let n = a c o.number o.channel o.taker.there in
+      with_some c o.number _ p.makes.left.channels (named_as t o.channel _ refl refl
+      (given_more o.consumer.no_ack _ _ _ (taker.Consumer o.consumer.number) o.channel.outstanding (all_in (λ (k : Consumer). k.number < o.channel.next_number) o.consumer o.channel.consumers n.before o.taker.its) n.given) n)
+
+  -- Each event keeps the names.
+  pub onward : (e : Event) (sends : List Send) (notes : List Note) → IsSaid e → Acts t old e sends notes new → AreNamed t new
+  onward (Open c) sends notes said p = same p.left.channels
+  onward (First c bytes) sends notes said p = same p.left.channels
+  onward (Running c max k) sends notes said p = with_these c (channels_up_to k) p.left.channels (row_named k)
+  onward (Command c h m content) sends notes said p = commanded sends notes c h m content (old.connection c) said.0 p
+  onward (TooLarge c h) sends notes said p = too_large sends notes c h (old.connection c) p
+  onward (Fault c code) sends notes said p = gone c p.left.channels
+  onward (Lose c) sends notes said p = gone c p.left.channels
+  onward (Pause c) sends notes said p = same p.left.channels
+  onward (Resume c) sends notes said p = same p.left.channels
+  onward (Deliver c) sends notes said p = delivers sends notes c p
+
+  -- so does a move of the phases
+  pub moved : (c max : ℕ) (v : Bool) → Is (if v then opened old c max 0 else old) new → AreNamed t new
+  moved c max true is = with_these c (channels_up_to 0) is.channels (row_named 0)
+  moved c max false is = same is.channels
+
+pub stay_named : ConsumersStayNamed
+stay_named = record { empty = λ t c h ch e. absurd (false≢true (ap is_some e)); acts = λ t old new e sends notes said a p. onward t old new a e sends notes said p; fresh = λ t ch n. count_none _ ch.outstanding (all_each _ _ (λ (o : Outstanding). none_to_next ch.next_number o.by) ch.outstanding n.given) }
+
+-- ---- what is delivered
+
+both_true : (a b : Bool) → (a && b) ≡ true → a ≡ true
+both_true true b e = refl
+both_true false b e = absurd (false≢true e)
+
+-- What is delivered has an address: its tags, names and key have a spelling.
+pub are_addressed : DeliveriesAreAddressed
+are_addressed t old new c sends notes d carried named below =
+    let o = d.made in
+    let there = (find_in is_ready o.entry (old.queue o.consumer.queue) o.first).0 in
+    let message = all_in (λ (e : Entry). IsCarried e.message) o.entry (old.queue o.consumer.queue) (carried o.consumer.queue) there in
+    let short = all_in (λ (k : Consumer). length k.tag < 256) o.consumer o.channel.consumers (named c o.number o.channel o.taker.there).spelled o.taker.its in
+    let left = leb-true (suc o.channel.next_tag) 18446744073709551615 (both_true (has_tag_left o.channel.next_tag) _ o.taker.may) in
+    subst (AllByRecursion (IsAddressed c)) (sym d.makes.sent) ((refl, below, (short, (omega (arith, left), (omega arith, (message.exchange, (message.key, tt)))))), tt)

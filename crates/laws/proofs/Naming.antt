@@ -1,0 +1,45 @@
+-- In every world that a run reaches consumers are named as they should be.
+use Rattle.std.proofs.Common.{ℕ, List, [], ◌∷◌, sym, subst, inl, inr}
+use Rattle.std.specs.List.{AllByRecursion}
+use Rattle.model.specs.State.{Config, State, Step}
+use Rattle.model.specs.Phases.{is_running}
+use Rattle.model.specs.Run.{Happening, Run}
+use Rattle.model.specs.Naming.{AreNamed}
+use Rattle.model.specs.Arrivals.{World, Waits, IsSaid}
+use Rattle.laws.specs.Consumers.{IsNamed, WorldsStayNamed, PlaysStayNamed}
+use Rattle.laws.proofs.View.{connection_of, goes}
+use Rattle.laws.proofs.Plays.{IsTold, Told, told_turns, told_taken, told_opens, told_loses, told_pumps, told_plays}
+use Rattle.laws.proofs.Named.{onward, moved, stay_named}
+
+step_named : (h : Happening) → IsSaid h.event → Step h.config h.before h.event h.sends h.notes h.after → AreNamed h.config.topology h.before.broker → AreNamed h.config.topology h.after.broker
+step_named h said s a = elim (goes h.config h.before h.after h.sends h.notes h.event s) [
+  | inl p ↦ onward h.config.topology h.before.broker h.after.broker a h.event h.sends h.notes said p.acts
+  | inr p ↦ moved h.config.topology h.before.broker h.after.broker a (connection_of h.event) p.move.next.channel_max (is_running p.move.next.phase) p.moves.broker
+]
+
+run_named : (f : Config) (hs : List Happening) (old new : State) → AllByRecursion (IsTold f) hs → Run old hs new → AreNamed f.topology old.broker → AreNamed f.topology new.broker
+run_named f [] old new told r a = subst (λ (z : State). AreNamed f.topology z.broker) (sym r) a
+run_named f (h ∷ hs) old new told (e, s, r) a =
+    let here : AreNamed h.config.topology h.before.broker = subst (λ (g : Config). AreNamed g.topology h.before.broker) (sym told.0.under) (subst (λ (z : State). AreNamed f.topology z.broker) (sym e) a) in
+    run_named f hs h.after new told.1 r (subst (λ (g : Config). AreNamed g.topology h.after.broker) told.0.under (step_named h told.0.said s here))
+
+told_named : (old new : World) (hs : List Happening) → Told old hs new → IsNamed old → IsNamed new
+told_named old new hs t a = subst (λ (f : Config). AreNamed f.topology new.state.broker) (sym t.config) (run_named old.config hs old.state new.state t.each t.run a)
+
+waits_named : (old new : World) (c : ℕ) → IsNamed old → Waits old c new → IsNamed new
+waits_named old new c a w = subst (λ (f : Config). AreNamed f.topology new.state.broker) (sym w.config) (subst (λ (z : State). AreNamed old.config.topology z.broker) (sym w.state) a)
+
+pub worlds_named : WorldsStayNamed
+worlds_named = record {
+  new_worlds = λ f. stay_named.empty f.topology;
+  turns = λ old new c hs a t. told_named old new hs (told_turns old new c hs t) a;
+  waits = waits_named;
+  hears = λ w c bytes a. a;
+  takes = λ old new c n hs a t. told_named old new hs (told_taken c n old new hs t) a;
+  opens = λ old new e s hs said a o. told_named old new hs (told_opens old new e s hs said o) a;
+  loses = λ old new c hs a o. told_named old new hs (told_loses old new c hs o) a;
+  pumps = λ old new hs a p. told_named old new hs (told_pumps old new hs p) a;
+}
+
+pub plays_named : PlaysStayNamed
+plays_named old new arrivals hs a p = told_named old new hs (told_plays old new arrivals hs p) a

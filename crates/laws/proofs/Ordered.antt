@@ -1,0 +1,371 @@
+-- The messages of a queue are first given out in the order in which they entered it.
+use Rattle.std.proofs.Common.{◌≡◌, ℕ, List, [], ◌∷◌, ◌++◌, Bool, true, false, cond, refl, sym, ap, subst, ◌∙◌, map, filter, length, not, append_assoc, append-nil, Option, Some, None, inl, inr}
+use Rattle.std.specs.Prelude.{is_some, ◌&&◌, if◌then◌else◌}
+use Rattle.std.specs.Str.{bytes_eq}
+use Rattle.std.specs.List.{AllByRecursion}
+use Rattle.std.proofs.lemmas.Bool.{false≢true}
+use Rattle.std.proofs.lemmas.Option.{same_Some}
+use Rattle.model.specs.Words.{Text}
+use Rattle.model.specs.Topology.{Topology}
+use Rattle.model.specs.Grammar.{Ids, ids_of}
+use Rattle.model.specs.Broker.{Outstanding, Channel, Connection, Broker, is_ready, is_full}
+use Rattle.model.specs.Entries.{is_under, is_held_as, by_channel, by_connection, freed, held_as, change_first, without_first}
+use Rattle.model.specs.Deliveries.{Settlement, Leaves, Returns, AreSettled, AreLeft, AreReturned, with_queue, first_ready, holder_of, without_given, with_returned, after_giving, after_delivery}
+use Rattle.model.specs.Message.{Message}
+use Rattle.model.specs.Phases.{is_running}
+use Rattle.model.specs.Step.{Refusal, Ignored, Of_channel, Of_connection, Acts, Does, Gets, Settles, Performs, Refuses, Decides, OnConnection, OnLarge, IsDelivery, Is, channel_or_new, comes_to, entry_notes, empty_publish, message, opened, refusal, refusal_of_large, with_freed, with_channel}
+use Rattle.model.specs.State.{State, Step}
+use Rattle.model.specs.Run.{Happening, Run, notes_of}
+use Rattle.model.specs.declared.contents.Content.{Content}
+use Rattle.model.specs.declared.messages.Entry.{Entry}
+use Rattle.model.specs.declared.messages.Holder.{Holder}
+use Rattle.model.specs.declared.messages.Taker.{Taker}
+use Rattle.model.specs.declared.messages.Taker.TheVariants as taker
+use Rattle.model.specs.declared.messages.Mark.{Mark}
+use Rattle.model.specs.declared.messages.Mark.TheVariants.{Ready, Held}
+use Rattle.model.specs.declared.methods.Get.{Get}
+use Rattle.model.specs.declared.methods.Method.{Method}
+use Rattle.model.specs.declared.methods.Method.TheVariants.{ConnectionClose, ChannelOpen, ChannelFlow, ChannelClose, ChannelCloseOk, ExchangeDeclare, QueueDeclare, QueuePurge, BasicQos, BasicConsume, BasicCancel, BasicPublish, BasicGet, BasicAck, BasicReject, BasicNack, BasicRecover, ConfirmSelect}
+use Rattle.model.specs.declared.events.Send.{Send}
+use Rattle.model.specs.declared.events.Event.{Event}
+use Rattle.model.specs.declared.events.Event.TheVariants.{Open, First, Running, Command, TooLarge, Fault, Lose, Pause, Resume, Deliver}
+use Rattle.model.specs.declared.notes.Cause.{Cause}
+use Rattle.model.specs.declared.notes.Way.TheVariants as way
+use Rattle.model.specs.declared.notes.Note.{Note}
+use Rattle.model.specs.declared.notes.Note.TheVariants.{Entered, Refused}
+use Rattle.laws.specs.Order.{GivesOut, to_get, to_consumer, FirstGiven, ended, given, passed, IsPart, empty, skips, takes, is_fresh, waiting, entered_by, entered, GivenInOrder, IsNext, GivenAfterThoseAhead}
+use Rattle.laws.proofs.Agreement.{at_own}
+use Rattle.laws.proofs.Leaving.{at_queue}
+use Rattle.laws.proofs.Parts.{itself, part_same, within, longer, front, onward}
+use Rattle.laws.proofs.View.{Publishes, connection_of, goes}
+use Rattle.laws.proofs.Balance.{number, content, entry_part, answer_part, noted, answers_all}
+
+-- ---- lists of entries
+
+-- the number of this message, before these, where it waits
+abbrev ahead_if : Bool → ℕ → List ℕ → List ℕ
+ahead_if v n ns = if v then n ∷ ns else ns
+
+waiting-append : (xs ys : List Entry) → waiting (xs ++ ys) ≡ waiting xs ++ waiting ys
+waiting-append [] ys = refl
+waiting-append (x ∷ xs) ys = go (is_fresh x) (waiting-append xs ys)
+  where
+    go : (v : Bool) → waiting (xs ++ ys) ≡ waiting xs ++ waiting ys → ahead_if v x.message.number (waiting (xs ++ ys)) ≡ ahead_if v x.message.number (waiting xs) ++ waiting ys
+    go true e = ap (λ (ns : List ℕ). x.message.number ∷ ns) e
+    go false e = e
+
+entered-append : (q : Text) (xs ys : List Note) → entered q (xs ++ ys) ≡ entered q xs ++ entered q ys
+entered-append q [] ys = refl
+entered-append q (x ∷ xs) ys = ap (λ (ns : List ℕ). entered_by q x ++ ns) (entered-append q xs ys) ∙ sym (append_assoc (entered_by q x) (entered q xs) (entered q ys))
+
+-- one more that waits before these, or doesn't
+one_more : (v : Bool) (n : ℕ) (xs ys : List ℕ) → IsPart xs ys → IsPart xs (ahead_if v n ys)
+one_more true n xs ys p = skips p
+one_more false n xs ys p = p
+
+both_more : (v : Bool) (n : ℕ) (xs ys : List ℕ) → IsPart xs ys → IsPart (ahead_if v n xs) (ahead_if v n ys)
+both_more true n xs ys p = takes p
+both_more false n xs ys p = p
+
+-- one that is freed did not wait, and is redelivered
+freed_fresh : (mine : Holder → Bool) (e : Entry) (ns : List ℕ) → ahead_if (is_fresh (freed mine e)) (freed mine e).message.number ns ≡ ahead_if (is_fresh e) e.message.number ns
+freed_fresh mine e ns = go e.message e.mark
+  where
+    go : (m : Message) (k : Mark) → ahead_if (is_fresh (freed mine (record { message = m; mark = k }))) (freed mine (record { message = m; mark = k })).message.number ns ≡ ahead_if (is_fresh (record { message = m; mark = k })) m.number ns
+    go m Ready = refl
+    go m (Held g) = by (mine g)
+      where
+        made : Bool → Entry
+        made v = if v then record { message = record m { redelivered = true }; mark = Ready } else record { message = m; mark = Held g }
+
+        by : (v : Bool) → ahead_if (is_fresh (made v)) (made v).message.number ns ≡ ns
+        by true = refl
+        by false = refl
+
+waiting-freed : (mine : Holder → Bool) (es : List Entry) → waiting (map (freed mine) es) ≡ waiting es
+waiting-freed mine [] = refl
+waiting-freed mine (e ∷ es) = freed_fresh mine e (waiting (map (freed mine) es)) ∙ ap (λ (ns : List ℕ). ahead_if (is_fresh e) e.message.number ns) (waiting-freed mine es)
+
+without_waits : (p : Entry → Bool) (es : List Entry) → IsPart (waiting (without_first p es)) (waiting es)
+without_waits p [] = empty
+without_waits p (e ∷ es) = go (p e) (without_waits p es)
+  where
+    go : (v : Bool) → IsPart (waiting (without_first p es)) (waiting es) → IsPart (waiting (cond v es (e ∷ without_first p es))) (waiting (e ∷ es))
+    go true rest = one_more (is_fresh e) e.message.number (waiting es) (waiting es) (itself (waiting es))
+    go false rest = both_more (is_fresh e) e.message.number (waiting (without_first p es)) (waiting es) rest
+
+filter_waits : (p : Entry → Bool) (es : List Entry) → IsPart (waiting (filter p es)) (waiting es)
+filter_waits p [] = empty
+filter_waits p (e ∷ es) = go (p e) (filter_waits p es)
+  where
+    go : (v : Bool) → IsPart (waiting (filter p es)) (waiting es) → IsPart (waiting (cond v (e ∷ filter p es) (filter p es))) (waiting (e ∷ es))
+    go true rest = both_more (is_fresh e) e.message.number (waiting (filter p es)) (waiting es) rest
+    go false rest = one_more (is_fresh e) e.message.number (waiting (filter p es)) (waiting es) rest
+
+-- without the first that is ready, or with it held, the same wait but this one
+first_waited : (no_ack : Bool) (holder : Holder) (e : Entry) (es : List Entry) → first_ready es ≡ Some e → ahead_if (not e.message.redelivered) e.message.number (waiting (after_giving no_ack holder es)) ≡ waiting es
+first_waited no_ack holder e [] found = absurd (false≢true (ap is_some found))
+first_waited no_ack holder e (x ∷ xs) found = go (is_ready x) refl found (first_waited no_ack holder e xs)
+  where
+    wanted : List ℕ → Type 0
+    wanted ns = ahead_if (not e.message.redelivered) e.message.number ns ≡ waiting (x ∷ xs)
+
+    -- the entries after it, by whether this one is ready
+    after : Bool → Bool → List Entry
+    after true v = cond v xs (x ∷ without_first is_ready xs)
+    after false v = cond v (held_as holder x ∷ xs) (x ∷ change_first is_ready (held_as holder) xs)
+
+    here : is_ready x ≡ true → e ≡ x → wanted (waiting xs)
+    here ready same =
+        ap (λ (z : Entry). ahead_if (not z.message.redelivered) z.message.number (waiting xs)) same
+        ∙ sym (ap (λ (b : Bool). ahead_if (b && not x.message.redelivered) x.message.number (waiting xs)) ready)
+
+    there : is_ready x ≡ false → (rest : List ℕ) → ahead_if (not e.message.redelivered) e.message.number rest ≡ waiting xs → wanted (ahead_if (is_fresh x) x.message.number rest)
+    there idle rest same =
+        ap (λ (b : Bool). ahead_if (not e.message.redelivered) e.message.number (ahead_if (b && not x.message.redelivered) x.message.number rest)) idle
+        ∙ same
+        ∙ sym (ap (λ (b : Bool). ahead_if (b && not x.message.redelivered) x.message.number (waiting xs)) idle)
+
+    by : (no_ack v : Bool) → is_ready x ≡ v → cond v (Some x) (first_ready xs) ≡ Some e → (first_ready xs ≡ Some e → ahead_if (not e.message.redelivered) e.message.number (waiting (after_giving no_ack holder xs)) ≡ waiting xs) → wanted (waiting (after no_ack v))
+    by true true is found rest = here is (sym (same_Some x e found))
+    by false true is found rest = here is (sym (same_Some x e found))
+    by true false is found rest = there is _ (rest found)
+    by false false is found rest = there is _ (rest found)
+
+    go : (v : Bool) → is_ready x ≡ v → cond v (Some x) (first_ready xs) ≡ Some e → (first_ready xs ≡ Some e → ahead_if (not e.message.redelivered) e.message.number (waiting (after_giving no_ack holder xs)) ≡ waiting xs)
+        → wanted (waiting (after_giving no_ack holder (x ∷ xs)))
+    go v is found rest = elim no_ack as (λ (b : Bool). (first_ready xs ≡ Some e → ahead_if (not e.message.redelivered) e.message.number (waiting (after_giving b holder xs)) ≡ waiting xs) → wanted (waiting (after_giving b holder (x ∷ xs)))) [
+      | true ↦ λ r. subst (λ (w : Bool). wanted (waiting (after true w))) (sym is) (by true v is found r)
+      | false ↦ λ r. subst (λ (w : Bool). wanted (waiting (after false w))) (sym is) (by false v is found r)
+    ] rest
+
+-- none ahead of the first that is ready can be given out
+is_next : (e : Entry) (es : List Entry) → first_ready es ≡ Some e → IsNext es e
+is_next e [] found = absurd (false≢true (ap is_some found))
+is_next e (x ∷ xs) found = go (is_ready x) refl found (is_next e xs)
+  where
+    go : (v : Bool) → is_ready x ≡ v → cond v (Some x) (first_ready xs) ≡ Some e → (first_ready xs ≡ Some e → IsNext xs e) → IsNext (x ∷ xs) e
+    go true is found rest = record { ahead = []; behind = xs; all = ap (λ (z : Entry). z ∷ xs) (same_Some x e found); given = tt }
+    go false is found rest = let r = rest found in record { ahead = x ∷ r.ahead; behind = r.behind; all = ap (λ (zs : List Entry). x ∷ zs) r.all; given = (is, r.given) }
+
+-- ---- queues
+
+-- those that wait in each new queue waited in the old one, in this order
+abbrev Follows : (Text → List Entry) → (Text → List Entry) → Type 0
+Follows old new = (q : Text) → IsPart (waiting (new q)) (waiting (old q))
+
+follows_same : (old new : Text → List Entry) → ((q : Text) → new q ≡ old q) → Follows old new
+follows_same old new is q = part_same _ _ (ap waiting (is q))
+
+follows_on : (old mid new : Text → List Entry) → Follows old mid → Follows mid new → Follows old new
+follows_on old mid new a b q = within (waiting (old q)) (b q) (a q)
+
+follows_freed : (mine : Holder → Bool) (old new : Text → List Entry) → ((q : Text) → new q ≡ map (freed mine) (old q)) → Follows old new
+follows_freed mine old new is q = part_same _ _ (ap waiting (is q) ∙ waiting-freed mine (old q))
+
+follows_one : (old : Text → List Entry) (name : Text) (entries : List Entry) → IsPart (waiting entries) (waiting (old name)) → Follows old (with_queue old name entries)
+follows_one old name entries here = at_queue (λ (q : Text) (es : List Entry). IsPart (waiting es) (waiting (old q))) old name entries here (λ q other. itself (waiting (old q)))
+
+left_follows : (cause : Cause) (c h : ℕ) (os : List Outstanding) (old : Text → List Entry) (notes : List Note) (new : Text → List Entry) → AreLeft cause c h os old notes new → Follows old new
+left_follows cause c h [] old notes new l = follows_same old new l.1
+left_follows cause c h (o ∷ os) old notes new (mid, rest, is, all, more) =
+    follows_on old mid new (follows_on old (without_given c h old o) mid (follows_one old o.queue _ (without_waits (is_held_as (holder_of c h o)) (old o.queue))) (follows_same _ mid is)) (left_follows cause c h os mid rest new more)
+
+returned_follows : (c h : ℕ) (os : List Outstanding) (old new : Text → List Entry) → AreReturned c h os old new → Follows old new
+returned_follows c h [] old new r = follows_same old new r
+returned_follows c h (o ∷ os) old new (mid, is, more) =
+    follows_on old mid new (follows_on old (with_returned c h old o) mid (follows_one old o.queue _ (part_same _ _ (waiting-freed (is_under (holder_of c h o)) (old o.queue)))) (follows_same _ mid is)) (returned_follows c h os mid new more)
+
+settled_follows : (how : Settlement) (c h : ℕ) (os : List Outstanding) (old : Text → List Entry) (notes : List Note) (new : Text → List Entry) → AreSettled how c h os old notes new → Follows old new
+settled_follows (Leaves cause) c h os old notes new s = left_follows cause c h os old notes new s
+settled_follows Returns c h os old notes new s = returned_follows c h os old new s.1
+
+-- what is given out is the next that waits, or did not wait
+given_waits : (no_ack : Bool) (holder : Holder) (e : Entry) (es : List Entry) → first_ready es ≡ Some e → IsPart (waiting (after_giving no_ack holder es)) (waiting es)
+given_waits no_ack holder e es found = subst (IsPart (waiting (after_giving no_ack holder es))) (first_waited no_ack holder e es found) (one_more (not e.message.redelivered) e.message.number _ _ (itself (waiting (after_giving no_ack holder es))))
+
+-- ---- a publish
+
+-- what comes to a queue is what is noted as entered there
+comes_as_entered : (t : Topology) (entries : Text → List Entry) (m : Message) (q : Text) → m.redelivered ≡ false → (rs : List Text) → waiting (comes_to t entries m q rs) ≡ entered q (entry_notes t entries (length m.content.body) m.number way.Publish rs)
+comes_as_entered t entries m q new [] = refl
+comes_as_entered t entries m q new (r ∷ rs) = go (is_full t entries r (length m.content.body)) (bytes_eq r q) refl (comes_as_entered t entries m q new rs)
+  where
+    rest : List Entry
+    rest = comes_to t entries m q rs
+
+    notes : List Note
+    notes = entry_notes t entries (length m.content.body) m.number way.Publish rs
+
+    go : (full same : Bool) → bytes_eq r q ≡ same → waiting rest ≡ entered q notes
+        → waiting (if same && not full then record { message = m; mark = Ready } ∷ rest else rest) ≡ entered_by q (if full then Refused m.number r else Entered m.number r way.Publish) ++ entered q notes
+    go true true is e = e
+    go true false is e = e
+    go false true is e = ap (λ (b : Bool). ahead_if (not b) m.number (waiting rest)) new ∙ ap (λ (ns : List ℕ). m.number ∷ ns) e ∙ sym (ap (λ (b : Bool). (if b then m.number ∷ [] else []) ++ entered q notes) is)
+    go false false is e = e ∙ sym (ap (λ (b : Bool). (if b then m.number ∷ [] else []) ++ entered q notes) is)
+
+entered_none : (q : Text) (notes : List Note) → AllByRecursion (λ (note : Note). entered_by q note ≡ []) notes → entered q notes ≡ []
+entered_none q [] a = refl
+entered_none q (note ∷ notes) a = ap (λ (ns : List ℕ). ns ++ entered q notes) a.0 ∙ entered_none q notes a.1
+
+publish_waits : {t : Topology} {old new : Broker} {e : Event} {sends : List Send} {notes : List Note} (p : Publishes t old new e sends notes) (q : Text) → waiting (new.queue q) ≡ waiting (old.queue q) ++ entered q notes
+publish_waits {t = t} {old = old} p q =
+    let m = message (number p) p.publish (content p) in
+    let none = entered_none q (answer_part p) (answers_all p (λ (note : Note). entered_by q note ≡ []) refl (λ a. refl)) in
+    ap waiting (p.is.left.queues q)
+    ∙ waiting-append (old.queue q) (comes_to t old.queue m q p.is.targets)
+    ∙ ap (λ (ns : List ℕ). waiting (old.queue q) ++ ns) (
+    comes_as_entered t old.queue m q refl p.is.targets
+    ∙ sym (append-nil (entered q (entry_part p)))
+    ∙ ap (λ (ns : List ℕ). entered q (entry_part p) ++ ns) (sym none)
+    ∙ sym (entered-append q (entry_part p) (answer_part p))
+    ∙ sym (ap (entered q) (noted p))
+    )
+
+-- ---- all cases
+
+module _ (t : Topology) (old new : Broker) (sends : List Send) (notes : List Note) where
+  -- those that wait in a queue waited there, or entered it
+  abbrev AreKept : Type 0
+  AreKept = (q : Text) → IsPart (waiting (new.queue q)) (waiting (old.queue q) ++ entered q notes)
+
+  kept : Follows old.queue new.queue → AreKept
+  kept f q = longer (waiting (old.queue q)) (entered q notes) (f q)
+
+  same : ((q : Text) → new.queue q ≡ old.queue q) → AreKept
+  same is = kept (follows_same old.queue new.queue is)
+
+  free : (mine : Holder → Bool) → ((q : Text) → new.queue q ≡ map (freed mine) (old.queue q)) → AreKept
+  free mine is = kept (follows_freed mine old.queue new.queue is)
+
+  -- one queue is another
+  other : (name : Text) (entries : List Entry) → ((q : Text) → new.queue q ≡ with_queue old.queue name entries q) → IsPart (waiting entries) (waiting (old.queue name)) → AreKept
+  other name entries is here = kept (follows_on old.queue (with_queue old.queue name entries) new.queue (follows_one old.queue name entries here) (follows_same (with_queue old.queue name entries) new.queue is))
+
+  closes : (c h : ℕ) (wanted : List Send) (v : Bool) → Does sends notes new wanted (if v then old else with_freed (with_channel old c h None) (by_channel c h)) → AreKept
+  closes c h wanted true p = same p.left.queues
+  closes c h wanted false p = free (by_channel c h) p.left.queues
+
+  limits : (c h count : ℕ) (ch : Channel) (wanted : List Send) (v : Bool) → Does sends notes new wanted (with_channel old c h (Some (if v then record ch { limit = count } else record ch { each_limit = count }))) → AreKept
+  limits c h count ch wanted v p = same p.left.queues
+
+  gets : (c h : ℕ) (ch : Channel) (m : Get) (o : Option Entry) → first_ready (old.queue m.queue) ≡ o → Gets old c h ch m o sends notes new → AreKept
+  gets c h ch m None found p = same p.left.queues
+  gets c h ch m (Some e) found p = other m.queue _ p.left.queues (given_waits m.no_ack _ e (old.queue m.queue) found)
+
+  settles : (how : Settlement) (c h tag : ℕ) (ch : Channel) (multiple : Bool) (wanted : List Send) → Settles how old c h ch tag multiple wanted sends notes new → AreKept
+  settles how c h tag ch multiple wanted p = kept (settled_follows how c h p.gone old.queue notes new.queue p.queues)
+
+  delivers : (c : ℕ) → IsDelivery old c sends notes new → AreKept
+  delivers c p = let o = p.made in other o.consumer.queue _ p.makes.left.queues (given_waits o.consumer.no_ack _ o.entry (old.queue o.consumer.queue) o.first)
+
+  publishes : {e : Event} → Publishes t old new e sends notes → AreKept
+  publishes p q = part_same _ _ (publish_waits p q)
+
+  performs : (c h : ℕ) (m : Method) (content : Option Content) (conn : Connection) → refusal t old conn h m (old.channel c h) ≡ None → Performs t old c h (channel_or_new (old.channel c h)) m content sends notes new → AreKept
+  performs c h (ConfirmSelect no_wait) content conn accepted p = same p.left.queues
+  performs c h (BasicPublish publish) content conn accepted p = publishes (record { c = c; h = h; ch = channel_or_new (old.channel c h); publish = publish; given = content; event = refl; connection = conn; accepted = accepted; is = p })
+  performs c h (ChannelOpen reserved) content conn accepted p = same p.left.queues
+  performs c h (ChannelFlow active) content conn accepted p = same p.left.queues
+  performs c h (ChannelClose m) content conn accepted p = closes c h _ (channel_or_new (old.channel c h)).is_closing p
+  performs c h ChannelCloseOk content conn accepted p = same p.left.queues
+  performs c h (ConnectionClose m) content conn accepted p = free (by_connection c) p.left.queues
+  performs c h (ExchangeDeclare m) content conn accepted p = same p.left.queues
+  performs c h (QueueDeclare m) content conn accepted p = same p.does.left.queues
+  performs c h (BasicQos m) content conn accepted p = limits c h m.prefetch_count (channel_or_new (old.channel c h)) _ m.global p
+  performs c h (BasicConsume m) content conn accepted p = same p.left.queues
+  performs c h (BasicCancel m) content conn accepted p = same p.left.queues
+  performs c h (BasicGet m) content conn accepted p = gets c h (channel_or_new (old.channel c h)) m (first_ready (old.queue m.queue)) refl p
+  performs c h (BasicAck m) content conn accepted p = settles _ c h _ _ _ _ p
+  performs c h (BasicReject m) content conn accepted p = settles _ c h _ _ _ _ p
+  performs c h (BasicNack m) content conn accepted p = settles _ c h _ _ _ _ p
+  performs c h (BasicRecover requeue) content conn accepted p = settles _ c h _ _ _ _ p
+  performs c h (QueuePurge m) content conn accepted p = other m.queue _ p.left.queues (filter_waits (λ e. not (is_ready e)) (old.queue m.queue))
+  performs c h _ content conn accepted p = absurd p
+
+  refuses : (c h : ℕ) (cause : Ids) (r : Refusal) → Refuses old c h cause r sends notes new → AreKept
+  refuses c h cause Ignored p = same p.left.queues
+  refuses c h cause (Of_channel code) p = free (by_channel c h) p.left.queues
+  refuses c h cause (Of_connection code) p = free (by_connection c) p.left.queues
+
+  decides : (c h : ℕ) (m : Method) (content : Option Content) (conn : Connection) (r : Option Refusal) → refusal t old conn h m (old.channel c h) ≡ r → Decides t old c h m content r sends notes new → AreKept
+  decides c h m content conn None e p = performs c h m content conn e p
+  decides c h m content conn (Some r) e p = refuses c h (ids_of m) r p
+
+  commanded : (c h : ℕ) (m : Method) (content : Option Content) (o : Option Connection) → OnConnection t old c h m content sends notes new o → AreKept
+  commanded c h m content None p = same p.left.queues
+  commanded c h m content (Some conn) p = decides c h m content conn (refusal t old conn h m (old.channel c h)) refl p
+
+  too_large : (c h : ℕ) (o : Option Connection) → OnLarge old c h sends notes new o → AreKept
+  too_large c h None p = same p.left.queues
+  too_large c h (Some conn) p = refuses c h (ids_of empty_publish) (refusal_of_large conn h (old.channel c h)) p
+
+  -- Each event of the broker keeps the order.
+  ordered : (e : Event) → Acts t old e sends notes new → AreKept
+  ordered (Open c) p = same p.left.queues
+  ordered (First c bytes) p = same p.left.queues
+  ordered (Running c max k) p = free (by_connection c) p.left.queues
+  ordered (Command c h m content) p = commanded c h m content (old.connection c) p
+  ordered (TooLarge c h) p = too_large c h (old.connection c) p
+  ordered (Fault c code) p = free (by_connection c) p.left.queues
+  ordered (Lose c) p = free (by_connection c) p.left.queues
+  ordered (Pause c) p = same p.left.queues
+  ordered (Resume c) p = same p.left.queues
+  ordered (Deliver c) p = delivers c p
+
+  -- so does a move of the phases
+  moved : (c max : ℕ) (v : Bool) → Is (if v then opened old c max 0 else old) new → AreKept
+  moved c max true is = free (by_connection c) is.queues
+  moved c max false is = same is.queues
+
+-- and so each step
+step_ordered : (h : Happening) → Step h.config h.before h.event h.sends h.notes h.after → (q : Text) → IsPart (waiting (h.after.broker.queue q)) (waiting (h.before.broker.queue q) ++ entered q h.notes)
+step_ordered h s = elim (goes h.config h.before h.after h.sends h.notes h.event s) [
+  | inl p ↦ ordered h.config.topology h.before.broker h.after.broker h.sends h.notes h.event p.acts
+  | inr a ↦ moved h.config.topology h.before.broker h.after.broker h.sends h.notes (connection_of h.event) a.move.next.channel_max (is_running a.move.next.phase) a.moves.broker
+]
+
+-- ---- what is given out
+
+-- the queue after a message of it was given out
+after_one : (old new : Broker) (c h : ℕ) (ch : Channel) (no_ack : Bool) (queue : Text) (by : Taker) → Is (after_delivery old c h ch no_ack queue by) new
+    → new.queue queue ≡ after_giving no_ack (record { connection = c; channel = h; tag = ch.next_tag; by = by }) (old.queue queue)
+after_one old new c h ch no_ack queue by is = is.queues queue ∙ at_own old.queue queue _
+
+-- one that was not given out since it entered is the next that waits
+one_given : (no_ack : Bool) (holder : Holder) (e : Entry) (old now : List Entry) (entering : List ℕ) → first_ready old ≡ Some e → e.message.redelivered ≡ false → now ≡ after_giving no_ack holder old → IsPart (e.message.number ∷ waiting now) (waiting old ++ entering)
+one_given no_ack holder e old now entering found fresh is =
+    longer (waiting old) entering (part_same _ _ (
+    ap (λ (es : List Entry). e.message.number ∷ waiting es) is
+    ∙ sym (ap (λ (b : Bool). ahead_if (not b) e.message.number (waiting (after_giving no_ack holder old))) fresh)
+    ∙ first_waited no_ack holder e old found
+    ))
+
+giving_ordered : (h : Happening) (q : Text) (e : Entry) → GivesOut h q e → e.message.redelivered ≡ false → IsPart (e.message.number ∷ waiting (h.after.broker.queue q)) (waiting (h.before.broker.queue q) ++ entered q h.notes)
+giving_ordered h q e (to_get {c = c} {k = k} {m = m} ch is found p) fresh = one_given m.no_ack _ e (h.before.broker.queue q) (h.after.broker.queue q) _ found fresh (after_one h.before.broker h.after.broker c k ch m.no_ack q taker.Get p.left)
+giving_ordered h q e (to_consumer {c = c} is d) fresh =
+    one_given d.made.consumer.no_ack _ e (h.before.broker.queue q) (h.after.broker.queue q) _ d.made.first fresh (after_one h.before.broker h.after.broker c d.made.number d.made.channel d.made.consumer.no_ack q (taker.Consumer d.made.consumer.number) d.makes.left)
+
+-- Whatever is given out, all that stand ahead of it in its queue are given out already.
+pub after_those_ahead : GivenAfterThoseAhead
+after_those_ahead h q e (to_get ch is found p) = is_next e (h.before.broker.queue q) found
+after_those_ahead h q e (to_consumer is d) = is_next e (h.before.broker.queue q) d.made.first
+
+-- ---- runs
+
+run_ordered : (q : Text) (hs : List Happening) (old new : State) (ns : List ℕ) → Run old hs new → FirstGiven q hs ns → IsPart (ns ++ waiting (new.broker.queue q)) (waiting (old.broker.queue q) ++ entered q (notes_of hs))
+run_ordered q [] old new ns r ended = part_same _ _ (ap (λ (z : State). waiting (z.broker.queue q)) r ∙ sym (append-nil (waiting (old.broker.queue q))))
+run_ordered q (h ∷ hs) old new ns (e, s, r) (given {e = x} {ns = rest} g fresh more) =
+    subst (λ (es : List ℕ). IsPart (ns ++ waiting (new.broker.queue q)) (waiting (old.broker.queue q) ++ es)) (sym (entered-append q h.notes (notes_of hs)))
+    (onward (x.message.number ∷ []) rest (waiting (old.broker.queue q)) (waiting (h.after.broker.queue q)) (waiting (new.broker.queue q)) (entered q h.notes) (entered q (notes_of hs))
+    (subst (λ (z : State). IsPart (x.message.number ∷ waiting (h.after.broker.queue q)) (waiting (z.broker.queue q) ++ entered q h.notes)) e (giving_ordered h q x g fresh))
+    (run_ordered q hs h.after new rest r more))
+run_ordered q (h ∷ hs) old new ns (e, s, r) (passed more) =
+    subst (λ (es : List ℕ). IsPart (ns ++ waiting (new.broker.queue q)) (waiting (old.broker.queue q) ++ es)) (sym (entered-append q h.notes (notes_of hs)))
+    (onward [] ns (waiting (old.broker.queue q)) (waiting (h.after.broker.queue q)) (waiting (new.broker.queue q)) (entered q h.notes) (entered q (notes_of hs))
+    (subst (λ (z : State). IsPart (waiting (h.after.broker.queue q)) (waiting (z.broker.queue q) ++ entered q h.notes)) e (step_ordered h s q))
+    (run_ordered q hs h.after new ns r more))
+
+-- In every run messages are first given out of a queue in the order in which they stood there and then entered it.
+pub given_in_order : GivenInOrder
+given_in_order q hs old new ns r g = front ns (waiting (new.broker.queue q)) _ (run_ordered q hs old new ns r g)

@@ -1,0 +1,89 @@
+-- Consumers keep their names, and what is delivered to them can be addressed.
+use Rattle.std.specs.Prelude.{◌≡◌, ◌<◌, ◌≤◌, ◌^◌, ◌⊎◌, ℕ, List, true, false, Option, Some}
+use Rattle.std.specs.List.{AllByRecursion}
+use Rattle.model.specs.Topology.{Topology, IsIn}
+use Rattle.model.specs.Broker.{Consumer, Channel, Broker}
+use Rattle.model.specs.Prefetch.{count_to}
+use Rattle.model.specs.Consuming.{is_in_use, server_tag, next_free, taker_of}
+use Rattle.model.specs.Step.{greatest, channel_or_new, Acts, IsDelivery}
+use Rattle.model.specs.State.{Config}
+use Rattle.model.specs.Commands.{Stream}
+use Rattle.model.specs.Run.{Happening, empty_broker}
+use Rattle.model.specs.Arrivals.{IsSaid, World, new_world, Turns, Waits, Takes_off, Opens, Loses, Pumps, Plays, with_heard}
+use Rattle.model.specs.Naming.{AreNamedOn, AreNamed}
+use Rattle.model.specs.Sending.{AreCarried, IsAddressed}
+use Rattle.model.specs.declared.events.Send.{Send}
+use Rattle.model.specs.declared.contents.Content.{Content}
+use Rattle.model.specs.declared.events.Event.{Event}
+use Rattle.model.specs.declared.events.Event.TheVariants.{Command}
+use Rattle.model.specs.declared.methods.Consume.{Consume}
+use Rattle.model.specs.declared.methods.Method.TheVariants.{BasicConsume}
+use Rattle.model.specs.declared.events.Arrival.{Arrival}
+use Rattle.model.specs.declared.notes.Note.{Note}
+
+-- ---- consumers by their names
+
+-- In the empty broker consumers are named as they should be, and each event leaves it so.
+pub record ConsumersStayNamed : Type 0 where
+  pub empty : (t : Topology) → AreNamed t empty_broker
+  pub acts : (t : Topology) (old new : Broker) (e : Event) (sends : List Send) (notes : List Note) → IsSaid e → AreNamed t old → Acts t old e sends notes new → AreNamed t new
+  -- the next consumer of a channel begins with nothing, also under the tag of one that was cancelled
+  pub fresh : (t : Topology) (ch : Channel) → AreNamedOn t ch → count_to taker_of ch.next_number ch.outstanding ≡ 0
+
+-- in this world the consumers are named as they should be under what is in force
+abbrev pub IsNamed : World → Type 0
+IsNamed w = AreNamed w.config.topology w.state.broker
+
+-- So it is where no connection is, and each single thing that is done leaves it so.
+pub record WorldsStayNamed : Type 0 where
+  pub new_worlds : (f : Config) → IsNamed (new_world f)
+  pub turns : (old new : World) (c : ℕ) (hs : List Happening) → IsNamed old → Turns old c hs new → IsNamed new
+  pub waits : (old new : World) (c : ℕ) → IsNamed old → Waits old c new → IsNamed new
+  pub hears : (w : World) (c : ℕ) (bytes : List ℕ) → IsNamed w → IsNamed (with_heard w c bytes)
+  pub takes : (old new : World) (c n : ℕ) (hs : List Happening) → IsNamed old → Takes_off old c n hs new → IsNamed new
+  pub opens : (old new : World) (e : Event) (s : Stream) (hs : List Happening) → IsSaid e → IsNamed old → Opens old e s hs new → IsNamed new
+  pub loses : (old new : World) (c : ℕ) (hs : List Happening) → IsNamed old → Loses old c hs new → IsNamed new
+  pub pumps : (old new : World) (hs : List Happening) → IsNamed old → Pumps old hs new → IsNamed new
+
+-- And so it is after any arrivals.
+abbrev pub PlaysStayNamed : Type 0
+PlaysStayNamed = (old new : World) (arrivals : List Arrival) (hs : List Happening) → IsNamed old → Plays old arrivals hs new → IsNamed new
+
+-- ---- consumers that come
+
+-- this consumer is one of channel h of connection c
+abbrev pub WasConsumer : Broker → ℕ → ℕ → Consumer → Type 0
+WasConsumer b c h k = (ch : Channel) × (b.channel c h ≡ Some ch) × IsIn k ch.consumers
+
+-- this event is a consume there, which makes a consumer of this number: the next one of the channel
+abbrev pub IsMadeBy : Broker → Event → ℕ → ℕ → Consumer → Type 0
+IsMadeBy b e c h k = (m : Consume) × (content : Option Content) × (e ≡ Command c h (BasicConsume m) content) × (k.number ≡ (channel_or_new (b.channel c h)).next_number)
+
+-- At each event a consumer that is there was there before, or the event is the consume that makes it.
+abbrev pub ConsumersAreMade : Type 0
+ConsumersAreMade = (t : Topology) (old new : Broker) (e : Event) (sends : List Send) (notes : List Note) → Acts t old e sends notes new
+    → (c h : ℕ) (k : Consumer) → WasConsumer new c h k → WasConsumer old c h k ⊎ IsMadeBy old e c h k
+
+-- ---- deliveries
+
+-- Where consumers are named so, and each message can be given out, what a delivery sends has an address, if a frame can name its channel.
+abbrev pub DeliveriesAreAddressed : Type 0
+DeliveriesAreAddressed = (t : Topology) (old new : Broker) (c : ℕ) (sends : List Send) (notes : List Note) (d : IsDelivery old c sends notes new)
+    → AreCarried old → AreNamed t old → d.made.number < 2 ^ 16 → AllByRecursion (IsAddressed c) sends
+
+-- ---- the tags that the server makes
+
+-- The number of the next tag, from the number on that is next on the channel:
+pub record IsNextTag (ch : Channel) : Type 0 where
+  pub least : ch.next_name ≤ next_free ch
+  -- its tag is free, where it is not the greatest number, which is never given
+  pub free : next_free ch < greatest → is_in_use (server_tag (next_free ch)) ch.consumers ≡ false
+  -- and those before it are in use
+  pub before : (k : ℕ) → ch.next_name ≤ k → k < next_free ch → is_in_use (server_tag k) ch.consumers ≡ true
+
+-- So it is on each channel, and no other number is so; where all are in use it is the greatest.
+pub record NextTagsAreFound : Type 0 where
+  pub next : (ch : Channel) → IsNextTag ch
+  pub only : (ch : Channel) (n : ℕ) → ch.next_name ≤ n → n < greatest → is_in_use (server_tag n) ch.consumers ≡ false
+      → ((k : ℕ) → ch.next_name ≤ k → k < n → is_in_use (server_tag k) ch.consumers ≡ true) → next_free ch ≡ n
+  pub none_left : (ch : Channel) → ch.next_name ≤ greatest → ((k : ℕ) → ch.next_name ≤ k → k < greatest → is_in_use (server_tag k) ch.consumers ≡ true) → next_free ch ≡ greatest

@@ -1,0 +1,33 @@
+-- The consumers of each channel, by their tags and numbers.
+-- Source: AMQP 0-9-1, basic.consume, "consumer-tag"; numbers and limits are own.
+use Rattle.std.specs.Prelude.{◌≡◌, ◌<◌, ◌≤◌, ℕ, length, true, false, Some, is_some}
+use Rattle.std.specs.Str.{bytes_eq}
+use Rattle.std.specs.List.{AllByRecursion, AllPairs}
+use Rattle.model.specs.Topology.{Topology}
+use Rattle.model.specs.Broker.{Consumer, Outstanding, Channel, Broker, queue_named}
+use Rattle.model.specs.declared.messages.Taker.{Taker}
+use Rattle.model.specs.declared.messages.Taker.TheVariants as taker
+
+-- it was given to a get, or to a consumer of a number below this one
+abbrev pub IsGivenBelow : ℕ → Taker → Type 0
+IsGivenBelow next taker.Get = Unit {0}
+IsGivenBelow next (taker.Consumer number) = number < next
+
+-- What the consumers of every channel keep:
+pub record AreNamedOn (t : Topology) (ch : Channel) : Type 0 where
+  -- each takes from a queue of the topology
+  pub queues : AllByRecursion (λ (k : Consumer). is_some (queue_named t.queues k.queue) ≡ true) ch.consumers
+  -- the tag of each has a spelling, and no two have one tag
+  pub spelled : AllByRecursion (λ (k : Consumer). length k.tag < 256) ch.consumers
+  pub apart : AllPairs (λ (a b : Consumer). bytes_eq a.tag b.tag ≡ false) ch.consumers
+  -- their numbers rise, and none is as great as the next one
+  pub rising : AllPairs (λ (a b : Consumer). a.number < b.number) ch.consumers
+  pub before : AllByRecursion (λ (k : Consumer). k.number < ch.next_number) ch.consumers
+  -- what is outstanding was given to gets and to consumers that were made, so that the next one begins with nothing
+  pub given : AllByRecursion (λ (o : Outstanding). IsGivenBelow ch.next_number o.by) ch.outstanding
+  -- there are at most 256
+  pub few : length ch.consumers ≤ 256
+
+-- So it is on each channel of the broker, under this topology.
+abbrev pub AreNamed : Topology → Broker → Type 0
+AreNamed t b = (c h : ℕ) (ch : Channel) → b.channel c h ≡ Some ch → AreNamedOn t ch
