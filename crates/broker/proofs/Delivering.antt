@@ -1,6 +1,6 @@
 -- Who may take a message, and what a delivery leaves.
-use Rattle.std.proofs.Common.{◌≡◌, ◌∙◌, ◌<◌, ℕ, List, [], ◌∷◌, true, false, Option, Some, None, length, refl, sym, ap, subst}
-use Rattle.std.specs.Prelude.{option_map, is_some}
+use Rattle.std.proofs.Common.{◌≡◌, ◌∙◌, ◌<◌, ℕ, List, [], ◌∷◌, false, Option, Some, None, length, refl, sym, ap, subst}
+use Rattle.std.specs.Prelude.{option_map}
 use Rattle.std.proofs.lemmas.Bool.{false≢true}
 use Rattle.std.proofs.lemmas.Option.{same_Some}
 use Rattle.model.specs.Words.{Text}
@@ -16,7 +16,7 @@ use Rattle.model.specs.declared.messages.Taker.TheVariants as taker
 use Rattle.model.specs.declared.events.Send.{Send}
 use Rattle.model.specs.declared.notes.Note.{Note}
 use Rattle.exchange_graph.specs.Marks.{queue_name}
-use Rattle.channel.specs.Open.{Open, open_in, consumer_in}
+use Rattle.channel.specs.Open.{open_in, consumer_in}
 use Rattle.channel.specs.declared.consumers.Consumer.{Consumer}
 use Rattle.broker.specs.Links.{Linked, link_in, limits_of, connection_at, channel_at}
 use Rattle.broker.specs.Placed.{ArePlaced}

@@ -1,13 +1,12 @@
 -- What the broker's state is after a message was given out.
-use Rattle.std.proofs.Common.{◌≡◌, ◌+◌, ◌-◌, ◌<◌, ◌∷◌, [], ℕ, List, Bool, true, false, cond, ◌&&◌, ◌==◌, Option, Some, None, inl, inr, filter, length, refl, sym, ap, subst, ◌∙◌, arith, if◌then◌else◌}
+use Rattle.std.proofs.Common.{◌≡◌, ◌+◌, ◌<◌, ◌∷◌, [], ℕ, List, Bool, true, false, cond, ◌&&◌, ◌==◌, Option, Some, None, inl, inr, refl, sym, ap, subst, ◌∙◌, arith, if◌then◌else◌}
 use Rattle.std.specs.Prelude.{option_map, slice_index_or, find, is_some}
 use Rattle.std.specs.List.{AllByRecursion}
 use Rattle.std.proofs.lemmas.Bool.{eqb-true, eq-eqb, false≢true}
 use Rattle.std.proofs.lemmas.List.{map-append}
 use Rattle.std.proofs.lemmas.Option.{same_Some}
-use Rattle.std.proofs.lemmas.Slice.Eq.{bytes_eq-Decides}
 use Rattle.model.specs.Words.{Text}
-use Rattle.model.specs.Topology.{Topology, queue_names, IsIn}
+use Rattle.model.specs.Topology.{queue_names, IsIn}
 use Rattle.model.specs.Agreement.{IsAgreed}
 use Rattle.model.specs.Broker as model
 use Rattle.model.specs.Broker.{Broker, is_ready, with_pair}
@@ -15,18 +14,12 @@ use Rattle.model.specs.Entries.{is_held_as, held_as, change_first, without_first
 use Rattle.model.specs.Prefetch.{has_tag_left}
 use Rattle.model.specs.Deliveries as seen
 use Rattle.model.specs.Deliveries.{first_ready, ready_in, after_giving, after_delivery, channel_after, delivery_notes}
-use Rattle.model.specs.Sending.{IsCarried, AreCarried}
-use Rattle.model.specs.Step.{Is, Gets, Refusal, Of_connection, or_else, refusal_in, refusal_of_tags, refusal_of_get, channel_or_new, get_ok, reply}
-use Rattle.model.specs.declared.events.Send.{Send}
-use Rattle.model.specs.declared.notes.Note.{Note}
-use Rattle.model.specs.declared.methods.Get.{Get}
-use Rattle.model.specs.declared.methods.Method.TheVariants.{BasicGetEmpty}
+use Rattle.model.specs.Step.{Is, channel_or_new}
 use Rattle.model.specs.declared.messages.Entry.{Entry}
 use Rattle.model.specs.declared.messages.Holder.{Holder}
 use Rattle.model.specs.declared.messages.Mark.{Mark}
 use Rattle.model.specs.declared.messages.Mark.TheVariants.{Ready, Held}
 use Rattle.model.specs.declared.messages.Taker.{Taker}
-use Rattle.model.specs.declared.messages.Taker.TheVariants as taker
 use Rattle.exchange_graph.specs.Marks.{queue_name}
 use Rattle.depot.specs.Store.{Store, IsNamed, queue_of, queue_at, with_queue}
 use Rattle.channel.specs.Open.{Open, open_in, outstanding_in, given_on, settled_on}

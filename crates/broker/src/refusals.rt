@@ -23,7 +23,7 @@ mod consumers;
 mod declares;
 mod settlements;
 
-use crate::links::Link;
+use crate::links::link::Link;
 use crate::refusals::consumers::judge_consume;
 use crate::refusals::declares::{judge_exchange_declare, judge_flow, refusal_of_queue_declare};
 use crate::refusals::settlements::{judge_ack, judge_nack, judge_recover, judge_reject};

@@ -2,7 +2,7 @@ use Rattle.std.proofs.Common.{sym, subst}
 use Rattle.broker.specs.Roster.{IsServing}
 use Rattle.broker.specs.State.{Kept, topology_of}
 use Rattle.broker.proofs.Outcomes.{either_if}
-use Rattle.broker.proofs.Seated.{serves_kept, serves_next, quiet_seat}
+use Rattle.broker.proofs.Seated.{serves_kept, serves_next}
 use Rattle.broker.proofs.brokers.Broker.step.Goals as goal
 
 pub returns-clause-own : goal.returns-clause-own

@@ -1,4 +1,4 @@
-use Rattle.std.proofs.Common.{◌≡◌, ◌∙◌, ap, refl, sym, subst, Option, Some}
+use Rattle.std.proofs.Common.{◌≡◌, ap, refl, sym, subst, Option, Some}
 use Rattle.std.specs.Prelude.{option_map}
 use Rattle.model.specs.Words.{Text}
 use Rattle.model.specs.Broker.{Channel}

@@ -1,7 +1,6 @@
-use Rattle.std.proofs.Common.{◌≡◌, ◌∙◌, ap, sym, subst, true, Option, Some}
+use Rattle.std.proofs.Common.{◌≡◌, ◌∙◌, ap, sym, subst}
 use Rattle.std.specs.Prelude.{option_map, is_some}
 use Rattle.model.specs.Deliveries.{first_ready}
-use Rattle.model.specs.declared.messages.Entry.{Entry}
 use Rattle.exchange_graph.specs.Marks.{queue_name}
 use Rattle.broker.specs.State.{Kept, broker_of, topology_of}
 use Rattle.broker.proofs.Outcomes.{some_of, some_mapped}

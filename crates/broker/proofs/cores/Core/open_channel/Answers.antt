@@ -1,4 +1,4 @@
-use Rattle.std.proofs.Common.{◌≡◌, ◌∙◌, ap, refl, sym, subst, [], ◌∷◌, Some}
+use Rattle.std.proofs.Common.{◌≡◌, ◌∙◌, ap, refl, subst, [], ◌∷◌, Some}
 use Rattle.model.specs.Broker.{Channel, new_channel}
 use Rattle.model.specs.Step.{Is, with_channel}
 use Rattle.model.specs.declared.events.Send.{Send}

@@ -1,4 +1,4 @@
-use Rattle.std.proofs.Common.{◌≡◌, ◌∙◌, ap, sym, Some}
+use Rattle.std.proofs.Common.{◌∙◌, ap, sym, Some}
 use Rattle.std.specs.Option.{option_copied_mut}
 use Rattle.broker.proofs.Outcomes.{on_err}
 use Rattle.broker.proofs.Setting.{set_same}

@@ -1,4 +1,4 @@
-use Rattle.std.proofs.Common.{◌≡◌, ◌∙◌, List, [], ◌∷◌, ◌++◌, ap, sym, subst}
+use Rattle.std.proofs.Common.{◌∙◌, List, [], ◌∷◌, ap, sym, subst}
 use Rattle.model.specs.Topology.{IsIn}
 use Rattle.std.specs.List.{list_any}
 use Rattle.broker.specs.Roster.{is_seat}

@@ -1,7 +1,7 @@
 use Rattle.std.proofs.Common.{◌∙◌, None}
 use Rattle.broker.proofs.Outcomes.{on_ok}
 use Rattle.broker.proofs.Setting.{same_default, set_is}
-use Rattle.broker.proofs.links.reserve_at.Goals as goal
+use Rattle.broker.proofs.links.slots.reserve_at.Goals as goal
 
 pub returns-then-at-channels-clause-ok : goal.returns-then-at-channels-clause-ok
 returns-then-at-channels-clause-ok c =

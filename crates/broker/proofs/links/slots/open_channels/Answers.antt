@@ -2,7 +2,7 @@ use Rattle.std.proofs.Common.{◌≡◌, ◌∙◌, ap, arith, ℕ, None, Some, 
 use Rattle.model.specs.Broker.{new_channel}
 use Rattle.channel.specs.Open.{open_in}
 use Rattle.broker.proofs.Opening.{opened_next}
-use Rattle.broker.proofs.links.open_channels.Goals as goal
+use Rattle.broker.proofs.links.slots.open_channels.Goals as goal
 
 pub push_reserved-requires-in-loop-number : goal.push_reserved-requires-in-loop-number
 push_reserved-requires-in-loop-number c = let i = c.loop-number.invariant in let len = i.len in let room = i.room in let t = c.loop-number-test.true in omega arith

@@ -1,5 +1,5 @@
 use Rattle.std.proofs.Common.{◌≡◌, ◌+◌, ◌++◌, None, replicate, vec_len, vec_capacity, ◌≤◌}
-use Rattle.broker.proofs.links.grow.Given as goal
+use Rattle.broker.proofs.links.slots.grow.Given as goal
 
 abbrev pub invariant-loop : goal.invariant-loop
 invariant-loop l = record {

@@ -2,7 +2,7 @@ use Rattle.std.proofs.Common.{◌≡◌, ◌+◌, ◌∷◌, List, None, Some, r
 use Rattle.model.specs.Words.{Text}
 use Rattle.model.specs.Broker.{new_channel}
 use Rattle.channel.specs.Open.{open_in}
-use Rattle.broker.proofs.links.open_channels.Given as goal
+use Rattle.broker.proofs.links.slots.open_channels.Given as goal
 
 abbrev pub invariant-loop-number : goal.invariant-loop-number
 invariant-loop-number l = record {
