@@ -1,7 +1,7 @@
 # `make` alone lists the targets.
 SHELL := bash
 .SHELLFLAGS := -o pipefail -c
-.PHONY: help try run shop verdicts serve clients cases examples bench install test
+.PHONY: help try run shop verdicts serve clients load cases examples bench install test
 
 # where `make install` puts the program
 PREFIX ?= /usr/local
@@ -13,9 +13,10 @@ help:
 	@echo "make verdicts  checks the guarantees of examples/shop, and replays its script under them"
 	@echo "make serve     serves the shop under its guarantees at 127.0.0.1:5672"
 	@echo "make clients   serves the shop, and publishes to it, takes and consumes from it with pika"
+	@echo "make load      loads a server over sockets, and prints what a message costs it"
 	@echo "make cases     runs the cases of crates/cases, and tells of one that its list lacks"
 	@echo "make examples  replays the examples, and compares them with their outputs and with the cases"
-	@echo "make bench     prints what publishes, routes and large files cost"
+	@echo "make bench     prints what publishes, deliveries, routes and large files cost"
 	@echo "make install   puts the proved program into $(PREFIX)/bin"
 	@echo "make test      proves every crate, tries the must-fail edits, runs the tests and the program (rt ci)"
 
@@ -49,6 +50,9 @@ serve:
 clients: run
 	@examples/clients/run crates/warren/out/warren
 
+load: run
+	@examples/load/run crates/warren/out/warren
+
 cases:
 	@cd crates/cases && rt run -- data < stdin | diff stdout -
 	@cd crates/cases/data && find . -name '*.words' | sed 's|^\./||; s|\.words$$||' | LC_ALL=C sort | diff ../stdin -
@@ -71,6 +75,7 @@ examples:
 
 bench:
 	@cd crates/benchmarks && rt run -- all
+	@cd crates/delivery_benchmarks && rt run -- all
 
 install: run
 	@install -D crates/warren/out/warren $(PREFIX)/bin/warren

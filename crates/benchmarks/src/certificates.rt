@@ -1,13 +1,11 @@
 //! How long certificates take: found, checked, and admitted.
 
-use crate::loads::Shape;
-use crate::topologies::built;
-use crate::written::Texts;
 use certificate::admit;
 use certificate_check::{Certificate, check};
 use exchange_graph::Topology;
 use guarantee_search::{Verdict, search};
 use guarantees::Guarantee;
+use measuring::{Shape, Texts, built};
 use model::{Mode, Text};
 use std::alloc::Global;
 use std::io;

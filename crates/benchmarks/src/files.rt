@@ -1,6 +1,6 @@
 //! Definitions files of nearly 16,777,216 bytes.
 
-use crate::written::Written;
+use measuring::Written;
 use std::alloc::Global;
 
 /// As many bytes as a file may have, less what a last entry and an end take.

@@ -1,27 +1,6 @@
 //! What is measured.
 
-/// A topology. But for the last shape it has the exchange `x`, to which messages are sent.
-#[derive(Clone, Copy, Drop)]
-pub enum Shape {
-    /// A direct exchange, bound to one queue by each key.
-    Direct,
-    /// A fanout exchange bound to three queues.
-    Fanout,
-    /// A topic exchange with so many bindings, of which the last matches each key.
-    Topic(u32),
-    /// A direct exchange among so many others.
-    Exchanges(u32),
-    /// A direct exchange bound to one queue among so many.
-    Queues(u32),
-    /// An exchange bound to the queue `q`: a fanout one where the number is 0; else a topic one, by `#` and by each pattern of at
-    /// most so many words, of which each is `a` or `*`.
-    Worded(u32),
-    /// 256 topic exchanges, each bound to a queue of its own by 16 patterns, of which the first is `k.#`.
-    Starred,
-    /// 256 topic exchanges, so many of which lead on to the next, 256 queues, and as many bindings as there may be where
-    /// all lead on.
-    Linked(u32),
-}
+use measuring::{Keys, Shape};
 
 /// One load: so many publishes of one size.
 #[derive(Clone, Copy, Drop)]
@@ -36,15 +15,6 @@ pub struct Load {
     pub piece: usize,
     /// How the keys go.
     pub keys: Keys,
-}
-
-/// How the routing keys of a load go.
-#[derive(Clone, Copy, PartialEq, Eq, Drop)]
-pub enum Keys {
-    /// One key comes again.
-    One,
-    /// No key comes again.
-    Fresh,
 }
 
 const WHOLE: usize = 16_777_216;

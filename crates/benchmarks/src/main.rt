@@ -3,15 +3,11 @@
 #![tactic(auto)]
 
 mod certificates;
-mod clients;
 mod definitions_files;
 mod files;
 mod loads;
-mod meters;
 mod publishes;
 mod routes;
-mod topologies;
-mod written;
 
 use std::{env, io};
 

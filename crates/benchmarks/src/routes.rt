@@ -1,8 +1,7 @@
 //! How long a route takes.
 
-use crate::loads::Shape;
-use crate::topologies::built;
 use exchange_graph::Topology;
+use measuring::{Shape, built};
 use std::io;
 use std::time::Instant;
 

@@ -1,16 +1,2 @@
-mod Consuming
-mod Delivering
-mod Exchanges
-mod Getting
-mod Giving
-mod Judging
-mod Opening
 mod Outcomes
-mod Placing
-mod Purging
-mod Rejecting
 mod Seated
-mod Setting
-mod Settlements
-mod Settling
-mod Stepping

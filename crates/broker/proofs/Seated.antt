@@ -9,8 +9,10 @@ use Rattle.model.specs.Words.{Text}
 use Rattle.model.specs.Topology.{Topology, IsIn}
 use Rattle.model.specs.Agreement.{IsAgreed}
 use Rattle.model.specs.Broker as seen
-use Rattle.model.specs.Broker.{Broker, Channel, Connection, queue_named}
-use Rattle.model.specs.Step.{Is, Acts, Decides, OnConnection, Refusal, Ignored, Of_channel, Of_connection, or_else, refusal, refusal_of_asking, refusal_of_seat, refusal_of_consume, channel_or_new}
+use Rattle.model.specs.Broker.{Broker, Channel, Connection, queue_named, with_pair, with_row}
+use Rattle.model.specs.Step.{Is, Acts, Refuses, Decides, OnConnection, Refusal, Ignored, Of_channel, Of_connection, or_else, refusal, refusal_of_asking, refusal_of_seat, refusal_of_consume, channel_or_new}
+use Rattle.model.specs.Consuming.{consumer_of}
+use Rattle.model.specs.Grammar.{ids_of}
 use Rattle.model.specs.declared.contents.Content.{Content}
 use Rattle.model.specs.declared.methods.Consume.{Consume}
 use Rattle.model.specs.declared.methods.Method.{Method}
@@ -22,13 +24,16 @@ use Rattle.model.specs.declared.notes.Note.{Note}
 use Rattle.laws.specs.Consumers.{WasConsumer, IsMadeBy, ConsumersAreMade}
 use Rattle.channel.specs.Open.{Open, open_in, consumer_in}
 use Rattle.channel.specs.declared.consumers.Consumer.{Consumer}
-use Rattle.broker.specs.Links.{Linked, link_in, channel_in, channel_at, channel_of, connection_at, limits_of}
-use Rattle.broker.specs.State.{Kept, broker_of, names_of}
-use Rattle.broker.specs.Judged.{IsIgnored, IsRequeued, WantsNoMemory}
-use Rattle.broker.specs.Roster.{HasConsumer, AllHaveSeats, IsServing, is_seat, has_number, has_consumer, is_consume, next_number, next_seat, seat_of}
-use Rattle.broker.specs.declared.roster.Pick.{Pick}
-use Rattle.broker.proofs.Consuming.{seat_not_ignored}
-use Rattle.broker.proofs.Stepping.{seen_there}
+use Rattle.links.specs.Links.{Linked, link_in, channel_in, channel_at, channel_of, connection_at, limits_of}
+use Rattle.exchange_graph.specs.Marks.{queue_name}
+use Rattle.broker_core.specs.State.{Kept, broker_of, topology_of, names_of}
+use Rattle.judging.specs.Judged.{IsIgnored, IsRequeued, WantsNoMemory}
+use Rattle.broker.specs.Roster.{ring_at, HasConsumer, AllHaveSeats, IsServing, is_seat, KeepsSeats}
+use Rattle.links.specs.Consumers.{has_number, next_number}
+use Rattle.broker_core.specs.Seats.{has_consumer, is_consume, next_seat, seat_of, consumed, IsConsumed}
+use Rattle.broker_core.specs.declared.picks.Pick.{Pick}
+use Rattle.broker_core.proofs.Consuming.{seat_not_ignored}
+use Rattle.broker_core.proofs.Stepping.{seen_there}
 
 -- each step leaves what is held and what is outstanding in agreement
 abbrev pub StayAgreed : Type 0
@@ -94,27 +99,34 @@ found_by names (c ∷ cs) k n (inr i) e = go (c.number == n) (found_by names cs 
     go true more = refl
     go false more = more
 
-has_kept : (kept : Kept) (p : Pick) → HasConsumer (broker_of kept) p → has_consumer kept p ≡ true
-has_kept kept p (k, (ch, there, its), numbered) =
-    let channel = seen_there (names_of kept) (channel_of kept.links p.connection p.channel) ch there in
+has_kept : (kept : Kept) (place : ℕ) (p : Pick) → HasConsumer (topology_of kept) (broker_of kept) place p → has_consumer kept p ≡ true
+has_kept kept place p has =
+    let ch = has.was.0 in
+    let channel = seen_there (names_of kept) (channel_of kept.links p.connection p.channel) ch has.was.1 in
     ap (λ (o : Option Open). has_number o p.number) channel.there
-    ∙ found_by (names_of kept) channel.kept.given.consumers k p.number (subst (λ (x : Channel). IsIn k x.consumers) (sym channel.same) its) numbered
+    ∙ found_by (names_of kept) channel.kept.given.consumers has.consumer p.number (subst (λ (x : Channel). IsIn has.consumer x.consumers) (sym channel.same) has.was.2) has.numbered
 
 -- where no seat of a consumer that is there is gone, each still has its seat
-pub seats_kept : (kept : Kept) (old new : List Pick) → ((p : Pick) → IsIn p old → has_consumer kept p ≡ true → IsIn p new) → AllHaveSeats (broker_of kept) old → AllHaveSeats (broker_of kept) new
-seats_kept kept old new keeps seated p has = keeps p (seated p has) (has_kept kept p has)
+pub seats_kept : (kept : Kept) (old new : List (List Pick)) → KeepsSeats kept old new → AllHaveSeats (topology_of kept) (broker_of kept) old → AllHaveSeats (topology_of kept) (broker_of kept) new
+seats_kept kept old new keeps seated place p has = keeps place p (seated place p has) (has_kept kept place p has)
 
 -- ---- events
 
+-- the seat of this consumer of channel h of connection c
+abbrev seat_for : ℕ → ℕ → seen.Consumer → Pick
+seat_for c h k = record { connection = c; channel = h; number = k.number }
+
 -- each consumer has its seat after an event where the one that the event makes has
-seated_after : ConsumersAreMade → (t : Topology) (old new : Broker) (e : Event) (sends : List Send) (notes : List Note) (seats : List Pick) → Acts t old e sends notes new → AllHaveSeats old seats
-    → ((c h : ℕ) (k : seen.Consumer) → IsMadeBy old e c h k → WasConsumer new c h k → IsIn (record { connection = c; channel = h; number = k.number }) seats)
-    → AllHaveSeats new seats
-seated_after law t old new e sends notes seats acts seated makes p (k, was, numbered) = go (law t old new e sends notes acts p.connection p.channel k was)
+seated_after : ConsumersAreMade → (t : Topology) (old new : Broker) (e : Event) (sends : List Send) (notes : List Note) (rings : List (List Pick)) → Acts t old e sends notes new → AllHaveSeats t old rings
+    → ((c h : ℕ) (k : seen.Consumer) → IsMadeBy old e c h k → WasConsumer new c h k → (place : ℕ) → place < length t.queues → queue_name t place ≡ k.queue → IsIn (seat_for c h k) (ring_at rings place))
+    → AllHaveSeats t new rings
+seated_after law t old new e sends notes rings acts seated makes place p has = go (law t old new e sends notes acts p.connection p.channel has.consumer has.was)
   where
-    go : WasConsumer old p.connection p.channel k ⊎ IsMadeBy old e p.connection p.channel k → IsIn p seats
-    go (inl before) = seated p (k, before, numbered)
-    go (inr made) = subst (λ (n : ℕ). IsIn (record { connection = p.connection; channel = p.channel; number = n }) seats) numbered (makes p.connection p.channel k made was)
+    go : WasConsumer old p.connection p.channel has.consumer ⊎ IsMadeBy old e p.connection p.channel has.consumer → IsIn p (ring_at rings place)
+    go (inl before) = seated place p (record { consumer = has.consumer; was = before; numbered = has.numbered; within = has.within; named = has.named })
+    go (inr made) =
+        subst (λ (n : ℕ). IsIn (record { connection = p.connection; channel = p.channel; number = n }) (ring_at rings place)) has.numbered
+        (makes p.connection p.channel has.consumer made has.was place has.within has.named)
 
 -- an event is a command
 abbrev pub is_command : Event → Bool
@@ -122,9 +134,9 @@ is_command (Command c h m content) = true
 is_command e = false
 
 -- no other makes a consumer
-pub seated_still : ConsumersAreMade → (t : Topology) (old new : Broker) (e : Event) (sends : List Send) (notes : List Note) (seats : List Pick) → Acts t old e sends notes new → is_command e ≡ false → AllHaveSeats old seats → AllHaveSeats new seats
-seated_still law t old new e sends notes seats acts none seated =
-    seated_after law t old new e sends notes seats acts seated (λ c h k made was. absurd (false≢true (sym none ∙ ap is_command made.2)))
+pub seated_still : ConsumersAreMade → (t : Topology) (old new : Broker) (e : Event) (sends : List Send) (notes : List Note) (rings : List (List Pick)) → Acts t old e sends notes new → is_command e ≡ false → AllHaveSeats t old rings → AllHaveSeats t new rings
+seated_still law t old new e sends notes rings acts none seated =
+    seated_after law t old new e sends notes rings acts seated (λ c h k made was place within named. absurd (false≢true (sym none ∙ ap is_command made.2)))
 
 -- ---- consumes
 
@@ -173,48 +185,122 @@ next_number_is names c h (Some l) p e = go (channel_in l h) e
     go None f = sym (same_Some _ p f)
     go (Some ch) f = awaits ch.is_closing ch.given.next_number f
 
+-- a consumer of a channel on which a consume came was there, or takes from the queue that the consume names
+module _ (t : Topology) (old new : Broker) (c h : ℕ) (m : Consume) (content : Option Content) (sends : List Send) (notes : List Note) (k : seen.Consumer) where
+  abbrev Came : Type 0
+  Came = WasConsumer old c h k ⊎ (k.queue ≡ m.queue)
+
+  mine : (o : Option Channel) → old.channel c h ≡ o → IsIn k (channel_or_new o).consumers → WasConsumer old c h k
+  mine None is i = absurd i
+  mine (Some ch) is i = (ch, is, i)
+
+  paired : (x y : Option Channel) (v w : Bool) → v ≡ true → w ≡ true → (if v && w then x else y) ≡ x
+  paired x y true true f g = refl
+  paired x y true false f g = absurd (false≢true g)
+  paired x y false w f g = absurd (false≢true f)
+
+  in_row : (x y : Option Channel) (v : Bool) → v ≡ true → (if v then x else y) ≡ x
+  in_row x y true f = refl
+  in_row x y false f = absurd (false≢true f)
+
+  same_there : new.channel c h ≡ old.channel c h → WasConsumer new c h k → Came
+  same_there is (ch, at, i) = inl (ch, sym is ∙ at, i)
+
+  of_this : (x : Channel) → new.channel c h ≡ with_pair old.channel c h (Some x) c h → (IsIn k x.consumers → Came) → WasConsumer new c h k → Came
+  of_this x is good (ch, at, i) =
+      let there : Some x ≡ Some ch = sym (paired (Some x) (old.channel c h) (c == c) (h == h) (eq-eqb c c refl) (eq-eqb h h refl)) ∙ sym is ∙ at in
+      good (subst (λ (z : Channel). IsIn k z.consumers) (sym (same_Some x ch there)) i)
+
+  none_there : new.channel c h ≡ with_row old.channel c (λ l. None) c h → WasConsumer new c h k → Came
+  none_there is (ch, at, i) = absurd (false≢true (ap is_some (sym (in_row None (old.channel c h) (c == c) (eq-eqb c c refl)) ∙ sym is ∙ at)))
+
+  made_last : (ks : List seen.Consumer) (x : seen.Consumer) → (IsIn k ks → WasConsumer old c h k) → x.queue ≡ m.queue → IsIn k (ks ++ x ∷ []) → Came
+  made_last [] x was e (inl i) = inr (ap (λ (z : seen.Consumer). z.queue) i ∙ e)
+  made_last [] x was e (inr i) = absurd i
+  made_last (y ∷ ys) x was e (inl i) = inl (was (inl i))
+  made_last (y ∷ ys) x was e (inr i) = made_last ys x (λ j. was (inr j)) e i
+
+  refused : (r : Refusal) → Refuses old c h (ids_of (BasicConsume m)) r sends notes new → WasConsumer new c h k → Came
+  refused Ignored p = same_there (p.left.channels c h)
+  refused (Of_channel code) p = of_this _ (p.left.channels c h) (λ i. absurd i)
+  refused (Of_connection code) p = none_there (p.left.channels c h)
+
+  decided : (r : Option Refusal) → Decides t old c h (BasicConsume m) content r sends notes new → WasConsumer new c h k → Came
+  decided None p =
+      of_this _ (p.left.channels c h)
+      (λ i. made_last (channel_or_new (old.channel c h)).consumers (consumer_of (channel_or_new (old.channel c h)) m) (mine (old.channel c h) refl) refl i)
+  decided (Some r) p = refused r p
+
+  came : (o : Option Connection) → OnConnection t old c h (BasicConsume m) content sends notes new o → WasConsumer new c h k → Came
+  came None p = same_there (p.left.channels c h)
+  came (Some conn) p = decided (refusal t old conn h (BasicConsume m) (old.channel c h)) p
+
 -- a consumer that an event makes has its seat where the event's seat is there
-pub seated_next : ConsumersAreMade → (t : Topology) (kept : Kept) (new : Broker) (e : Event) (sends : List Send) (notes : List Note) (seats : List Pick) → Acts t (broker_of kept) e sends notes new → AllHaveSeats (broker_of kept) seats
-    → IfSome (seat_of kept e) (λ p. IsIn p seats) → AllHaveSeats new seats
-seated_next law t kept new e sends notes seats acts seated next = seated_after law t b new e sends notes seats acts seated made
+pub seated_next : ConsumersAreMade → (t : Topology) (kept : Kept) (new : Broker) (e : Event) (sends : List Send) (notes : List Note) (rings : List (List Pick)) → Acts t (broker_of kept) e sends notes new → AllHaveSeats t (broker_of kept) rings
+    → IfSome (seat_of kept e) (λ p. (place : ℕ) → IsConsumed t e place → IsIn p (ring_at rings place)) → AllHaveSeats t new rings
+seated_next law t kept new e sends notes rings acts seated next = seated_after law t b new e sends notes rings acts seated made
   where
     b : Broker
     b = broker_of kept
 
-    made : (c h : ℕ) (k : seen.Consumer) → IsMadeBy b e c h k → WasConsumer new c h k → IsIn (record { connection = c; channel = h; number = k.number }) seats
-    made c h k (m, content, is, numbered) (ch, there, its) =
-        go (next_seat c h (link_in kept.links c)) refl (subst (λ (x : Event). IfSome (seat_of kept x) (λ p. IsIn p seats)) is next)
+    made : (c h : ℕ) (k : seen.Consumer) → IsMadeBy b e c h k → WasConsumer new c h k → (place : ℕ) → place < length t.queues → queue_name t place ≡ k.queue → IsIn (seat_for c h k) (ring_at rings place)
+    made c h k (m, content, is, numbered) was place within named = on (came t b new c h m content sends notes k (b.connection c) same was)
       where
         same : OnConnection t b c h (BasicConsume m) content sends notes new (b.connection c)
         same = subst (λ (x : Event). Acts t b x sends notes new) is acts
 
-        go : (o : Option Pick) → next_seat c h (link_in kept.links c) ≡ o → IfSome o (λ p. IsIn p seats) → IsIn (record { connection = c; channel = h; number = k.number }) seats
-        go None f i =
+        before : WasConsumer b c h k → IsIn (seat_for c h k) (ring_at rings place)
+        before there = seated place (seat_for c h k) (record { consumer = k; was = there; numbered = refl; within = within; named = named })
+
+        here : k.queue ≡ m.queue → IsConsumed t e place
+        here queue = record { within = within; named = ap consumed is ∙ ap (λ (q : Text). Some q) (sym queue ∙ sym named) }
+
+        go : k.queue ≡ m.queue → (o : Option Pick) → next_seat c h (link_in kept.links c) ≡ o → IfSome o (λ p. (at : ℕ) → IsConsumed t e at → IsIn p (ring_at rings at)) → IsIn (seat_for c h k) (ring_at rings place)
+        go queue None f i =
             let stays = ignored_stays t b c h (BasicConsume m) content sends notes new (b.connection c) (no_seat t kept c h m f) same in
-            seated (record { connection = c; channel = h; number = k.number }) (k, (ch, sym (stays.channels c h) ∙ there, its), refl)
-        go (Some p) f i = subst (λ (q : Pick). IsIn q seats) (next_number_is (names_of kept) c h (link_in kept.links c) p f ∙ ap (λ (n : ℕ). record { connection = c; channel = h; number = n }) (sym numbered)) i
+            before (was.0, sym (stays.channels c h) ∙ was.1, was.2)
+        go queue (Some p) f i =
+            subst (λ (q : Pick). IsIn q (ring_at rings place)) (next_number_is (names_of kept) c h (link_in kept.links c) p f ∙ ap (λ (n : ℕ). record { connection = c; channel = h; number = n }) (sym numbered))
+            (i place (here queue))
+
+        on : WasConsumer b c h k ⊎ (k.queue ≡ m.queue) → IsIn (seat_for c h k) (ring_at rings place)
+        on (inl there) = before there
+        on (inr queue) = go queue (next_seat c h (link_in kept.links c)) refl (subst (λ (x : Event). IfSome (seat_of kept x) (λ p. (at : ℕ) → IsConsumed t e at → IsIn p (ring_at rings at))) is next)
 
 -- ---- what every broker keeps
 
 -- each event that is no command leaves it so
-pub serves_still : StayAgreed → ConsumersAreMade → (t : Topology) (old new : Kept) (e : Event) (sends : List Send) (notes : List Note) (seats : List Pick)
-    → Acts t (broker_of old) e sends notes (broker_of new) → is_command e ≡ false → IsServing old seats → IsServing new seats
-serves_still agrees law t old new e sends notes seats acts none serving = record {
+pub serves_still : StayAgreed → ConsumersAreMade → (t : Topology) (old new : Kept) (e : Event) (sends : List Send) (notes : List Note) (rings : List (List Pick))
+    → Acts t (broker_of old) e sends notes (broker_of new) → is_command e ≡ false → topology_of old ≡ t → topology_of new ≡ t → IsServing old rings → IsServing new rings
+serves_still agrees law t old new e sends notes rings acts none was is serving = record {
   agreed = agrees t (broker_of old) (broker_of new) e sends notes serving.agreed acts;
-  seated = seated_still law t (broker_of old) (broker_of new) e sends notes seats acts none serving.seated;
+  rings_for = serving.rings_for ∙ ap (λ (x : Topology). length x.queues) (was ∙ sym is);
+  seated = subst (λ (x : Topology). AllHaveSeats x (broker_of new) rings) (sym is)
+      (seated_still law t (broker_of old) (broker_of new) e sends notes rings acts none (subst (λ (x : Topology). AllHaveSeats x (broker_of old) rings) was serving.seated));
 }
 
 -- and so does one whose seat is there
-pub serves_next : StayAgreed → ConsumersAreMade → (t : Topology) (old new : Kept) (e : Event) (sends : List Send) (notes : List Note) (before seats : List Pick)
-    → Acts t (broker_of old) e sends notes (broker_of new) → ((p : Pick) → IsIn p before → has_consumer old p ≡ true → IsIn p seats) → IfSome (seat_of old e) (λ p. IsIn p seats) → IsServing old before → IsServing new seats
-serves_next agrees law t old new e sends notes before seats acts keeps next serving = record {
-  agreed = agrees t (broker_of old) (broker_of new) e sends notes serving.agreed acts;
-  seated = seated_next law t old (broker_of new) e sends notes seats acts (seats_kept old before seats keeps serving.seated) next;
+pub serves_next : StayAgreed → ConsumersAreMade → (old new : Kept) (e : Event) (sends : List Send) (notes : List Note) (before rings : List (List Pick))
+    → Acts (topology_of old) (broker_of old) e sends notes (broker_of new) → topology_of new ≡ topology_of old → KeepsSeats old before rings → length rings ≡ length before
+    → IfSome (seat_of old e) (λ p. (place : ℕ) → IsConsumed (topology_of old) e place → IsIn p (ring_at rings place)) → IsServing old before → IsServing new rings
+serves_next agrees law old new e sends notes before rings acts is keeps len next serving = record {
+  agreed = agrees (topology_of old) (broker_of old) (broker_of new) e sends notes serving.agreed acts;
+  rings_for = len ∙ serving.rings_for ∙ ap (λ (x : Topology). length x.queues) (sym is);
+  seated = subst (λ (x : Topology). AllHaveSeats x (broker_of new) rings) (sym is)
+      (seated_next law (topology_of old) old (broker_of new) e sends notes rings acts (seats_kept old before rings keeps serving.seated) next);
 }
 
 -- where no seat of a consumer that is there is gone it is so still
-pub serves_kept : (kept : Kept) (before seats : List Pick) → ((p : Pick) → IsIn p before → has_consumer kept p ≡ true → IsIn p seats) → IsServing kept before → IsServing kept seats
-serves_kept kept before seats keeps serving = record { agreed = serving.agreed; seated = seats_kept kept before seats keeps serving.seated }
+pub serves_kept : (kept : Kept) (before rings : List (List Pick)) → KeepsSeats kept before rings → length rings ≡ length before → IsServing kept before → IsServing kept rings
+serves_kept kept before rings keeps len serving = record { agreed = serving.agreed; rings_for = len ∙ serving.rings_for; seated = seats_kept kept before rings keeps serving.seated }
+
+-- with no consumer none wants a seat
+pub serves_none : (kept : Kept) (rings : List (List Pick)) → IsAgreed (broker_of kept) → length rings ≡ length (topology_of kept).queues → ((c h : ℕ) → (broker_of kept).channel c h ≡ None) → IsServing kept rings
+serves_none kept rings agreed len none = record {
+  agreed = agreed;
+  rings_for = len;
+  seated = λ place p has. absurd (false≢true (ap is_some (sym (none p.connection p.channel) ∙ has.was.1)));
+}
 
 -- ---- events that want no memory
 

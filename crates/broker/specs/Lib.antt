@@ -1,10 +1,1 @@
-pub mod Links
-pub mod State
-pub mod Placed
-pub mod Judged
-pub mod Consumed
-pub mod Picked
 pub mod Roster
-pub mod Sent
-pub mod Purged
-pub mod Settled

@@ -1,31 +1,40 @@
 -- The consumers of all channels by their numbers, over which deliveries go round (own).
-use Rattle.std.specs.Prelude.{◌≡◌, ◌==◌, ◌&&◌, ℕ, List, Bool, true, false, if◌then◌else◌, Option, Some, None, option_map, is_some}
-use Rattle.model.specs.Topology.{IsIn}
+use Rattle.std.specs.Prelude.{◌≡◌, ◌==◌, ◌&&◌, ◌<◌, ◌≤◌, ℕ, List, [], Bool, true, length, slice_index_or}
+use Rattle.model.specs.Topology.{Topology, IsIn}
 use Rattle.model.specs.Broker.{Consumer, Broker}
 use Rattle.model.specs.Agreement.{IsAgreed}
-use Rattle.model.specs.declared.methods.Method.{Method}
-use Rattle.model.specs.declared.methods.Method.TheVariants.{BasicConsume}
-use Rattle.model.specs.declared.events.Event.{Event}
-use Rattle.model.specs.declared.events.Event.TheVariants.{Command}
 use Rattle.laws.specs.Consumers.{WasConsumer}
-use Rattle.channel.specs.Deliveries.{consumer_at}
-use Rattle.channel.specs.Open.{Open}
-use Rattle.broker.specs.Links.{Linked, link_in, channel_in, channel_of}
-use Rattle.broker.specs.State.{Kept, broker_of}
-use Rattle.broker.specs.declared.roster.Pick.{Pick}
+use Rattle.exchange_graph.specs.Marks.{queue_name}
+use Rattle.broker_core.specs.State.{Kept, broker_of, topology_of}
+use Rattle.broker_core.specs.Picked.{IsPickFrom}
+use Rattle.broker_core.specs.Seats.{has_consumer}
+use Rattle.broker_core.specs.declared.picks.Pick.{Pick}
 
--- a consumer of these numbers is there
-abbrev pub HasConsumer : Broker → Pick → Type 0
-HasConsumer b p = (k : Consumer) × WasConsumer b p.connection p.channel k × (k.number ≡ p.number)
+-- the seats of the consumers of the queue at this place, where each queue has such a ring
+abbrev pub ring_at : List (List Pick) → ℕ → List Pick
+ring_at rings place = slice_index_or rings place []
 
--- each consumer has its seat among these
-abbrev pub AllHaveSeats : Broker → List Pick → Type 0
-AllHaveSeats b seats = (p : Pick) → HasConsumer b p → IsIn p seats
+-- A consumer of these numbers is there, of the queue at this place.
+pub record HasConsumer (t : Topology) (b : Broker) (place : ℕ) (p : Pick) : Type 0 where
+  pub consumer : Consumer
+  pub was : WasConsumer b p.connection p.channel consumer
+  pub numbered : consumer.number ≡ p.number
+  pub within : place < length t.queues
+  pub named : queue_name t place ≡ consumer.queue
+
+-- each consumer has its seat in the ring of its queue
+abbrev pub AllHaveSeats : Topology → Broker → List (List Pick) → Type 0
+AllHaveSeats t b rings = (place : ℕ) (p : Pick) → HasConsumer t b place p → IsIn p (ring_at rings place)
 
 -- What every broker keeps.
-pub record IsServing (kept : Kept) (seats : List Pick) : Type 0 where
+pub record IsServing (kept : Kept) (rings : List (List Pick)) : Type 0 where
   pub agreed : IsAgreed (broker_of kept)
-  pub seated : AllHaveSeats (broker_of kept) seats
+  pub rings_for : length rings ≡ length (topology_of kept).queues
+  pub seated : AllHaveSeats (topology_of kept) (broker_of kept) rings
+
+-- from none of the queues at these places can a delivery be made to one who has a seat there
+abbrev pub NoneBetween : Kept → List (List Pick) → ℕ → ℕ → Type 0
+NoneBetween kept rings from to = (place : ℕ) (p : Pick) → from ≤ place → place < to → IsIn p (ring_at rings place) → IsPickFrom kept place p → ⊥
 
 -- ---- whose consumer is there
 
@@ -33,33 +42,10 @@ pub record IsServing (kept : Kept) (seats : List Pick) : Type 0 where
 abbrev pub is_seat : Pick → Pick → Bool
 is_seat p q = (p.connection == q.connection) && ((p.channel == q.channel) && (p.number == q.number))
 
--- a channel that is there has a consumer of this number
-abbrev pub has_number : Option Open → ℕ → Bool
-has_number None number = false
-has_number (Some ch) number = is_some (consumer_at ch.given number)
+-- no seat of a consumer that is there is gone
+abbrev pub KeepsRing : Kept → List Pick → List Pick → Type 0
+KeepsRing kept old new = (p : Pick) → IsIn p old → has_consumer kept p ≡ true → IsIn p new
 
--- a consumer of these numbers is kept
-abbrev pub has_consumer : Kept → Pick → Bool
-has_consumer kept p = has_number (channel_of kept.links p.connection p.channel) p.number
-
--- ---- the seat of a consumer that is to be made
-
--- the method is a consume
-abbrev pub is_consume : Method → Bool
-is_consume (BasicConsume m) = true
-is_consume _ = false
-
--- the number of the next consumer on this channel, 1 where it is not open; none where close-ok is awaited, for then a consume does nothing
-abbrev pub next_number : Option Open → Option ℕ
-next_number None = Some 1
-next_number (Some ch) = if ch.is_closing then None else Some ch.given.next_number
-
--- its seat, on a connection that runs
-abbrev pub next_seat : ℕ → ℕ → Option Linked → Option Pick
-next_seat c h None = None
-next_seat c h (Some l) = option_map (λ (n : ℕ). record { connection = c; channel = h; number = n }) (next_number (channel_in l h))
-
--- the seat of the consumer that this event is to make
-abbrev pub seat_of : Kept → Event → Option Pick
-seat_of kept (Command c h m content) = if is_consume m then next_seat c h (link_in kept.links c) else None
-seat_of kept e = None
+-- from none of the rings
+abbrev pub KeepsSeats : Kept → List (List Pick) → List (List Pick) → Type 0
+KeepsSeats kept old new = (place : ℕ) → KeepsRing kept (ring_at old place) (ring_at new place)

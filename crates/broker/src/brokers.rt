@@ -1,11 +1,11 @@
 //! The broker as its callers have it.
 
-use crate::cores::Core;
-use crate::roster::{Pick, Roster};
-use crate::steps::Step;
+use crate::roster::Roster;
+use broker_core::{Core, Pick};
 use exchange_graph::Topology;
 use laws::{brokers_stay_agreed, consumers_are_made};
 use model::Event;
+use replies::Step;
 use std::alloc::{AllocError, Global};
 use std::marker::Model;
 
@@ -23,7 +23,7 @@ impl Drop for Broker {
 }
 
 impl Model for Broker {
-    ghost use Rattle.broker.specs.State.{Kept};
+    ghost use Rattle.broker_core.specs.State.{Kept};
     ghost use Rattle.broker.specs.Roster.{IsServing};
 
     ghost Value = { Kept };
@@ -41,10 +41,10 @@ impl Broker {
     ghost use Rattle.model.specs.Sending.{AreCarried};
     ghost use Rattle.model.specs.Step.{Acts, Is};
     ghost use Rattle.model.specs.declared.events.Event.TheVariants as event_is;
-    ghost use Rattle.broker.specs.State.{broker_of, topology_of, nothing};
-    ghost use Rattle.broker.specs.Judged.{IsAsked, WantsNoMemory};
-    ghost use Rattle.broker.specs.Picked.{IsPick};
-    ghost use Rattle.broker.specs.Sent.{AreOwn, connection_of_event};
+    ghost use Rattle.broker_core.specs.State.{broker_of, topology_of, nothing};
+    ghost use Rattle.judging.specs.Judged.{IsAsked, WantsNoMemory};
+    ghost use Rattle.broker_core.specs.Picked.{IsPick};
+    ghost use Rattle.replies.specs.Sent.{AreOwn, connection_of_event};
 
     /// The broker of this topology: its queues are empty, and no connection runs.
     pub fn new(alloc: Global, topology: Topology) -> Result<Broker, AllocError>
@@ -52,10 +52,9 @@ impl Broker {
         ensures empty { IfOk result (λ b. Is nothing (broker_of b)) }
     {
         brokers_stay_agreed();
-        Ok(Broker {
-            core: Core::new(alloc, topology)?,
-            roster: Roster::new(alloc),
-        })
+        let roster = Roster::new(alloc, topology.queues().len())?;
+        let core = Core::new(alloc, topology)?;
+        Ok(Broker { core, roster })
     }
 
     /// One event: what it sends, what it notes, and the state after it. Where the event's method has a spelling, each send
@@ -75,8 +74,8 @@ impl Broker {
         self.core.step(alloc, event)
     }
 
-    /// A delivery that can be made, if there is any. Consumers are gone round, from the one behind that which was picked last.
-    /// It takes no memory.
+    /// A delivery that can be made, if there is any. Queues that have something ready are gone round, from the one behind that
+    /// from which was picked last, and so are the consumers of a queue. It takes no memory.
     pub fn pick(&mut self) -> Option<Pick>
         ensures same { self.new ≡ self.old }
         ensures some { IfSome result (λ p. IsPick (broker_of self.old) p) }

@@ -1,189 +1,167 @@
 //! The consumers of all channels, over which deliveries go round.
 //!
-//! Each consumer has its seat in one list, by its numbers. A seat stays there after its consumer is gone, until the list is full
-//! and is swept. What is picked is found by looking at one seat after another, from the one behind that which was picked last:
-//! a plain first form, which may look at every seat. An index of the consumers that can take something may come in its place.
+//! Each queue has the ring of its consumers' seats. What is picked is found by going round the queues that have something ready,
+//! from the one behind that from which was picked last, and in each round its ring. So a consumer of a queue that has nothing
+//! ready costs nothing, nor does such a queue.
 
-ghost use Rattle.std.specs.Prelude.{◌≡◌, ◌<◌, ◌≤◌, ℕ, true, None, IfSome, OnOk, length, count_by, filter, slice_index_or, vec_len, vec_capacity};
-ghost use Rattle.std.specs.List.{list_any};
+mod ring;
+
+ghost use Rattle.std.specs.Prelude.{◌≡◌, ◌<◌, ◌≤◌, ℕ, [], None, IfSome, IfOk, OnOk, length, replicate};
 ghost use Rattle.model.specs.Topology.{IsIn};
-ghost use Rattle.broker.specs.State.{broker_of};
-ghost use Rattle.broker.specs.Picked.{IsPick};
-ghost use Rattle.broker.specs.Roster.{is_seat, has_consumer};
-ghost use Rattle.broker.specs.declared.roster.Pick.{Pick as Seat};
+ghost use Rattle.broker_core.specs.State.{broker_of, topology_of};
+ghost use Rattle.broker_core.specs.Picked.{IsPick, IsPickFrom};
+ghost use Rattle.broker.specs.Roster.{ring_at, KeepsSeats, NoneBetween};
+ghost use Rattle.broker_core.specs.declared.picks.Pick.{Pick as Seat};
 
-use crate::cores::Core;
+use crate::roster::ring::Ring;
+use broker_core::{Core, Pick};
 use model::Event;
 use std::alloc::{AllocError, Global};
 use std::marker::Model;
 
-/// A consumer, by its numbers.
+/// A consumer to which a delivery can be made, from the queue at this place.
 #[derive(Clone, Copy, PartialEq, Eq, Debug, Drop)]
-pub struct Pick {
-    pub connection: u64,
-    pub channel: u16,
-    /// Consumers of a channel are numbered as they are made.
-    pub number: u64,
+struct Found {
+    queue: usize,
+    pick: Pick,
 }
 
-/// Two seats are one.
-fn is_same(one: Pick, other: Pick) -> bool
-    ensures { result ≡ is_seat one other }
+/// So many rings with no seat.
+fn empty_rings(alloc: Global, count: usize) -> Result<Vec<Ring>, AllocError>
+    ensures { IfOk result (λ rings. rings.items ≡ replicate count []) }
 {
-    one.connection == other.connection && one.channel == other.channel && one.number == other.number
-}
-
-/// Whether this seat is among these.
-fn has_seat(seats: &[Pick], seat: Pick) -> bool
-    ensures { result ≡ list_any (is_seat seat) seats.now }
-{
-    seats.iter().any(|other| is_same(seat, *other))
-}
-
-/// Takes out the seats whose consumer is gone.
-fn sweep(seats: &mut Vec<Pick>, core: &Core)
-    ensures seats { seats.new.items ≡ filter (has_consumer core.now) seats.old.items }
-    ensures capacity { vec_capacity seats.new ≡ vec_capacity seats.old }
-{
-    seats.retain(|seat| core.has_consumer(*seat));
-}
-
-/// How many of the seats have their consumer still.
-fn staying(seats: &[Pick], core: &Core) -> usize
-    ensures { result ≡ count_by (has_consumer core.now) seats.now }
-{
-    let mut count = 0;
-    for seat in seats {
-        if core.has_consumer(*seat) {
-            count += 1;
-        }
+    let mut rings = Vec::new(alloc);
+    for _ in 0..count {
+        rings.push(Ring::new(alloc))?;
     }
-    count
+    Ok(rings)
 }
 
-/// Makes room for one seat more. Where the list is full, the seats whose consumer is gone are taken out, and then there is room
-/// for as many again as are left, so that few sweeps are made. Where memory is wanting, no other seat is gone.
-fn make_room(seats: &mut Vec<Pick>, next: &mut usize, core: &Core) -> Result<(), AllocError>
-    ensures room { OnOk result (vec_len seats.new < vec_capacity seats.new) }
-    ensures kept { (p : Seat) → IsIn p seats.old.items → has_consumer core.now p ≡ true → IsIn p seats.new.items }
+/// This seat is in the ring of the queue at this place from now on. Where memory is wanting it may not be; no seat of a consumer
+/// that is there is gone.
+fn seat_at(rings: &mut [Ring], core: &Core, queue: usize, seat: Pick) -> Result<(), AllocError>
+    requires { queue < length rings.old }
+    ensures seated { OnOk result (IsIn seat (ring_at rings.new queue)) }
+    ensures kept { KeepsSeats core.now rings.old rings.new }
 {
-    if seats.len() < seats.capacity() {
-        return Ok(());
-    }
-    let before = (*next).min(seats.len());
-    *next = staying(seats.split_at(before).0, core);
-    sweep(seats, core);
-    seats.reserve(seats.len().max(1))
+    rings[queue].seat(core, seat)
 }
 
-/// The place of the first of the seats from this one on, up to that one, to whose consumer a delivery can be made.
-fn first_between(core: &Core, seats: &[Pick], from: usize, to: usize) -> Option<usize>
-    requires { to ≤ length seats.now }
-    ensures within { IfSome result (λ i. i < length seats.now) }
-    ensures some { IfSome result (λ i. (p : Seat) → IsPick (broker_of core.now) (slice_index_or seats.now i p)) }
-    ensures none { result ≡ None → (i : ℕ) (p : Seat) → from ≤ i → i < to → IsPick (broker_of core.now) (slice_index_or seats.now i p) → ⊥ }
+/// The first delivery that can be made from the queue at this place.
+fn pick_at(rings: &mut [Ring], core: &Core, queue: usize) -> Option<Pick>
+    requires { queue < length rings.old }
+    ensures same { rings.new ≡ rings.old }
+    ensures some { IfSome result (λ p. IsPick (broker_of core.now) p) }
+    ensures none { result ≡ None → (p : Seat) → IsIn p (ring_at rings.old queue) → IsPickFrom core.now queue p → ⊥ }
 {
-    for place in from..to {
-        if core.may_deliver(seats[place]) {
-            return Some(place);
+    rings[queue].pick(core, queue)
+}
+
+/// The first delivery that can be made from one of the queues from this place on, up to that one.
+fn first_between(rings: &mut [Ring], core: &Core, from: usize, to: usize) -> Option<Found>
+    requires { length rings.old ≡ length (topology_of core.now).queues }
+    ensures same { rings.new ≡ rings.old }
+    ensures within { IfSome result (λ f. f.queue < length rings.new) }
+    ensures some { IfSome result (λ f. IsPick (broker_of core.now) f.pick) }
+    ensures none { result ≡ None → NoneBetween core.now rings.old from to }
+{
+    let mut next = from;
+    'queues: while let Some(queue) = core.next_ready(next) {
+        if queue >= to {
+            return None;
         }
+        if let Some(pick) = pick_at(rings, core, queue) {
+            return Some(Found { queue, pick });
+        }
+        next = queue + 1;
     }
     None
 }
 
-/// The place of the first seat to whose consumer a delivery can be made, from this one on and then from the front.
-fn first_round(core: &Core, seats: &[Pick], next: usize) -> Option<usize>
-    ensures within { IfSome result (λ i. i < length seats.now) }
-    ensures some { IfSome result (λ i. (p : Seat) → IsPick (broker_of core.now) (slice_index_or seats.now i p)) }
-    ensures none { result ≡ None → (p : Seat) → IsIn p seats.now → IsPick (broker_of core.now) p → ⊥ }
+/// The first delivery that can be made from one of the queues, from this place on and then from the front.
+fn first_round(rings: &mut [Ring], core: &Core, next: usize) -> Option<Found>
+    requires { length rings.old ≡ length (topology_of core.now).queues }
+    ensures same { rings.new ≡ rings.old }
+    ensures within { IfSome result (λ f. f.queue < length rings.new) }
+    ensures some { IfSome result (λ f. IsPick (broker_of core.now) f.pick) }
+    ensures none { result ≡ None → NoneBetween core.now rings.old 0 (length rings.old) }
 {
-    let turn = next.min(seats.len());
-    match first_between(core, seats, turn, seats.len()) {
-        Some(place) => Some(place),
-        None => first_between(core, seats, 0, turn),
+    let turn = next.min(rings.len());
+    match first_between(rings, core, turn, rings.len()) {
+        Some(found) => Some(found),
+        None => first_between(rings, core, 0, turn),
     }
 }
 
-/// The seats of all consumers, in the order in which they were made; some may be of consumers that are gone.
+/// The rings of all queues, in the order of the file.
 pub(crate) struct Roster {
-    seats: Vec<Pick>,
-    /// The place behind the seat that was picked last.
+    rings: Vec<Ring>,
+    /// The place behind the queue from which was picked last.
     next: usize,
 }
 
 /// Written out, so that a drop is one call.
 impl Drop for Roster {
     fn drop(self) {
-        let Roster { seats: _, next: _ } = self;
+        let Roster { rings: _, next: _ } = self;
     }
 }
 
 impl Model for Roster {
     ghost use Rattle.std.specs.Prelude.{List};
-    ghost use Rattle.broker.specs.declared.roster.Pick.{Pick as Seat};
+    ghost use Rattle.broker_core.specs.declared.picks.Pick.{Pick as Seat};
 
-    ghost Value = { List Seat };
+    ghost Value = { List (List Seat) };
 
-    ghost view = { λ r. r.seats.items };
+    ghost view = { λ r. r.rings.items };
 }
 
 impl Roster {
-    ghost use Rattle.std.specs.Prelude.{◌≡◌, [], true, None, IfSome, IsOk, OnOk};
+    ghost use Rattle.std.specs.Prelude.{◌≡◌, ℕ, [], None, IfSome, IfOk, IsOk, OnOk, length, replicate};
     ghost use Rattle.model.specs.Topology.{IsIn};
-    ghost use Rattle.broker.specs.declared.roster.Pick.{Pick as Seat};
-    ghost use Rattle.broker.specs.State.{broker_of};
-    ghost use Rattle.broker.specs.Picked.{IsPick};
-    ghost use Rattle.broker.specs.Roster.{has_consumer, seat_of};
+    ghost use Rattle.broker_core.specs.declared.picks.Pick.{Pick as Seat};
+    ghost use Rattle.broker_core.specs.State.{broker_of, topology_of};
+    ghost use Rattle.broker_core.specs.Picked.{IsPick, IsPickFrom};
+    ghost use Rattle.broker_core.specs.Seats.{seat_of, IsConsumed};
+    ghost use Rattle.broker.specs.Roster.{ring_at, KeepsSeats};
 
-    /// No seat. It takes no memory.
-    pub fn new(alloc: Global) -> Roster
-        ensures { result ≡ [] }
+    /// No seat, for so many queues.
+    pub fn new(alloc: Global, queues: usize) -> Result<Roster, AllocError>
+        ensures { IfOk result (λ r. r ≡ replicate queues []) }
     {
-        Roster {
-            seats: Vec::new(alloc),
+        Ok(Roster {
+            rings: empty_rings(alloc, queues)?,
             next: 0,
-        }
-    }
-
-    /// This seat is there from now on. Where memory is wanting it may not be; no seat of a consumer that is there is gone.
-    fn seat(&mut self, core: &Core, seat: Pick) -> Result<(), AllocError>
-        ensures seated { OnOk result (IsIn seat self.new) }
-        ensures kept { (p : Seat) → IsIn p self.old → has_consumer core.now p ≡ true → IsIn p self.new }
-    {
-        if has_seat(&self.seats, seat) {
-            return Ok(());
-        }
-        make_room(&mut self.seats, &mut self.next, core)?;
-        self.seats.push_reserved(seat);
-        Ok(())
+        })
     }
 
     /// The consumer that this event is to make, if any, has its seat from now on. Where memory is wanting it may not; no seat of
     /// a consumer that is there is gone.
     pub fn seat_next(&mut self, core: &Core, event: &Event) -> Result<(), AllocError>
-        ensures seated { OnOk result (IfSome (seat_of core.now event.now) (λ p. IsIn p self.new)) }
-        ensures kept { (p : Seat) → IsIn p self.old → has_consumer core.now p ≡ true → IsIn p self.new }
+        requires { length self.old ≡ length (topology_of core.now).queues }
+        ensures seated { OnOk result (IfSome (seat_of core.now event.now) (λ p. (place : ℕ) → IsConsumed (topology_of core.now) event.now place → IsIn p (ring_at self.new place))) }
+        ensures kept { KeepsSeats core.now self.old self.new }
+        ensures len { length self.new ≡ length self.old }
         ensures quiet { seat_of core.now event.now ≡ None → IsOk result }
     {
-        match core.seat_of(event) {
-            Some(seat) => self.seat(core, seat),
-            None => Ok(()),
-        }
+        let Some(seat) = core.seat_of(event) else {
+            return Ok(());
+        };
+        let Some(queue) = core.queue_consumed(event) else {
+            return Ok(());
+        };
+        seat_at(&mut self.rings, core, queue, seat)
     }
 
-    /// The first seat to whose consumer a delivery can be made, from the one behind that which was picked last, and then from
-    /// the front.
+    /// The first delivery that can be made, from the queue behind that from which was picked last, and then from the front.
     pub fn pick(&mut self, core: &Core) -> Option<Pick>
+        requires { length self.old ≡ length (topology_of core.now).queues }
         ensures same { self.new ≡ self.old }
         ensures some { IfSome result (λ p. IsPick (broker_of core.now) p) }
-        ensures none { result ≡ None → (p : Seat) → IsIn p self.old → IsPick (broker_of core.now) p → ⊥ }
+        ensures none { result ≡ None → (place : ℕ) (p : Seat) → IsIn p (ring_at self.old place) → IsPickFrom core.now place p → ⊥ }
     {
-        match first_round(core, &self.seats, self.next) {
-            Some(place) => {
-                self.next = place + 1;
-                Some(self.seats[place])
-            }
-            None => None,
-        }
+        let found = first_round(&mut self.rings, core, self.next)?;
+        self.next = found.queue + 1;
+        Some(found.pick)
     }
 }

@@ -2,7 +2,7 @@
 use Rattle.std.proofs.Common.{◌≡◌, ℕ, zero, suc, ◌+◌, ◌<◌, List, [], ◌∷◌, ◌++◌, length, get_or, set, take, drop, map, filter, find, count_by, refl, sym, ap, ◌∙◌, arith, Bool, true, false, cond, not, Option, Some, None}
 use Rattle.std.specs.Prelude.{◌||◌, ◌==◌}
 use Rattle.std.specs.List.{All, list_any}
-use Rattle.std.proofs.lemmas.List.Sums.{count_by-le-length, length-filter}
+use Rattle.std.proofs.lemmas.List.Sums.{count_by-le-length, length-filter, sum_by-cons}
 use Rattle.model.specs.Settling.{takes, is_refused, settled, kept}
 use Rattle.model.specs.Prefetch.{is_to, count_to, count_given}
 use Rattle.model.specs.declared.messages.Taker.{Taker}
@@ -182,6 +182,14 @@ counts_filtered p (s ∷ ss) given h = go (p s) (counts_filtered p ss given (tai
     go : (b : Bool) → counts_of (filter p ss) ≡ counts (consumers_of (filter p ss)) given → counts_of (cond b (s ∷ filter p ss) (filter p ss)) ≡ counts (consumers_of (cond b (s ∷ filter p ss) (filter p ss))) given
     go true e = ap (λ (n : ℕ). n ∷ counts_of (filter p ss)) (head_is _ _ _ _ h) ∙ ap (λ (ns : List ℕ). count_to taker_of s.consumer.number given ∷ ns) e
     go false e = e
+
+-- seats are counted by their consumers
+pub counted_of : (p : Consumer → Bool) (seats : List Seat) → count_by (λ (s : Seat). p s.consumer) seats ≡ count_by p (consumers_of seats)
+counted_of p [] = refl
+counted_of p (s ∷ ss) =
+    sum_by-cons (λ (x : Seat). cond (p x.consumer) 1 0) s ss
+    ∙ ap (λ (n : ℕ). cond (p s.consumer) 1 0 + n) (counted_of p ss)
+    ∙ sym (sum_by-cons (λ (x : Consumer). cond (p x) 1 0) s.consumer (consumers_of ss))
 
 pub any_named : (p : Consumer → Bool) (seats : List Seat) → list_any (λ (s : Seat). p s.consumer) seats ≡ list_any p (consumers_of seats)
 any_named p [] = refl

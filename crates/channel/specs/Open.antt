@@ -1,5 +1,5 @@
 -- An open channel as it is kept, with queues by their places in the file, and as the model has it, with queues by their names.
-use Rattle.std.specs.Prelude.{◌≡◌, ℕ, ◌+◌, ◌-◌, List, [], ◌∷◌, ◌++◌, map, filter, not, Bool, true, false, Option, Some, None, Result, Ok, Err, slice_index_or}
+use Rattle.std.specs.Prelude.{◌≡◌, ℕ, ◌+◌, ◌-◌, List, [], ◌∷◌, ◌++◌, map, filter, count_by, not, Bool, true, false, Option, Some, None, Result, Ok, Err, slice_index_or}
 use Rattle.model.specs.Words.{Text}
 use Rattle.model.specs.Topology.{IsIn}
 use Rattle.model.specs.Broker as seen
@@ -10,7 +10,7 @@ use Rattle.model.specs.declared.methods.Consume.{Consume}
 use Rattle.model.specs.declared.methods.Qos.{Qos}
 use Rattle.model.specs.declared.messages.Taker.{Taker}
 use Rattle.channel.specs.Outstanding.{tag_of}
-use Rattle.channel.specs.Seats.{is_named}
+use Rattle.channel.specs.Seats.{is_named, takes_from}
 use Rattle.channel.specs.Deliveries.{Given, with_limit, with_given}
 use Rattle.channel.specs.declared.pending.Outstanding.{Outstanding}
 use Rattle.channel.specs.declared.consumers.Consumer.{Consumer}
@@ -48,6 +48,10 @@ without_settled ch tag multiple room = record ch { given = record ch.given { out
 -- the channel without the consumers of this tag, and with so much room (AMQP 0-9-1, basic.cancel)
 abbrev pub without_named : Open → Text → ℕ → Open
 without_named ch tag seats = record ch { given = record ch.given { consumers = filter (λ c. not (is_named tag c)) ch.given.consumers; seats = seats } }
+
+-- how many of its consumers take from the queue at this place
+abbrev pub consumers_from : ℕ → Open → ℕ
+consumers_from queue ch = count_by (takes_from queue) ch.given.consumers
 
 -- what is outstanding, where queues have these names in the order of their places
 abbrev pub outstanding_in : List Text → Outstanding → seen.Outstanding

@@ -33,6 +33,10 @@ is_of number s = s.consumer.number == number
 abbrev pub is_named : Text → Consumer → Bool
 is_named name c = bytes_eq c.tag name
 
+-- the consumer takes from the queue at this place
+abbrev pub takes_from : ℕ → Consumer → Bool
+takes_from queue c = c.queue == queue
+
 -- the consumer there has this tag
 abbrev pub has_name : Text → Seat → Bool
 has_name name s = is_named name s.consumer

@@ -8,7 +8,7 @@ ghost use Rattle.model.specs.Step.{started, next_of, is_spent};
 ghost use Rattle.model.specs.Prefetch.{has_tag_left};
 ghost use Rattle.channel.specs.Outstanding.{tag_of};
 ghost use Rattle.channel.specs.Deliveries.{consumer_at};
-ghost use Rattle.channel.specs.Open.{nothing_given, limited, given_on, settled_on, without_settled, without_named, open_in, Seats, TellsTaker};
+ghost use Rattle.channel.specs.Open.{nothing_given, limited, given_on, settled_on, without_settled, without_named, consumers_from, open_in, Seats, TellsTaker};
 
 use crate::consumers::{Consumer, Refusal};
 use crate::deliveries::Deliveries;
@@ -163,6 +163,13 @@ impl Channel {
         ensures { result ≡ is_some (consumer_at self.now.given number) }
     {
         self.deliveries.has_number(number)
+    }
+
+    /// How many of its consumers take from the queue at this place.
+    pub fn consumers_from(&self, queue: usize) -> usize
+        ensures { result ≡ consumers_from queue self.now }
+    {
+        self.deliveries.consumers_from(queue)
     }
 
     /// Whether a delivery tag is left.

@@ -1,10 +1,10 @@
 //! The consumers of a channel, and what they may be given.
 
-ghost use Rattle.std.specs.Prelude.{cond, ◌≡◌, ◌<◌, ◌≤◌, ◌-◌, ◌^◌, map, find, filter, not, option_map, vec_len, vec_capacity};
+ghost use Rattle.std.specs.Prelude.{cond, ◌≡◌, ◌<◌, ◌≤◌, ◌-◌, ◌^◌, map, find, filter, count_by, not, option_map, vec_len, vec_capacity};
 ghost use Rattle.std.specs.List.{list_any, All};
 ghost use Rattle.model.specs.Prefetch.{is_to, is_delivery, is_below, count_to, count_given};
 ghost use Rattle.channel.specs.Outstanding.{taker_of};
-ghost use Rattle.channel.specs.Seats.{is_of, has_name, counted_in, counted_out, may_held};
+ghost use Rattle.channel.specs.Seats.{is_of, has_name, takes_from, counted_in, counted_out, may_held};
 
 use crate::pending::Outstanding;
 use model::{Taker, Text};
@@ -74,6 +74,13 @@ pub(crate) fn consumer_of(seats: &[Seat], number: u64) -> Option<&Consumer>
         Some(seat) => Some(&seat.consumer),
         None => None,
     }
+}
+
+/// How many take from the queue at this place.
+pub(crate) fn count_from(seats: &[Seat], queue: usize) -> usize
+    ensures { result ≡ count_by (λ s. takes_from queue s.consumer) seats.now }
+{
+    seats.iter().filter(|s| s.consumer.queue == queue).count()
 }
 
 /// Takes out the consumers of this tag.

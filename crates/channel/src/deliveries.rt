@@ -33,11 +33,11 @@ impl Model for Deliveries {
 }
 
 impl Deliveries {
-    ghost use Rattle.std.specs.Prelude.{◌≡◌, ◌<◌, ◌≤◌, ◌+◌, ◌-◌, [], true, filter, not, is_some, option_map, OnOk, OnErr};
+    ghost use Rattle.std.specs.Prelude.{◌≡◌, ◌<◌, ◌≤◌, ◌+◌, ◌-◌, [], true, filter, count_by, not, is_some, option_map, OnOk, OnErr};
     ghost use Rattle.model.specs.Settling.{settled, kept};
     ghost use Rattle.model.specs.Prefetch.{has_tag_left};
     ghost use Rattle.channel.specs.Outstanding.{tag_of};
-    ghost use Rattle.channel.specs.Seats.{AreNumbered, consumers_of, is_named};
+    ghost use Rattle.channel.specs.Seats.{AreNumbered, consumers_of, is_named, takes_from};
     ghost use Rattle.channel.specs.Deliveries.{with_given, with_limit, may_take, consumer_at, taker_at, Consumes, ConsumesUnnamed};
 
     /// Nothing was given out, there is no consumer and no limit. It takes no memory.
@@ -177,6 +177,13 @@ impl Deliveries {
         ensures { result ≡ is_some (consumer_at self.now number) }
     {
         self.seats.numbered(number).is_some()
+    }
+
+    /// How many of the consumers take from the queue at this place.
+    pub fn consumers_from(&self, queue: usize) -> usize
+        ensures { result ≡ count_by (takes_from queue) self.now.consumers }
+    {
+        self.seats.count_from(queue)
     }
 
     /// Makes a consumer of this tag. Tells its number. Refused, in this order: where a consumer of the channel has the tag

@@ -3,7 +3,7 @@
 ghost use Rattle.std.specs.Prelude.{◌≡◌};
 
 use crate::consumers::{
-    Consumer, Seat, consumer_of, count_in, count_out, given_to_all, is_in_use, may_one,
+    Consumer, Seat, consumer_of, count_from, count_in, count_out, given_to_all, is_in_use, may_one,
     one_if_consumed, take_out,
 };
 use crate::pending::Outstanding;
@@ -29,11 +29,11 @@ impl Model for Seats {
 }
 
 impl Seats {
-    ghost use Rattle.std.specs.Prelude.{◌≡◌, ◌+◌, ◌-◌, ◌<◌, ◌≤◌, ◌^◌, ◌++◌, ◌∷◌, [], ℕ, List, length, find, filter, not, ◌==◌, option_map, OnOk, OnErr};
+    ghost use Rattle.std.specs.Prelude.{◌≡◌, ◌+◌, ◌-◌, ◌<◌, ◌≤◌, ◌^◌, ◌++◌, ◌∷◌, [], ℕ, List, length, find, filter, count_by, not, ◌==◌, option_map, OnOk, OnErr};
     ghost use Rattle.std.specs.List.{list_any, All};
     ghost use Rattle.model.specs.Prefetch.{count_to};
     ghost use Rattle.channel.specs.Outstanding.{taker_of};
-    ghost use Rattle.channel.specs.Seats.{AreCounted, AreParts, consumers_of, is_named};
+    ghost use Rattle.channel.specs.Seats.{AreCounted, AreParts, consumers_of, is_named, takes_from};
     ghost use Rattle.channel.specs.Deliveries.{may_of};
     ghost use Rattle.channel.specs.declared.consumers.Consumer.{Consumer as One};
     ghost use Rattle.channel.specs.declared.pending.Outstanding.{Outstanding as Given};
@@ -68,6 +68,13 @@ impl Seats {
         ensures { result ≡ list_any (is_named tag.now) self.now.consumers }
     {
         is_in_use(&self.seats, tag)
+    }
+
+    /// How many take from the queue at this place.
+    pub(crate) fn count_from(&self, queue: usize) -> usize
+        ensures { result ≡ count_by (takes_from queue) self.now.consumers }
+    {
+        count_from(&self.seats, queue)
     }
 
     /// The consumer of this number.

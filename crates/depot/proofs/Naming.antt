@@ -6,7 +6,7 @@ use Rattle.std.specs.List.{position_or_len}
 use Rattle.std.proofs.lemmas.Grind.{common_steps}
 use Rattle.std.specs.Str.{bytes_eq}
 use Rattle.std.proofs.lemmas.Slice.Eq.{bytes_eq-Decides}
-use Rattle.std.proofs.lemmas.List.{append-nil, length-set}
+use Rattle.std.proofs.lemmas.List.{append-nil, length-set, get_or-set_other}
 use Rattle.model.specs.Words.{Text}
 use Rattle.model.specs.Topology.{Topology, queue_names, IsIn, AreApart, IsWellFormed}
 use Rattle.model.specs.Broker.{listed, is_at, limit_of, queue_named, is_full}
@@ -19,6 +19,7 @@ use Rattle.model.specs.declared.contents.Content.{Content}
 use Rattle.model.specs.declared.methods.Publish.{Publish}
 use Rattle.model.specs.declared.notes.Note.{Note}
 use Rattle.model.specs.declared.notes.Note.TheVariants.{Published, Entered, Refused}
+use Rattle.model.specs.declared.notes.Way.{Way}
 use Rattle.model.specs.declared.notes.Way.TheVariants as way
 use Rattle.queue.specs.Line.{ready_count}
 use Rattle.exchange_graph.specs.Targets.{names_at}
@@ -26,7 +27,7 @@ use Rattle.depot.specs.declared.turns.Turn.{Turn}
 use Rattle.depot.specs.declared.depots.Routed.{Routed}
 use Rattle.depot.specs.Store.{Store}
 use Rattle.depot.specs.Publishing.{Publishing}
-use Rattle.depot.specs.Turns.{turn_of, turn_at, limits, is_full_at, places, notes_of, is_refusal, no_turns, arriving, entered_one, entered, IsPlan, Enters}
+use Rattle.depot.specs.Turns.{Outcome, outcome_of, outcome, outcomes, turn_at, limits, is_full_at, places, notes_of, is_refusal, no_turns, arriving, entered_one, entered, IsPlan, Enters}
 
 -- ---- names
 
@@ -39,7 +40,7 @@ is_in [] i lt = absurd (omega arith)
 is_in (n ∷ ns) zero lt = inl refl
 is_in (n ∷ ns) (suc i) lt = inr (is_in ns i (omega arith))
 
-same_name : (a : Text) → bytes_eq a a ≡ true
+pub same_name : (a : Text) → bytes_eq a a ≡ true
 same_name a = (bytes_eq-Decides a a).1 refl
 
 pub other_name : (a b : Text) → (a ≡ b → ⊥) → bytes_eq a b ≡ false
@@ -49,7 +50,7 @@ other_name a b ne = go (bytes_eq a b) refl
     go true e = absurd (ne ((bytes_eq-Decides a b).0 e))
     go false e = refl
 
-later_name : (n : Text) (ns : List Text) (i : ℕ) → AreApart (n ∷ ns) → i < length ns → bytes_eq n (get_or ns i []) ≡ false
+pub later_name : (n : Text) (ns : List Text) (i : ℕ) → AreApart (n ∷ ns) → i < length ns → bytes_eq n (get_or ns i []) ≡ false
 later_name n ns i apart lt = other_name n (get_or ns i []) (λ e. apart.0 (subst (λ (z : Text). IsIn z ns) (sym e) (is_in ns i lt)))
 
 pub listed_at : (names : List Text) (lists : List (List Entry)) (i : ℕ) → AreApart names → length names ≡ length lists → i < length names → listed names lists (get_or names i []) ≡ get_or lists i []
@@ -120,10 +121,14 @@ ready_some qs lists name i at len =
 
 -- ---- the queues
 
--- what comes to the queue q by these turns
-abbrev pub arrivals : List Text → List Turn → Text → List Entry
+-- the place of each
+abbrev pub places_of : List Outcome → List ℕ
+places_of os = map (λ (o : Outcome). o.place) os
+
+-- what comes to the queue q by these outcomes
+abbrev pub arrivals : List Text → List Outcome → Text → List Entry
 arrivals names [] q = []
-arrivals names (t ∷ ts) q = cond (bytes_eq (get_or names t.place []) q) (arriving t.message) [] ++ arrivals names ts q
+arrivals names (o ∷ os) q = cond (bytes_eq (get_or names o.place []) q) (arriving o.message) [] ++ arrivals names os q
 
 listed-set : (names : List Text) (lists : List (List Entry)) (i : ℕ) (x : List Entry) (q : Text) → AreApart names → length names ≡ length lists → i < length names
     → listed names (set lists i (get_or lists i [] ++ x)) q ≡ listed names lists q ++ cond (bytes_eq (get_or names i []) q) x []
@@ -145,91 +150,141 @@ listed-set (n ∷ ns) (es ∷ ess) (suc i) x q apart len lt = go (bytes_eq n q) 
         sym (ap (λ (b : Bool). es ++ cond b x []) other ∙ append-nil es)
     go false is ih = ih
 
-listed-entered : (names : List Text) (ts : List Turn) (lists : List (List Entry)) (q : Text) → AreApart names → length names ≡ length lists → All (λ (i : ℕ). i < length names) (places ts)
-    → listed names (entered ts lists) q ≡ listed names lists q ++ arrivals names ts q
+listed-entered : (names : List Text) (os : List Outcome) (lists : List (List Entry)) (q : Text) → AreApart names → length names ≡ length lists → All (λ (i : ℕ). i < length names) (places_of os)
+    → listed names (entered os lists) q ≡ listed names lists q ++ arrivals names os q
 listed-entered names [] lists q apart len within = sym (append-nil (listed names lists q))
-listed-entered names (t ∷ ts) lists q apart len within =
-    let kept = length-set lists t.place (get_or lists t.place [] ++ arriving t.message) in
-    listed-entered names ts (entered_one t lists) q apart (omega arith) (λ i d lt. within (suc i) d (omega arith))
-    ∙ ap (λ (es : List Entry). es ++ arrivals names ts q) (listed-set names lists t.place (arriving t.message) q apart len (within 0 0 (omega arith)))
-    ∙ append_assoc (listed names lists q) (cond (bytes_eq (get_or names t.place []) q) (arriving t.message) []) (arrivals names ts q)
+listed-entered names (o ∷ os) lists q apart len within =
+    let kept = length-set lists o.place (get_or lists o.place [] ++ arriving o.message) in
+    listed-entered names os (entered_one o lists) q apart (omega arith) (λ i d lt. within (suc i) d (omega arith))
+    ∙ ap (λ (es : List Entry). es ++ arrivals names os q) (listed-set names lists o.place (arriving o.message) q apart len (within 0 0 (omega arith)))
+    ∙ append_assoc (listed names lists q) (cond (bytes_eq (get_or names o.place []) q) (arriving o.message) []) (arrivals names os q)
 
--- ---- the turns of a message, and what its publish does
+-- ---- the turns of a message
 
-one_arrives : (name : Text) (m : Message) (i : ℕ) (b f : Bool) (xs ys : List Entry) → xs ≡ ys
-    → cond b (arriving (turn_of name f m i).message) [] ++ xs ≡ cond (b && not f) (record { message = m; mark = Ready } ∷ ys) ys
-one_arrives name m i true true xs ys h = h
-one_arrives name m i true false xs ys h = ap (λ (zs : List Entry). record { message = m; mark = Ready } ∷ zs) h
-one_arrives name m i false true xs ys h = h
-one_arrives name m i false false xs ys h = h
+-- what becomes of the turn at this place
+abbrev pub outcome_at : Way → List DeclaredQueue → List (List Entry) → Message → ℕ → Outcome
+outcome_at how qs lists m i = outcome_of how (get_or (queue_names qs) i []) (is_full_at qs lists i) m i
 
-place_of_turn : (name : Text) (m : Message) (i : ℕ) (f : Bool) → (turn_of name f m i).place ≡ i
-place_of_turn name m i true = refl
-place_of_turn name m i false = refl
+one_arrives : (how : Way) (name : Text) (m : Message) (i : ℕ) (b f : Bool) (xs ys : List Entry) → xs ≡ ys
+    → cond b (arriving (outcome_of how name f m i).message) [] ++ xs ≡ cond (b && not f) (record { message = m; mark = Ready } ∷ ys) ys
+one_arrives how name m i true true xs ys h = h
+one_arrives how name m i true false xs ys h = ap (λ (zs : List Entry). record { message = m; mark = Ready } ∷ zs) h
+one_arrives how name m i false true xs ys h = h
+one_arrives how name m i false false xs ys h = h
 
-note_of_turn : (name : Text) (m : Message) (i : ℕ) (f : Bool) → (turn_of name f m i).note ≡ cond f (Refused m.number name) (Entered m.number name way.Publish)
-note_of_turn name m i true = refl
-note_of_turn name m i false = refl
+place_of_outcome : (how : Way) (name : Text) (m : Message) (i : ℕ) (f : Bool) → (outcome_of how name f m i).place ≡ i
+place_of_outcome how name m i true = refl
+place_of_outcome how name m i false = refl
 
-refusal_of_turn : (name : Text) (m : Message) (i : ℕ) (f : Bool) → is_refusal (turn_of name f m i) ≡ f
-refusal_of_turn name m i true = refl
-refusal_of_turn name m i false = refl
+note_of_outcome : (how : Way) (name : Text) (m : Message) (i : ℕ) (f : Bool) → (outcome_of how name f m i).note ≡ cond f (Refused m.number name) (Entered m.number name how)
+note_of_outcome how name m i true = refl
+note_of_outcome how name m i false = refl
+
+refusal_of_outcome : (how : Way) (name : Text) (m : Message) (i : ℕ) (f : Bool) → is_refusal (outcome_of how name f m i) ≡ f
+refusal_of_outcome how name m i true = refl
+refusal_of_outcome how name m i false = refl
 
 -- the places of the turns are the targets
-pub places_of_turns : (qs : List DeclaredQueue) (lists : List (List Entry)) (m : Message) (targets : List ℕ) → places (map (turn_at qs lists m) targets) ≡ targets
-places_of_turns qs lists m [] = refl
-places_of_turns qs lists m (i ∷ is) =
-    ap (λ (j : ℕ). j ∷ places (map (turn_at qs lists m) is)) (place_of_turn (get_or (queue_names qs) i []) m i (is_full_at qs lists i))
-    ∙ ap (λ (js : List ℕ). i ∷ js) (places_of_turns qs lists m is)
+pub places_of_turns : (qs : List DeclaredQueue) (m : Message) (targets : List ℕ) → places (map (turn_at qs m) targets) ≡ targets
+places_of_turns qs m [] = refl
+places_of_turns qs m (i ∷ is) = ap (λ (js : List ℕ). i ∷ js) (places_of_turns qs m is)
 
-plan_places : (t : Topology) (lists : List (List Entry)) (p : Publish) (m : Message) (turns : List Turn) (plan : IsPlan t lists p m turns) → places turns ≡ plan.targets
-plan_places t lists p m turns plan = ap places plan.turned ∙ places_of_turns t.queues lists m plan.targets
+places_of_outcomes : (how : Way) (qs : List DeclaredQueue) (lists : List (List Entry)) (m : Message) (targets : List ℕ) → places_of (map (outcome_at how qs lists m) targets) ≡ targets
+places_of_outcomes how qs lists m [] = refl
+places_of_outcomes how qs lists m (i ∷ is) =
+    ap (λ (j : ℕ). j ∷ places_of (map (outcome_at how qs lists m) is)) (place_of_outcome how (get_or (queue_names qs) i []) m i (is_full_at qs lists i))
+    ∙ ap (λ (js : List ℕ). i ∷ js) (places_of_outcomes how qs lists m is)
 
-pub plan_within : (t : Topology) (lists : List (List Entry)) (p : Publish) (m : Message) (turns ts : List Turn) (n : ℕ) → IsPlan t lists p m turns → ts ≡ turns → n ≡ length t.queues → All (λ (i : ℕ). i < n) (places ts)
-plan_within t lists p m turns ts n plan same len =
-    subst (λ (is : List ℕ). All (λ (i : ℕ). i < n) is) (sym (ap places same ∙ plan_places t lists p m turns plan)) (subst (λ (k : ℕ). All (λ (i : ℕ). i < k) plan.targets) (sym len) plan.routed.within)
+pub turned_within : (t : Topology) (m : Message) (targets : List ℕ) (turns ts : List Turn) (n : ℕ) → turns ≡ map (turn_at t.queues m) targets → All (λ (i : ℕ). i < length t.queues) targets → ts ≡ turns → n ≡ length t.queues → All (λ (i : ℕ). i < n) (places ts)
+turned_within t m targets turns ts n turned within same len =
+    subst (λ (is : List ℕ). All (λ (i : ℕ). i < n) is) (sym (ap places (same ∙ turned) ∙ places_of_turns t.queues m targets)) (subst (λ (k : ℕ). All (λ (i : ℕ). i < k) targets) (sym len) within)
 
-pub plan_rising : (t : Topology) (lists : List (List Entry)) (p : Publish) (m : Message) (turns : List Turn) → IsPlan t lists p m turns → AllPairs (λ (i j : ℕ). i < j) (places turns)
-plan_rising t lists p m turns plan = subst (AllPairs (λ (i j : ℕ). i < j)) (sym (plan_places t lists p m turns plan)) plan.routed.rising
+pub turned_rising : (t : Topology) (m : Message) (targets : List ℕ) (turns ts : List Turn) → turns ≡ map (turn_at t.queues m) targets → AllPairs (λ (i j : ℕ). i < j) targets → ts ≡ turns → AllPairs (λ (i j : ℕ). i < j) (places ts)
+turned_rising t m targets turns ts turned rising same = subst (AllPairs (λ (i j : ℕ). i < j)) (sym (ap places (same ∙ turned) ∙ places_of_turns t.queues m targets)) rising
 
-arrive : (t : Topology) (lists : List (List Entry)) (m : Message) (q : Text) (targets : List ℕ) → AreApart (queue_names t.queues) → length lists ≡ length t.queues → All (λ (i : ℕ). i < length t.queues) targets
-    → arrivals (queue_names t.queues) (map (turn_at t.queues lists m) targets) q ≡ comes_to t (listed (queue_names t.queues) lists) m q (names_at (queue_names t.queues) targets)
-arrive t lists m q [] apart len within = refl
-arrive t lists m q (i ∷ is) apart len within =
+-- where the places rise, each queue is found as it was before the first turn
+outcomes_start : (how : Way) (qs : List DeclaredQueue) (m : Message) (targets : List ℕ) (lists now : List (List Entry)) → AllPairs (λ (i j : ℕ). i < j) targets
+    → ((k : ℕ) → k < length targets → get_or now (get_or targets k 0) [] ≡ get_or lists (get_or targets k 0) [])
+    → outcomes how qs (map (turn_at qs m) targets) now ≡ map (outcome_at how qs lists m) targets
+outcomes_start how qs m [] lists now rising same = refl
+outcomes_start how qs m (i ∷ is) lists now rising same =
+    let first : outcome how qs now (turn_at qs m i) ≡ outcome_at how qs lists m i
+    = ap (λ (es : List Entry). outcome_of how (get_or (queue_names qs) i []) (is_at (get_or (limits qs) i None) (ready_count es)) m i) (same 0 (omega arith)) in
+    let here = place_of_outcome how (get_or (queue_names qs) i []) m i (is_full_at qs now i) in
+    ap (λ (o : Outcome). o ∷ outcomes how qs (map (turn_at qs m) is) (entered_one (outcome how qs now (turn_at qs m i)) now)) first
+    ∙ ap (λ (os : List Outcome). outcome_at how qs lists m i ∷ os)
+    (outcomes_start how qs m is lists (entered_one (outcome how qs now (turn_at qs m i)) now) (λ j k d lt within. rising (suc j) (suc k) d (omega arith) (omega arith))
+    (λ k lt.
+    let later : i < get_or is k 0 = rising 0 (suc k) 0 (omega arith) (omega arith) in
+    get_or-set_other now (outcome how qs now (turn_at qs m i)).place (get_or is k 0) _ [] (λ e. absurd (omega (arith, later, here, e)))
+    ∙ same (suc k) (omega arith)))
+
+pub turned : (t : Topology) (how : Way) (lists : List (List Entry)) (exchange key : Text) (m : Message) (turns : List Turn) (plan : IsPlan t exchange key m turns)
+    → outcomes how t.queues turns lists ≡ map (outcome_at how t.queues lists m) plan.targets
+turned t how lists exchange key m turns plan =
+    ap (λ (ts : List Turn). outcomes how t.queues ts lists) plan.turned ∙ outcomes_start how t.queues m plan.targets lists lists plan.routed.rising (λ k lt. refl)
+
+arrive : (t : Topology) (how : Way) (lists : List (List Entry)) (m : Message) (q : Text) (targets : List ℕ) → AreApart (queue_names t.queues) → length lists ≡ length t.queues → All (λ (i : ℕ). i < length t.queues) targets
+    → arrivals (queue_names t.queues) (map (outcome_at how t.queues lists m) targets) q ≡ comes_to t (listed (queue_names t.queues) lists) m q (names_at (queue_names t.queues) targets)
+arrive t how lists m q [] apart len within = refl
+arrive t how lists m q (i ∷ is) apart len within =
     let names = queue_names t.queues in
     let name = get_or names i [] in
     let full = is_full_at t.queues lists i in
     let later = comes_to t (listed names lists) m q (names_at names is) in
-    ap (λ (j : ℕ). cond (bytes_eq (get_or names j []) q) (arriving (turn_of name full m i).message) [] ++ arrivals names (map (turn_at t.queues lists m) is) q) (place_of_turn name m i full)
-    ∙ one_arrives name m i (bytes_eq name q) full _ later (arrive t lists m q is apart len (λ k d lt. within (suc k) d (omega arith)))
+    ap (λ (j : ℕ). cond (bytes_eq (get_or names j []) q) (arriving (outcome_of how name full m i).message) [] ++ arrivals names (map (outcome_at how t.queues lists m) is) q) (place_of_outcome how name m i full)
+    ∙ one_arrives how name m i (bytes_eq name q) full _ later (arrive t how lists m q is apart len (λ k d lt. within (suc k) d (omega arith)))
     ∙ ap (λ (f : Bool). cond (bytes_eq name q && not f) (record { message = m; mark = Ready } ∷ later) later) (sym (full_at t lists i (length m.content.body) apart len (within 0 0 (omega arith))))
 
-note : (t : Topology) (lists : List (List Entry)) (m : Message) (size : ℕ) (targets : List ℕ) → AreApart (queue_names t.queues) → length lists ≡ length t.queues → All (λ (i : ℕ). i < length t.queues) targets
-    → notes_of (map (turn_at t.queues lists m) targets) ≡ entry_notes t (listed (queue_names t.queues) lists) size m.number way.Publish (names_at (queue_names t.queues) targets)
-note t lists m size [] apart len within = refl
-note t lists m size (i ∷ is) apart len within =
+note : (t : Topology) (how : Way) (lists : List (List Entry)) (m : Message) (size : ℕ) (targets : List ℕ) → AreApart (queue_names t.queues) → length lists ≡ length t.queues → All (λ (i : ℕ). i < length t.queues) targets
+    → notes_of (map (outcome_at how t.queues lists m) targets) ≡ entry_notes t (listed (queue_names t.queues) lists) size m.number how (names_at (queue_names t.queues) targets)
+note t how lists m size [] apart len within = refl
+note t how lists m size (i ∷ is) apart len within =
     let names = queue_names t.queues in
     let name = get_or names i [] in
     let full = is_full_at t.queues lists i in
-    let later = entry_notes t (listed names lists) size m.number way.Publish (names_at names is) in
-    ap (λ (ns : List Note). (turn_of name full m i).note ∷ ns) (note t lists m size is apart len (λ k d lt. within (suc k) d (omega arith)))
-    ∙ ap (λ (n : Note). n ∷ later) (note_of_turn name m i full)
-    ∙ ap (λ (f : Bool). cond f (Refused m.number name) (Entered m.number name way.Publish) ∷ later) (sym (full_at t lists i size apart len (within 0 0 (omega arith))))
+    let later = entry_notes t (listed names lists) size m.number how (names_at names is) in
+    ap (λ (ns : List Note). (outcome_of how name full m i).note ∷ ns) (note t how lists m size is apart len (λ k d lt. within (suc k) d (omega arith)))
+    ∙ ap (λ (n : Note). n ∷ later) (note_of_outcome how name m i full)
+    ∙ ap (λ (f : Bool). cond f (Refused m.number name) (Entered m.number name how) ∷ later) (sym (full_at t lists i size apart len (within 0 0 (omega arith))))
 
-refuse : (t : Topology) (lists : List (List Entry)) (m : Message) (size : ℕ) (targets : List ℕ) → AreApart (queue_names t.queues) → length lists ≡ length t.queues → All (λ (i : ℕ). i < length t.queues) targets
-    → list_any is_refusal (map (turn_at t.queues lists m) targets) ≡ list_any (λ (q : Text). is_full t (listed (queue_names t.queues) lists) q size) (names_at (queue_names t.queues) targets)
-refuse t lists m size [] apart len within = refl
-refuse t lists m size (i ∷ is) apart len within =
+refuse : (t : Topology) (how : Way) (lists : List (List Entry)) (m : Message) (size : ℕ) (targets : List ℕ) → AreApart (queue_names t.queues) → length lists ≡ length t.queues → All (λ (i : ℕ). i < length t.queues) targets
+    → list_any is_refusal (map (outcome_at how t.queues lists m) targets) ≡ list_any (λ (q : Text). is_full t (listed (queue_names t.queues) lists) q size) (names_at (queue_names t.queues) targets)
+refuse t how lists m size [] apart len within = refl
+refuse t how lists m size (i ∷ is) apart len within =
     let names = queue_names t.queues in
     let name = get_or names i [] in
     let full = is_full_at t.queues lists i in
     let later = list_any (λ (q : Text). is_full t (listed names lists) q size) (names_at names is) in
-    ap (λ (b : Bool). is_refusal (turn_of name full m i) || b) (refuse t lists m size is apart len (λ k d lt. within (suc k) d (omega arith)))
-    ∙ ap (λ (b : Bool). b || later) (refusal_of_turn name m i full ∙ sym (full_at t lists i size apart len (within 0 0 (omega arith))))
+    ap (λ (b : Bool). is_refusal (outcome_of how name full m i) || b) (refuse t how lists m size is apart len (λ k d lt. within (suc k) d (omega arith)))
+    ∙ ap (λ (b : Bool). b || later) (refusal_of_outcome how name m i full ∙ sym (full_at t lists i size apart len (within 0 0 (omega arith))))
 
-nothing : (t : Topology) (lists : List (List Entry)) (m : Message) (targets : List ℕ) → no_turns (map (turn_at t.queues lists m) targets) ≡ is_none (names_at (queue_names t.queues) targets)
-nothing t lists m [] = refl
-nothing t lists m (i ∷ is) = refl
+nothing : (qs : List DeclaredQueue) (m : Message) (targets : List ℕ) → no_turns (map (turn_at qs m) targets) ≡ is_none (names_at (queue_names qs) targets)
+nothing qs m [] = refl
+nothing qs m (i ∷ is) = refl
+
+-- ---- by the names of the queues
+
+-- what is noted of a message that comes to its queues
+pub noted_by_names : (t : Topology) (how : Way) (lists : List (List Entry)) (exchange key : Text) (m : Message) (turns : List Turn) (plan : IsPlan t exchange key m turns) (size : ℕ)
+    → AreApart (queue_names t.queues) → length lists ≡ length t.queues
+    → notes_of (outcomes how t.queues turns lists) ≡ entry_notes t (listed (queue_names t.queues) lists) size m.number how (names_at (queue_names t.queues) plan.targets)
+noted_by_names t how lists exchange key m turns plan size apart len = ap notes_of (turned t how lists exchange key m turns plan) ∙ note t how lists m size plan.targets apart len plan.routed.within
+
+-- and what each queue has then
+pub entered_by_names : (t : Topology) (how : Way) (lists : List (List Entry)) (exchange key : Text) (m : Message) (turns : List Turn) (plan : IsPlan t exchange key m turns) (q : Text)
+    → AreApart (queue_names t.queues) → length lists ≡ length t.queues
+    → listed (queue_names t.queues) (entered (outcomes how t.queues turns lists) lists) q
+    ≡ listed (queue_names t.queues) lists q ++ comes_to t (listed (queue_names t.queues) lists) m q (names_at (queue_names t.queues) plan.targets)
+entered_by_names t how lists exchange key m turns plan q apart len =
+    let names = queue_names t.queues in
+    let long = names-length t.queues in
+    let os = map (outcome_at how t.queues lists m) plan.targets in
+    let within : All (λ (i : ℕ). i < length names) (places_of os)
+    = subst (λ (is : List ℕ). All (λ (i : ℕ). i < length names) is) (sym (places_of_outcomes how t.queues lists m plan.targets)) (subst (λ (k : ℕ). All (λ (i : ℕ). i < k) plan.targets) (sym long) plan.routed.within) in
+    ap (λ (xs : List Outcome). listed names (entered xs lists) q) (turned t how lists exchange key m turns plan)
+    ∙ listed-entered names os lists q apart (omega arith) within
+    ∙ ap (λ (es : List Entry). listed names lists q ++ es) (arrive t how lists m q plan.targets apart len plan.routed.within)
 
 -- what was done by places is the publish
 pub published : (old new : Store) (c h : ℕ) (p : Publish) (content : Content) (confirm : Option ℕ) (before after : List Note) (routed : Routed)
@@ -245,25 +300,21 @@ published old new c h p content confirm before after routed formed len counted s
     let apart = formed.queues_apart in
     let targets = e.plan.targets in
     let within = e.plan.routed.within in
-    let turned = e.plan.turned in
-    let long = names-length t.queues in
-    let places_within : All (λ (i : ℕ). i < length names) (places e.turns)
-    = plan_within t lists p m e.turns e.turns (length names) e.plan refl long in
+    let first = Published (old.published + 1) c h p.exchange p.routing_key confirm in
     record {
-      noted = Published (old.published + 1) c h p.exchange p.routing_key confirm ∷ notes_of e.turns;
+      noted = first ∷ notes_of (outcomes way.Publish t.queues e.turns lists);
       appended = e.notes;
       publishes = record {
         targets = names_at names targets;
         picked = e.plan.routed.picked;
-        notes = ap (λ (ns : List Note). Published (old.published + 1) c h p.exchange p.routing_key confirm ∷ ns) (ap notes_of turned ∙ note t lists m size targets apart len within);
-        none = e.none ∙ ap no_turns turned ∙ nothing t lists m targets;
-        full = e.full ∙ ap (list_any is_refusal) turned ∙ refuse t lists m size targets apart len within;
+        notes = ap (λ (ns : List Note). first ∷ ns) (noted_by_names t way.Publish lists p.exchange p.routing_key m e.turns e.plan size apart len);
+        none = e.none ∙ ap no_turns e.plan.turned ∙ nothing t.queues m targets;
+        full = e.full ∙ ap (list_any is_refusal) (turned t way.Publish lists p.exchange p.routing_key m e.turns e.plan) ∙ refuse t way.Publish lists m size targets apart len within;
         counted = counted;
         topology = same;
         queues = λ q.
             ap (λ (u : Topology). listed (queue_names u.queues) new.queues q) same
             ∙ ap (λ (ess : List (List Entry)). listed names ess q) e.entries
-            ∙ listed-entered names e.turns lists q apart (omega arith) places_within
-            ∙ ap (λ (es : List Entry). listed names lists q ++ es) (ap (λ (ts : List Turn). arrivals names ts q) turned ∙ arrive t lists m q targets apart len within);
+            ∙ entered_by_names t way.Publish lists p.exchange p.routing_key m e.turns e.plan q apart len;
       };
     }

@@ -1,15 +1,19 @@
--- Turns, one after another.
-use Rattle.std.proofs.Common.{◌≡◌, ◌≢◌, ℕ, zero, suc, ◌+◌, ◌<◌, ◌≤◌, List, [], ◌∷◌, ◌++◌, length, get_or, set, refl, sym, ap, subst, ◌∙◌, arith, Option, Some, None, All, AllPairs, inl, inr}
+-- Turns, one after another, and the room for them.
+use Rattle.std.proofs.Common.{◌≡◌, ℕ, zero, suc, ◌+◌, ◌<◌, ◌≤◌, List, [], ◌∷◌, ◌++◌, Bool, true, false, cond, length, get_or, set, refl, sym, ap, ◌∙◌, arith, All, AllPairs, inl, inr, ◌⊎◌}
+use Rattle.std.specs.Prelude.{◌==◌, ◌||◌}
+use Rattle.std.proofs.lemmas.Bool.{eqb-true, ne_eqb}
 use Rattle.std.proofs.lemmas.Bool.Decides.{eqb_tells}
-use Rattle.std.proofs.lemmas.List.{append-nil, get_or_default, get_or-set_same, get_or-set_other}
-use Rattle.model.specs.declared.messages.Entry.{Entry}
+use Rattle.std.proofs.lemmas.List.{append-nil, get_or-set_other}
 use Rattle.model.specs.Message.{Message}
+use Rattle.model.specs.Words.{Text}
+use Rattle.model.specs.declared.messages.Entry.{Entry}
 use Rattle.model.specs.declared.messages.Mark.TheVariants.{Ready}
+use Rattle.model.specs.declared.notes.Note.{Note}
+use Rattle.model.specs.declared.notes.Note.TheVariants.{Entered, Refused}
+use Rattle.model.specs.declared.notes.Way.{Way}
 use Rattle.queue.specs.Line.{Line}
 use Rattle.depot.specs.declared.turns.Turn.{Turn}
-use Rattle.depot.specs.Store.{entries_of}
-use Rattle.depot.specs.Turns.{places, entered_one, arriving, no_line, HasRoom}
-use Rattle.depot.proofs.Changes.{entries_of-at, entries_of-set}
+use Rattle.depot.specs.Turns.{places, outcome_of, is_refusal, entered_one, room_at, no_line, times, HasRoom, IsRoomy}
 
 pub place_is : (ts : List Turn) (i : ℕ) (t : Turn) → i < length ts → t ≡ get_or ts i t → get_or (places ts) i 0 ≡ t.place
 place_is ts i t lt is = at ts i t lt ∙ ap (λ (s : Turn). s.place) (sym is)
@@ -31,18 +35,26 @@ set_same (x ∷ xs) zero d = refl
 set_same (x ∷ xs) (suc i) d = ap (λ (ys : List _). x ∷ ys) (set_same xs i d)
 
 -- the message comes
-pub entered_taken : (lines : List Line) (t : Turn) (m : Message) (l d : Line) → t.place < length lines → t.message ≡ Some m → l.entries ≡ (get_or lines t.place d).entries ++ record { message = m; mark = Ready } ∷ []
-    → entries_of (set lines t.place l) ≡ entered_one t (entries_of lines)
-entered_taken lines t m l d lt is new =
-    entries_of-set lines t.place l _ (new ∙ ap (λ (es : List Entry). es ++ record { message = m; mark = Ready } ∷ []) (sym (entries_of-at lines t.place d lt)))
-    ∙ ap (λ (o : Option Message). set (entries_of lines) t.place (get_or (entries_of lines) t.place [] ++ arriving o)) (sym is)
+pub entered_taken : (how : Way) (name : Text) (full : Bool) (m : Message) (place : ℕ) (es : List (List Entry)) → full ≡ false
+    → set es place (get_or es place [] ++ record { message = m; mark = Ready } ∷ []) ≡ entered_one (outcome_of how name full m place) es
+entered_taken how name full m place es is = ap (λ (b : Bool). entered_one (outcome_of how name b m place) es) (sym is)
 
 -- it is refused
-pub entered_refused : (es : List (List Entry)) (t : Turn) → t.message ≡ None → es ≡ entered_one t es
-entered_refused es t is =
-    sym (ap (λ (o : Option Message). set es t.place (get_or es t.place [] ++ arriving o)) is
-    ∙ ap (λ (xs : List Entry). set es t.place xs) (append-nil (get_or es t.place []))
-    ∙ set_same es t.place [])
+pub entered_refused : (how : Way) (name : Text) (full : Bool) (m : Message) (place : ℕ) (es : List (List Entry)) → full ≡ true → es ≡ entered_one (outcome_of how name full m place) es
+entered_refused how name full m place es is =
+    sym (ap (λ (b : Bool). entered_one (outcome_of how name b m place) es) is
+    ∙ ap (λ (xs : List Entry). set es place xs) (append-nil (get_or es place []))
+    ∙ set_same es place [])
+
+pub taken_note : (how : Way) (name : Text) (full : Bool) (m : Message) (place : ℕ) → full ≡ false → Entered m.number name how ≡ (outcome_of how name full m place).note
+taken_note how name full m place is = ap (λ (b : Bool). (outcome_of how name b m place).note) (sym is)
+
+pub refused_note : (how : Way) (name : Text) (full : Bool) (m : Message) (place : ℕ) → full ≡ true → Refused m.number name ≡ (outcome_of how name full m place).note
+refused_note how name full m place is = ap (λ (b : Bool). (outcome_of how name b m place).note) (sym is)
+
+pub refusal_is : (how : Way) (name : Text) (full : Bool) (m : Message) (place : ℕ) → is_refusal (outcome_of how name full m place) ≡ full
+refusal_is how name true m place = refl
+refusal_is how name false m place = refl
 
 -- ---- the others
 
@@ -52,39 +64,95 @@ within_rest n i is h = λ k d lt. h (suc k) d (omega arith)
 pub rising_rest : (i : ℕ) (is : List ℕ) → AllPairs (λ (j k : ℕ). j < k) (i ∷ is) → AllPairs (λ (j k : ℕ). j < k) is
 rising_rest i is h = λ j k d lt within. h (suc j) (suc k) d (omega arith) (omega arith)
 
-pub room_rest : (old new : List Line) (i : ℕ) (is : List ℕ) → AllPairs (λ (j k : ℕ). j < k) (i ∷ is) → HasRoom old (i ∷ is)
-    → ((k : ℕ) → k ≢ i → get_or new k no_line ≡ get_or old k no_line) → HasRoom new is
-room_rest old new i is rising room others = λ k lt.
-    let later : i < get_or is k 0 = rising 0 (suc k) 0 (omega arith) (omega arith) in
-    subst (λ (l : Line). 0 < l.room) (sym (others (get_or is k 0) (λ e. absurd (omega arith)))) (room (suc k) (omega arith))
+pub or_assoc : (a b c : Bool) → ((a || b) || c) ≡ (a || (b || c))
+or_assoc true b c = refl
+or_assoc false b c = refl
 
--- the queue at this place has room now, and none has lost any
-pub room_kept : (lines : List Line) (i : ℕ) (l d : Line) → i < length lines → d ≡ get_or lines i d → d.room ≤ l.room → (k : ℕ) → (get_or lines k no_line).room ≤ (get_or (set lines i l) k no_line).room
-room_kept lines i l d lt is more k = elim (eqb_tells k i) [
+-- ---- room
+
+written : (lines : List Line) (i : ℕ) (l d : Line) (n : ℕ) → (get_or lines i d).room ≤ l.room + n → (get_or lines i no_line).room ≤ (get_or (set lines i l) i no_line).room + n
+written [] i l d n h = omega arith
+written (x ∷ xs) zero l d n h = h
+written (x ∷ xs) (suc i) l d n h = written xs i l d n h
+
+-- a queue is written whose room is less by at most so many
+pub room_write : (lines : List Line) (i k : ℕ) (l d : Line) (n : ℕ) → (get_or lines i d).room ≤ l.room + n → (get_or lines k no_line).room ≤ (get_or (set lines i l) k no_line).room + cond (k == i) n 0
+room_write lines i k l d n h = elim (eqb_tells k i) [
   | inl e ↦
-      let was : (get_or lines k no_line).room ≡ d.room = ap (λ (j : ℕ). (get_or lines j no_line).room) e.1 ∙ ap (λ (m : Line). m.room) (get_or_default lines i no_line d lt ∙ sym is) in
-      let now : (get_or (set lines i l) k no_line).room ≡ l.room = ap (λ (j : ℕ). (get_or (set lines i l) j no_line).room) e.1 ∙ ap (λ (m : Line). m.room) (get_or-set_same lines i l no_line lt) in
-      omega arith
-  | inr e ↦
-      let same : (get_or (set lines i l) k no_line).room ≡ (get_or lines k no_line).room = ap (λ (m : Line). m.room) (get_or-set_other lines i k l no_line e.1) in
-      omega arith
+      (let all = ap (λ (b : Bool). cond b n 0) e.0 in
+      let was = ap (λ (m : ℕ). (get_or lines m no_line).room) e.1 in
+      let now = ap (λ (m : ℕ). (get_or (set lines i l) m no_line).room) e.1 in
+      let here = written lines i l d n h in
+      omega (arith, all, was, now, here))
+  | inr e ↦ (let same = ap (λ (x : Line). x.room) (get_or-set_other lines i k l no_line e.1) in omega (arith, same))
 ]
 
--- room is made at one more place
-pub room_more : (lines : List Line) (is : List ℕ) (i j p : ℕ) (l d : Line) → j ≡ i + 1 → get_or is i 0 ≡ p → p < length lines → d ≡ get_or lines p d → d.room ≤ l.room → 0 < l.room
-    → ((k : ℕ) → k < i → 0 < (get_or lines (get_or is k 0) no_line).room)
-    → (k : ℕ) → k < j → 0 < (get_or (set lines p l) (get_or is k 0) no_line).room
-room_more lines is i j p l d step at within was more some before k lt = elim (eqb_tells k i) [
-  | inl e ↦
-      let now : (get_or (set lines p l) (get_or is k 0) no_line).room ≡ l.room
-      = ap (λ (n : ℕ). (get_or (set lines p l) (get_or is n 0) no_line).room) e.1 ∙ ap (λ (n : ℕ). (get_or (set lines p l) n no_line).room) at ∙ ap (λ (m : Line). m.room) (get_or-set_same lines p l no_line within) in
-      omega arith
-  | inr e ↦
-      let other = e.1 in
-      let had = before k (nearer k i j step lt other) in
-      let kept = room_kept lines p l d within was more (get_or is k 0) in
-      omega arith
-]
+none_if : (b : Bool) → cond {A = ℕ} b 0 0 ≡ 0
+none_if true = refl
+none_if false = refl
+
+-- .. or no less
+pub room_kept : (lines : List Line) (i k : ℕ) (l d : Line) → (get_or lines i d).room ≤ l.room → (get_or lines k no_line).room ≤ (get_or (set lines i l) k no_line).room
+room_kept lines i k l d h = let le = room_write lines i k l d 0 (omega (arith, h)) in let none = none_if (k == i) in omega (arith, le, none)
+
+-- 1 for yes, 0 for no
+abbrev one_if : Bool → ℕ
+one_if b = cond b 1 0
+
+-- a place below all of these is none of them
+times_above : (k : ℕ) (is : List ℕ) → ((j : ℕ) → j < length is → k < get_or is j 0) → times k is ≡ 0
+times_above k [] above = refl
+times_above k (i ∷ is) above =
+    let lt : k < i = above 0 (omega arith) in
+    let other : (k == i) ≡ false = ne_eqb k i (λ e. absurd (omega (arith, lt, e))) in
+    let here : one_if (k == i) ≡ 0 = ap one_if other in
+    let later : times k is ≡ 0 = times_above k is (λ j l. above (suc j) (omega arith)) in
+    omega (arith, here, later)
+
+-- of rising places each is there once
+pub times_rising : (k : ℕ) (is : List ℕ) → AllPairs (λ (i j : ℕ). i < j) is → times k is ≤ 1
+times_rising k [] rising = omega arith
+times_rising k (i ∷ is) rising = go (k == i) refl (times_rising k is (rising_rest i is rising))
   where
-    nearer : (n a b : ℕ) → b ≡ a + 1 → n < b → (n ≡ a → ⊥) → n < a
-    nearer n a b e h ne = omega arith
+    go : (b : Bool) → (k == i) ≡ b → times k is ≤ 1 → cond b 1 0 + times k is ≤ 1
+    go true e le =
+        let same : k ≡ i = eqb-true k i e in
+        let none = times_above k is (λ j l. let lt : i < get_or is j 0 = rising 0 (suc j) 0 (omega arith) (omega arith) in omega (arith, lt, same)) in
+        omega (arith, none)
+    go false e le = omega (arith, le)
+
+-- a place is one of these or is not
+pub times_or : (k : ℕ) (is : List ℕ) → (times k is ≡ 0) ⊎ ((j : ℕ) × (j < length is) × (get_or is j 0 ≡ k))
+times_or k [] = inl refl
+times_or k (i ∷ is) = elim (eqb_tells k i) [
+  | inl e ↦ inr (0, omega arith, sym e.1)
+  | inr e ↦ (elim (times_or k is) [
+    | inl none ↦ inl (let here : one_if (k == i) ≡ 0 = ap one_if e.0 in omega (arith, here, none))
+    | inr there ↦ inr (suc there.0, (let lt = there.1 in omega (arith, lt)), there.2)
+  ])
+]
+
+-- there is room wherever there is room for as many as may come
+pub roomy : (lines : List Line) (is : List ℕ) (n : ℕ) → HasRoom lines is n → ((k : ℕ) → times k is ≤ n) → IsRoomy lines is
+roomy lines is n room few k = elim (times_or k is) [
+  | inl none ↦ omega (arith, none)
+  | inr there ↦ (let enough = room there.0 there.1 in let at = ap (λ (p : ℕ). room_at lines p) there.2 in let most = few k in omega (arith, enough, at, most))
+]
+
+pub room_grown : (lines now : List Line) (is : List ℕ) (n : ℕ) → ((k : ℕ) → room_at lines k ≤ room_at now k) → HasRoom lines is n → HasRoom now is n
+room_grown lines now is n grown room k lt = let had = room k lt in let more = grown (get_or is k 0) in omega (arith, had, more)
+
+-- room is made at one more place, and none is lost
+pub room_more : (lines now : List Line) (is : List ℕ) (n i j p : ℕ) → j ≡ i + 1 → get_or is i 0 ≡ p → n ≤ room_at now p
+    → ((k : ℕ) → room_at lines k ≤ room_at now k) → ((k : ℕ) → k < i → n ≤ room_at lines (get_or is k 0)) → (k : ℕ) → k < j → n ≤ room_at now (get_or is k 0)
+room_more lines now is n i j p step at some kept before k lt = elim (eqb_tells k i) [
+  | inl e ↦ (let here = ap (λ (m : ℕ). room_at now (get_or is m 0)) e.1 in let there = ap (λ (m : ℕ). room_at now m) at in omega (arith, here, there, some))
+  | inr e ↦ (let other = e.1 in let had = before k (omega arith) in let more = kept (get_or is k 0) in omega arith)
+]
+
+-- the first place is one of these
+pub here_once : (i : ℕ) (is : List ℕ) → 1 ≤ times i (i ∷ is)
+here_once i is = elim (eqb_tells i i) [
+  | inl e ↦ (let one : one_if (i == i) ≡ 1 = ap one_if e.0 in omega (arith, one))
+  | inr e ↦ absurd (e.1 refl)
+]

@@ -1,3 +1,6 @@
 pub mod Store
-pub mod Publishing
+pub mod Signs
 pub mod Turns
+pub mod Publishing
+pub mod Rejecting
+pub mod Dying

@@ -1,5 +1,5 @@
 -- All queues of a topology, and how many publishes there were.
-use Rattle.std.specs.Prelude.{◌≡◌, ℕ, List, [], length, map, Bool, slice_index_or, slice_set}
+use Rattle.std.specs.Prelude.{◌≡◌, ℕ, ◌≤◌, ◌<◌, List, [], length, map, Bool, Option, Some, None, slice_index_or, slice_set}
 use Rattle.model.specs.Words.{Text}
 use Rattle.model.specs.Topology.{Topology, queue_names, IsWellFormed}
 use Rattle.model.specs.Broker.{listed}
@@ -7,7 +7,7 @@ use Rattle.model.specs.Deliveries as seen
 use Rattle.model.specs.declared.messages.Entry.{Entry}
 use Rattle.model.specs.declared.messages.Holder.{Holder}
 use Rattle.exchange_graph.specs.Marks.{queue_name}
-use Rattle.queue.specs.Line.{Line, requeued}
+use Rattle.queue.specs.Line.{Line, ready_count, requeued}
 
 -- the topology, the entries of each of its queues in the order of the file, and the number of publishes
 pub record Store : Type 0 where
@@ -44,3 +44,19 @@ with_requeued s mine = record s { queues = map (requeued mine) s.queues }
 pub record IsNamed (s : Store) (place : ℕ) : Type 0 where
   pub entries_are : queue_of s (queue_name s.topology place) ≡ queue_at s place
   pub changed : (entries : List Entry) (q : Text) → queue_of (with_queue s place entries) q ≡ seen.with_queue (queue_of s) (queue_name s.topology place) entries q
+
+-- the queue at this place has a message that can be given out
+abbrev pub HasReady : Store → ℕ → Type 0
+HasReady s place = 0 < ready_count (queue_at s place)
+
+-- The first place at or behind `from` whose queue has a message that can be given out.
+pub record IsFirstReady (s : Store) (from place : ℕ) : Type 0 where
+  pub behind : from ≤ place
+  pub within : place < length s.topology.queues
+  pub ready : HasReady s place
+  pub first : (p : ℕ) → from ≤ p → p < place → HasReady s p → ⊥
+
+-- It is told, or none exactly where no queue at or behind `from` has one.
+abbrev pub IsNextReady : Store → ℕ → Option ℕ → Type 0
+IsNextReady s from (Some place) = IsFirstReady s from place
+IsNextReady s from None = (p : ℕ) → from ≤ p → p < length s.topology.queues → HasReady s p → ⊥

@@ -1,5 +1,5 @@
--- A publish queue by queue, by their places in the file.
-use Rattle.std.specs.Prelude.{◌≡◌, ◌<◌, ℕ, List, [], ◌∷◌, ◌++◌, length, map, Bool, true, false, if◌then◌else◌, Option, Some, None, slice_index_or, slice_set}
+-- A message that comes to its queues one after another, by their places in the file.
+use Rattle.std.specs.Prelude.{◌≡◌, ◌<◌, ◌≤◌, ◌+◌, ◌==◌, ℕ, List, [], ◌∷◌, ◌++◌, length, map, cond, Bool, true, false, if◌then◌else◌, Option, Some, None, slice_index_or, slice_set}
 use Rattle.std.specs.List.{list_any}
 use Rattle.model.specs.Words.{Text}
 use Rattle.model.specs.Topology.{Topology, queue_names}
@@ -11,17 +11,30 @@ use Rattle.model.specs.declared.topologies.DeclaredQueue.{DeclaredQueue}
 use Rattle.model.specs.declared.methods.Publish.{Publish}
 use Rattle.model.specs.declared.notes.Note.{Note}
 use Rattle.model.specs.declared.notes.Note.TheVariants.{Entered, Refused}
+use Rattle.model.specs.declared.notes.Way.{Way}
 use Rattle.model.specs.declared.notes.Way.TheVariants as way
 use Rattle.queue.specs.Line.{Line, ready_count}
 use Rattle.exchange_graph.specs.Targets.{AreTargets}
 use Rattle.depot.specs.declared.turns.Turn.{Turn}
 use Rattle.depot.specs.declared.depots.Routed.{Routed}
 
--- what a publish does at the queue at this place, which is full or not
-abbrev pub turn_of : Text → Bool → Message → ℕ → Turn
-turn_of name full m place =
+-- ---- one turn
+
+-- the turn of a message at the queue at this place
+abbrev pub turn_at : List DeclaredQueue → Message → ℕ → Turn
+turn_at queues m place = record { place = place; name = slice_index_or (queue_names queues) place []; message = m }
+
+-- what becomes of a turn: the queue at this place takes the message, or refuses it where there is none, and so it is noted
+pub record Outcome : Type 0 where
+  pub place : ℕ
+  pub message : Option Message
+  pub note : Note
+
+-- .. at a queue that is full or not
+abbrev pub outcome_of : Way → Text → Bool → Message → ℕ → Outcome
+outcome_of how name full m place =
     if full then record { place = place; message = None; note = Refused m.number name }
-    else record { place = place; message = Some m; note = Entered m.number name way.Publish }
+    else record { place = place; message = Some m; note = Entered m.number name how }
 
 -- how many ready messages each queue takes before it is full
 abbrev pub limits : List DeclaredQueue → List (Option ℕ)
@@ -31,60 +44,84 @@ limits queues = map (λ (q : DeclaredQueue). q.limit) queues
 abbrev pub is_full_at : List DeclaredQueue → List (List Entry) → ℕ → Bool
 is_full_at queues entries place = is_at (slice_index_or (limits queues) place None) (ready_count (slice_index_or entries place []))
 
--- what a publish does at the queue at this place, with these entries
-abbrev pub turn_at : List DeclaredQueue → List (List Entry) → Message → ℕ → Turn
-turn_at queues entries m place = turn_of (slice_index_or (queue_names queues) place []) (is_full_at queues entries place) m place
-
--- the place of each
-abbrev pub places : List Turn → List ℕ
-places turns = map (λ (t : Turn). t.place) turns
-
--- the note of each
-abbrev pub notes_of : List Turn → List Note
-notes_of turns = map (λ (t : Turn). t.note) turns
+-- what becomes of a turn at its queue, with these entries
+abbrev pub outcome : Way → List DeclaredQueue → List (List Entry) → Turn → Outcome
+outcome how queues entries t = outcome_of how t.name (is_full_at queues entries t.place) t.message t.place
 
 -- the queue refuses
-abbrev pub is_refusal : Turn → Bool
-is_refusal t = elim t.message [ None ↦ true | Some m ↦ false ]
+abbrev pub is_refusal : Outcome → Bool
+is_refusal o = elim o.message [ None ↦ true | Some m ↦ false ]
 
 -- what comes to the queue
 abbrev pub arriving : Option Message → List Entry
 arriving None = []
 arriving (Some m) = record { message = m; mark = Ready } ∷ []
 
--- one turn is taken
-abbrev pub entered_one : Turn → List (List Entry) → List (List Entry)
-entered_one t entries = slice_set entries t.place (slice_index_or entries t.place [] ++ arriving t.message)
+-- what comes of it
+abbrev pub entered_one : Outcome → List (List Entry) → List (List Entry)
+entered_one o entries = slice_set entries o.place (slice_index_or entries o.place [] ++ arriving o.message)
 
--- the turns are taken, one after another
-abbrev pub entered : List Turn → List (List Entry) → List (List Entry)
+-- ---- turns
+
+-- the place of each
+abbrev pub places : List Turn → List ℕ
+places turns = map (λ (t : Turn). t.place) turns
+
+-- what becomes of turns that are taken one after another, so that each queue is judged as the turns before leave it
+abbrev pub outcomes : Way → List DeclaredQueue → List Turn → List (List Entry) → List Outcome
+outcomes how queues [] entries = []
+outcomes how queues (t ∷ ts) entries = outcome how queues entries t ∷ outcomes how queues ts (entered_one (outcome how queues entries t) entries)
+
+-- the note of each
+abbrev pub notes_of : List Outcome → List Note
+notes_of os = map (λ (o : Outcome). o.note) os
+
+-- the queues after all of them
+abbrev pub entered : List Outcome → List (List Entry) → List (List Entry)
 entered [] entries = entries
-entered (t ∷ ts) entries = entered ts (entered_one t entries)
-
--- a queue that is not there
-abbrev pub no_line : Line
-no_line = record { entries = []; room = 0 }
-
--- each of these queues has room for a message
-abbrev pub HasRoom : List Line → List ℕ → Type 0
-HasRoom lines targets = (k : ℕ) → k < length targets → 0 < (slice_index_or lines (slice_index_or targets k 0) no_line).room
-
--- These are the turns of a message, at each queue that it is routed to.
-pub record IsPlan (t : Topology) (entries : List (List Entry)) (p : Publish) (m : Message) (turns : List Turn) : Type 0 where
-  pub targets : List ℕ
-  pub routed : AreTargets t p.exchange p.routing_key targets
-  pub turned : turns ≡ map (turn_at t.queues entries m) targets
+entered (o ∷ os) entries = entered os (entered_one o entries)
 
 -- there is none
 abbrev pub no_turns : List Turn → Bool
 no_turns [] = true
 no_turns (t ∷ ts) = false
 
--- All turns of a plan were taken.
+-- These are the turns of a message that is sent to this exchange under this key: one at each queue that it is routed to.
+pub record IsPlan (t : Topology) (exchange key : Text) (m : Message) (turns : List Turn) : Type 0 where
+  pub targets : List ℕ
+  pub routed : AreTargets t exchange key targets
+  pub turned : turns ≡ map (turn_at t.queues m) targets
+
+-- ---- room
+
+-- a queue that is not there
+abbrev pub no_line : Line
+no_line = record { entries = []; room = 0 }
+
+-- for how many messages more the queue at this place has room
+abbrev pub room_at : List Line → ℕ → ℕ
+room_at lines place = (slice_index_or lines place no_line).room
+
+-- how often this place is one of these
+abbrev pub times : ℕ → List ℕ → ℕ
+times place [] = 0
+times place (p ∷ ps) = cond (place == p) 1 0 + times place ps
+
+-- each of these queues has room for so many messages
+abbrev pub HasRoom : List Line → List ℕ → ℕ → Type 0
+HasRoom lines targets count = (k : ℕ) → k < length targets → count ≤ room_at lines (slice_index_or targets k 0)
+
+-- each queue has room for a message each time that it is one of these
+abbrev pub IsRoomy : List Line → List ℕ → Type 0
+IsRoomy lines targets = (place : ℕ) → times place targets ≤ room_at lines place
+
+-- ---- a publish
+
+-- All turns of a publish were taken.
 pub record Enters (t : Topology) (old new : List (List Entry)) (p : Publish) (m : Message) (first : Note) (before after : List Note) (routed : Routed) : Type 0 where
   pub turns : List Turn
-  pub plan : IsPlan t old p m turns
-  pub entries : new ≡ entered turns old
-  pub notes : after ≡ before ++ first ∷ notes_of turns
+  pub plan : IsPlan t p.exchange p.routing_key m turns
+  pub entries : new ≡ entered (outcomes way.Publish t.queues turns old) old
+  pub notes : after ≡ before ++ first ∷ notes_of (outcomes way.Publish t.queues turns old)
   pub none : routed.is_none ≡ no_turns turns
-  pub full : routed.is_some_full ≡ list_any is_refusal turns
+  pub full : routed.is_some_full ≡ list_any is_refusal (outcomes way.Publish t.queues turns old)

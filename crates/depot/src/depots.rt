@@ -1,16 +1,16 @@
 //! Publishes, requeueing, what the queues hold, and what is given out and settled.
 
-ghost use Rattle.std.specs.Prelude.{◌≡◌, ◌<◌, ℕ, [], IfOk, length, map, replicate};
-ghost use Rattle.model.specs.Entries.{by_channel, by_connection};
-ghost use Rattle.queue.specs.Line.{requeued};
-ghost use Rattle.depot.specs.Store.{Store, entries_of, IsWhole, IsNamed};
+ghost use Rattle.std.specs.Prelude.{◌<◌, ℕ, length};
+ghost use Rattle.depot.specs.Store.{Store, IsWhole, IsNamed};
 
-use crate::places::{hold_at, purge_at, queue_at, release_at, remove_at, take_first_at};
+use crate::given::Given;
+use crate::places::queue_at;
 use crate::publishing::{note_of, publish_in};
+use crate::queues::Queues;
+use crate::rejecting::reject_in;
 use exchange_graph::Topology;
 use kept_routes::Router;
 use model::{Content, Entry, Holder, Note, Publish};
-use queue::Queue;
 use std::alloc::{AllocError, Global};
 use std::marker::Model;
 
@@ -26,7 +26,7 @@ pub struct Routed {
 /// The queues of a topology, in the order of the file, and the number of publishes.
 pub struct Depot {
     router: Router,
-    queues: Vec<Queue>,
+    queues: Queues,
     published: u64,
 }
 
@@ -47,20 +47,9 @@ impl Model for Depot {
 
     ghost Value = { Store };
 
-    ghost view = { λ d. record { topology = d.router; queues = entries_of d.queues.items; published = d.published } };
+    ghost view = { λ d. record { topology = d.router; queues = entries_of d.queues; published = d.published } };
 
-    ghost invariant = { λ d. length d.queues.items ≡ length d.router.queues };
-}
-
-/// So many queues with no message.
-fn empty_queues(alloc: Global, count: usize) -> Result<Vec<Queue>, AllocError>
-    ensures { IfOk result (λ queues. entries_of queues.items ≡ replicate count []) }
-{
-    let mut queues = Vec::new(alloc);
-    for _ in 0..count {
-        queues.push(Queue::new(alloc))?;
-    }
-    Ok(queues)
+    ghost invariant = { λ d. length d.queues ≡ length d.router.queues };
 }
 
 impl Depot {
@@ -94,14 +83,15 @@ impl Depot {
     ghost use Rattle.model.specs.Step.{greatest};
     ghost use Rattle.model.specs.Entries.{by_channel, by_connection, is_under, is_held_as, held_as, change_first, without_first, number_of};
     ghost use Rattle.queue.specs.Line.{ready_count, requeued};
-    ghost use Rattle.depot.specs.Store.{queue_of, queue_at, with_queue, with_requeued, IsWhole, IsNamed};
+    ghost use Rattle.depot.specs.Store.{queue_of, queue_at, with_queue, with_requeued, IsWhole, IsNamed, IsNextReady};
     ghost use Rattle.depot.specs.Publishing.{Publishing};
+    ghost use Rattle.depot.specs.Rejecting.{AreWithin, AreOrdered, IsApart, Rejecting};
 
     /// The depot of this topology: each queue is there and has no message.
     pub fn new(alloc: Global, topology: Topology) -> Result<Depot, AllocError>
         ensures { IfOk result (λ d. d ≡ record { topology = topology; queues = replicate (length topology.queues) []; published = 0 }) }
     {
-        let queues = empty_queues(alloc, topology.queues().len())?;
+        let queues = Queues::new(alloc, topology.queues().len())?;
         let router = Router::new(alloc, topology)?;
         Ok(Depot {
             router,
@@ -153,19 +143,51 @@ impl Depot {
         Ok(routed)
     }
 
+    /// These messages, which the channel of this connection holds, leave their queues by a rejection, in the order of their
+    /// tags. Where its queue has a dead-letter exchange, a message comes as a dead letter to the end of each queue that it is
+    /// routed to from there and that is not full then, in the order of the file; a later rejection finds the queues as the
+    /// dead letters of the earlier ones left them. The notes tell of each message that it left, and then of each queue of
+    /// its dead letter. Bodies are shared. Where memory is wanting, nothing has changed but that there may be more room.
+    pub fn reject(
+        &mut self,
+        alloc: Global,
+        connection: u64,
+        channel: u16,
+        gone: &[Given],
+        notes: &mut Vec<Note>,
+    ) -> Result<(), AllocError>
+        requires within { AreWithin self.old.topology gone.now }
+        requires ordered { AreOrdered gone.now }
+        requires apart { IsApart self.old }
+        ensures ok { OnOk result (Rejecting self.old connection channel gone.now notes.old.items notes.new.items self.new) }
+        ensures store { OnErr result (self.new ≡ self.old) }
+        ensures notes { OnErr result (notes.new.items ≡ notes.old.items) }
+    {
+        self.router.topology().is_well_formed();
+        reject_in(
+            alloc,
+            &mut self.router,
+            &mut self.queues,
+            connection,
+            channel,
+            gone,
+            notes,
+        )
+    }
+
     /// What the channel of this connection held is ready again, each message in its place and marked redelivered. It
     /// takes no memory.
     pub fn requeue_channel(&mut self, connection: u64, channel: u16)
         ensures { self.new ≡ with_requeued self.old (by_channel connection channel) }
     {
-        requeue_channel_in(&mut self.queues, connection, channel);
+        self.queues.requeue_channel(connection, channel);
     }
 
     /// What this connection held, on whatever channel, is ready again as with `requeue_channel`.
     pub fn requeue_connection(&mut self, connection: u64)
         ensures { self.new ≡ with_requeued self.old (by_connection connection) }
     {
-        requeue_connection_in(&mut self.queues, connection);
+        self.queues.requeue_connection(connection);
     }
 
     /// The topology that was handed in.
@@ -195,7 +217,7 @@ impl Depot {
     {
         let topology = self.router.topology();
         let place = topology.queue_at(name)?;
-        Some(self.queues[place].ready())
+        Some(self.ready_at(place))
     }
 
     /// What every depot keeps.
@@ -213,12 +235,20 @@ impl Depot {
         self.is_whole();
     }
 
+    /// The first place at or behind this one whose queue has a message that can be given out. It takes no time for queues
+    /// that have none, but that of a set of places.
+    pub fn next_ready(&self, from: usize) -> Option<usize>
+        ensures told { IsNextReady self.now from result }
+    {
+        self.queues.next_ready(from)
+    }
+
     /// How many messages of the queue at this place can be given out.
     pub fn ready_at(&self, place: usize) -> usize
         requires { place < length self.now.topology.queues }
         ensures { result ≡ ready_count (queue_at self.now place) }
     {
-        queue_at(&self.queues, place).ready()
+        queue_at(self.queues.as_slice(), place).ready()
     }
 
     /// The first message of the queue at this place that can be given out.
@@ -226,7 +256,7 @@ impl Depot {
         requires { place < length self.now.topology.queues }
         ensures { option_map (λ e. e.now) result ≡ find is_ready (queue_at self.now place) }
     {
-        queue_at(&self.queues, place).first_ready()
+        queue_at(self.queues.as_slice(), place).first_ready()
     }
 
     /// Gives the first ready message of the queue at this place out, if there is one: it is held from now on. Tells the
@@ -238,7 +268,7 @@ impl Depot {
         ensures told { is_some result ≡ is_some (find is_ready (queue_at self.old place)) }
         ensures store { self.new ≡ with_queue self.old place (change_first is_ready (held_as holder) (queue_at self.old place)) }
     {
-        hold_at(&mut self.queues, place, holder)
+        self.queues.hold(place, holder)
     }
 
     /// Takes the first ready message of the queue at this place out, if there is one. It takes no memory.
@@ -247,7 +277,7 @@ impl Depot {
         ensures taken { result ≡ find is_ready (queue_at self.old place) }
         ensures store { self.new ≡ with_queue self.old place (without_first is_ready (queue_at self.old place)) }
     {
-        take_first_at(&mut self.queues, place)
+        self.queues.take_first(place)
     }
 
     /// The message of the queue at this place that is held under this tag. It is found at once by the number of its arrival,
@@ -256,7 +286,7 @@ impl Depot {
         requires { place < length self.now.topology.queues }
         ensures { option_map (λ e. e.now) result ≡ find (is_held_as holder.now) (queue_at self.now place) }
     {
-        queue_at(&self.queues, place).held(holder, arrival)
+        queue_at(self.queues.as_slice(), place).held(holder, arrival)
     }
 
     /// The message of the queue at this place that is held under this tag is ready again, in its place and marked
@@ -266,7 +296,7 @@ impl Depot {
         ensures told { result ≡ is_some (find (is_held_as holder.now) (queue_at self.old place)) }
         ensures store { self.new ≡ with_queue self.old place (requeued (is_under holder.now) (queue_at self.old place)) }
     {
-        release_at(&mut self.queues, place, holder, arrival)
+        self.queues.release(place, holder, arrival)
     }
 
     /// Takes the message of the queue at this place out that is held under this tag, if there is one. It takes no memory.
@@ -275,7 +305,7 @@ impl Depot {
         ensures taken { result ≡ find (is_held_as holder.now) (queue_at self.old place) }
         ensures store { self.new ≡ with_queue self.old place (filter (λ e. not (is_held_as holder.now e)) (queue_at self.old place)) }
     {
-        remove_at(&mut self.queues, place, holder, arrival)
+        self.queues.remove(place, holder, arrival)
     }
 
     /// Takes the ready messages of the queue at this place out, and appends their publish numbers in the order of arrival.
@@ -287,25 +317,7 @@ impl Depot {
         ensures capacity { vec_capacity numbers.new ≡ vec_capacity numbers.old }
         ensures store { self.new ≡ with_queue self.old place (filter (λ e. not (is_ready e)) (queue_at self.old place)) }
     {
-        purge_at(&mut self.queues, place, numbers);
-    }
-}
-
-/// What the channel of this connection held is ready again, in each queue.
-fn requeue_channel_in(queues: &mut [Queue], connection: u64, channel: u16)
-    ensures { entries_of queues.new ≡ map (requeued (by_channel connection channel)) (entries_of queues.old) }
-{
-    for queue in queues.iter_mut() {
-        queue.requeue_channel(connection, channel);
-    }
-}
-
-/// What this connection held is ready again, in each queue.
-fn requeue_connection_in(queues: &mut [Queue], connection: u64)
-    ensures { entries_of queues.new ≡ map (requeued (by_connection connection)) (entries_of queues.old) }
-{
-    for queue in queues.iter_mut() {
-        queue.requeue_connection(connection);
+        self.queues.purge(place, numbers);
     }
 }
 

@@ -5,8 +5,16 @@
 #![tactic(auto)]
 
 mod depots;
+mod entering;
+mod given;
 mod places;
+mod plans;
 mod publishing;
+mod queues;
+mod rejecting;
+mod requeueing;
+mod signs;
 mod turns;
 
 pub use depots::{Depot, Routed, places_are_named};
+pub use given::Given;

@@ -1,11 +1,11 @@
-//! What a publish does at one routed queue.
+//! What a message does at one routed queue.
 
-use model::{Message, Note};
+use model::{Message, Text};
 
-/// The queue at a place takes the message, or refuses it where there is none.
+/// The message is to come to the queue at a place, which has this name.
 #[derive(Drop)]
 pub(crate) struct Turn {
     pub(crate) place: usize,
-    pub(crate) message: Option<Message>,
-    pub(crate) note: Note,
+    pub(crate) name: Text,
+    pub(crate) message: Message,
 }

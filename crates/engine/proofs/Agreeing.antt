@@ -1,5 +1,5 @@
 -- What a call did keeps the world consistent, with its consumers named as they should be.
-use Rattle.std.proofs.Common.{◌≡◌, ◌+◌, ℕ, List, Bool, true, false, Some, Result, Ok, Err, refl, sym, subst}
+use Rattle.std.proofs.Common.{◌≡◌, ◌+◌, ℕ, List, Bool, true, false, Some, Result, Ok, Err, sym, subst}
 use Rattle.std.specs.Prelude.{IfOk, OnErr, MatchBool}
 use Rattle.model.specs.Run.{Happening}
 use Rattle.model.specs.Commands.{new_stream, running_stream}
@@ -9,7 +9,7 @@ use Rattle.model.specs.declared.events.Event.TheVariants as event
 use Rattle.laws.specs.Consumers.{IsNamed}
 use Rattle.laws.proofs.Consistency.{stay_consistent}
 use Rattle.laws.proofs.Naming.{worlds_named}
-use Rattle.runs.specs.Opened.{OpensNew, OpensReady, Hears, Takes, IsLost}
+use Rattle.runs.specs.Opened.{OpensNew, OpensReady, Hears, IsLost}
 use Rattle.runs.proofs.Worlds.{world_same}
 use Rattle.engine.specs.World.{Parts, world_of, IsEngine}
 use Rattle.engine.specs.Engines.{Turned}

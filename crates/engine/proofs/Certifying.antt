@@ -10,4 +10,4 @@ use Rattle.engine.specs.Certified.{IsCertified}
 pub certified : (f : Config) (start last : World) (arrivals : List Arrival) (seen : Seen) → start ≡ new_world f → IsSound f → IsRunOf start.config arrivals last seen → IsCertified f arrivals seen
 certified f start last arrivals seen fresh sound run =
     let r : IsRunOf f arrivals last seen = subst (λ (g : Config). IsRunOf g arrivals last seen) (ap (λ (w : World). w.config) fresh) run in
-    record { happenings = r.happenings; last = last; plays = r.plays; shows = r.shows; promises = r.promises sound }
+    record { delivery = record { happenings = r.happenings; last = last; plays = r.plays; shows = r.shows; promises = r.promises sound }; order = r.order }

@@ -7,7 +7,7 @@ use Rattle.model.specs.Broker.{with_one}
 use Rattle.model.specs.Arrivals.{new_wire, is_ended}
 use Rattle.engine.specs.World.{link_in, session_of, wire_in, wire_of, is_link_gone, IsLink, AreLinks, AreRising}
 use Rattle.engine.specs.Engines.{Changes, left_of, left_in}
-use Rattle.engine.specs.declared.links.Link.{Link}
+use Rattle.engine.specs.declared.link.Link.{Link}
 use Rattle.engine.proofs.Numbered.{link_in-set, link_in-remove, rising-set, rising-remove, all-set, all-remove, all_at}
 
 -- ---- what is found

@@ -1,8 +1,7 @@
 -- A delivery to one connection is a delivery of the world.
-use Rattle.std.proofs.Common.{◌≡◌, ◌≢◌, ◌<◌, ℕ, List, [], ◌∷◌, ◌++◌, Bool, true, false, cond, Option, Some, None, Result, Ok, Err, get_or, set, remove, length, refl, sym, ap, subst, ◌∙◌, append-nil}
+use Rattle.std.proofs.Common.{◌≡◌, ℕ, List, ◌∷◌, ◌++◌, Bool, true, false, cond, Option, Some, Result, Ok, Err, get_or, set, remove, length, refl, sym, ap, subst, ◌∙◌, append-nil}
 use Rattle.std.specs.Prelude.{◌&&◌, not, nat_lt, is_some, IfOk, OnErr}
 use Rattle.std.proofs.lemmas.Bool.{false≢true}
-use Rattle.model.specs.Topology.{Topology}
 use Rattle.model.specs.Broker.{Broker}
 use Rattle.model.specs.Consuming.{CanDeliver}
 use Rattle.model.specs.Consistent.{IsConsistent}
@@ -16,15 +15,14 @@ use Rattle.model.specs.declared.events.Phase.TheVariants as phase
 use Rattle.model.specs.declared.events.Event.TheVariants as event
 use Rattle.model.specs.declared.notes.Note.{Note}
 use Rattle.laws.proofs.Whole.{pump_keeps}
-use Rattle.assembly.specs.Held.{stream_of}
-use Rattle.broker.specs.State.{Kept, topology_of, broker_of}
+use Rattle.broker_core.specs.State.{Kept, topology_of, broker_of}
 use Rattle.runs.specs.Opened.{Idles}
-use Rattle.engine.specs.Reading.{IsKept, kept_of}
+use Rattle.engine.specs.Reading.{IsKept}
 use Rattle.engine.specs.Waiting.{Waiting}
 use Rattle.engine.specs.Pumping.{LinkPumped, OutputChanges, LinksPumped, LinksNotPumped, IsPump}
 use Rattle.engine.specs.World.{Parts, link_in, session_of, wire_in, wire_of, config_of, state_of, world_of, is_link_gone, AreRising, IsEngine}
 use Rattle.engine.specs.Engines.{Becomes, Changes, IsPlaceOf}
-use Rattle.engine.specs.declared.links.Link.{Link}
+use Rattle.engine.specs.declared.link.Link.{Link}
 use Rattle.engine.proofs.Numbered.{link_in-place}
 use Rattle.engine.proofs.Agreeing.{agreed, same_agrees, delivers_agrees}
 use Rattle.engine.proofs.Lifted.{Ended, ended, at_own, at_others, same_config, output_in, with_same}

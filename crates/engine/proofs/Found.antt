@@ -8,7 +8,7 @@ use Rattle.std.proofs.lemmas.Bool.Decides.{nat_tests}
 use Rattle.std.specs.declared.cmp.Ordering.TheVariants.{Less, Equal, Greater}
 use Rattle.engine.specs.World.{link_in, AreRising}
 use Rattle.engine.specs.Engines.{IsPlaceOf}
-use Rattle.engine.specs.declared.links.Link.{Link}
+use Rattle.engine.specs.declared.link.Link.{Link}
 use Rattle.engine.proofs.Numbered.{other_false}
 
 above_get : (low : ℕ) (ls : List Link) (j : ℕ) (d : Link) → AreRising low ls → j < length ls → low < (get_or ls j d).number

@@ -25,7 +25,7 @@ use Rattle.model.specs.declared.events.Command.TheVariants.{Head, Plain, Full, T
 use Rattle.model.specs.declared.events.Event.{Event}
 use Rattle.model.specs.declared.events.Event.TheVariants as event
 use Rattle.assembly.specs.Held.{stream_of}
-use Rattle.broker.specs.State.{topology_of, broker_of}
+use Rattle.broker_core.specs.State.{topology_of, broker_of}
 use Rattle.engine.specs.Performing.{rules_of, Decides, ByBroker, ByPhase, session_after, PausesOr}
 use Rattle.engine.specs.Reading.{kept_of}
 use Rattle.engine.specs.Turning.{LinkDid, LinkWaits}
@@ -35,7 +35,7 @@ use Rattle.engine.specs.Engines.{Becomes, LinkSent, LinkFed}
 use Rattle.engine.proofs.Changed.{either}
 use Rattle.runs.proofs.Worlds.{world_same}
 use Rattle.runs.specs.Opened.{Hears}
-use Rattle.engine.specs.declared.links.Link.{Link}
+use Rattle.engine.specs.declared.link.Link.{Link}
 
 -- ---- what one connection does is a step
 

@@ -15,14 +15,14 @@ use Rattle.model.specs.Guarantee.{Guarantee}
 use Rattle.model.specs.Arrivals.{Wire, new_wire, new_world, is_ended, can_open, standing, Same}
 use Rattle.model.specs.declared.events.Event.{Event}
 use Rattle.model.specs.declared.events.Event.TheVariants as event
-use Rattle.broker.specs.State.{topology_of, broker_of, nothing}
+use Rattle.broker_core.specs.State.{topology_of, broker_of, nothing}
 use Rattle.runs.specs.Opened.{IsOpened}
 use Rattle.engine.specs.Reading.{IsKept, kept_of}
 use Rattle.engine.specs.World.{Parts, link_in, session_of, wire_in, wire_of, config_of, state_of, world_of, AreLinks, IsLink, IsNew, IsEngine}
 use Rattle.engine.specs.Opening.{Numbers, OpenedBy}
 use Rattle.engine.specs.declared.engines.Refused.{Refused}
 use Rattle.engine.specs.declared.engines.Refused.TheVariants.{Full, Spent, Memory}
-use Rattle.engine.specs.declared.links.Link.{Link}
+use Rattle.engine.specs.declared.link.Link.{Link}
 use Rattle.engine.proofs.Numbered.{link_in-push, rising-push, other_false}
 use Rattle.engine.proofs.Standing.{standing_is}
 use Rattle.engine.proofs.Agreeing.{Agrees}

@@ -5,9 +5,8 @@ use Rattle.std.specs.List.{AllByRecursion}
 use Rattle.std.proofs.lemmas.Bool.{false≢true}
 use Rattle.std.proofs.lemmas.List.{length-drop, length-take, drop_more, drop_all}
 use Rattle.model.specs.Frames.{Frame, frame_bytes, IsFrame}
-use Rattle.model.specs.Commands.{HasWithin}
 use Rattle.model.specs.Spelling.{body_frame, content_frames, pieces_of, receiver, send_bytes, spelling, HasContent, IsSpelled}
-use Rattle.model.specs.Sending.{IsOwn}
+use Rattle.model.specs.Sending.{HasStored, IsOwn}
 use Rattle.model.specs.declared.contents.Content.{Content}
 use Rattle.model.specs.declared.events.Send.{Send}
 use Rattle.model.specs.declared.events.Send.TheVariants as send
@@ -151,11 +150,11 @@ piece_frames max h size (suc steps) (b ∷ bytes) below fits =
       piece_frames max h size steps (drop size (b ∷ bytes)) below fits,
     )
 
-content_spelled : (content : Option Content) → HasWithin content → HasContent content
+content_spelled : (content : Option Content) → HasStored content → HasContent content
 content_spelled None is = tt
 content_spelled (Some content) is = record { properties = is.properties; size = let le = is.body in omega (arith, le) }
 
-content_fits : (max h : ℕ) (content : Option Content) → 4096 ≤ max → h < 2 ^ 16 → HasWithin content → AllByRecursion (IsFrame max) (content_frames max h content)
+content_fits : (max h : ℕ) (content : Option Content) → 4096 ≤ max → h < 2 ^ 16 → HasStored content → AllByRecursion (IsFrame max) (content_frames max h content)
 content_fits max h None long below is = tt
 content_fits max h (Some content) long below is =
     let le = is.header in (

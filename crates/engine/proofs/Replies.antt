@@ -11,7 +11,7 @@ use Rattle.model.specs.declared.events.Send.{Send}
 use Rattle.model.specs.declared.events.Event.{Event}
 use Rattle.model.specs.declared.events.Event.TheVariants as event
 use Rattle.laws.proofs.Sent.{sends_are_own}
-use Rattle.broker.specs.Sent.{connection_of_event}
+use Rattle.replies.specs.Sent.{connection_of_event}
 use Rattle.engine.specs.Performing.{IsAsked}
 
 -- what is asked is asked by its own connection

@@ -6,7 +6,7 @@ use Rattle.std.proofs.lemmas.Bool.{eqb-true, false≢true}
 use Rattle.std.proofs.lemmas.Bool.Decides.{nat_tests}
 use Rattle.model.specs.Arrivals.{is_gone, is_ended, standing}
 use Rattle.engine.specs.World.{Parts, link_in, session_of, wire_in, wire_of, world_of, is_link_gone, IsLink, AreLinks, AreRising}
-use Rattle.engine.specs.declared.links.Link.{Link}
+use Rattle.engine.specs.declared.link.Link.{Link}
 use Rattle.engine.proofs.Numbered.{none_below}
 
 abbrev pub one : Bool → ℕ

@@ -7,7 +7,7 @@ use Rattle.engine.specs.Reading.{IsKept}
 use Rattle.engine.specs.Turning.{LinkTook, LinkWaits}
 use Rattle.engine.specs.World.{is_link_gone}
 use Rattle.engine.specs.Engines.{Changes, IsSwept, LinkTookOr}
-use Rattle.engine.specs.declared.links.Link.{Link}
+use Rattle.engine.specs.declared.link.Link.{Link}
 use Rattle.engine.specs.declared.turning.Turn.{Turn}
 
 at_set : (ls : List Link) (i : ℕ) (x d : Link) → i < length ls → get_or (set ls i x) i d ≡ x

@@ -16,12 +16,12 @@ use Rattle.laws.proofs.Whole.{turn_keeps}
 use Rattle.runs.specs.Opened.{Hears, Takes, IsLost}
 use Rattle.runs.proofs.Worlds.{waits_not}
 use Rattle.assembly.specs.Held.{stream_of}
-use Rattle.broker.specs.State.{topology_of, broker_of}
+use Rattle.broker_core.specs.State.{topology_of, broker_of}
 use Rattle.engine.specs.Reading.{kept_of, to_read}
 use Rattle.engine.specs.Turning.{LinkDid, LinkWaits, LinkSame}
 use Rattle.engine.specs.World.{Parts, link_in, session_of, wire_of, config_of, world_of, is_link_gone, AreLinks, AreRising, IsEngine}
 use Rattle.engine.specs.Engines.{Becomes, Changes, IsPlaceOf, LinkTookOr, LinksTook, LinksSent, LinkFed, LinksFed, Turned, OnDid, left_of, left_in}
-use Rattle.engine.specs.declared.links.Link.{Link}
+use Rattle.engine.specs.declared.link.Link.{Link}
 use Rattle.engine.specs.declared.turning.Turn.{Turn}
 use Rattle.engine.specs.declared.turning.Turn.TheVariants as turn
 use Rattle.engine.proofs.Numbered.{link_in-place, link_in-remove, rising-remove, all-remove}

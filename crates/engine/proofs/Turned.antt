@@ -17,10 +17,11 @@ use Rattle.model.specs.declared.notes.Note.{Note}
 use Rattle.assembly.specs.Held.{stream_of}
 use Rattle.engine.specs.Reading.{kept_of, IsMade, IsKept, Has, Comes, to_read}
 use Rattle.engine.specs.Performing.{Rules, IsAsked, Decides}
-use Rattle.engine.specs.Turning.{Performed, LinkPerformed, DidEvent, LinkTook, LinkWaits}
+use Rattle.engine.specs.Turning.{Performed, LinkPerformed, DidEvent, LinkTook, LinkWaits, OnIdle}
+use Rattle.engine.specs.Waiting.{HoldsNone}
 use Rattle.engine.specs.declared.reading.Next.{Next}
 use Rattle.engine.specs.declared.reading.Next.TheVariants as next
-use Rattle.engine.specs.declared.links.Link.{Link}
+use Rattle.engine.specs.declared.link.Link.{Link}
 use Rattle.engine.specs.declared.turning.Turn.{Turn}
 use Rattle.engine.specs.declared.turning.Turn.TheVariants as turn
 
@@ -181,6 +182,7 @@ comes_nothing c k left s new n e h = subst (λ (x : Next). Comes c k s x left ne
 pub record Whole {E : Type 0} (t : Rules) (b : Broker) (old : Link) (what : Result Turn E) (new_b : Broker) (new : Link) : Type 0 where
   pub ok : IfOk what (λ x. LinkTook t b old x new_b new)
   pub err : OnErr what (LinkWaits b old new_b new)
+  pub idle : IfOk what (λ x. OnIdle x (HoldsNone new.output))
   pub kept : IsKept new.number new.kept
   pub number : new.number ≡ old.number
 
@@ -191,16 +193,23 @@ did_keeps t b new_b mid new e turn.Idle did = absurd did
 did_keeps t b new_b mid new e turn.Paused did = absurd did
 did_keeps t b new_b mid new e turn.Over did = absurd did
 
+did_something : (t : Rules) (b new_b : Broker) (mid new : Link) (e : Event) (what : Turn) → DidEvent t b mid e what new_b new → OnIdle what (HoldsNone new.output)
+did_something t b new_b mid new e (turn.Did notes) did = tt
+did_something t b new_b mid new e turn.Idle did = absurd did
+did_something t b new_b mid new e turn.Paused did = absurd did
+did_something t b new_b mid new e turn.Over did = absurd did
+
 pub after_kept : {E : Type 0} (r : Result Turn E) (t : Rules) (b new_b : Broker) (old mid new : Link) → is_ended old.session.phase ≡ false → is_past_bound old.output.bytes ≡ false → IsRead old mid
     → Has old.number old.kept (stream_of old.stream) mid.kept (stream_of mid.stream)
     → IfOk r (λ x. (e : Event) → mid.kept ≡ Some e → DidEvent t b mid e x new_b new) → OnErr r (new_b ≡ b) → OnErr r (new ≡ mid) → Whole t b old r new_b new
 after_kept (Ok x) t b new_b old mid new open_still below read h did broker link =
     let d = did h.event h.is in
     let k = did_keeps t b new_b mid new h.event x d in
-    record { ok = did_kept t b new_b old mid new x open_still below read h d; err = tt; kept = k.0; number = k.1 ∙ read.number }
+    record { ok = did_kept t b new_b old mid new x open_still below read h d; err = tt; idle = did_something t b new_b mid new h.event x d; kept = k.0; number = k.1 ∙ read.number }
 after_kept (Err x) t b new_b old mid new open_still below read h did broker link = record {
   ok = tt;
   err = waits_kept b new_b old mid new read h.same broker link;
+  idle = tt;
   kept = subst (λ (z : Link). IsKept z.number z.kept) (sym link) (subst (λ (c : ℕ). IsKept c mid.kept) (sym read.number) (subst (λ (k : Option Event). IsKept old.number k) (sym h.is) h.made));
   number = ap (λ (z : Link). z.number) link ∙ read.number;
 }
@@ -210,10 +219,11 @@ pub after_fault : {E : Type 0} (r : Result Turn E) (t : Rules) (b new_b : Broker
     → IfOk r (λ x. DidEvent t b mid (event.Fault mid.number code) x new_b new) → OnErr r (new_b ≡ b) → OnErr r (new ≡ mid) → Whole t b old r new_b new
 after_fault (Ok x) t b new_b old mid new code open_still below read h did broker link =
     let k = did_keeps t b new_b mid new (event.Fault mid.number code) x did in
-    record { ok = did_fault t b new_b old mid new code x open_still below read h.1 h.2 did; err = tt; kept = k.0; number = k.1 ∙ read.number }
+    record { ok = did_fault t b new_b old mid new code x open_still below read h.1 h.2 did; err = tt; idle = did_something t b new_b mid new (event.Fault mid.number code) x did; kept = k.0; number = k.1 ∙ read.number }
 after_fault (Err x) t b new_b old mid new code open_still below read h did broker link = record {
   ok = tt;
   err = waits_kept b new_b old mid new read (coming_on old.kept mid.kept (stream_of old.stream) (stream_of mid.stream) h.1 h.0 h.3) broker link;
+  idle = tt;
   kept = subst (λ (z : Link). IsKept z.number z.kept) (sym link) (subst (λ (k : Option Event). IsKept mid.number k) (sym h.0) tt);
   number = ap (λ (z : Link). z.number) link ∙ read.number;
 }

@@ -10,12 +10,12 @@ use Rattle.model.specs.Arrivals.{World, Turns, Waits, IsIdle, is_over, is_paused
 use Rattle.model.specs.Headline.{KeepsEvents}
 use Rattle.model.specs.declared.notes.Note.{Note}
 use Rattle.assembly.specs.Held.{stream_of}
-use Rattle.broker.specs.State.{topology_of}
+use Rattle.broker_core.specs.State.{topology_of}
 use Rattle.engine.specs.Reading.{IsKept, kept_of, to_read}
 use Rattle.engine.specs.Performing.{Rules, PausesOr}
 use Rattle.engine.specs.Turning.{LinkTook, LinkWaits}
 use Rattle.engine.specs.World.{Parts, link_in, session_of, wire_of, is_link_gone}
-use Rattle.engine.specs.declared.links.Link.{Link}
+use Rattle.engine.specs.declared.link.Link.{Link}
 use Rattle.engine.specs.declared.turning.Turn.{Turn}
 use Rattle.engine.specs.declared.turning.Turn.TheVariants as turn
 

@@ -7,7 +7,7 @@ use Rattle.model.specs.declared.events.Event.TheVariants as event
 use Rattle.runs.specs.Opened.{IsOpened}
 use Rattle.engine.specs.declared.engines.Refused.{Refused}
 use Rattle.engine.specs.declared.engines.Refused.TheVariants.{Full, Spent, Memory}
-use Rattle.engine.specs.declared.links.Link.{Link}
+use Rattle.engine.specs.declared.link.Link.{Link}
 
 -- the number of one more connection, where so many were given and these stand; or why there is none
 abbrev pub Numbers : ℕ → List Link → Result ℕ Refused → Type 0

@@ -12,7 +12,7 @@ use Rattle.model.specs.declared.events.Send.{Send}
 use Rattle.model.specs.declared.events.Event.TheVariants.{Deliver}
 use Rattle.model.specs.declared.notes.Note.{Note}
 use Rattle.engine.specs.Performing.{PausesOr}
-use Rattle.engine.specs.declared.links.Link.{Link}
+use Rattle.engine.specs.declared.link.Link.{Link}
 
 -- ---- one connection
 

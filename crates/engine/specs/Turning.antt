@@ -12,7 +12,7 @@ use Rattle.model.specs.declared.notes.Note.{Note}
 use Rattle.assembly.specs.Held.{stream_of}
 use Rattle.engine.specs.Performing.{Rules, Decides, PausesOr}
 use Rattle.engine.specs.Reading.{kept_of, to_read}
-use Rattle.engine.specs.declared.links.Link.{Link}
+use Rattle.engine.specs.declared.link.Link.{Link}
 use Rattle.engine.specs.declared.turning.Turn.{Turn}
 use Rattle.engine.specs.declared.turning.Turn.TheVariants as turn
 
@@ -79,3 +79,10 @@ LinkTook r b old (turn.Did notes) new_b new = (is_ended old.session.phase ≡ fa
 LinkTook r b old turn.Idle new_b new = (is_ended old.session.phase ≡ false) × LinkIdle b old new_b new
 LinkTook r b old turn.Paused new_b new = (is_ended old.session.phase ≡ false) × (is_past_bound old.output.bytes ≡ true) × LinkSame b old new_b new
 LinkTook r b old turn.Over new_b new = (is_ended old.session.phase ≡ true) × LinkSame b old new_b new
+
+-- this holds where nothing was left to perform
+abbrev pub OnIdle : Turn → Type 0 → Type 0
+OnIdle turn.Idle P = P
+OnIdle (turn.Did notes) P = Unit {0}
+OnIdle turn.Paused P = Unit {0}
+OnIdle turn.Over P = Unit {0}

@@ -1,5 +1,5 @@
 -- Bytes that wait to be taken.
-use Rattle.std.specs.Prelude.{◌≡◌, ◌≤◌, ◌+◌, ℕ, List, ◌++◌, length}
+use Rattle.std.specs.Prelude.{◌≡◌, ◌≤◌, ◌+◌, ℕ, List, [], ◌++◌, length}
 
 -- bytes put in at the end and taken from the front, and the room made for more
 pub record Waiting : Type 0 where
@@ -12,3 +12,7 @@ pub record Waiting : Type 0 where
 pub record Puts (old : Waiting) (more : List ℕ) (new : Waiting) : Type 0 where
   pub bytes : new.bytes ≡ old.bytes ++ more
   pub room : old.room ≤ new.room + length more
+
+-- no storage is held for bytes where none wait
+abbrev pub HoldsNone : Waiting → Type 0
+HoldsNone w = w.bytes ≡ [] → w.room ≡ 0

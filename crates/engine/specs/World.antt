@@ -11,10 +11,10 @@ use Rattle.model.specs.Consistent.{IsConsistent}
 use Rattle.model.specs.Naming.{AreNamed}
 use Rattle.model.specs.declared.messages.User.{User}
 use Rattle.assembly.specs.Held.{stream_of}
-use Rattle.broker.specs.State as broker
-use Rattle.broker.specs.State.{topology_of, broker_of}
+use Rattle.broker_core.specs.State as broker
+use Rattle.broker_core.specs.State.{topology_of, broker_of}
 use Rattle.engine.specs.Reading.{IsKept, kept_of}
-use Rattle.engine.specs.declared.links.Link.{Link}
+use Rattle.engine.specs.declared.link.Link.{Link}
 
 -- the broker, what is in force, how many numbers were given, and the connections that are not gone
 pub record Parts : Type 0 where

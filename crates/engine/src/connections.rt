@@ -9,6 +9,7 @@ ghost use Rattle.std.specs.Prelude.{
   get_or,
   true,
   IfSome,
+  Some,
   IsOk,
   OnOk,
   OnErr,
@@ -16,10 +17,11 @@ ghost use Rattle.std.specs.Prelude.{
 };
 ghost use Rattle.model.specs.Arrivals.{is_ended};
 ghost use Rattle.model.specs.Sending.{AreCarried};
-ghost use Rattle.broker.specs.State.{topology_of, broker_of};
+ghost use Rattle.broker_core.specs.State.{topology_of, broker_of};
 ghost use Rattle.engine.specs.Reading.{IsKept};
+ghost use Rattle.engine.specs.Waiting.{HoldsNone};
 ghost use Rattle.engine.specs.Performing.{rules_of};
-ghost use Rattle.engine.specs.Turning.{LinkTook, LinkWaits};
+ghost use Rattle.engine.specs.Turning.{LinkTook, LinkWaits, OnIdle};
 ghost use Rattle.engine.specs.World.{AreRising};
 ghost use Rattle.engine.specs.Engines.{
   IsPlaceOf,
@@ -30,24 +32,49 @@ ghost use Rattle.engine.specs.Engines.{
   LinksFed,
   IsSwept,
 };
-ghost use Rattle.engine.specs.declared.links.Link as seen_link;
+ghost use Rattle.engine.specs.declared.link.Link as seen_link;
 
-use crate::links::Link;
+use crate::link::Link;
 use crate::performing::resume_if;
 use crate::scratch::Scratch;
-use crate::turning::{Turn, turn_with_room};
+use crate::spares::Spares;
+use crate::turning::{Turn, turn_awake};
 use broker::Broker;
 use model::User;
 use std::alloc::{AllocError, Global};
 
-/// How many bytes spell what one event sends, at most.
-pub(crate) const MOST_SENT: usize = 1_060_000;
-
 /// An output of so many bytes pauses its connection.
 const BOUND: usize = 1_048_576;
 
-/// The place of the connection of this number.
+/// The place of the connection of this number: it is found at once where every connection between it and the first still
+/// stands, and else by a search.
 pub(crate) fn place_of(links: &[Link], number: u64) -> Option<usize>
+    requires { AreRising 0 links.now }
+    ensures place { IsPlaceOf links.now number result }
+    ensures within { IfSome result (λ i. i < length links.now) }
+{
+    match place_at_once(links, number) {
+        Some(place) => Some(place),
+        None => place_by_search(links, number),
+    }
+}
+
+/// The place that it has where no number between the first and it is missing.
+fn place_at_once(links: &[Link], number: u64) -> Option<usize>
+    ensures place { IfSome result (λ i. IsPlaceOf links.now number (Some i)) }
+{
+    let first = links.first()?;
+    let place = number.checked_sub(first.number)? as usize;
+    let link = links.get(place)?;
+    if link.number == number {
+        Some(place)
+    } else {
+        None
+    }
+}
+
+/// The place of the connection of this number, wherever it stands.
+fn place_by_search(links: &[Link], number: u64) -> Option<usize>
     requires { AreRising 0 links.now }
     ensures place { IsPlaceOf links.now number result }
     ensures within { IfSome result (λ i. i < length links.now) }
@@ -58,18 +85,20 @@ pub(crate) fn place_of(links: &[Link], number: u64) -> Option<usize>
     }
 }
 
-/// One turn of one connection, with room made for the greatest step.
+/// One turn of one connection.
 fn turn_link(
     alloc: Global,
     users: &[User],
     broker: &mut Broker,
     scratch: &mut Scratch,
+    spares: &mut Spares,
     link: &mut Link,
 ) -> Result<Turn, AllocError>
     requires kept { IsKept link.old.number link.old.kept }
     requires carried { AreCarried (broker_of broker.old) }
     ensures ok { IfOk result (λ t. LinkTook (rules_of (topology_of broker.old) users.now) (broker_of broker.old) link.old t (broker_of broker.new) link.new) }
     ensures err { OnErr result (LinkWaits (broker_of broker.old) link.old (broker_of broker.new) link.new) }
+    ensures idle { IfOk result (λ t. OnIdle t (HoldsNone link.new.output)) }
     ensures kept { IsKept link.new.number link.new.kept }
     ensures number { link.new.number ≡ link.old.number }
     ensures topology { topology_of broker.new ≡ topology_of broker.old }
@@ -80,8 +109,7 @@ fn turn_link(
     if link.output.bytes().len() >= BOUND {
         return Ok(Turn::Paused);
     }
-    link.output.reserve(MOST_SENT)?;
-    turn_with_room(alloc, users, broker, scratch, link)
+    turn_awake(alloc, users, broker, scratch, spares, link)
 }
 
 /// Takes the connection at this place out, where it is over with no output left.
@@ -100,6 +128,7 @@ pub(crate) fn turn_at(
     users: &[User],
     broker: &mut Broker,
     scratch: &mut Scratch,
+    spares: &mut Spares,
     links: &mut Vec<Link>,
     place: usize,
 ) -> Result<Turn, AllocError>
@@ -109,29 +138,37 @@ pub(crate) fn turn_at(
     ensures took { LinksTook (rules_of (topology_of broker.old) users.now) (broker_of broker.old) links.old.items place result (broker_of broker.new) links.new.items }
     ensures topology { topology_of broker.new ≡ topology_of broker.old }
 {
-    let turn = turn_link(alloc, users, broker, scratch, &mut links[place]);
+    let turn = turn_link(alloc, users, broker, scratch, spares, &mut links[place]);
     sweep(links, place);
     turn
 }
 
-/// Takes bytes from the front of a connection's output.
-fn take_from(broker: &mut Broker, link: &mut Link, n: u64)
+/// Takes bytes from the front of a connection's output, and its storage where none is left.
+fn take_from(broker: &mut Broker, spares: &mut Spares, link: &mut Link, n: u64)
     ensures sent { LinkSent (topology_of broker.old) (broker_of broker.old) link.old n (broker_of broker.new) link.new }
+    ensures none { HoldsNone link.new.output }
     ensures topology { topology_of broker.new ≡ topology_of broker.old }
 {
     let was = link.output.bytes().len() >= BOUND;
     link.output.take_up_to(n);
     let is = link.output.bytes().len() >= BOUND;
+    spares.take_back(&mut link.output);
     resume_if(broker, link.number, was, is);
 }
 
 /// The same of the connection at this place, which is taken out where it is gone by then.
-pub(crate) fn take_at(broker: &mut Broker, links: &mut Vec<Link>, place: usize, n: u64)
+pub(crate) fn take_at(
+    broker: &mut Broker,
+    spares: &mut Spares,
+    links: &mut Vec<Link>,
+    place: usize,
+    n: u64,
+)
     requires { place < length links.old.items }
     ensures sent { LinksSent (topology_of broker.old) (broker_of broker.old) links.old.items place n (broker_of broker.new) links.new.items }
     ensures topology { topology_of broker.new ≡ topology_of broker.old }
 {
-    take_from(broker, &mut links[place], n);
+    take_from(broker, spares, &mut links[place], n);
     sweep(links, place);
 }
 

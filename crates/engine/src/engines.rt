@@ -2,6 +2,7 @@
 
 ghost use Rattle.std.specs.Prelude.{◌≡◌, ◌<◌, true, IfOk, IsOk, OnErr, OnOk, MatchOption, vec_len, vec_capacity};
 ghost use Rattle.model.specs.Arrivals.{Same, Waits, new_world, is_over};
+ghost use Rattle.model.specs.Topology.{IsWellFormed};
 ghost use Rattle.runs.specs.Opened.{Hears, Idles, Takes, IsLost};
 ghost use Rattle.engine.specs.World.{world_of};
 ghost use Rattle.engine.specs.Engines.{Turned, OnDid, left_in};
@@ -10,9 +11,10 @@ ghost use Rattle.engine.specs.Opening.{Numbers, OpenedNew, OpenedReady};
 ghost use Rattle.engine.specs.Certified.{in_force};
 
 use crate::connections::{feed_at, place_of, take_at, turn_at};
-use crate::links::Link;
+use crate::link::Link;
 use crate::pumping::pump_among;
 use crate::scratch::Scratch;
+use crate::spares::Spares;
 use crate::turning::Turn;
 use broker::Broker;
 use certificate::Checked;
@@ -58,6 +60,7 @@ pub struct Engine {
     /// Those that are not gone, in the order of their numbers.
     links: Vec<Link>,
     scratch: Scratch,
+    spares: Spares,
 }
 
 /// Written out, so that a drop is one call.
@@ -70,6 +73,7 @@ impl Drop for Engine {
             given: _,
             links: _,
             scratch: _,
+            spares: _,
         } = self;
     }
 }
@@ -97,6 +101,7 @@ impl Engine {
             given: 0,
             links: Vec::new(alloc),
             scratch: Scratch::new(alloc)?,
+            spares: Spares::new(alloc)?,
         })
     }
 
@@ -154,6 +159,7 @@ impl Engine {
                 self.users.as_slice(),
                 &mut self.broker,
                 &mut self.scratch,
+                &mut self.spares,
                 &mut self.links,
                 place,
             ),
@@ -174,6 +180,7 @@ impl Engine {
                     alloc,
                     &mut self.broker,
                     &mut self.scratch,
+                    &mut self.spares,
                     &mut self.links,
                     pick,
                 )?;
@@ -188,7 +195,13 @@ impl Engine {
         ensures { Takes (world_of self.old) c n (world_of self.new) }
     {
         if let Some(place) = place_of(&self.links, c) {
-            take_at(&mut self.broker, &mut self.links, place, n);
+            take_at(
+                &mut self.broker,
+                &mut self.spares,
+                &mut self.links,
+                place,
+                n,
+            );
         }
     }
 
@@ -220,6 +233,14 @@ impl Engine {
             Some(place) => self.links[place].session.is_over(),
             None => true,
         }
+    }
+
+    /// What every topology keeps, of the one that is in force.
+    pub fn is_well_formed(&self)
+        ensures { IsWellFormed (world_of self.now).config.topology }
+    {
+        // A look at a field, by which what every engine keeps is known.
+        let _links = &self.links;
     }
 }
 

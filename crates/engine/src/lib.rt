@@ -6,7 +6,7 @@
 
 mod connections;
 mod engines;
-mod links;
+mod link;
 mod machines;
 mod output;
 mod performing;
@@ -14,6 +14,7 @@ mod pumping;
 mod reading;
 mod scratch;
 mod sending;
+mod spares;
 mod turning;
 
 pub use engines::{Engine, Refused};

@@ -62,6 +62,10 @@ impl Machine for Engine {
     fn is_over(&self, c: u64) -> bool {
         Engine::is_over(self, c)
     }
+
+    fn is_well_formed(&self) {
+        Engine::is_well_formed(self);
+    }
 }
 
 /// The number of a connection that was opened; none where no more can be opened.
@@ -78,7 +82,7 @@ fn number_of(opened: Result<u64, Refused>) -> Result<Option<u64>, AllocError>
 }
 
 /// All that arrives at an engine with no connection, in order, each with the commands that it brings: what was put out
-/// for each connection, and all notes. Certified delivery holds of it.
+/// for each connection, and all notes. Certified delivery holds of it, and messages were given out in order.
 pub fn run(
     alloc: Global,
     checked: Checked,

@@ -1,12 +1,13 @@
 //! Bytes that are put in at the back and taken from the front.
 
-ghost use Rattle.std.specs.Prelude.{◌≡◌, ◌≤◌, ◌+◌, ◌^◌, [], ◌++◌, length, take, drop, OnOk, vec_len, vec_capacity};
+ghost use Rattle.std.specs.Prelude.{◌≡◌, ◌≤◌, ◌+◌, ◌^◌, [], ◌++◌, length, take, drop, true, OnOk, vec_len, vec_capacity};
 ghost use Rattle.model.specs.Frames.{frame_bytes};
 ghost use Rattle.frame.specs.Reading.{seen};
 
 use frame::{Frame, put_frame};
 use std::alloc::{AllocError, Global};
 use std::marker::Model;
+use std::mem;
 
 /// From so many taken bytes on, what is left moves to the front.
 const MOVED_FROM: usize = 16_384;
@@ -44,6 +45,25 @@ impl Output {
         ensures { result.now ≡ self.now.bytes }
     {
         &self.bytes[self.start..]
+    }
+
+    /// Whether it has no storage.
+    pub(crate) fn has_none(&self) -> bool
+        ensures bytes { result ≡ true → self.now.bytes ≡ [] }
+        ensures room { result ≡ true → self.now.room ≡ 0 }
+    {
+        self.bytes.capacity() == 0
+    }
+
+    /// Moves to this storage, where nothing waits in its own, which it gives back.
+    pub(crate) fn move_into(&mut self, mut storage: Vec<u8>) -> Vec<u8>
+        requires { self.old.bytes ≡ [] }
+        ensures bytes { self.new.bytes ≡ [] }
+        ensures room { self.new.room ≡ vec_capacity storage }
+    {
+        storage.clear();
+        self.start = 0;
+        mem::replace(&mut self.bytes, storage)
     }
 
     /// Makes room for `n` more bytes.

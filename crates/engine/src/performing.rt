@@ -5,7 +5,7 @@ ghost use Rattle.model.specs.Step.{Is};
 ghost use Rattle.model.specs.State.{after_move};
 ghost use Rattle.model.specs.Arrivals.{IsSaid};
 ghost use Rattle.model.specs.Sending.{AreCarried, AreOwn};
-ghost use Rattle.broker.specs.State.{topology_of, broker_of};
+ghost use Rattle.broker_core.specs.State.{topology_of, broker_of};
 ghost use Rattle.engine.specs.Performing.{IsAsked, session_after, rules_of, IsAnswerTo, ByBroker, ByPhase, Decides, PausesOr};
 
 use broker::{Broker, Step};

@@ -3,14 +3,15 @@
 ghost use Rattle.std.specs.Prelude.{◌≡◌, None, IfOk, OnErr};
 ghost use Rattle.model.specs.Naming.{AreNamed};
 ghost use Rattle.model.specs.Sending.{AreCarried};
-ghost use Rattle.broker.specs.State.{topology_of, broker_of};
-ghost use Rattle.broker.specs.Picked.{IsPick};
+ghost use Rattle.broker_core.specs.State.{topology_of, broker_of};
+ghost use Rattle.broker_core.specs.Picked.{IsPick};
 ghost use Rattle.engine.specs.World.{link_in, AreRising};
 ghost use Rattle.engine.specs.Pumping.{LinkPumped, LinksPumped, LinksNotPumped};
 
-use crate::connections::{MOST_SENT, place_of};
-use crate::links::Link;
+use crate::connections::place_of;
+use crate::link::Link;
 use crate::scratch::Scratch;
+use crate::spares::Spares;
 use crate::turning::put_out;
 use broker::{Broker, Pick};
 use model::Note;
@@ -21,6 +22,7 @@ fn pump_link(
     alloc: Global,
     broker: &mut Broker,
     scratch: &mut Scratch,
+    spares: &mut Spares,
     link: &mut Link,
     pick: Pick,
 ) -> Result<Vec<Note>, AllocError>
@@ -33,18 +35,25 @@ fn pump_link(
     ensures output_kept { OnErr result (link.new.output.bytes ≡ link.old.output.bytes) }
     ensures topology { topology_of broker.new ≡ topology_of broker.old }
 {
-    link.output.reserve(MOST_SENT)?;
+    spares.make_room(&mut link.output)?;
     let max = link.session.frame_max();
-    let step = broker.pump(alloc, pick)?;
-    put_out(
-        pick.connection,
-        broker,
-        scratch,
-        &mut link.output,
-        max,
-        &step.sends,
-    );
-    Ok(step.notes)
+    match broker.pump(alloc, pick) {
+        Ok(step) => {
+            put_out(
+                pick.connection,
+                broker,
+                scratch,
+                &mut link.output,
+                max,
+                &step.sends,
+            );
+            Ok(step.notes)
+        }
+        Err(e) => {
+            spares.take_back(&mut link.output);
+            Err(e)
+        }
+    }
 }
 
 /// The same among all connections, of which its own is one.
@@ -52,6 +61,7 @@ pub(crate) fn pump_among(
     alloc: Global,
     broker: &mut Broker,
     scratch: &mut Scratch,
+    spares: &mut Spares,
     links: &mut Vec<Link>,
     pick: Pick,
 ) -> Result<Vec<Note>, AllocError>
@@ -65,7 +75,7 @@ pub(crate) fn pump_among(
     ensures topology { topology_of broker.new ≡ topology_of broker.old }
 {
     match place_of(links, pick.connection) {
-        Some(place) => pump_link(alloc, broker, scratch, &mut links[place], pick),
+        Some(place) => pump_link(alloc, broker, scratch, spares, &mut links[place], pick),
         None => unreachable!(),
     }
 }

@@ -3,7 +3,7 @@
 ghost use Rattle.std.specs.Prelude.{◌≡◌, ◌≤◌, [], length, vec_len, vec_capacity, IfOk};
 ghost use Rattle.model.specs.Grammar.{IsMethod, method_bytes};
 ghost use Rattle.model.specs.Headers.{header_bytes};
-ghost use Rattle.model.specs.Commands.{IsWithin};
+ghost use Rattle.model.specs.Sending.{IsStored};
 
 use headers::put_header;
 use methods::put_method;
@@ -45,7 +45,7 @@ impl Scratch {
 
     /// Spells the header of this content in place of what stands here.
     pub(crate) fn spell_header(&mut self, content: &Content)
-        requires { IsWithin content.now }
+        requires { IsStored content.now }
         ensures { self.new ≡ header_bytes (length content.now.body) content.now.properties }
     {
         header_into(&mut self.bytes, content);
@@ -70,7 +70,7 @@ fn spell_into(bytes: &mut Vec<u8>, method: &Method)
 }
 
 fn header_into(bytes: &mut Vec<u8>, content: &Content)
-    requires within { IsWithin content.now }
+    requires stored { IsStored content.now }
     requires room { 4096 ≤ vec_capacity bytes.old }
     ensures items { bytes.new.items ≡ header_bytes (length content.now.body) content.now.properties }
     ensures room { 4096 ≤ vec_capacity bytes.new }

@@ -4,9 +4,8 @@ ghost use Rattle.std.specs.Prelude.{◌≡◌, ◌≤◌, ◌++◌, length, take
 ghost use Rattle.std.specs.List.{AllByRecursion};
 ghost use Rattle.model.specs.Frames.{frame_bytes};
 ghost use Rattle.model.specs.Grammar.{IsMethod, method_bytes};
-ghost use Rattle.model.specs.Commands.{IsWithin, HasWithin};
 ghost use Rattle.model.specs.Spelling.{method_frame, content_frames, send_bytes, spelling, receiver, IsSpelled};
-ghost use Rattle.model.specs.Sending.{IsOwn, AreOwn, most_sent};
+ghost use Rattle.model.specs.Sending.{IsStored, HasStored, IsOwn, AreOwn, most_sent};
 ghost use Rattle.engine.specs.Waiting.{Puts};
 ghost use Rattle.engine.specs.Sending.{header_frame, body_bytes};
 
@@ -35,7 +34,7 @@ fn put_method_frame(output: &mut Output, scratch: &mut Scratch, channel: u16, me
 
 /// Puts the frame of a content's header in. `scratch` is a place to spell it.
 fn put_header_frame(output: &mut Output, scratch: &mut Scratch, channel: u16, content: &Content)
-    requires within { IsWithin content.now }
+    requires stored { IsStored content.now }
     requires room { length (frame_bytes (header_frame channel content.now)) ≤ output.old.room }
     ensures { Puts output.old (frame_bytes (header_frame channel content.now)) output.new }
 {
@@ -86,7 +85,7 @@ fn put_content(
     content: &Option<Content>,
 )
     requires max { 4096 ≤ max }
-    requires within { HasWithin content.now }
+    requires stored { HasStored content.now }
     requires room { length (flat_map frame_bytes (content_frames max channel content.now)) ≤ output.old.room }
     ensures { Puts output.old (flat_map frame_bytes (content_frames max channel content.now)) output.new }
 {

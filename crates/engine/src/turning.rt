@@ -7,17 +7,19 @@ ghost use Rattle.model.specs.Sending.{AreCarried, AreOwn, most_sent};
 ghost use Rattle.model.specs.Spelling.{receiver, spelling, IsSpelled};
 ghost use Rattle.model.specs.declared.events.Event as event;
 ghost use Rattle.model.specs.declared.events.Event.TheVariants as happens;
-ghost use Rattle.broker.specs.State.{topology_of, broker_of};
+ghost use Rattle.broker_core.specs.State.{topology_of, broker_of};
 ghost use Rattle.engine.specs.Reading.{IsKept, IsMade};
 ghost use Rattle.engine.specs.Performing.{IsAsked, PausesOr, rules_of};
-ghost use Rattle.engine.specs.Turning.{Performed, DidEvent, LinkTook, LinkWaits};
+ghost use Rattle.engine.specs.Turning.{Performed, DidEvent, LinkTook, LinkWaits, OnIdle};
+ghost use Rattle.engine.specs.Waiting.{HoldsNone};
 
-use crate::links::Link;
+use crate::link::Link;
 use crate::output::Output;
 use crate::performing::{pause_if, perform};
 use crate::reading::{Next, forget, read_next};
 use crate::scratch::Scratch;
 use crate::sending::put_sends;
+use crate::spares::Spares;
 use broker::Broker;
 use model::{Event, Note, Send, User};
 use session::Session;
@@ -165,28 +167,38 @@ fn do_fault(
     }
 }
 
-/// One turn of a connection that is awake, where there is room for what it sends.
-pub(crate) fn turn_with_room(
+/// One turn of a connection that is awake. Room is made once there is something to perform.
+pub(crate) fn turn_awake(
     alloc: Global,
     users: &[User],
     broker: &mut Broker,
     scratch: &mut Scratch,
+    spares: &mut Spares,
     link: &mut Link,
 ) -> Result<Turn, AllocError>
     requires kept { IsKept link.old.number link.old.kept }
     requires carried { AreCarried (broker_of broker.old) }
-    requires room { most_sent ≤ link.old.output.room }
     requires open { is_ended link.old.session.phase ≡ false }
     requires below { is_past_bound link.old.output.bytes ≡ false }
     ensures ok { IfOk result (λ t. LinkTook (rules_of (topology_of broker.old) users.now) (broker_of broker.old) link.old t (broker_of broker.new) link.new) }
     ensures err { OnErr result (LinkWaits (broker_of broker.old) link.old (broker_of broker.new) link.new) }
+    ensures idle { IfOk result (λ t. OnIdle t (HoldsNone link.new.output)) }
     ensures kept { IsKept link.new.number link.new.kept }
     ensures number { link.new.number ≡ link.old.number }
     ensures topology { topology_of broker.new ≡ topology_of broker.old }
 {
     match read_next(link.number, &mut link.stream, &mut link.kept)? {
-        Next::Command => do_kept(alloc, users, broker, scratch, link),
-        Next::Fault(code) => do_fault(alloc, users, broker, scratch, link, code),
-        Next::Nothing => Ok(Turn::Idle),
+        Next::Command => {
+            spares.make_room(&mut link.output)?;
+            do_kept(alloc, users, broker, scratch, link)
+        }
+        Next::Fault(code) => {
+            spares.make_room(&mut link.output)?;
+            do_fault(alloc, users, broker, scratch, link, code)
+        }
+        Next::Nothing => {
+            spares.take_back(&mut link.output);
+            Ok(Turn::Idle)
+        }
     }
 }

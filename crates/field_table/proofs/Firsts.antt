@@ -1,6 +1,6 @@
 -- Values and pairs at the front of bytes, and bytes that are nothing else.
 use Rattle.std.proofs.Common.{◌≡◌, ℕ, Bool, true, false, eqb, List, [], ◌∷◌, ◌++◌, length, Option, Some, None, refl, sym, ap, subst, ◌∙◌, arith}
-use Rattle.std.specs.Prelude.{MatchOption, MatchBool}
+use Rattle.std.specs.Prelude.{MatchBool}
 use Rattle.std.proofs.lemmas.Bool.{eqb-true, eqb-false, false≢true}
 use Rattle.model.specs.Grammar.{Argument, Short_text, Long_text}
 use Rattle.model.specs.Tables.{Value, Values, Pairs, Truth, Byte, Short, Long, Long_long, Float, Double, Decimal, Long_string, Field_array, Timestamp, Inner_table, Byte_array, Void, no_values, value, no_pairs, pair, letter, content, values_bytes, pairs_bytes, IsValue}
@@ -77,7 +77,7 @@ unsound depth bytes rest leaf e never v after f =
 
 -- ---- one pair
 
-first_pair : (depth : ℕ) (bytes name rest after : List ℕ) (v : Value) → IsBytes bytes → argument_at a_short_text bytes ≡ Some (Short_text name, rest) → IsFirst depth rest v after → IsFirstPair depth bytes name v after
+pub first_pair : (depth : ℕ) (bytes name rest after : List ℕ) (v : Value) → IsBytes bytes → argument_at a_short_text bytes ≡ Some (Short_text name, rest) → IsFirst depth rest v after → IsFirstPair depth bytes name v after
 first_pair depth bytes name rest after v are e f =
     let t = argument_takes a_short_text bytes (Short_text name, rest) tt are e in
     record { short = t.fits; fits = f.fits; parts = t.parts ∙ ap (λ (z : List ℕ). (length name ∷ name) ++ z) f.parts }
@@ -88,17 +88,10 @@ name_read depth bytes name rest v p = ap (argument_at a_short_text) p.parts ∙ 
 abbrev named : List ℕ → List ℕ → Argument × List ℕ
 named name rest = (Short_text name, rest)
 
-no_first_pair : (depth : ℕ) (bytes name rest : List ℕ) → argument_at a_short_text bytes ≡ Some (Short_text name, rest) → HasNone depth rest → HasNoPair depth bytes
+pub no_first_pair : (depth : ℕ) (bytes name rest : List ℕ) → argument_at a_short_text bytes ≡ Some (Short_text name, rest) → HasNone depth rest → HasNoPair depth bytes
 no_first_pair depth bytes name rest e none other v after p =
     let same : named name rest ≡ named other (letter v ∷ content v ++ after) = same_some (argument_at a_short_text bytes) (named name rest) (named other (letter v ∷ content v ++ after)) e (name_read depth bytes other after v p) in
     none v after (record { fits = p.fits; parts = ap (λ (x : Argument × List ℕ). x.1) same })
-
--- what follows the value behind a name follows the pair
-pub pair_here : {X : Type 0} (bytes_in : X → List ℕ) (depth : ℕ) (bytes name rest : List ℕ) (r : Option X) → IsBytes bytes → argument_at a_short_text bytes ≡ Some (Short_text name, rest)
-    → MatchOption r (HasNone depth rest) (λ x. (v : Value) × IsFirst depth rest v (bytes_in x))
-    → MatchOption r (HasNoPair depth bytes) (λ x. (n : List ℕ) × (v : Value) × IsFirstPair depth bytes n v (bytes_in x))
-pair_here bytes_in depth bytes name rest None are e none = no_first_pair depth bytes name rest e none
-pair_here bytes_in depth bytes name rest (Some x) are e some = (name, some.0, first_pair depth bytes name rest (bytes_in x) some.0 are e some.1)
 
 -- ---- all values
 
@@ -131,14 +124,18 @@ pub pairs_onto : (depth : ℕ) (bytes name : List ℕ) (v : Value) (rest : List 
 pairs_onto depth bytes name v rest f h =
     (pair name v h.0, record { fits = (f.short, f.fits, h.1.fits); parts = f.parts ∙ ap (λ (z : List ℕ). (length name ∷ name) ++ (letter v ∷ content v ++ z)) h.1.parts })
 
+-- what follows the first pair is the other pairs
+pub pairs_behind : (depth : ℕ) (bytes name : List ℕ) (v : Value) (rest : List ℕ) (n : List ℕ) (w : Value) (ps : Pairs) → IsFirstPair depth bytes name v rest → SpellsPairs depth bytes (pair n w ps) → (name ≡ n) × SpellsPairs depth rest ps
+pairs_behind depth bytes name v rest n w ps f s =
+    let names = same_name name n (letter v ∷ content v ++ rest) (letter w ∷ content w ++ pairs_bytes ps) (sym f.parts ∙ s.parts) in
+    (names.0, record { fits = s.fits.2; parts = (alike depth depth v w rest (pairs_bytes ps) f.fits s.fits.1 names.1).rests })
+
 pub pairs_back : (depth : ℕ) (bytes name : List ℕ) (v : Value) (rest : List ℕ) → IsFirstPair depth bytes name v rest → HasPairs depth bytes → HasPairs depth rest
 pairs_back depth bytes name v rest f h = go h.0 h.1
   where
     go : (ps : Pairs) → SpellsPairs depth bytes ps → HasPairs depth rest
     go no_pairs s = absurd (let e : (length name ∷ name) ++ (letter v ∷ content v ++ rest) ≡ [] = sym f.parts ∙ s.parts in cc)
-    go (pair n w ps) s =
-        let names = same_name name n (letter v ∷ content v ++ rest) (letter w ∷ content w ++ pairs_bytes ps) (sym f.parts ∙ s.parts) in
-        (ps, record { fits = s.fits.2; parts = (alike depth depth v w rest (pairs_bytes ps) f.fits s.fits.1 names.1).rests })
+    go (pair n w ps) s = (ps, (pairs_behind depth bytes name v rest n w ps f s).1)
 
 pub no_pairs_left : (depth : ℕ) (bytes : List ℕ) → HasNoPair depth bytes → (bytes ≡ [] → ⊥) → HasPairs depth bytes → ⊥
 no_pairs_left depth bytes none some h = go h.0 h.1

@@ -4,3 +4,4 @@ pub mod Alone
 pub mod Firsts
 pub mod Views
 pub mod Puts
+pub mod Found

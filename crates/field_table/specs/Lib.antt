@@ -5,3 +5,4 @@ pub mod Reading
 pub mod View
 pub mod Answers
 pub mod Writing
+pub mod Lookups

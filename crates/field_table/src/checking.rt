@@ -1,7 +1,6 @@
 //! Whether bytes are a table, without reading what it says.
 
 ghost use Rattle.std.specs.Prelude.{MatchBool, MatchOption};
-ghost use Rattle.model.specs.Words.{Text};
 ghost use Rattle.model.specs.Tables.{Value, IsTable};
 ghost use Rattle.field_table.specs.Reading.{IsFirst, HasNone, IsFirstPair, HasNoPair, HasValues, HasPairs, Holds};
 
@@ -28,23 +27,26 @@ fn are_pairs(bytes: &[u8], depth: usize) -> bool
 {
     let mut rest = bytes;
     'pairs: while !rest.is_empty() {
-        match pair_end(rest, depth) {
-            Some(after) => rest = after,
+        match pair_at(rest, depth) {
+            Some((_, after)) => rest = after,
             None => return false,
         }
     }
     true
 }
 
-/// What follows the pair at the front.
+/// The name of the pair at the front, and what follows the pair.
 #[cycle(check)]
-fn pair_end(bytes: &[u8], depth: usize) -> Option<&[u8]>
-    ensures { MatchOption result (HasNoPair depth bytes.now) (λ rest. (name : Text) × (v : Value) × IsFirstPair depth bytes.now name v rest.now) }
+pub(crate) fn pair_at(bytes: &[u8], depth: usize) -> Option<(&[u8], &[u8])>
+    ensures { MatchOption result (HasNoPair depth bytes.now) (λ found. (v : Value) × IsFirstPair depth bytes.now found.0.now v found.1.now) }
 {
-    let Some((_, rest)) = short_text_at(bytes) else {
+    let Some((name, rest)) = short_text_at(bytes) else {
         return None;
     };
-    value_end(rest, depth)
+    match value_end(rest, depth) {
+        Some(after) => Some((name, after)),
+        None => None,
+    }
 }
 
 /// The bytes are the values of an array in which arrays and tables may stand `depth` levels deep.

@@ -8,6 +8,7 @@
 mod checking;
 mod fields;
 mod leaves;
+mod lookups;
 mod measuring;
 mod reading;
 mod refusals;
@@ -16,6 +17,7 @@ mod writing;
 
 pub use checking::is_table;
 pub use fields::{Entry, Field, Table};
+pub use lookups::has_field;
 pub use reading::read_table;
 pub use refusals::Refusal;
 pub use takes::{

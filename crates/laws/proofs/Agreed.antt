@@ -13,9 +13,10 @@ use Rattle.model.specs.Grammar.{Ids, ids_of}
 use Rattle.model.specs.Broker.{Outstanding, Channel, Connection, Broker, new_channel, is_full, is_ready, with_pair, with_row}
 use Rattle.model.specs.Entries.{is_under, is_held_as, by_channel, by_connection, freed, held_as, change_first}
 use Rattle.model.specs.Settling.{Rises, is_refused, settled, kept, takes}
-use Rattle.model.specs.Deliveries.{Settlement, Leaves, Returns, AreSettled, first_ready, holder_of, after_delivery, channel_after}
+use Rattle.model.specs.Deliveries.{Settlement, Leaves, Rejects, Returns, AreSettled, AreRejected, first_ready, holder_of, given_in, without_given, after_delivery, channel_after}
 use Rattle.model.specs.Step.{tag_of, Refusal, Ignored, Of_channel, Of_connection, Acts, Does, Makes, Gets, Settles, Performs, Refuses, Decides, OnConnection, OnLarge, IsPublish, IsDelivery, Is, channel_or_new, channels_up_to, comes_to, empty_publish, refusal, refusal_of_large, reply, with_freed, with_channel, is_awaiting}
 use Rattle.model.specs.Run.{empty_broker}
+use Rattle.model.specs.Deaths.{MayDie}
 use Rattle.model.specs.Agreement.{IsOutstanding, IsAgreed}
 use Rattle.model.specs.Message.{Message}
 use Rattle.model.specs.declared.messages.Entry.{Entry}
@@ -34,7 +35,8 @@ use Rattle.model.specs.declared.notes.Note.{Note}
 use Rattle.laws.specs.Agreeing.{BrokersStayAgreed}
 use Rattle.laws.proofs.Counts.{count-append, count-cons, in-append, all_in, all-append, all_each}
 use Rattle.model.specs.declared.messages.Mark.{Mark}
-use Rattle.laws.proofs.Agreement.{Passes, number, HeldIn, Shrinks, shrinks_same, shrinks_freed, shrinks_without, shrinks_filter, left_shrinks, returned_shrinks, left_clear, returned_clear, in_freed, held_here, counted_in, find_counted, ready_not_held, same_holder, shrinks_on}
+use Rattle.laws.proofs.Agreement.{Passes, number, HeldIn, Shrinks, shrinks_same, shrinks_freed, shrinks_without, shrinks_filter, left_shrinks, returned_shrinks, left_clear, returned_clear, in_freed, held_here, counted_in, find_counted, ready_not_held, same_holder, shrinks_on, AreApart, IsClear, clear_on, apart_on, count_own, at_own}
+use Rattle.laws.proofs.Dying.{Goes, not_found, left_only, died, goes_by}
 use Rattle.laws.proofs.Leaving.{at_queue}
 
 -- ---- channels
@@ -206,6 +208,32 @@ shrinks_arrivals t old new entries m rs is = record {
     go q e holder mark (inl i) = record { entry = e; there = i; mark = mark }
     go q e holder mark (inr i) = ready_not_held _ (sym (in_arrivals t entries m q e rs i) ∙ mark)
 
+-- ---- what is rejected
+
+-- no dead letter is held
+one_shrinks : (t : Topology) (name : Text) (gone : Text → List Entry) (notes : List Note) (new : Text → List Entry) (found : Option Entry) → Goes t name gone notes new found → Shrinks gone new
+one_shrinks t name gone notes new None (not_found none same) = shrinks_same gone new same
+one_shrinks t name gone notes new (Some e) (left_only is same) = shrinks_same gone new same
+one_shrinks t name gone notes new (Some e) (died p exchange rest dies is d) = shrinks_arrivals t gone new gone _ d.targets d.left
+
+first_shrinks : (t : Topology) (c h : ℕ) (o : Outstanding) (old : Text → List Entry) (notes : List Note) (mid : Text → List Entry) → MayDie t o.queue (without_given c h old o) notes mid (given_in c h old o) → Shrinks (without_given c h old o) mid
+first_shrinks t c h o old notes mid dies = one_shrinks t o.queue (without_given c h old o) notes mid (given_in c h old o) (goes_by t o.queue (without_given c h old o) notes mid (given_in c h old o) dies)
+
+pub rejected_shrinks : (t : Topology) (c h : ℕ) (os : List Outstanding) (old : Text → List Entry) (notes : List Note) (new : Text → List Entry) → AreRejected t c h os old notes new → Shrinks old new
+rejected_shrinks t c h [] old notes new a = shrinks_same old new a.1
+rejected_shrinks t c h (o ∷ os) old notes new (mid, first, rest, dies, all, more) =
+    shrinks_on old mid new (shrinks_on old (without_given c h old o) mid (shrinks_without (is_held_as (holder_of c h o)) old o.queue) (first_shrinks t c h o old first mid dies)) (rejected_shrinks t c h os mid rest new more)
+
+rejected_clear : (t : Topology) (c h : ℕ) (os : List Outstanding) (old : Text → List Entry) (notes : List Note) (new : Text → List Entry) → AreRejected t c h os old notes new → AreApart old → (o : Outstanding) → IsIn o os → IsClear c h new o
+rejected_clear t c h [] old notes new a apart o i = absurd i
+rejected_clear t c h (p ∷ os) old notes new (mid, first, rest, dies, all, more) apart o (inl e) =
+    clear_on c h o mid new (rejected_shrinks t c h os mid rest new more)
+    (subst (IsClear c h mid) (sym e) (clear_on c h p (without_given c h old p) mid (first_shrinks t c h p old first mid dies)
+    (ap (count_by (is_held_as (holder_of c h p))) (at_own old p.queue _) ∙ count_own (is_held_as (holder_of c h p)) (old p.queue) (apart p.queue (holder_of c h p)))))
+rejected_clear t c h (p ∷ os) old notes new (mid, first, rest, dies, all, more) apart o (inr i) =
+    let step : Shrinks old mid = shrinks_on old (without_given c h old p) mid (shrinks_without (is_held_as (holder_of c h p)) old p.queue) (first_shrinks t c h p old first mid dies) in
+    rejected_clear t c h os mid rest new more (apart_on old mid step apart) o i
+
 -- ---- what is settled
 
 -- a delivery that is not settled stays
@@ -291,17 +319,19 @@ module _ (old new : Broker) (c h : ℕ) (tag : ℕ) (multiple : Bool) (gone : Li
       go true s = there
       go false s = stays (same_Some _ gone s) (takes tag_of tag multiple o) refl
 
-settles_agree : (how : Settlement) (old new : Broker) (c h tag : ℕ) (multiple : Bool) (wanted sends : List Send) (notes : List Note) → IsAgreed old
-    → Settles how old c h (channel_or_new (old.channel c h)) tag multiple wanted sends notes new → IsAgreed new
-settles_agree how old new c h tag multiple wanted sends notes a p = agreed_with old new c h _ a (shrinks how p.queues) p.channels (good_kept (channel_or_new (old.channel c h)) tag multiple (good_or_new old a c h))
+settles_agree : (t : Topology) (how : Settlement) (old new : Broker) (c h tag : ℕ) (multiple : Bool) (wanted sends : List Send) (notes : List Note) → IsAgreed old
+    → Settles t how old c h (channel_or_new (old.channel c h)) tag multiple wanted sends notes new → IsAgreed new
+settles_agree t how old new c h tag multiple wanted sends notes a p = agreed_with old new c h _ a (shrinks how p.queues) p.channels (good_kept (channel_or_new (old.channel c h)) tag multiple (good_or_new old a c h))
     (still_outstanding old new c h tag multiple p.gone a p.settled_are (clear how p.queues))
   where
-    shrinks : (s : Settlement) → AreSettled s c h p.gone old.queue notes new.queue → Shrinks old.queue new.queue
+    shrinks : (s : Settlement) → AreSettled t s c h p.gone old.queue notes new.queue → Shrinks old.queue new.queue
     shrinks (Leaves cause) q = left_shrinks cause c h p.gone old.queue notes new.queue q
+    shrinks Rejects q = rejected_shrinks t c h p.gone old.queue notes new.queue q
     shrinks Returns q = returned_shrinks c h p.gone old.queue new.queue q.1
 
-    clear : (s : Settlement) → AreSettled s c h p.gone old.queue notes new.queue → (o : Outstanding) → IsIn o p.gone → count_by (is_held_as (holder_of c h o)) (new.queue o.queue) ≡ zero
+    clear : (s : Settlement) → AreSettled t s c h p.gone old.queue notes new.queue → (o : Outstanding) → IsIn o p.gone → count_by (is_held_as (holder_of c h o)) (new.queue o.queue) ≡ zero
     clear (Leaves cause) q o i = left_clear cause c h p.gone old.queue notes new.queue q a.apart o i
+    clear Rejects q o i = rejected_clear t c h p.gone old.queue notes new.queue q a.apart o i
     clear Returns q o i = returned_clear c h p.gone old.queue new.queue q.1 o i
 
 -- ---- what is given out
@@ -556,10 +586,10 @@ module _ (t : Topology) (old new : Broker) (a : IsAgreed old) where
   performs sends notes c h (BasicConsume m) content conn accepted p = agreed_record old new c h _ a (shrinks_same old.queue new.queue p.left.queues) p.left.channels refl refl refl
   performs sends notes c h (BasicCancel m) content conn accepted p = agreed_record old new c h _ a (shrinks_same old.queue new.queue p.left.queues) p.left.channels refl refl refl
   performs sends notes c h (BasicGet m) content conn accepted p = gets sends notes c h m (first_ready (old.queue m.queue)) (not_awaited conn h m (old.channel c h) accepted) p
-  performs sends notes c h (BasicAck m) content conn accepted p = settles_agree _ old new c h m.delivery_tag m.multiple [] sends notes a p
-  performs sends notes c h (BasicReject m) content conn accepted p = settles_agree _ old new c h m.delivery_tag false [] sends notes a p
-  performs sends notes c h (BasicNack m) content conn accepted p = settles_agree _ old new c h m.delivery_tag m.multiple [] sends notes a p
-  performs sends notes c h (BasicRecover requeue) content conn accepted p = settles_agree _ old new c h 0 true _ sends notes a p
+  performs sends notes c h (BasicAck m) content conn accepted p = settles_agree t _ old new c h m.delivery_tag m.multiple [] sends notes a p
+  performs sends notes c h (BasicReject m) content conn accepted p = settles_agree t _ old new c h m.delivery_tag false [] sends notes a p
+  performs sends notes c h (BasicNack m) content conn accepted p = settles_agree t _ old new c h m.delivery_tag m.multiple [] sends notes a p
+  performs sends notes c h (BasicRecover requeue) content conn accepted p = settles_agree t _ old new c h 0 true _ sends notes a p
   performs sends notes c h (QueuePurge m) content conn accepted p =
       agreed_same old new a (shrinks_on old.queue _ new.queue (shrinks_filter (λ e. not (is_ready e)) old.queue m.queue) (shrinks_same _ new.queue p.left.queues)) p.left.channels
   performs sends notes c h _ content conn accepted p = absurd p

@@ -121,7 +121,7 @@ count_without f p (y ∷ ys) = go (p y) (count_without f p ys)
         omega (arith, one, two, le)
 
 -- without the first that passes, one fewer passes
-count_own : (p : Entry → Bool) (xs : List Entry) → count_by p xs ≤ 1 → count_by p (without_first p xs) ≡ zero
+pub count_own : (p : Entry → Bool) (xs : List Entry) → count_by p xs ≤ 1 → count_by p (without_first p xs) ≡ zero
 count_own p [] le = omega arith
 count_own p (y ∷ ys) le = go (p y) refl (count_own p ys)
   where
@@ -242,17 +242,17 @@ returned_shrinks c h (o ∷ os) old new (mid, is, more) =
     (returned_shrinks c h os mid new more)
 
 -- no two are held under one tag
-abbrev AreApart : (Text → List Entry) → Type 0
+abbrev pub AreApart : (Text → List Entry) → Type 0
 AreApart queues = (q : Text) (holder : Holder) → count_by (is_held_as holder) (queues q) ≤ 1
 
-apart_on : (old new : Text → List Entry) → Shrinks old new → AreApart old → AreApart new
+pub apart_on : (old new : Text → List Entry) → Shrinks old new → AreApart old → AreApart new
 apart_on old new s a q holder = let x = s.fewer q holder in let y = a q holder in omega (arith, x, y)
 
 -- under the tag of a delivery nothing is held in its queue
-abbrev IsClear : ℕ → ℕ → (Text → List Entry) → Outstanding → Type 0
+abbrev pub IsClear : ℕ → ℕ → (Text → List Entry) → Outstanding → Type 0
 IsClear c h queues o = count_by (is_held_as (holder_of c h o)) (queues o.queue) ≡ zero
 
-clear_on : (c h : ℕ) (o : Outstanding) (old new : Text → List Entry) → Shrinks old new → IsClear c h old o → IsClear c h new o
+pub clear_on : (c h : ℕ) (o : Outstanding) (old new : Text → List Entry) → Shrinks old new → IsClear c h old o → IsClear c h new o
 clear_on c h o old new s z = let le = s.fewer o.queue (holder_of c h o) in omega (arith, le, z)
 
 pub here_eq : (q : Text) → bytes_eq q q ≡ true

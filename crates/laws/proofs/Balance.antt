@@ -1,18 +1,15 @@
 -- Each queue has what entered it and didn't leave it.
-use Rattle.std.proofs.Common.{◌≡◌, ◌<◌, ℕ, ◌+◌, List, [], ◌∷◌, ◌++◌, Bool, true, false, cond, eqb, length, refl, sym, ap, subst, ◌∙◌, arith, append_assoc, Option, Some, None, inl, inr}
-use Rattle.std.specs.Prelude.{count_by, ◌&&◌, not, if◌then◌else◌}
+use Rattle.std.proofs.Common.{◌≡◌, ◌<◌, ◌≤◌, ℕ, ◌+◌, List, [], ◌∷◌, ◌++◌, Bool, true, false, eqb, length, refl, sym, ap, subst, ◌∙◌, arith, append_assoc, Option, Some, None, inl, inr}
+use Rattle.std.specs.Prelude.{count_by, nat_le, ◌&&◌}
 use Rattle.std.specs.Str.{bytes_eq}
 use Rattle.std.specs.List.{AllByRecursion}
-use Rattle.std.proofs.Math.Bool.{and-true, and-false}
-use Rattle.std.proofs.lemmas.Bool.{ne_eqb}
+use Rattle.std.proofs.lemmas.Bool.{ne_eqb, eq-eqb, leb-true, leb-false}
 use Rattle.model.specs.Words.{Text}
 use Rattle.model.specs.Topology.{Topology, IsIn}
-use Rattle.model.specs.Broker.{Broker, is_full}
+use Rattle.model.specs.Broker.{Broker}
 use Rattle.model.specs.Step.{content_or_none, message, comes_to, entry_notes, returned_notes, confirm_notes, is_none, is_some_full, next_of, answer_of}
 use Rattle.model.specs.State.{State, Step}
 use Rattle.model.specs.Run.{Happening, Run, Balances, Stays, AreCounted, notes_of, is_entered, is_left, has_number}
-use Rattle.model.specs.Message.{Message}
-use Rattle.model.specs.declared.messages.Mark.TheVariants.{Ready}
 use Rattle.model.specs.declared.messages.Entry.{Entry}
 use Rattle.model.specs.declared.contents.Content.{Content}
 use Rattle.model.specs.declared.events.Send.{Send}
@@ -21,19 +18,13 @@ use Rattle.model.specs.declared.notes.Note.{Note}
 use Rattle.model.specs.declared.notes.Note.TheVariants.{Published, Entered, Refused, Returned, Confirmed}
 use Rattle.model.specs.declared.notes.Answer.{Answer}
 use Rattle.model.specs.declared.notes.Way.TheVariants as way
-use Rattle.laws.proofs.View.{Publishes, Seen, seen_at, leavings}
-use Rattle.laws.proofs.Counts.{count-append, count-cons, count-cons_no, count_none, all-append}
+use Rattle.laws.proofs.View.{Publishes, Seen, seen_at, quiet_notes}
+use Rattle.laws.proofs.Dying.{HasDied}
+use Rattle.laws.proofs.Entering.{entries_all, comes_as_noted}
+use Rattle.laws.proofs.Agreement.{counted_in}
+use Rattle.laws.proofs.Counts.{count-append, count-cons_no, count_none, all-append}
 
 -- ---- what a publish notes
-
-entries_all : (P : Note → Type 0) (t : Topology) (entries : Text → List Entry) (size k : ℕ) (rs : List Text)
-    → ((r : Text) → P (Refused k r)) → ((r : Text) → IsIn r rs → P (Entered k r way.Publish)) → AllByRecursion P (entry_notes t entries size k way.Publish rs)
-entries_all P t entries size k [] refused entered = tt
-entries_all P t entries size k (r ∷ rs) refused entered = (one (is_full t entries r size), entries_all P t entries size k rs refused (λ q i. entered q (inr i)))
-  where
-    one : (full : Bool) → P (if full then Refused k r else Entered k r way.Publish)
-    one true = refused r
-    one false = entered r (inl refl)
 
 pub returned_all : (P : Note → Type 0) (k : ℕ) (b : Bool) → P (Returned k) → AllByRecursion P (returned_notes k b)
 returned_all P k true p = (p, tt)
@@ -76,31 +67,13 @@ module _ {t : Topology} {old new : Broker} {e : Event} {sends : List Send} {note
   answers_all P returned confirmed = all-append P (returned_notes number is_returned) _ (returned_all P number is_returned returned) (confirmed_all P number confirm _ (confirmed (answer_of some_full)))
 
   pub entry_all : (P : Note → Type 0) → ((r : Text) → P (Refused number r)) → ((r : Text) → IsIn r p.is.targets → P (Entered number r way.Publish)) → AllByRecursion P entry_part
-  entry_all P refused entered = entries_all P t old.queue (length content.body) number p.is.targets refused entered
+  entry_all P refused entered = entries_all P t old.queue (length content.body) number way.Publish p.is.targets refused entered
 
   pub others_all : (P : Note → Type 0) → ((r : Text) → P (Refused number r)) → ((r : Text) → IsIn r p.is.targets → P (Entered number r way.Publish)) → P (Returned number) → ((a : Answer) → P (Confirmed number a))
       → AllByRecursion P (entry_part ++ answer_part)
   others_all P refused entered returned confirmed = all-append P entry_part answer_part (entry_all P refused entered) (answers_all P returned confirmed)
 
 -- ---- the balance
-
--- what comes is what is noted as entered
-comes_by_case : (same full : Bool) (m : Message) (n : ℕ) (q r : Text) (es : List Entry) (ns : List Note) → bytes_eq r q ≡ same
-    → count_by (has_number n) es ≡ count_by (is_entered n q) ns
-    → count_by (has_number n) (if same && not full then record { message = m; mark = Ready } ∷ es else es) ≡ count_by (is_entered n q) ((if full then Refused m.number r else Entered m.number r way.Publish) ∷ ns)
-comes_by_case true true m n q r es ns e ih = ih ∙ sym (count-cons_no (is_entered n q) (Refused m.number r) ns refl)
-comes_by_case true false m n q r es ns e ih =
-    let one : is_entered n q (Entered m.number r way.Publish) ≡ eqb m.number n = ap (λ b. eqb m.number n && b) e ∙ and-true (eqb m.number n) in
-    count-cons (has_number n) (record { message = m; mark = Ready }) es ∙ ap (λ z. cond (eqb m.number n) 1 0 + z) ih ∙ ap (λ b. cond b 1 0 + count_by (is_entered n q) ns) (sym one) ∙ sym (count-cons (is_entered n q) (Entered m.number r way.Publish) ns)
-comes_by_case false true m n q r es ns e ih = ih ∙ sym (count-cons_no (is_entered n q) (Refused m.number r) ns refl)
-comes_by_case false false m n q r es ns e ih =
-    ih ∙ sym (count-cons_no (is_entered n q) (Entered m.number r way.Publish) ns (ap (λ b. eqb m.number n && b) e ∙ and-false (eqb m.number n)))
-
-comes_as_noted : (t : Topology) (entries : Text → List Entry) (m : Message) (n : ℕ) (q : Text) (rs : List Text)
-    → count_by (has_number n) (comes_to t entries m q rs) ≡ count_by (is_entered n q) (entry_notes t entries (length m.content.body) m.number way.Publish rs)
-comes_as_noted t entries m n q [] = refl
-comes_as_noted t entries m n q (r ∷ rs) =
-    comes_by_case (bytes_eq r q) (is_full t entries r (length m.content.body)) m n q r (comes_to t entries m q rs) (entry_notes t entries (length m.content.body) m.number way.Publish rs) refl (comes_as_noted t entries m n q rs)
 
 publish_balances : (t : Topology) (old new : Broker) (e : Event) (sends : List Send) (notes : List Note) → Publishes t old new e sends notes → Balances old notes new
 publish_balances t old new e sends notes p n q =
@@ -112,16 +85,13 @@ publish_balances t old new e sends notes p n q =
     ∙ ap (λ z. count_by (is_entered n q) (entry_part p) + z) (count_none (is_entered n q) (answer_part p) (answers_all p _ refl (λ a. refl))) in
     let left : count_by (is_left n q) notes ≡ 0 =
     ap (count_by (is_left n q)) (noted p) ∙ count_none (is_left n q) (first_note p ∷ (entry_part p ++ answer_part p)) (refl, others_all p _ (λ r. refl) (λ r i. refl) refl (λ a. refl)) in
-    let came = comes_as_noted t old.queue m n q p.is.targets in
+    let came = comes_as_noted t old.queue m n q way.Publish p.is.targets in
     let there : count_by (has_number n) (new.queue q) ≡ count_by (has_number n) (old.queue q) + count_by (has_number n) (comes_to t old.queue m q p.is.targets) =
     ap (count_by (has_number n)) (p.is.left.queues q) ∙ count-append (has_number n) (old.queue q) _ in
     omega (arith, entered, left, came, there)
 
 step_balances : (t : Topology) (old new : Broker) (e : Event) (sends : List Send) (notes : List Note) → Seen t old new e sends notes → Balances old notes new
-step_balances t old new e sends notes (inl a) n q =
-    let entered : count_by (is_entered n q) notes ≡ 0 = count_none (is_entered n q) notes (leavings (λ (note : Note). is_entered n q note ≡ false) (λ m r cause. refl) a) in
-    let kept = a.kept n q in
-    omega (arith, entered, kept)
+step_balances t old new e sends notes (inl a) n q = a.balances n q
 step_balances t old new e sends notes (inr p) n q = publish_balances t old new e sends notes p n q
 
 -- In every run each event balances by its own notes.
@@ -161,11 +131,31 @@ counted_by_publish t old new e sends notes p counted n q lt =
     let none = counted n q (omega (arith, lt, made)) in
     omega (arith, entered, balance, none)
 
+-- a message that stands in a queue has a number that was counted
+pub stands_counted : (b : Broker) (q : Text) (e : Entry) → AreCounted b → IsIn e (b.queue q) → e.message.number ≤ b.published
+stands_counted b q e counted i = go (nat_le e.message.number b.published) refl
+  where
+    go : (v : Bool) → nat_le e.message.number b.published ≡ v → e.message.number ≤ b.published
+    go true is = leb-true e.message.number b.published is
+    go false is =
+        let lt = leb-false e.message.number b.published is in
+        let one = counted_in (has_number e.message.number) e (b.queue q) i (eq-eqb e.message.number e.message.number refl) in
+        let none = counted e.message.number q (omega (arith, lt)) in
+        absurd (omega (arith, one, none))
+
+not_counted : (old : Broker) (n : ℕ) (q : Text) (m : ℕ) (r : Text) {t : Topology} → AreCounted old → old.published < n → HasDied t old.queue m r → is_entered n q (Entered m r way.Dead) ≡ false
+not_counted old n q m r counted lt d =
+    let le = stands_counted old d.from d.entry counted d.there in
+    let same = d.number in
+    ap (λ b. b && bytes_eq r q) (ne_eqb m n (λ e. omega (arith, e, lt, le, same)))
+
 counted_step : (t : Topology) (old new : Broker) (e : Event) (sends : List Send) (notes : List Note) → Seen t old new e sends notes → AreCounted old → AreCounted new
 counted_step t old new e sends notes (inl a) counted = λ n q lt.
-    let kept = a.kept n q in
-    let none = counted n q (subst (λ (k : ℕ). k < n) a.same lt) in
-    omega (arith, kept, none)
+    let before : old.published < n = subst (λ (k : ℕ). k < n) a.same lt in
+    let entered = count_none (is_entered n q) notes (quiet_notes (λ (note : Note). is_entered n q note ≡ false) (λ m r cause. refl) (λ m r. refl) (λ m r d. not_counted old n q m r counted before d) a) in
+    let balance = a.balances n q in
+    let none = counted n q before in
+    omega (arith, entered, balance, none)
 counted_step t old new e sends notes (inr p) counted = counted_by_publish t old new e sends notes p counted
 
 pub counted_at : (h : Happening) → Step h.config h.before h.event h.sends h.notes h.after → AreCounted h.before.broker → AreCounted h.after.broker

@@ -8,7 +8,7 @@ use Rattle.model.specs.Topology.{IsIn}
 use Rattle.model.specs.Grammar.{Ids, ids_of}
 use Rattle.model.specs.Broker.{Channel, Connection, Broker, is_ready}
 use Rattle.model.specs.Entries.{by_channel, by_connection, freed, held_as, change_first, without_first}
-use Rattle.model.specs.Deliveries.{Settlement, Leaves, Returns, AreSettled, with_queue, first_ready, after_giving}
+use Rattle.model.specs.Deliveries.{Settlement, Leaves, Rejects, Returns, AreSettled, with_queue, first_ready, after_giving}
 use Rattle.model.specs.Phases.{is_running}
 use Rattle.model.specs.Step.{Refusal, Ignored, Of_channel, Of_connection, Acts, Does, Gets, Settles, Performs, Refuses, Decides, OnConnection, OnLarge, Is, channel_or_new, empty_publish, opened, refusal, refusal_of_large, with_freed, with_channel}
 use Rattle.model.specs.Run.{Happening}
@@ -24,14 +24,14 @@ use Rattle.model.specs.declared.events.Event.{Event}
 use Rattle.model.specs.declared.events.Event.TheVariants.{Open, First, Running, Command, TooLarge, Fault, Lose, Pause, Resume, Deliver}
 use Rattle.laws.specs.Order.{GivesOut, to_get, to_consumer, IsHeldSince, before, by_it, HeldAreGiven}
 use Rattle.laws.proofs.Agreement.{Shrinks, shrinks_same, shrinks_freed, shrinks_filter, shrinks_on, left_shrinks, returned_shrinks, same_holder}
-use Rattle.laws.proofs.Agreed.{shrinks_arrivals}
+use Rattle.laws.proofs.Agreed.{shrinks_arrivals, rejected_shrinks}
 use Rattle.laws.proofs.Leaving.{at_queue}
 use Rattle.laws.proofs.View.{connection_of, goes}
 
 -- ---- one queue
 
 -- what stands in the queue after its first ready message was given out stood there before, or is this message, held
-in_given : (no_ack : Bool) (g : Holder) (e : Entry) (es : List Entry) → first_ready es ≡ Some e → (x : Entry) → IsIn x (after_giving no_ack g es) → IsIn x es ⊎ (x ≡ held_as g e)
+pub in_given : (no_ack : Bool) (g : Holder) (e : Entry) (es : List Entry) → first_ready es ≡ Some e → (x : Entry) → IsIn x (after_giving no_ack g es) → IsIn x es ⊎ (x ≡ held_as g e)
 in_given no_ack g e [] found x i = absurd (false≢true (ap is_some found))
 in_given true g e (y ∷ ys) found x i = go (is_ready y) found (in_given true g e ys) i
   where
@@ -91,11 +91,12 @@ module _ (h : Happening) where
   gets c k ch m content None is found p = same p.left.queues
   gets c k ch m content (Some e) is found p = gives m.queue m.no_ack _ e found (to_get ch is found p) p.left.queues
 
-  settles : (how : Settlement) (c k tag : ℕ) (ch : Channel) (multiple : Bool) (wanted : List Send) → Settles how old c k ch tag multiple wanted h.sends h.notes new → AreHeldSince
+  settles : (how : Settlement) (c k tag : ℕ) (ch : Channel) (multiple : Bool) (wanted : List Send) → Settles h.config.topology how old c k ch tag multiple wanted h.sends h.notes new → AreHeldSince
   settles how c k tag ch multiple wanted p = held_before (shrinks how p.queues)
     where
-      shrinks : (s : Settlement) → AreSettled s c k p.gone old.queue h.notes new.queue → Shrinks old.queue new.queue
+      shrinks : (s : Settlement) → AreSettled h.config.topology s c k p.gone old.queue h.notes new.queue → Shrinks old.queue new.queue
       shrinks (Leaves cause) a = left_shrinks cause c k p.gone old.queue h.notes new.queue a
+      shrinks Rejects a = rejected_shrinks h.config.topology c k p.gone old.queue h.notes new.queue a
       shrinks Returns a = returned_shrinks c k p.gone old.queue new.queue a.1
 
   performs : (c k : ℕ) (m : Method) (content : Option Content) → h.event ≡ Command c k m content → Performs h.config.topology old c k (channel_or_new (old.channel c k)) m content h.sends h.notes new → AreHeldSince

@@ -115,7 +115,7 @@ count_split f p (y ∷ ys) = go (p y) (count_split f p ys)
         let two = count-cons f y (filter (λ x. not (p x)) ys) in
         omega (arith, one, two, r)
 
-in_filter : {A : Type 0} (p : A → Bool) (x : A) (xs : List A) → IsIn x (filter p xs) → IsIn x xs × (p x ≡ true)
+pub in_filter : {A : Type 0} (p : A → Bool) (x : A) (xs : List A) → IsIn x (filter p xs) → IsIn x xs × (p x ≡ true)
 in_filter p x [] i = absurd i
 in_filter {A = A} p x (y ∷ ys) i = go (p y) refl (in_filter p x ys) i
   where
@@ -181,7 +181,7 @@ none_counted : (n : ℕ) (q : Text) (x y : ℕ) → x ≡ y → x ≡ count_by (
 none_counted n q x y e = let z : count_by (is_left n q) [] ≡ 0 = refl in omega (arith, z, e)
 
 -- one of them, with the note of it
-given_balances : (cause : Cause) (c h : ℕ) (queues : Text → List Entry) (o : Outstanding) (found : Option Entry) → given_in c h queues o ≡ found
+pub given_balances : (cause : Cause) (c h : ℕ) (queues : Text → List Entry) (o : Outstanding) (found : Option Entry) → given_in c h queues o ≡ found
     → (n : ℕ) (q : Text) → Balanced n (left_note cause o.queue found) (queues q) q (without_given c h queues o q)
 given_balances cause c h queues o (Some e) is n q = taken_balances (is_held_as (holder_of c h o)) queues o.queue cause e is n q
 given_balances cause c h queues o None is n q = at_queue (λ (q : Text) (new : List Entry). Balanced n [] (queues q) q new) queues o.queue _ (none_counted n o.queue _ _ (ap (count_by (has_number n)) (sym (none_without _ (queues o.queue) is)))) (λ q other. none_counted n q _ _ refl) q
@@ -211,7 +211,7 @@ are_leaving cause c h (o ∷ os) old notes new (mid, rest, is, all, more) =
     subst (AllByRecursion (λ (note : Note). is_leaving note ≡ true)) (sym all) (all-append _ (left_note cause o.queue (given_in c h old o)) rest (left_leaving cause o.queue (given_in c h old o)) (are_leaving cause c h os mid rest new more))
 
 -- what is in the queues without it was in them before
-in_rest : (c h : ℕ) (queues : Text → List Entry) (o : Outstanding) (e : Entry) (q : Text) → IsIn e (without_given c h queues o q) → IsIn e (queues q)
+pub in_rest : (c h : ℕ) (queues : Text → List Entry) (o : Outstanding) (e : Entry) (q : Text) → IsIn e (without_given c h queues o q) → IsIn e (queues q)
 in_rest c h queues o e = at_queue (λ (q : Text) (new : List Entry). IsIn e new → IsIn e (queues q)) queues o.queue _ (in_without _ e (queues o.queue)) (λ q other i. i)
 
 -- and of each the cause is known, if it is of each of these deliveries that stands in its queue

@@ -1,6 +1,8 @@
 pub mod Counts
 pub mod Keys
 pub mod Leaving
+pub mod Entering
+pub mod Dying
 pub mod Agreement
 pub mod Agreed
 pub mod Speaking
@@ -8,6 +10,7 @@ pub mod View
 pub mod Tags
 pub mod Named
 pub mod Made
+pub mod Marking
 pub mod Carried
 pub mod Sizes
 pub mod Sent
@@ -17,14 +20,18 @@ pub mod Ordered
 pub mod Giving
 pub mod Once
 pub mod Acks
+pub mod Safe
+pub mod Traced
 pub mod Never
 pub mod Streams
 pub mod Reading
 pub mod Plays
 pub mod Linked
+pub mod Linking
 pub mod Consistency
 pub mod Spoken
 pub mod Naming
 pub mod Openings
 pub mod Whole
 pub mod Rows
+pub mod Deaths

@@ -97,7 +97,7 @@ module _ (t : Topology) (old new : Broker) (e : Event) (sends : List Send) (note
   gets c h m None p = same p.left.channels
   gets c h m (Some x) p = with_some c h _ p.left.channels (in_mine c h)
 
-  settles : (how : Settlement) (wanted : List Send) (c h tag : ℕ) (multiple : Bool) → Settles how old c h (mine c h) tag multiple wanted sends notes new → AllCame
+  settles : (how : Settlement) (wanted : List Send) (c h tag : ℕ) (multiple : Bool) → Settles t how old c h (mine c h) tag multiple wanted sends notes new → AllCame
   settles how wanted c h tag multiple p = with_some c h _ p.channels (in_mine c h)
 
   consumes : (c h : ℕ) (m : Consume) (content : Option Content) → e ≡ Command c h (BasicConsume m) content → (k : Consumer) → IsIn k ((mine c h).consumers) ⊎ IsIn k (consumer_of (mine c h) m ∷ []) → Came c h k

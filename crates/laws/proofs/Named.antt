@@ -248,7 +248,7 @@ module _ (t : Topology) (old new : Broker) (a : AreNamed t old) where
   gets sends notes c h m None p = same p.left.channels
   gets sends notes c h m (Some e) p = with_some c h _ p.left.channels (named_as t (mine c h) _ refl refl (given_more m.no_ack _ _ _ taker.Get (mine c h).outstanding tt (named_mine c h).given) (named_mine c h))
 
-  settles : (how : Settlement) (sends wanted : List Send) (notes : List Note) (c h tag : ℕ) (multiple : Bool) → Settles how old c h (mine c h) tag multiple wanted sends notes new → AreNamed t new
+  settles : (how : Settlement) (sends wanted : List Send) (notes : List Note) (c h tag : ℕ) (multiple : Bool) → Settles t how old c h (mine c h) tag multiple wanted sends notes new → AreNamed t new
   settles how sends wanted notes c h tag multiple p = with_some c h _ p.channels (named_as t (mine c h) _ refl refl (given_kept _ tag multiple (mine c h).outstanding (named_mine c h).given) (named_mine c h))
 
   not_refused : (ch : Channel) (m : Consume) → refusal_of t old ch (BasicConsume m) ≡ None → refusal_of_consume t ch m ≡ None

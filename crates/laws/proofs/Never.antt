@@ -1,28 +1,34 @@
--- No publish enters a queue that is forbidden to it, and what leaves a queue has a cause. And so a run keeps the promises.
-use Rattle.std.proofs.Common.{◌≡◌, ℕ, ◌+◌, ◌≤◌, ◌⊎◌, Bool, true, false, eqb, List, [], ◌∷◌, ◌++◌, length, refl, sym, ap, subst, ◌∙◌, inl, inr, arith, Option}
+-- No message, of a publish or a dead letter, enters a queue that is forbidden to its publish, and what leaves a queue has a cause. And so a run keeps the promises.
+use Rattle.std.proofs.Common.{◌≡◌, ℕ, ◌+◌, ◌⊎◌, Bool, true, false, eqb, List, [], ◌∷◌, ◌++◌, refl, sym, ap, subst, ◌∙◌, inl, inr, arith, Option}
 use Rattle.std.specs.Prelude.{count_by}
 use Rattle.std.specs.List.{AllByRecursion}
 use Rattle.std.proofs.lemmas.Bool.{eq-eqb, false≢true}
 use Rattle.model.specs.Words.{Text}
 use Rattle.model.specs.Topology.{Topology, IsIn}
-use Rattle.model.specs.Routing.{Picks, none, take, pass, Routes, routed}
-use Rattle.model.specs.Guarantee.{Guarantee, Covers, Keeps, Holds}
-use Rattle.model.specs.State.{State}
+use Rattle.model.specs.Message.{Message}
+use Rattle.model.specs.Broker.{Broker}
+use Rattle.model.specs.Tracing.{by_publish, by_death, AreTraced}
+use Rattle.model.specs.Guarantee.{Covers}
+use Rattle.model.specs.State.{Config, State, Step}
 use Rattle.model.specs.Arrivals.{IsSaid}
 use Rattle.model.specs.Run.{Happening, Run, AreCounted, has_number, notes_of}
 use Rattle.model.specs.Headline.{IsSound, IsNoted, WasSentTo, IsAllowed, AreAllowed, AreAllowedIn, IsCauseAt, HasCause, HaveCauses, KeepsEvents}
-use Rattle.model.specs.declared.topologies.Mode.{Mode}
-use Rattle.model.specs.declared.topologies.Mode.TheVariants.{Never}
 use Rattle.model.specs.declared.messages.Entry.{Entry}
 use Rattle.model.specs.declared.notes.Note.{Note}
 use Rattle.model.specs.declared.notes.Note.TheVariants.{Published, Entered, Left}
 use Rattle.model.specs.declared.notes.Way.TheVariants as way
-use Rattle.laws.specs.Promises.{AreSound, AreSaid}
+use Rattle.model.specs.declared.events.Send.{Send}
+use Rattle.model.specs.declared.events.Event.{Event}
+use Rattle.laws.specs.Promises.{AreSound, AreUnder, AreSaid, IsBegun}
+use Rattle.laws.proofs.Dying.{HasDied}
+use Rattle.laws.proofs.Entering.{picked}
+use Rattle.laws.proofs.Safe.{come_here}
+use Rattle.laws.proofs.Traced.{Rooted, before, now, rooted, exchange_of, key_of, step_came, step_traced}
 use Rattle.laws.proofs.Leaving.{OfLeft}
 use Rattle.laws.proofs.Counts.{all_each, all_in, in-append, count-cons, count-cons_yes}
-use Rattle.laws.proofs.View.{Publishes, Seen, seen_at, leavings}
-use Rattle.laws.proofs.Balance.{number, first_note, entry_part, answer_part, noted, others_all, run_stays, counted_at}
-use Rattle.laws.proofs.Once.{is_of_publish, AreOfOthers, Placed, places, key_is_short, run_entered_once}
+use Rattle.laws.proofs.View.{Publishes, Seen, CountsNone, seen_at, quiet_notes}
+use Rattle.laws.proofs.Balance.{number, first_note, entry_part, answer_part, noted, others_all, run_stays, counted_at, stands_counted}
+use Rattle.laws.proofs.Once.{is_of_publish, AreOfOthers, Placed, places, key_is_short, run_of_others, run_entered_once}
 
 -- ---- what the publish of a number was
 
@@ -44,6 +50,10 @@ not_among n e (x ∷ es) (inl same) is zero_of =
     let one = count-cons_yes (has_number n) x es yes in
     omega (arith, one, zero_of)
 not_among n e (x ∷ es) (inr i) is zero_of = let more = count-cons (has_number n) x es in not_among n e es i is (omega (arith, more, zero_of))
+
+-- the message was first sent to this exchange under this key
+abbrev IsSentTo : Message → Text → Text → Type 0
+IsSentTo m x key = (x ≡ m.first_exchange) × (key ≡ m.first_key)
 
 -- an event that is a publish
 module _ (h : Happening) (p : Publishes h.config.topology h.before.broker h.after.broker h.event h.sends h.notes) where
@@ -88,47 +98,107 @@ module _ (h : Happening) (p : Publishes h.config.topology h.before.broker h.afte
 
 -- ---- what enters
 
-never_routes : (t : Topology) (g : Guarantee) (x key : Text) → Holds t g → g.mode ≡ Never → Covers g x key → length key ≤ 255 → Routes t x key g.queue → ⊥
-never_routes t g x key holds m covers short ro =
-    let k : Keeps g.mode t g.exchange key g.queue = holds key short covers.1 in
-    let n : Keeps Never t g.exchange key g.queue = subst (λ (m : Mode). Keeps m t g.exchange key g.queue) m k in
-    n (routed (subst (λ (z : Text). Routes t z key g.queue) covers.0 ro))
+-- a quiet event notes no publish
+no_publish : {t : Topology} {old new : Broker} {e : Event} {sends : List Send} {notes : List Note} → CountsNone t old new e sends notes → (n : ℕ) (x key : Text) → IsNoted notes n x key → ⊥
+no_publish {notes = notes} quiet n x key (c, i, o, j) =
+    false≢true (sym (all_in (λ note. is_published note ≡ false) (Published n c i x key o) notes (quiet_notes (λ (note : Note). is_published note ≡ false) (λ m r cause. refl) (λ m r. refl) (λ m r d. refl) quiet) j))
 
-picked : {P : Text → Type 0} {xs ys : List Text} (q : Text) → Picks P xs ys → IsIn q ys → P q
-picked q none i = absurd i
-picked {P = P} q (take {x = x} p r) (inl e) = subst P (sym e) p
-picked q (take p r) (inr i) = picked q r i
-picked q (pass np r) i = picked q r i
-
--- what an event notes is allowed, however it is known where its publish was sent
+-- what an event notes is allowed, however it is known where its publish was sent, if this agrees with what the messages that stand in queues say
 allowed_where : (h : Happening) (Sent : ℕ → Text → Text → Type 0) → Seen h.config.topology h.before.broker h.after.broker h.event h.sends h.notes
     → ((p : Publishes h.config.topology h.before.broker h.after.broker h.event h.sends h.notes) (x key : Text) → Sent (number p) x key → IsItsOwn h p x key)
-    → IsSound h.config → IsSaid h.event → AllByRecursion (IsAllowed h.config.guarantees Sent) h.notes
-allowed_where h Sent (inl quiet) own sound said = leavings (IsAllowed h.config.guarantees Sent) (λ m r cause. tt) quiet
-allowed_where h Sent (inr p) own sound said = subst (AllByRecursion (IsAllowed h.config.guarantees Sent)) (sym (noted p)) (tt, others_all p _ (λ r. tt) entered tt (λ a. tt))
+    → (CountsNone h.config.topology h.before.broker h.after.broker h.event h.sends h.notes → (q : Text) (y : Entry) → IsIn y (h.before.broker.queue q) → (x key : Text) → Sent y.message.number x key → IsSentTo y.message x key)
+    → IsSound h.config → IsSaid h.event → AreTraced h.config.topology h.before.broker → AllByRecursion (IsAllowed h.config.guarantees Sent) h.notes
+allowed_where h Sent (inl quiet) own known sound said traced = quiet_notes (IsAllowed h.config.guarantees Sent) (λ m r cause. tt) (λ m r. tt) died quiet
+  where
+    died : (n : ℕ) (r : Text) → HasDied h.config.topology h.before.broker.queue n r → IsAllowed h.config.guarantees Sent (Entered n r way.Dead)
+    died n r d x key sent g in_gs m covers e =
+        let at = traced.each d.from d.entry d.there in
+        let same = known quiet d.from d.entry d.there x key (subst (λ (k : ℕ). Sent k x key) (sym d.number) sent) in
+        let covers' : Covers g d.entry.message.first_exchange d.entry.message.first_key = subst (λ (z : Text). Covers g z d.entry.message.first_key) same.0 (subst (λ (z : Text). Covers g x z) same.1 covers) in
+        come_here h.config.topology g (sound.hold g in_gs) m covers' at.short (by_death d.last at.come d.dies d.routes) e
+allowed_where h Sent (inr p) own known sound said traced = subst (AllByRecursion (IsAllowed h.config.guarantees Sent)) (sym (noted p)) (tt, others_all p _ (λ r. tt) entered tt (λ a. tt))
   where
     entered : (r : Text) → IsIn r p.is.targets → IsAllowed h.config.guarantees Sent (Entered (number p) r way.Publish)
     entered r i x key sent g in_gs m covers e =
-        let t = h.config.topology in
         let same = own p x key sent in
         let covers' : Covers g p.publish.exchange p.publish.routing_key = subst (λ (z : Text). Covers g z p.publish.routing_key) same.0 (subst (λ (z : Text). Covers g x z) same.1 covers) in
-        never_routes t g p.publish.exchange p.publish.routing_key (sound.hold g in_gs) m covers' (key_is_short p said) (subst (Routes t p.publish.exchange p.publish.routing_key) e (picked r p.is.routed i))
+        come_here h.config.topology g (sound.hold g in_gs) m covers' (key_is_short p said) (by_publish (picked r p.is.routed i)) e
 
--- In every run no message of a publish entered a queue that was forbidden to it then.
-pub run_allowed_in : (hs : List Happening) (old new : State) → AllByRecursion (λ (h : Happening). IsSound h.config) hs → AllByRecursion (λ (h : Happening). IsSaid h.event) hs → Run old hs new → AllByRecursion (AreAllowedIn (notes_of hs)) hs
-run_allowed_in hs old new sound said r = go hs (places hs old new r) sound said
+-- ---- what is known of messages that stand in queues
+
+-- at the event itself
+known_here : (h : Happening) → AreTraced h.config.topology h.before.broker → CountsNone h.config.topology h.before.broker h.after.broker h.event h.sends h.notes
+    → (q : Text) (y : Entry) → IsIn y (h.before.broker.queue q) → (x key : Text) → WasSentTo h y.message.number x key → IsSentTo y.message x key
+known_here h traced quiet q y i x key (inl n) = absurd (no_publish quiet y.message.number x key n)
+known_here h traced quiet q y i x key (inr s) = let alike = traced.alike s.queue q s.entry y s.there i s.number in (sym s.exchange ∙ alike.exchange, sym s.first_key ∙ alike.key)
+
+-- what these notes say of the publish of a message is what the message says
+abbrev Agrees : List Note → Broker → Type 0
+Agrees all b = (q : Text) (y : Entry) → IsIn y (b.queue q) → (x key : Text) → IsNoted all y.message.number x key → IsSentTo y.message x key
+
+-- the publishes of a run are counted after those of what stood there before it
+agrees_at_first : (hs : List Happening) (old new : State) → AreCounted old.broker → Run old hs new → Agrees (notes_of hs) old.broker
+agrees_at_first hs old new counted r q y i x key (c, k, o, j) =
+    absurd (not_of_others y.message.number c k x key o (notes_of hs) (run_of_others hs old new r y.message.number (stands_counted old.broker q y counted i)) j)
+
+agrees_on : (all : List Note) (h : Happening) → Placed all h → Step h.config h.before h.event h.sends h.notes h.after → Agrees all h.before.broker → Agrees all h.after.broker
+agrees_on all h at s agrees q y i x key noted = by (rooted h.config.topology h.before.broker h.after.broker h.event h.sends h.notes q y (step_came h.config h.before h.after h.event h.sends h.notes s q y i))
   where
-    go : (es : List Happening) → AllByRecursion (Placed (notes_of hs)) es → AreSound es → AreSaid es → AllByRecursion (AreAllowedIn (notes_of hs)) es
-    go [] at sound said = tt
-    go (e ∷ es) at sound said = (allowed_where e (IsNoted (notes_of hs)) at.0.step (λ p x key. own_in_all e p (notes_of hs) at.0 x key) sound.0 said.0, go es at.1 sound.1 said.1)
+    by : Rooted h.config.topology h.before.broker h.after.broker h.event h.sends h.notes y.message → IsSentTo y.message x key
+    by (before r z j n alike) = let was = agrees r z j x key (subst (λ (k : ℕ). IsNoted all k x key) n noted) in (was.0 ∙ sym alike.exchange, was.1 ∙ sym alike.key)
+    by (now p n ex k) =
+        let own = own_in_all h p all at x key (subst (λ (m : ℕ). IsNoted all m x key) n noted) in
+        (own.0 ∙ sym (ap exchange_of p.event) ∙ sym ex, own.1 ∙ sym (ap key_of p.event) ∙ sym k)
+
+-- ---- runs
+
+sound_under : (f g : Config) → g ≡ f → IsSound f → IsSound g
+sound_under f g is sound = subst IsSound (sym is) sound
+
+traced_under : (f g : Config) (b : Broker) → g ≡ f → AreTraced f.topology b → AreTraced g.topology b
+traced_under f g b is traced = subst (λ (z : Config). AreTraced z.topology b) (sym is) traced
+
+-- the state before an event, and the one after it
+begun_at : (f : Config) (old : State) (h : Happening) → h.before ≡ old → h.config ≡ f → IsBegun f.topology old.broker → IsBegun h.config.topology h.before.broker
+begun_at f old h start is begun = record {
+  counted = subst (λ (z : State). AreCounted z.broker) (sym start) begun.counted;
+  traced = traced_under f h.config h.before.broker is (subst (λ (z : State). AreTraced f.topology z.broker) (sym start) begun.traced);
+}
+
+begun_after : (f : Config) (h : Happening) → h.config ≡ f → IsSaid h.event → IsBegun h.config.topology h.before.broker → Step h.config h.before h.event h.sends h.notes h.after → IsBegun f.topology h.after.broker
+begun_after f h is said begun s = record {
+  counted = counted_at h s begun.counted;
+  traced = traced_under h.config f h.after.broker (sym is) (step_traced h.config h.before h.after h.event h.sends h.notes said begun.counted begun.traced s);
+}
+
+-- In every run messages stay traced.
+pub run_begun : (f : Config) (hs : List Happening) (old new : State) → AreUnder f hs → AreSaid hs → IsBegun f.topology old.broker → Run old hs new → IsBegun f.topology new.broker
+run_begun f [] old new under said begun r = subst (λ (z : State). IsBegun f.topology z.broker) (sym r) begun
+run_begun f (h ∷ hs) old new under said begun (e, s, r) = run_begun f hs h.after new under.1 said.1 (begun_after f h under.0 said.0 (begun_at f old h e under.0 begun) s) r
+
+-- In every run no message, of a publish or a dead letter, entered a queue that was forbidden to its publish.
+pub run_allowed_in : (f : Config) (hs : List Happening) (old new : State) → IsSound f → AreUnder f hs → AreSaid hs → IsBegun f.topology old.broker → Run old hs new → AllByRecursion (AreAllowedIn (notes_of hs)) hs
+run_allowed_in f hs old new sound under said begun r = go hs old new r (places hs old new r) under said begun (agrees_at_first hs old new begun.counted r)
+  where
+    all : List Note
+    all = notes_of hs
+
+    go : (es : List Happening) (from to : State) → Run from es to → AllByRecursion (Placed all) es → AreUnder f es → AreSaid es → IsBegun f.topology from.broker → Agrees all from.broker → AllByRecursion (AreAllowedIn all) es
+    go [] from to r at under said begun agrees = tt
+    go (e ∷ es) from to (start, s, r) at under said begun agrees =
+        let here = begun_at f from e start under.0 begun in
+        let agrees' : Agrees all e.before.broker = subst (λ (z : State). Agrees all z.broker) (sym start) agrees in (
+          allowed_where e (IsNoted all) at.0.step (λ p x key. own_in_all e p all at.0 x key) (λ quiet q y i x key noted. agrees' q y i x key noted) (sound_under f e.config under.0 sound) said.0 here.traced,
+          go es e.after to r at.1 under.1 said.1 (begun_after f e under.0 said.0 here s) (agrees_on all e at.0 s agrees'),
+        )
 
 -- And each event by itself tells so.
-pub run_allowed : (hs : List Happening) (old new : State) → AllByRecursion (λ (h : Happening). IsSound h.config) hs → AllByRecursion (λ (h : Happening). IsSaid h.event) hs → AreCounted old.broker → Run old hs new → AllByRecursion AreAllowed hs
-run_allowed [] old new sound said counted r = tt
-run_allowed (h ∷ hs) old new sound said counted (e, s, r) =
-    let before : AreCounted h.before.broker = subst (λ (z : State). AreCounted z.broker) (sym e) counted in (
-      allowed_where h (WasSentTo h) (seen_at h s) (λ p x key. own_known h p before x key) sound.0 said.0,
-      run_allowed hs h.after new sound.1 said.1 (counted_at h s before) r,
+pub run_allowed : (f : Config) (hs : List Happening) (old new : State) → IsSound f → AreUnder f hs → AreSaid hs → IsBegun f.topology old.broker → Run old hs new → AllByRecursion AreAllowed hs
+run_allowed f [] old new sound under said begun r = tt
+run_allowed f (h ∷ hs) old new sound under said begun (e, s, r) =
+    let here = begun_at f old h e under.0 begun in (
+      allowed_where h (WasSentTo h) (seen_at h s) (λ p x key. own_known h p here.counted x key) (known_here h here.traced) (sound_under f h.config under.0 sound) said.0 here.traced,
+      run_allowed f hs h.after new sound under.1 said.1 (begun_after f h under.0 said.0 here s) r,
     )
 
 -- ---- causes
@@ -148,12 +218,16 @@ run_causes (h ∷ hs) old new (e, s, r) = (step_causes h (seen_at h s), run_caus
 
 -- ---- all of it
 
+sound_each : (f : Config) (hs : List Happening) → IsSound f → AreUnder f hs → AreSound hs
+sound_each f [] sound under = tt
+sound_each f (h ∷ hs) sound under = (sound_under f h.config under.0 sound, sound_each f hs sound under.1)
+
 -- What happens in a run keeps the promises.
-pub run_keeps : (hs : List Happening) (old new : State) → AllByRecursion (λ (h : Happening). IsSound h.config) hs → AllByRecursion (λ (h : Happening). IsSaid h.event) hs → AreCounted old.broker → Run old hs new → KeepsEvents old.broker hs new.broker
-run_keeps hs old new sound said counted r = record {
-  entered = run_entered_once hs old new sound said r;
-  never = run_allowed hs old new sound said counted r;
-  never_in_all = run_allowed_in hs old new sound said r;
+pub run_keeps : (f : Config) (hs : List Happening) (old new : State) → IsSound f → AreUnder f hs → AreSaid hs → IsBegun f.topology old.broker → Run old hs new → KeepsEvents old.broker hs new.broker
+run_keeps f hs old new sound under said begun r = record {
+  entered = run_entered_once hs old new (sound_each f hs sound under) said r;
+  never = run_allowed f hs old new sound under said begun r;
+  never_in_all = run_allowed_in f hs old new sound under said begun r;
   stays = run_stays hs old new r;
   causes = run_causes hs old new r;
 }

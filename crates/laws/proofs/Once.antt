@@ -30,7 +30,7 @@ use Rattle.model.specs.declared.notes.Note.TheVariants.{Published, Entered}
 use Rattle.model.specs.declared.notes.Way.TheVariants as way
 use Rattle.laws.specs.Promises.{AreSound, AreSaid}
 use Rattle.laws.proofs.Counts.{count-append, count-cons, count-cons_yes, count-cons_no, count_none, any_none, filter_map_none, all-append, all_each, in_from_contains, in-map}
-use Rattle.laws.proofs.View.{Publishes, Seen, seen_at, AddsNothing, leavings}
+use Rattle.laws.proofs.View.{Publishes, Seen, seen_at, CountsNone, quiet_notes}
 use Rattle.laws.proofs.Balance.{number, content, confirm, some_full, is_returned, first_note, entry_part, answer_part, noted, returned_all, entry_all, answers_all, others_all}
 
 -- ---- numbers tell publishes apart
@@ -47,7 +47,7 @@ AreOfOthers n notes = AllByRecursion (λ (note : Note). is_of_publish n note ≡
 
 -- an event notes only the publish that it counts
 step_of_others : (t : Topology) (old new : Broker) (e : Event) (sends : List Send) (notes : List Note) → Seen t old new e sends notes → (n : ℕ) → (n ≤ old.published) ⊎ (new.published < n) → AreOfOthers n notes
-step_of_others t old new e sends notes (inl q) n out = leavings (λ (note : Note). is_of_publish n note ≡ false) (λ m r cause. refl) q
+step_of_others t old new e sends notes (inl q) n out = quiet_notes (λ (note : Note). is_of_publish n note ≡ false) (λ m r cause. refl) (λ m r. refl) (λ m r d. refl) q
 step_of_others t old new e sends notes (inr p) n out =
     let made : new.published ≡ old.published + 1 = p.is.left.counted in
     let ne : eqb (old.published + 1) n ≡ false = ne_eqb (old.published + 1) n (λ e. elim out [ inl le ↦ omega arith | inr lt ↦ omega arith ]) in
@@ -57,7 +57,7 @@ step_grows : (t : Topology) (old new : Broker) (e : Event) (sends : List Send) (
 step_grows t old new e sends notes (inl q) = let e = q.same in omega arith
 step_grows t old new e sends notes (inr p) = let e = p.is.left.counted in omega arith
 
-run_of_others : (hs : List Happening) (old new : State) → Run old hs new → (n : ℕ) → n ≤ old.broker.published → AreOfOthers n (notes_of hs)
+pub run_of_others : (hs : List Happening) (old new : State) → Run old hs new → (n : ℕ) → n ≤ old.broker.published → AreOfOthers n (notes_of hs)
 run_of_others [] old new r n le = tt
 run_of_others (h ∷ hs) old new (e, s, r) n le =
     let v = seen_at h s in
@@ -110,8 +110,8 @@ acked_is p gs c all None = refl
 acked_is p gs c all (Some m) = refl
 
 -- what an event counts as acked is its own publish, if it is one
-pub nothing_acked : {old new : Broker} {e : Event} {sends : List Send} {notes : List Note} (gs : List Guarantee) (c : ℕ) (all : List Note) → AddsNothing old new e sends notes → filter_map (acked_as gs c all) notes ≡ []
-nothing_acked {notes = notes} gs c all a = filter_map_none (acked_as gs c all) notes (leavings (λ (note : Note). acked_as gs c all note ≡ None) (λ m r cause. refl) a)
+pub nothing_acked : {t : Topology} {old new : Broker} {e : Event} {sends : List Send} {notes : List Note} (gs : List Guarantee) (c : ℕ) (all : List Note) → CountsNone t old new e sends notes → filter_map (acked_as gs c all) notes ≡ []
+nothing_acked {notes = notes} gs c all a = filter_map_none (acked_as gs c all) notes (quiet_notes (λ (note : Note). acked_as gs c all note ≡ None) (λ m r cause. refl) (λ m r. refl) (λ m r d. refl) a)
 
 pub publish_acked : {t : Topology} {old new : Broker} {e : Event} {sends : List Send} {notes : List Note} (p : Publishes t old new e sends notes) (gs : List Guarantee) (c : ℕ) (all : List Note)
     → filter_map (acked_as gs c all) notes ≡ cons_option (acked_if p gs (confirm p) (p.c == c) (list_any (is_ack_of (number p)) all)) []

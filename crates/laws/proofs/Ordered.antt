@@ -10,7 +10,7 @@ use Rattle.model.specs.Topology.{Topology}
 use Rattle.model.specs.Grammar.{Ids, ids_of}
 use Rattle.model.specs.Broker.{Outstanding, Channel, Connection, Broker, is_ready, is_full}
 use Rattle.model.specs.Entries.{is_under, is_held_as, by_channel, by_connection, freed, held_as, change_first, without_first}
-use Rattle.model.specs.Deliveries.{Settlement, Leaves, Returns, AreSettled, AreLeft, AreReturned, with_queue, first_ready, holder_of, without_given, with_returned, after_giving, after_delivery}
+use Rattle.model.specs.Deliveries.{Settlement, Leaves, Rejects, Returns, AreSettled, AreLeft, AreRejected, AreReturned, given_in, with_queue, first_ready, holder_of, without_given, with_returned, after_giving, after_delivery}
 use Rattle.model.specs.Message.{Message}
 use Rattle.model.specs.Phases.{is_running}
 use Rattle.model.specs.Step.{Refusal, Ignored, Of_channel, Of_connection, Acts, Does, Gets, Settles, Performs, Refuses, Decides, OnConnection, OnLarge, IsDelivery, Is, channel_or_new, comes_to, entry_notes, empty_publish, message, opened, refusal, refusal_of_large, with_freed, with_channel}
@@ -30,10 +30,14 @@ use Rattle.model.specs.declared.events.Send.{Send}
 use Rattle.model.specs.declared.events.Event.{Event}
 use Rattle.model.specs.declared.events.Event.TheVariants.{Open, First, Running, Command, TooLarge, Fault, Lose, Pause, Resume, Deliver}
 use Rattle.model.specs.declared.notes.Cause.{Cause}
+use Rattle.model.specs.declared.notes.Way.{Way}
 use Rattle.model.specs.declared.notes.Way.TheVariants as way
 use Rattle.model.specs.declared.notes.Note.{Note}
 use Rattle.model.specs.declared.notes.Note.TheVariants.{Entered, Refused}
 use Rattle.laws.specs.Order.{GivesOut, to_get, to_consumer, FirstGiven, ended, given, passed, IsPart, empty, skips, takes, is_fresh, waiting, entered_by, entered, GivenInOrder, IsNext, GivenAfterThoseAhead}
+use Rattle.model.specs.Routing.{key_after}
+use Rattle.model.specs.Deaths.{dead_letter, with_headers}
+use Rattle.laws.proofs.Dying.{Goes, not_found, left_only, died, goes_by}
 use Rattle.laws.proofs.Agreement.{at_own}
 use Rattle.laws.proofs.Leaving.{at_queue}
 use Rattle.laws.proofs.Parts.{itself, part_same, within, longer, front, onward}
@@ -176,10 +180,6 @@ returned_follows c h [] old new r = follows_same old new r
 returned_follows c h (o ∷ os) old new (mid, is, more) =
     follows_on old mid new (follows_on old (with_returned c h old o) mid (follows_one old o.queue _ (part_same _ _ (waiting-freed (is_under (holder_of c h o)) (old o.queue)))) (follows_same _ mid is)) (returned_follows c h os mid new more)
 
-settled_follows : (how : Settlement) (c h : ℕ) (os : List Outstanding) (old : Text → List Entry) (notes : List Note) (new : Text → List Entry) → AreSettled how c h os old notes new → Follows old new
-settled_follows (Leaves cause) c h os old notes new s = left_follows cause c h os old notes new s
-settled_follows Returns c h os old notes new s = returned_follows c h os old new s.1
-
 -- what is given out is the next that waits, or did not wait
 given_waits : (no_ack : Bool) (holder : Holder) (e : Entry) (es : List Entry) → first_ready es ≡ Some e → IsPart (waiting (after_giving no_ack holder es)) (waiting es)
 given_waits no_ack holder e es found = subst (IsPart (waiting (after_giving no_ack holder es))) (first_waited no_ack holder e es found) (one_more (not e.message.redelivered) e.message.number _ _ (itself (waiting (after_giving no_ack holder es))))
@@ -187,18 +187,18 @@ given_waits no_ack holder e es found = subst (IsPart (waiting (after_giving no_a
 -- ---- a publish
 
 -- what comes to a queue is what is noted as entered there
-comes_as_entered : (t : Topology) (entries : Text → List Entry) (m : Message) (q : Text) → m.redelivered ≡ false → (rs : List Text) → waiting (comes_to t entries m q rs) ≡ entered q (entry_notes t entries (length m.content.body) m.number way.Publish rs)
-comes_as_entered t entries m q new [] = refl
-comes_as_entered t entries m q new (r ∷ rs) = go (is_full t entries r (length m.content.body)) (bytes_eq r q) refl (comes_as_entered t entries m q new rs)
+comes_as_entered : (t : Topology) (entries : Text → List Entry) (m : Message) (q : Text) (w : Way) → m.redelivered ≡ false → (rs : List Text) → waiting (comes_to t entries m q rs) ≡ entered q (entry_notes t entries (length m.content.body) m.number w rs)
+comes_as_entered t entries m q w new [] = refl
+comes_as_entered t entries m q w new (r ∷ rs) = go (is_full t entries r (length m.content.body)) (bytes_eq r q) refl (comes_as_entered t entries m q w new rs)
   where
     rest : List Entry
     rest = comes_to t entries m q rs
 
     notes : List Note
-    notes = entry_notes t entries (length m.content.body) m.number way.Publish rs
+    notes = entry_notes t entries (length m.content.body) m.number w rs
 
     go : (full same : Bool) → bytes_eq r q ≡ same → waiting rest ≡ entered q notes
-        → waiting (if same && not full then record { message = m; mark = Ready } ∷ rest else rest) ≡ entered_by q (if full then Refused m.number r else Entered m.number r way.Publish) ++ entered q notes
+        → waiting (if same && not full then record { message = m; mark = Ready } ∷ rest else rest) ≡ entered_by q (if full then Refused m.number r else Entered m.number r w) ++ entered q notes
     go true true is e = e
     go true false is e = e
     go false true is e = ap (λ (b : Bool). ahead_if (not b) m.number (waiting rest)) new ∙ ap (λ (ns : List ℕ). m.number ∷ ns) e ∙ sym (ap (λ (b : Bool). (if b then m.number ∷ [] else []) ++ entered q notes) is)
@@ -215,12 +215,52 @@ publish_waits {t = t} {old = old} p q =
     ap waiting (p.is.left.queues q)
     ∙ waiting-append (old.queue q) (comes_to t old.queue m q p.is.targets)
     ∙ ap (λ (ns : List ℕ). waiting (old.queue q) ++ ns) (
-    comes_as_entered t old.queue m q refl p.is.targets
+    comes_as_entered t old.queue m q way.Publish refl p.is.targets
     ∙ sym (append-nil (entered q (entry_part p)))
     ∙ ap (λ (ns : List ℕ). entered q (entry_part p) ++ ns) (sym none)
     ∙ sym (entered-append q (entry_part p) (answer_part p))
     ∙ sym (ap (entered q) (noted p))
     )
+
+-- ---- dead letters
+
+-- those that wait in each new queue waited in the old one, or entered it, in this order
+abbrev Goes_on : (Text → List Entry) → List Note → (Text → List Entry) → Type 0
+Goes_on old notes new = (q : Text) → IsPart (waiting (new q)) (waiting (old q) ++ entered q notes)
+
+of_follows : (old : Text → List Entry) (notes : List Note) (new : Text → List Entry) → Follows old new → Goes_on old notes new
+of_follows old notes new f q = longer (waiting (old q)) (entered q notes) (f q)
+
+-- one after another
+on_and_on : (old mid new : Text → List Entry) (first rest : List Note) → Goes_on old first mid → Goes_on mid rest new → Goes_on old (first ++ rest) new
+on_and_on old mid new first rest a b q =
+    subst (λ (es : List ℕ). IsPart (waiting (new q)) (waiting (old q) ++ es)) (sym (entered-append q first rest))
+    (onward [] [] (waiting (old q)) (waiting (mid q)) (waiting (new q)) (entered q first) (entered q rest) (a q) (b q))
+
+-- a dead letter enters its queues behind all others, and the note that its message left adds nothing
+one_goes_on : (t : Topology) (name : Text) (gone : Text → List Entry) (notes : List Note) (new : Text → List Entry) (found : Option Entry) → Goes t name gone notes new found → Goes_on gone notes new
+one_goes_on t name gone notes new None (not_found none same) q = of_follows gone notes new (follows_same gone new same) q
+one_goes_on t name gone notes new (Some e) (left_only is same) q = of_follows gone notes new (follows_same gone new same) q
+one_goes_on t name gone notes new (Some e) (died p exchange rest dies is d) q =
+    let letter = dead_letter e.message exchange (key_after p.dead_letter_key e.message.key) (with_headers e.message.content d.headers) in
+    part_same _ _ (
+    ap waiting (d.left q)
+    ∙ waiting-append (gone q) (comes_to t gone letter q d.targets)
+    ∙ ap (λ (ns : List ℕ). waiting (gone q) ++ ns) (comes_as_entered t gone letter q way.Dead refl d.targets ∙ sym (ap (entered q) d.noted) ∙ sym (ap (entered q) is))
+    )
+
+rejected_goes_on : (t : Topology) (c h : ℕ) (os : List Outstanding) (old : Text → List Entry) (notes : List Note) (new : Text → List Entry) → AreRejected t c h os old notes new → Goes_on old notes new
+rejected_goes_on t c h [] old notes new a = of_follows old notes new (follows_same old new a.1)
+rejected_goes_on t c h (o ∷ os) old notes new (mid, first, rest, dies, all, more) =
+    let gone = without_given c h old o in
+    let without : Follows old gone = follows_one old o.queue _ (without_waits (is_held_as (holder_of c h o)) (old o.queue)) in
+    let step : Goes_on old first mid = on_and_on old gone mid [] first (of_follows old [] gone without) (one_goes_on t o.queue gone first mid (given_in c h old o) (goes_by t o.queue gone first mid (given_in c h old o) dies)) in
+    subst (λ (ns : List Note). Goes_on old ns new) (sym all) (on_and_on old mid new first rest step (rejected_goes_on t c h os mid rest new more))
+
+settled_goes_on : (t : Topology) (how : Settlement) (c h : ℕ) (os : List Outstanding) (old : Text → List Entry) (notes : List Note) (new : Text → List Entry) → AreSettled t how c h os old notes new → Goes_on old notes new
+settled_goes_on t (Leaves cause) c h os old notes new s = of_follows old notes new (left_follows cause c h os old notes new s)
+settled_goes_on t Rejects c h os old notes new s = rejected_goes_on t c h os old notes new s
+settled_goes_on t Returns c h os old notes new s = of_follows old notes new (returned_follows c h os old new s.1)
 
 -- ---- all cases
 
@@ -253,8 +293,8 @@ module _ (t : Topology) (old new : Broker) (sends : List Send) (notes : List Not
   gets c h ch m None found p = same p.left.queues
   gets c h ch m (Some e) found p = other m.queue _ p.left.queues (given_waits m.no_ack _ e (old.queue m.queue) found)
 
-  settles : (how : Settlement) (c h tag : ℕ) (ch : Channel) (multiple : Bool) (wanted : List Send) → Settles how old c h ch tag multiple wanted sends notes new → AreKept
-  settles how c h tag ch multiple wanted p = kept (settled_follows how c h p.gone old.queue notes new.queue p.queues)
+  settles : (how : Settlement) (c h tag : ℕ) (ch : Channel) (multiple : Bool) (wanted : List Send) → Settles t how old c h ch tag multiple wanted sends notes new → AreKept
+  settles how c h tag ch multiple wanted p = settled_goes_on t how c h p.gone old.queue notes new.queue p.queues
 
   delivers : (c : ℕ) → IsDelivery old c sends notes new → AreKept
   delivers c p = let o = p.made in other o.consumer.queue _ p.makes.left.queues (given_waits o.consumer.no_ack _ o.entry (old.queue o.consumer.queue) o.first)

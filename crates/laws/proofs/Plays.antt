@@ -11,6 +11,7 @@ use Rattle.model.specs.declared.events.Event.{Event}
 use Rattle.model.specs.declared.events.Event.TheVariants as event
 use Rattle.model.specs.declared.events.Arrival.{Arrival}
 use Rattle.model.specs.declared.events.Arrival.TheVariants as arrival
+use Rattle.laws.specs.Promises.{AreUnder}
 use Rattle.laws.proofs.Counts.{all-append, from_either}
 
 -- ---- what is told of the happenings of a run
@@ -29,6 +30,10 @@ pub record IsTold (f : Config) (h : Happening) : Type 0 where
 pub said_each : (f : Config) (hs : List Happening) → AllByRecursion (IsTold f) hs → AllByRecursion (λ (h : Happening). IsSaid h.event) hs
 said_each f [] a = tt
 said_each f (h ∷ hs) a = (a.0.said, said_each f hs a.1)
+
+pub under_each : (f : Config) (hs : List Happening) → AllByRecursion (IsTold f) hs → AreUnder f hs
+under_each f [] a = tt
+under_each f (h ∷ hs) a = (a.0.under, under_each f hs a.1)
 
 pub record Told (old : World) (hs : List Happening) (new : World) : Type 0 where
   pub run : Run old.state hs new.state

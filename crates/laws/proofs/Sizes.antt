@@ -1,4 +1,4 @@
--- How many bytes spell what is sent: a method and a content that are within their limits.
+-- How many bytes spell what is sent: a method and a content that are no longer than what is stored.
 use Rattle.std.proofs.Common.{◌≡◌, ◌+◌, ◌*◌, ◌-◌, ◌≤◌, ℕ, zero, suc, List, [], ◌∷◌, ◌++◌, length, take, drop, map, Bool, true, false, Option, Some, None, refl, sym, ap, subst, arith, length-append}
 use Rattle.std.specs.Prelude.{flat_map, nat_le}
 use Rattle.std.proofs.lemmas.Bool.{leb-true, leb-false}
@@ -6,7 +6,7 @@ use Rattle.std.proofs.lemmas.List.{length-drop, length-take-le, take_all, drop_a
 use Rattle.model.specs.Frames.{Frame, frame_bytes}
 use Rattle.model.specs.Grammar.{method_bytes}
 use Rattle.model.specs.Headers.{header_bytes}
-use Rattle.model.specs.Commands.{IsWithin, HasWithin}
+use Rattle.model.specs.Sending.{IsStored, HasStored}
 use Rattle.model.specs.Spelling.{method_frame, body_frame, pieces_of, send_bytes}
 use Rattle.model.specs.declared.contents.Content.{Content}
 use Rattle.model.specs.declared.methods.Method.{Method}
@@ -75,21 +75,21 @@ three a b d x y z e f g =
     let inner : length (b ++ d) ≡ length b + length d = length-append b d in
     omega (arith, e, f, g, all, inner)
 
--- and one with a content that is not too large
-pub content_length : (max c h : ℕ) (m : Method) (content : Content) → 4096 ≤ max → IsWithin content → length (send_bytes max (send.Command c h m (Some content))) ≤ length (method_bytes m) + 1054052
+-- and one with a content that is no larger than what is stored
+pub content_length : (max c h : ℕ) (m : Method) (content : Content) → 4096 ≤ max → IsStored content → length (send_bytes max (send.Command c h m (Some content))) ≤ length (method_bytes m) + 1054653
 content_length max c h m content long is =
     let header : Frame = record { kind = 2; channel = h; payload = header_bytes (length content.body) content.properties } in
     let below = is.body in
     let small = is.header in
     let title = frame_length header in
     let body = body_length h (max - 8) (length content.body) content.body (omega (arith, long)) in
-    let all = three (frame_bytes (method_frame h m)) (frame_bytes header) (body_bytes h (max - 8) (length content.body) content.body) (length (method_bytes m) + 8) 3408 1050636
+    let all = three (frame_bytes (method_frame h m)) (frame_bytes header) (body_bytes h (max - 8) (length content.body) content.body) (length (method_bytes m) + 8) 4009 1050636
     (frame_length (method_frame h m)) (omega (arith, small, title)) (omega (arith, body, below)) in
     enough (length (send_bytes max (send.Command c h m (Some content)))) (length (method_bytes m)) all
   where
-    enough : (n k : ℕ) → n ≤ k + 8 + 3408 + 1050636 → n ≤ k + 1054052
+    enough : (n k : ℕ) → n ≤ k + 8 + 4009 + 1050636 → n ≤ k + 1054653
     enough n k le = omega (arith, le)
 
-pub send_length : (max c h : ℕ) (m : Method) (content : Option Content) → 4096 ≤ max → HasWithin content → length (send_bytes max (send.Command c h m content)) ≤ length (method_bytes m) + 1054052
+pub send_length : (max c h : ℕ) (m : Method) (content : Option Content) → 4096 ≤ max → HasStored content → length (send_bytes max (send.Command c h m content)) ≤ length (method_bytes m) + 1054653
 send_length max c h m None long is = let e = method_length max c h m in omega (arith, e)
 send_length max c h m (Some content) long is = content_length max c h m content long is

@@ -8,7 +8,6 @@ use Rattle.std.proofs.lemmas.Bool.{eq-eqb, eqb-true, eqb-false, ne_eqb, false≢
 use Rattle.model.specs.Broker.{with_one}
 use Rattle.model.specs.Commands.{Stream}
 use Rattle.model.specs.Opening.{new_session}
-use Rattle.model.specs.Consistent.{IsConsistent}
 use Rattle.model.specs.Phases.{Session, running_session, no_session, is_running, after_method, after_sends, to_phase}
 use Rattle.model.specs.State.{Config, State, Step}
 use Rattle.model.specs.Run.{Happening, sends_of}
@@ -32,7 +31,7 @@ use Rattle.laws.specs.Openings.{is_header}
 use Rattle.laws.proofs.Speaking.{IsCommandSend, AreCommandSends, Spoken, spoken_commands, spoken_over, spoken_on}
 use Rattle.laws.proofs.View.{connection_of, session_after, is_read, goes, acted, acted_commands, Performed, Answered}
 use Rattle.laws.proofs.Linked.{with_here}
-use Rattle.laws.proofs.Consistency.{new_is_consistent, answers_consistent}
+use Rattle.laws.proofs.Linking.{IsLinked, new_is_linked, answers_linked}
 
 -- ---- what is sent to one connection
 
@@ -220,13 +219,13 @@ turn_speaks c old new hs t =
 
 -- ---- deliveries
 
-delivers_speaks : (c : ℕ) (old new : World) (hs : List Happening) → IsConsistent old → Delivers old c hs new → Speaks old hs new
+delivers_speaks : (c : ℕ) (old new : World) (hs : List Happening) → IsLinked old → Delivers old c hs new → Speaks old hs new
 delivers_speaks c old new hs k d =
     let p = d.puts in
     let runs : is_running (old.state.session c).phase ≡ true = sym (k.running c) ∙ ap is_some p.happens.stepped.acts.made.taker.runs in
     put_speaks c old new (event.Deliver c) hs p d.given (running_stands (old.state.session c).phase runs) (delivered_spoken old.config old.state p.mid c p.h.sends p.h.notes runs p.happens.stepped)
 
-pumps_speaks : (old new : World) (hs : List Happening) → IsConsistent old → Pumps old hs new → Speaks old hs new
+pumps_speaks : (old new : World) (hs : List Happening) → IsLinked old → Pumps old hs new → Speaks old hs new
 pumps_speaks old new hs k (delivers {c = c} d) = delivers_speaks c old new hs k d
 pumps_speaks old new hs k (idles n p) = speaks_same old new hs p
 
@@ -291,7 +290,7 @@ waits_speaks c old mid new hs s v d sent was =
 works_off_speaks : (c : ℕ) (old new : World) (hs : List Happening) → WorksOff old c hs new → Speaks old hs new
 works_off_speaks c old new hs w = waits_speaks c old w.mid new hs (works_speaks c old w.mid hs w.works) w.waits
 
-pub answer_speaks : (old new : World) (a : Arrival) (hs : List Happening) → IsConsistent old → Answers old a hs new → Speaks old hs new
+pub answer_speaks : (old new : World) (a : Arrival) (hs : List Happening) → IsLinked old → Answers old a hs new → Speaks old hs new
 answer_speaks old new arrival.Open hs k p = from_either (can_open old) (λ o. opens_speaks old new _ _ new_session hs o o.happens.stepped.steps.session refl) (speaks_same old new hs) p
 answer_speaks old new (arrival.Ready n) hs k p = from_either (can_open old) (λ o. opens_speaks old new _ _ (record running_session { channel_max = 255 }) hs o o.happens.stepped.session tt) (speaks_same old new hs) p
 answer_speaks old new (arrival.In c bytes) hs k p = from_either (is_over old c) (speaks_same old new hs) (λ w. works_off_speaks c (with_heard old c bytes) new hs w) p
@@ -300,14 +299,14 @@ answer_speaks old new (arrival.Sent c n) hs k p =
 answer_speaks old new arrival.Pump hs k p = pumps_speaks old new hs k p
 answer_speaks old new (arrival.Lose c) hs k p = from_either (is_gone old c) (speaks_same old new hs) (λ o. loses_speaks old new c hs o) p
 
-play_speaks : (old new : World) (arrivals : List Arrival) (hs : List Happening) → IsConsistent old → Plays old arrivals hs new → Speaks old hs new
+play_speaks : (old new : World) (arrivals : List Arrival) (hs : List Happening) → IsLinked old → Plays old arrivals hs new → Speaks old hs new
 play_speaks old new [] hs k p = speaks_same old new hs p
 play_speaks old new (a ∷ arrivals) hs k (mid, first, rest, e, brings, p) =
-    speaks_at old new hs (first ++ rest) e (speaks_append old mid new first rest (answer_speaks old mid a first k brings) (play_speaks mid new arrivals rest (answers_consistent old mid a first k brings) p))
+    speaks_at old new hs (first ++ rest) e (speaks_append old mid new first rest (answer_speaks old mid a first k brings) (play_speaks mid new arrivals rest (answers_linked old mid a first k brings) p))
 
 -- From the start on a connection was sent commands, or the protocol header alone.
 pub spoken_from_start : (f : Config) (hs : List Happening) (w : World) → Speaks (new_world f) hs w → (c : ℕ) → AreCommandSends (sent_to c hs) ⊎ (sent_to c hs ≡ send.Greeting c ∷ [])
 spoken_from_start f hs w speaks c = spoken_over c (w.state.session c).phase (sent_to c hs) (speaks c [] (record { spoken = inl tt; unopened = λ lt. (refl, refl) })).spoken
 
 pub is_spoken : (f : Config) (arrivals : List Arrival) (hs : List Happening) (w : World) → Plays (new_world f) arrivals hs w → (c : ℕ) → AreCommandSends (sent_to c hs) ⊎ (sent_to c hs ≡ send.Greeting c ∷ [])
-is_spoken f arrivals hs w p c = spoken_from_start f hs w (play_speaks (new_world f) w arrivals hs (new_is_consistent f) p) c
+is_spoken f arrivals hs w p c = spoken_from_start f hs w (play_speaks (new_world f) w arrivals hs (new_is_linked f) p) c

@@ -14,10 +14,10 @@ use Rattle.model.specs.Phases.{Session, Move, running_session, no_session, is_ru
 use Rattle.model.specs.Opening.{IsAnswered, Opens, new_session, first_move, start, opening_move, on_zero, or_closed, at_start, at_tune, at_open, answers_with, closes_with, is_taken, tuned, tune, open_ok}
 use Rattle.model.specs.State.{Config, State, Moves, OfFirst, OfCommand, OfLarge, OfFault, Step}
 use Rattle.model.specs.declared.messages.User.{User}
-use Rattle.model.specs.Run.{Happening, has_number, is_left}
+use Rattle.model.specs.Run.{Happening, Balances, has_number, is_entered, is_left}
 use Rattle.model.specs.Headline.{WasGiven, IsCauseIn, IsCauseAt}
 use Rattle.model.specs.Settling.{takes}
-use Rattle.model.specs.Deliveries.{Settlement, Leaves, Returns, of_rejected, AreSettled, first_ready, ready_in, holder_of, after_delivery, delivery_notes, after_purge, purge_notes}
+use Rattle.model.specs.Deliveries.{Settlement, Leaves, Rejects, Returns, of_rejected, AreSettled, first_ready, ready_in, holder_of, after_delivery, delivery_notes, after_purge, purge_notes}
 use Rattle.model.specs.Consuming.{CanDeliver}
 use Rattle.model.specs.declared.messages.Holder.{Holder}
 use Rattle.model.specs.declared.messages.Entry.{Entry}
@@ -38,14 +38,16 @@ use Rattle.model.specs.declared.messages.Taker.TheVariants as taker
 use Rattle.model.specs.declared.notes.Cause.{Cause}
 use Rattle.model.specs.declared.notes.Cause.TheVariants.{Acked, Auto, Rejected}
 use Rattle.model.specs.declared.notes.Note.{Note}
-use Rattle.model.specs.declared.notes.Note.TheVariants.{Left}
+use Rattle.model.specs.declared.notes.Note.TheVariants.{Entered, Refused, Left}
+use Rattle.model.specs.declared.notes.Way.TheVariants as way
 use Rattle.model.specs.declared.notes.Answer.{Answer}
 use Rattle.model.specs.declared.notes.Answer.TheVariants as answered
 use Rattle.model.specs.Spelling.{eight_bytes}
 use Rattle.model.specs.Arrivals.{is_ended}
-use Rattle.laws.proofs.Counts.{count-map, all_each, all-append}
+use Rattle.laws.proofs.Counts.{count-map, count_none, all_each, all-append}
 use Rattle.laws.specs.Openings.{is_header, is_first}
 use Rattle.laws.proofs.Speaking.{IsCommandSend, AreCommandSends, Spoken, spoken_commands, spoken_on, spoken_still}
+use Rattle.laws.proofs.Dying.{HasDied, IsQuiet, leaving_quiet, leaving_enters, rejected_quiet, rejected_balances, rejected_causes}
 use Rattle.laws.proofs.Leaving.{is_leaving, OfLeft, at_queue, count_change, freed_number, taken_balances, left_balances, are_leaving, left_causes, returned_counts, settled_are, purge_balances, purge_leaving, purge_causes}
 
 -- ---- what is sent
@@ -125,21 +127,32 @@ with_same f n a e d = go (d == n) refl
 
 -- ---- the ways of the broker
 
--- no publish is counted, what is noted is that messages left their queues, each queue has all others that it had, and one answer at most is sent
-pub record AddsNothing (old new : Broker) (e : Event) (sends : List Send) (notes : List Note) : Type 0 where
+-- no publish is counted, what is noted is that messages left their queues and that dead letters of what stood there came, each queue has what that leaves and adds, and one answer at most is sent
+pub record CountsNone (t : Topology) (old new : Broker) (e : Event) (sends : List Send) (notes : List Note) : Type 0 where
   pub same : new.published ≡ old.published
-  pub noted : AllByRecursion (λ (note : Note). is_leaving note ≡ true) notes
-  pub kept : (n : ℕ) (q : Text) → count_by (has_number n) (old.queue q) ≡ count_by (is_left n q) notes + count_by (has_number n) (new.queue q)
+  pub noted : AllByRecursion (IsQuiet t old.queue) notes
+  pub balances : Balances old notes new
   pub caused : AllByRecursion (OfLeft (IsCauseAt old e)) notes
   pub few : IsAnswerAtMost sends
 
--- of what is true of each note of a leaving, each of these notes is
-pub leavings : {old new : Broker} {e : Event} {sends : List Send} {notes : List Note} (P : Note → Type 0) → ((n : ℕ) (q : Text) (cause : Cause) → P (Left n q cause)) → AddsNothing old new e sends notes → AllByRecursion P notes
-leavings {notes = notes} P each a = all_each _ P (only P each) notes a.noted
+-- of what is true of each note of a leaving, of a refusal, and of a dead letter's entering, each of these notes is
+pub quiet_notes : {t : Topology} {old new : Broker} {e : Event} {sends : List Send} {notes : List Note} (P : Note → Type 0) → ((n : ℕ) (q : Text) (cause : Cause) → P (Left n q cause)) → ((n : ℕ) (q : Text) → P (Refused n q))
+    → ((n : ℕ) (q : Text) → HasDied t old.queue n q → P (Entered n q way.Dead)) → CountsNone t old new e sends notes → AllByRecursion P notes
+quiet_notes {t = t} {old = old} {notes = notes} P left refused died a = all_each _ P only notes a.noted
   where
-    only : (P : Note → Type 0) → ((n : ℕ) (q : Text) (cause : Cause) → P (Left n q cause)) → (note : Note) → is_leaving note ≡ true → P note
-    only P each (Left n q cause) e = each n q cause
-    only P each _ e = absurd (false≢true e)
+    only : (note : Note) → IsQuiet t old.queue note → P note
+    only (Left n q cause) is = left n q cause
+    only (Refused n q) is = refused n q
+    only (Entered n q way.Dead) is = died n q is
+    only _ is = absurd is
+
+-- where messages only left, each queue has all others that it had
+leaving_balances : (old new : Broker) (notes : List Note) → AllByRecursion (λ (note : Note). is_leaving note ≡ true) notes
+    → ((n : ℕ) (q : Text) → count_by (has_number n) (old.queue q) ≡ count_by (is_left n q) notes + count_by (has_number n) (new.queue q)) → Balances old notes new
+leaving_balances old new notes leaving kept n q =
+    let none = count_none (is_entered n q) notes (all_each _ _ (leaving_enters n q) notes leaving) in
+    let rest = kept n q in
+    omega (arith, none, rest)
 
 -- the event is a publish, of a connection that runs, and is not refused
 pub record Publishes (t : Topology) (old new : Broker) (e : Event) (sends : List Send) (notes : List Note) : Type 0 where
@@ -154,7 +167,7 @@ pub record Publishes (t : Topology) (old new : Broker) (e : Event) (sends : List
   pub is : IsPublish t old c h ch publish (content_or_none given) sends notes new
 
 abbrev pub Seen : Topology → Broker → Broker → Event → List Send → List Note → Type 0
-Seen t old new e sends notes = AddsNothing old new e sends notes ⊎ Publishes t old new e sends notes
+Seen t old new e sends notes = CountsNone t old new e sends notes ⊎ Publishes t old new e sends notes
 
 -- the connection of an event
 abbrev pub connection_of : Event → ℕ
@@ -196,12 +209,12 @@ pub record Acted (t : Topology) (old new : Broker) (e : Event) (sends : List Sen
   pub few : IsReplyAtMost sends ⊎ Publishes t old new e sends notes
 
 -- one that adds nothing, after which its connection is this one
-record Quiet (old new : Broker) (e : Event) (c : ℕ) (after : List Send → Option Connection) (sends : List Send) (notes : List Note) : Type 0 where
-  adds : AddsNothing old new e sends notes
+record Quiet (t : Topology) (old new : Broker) (e : Event) (c : ℕ) (after : List Send → Option Connection) (sends : List Send) (notes : List Note) : Type 0 where
+  adds : CountsNone t old new e sends notes
   connections : IsAlone old c (after sends) new
   few : IsReplyAtMost sends
 
-quiet_acts : (t : Topology) (old new : Broker) (e : Event) (sends : List Send) (notes : List Note) → Quiet old new e (connection_of e) (connection_after old e) sends notes → Acted t old new e sends notes
+quiet_acts : (t : Topology) (old new : Broker) (e : Event) (sends : List Send) (notes : List Note) → Quiet t old new e (connection_of e) (connection_after old e) sends notes → Acted t old new e sends notes
 quiet_acts t old new e sends notes q = record { seen = inl q.adds; connections = q.connections; few = inl q.few }
 
 -- this state has the messages of the other, and the count of its publishes
@@ -212,36 +225,45 @@ record Keeps (old made : Broker) : Type 0 where
 freed_count : (b : Broker) (mine : Holder → Bool) (n : ℕ) (q : Text) → count_by (has_number n) (map (freed mine) (b.queue q)) ≡ count_by (has_number n) (b.queue q)
 freed_count b mine n q = count-map (has_number n) (freed mine) (freed_number n mine) (b.queue q)
 
+-- what is settled so leaves its queue for this cause
+abbrev IsBy : Settlement → Cause → Type 0
+IsBy (Leaves why) cause = cause ≡ why
+IsBy Rejects cause = cause ≡ Rejected
+IsBy Returns cause = ⊥
+
 -- all connections stay
 stay : (old : Broker) (c : ℕ) → IsAlone old c (old.connection c) old
 stay old c d = sym (with_same old.connection c (old.connection c) refl d)
 
 -- one that notes that these messages left
-noting : (old new made : Broker) (e : Event) (c : ℕ) (after : List Send → Option Connection) (sends wanted : List Send) (notes left : List Note)
+noting : (t : Topology) (old new made : Broker) (e : Event) (c : ℕ) (after : List Send → Option Connection) (sends wanted : List Send) (notes left : List Note)
     → Makes sends notes new wanted left made → IsReplyAtMost wanted → IsAlone old c (after wanted) made → made.published ≡ old.published
     → AllByRecursion (λ (note : Note). is_leaving note ≡ true) left → ((n : ℕ) (q : Text) → count_by (has_number n) (old.queue q) ≡ count_by (is_left n q) left + count_by (has_number n) (made.queue q))
-    → AllByRecursion (OfLeft (IsCauseAt old e)) left → Quiet old new e c after sends notes
-noting old new made e c after sends wanted notes left d few alone same leaving kept caused = record {
+    → AllByRecursion (OfLeft (IsCauseAt old e)) left → Quiet t old new e c after sends notes
+noting t old new made e c after sends wanted notes left d few alone same leaving kept caused = record {
   adds = record {
     same = d.left.counted ∙ same;
-    noted = subst (AllByRecursion (λ (note : Note). is_leaving note ≡ true)) (sym d.noted) leaving;
-    kept = λ n q. kept n q ∙ sym (ap (λ (ns : List Note). count_by (is_left n q) ns + count_by (has_number n) (new.queue q)) d.noted ∙ ap (λ (es : List Entry). count_by (is_left n q) left + count_by (has_number n) es) (d.left.queues q));
+    noted = all_each _ _ (leaving_quiet t old.queue) notes all_leaving;
+    balances = leaving_balances old new notes all_leaving (λ n q. kept n q ∙ sym (ap (λ (ns : List Note). count_by (is_left n q) ns + count_by (has_number n) (new.queue q)) d.noted ∙ ap (λ (es : List Entry). count_by (is_left n q) left + count_by (has_number n) es) (d.left.queues q)));
     caused = subst (AllByRecursion (OfLeft (IsCauseAt old e))) (sym d.noted) caused;
     few = reply_answers sends (subst IsReplyAtMost (sym d.sent) few);
   };
   few = subst IsReplyAtMost (sym d.sent) few;
   connections = λ x. d.left.connections x ∙ subst (λ (s : List Send). made.connection x ≡ with_one old.connection c (after s) x) (sym d.sent) (alone x);
 }
+  where
+    all_leaving : AllByRecursion (λ (note : Note). is_leaving note ≡ true) notes
+    all_leaving = subst (AllByRecursion (λ (note : Note). is_leaving note ≡ true)) (sym d.noted) leaving
 
 -- without a note each queue has what it had
 none_left : (n : ℕ) (q : Text) (x y : ℕ) → x ≡ y → x ≡ count_by (is_left n q) [] + y
 none_left n q x y e = let z : count_by (is_left n q) [] ≡ 0 = refl in omega (arith, z, e)
 
 -- one that notes nothing
-quiet : (old new made : Broker) (e : Event) (c : ℕ) (after : List Send → Option Connection) (sends wanted : List Send) (notes : List Note)
-    → Does sends notes new wanted made → IsReplyAtMost wanted → Keeps old made → IsAlone old c (after wanted) made → Quiet old new e c after sends notes
-quiet old new made e c after sends wanted notes d few k alone =
-    noting old new made e c after sends wanted notes [] (record { sent = d.sent; noted = d.noted; left = d.left }) few alone k.same tt (λ n q. none_left n q _ _ (sym (k.kept n q))) tt
+quiet : (t : Topology) (old new made : Broker) (e : Event) (c : ℕ) (after : List Send → Option Connection) (sends wanted : List Send) (notes : List Note)
+    → Does sends notes new wanted made → IsReplyAtMost wanted → Keeps old made → IsAlone old c (after wanted) made → Quiet t old new e c after sends notes
+quiet t old new made e c after sends wanted notes d few k alone =
+    noting t old new made e c after sends wanted notes [] (record { sent = d.sent; noted = d.noted; left = d.left }) few alone k.same tt (λ n q. none_left n q _ _ (sym (k.kept n q))) tt
 
 -- a publish sends what leaves its connection running
 publish_runs : (c h : ℕ) (p : Publish) (content : Content) (b : Bool) (o : Option ℕ) (a : Answer) → is_running (after_sends (returned_sends c h p content b ++ confirm_sends c h o a)) ≡ true
@@ -261,10 +283,10 @@ publish_stays t old new c h ch p content sends notes is d =
 
 module _ (t : Topology) (old new : Broker) (sends : List Send) (notes : List Note) where
   -- an event of connection c that is no publish, and notes nothing
-  still : (e : Event) (c : ℕ) (wanted : List Send) (made : Broker) → Does sends notes new wanted made → IsReplyAtMost wanted → Keeps old made → IsAlone old c (kept_after old c wanted) made → Quiet old new e c (kept_after old c) sends notes
-  still e c wanted made = quiet old new made e c (kept_after old c) sends wanted notes
+  still : (e : Event) (c : ℕ) (wanted : List Send) (made : Broker) → Does sends notes new wanted made → IsReplyAtMost wanted → Keeps old made → IsAlone old c (kept_after old c wanted) made → Quiet t old new e c (kept_after old c) sends notes
+  still e c wanted made = quiet t old new made e c (kept_after old c) sends wanted notes
 
-  closes : (e : Event) (c h : ℕ) (v : Bool) → Does sends notes new (reply c h ChannelCloseOk ∷ []) (if v then old else with_freed (with_channel old c h None) (by_channel c h)) → Quiet old new e c (kept_after old c) sends notes
+  closes : (e : Event) (c h : ℕ) (v : Bool) → Does sends notes new (reply c h ChannelCloseOk ∷ []) (if v then old else with_freed (with_channel old c h None) (by_channel c h)) → Quiet t old new e c (kept_after old c) sends notes
   closes e c h true p = still e c _ _ p (refl, refl) (record { same = refl; kept = λ n q. refl }) (stay old c)
   closes e c h false p = still e c _ _ p (refl, refl) (record { same = refl; kept = freed_count old (by_channel c h) }) (stay old c)
 
@@ -272,74 +294,78 @@ module _ (t : Topology) (old new : Broker) (sends : List Send) (notes : List Not
 
   given : (c h : ℕ) (ch : Channel) (m : Get) (content : Option Content) (e : Entry) (no_ack : Bool) → m.no_ack ≡ no_ack → first_ready (old.queue m.queue) ≡ Some e
       → Makes sends notes new (get_ok c h ch.next_tag e (ready_in ((after_delivery old c h ch no_ack m.queue taker.Get).queue m.queue)) ∷ []) (delivery_notes no_ack e.message.number m.queue) (after_delivery old c h ch no_ack m.queue taker.Get)
-      → Quiet old new (Command c h (BasicGet m) content) c (kept_after old c) sends notes
+      → Quiet t old new (Command c h (BasicGet m) content) c (kept_after old c) sends notes
   given c h ch m content e true is found p =
-      noting old new _ _ c (kept_after old c) sends _ notes _ p (refl, refl) (stay old c) refl (refl, tt) (taken_balances is_ready old.queue m.queue Auto e found)
+      noting t old new _ _ c (kept_after old c) sends _ notes _ p (refl, refl) (stay old c) refl (refl, tt) (taken_balances is_ready old.queue m.queue Auto e found)
       ((is, refl, record { entry = e; first = found; number = refl }), tt)
   given c h ch m content e false is found p =
-      noting old new _ _ c (kept_after old c) sends _ notes _ p (refl, refl) (stay old c) refl tt
+      noting t old new _ _ c (kept_after old c) sends _ notes _ p (refl, refl) (stay old c) refl tt
       (λ n q. none_left n q _ _ (sym (at_queue (λ (r : Text) (es : List Entry). count_by (has_number n) es ≡ count_by (has_number n) (old.queue r)) old.queue m.queue _ (count_change (has_number n) is_ready _ (λ x. refl) (old.queue m.queue)) (λ r other. refl) q))) tt
 
-  gets : (c h : ℕ) (ch : Channel) (m : Get) (content : Option Content) (o : Option Entry) → first_ready (old.queue m.queue) ≡ o → Gets old c h ch m o sends notes new → Quiet old new (Command c h (BasicGet m) content) c (kept_after old c) sends notes
-  gets c h ch m content None is p = noting old new _ _ c (kept_after old c) sends _ notes [] p (refl, refl) (stay old c) refl tt (λ n q. none_left n q _ _ refl) tt
+  gets : (c h : ℕ) (ch : Channel) (m : Get) (content : Option Content) (o : Option Entry) → first_ready (old.queue m.queue) ≡ o → Gets old c h ch m o sends notes new → Quiet t old new (Command c h (BasicGet m) content) c (kept_after old c) sends notes
+  gets c h ch m content None is p = noting t old new _ _ c (kept_after old c) sends _ notes [] p (refl, refl) (stay old c) refl tt (λ n q. none_left n q _ _ refl) tt
   gets c h ch m content (Some e) is p = given c h ch m content e m.no_ack refl is p
 
   -- ---- consumers
 
-  consumes : (e : Event) (c h : ℕ) (no_wait : Bool) (tag : Text) (ch : Channel) → Does sends notes new (consume_sends c h no_wait tag) (with_channel old c h (Some ch)) → Quiet old new e c (kept_after old c) sends notes
+  consumes : (e : Event) (c h : ℕ) (no_wait : Bool) (tag : Text) (ch : Channel) → Does sends notes new (consume_sends c h no_wait tag) (with_channel old c h (Some ch)) → Quiet t old new e c (kept_after old c) sends notes
   consumes e c h true tag ch p = still e c _ _ p tt (record { same = refl; kept = λ n q. refl }) (stay old c)
   consumes e c h false tag ch p = still e c _ _ p (refl, refl) (record { same = refl; kept = λ n q. refl }) (stay old c)
 
-  cancels : (e : Event) (c h : ℕ) (no_wait : Bool) (tag : Text) (ch : Channel) → Does sends notes new (cancel_sends c h no_wait tag) (with_channel old c h (Some ch)) → Quiet old new e c (kept_after old c) sends notes
+  cancels : (e : Event) (c h : ℕ) (no_wait : Bool) (tag : Text) (ch : Channel) → Does sends notes new (cancel_sends c h no_wait tag) (with_channel old c h (Some ch)) → Quiet t old new e c (kept_after old c) sends notes
   cancels e c h true tag ch p = still e c _ _ p tt (record { same = refl; kept = λ n q. refl }) (stay old c)
   cancels e c h false tag ch p = still e c _ _ p (refl, refl) (record { same = refl; kept = λ n q. refl }) (stay old c)
 
   -- a delivery takes its message out, or it is held
   delivers : (c : ℕ) (o : CanDeliver old c) (no_ack : Bool) → o.consumer.no_ack ≡ no_ack
       → Makes sends notes new (deliver c o.number o.channel.next_tag o.consumer.tag o.entry ∷ []) (delivery_notes no_ack o.entry.message.number o.consumer.queue) (after_delivery old c o.number o.channel no_ack o.consumer.queue (taker.Consumer o.consumer.number))
-      → Quiet old new (Deliver c) c (λ s. old.connection c) sends notes
+      → Quiet t old new (Deliver c) c (λ s. old.connection c) sends notes
   delivers c o true is p =
-      noting old new _ _ c (λ s. old.connection c) sends _ notes _ p (refl, refl) (stay old c) refl (refl, tt) (taken_balances is_ready old.queue o.consumer.queue Auto o.entry o.first)
+      noting t old new _ _ c (λ s. old.connection c) sends _ notes _ p (refl, refl) (stay old c) refl (refl, tt) (taken_balances is_ready old.queue o.consumer.queue Auto o.entry o.first)
       (record { made = o; no_ack = is; queue = refl; number = refl }, tt)
   delivers c o false is p =
-      noting old new _ _ c (λ s. old.connection c) sends _ notes _ p (refl, refl) (stay old c) refl tt
+      noting t old new _ _ c (λ s. old.connection c) sends _ notes _ p (refl, refl) (stay old c) refl tt
       (λ n q. none_left n q _ _ (sym (at_queue (λ (r : Text) (es : List Entry). count_by (has_number n) es ≡ count_by (has_number n) (old.queue r)) old.queue o.consumer.queue _ (count_change (has_number n) is_ready _ (λ x. refl) (old.queue o.consumer.queue)) (λ r other. refl) q))) tt
 
   -- ---- what a tag settles
 
   -- what is outstanding there, where the channel is open or a new one stands for it
-  settles : (how : Settlement) (e : Event) (c h : ℕ) (ch : Channel) (tag : ℕ) (multiple : Bool) (wanted : List Send) → Settles how old c h ch tag multiple wanted sends notes new → IsReplyAtMost wanted → is_running (after_sends wanted) ≡ true
-      → ((cause : Cause) → how ≡ Leaves cause → (o : Outstanding) (entry : Entry) → IsIn o ch.outstanding → takes tag_of tag multiple o ≡ true → IsIn entry (old.queue o.queue) → is_held_as (holder_of c h o) entry ≡ true → IsCauseAt old e entry.message.number o.queue cause)
-      → Quiet old new e c (kept_after old c) sends notes
+  settles : (how : Settlement) (e : Event) (c h : ℕ) (ch : Channel) (tag : ℕ) (multiple : Bool) (wanted : List Send) → Settles t how old c h ch tag multiple wanted sends notes new → IsReplyAtMost wanted → is_running (after_sends wanted) ≡ true
+      → ((cause : Cause) → IsBy how cause → (o : Outstanding) (entry : Entry) → IsIn o ch.outstanding → takes tag_of tag multiple o ≡ true → IsIn entry (old.queue o.queue) → is_held_as (holder_of c h o) entry ≡ true → IsCauseAt old e entry.message.number o.queue cause)
+      → Quiet t old new e c (kept_after old c) sends notes
   settles how e c h ch tag multiple wanted p few runs cause = record {
     adds = record {
       same = p.counted;
-      noted = leaving how p.queues;
-      kept = kept how p.queues;
-      caused = caused how refl p.queues;
+      noted = quiet_ones how p.queues;
+      balances = balances how p.queues;
+      caused = caused how (λ why is. is) p.queues;
       few = reply_answers sends (subst IsReplyAtMost (sym p.sent) few);
     };
     few = subst IsReplyAtMost (sym p.sent) few;
     connections = λ d. p.connections d ∙ sym (with_same old.connection c _ (ap (λ (s : List Send). cond (is_running (after_sends s)) (old.connection c) None) p.sent ∙ ap (λ (b : Bool). cond b (old.connection c) None) runs) d);
   }
     where
-      leaving : (s : Settlement) → AreSettled s c h p.gone old.queue notes new.queue → AllByRecursion (λ (note : Note). is_leaving note ≡ true) notes
-      leaving (Leaves why) a = are_leaving why c h p.gone old.queue notes new.queue a
-      leaving Returns a = subst (AllByRecursion (λ (note : Note). is_leaving note ≡ true)) (sym a.0) tt
+      quiet_ones : (s : Settlement) → AreSettled t s c h p.gone old.queue notes new.queue → AllByRecursion (IsQuiet t old.queue) notes
+      quiet_ones (Leaves why) a = all_each _ _ (leaving_quiet t old.queue) notes (are_leaving why c h p.gone old.queue notes new.queue a)
+      quiet_ones Rejects a = rejected_quiet t c h old.queue p.gone old.queue notes new.queue (λ q x i idle. i) a
+      quiet_ones Returns a = subst (AllByRecursion (IsQuiet t old.queue)) (sym a.0) tt
 
-      kept : (s : Settlement) → AreSettled s c h p.gone old.queue notes new.queue → (n : ℕ) (q : Text) → count_by (has_number n) (old.queue q) ≡ count_by (is_left n q) notes + count_by (has_number n) (new.queue q)
-      kept (Leaves why) a n q = left_balances why c h p.gone old.queue notes new.queue a n q
-      kept Returns a n q =
-          let z : count_by (is_left n q) notes ≡ 0 = ap (count_by (is_left n q)) a.0 in
+      balances : (s : Settlement) → AreSettled t s c h p.gone old.queue notes new.queue → Balances old notes new
+      balances (Leaves why) a n q = leaving_balances old new notes (are_leaving why c h p.gone old.queue notes new.queue a) (left_balances why c h p.gone old.queue notes new.queue a) n q
+      balances Rejects a n q = rejected_balances t c h p.gone old.queue notes new.queue a n q
+      balances Returns a n q =
+          let left : count_by (is_left n q) notes ≡ 0 = ap (count_by (is_left n q)) a.0 in
+          let entered : count_by (is_entered n q) notes ≡ 0 = ap (count_by (is_entered n q)) a.0 in
           let same = returned_counts c h p.gone old.queue new.queue a.1 n q in
-          omega (arith, z, same)
+          omega (arith, left, entered, same)
 
-      caused : (s : Settlement) → how ≡ s → AreSettled s c h p.gone old.queue notes new.queue → AllByRecursion (OfLeft (IsCauseAt old e)) notes
-      caused (Leaves why) is a = left_causes (IsCauseAt old e) why c h p.gone old.queue notes new.queue a each
-        where
-          each : (o : Outstanding) (entry : Entry) → IsIn o p.gone → IsIn entry (old.queue o.queue) → is_held_as (holder_of c h o) entry ≡ true → IsCauseAt old e entry.message.number o.queue why
-          each o entry i there held = let at = settled_are tag_of tag multiple ch.outstanding p.gone p.settled_are o i in cause why is o entry at.0 at.1 there held
-      caused Returns is a = subst (AllByRecursion (OfLeft (IsCauseAt old e))) (sym a.0) tt
+      each : (why : Cause) → IsBy how why → (o : Outstanding) (entry : Entry) → IsIn o p.gone → IsIn entry (old.queue o.queue) → is_held_as (holder_of c h o) entry ≡ true → IsCauseAt old e entry.message.number o.queue why
+      each why is o entry i there held = let at = settled_are tag_of tag multiple ch.outstanding p.gone p.settled_are o i in cause why is o entry at.0 at.1 there held
+
+      caused : (s : Settlement) → ((why : Cause) → IsBy s why → IsBy how why) → AreSettled t s c h p.gone old.queue notes new.queue → AllByRecursion (OfLeft (IsCauseAt old e)) notes
+      caused (Leaves why) by a = left_causes (IsCauseAt old e) why c h p.gone old.queue notes new.queue a (each why (by why refl))
+      caused Rejects by a = rejected_causes (IsCauseAt old e) t c h p.gone old.queue notes new.queue a (each Rejected (by Rejected refl))
+      caused Returns by a = subst (AllByRecursion (OfLeft (IsCauseAt old e))) (sym a.0) tt
 
   -- what is outstanding on a channel is outstanding on one that is open
   opened_if : (o : Option Channel) (x : Outstanding) → IsIn x (channel_or_new o).outstanding → o ≡ Some (channel_or_new o)
@@ -350,54 +376,35 @@ module _ (t : Topology) (old new : Broker) (sends : List Send) (notes : List Not
   was_given c h tag multiple o entry i taken there held = record { channel = channel_or_new (old.channel c h); there = opened_if (old.channel c h) o i; delivery = o; outstanding = i; settled = taken; of_queue = refl; entry = entry; stands = there; held = held; number = refl }
 
   -- it leaves by a rejection that does not requeue
-  rejected_is : (requeue : Bool) (cause : Cause) → of_rejected requeue ≡ Leaves cause → (requeue ≡ false) × (cause ≡ Rejected)
-  rejected_is true cause e = absurd (false≢true (ap is_leaving_how e))
-    where
-      is_leaving_how : Settlement → Bool
-      is_leaving_how (Leaves why) = true
-      is_leaving_how Returns = false
-  rejected_is false cause e = (refl, sym (ap cause_of e))
-    where
-      cause_of : Settlement → Cause
-      cause_of (Leaves why) = why
-      cause_of Returns = Rejected
+  rejected_is : (requeue : Bool) (cause : Cause) → IsBy (of_rejected requeue) cause → (requeue ≡ false) × (cause ≡ Rejected)
+  rejected_is true cause e = absurd e
+  rejected_is false cause e = (refl, e)
 
   rejects : (c h tag : ℕ) (multiple requeue : Bool) (m : Method) (content : Option Content)
       → ((n : ℕ) (q : Text) → requeue ≡ false → WasGiven old c h tag multiple n q → IsCauseIn old c h m n q Rejected)
-      → Settles (of_rejected requeue) old c h (channel_or_new (old.channel c h)) tag multiple [] sends notes new → Quiet old new (Command c h m content) c (kept_after old c) sends notes
+      → Settles t (of_rejected requeue) old c h (channel_or_new (old.channel c h)) tag multiple [] sends notes new → Quiet t old new (Command c h m content) c (kept_after old c) sends notes
   rejects c h tag multiple requeue m content by p = settles (of_rejected requeue) (Command c h m content) c h (channel_or_new (old.channel c h)) tag multiple [] p tt refl cause
     where
-      cause : (why : Cause) → of_rejected requeue ≡ Leaves why → (o : Outstanding) (entry : Entry) → IsIn o (channel_or_new (old.channel c h)).outstanding → takes tag_of tag multiple o ≡ true → IsIn entry (old.queue o.queue) → is_held_as (holder_of c h o) entry ≡ true → IsCauseIn old c h m entry.message.number o.queue why
+      cause : (why : Cause) → IsBy (of_rejected requeue) why → (o : Outstanding) (entry : Entry) → IsIn o (channel_or_new (old.channel c h)).outstanding → takes tag_of tag multiple o ≡ true → IsIn entry (old.queue o.queue) → is_held_as (holder_of c h o) entry ≡ true → IsCauseIn old c h m entry.message.number o.queue why
       cause why is o entry i taken there held =
           let r = rejected_is requeue why is in
           subst (λ (z : Cause). IsCauseIn old c h m entry.message.number o.queue z) (sym r.1) (by entry.message.number o.queue r.0 (was_given c h tag multiple o entry i taken there held))
 
   acknowledges : (c h : ℕ) (m : Ack) (content : Option Content)
-      → Settles (Leaves Acked) old c h (channel_or_new (old.channel c h)) m.delivery_tag m.multiple [] sends notes new → Quiet old new (Command c h (BasicAck m) content) c (kept_after old c) sends notes
+      → Settles t (Leaves Acked) old c h (channel_or_new (old.channel c h)) m.delivery_tag m.multiple [] sends notes new → Quiet t old new (Command c h (BasicAck m) content) c (kept_after old c) sends notes
   acknowledges c h m content p = settles (Leaves Acked) (Command c h (BasicAck m) content) c h (channel_or_new (old.channel c h)) m.delivery_tag m.multiple [] p tt refl cause
     where
-      cause : (why : Cause) → Leaves Acked ≡ Leaves why → (o : Outstanding) (entry : Entry) → IsIn o (channel_or_new (old.channel c h)).outstanding → takes tag_of m.delivery_tag m.multiple o ≡ true → IsIn entry (old.queue o.queue) → is_held_as (holder_of c h o) entry ≡ true → IsCauseIn old c h (BasicAck m) entry.message.number o.queue why
-      cause why is o entry i taken there held = subst (λ (z : Cause). IsCauseIn old c h (BasicAck m) entry.message.number o.queue z) (ap cause_of is) (was_given c h m.delivery_tag m.multiple o entry i taken there held)
-        where
-          cause_of : Settlement → Cause
-          cause_of (Leaves why) = why
-          cause_of Returns = Acked
+      cause : (why : Cause) → IsBy (Leaves Acked) why → (o : Outstanding) (entry : Entry) → IsIn o (channel_or_new (old.channel c h)).outstanding → takes tag_of m.delivery_tag m.multiple o ≡ true → IsIn entry (old.queue o.queue) → is_held_as (holder_of c h o) entry ≡ true → IsCauseIn old c h (BasicAck m) entry.message.number o.queue why
+      cause why is o entry i taken there held = subst (λ (z : Cause). IsCauseIn old c h (BasicAck m) entry.message.number o.queue z) (sym is) (was_given c h m.delivery_tag m.multiple o entry i taken there held)
 
   recovers : (c h : ℕ) (requeue : Bool) (content : Option Content)
-      → Settles Returns old c h (channel_or_new (old.channel c h)) 0 true (reply c h BasicRecoverOk ∷ []) sends notes new → Quiet old new (Command c h (BasicRecover requeue) content) c (kept_after old c) sends notes
-  recovers c h requeue content p = settles Returns (Command c h (BasicRecover requeue) content) c h (channel_or_new (old.channel c h)) 0 true _ p (refl, refl) refl cause
-    where
-      cause : (why : Cause) → Returns ≡ Leaves why → (o : Outstanding) (entry : Entry) → IsIn o (channel_or_new (old.channel c h)).outstanding → takes tag_of 0 true o ≡ true → IsIn entry (old.queue o.queue) → is_held_as (holder_of c h o) entry ≡ true → IsCauseIn old c h (BasicRecover requeue) entry.message.number o.queue why
-      cause why is o entry i taken there held = absurd (false≢true (ap is_leaving_how is))
-        where
-          is_leaving_how : Settlement → Bool
-          is_leaving_how (Leaves why) = true
-          is_leaving_how Returns = false
+      → Settles t Returns old c h (channel_or_new (old.channel c h)) 0 true (reply c h BasicRecoverOk ∷ []) sends notes new → Quiet t old new (Command c h (BasicRecover requeue) content) c (kept_after old c) sends notes
+  recovers c h requeue content p = settles Returns (Command c h (BasicRecover requeue) content) c h (channel_or_new (old.channel c h)) 0 true _ p (refl, refl) refl (λ why is. absurd is)
 
   -- ---- a declare
 
   declared : (e : Event) (c h : ℕ) (answer : Method) (no_wait : Bool) → is_reply answer ≡ true → kept_after old c (reply c h answer ∷ []) ≡ old.connection c
-      → Does sends notes new (declare_sends c h no_wait answer) old → Quiet old new e c (kept_after old c) sends notes
+      → Does sends notes new (declare_sends c h no_wait answer) old → Quiet t old new e c (kept_after old c) sends notes
   declared e c h answer true is runs p = still e c _ _ p tt (record { same = refl; kept = λ n q. refl }) (stay old c)
   declared e c h answer false is runs p = still e c _ _ p (is, refl) (record { same = refl; kept = λ n q. refl }) (λ d. sym (with_same old.connection c _ runs d))
 
@@ -405,9 +412,9 @@ module _ (t : Topology) (old new : Broker) (sends : List Send) (notes : List Not
 
   purged : (c h : ℕ) (m : Purge) (content : Option Content) (no_wait : Bool)
       → Makes sends notes new (purge_sends c h no_wait (ready_in (old.queue m.queue))) (purge_notes m.queue (filter is_ready (old.queue m.queue))) (after_purge old m.queue)
-      → Quiet old new (Command c h (QueuePurge m) content) c (kept_after old c) sends notes
+      → Quiet t old new (Command c h (QueuePurge m) content) c (kept_after old c) sends notes
   purged c h m content no_wait p =
-      noting old new _ _ c (kept_after old c) sends _ notes _ p (few no_wait) (alone no_wait) refl (purge_leaving m.queue _) (purge_balances old.queue m.queue)
+      noting t old new _ _ c (kept_after old c) sends _ notes _ p (few no_wait) (alone no_wait) refl (purge_leaving m.queue _) (purge_balances old.queue m.queue)
       (purge_causes (IsCauseAt old (Command c h (QueuePurge m) content)) m.queue (old.queue m.queue) _ (λ e i. i) (λ e i ready. (refl, record { entry = e; stands = i; ready = ready; number = refl })))
     where
       few : (b : Bool) → IsReplyAtMost (purge_sends c h b (ready_in (old.queue m.queue)))
@@ -447,7 +454,7 @@ module _ (t : Topology) (old new : Broker) (sends : List Send) (notes : List Not
   performs c h (QueuePurge m) content conn accepted p = quiet_acts t old new _ sends notes (purged c h m content m.no_wait p)
   performs c h _ content conn accepted p = absurd p
 
-  refuses : (e : Event) (c h : ℕ) (cause : Ids) (r : Refusal) → Refuses old c h cause r sends notes new → Quiet old new e c (kept_after old c) sends notes
+  refuses : (e : Event) (c h : ℕ) (cause : Ids) (r : Refusal) → Refuses old c h cause r sends notes new → Quiet t old new e c (kept_after old c) sends notes
   refuses e c h cause Ignored p = still e c _ _ p tt (record { same = refl; kept = λ n q. refl }) (stay old c)
   refuses e c h cause (Of_channel code) p = still e c _ _ p (refl, refl) (record { same = refl; kept = freed_count old (by_channel c h) }) (stay old c)
   refuses e c h cause (Of_connection code) p = still e c _ _ p (refl, refl) (record { same = refl; kept = freed_count old (by_connection c) }) (λ d. refl)
@@ -460,21 +467,21 @@ module _ (t : Topology) (old new : Broker) (sends : List Send) (notes : List Not
   commanded c h m content None p = quiet_acts t old new _ sends notes (still _ c _ _ p tt (record { same = refl; kept = λ n q. refl }) (stay old c))
   commanded c h m content (Some conn) p = decides c h m content conn (refusal t old conn h m (old.channel c h)) refl p
 
-  too_large : (c h : ℕ) (o : Option Connection) → OnLarge old c h sends notes new o → Quiet old new (TooLarge c h) c (kept_after old c) sends notes
+  too_large : (c h : ℕ) (o : Option Connection) → OnLarge old c h sends notes new o → Quiet t old new (TooLarge c h) c (kept_after old c) sends notes
   too_large c h None p = still _ c _ _ p tt (record { same = refl; kept = λ n q. refl }) (stay old c)
   too_large c h (Some conn) p = refuses _ c h (ids_of empty_publish) (refusal_of_large conn h (old.channel c h)) p
 
   -- Each event of the broker goes one of these ways.
   pub acted : (e : Event) → Acts t old e sends notes new → Acted t old new e sends notes
-  acted (Open c) p = quiet_acts t old new _ sends notes (quiet old new _ _ c _ sends _ notes p tt (record { same = refl; kept = λ n q. refl }) (stay old c))
+  acted (Open c) p = quiet_acts t old new _ sends notes (quiet t old new _ _ c _ sends _ notes p tt (record { same = refl; kept = λ n q. refl }) (stay old c))
   acted (First c bytes) p = quiet_acts t old new _ sends notes (still _ c _ _ p tt (record { same = refl; kept = λ n q. refl }) (stay old c))
-  acted (Running c max k) p = quiet_acts t old new _ sends notes (quiet old new _ _ c _ sends _ notes p tt (record { same = refl; kept = freed_count old (by_connection c) }) (λ d. refl))
+  acted (Running c max k) p = quiet_acts t old new _ sends notes (quiet t old new _ _ c _ sends _ notes p tt (record { same = refl; kept = freed_count old (by_connection c) }) (λ d. refl))
   acted (Command c h m content) p = commanded c h m content (old.connection c) p
   acted (TooLarge c h) p = quiet_acts t old new _ sends notes (too_large c h (old.connection c) p)
-  acted (Fault c code) p = quiet_acts t old new _ sends notes (quiet old new _ _ c _ sends _ notes p (refl, refl) (record { same = refl; kept = freed_count old (by_connection c) }) (λ d. refl))
-  acted (Lose c) p = quiet_acts t old new _ sends notes (quiet old new _ _ c _ sends _ notes p tt (record { same = refl; kept = freed_count old (by_connection c) }) (λ d. refl))
-  acted (Pause c) p = quiet_acts t old new _ sends notes (quiet old new _ _ c _ sends _ notes p tt (record { same = refl; kept = λ n q. refl }) (λ d. refl))
-  acted (Resume c) p = quiet_acts t old new _ sends notes (quiet old new _ _ c _ sends _ notes p tt (record { same = refl; kept = λ n q. refl }) (λ d. refl))
+  acted (Fault c code) p = quiet_acts t old new _ sends notes (quiet t old new _ _ c _ sends _ notes p (refl, refl) (record { same = refl; kept = freed_count old (by_connection c) }) (λ d. refl))
+  acted (Lose c) p = quiet_acts t old new _ sends notes (quiet t old new _ _ c _ sends _ notes p tt (record { same = refl; kept = freed_count old (by_connection c) }) (λ d. refl))
+  acted (Pause c) p = quiet_acts t old new _ sends notes (quiet t old new _ _ c _ sends _ notes p tt (record { same = refl; kept = λ n q. refl }) (λ d. refl))
+  acted (Resume c) p = quiet_acts t old new _ sends notes (quiet t old new _ _ c _ sends _ notes p tt (record { same = refl; kept = λ n q. refl }) (λ d. refl))
   acted (Deliver c) p = quiet_acts t old new _ sends notes (delivers c p.made p.made.consumer.no_ack refl p.makes)
 
 -- ---- what the broker sends is commands
@@ -671,14 +678,15 @@ module _ (f : Config) (old new : State) (sends : List Send) (notes : List Note) 
   goes (Deliver c) s = inl (record { runs = λ r. absurd (false≢true r); free = λ r. absurd (false≢true r); acts = s.acts; sessions = λ d. s.session d ∙ sym (with_same old.session c (old.session c) refl d) })
 
   -- a move to Running leaves the count of publishes and the messages of each queue as they are, as any other
-  answered_adds : (e : Event) → Answered old e sends notes new → AddsNothing old.broker new.broker e sends notes
+  answered_adds : (e : Event) → Answered old e sends notes new → CountsNone f.topology old.broker new.broker e sends notes
   answered_adds e a = record {
     same = a.moves.broker.counted ∙ (elim (is_running a.move.next.phase) as (λ v. (if v then opened old.broker (connection_of e) a.move.next.channel_max 0 else old.broker).published ≡ old.broker.published) [ true ↦ refl | false ↦ refl ]);
-    noted = subst (AllByRecursion (λ (note : Note). is_leaving note ≡ true)) (sym a.moves.noted) tt;
-    kept = λ n q.
-        let z : count_by (is_left n q) notes ≡ 0 = ap (count_by (is_left n q)) a.moves.noted in
+    noted = subst (AllByRecursion (IsQuiet f.topology old.broker.queue)) (sym a.moves.noted) tt;
+    balances = λ n q.
+        let left : count_by (is_left n q) notes ≡ 0 = ap (count_by (is_left n q)) a.moves.noted in
+        let entered : count_by (is_entered n q) notes ≡ 0 = ap (count_by (is_entered n q)) a.moves.noted in
         let same : count_by (has_number n) (new.broker.queue q) ≡ count_by (has_number n) (old.broker.queue q) = ap (count_by (has_number n)) (a.moves.broker.queues q) ∙ moved n q (is_running a.move.next.phase) in
-        omega (arith, z, same);
+        omega (arith, left, entered, same);
     caused = subst (AllByRecursion (OfLeft (IsCauseAt old.broker e))) (sym a.moves.noted) tt;
     few = subst IsAnswerAtMost (sym a.moves.sent) a.few;
   }

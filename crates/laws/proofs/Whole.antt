@@ -18,15 +18,12 @@ use Rattle.model.specs.declared.events.Arrival.{Arrival}
 use Rattle.laws.specs.Promises.{ack_sent}
 use Rattle.laws.proofs.Counts.{all-append, filter_all}
 use Rattle.laws.proofs.Reading.{sent_acks, frames_each}
-use Rattle.laws.proofs.Plays.{IsPut, IsTold, Told, said_each, told_turns, told_plays, told_pumps}
+use Rattle.laws.proofs.Plays.{IsPut, IsTold, Told, said_each, under_each, told_turns, told_plays, told_pumps}
 use Rattle.laws.proofs.Speaking.{IsCommandSend, AreCommandSends}
 use Rattle.laws.proofs.Spoken.{sent_to, is_spoken}
+use Rattle.laws.proofs.Traced.{stay_traced}
 use Rattle.laws.proofs.Never.{run_keeps}
 use Rattle.laws.proofs.Acks.{run_acks}
-
-sound_each : (f : Config) (hs : List Happening) → IsSound f → AllByRecursion (IsTold f) hs → AllByRecursion (λ (h : Happening). IsSound h.config) hs
-sound_each f [] s a = tt
-sound_each f (h ∷ hs) s a = (subst IsSound (sym a.0.under) s, sound_each f hs s a.1)
 
 -- ---- the output of one connection, as frames
 
@@ -125,22 +122,23 @@ has_acks f old new c hs a run (inr greeting) = record {
 
 -- ---- the promises
 
+-- what happened in a consistent world
+told_keeps : (old new : World) (hs : List Happening) → IsSound old.config → IsConsistent old → Told old hs new → KeepsEvents old.state.broker hs new.state.broker
+told_keeps old new hs sound consistent told =
+    run_keeps old.config hs old.state new.state sound (under_each old.config hs told.each) (said_each old.config hs told.each) (record { counted = consistent.counted; traced = consistent.traced }) told.run
+
 pub turn_keeps : (old new : World) (c : ℕ) (hs : List Happening) → IsSound old.config → IsConsistent old → Turns old c hs new → KeepsEvents old.state.broker hs new.state.broker
-turn_keeps old new c hs sound consistent turns =
-    let told = told_turns old new c hs turns in
-    run_keeps hs old.state new.state (sound_each old.config hs sound told.each) (said_each old.config hs told.each) consistent.counted told.run
+turn_keeps old new c hs sound consistent turns = told_keeps old new hs sound consistent (told_turns old new c hs turns)
 
 pub pump_keeps : (old new : World) (hs : List Happening) → IsSound old.config → IsConsistent old → Pumps old hs new → KeepsEvents old.state.broker hs new.state.broker
-pump_keeps old new hs sound consistent pumps =
-    let told = told_pumps old new hs pumps in
-    run_keeps hs old.state new.state (sound_each old.config hs sound told.each) (said_each old.config hs told.each) consistent.counted told.run
+pump_keeps old new hs sound consistent pumps = told_keeps old new hs sound consistent (told_pumps old new hs pumps)
 
 -- of what is a run, and spoke to each connection as its phase says
 pub promises_hold : (f : Config) (hs : List Happening) (w : World) (seen : Seen)
     → IsSound f → Told (new_world f) hs w → ((c : ℕ) → AreCommandSends (sent_to c hs) ⊎ (sent_to c hs ≡ send.Greeting c ∷ [])) → Shows hs w seen → KeepsPromises hs w.state.broker seen.connections
 promises_hold f hs w seen sound told spoken shows =
     record {
-      events = run_keeps hs empty_state w.state (sound_each f hs sound told.each) (said_each f hs told.each) (λ n q lt. refl) told.run;
+      events = run_keeps f hs empty_state w.state sound (under_each f hs told.each) (said_each f hs told.each) (record { counted = λ n q lt. refl; traced = stay_traced.empty f.topology }) told.run;
       acks = λ i one e.
           let within : i < w.given = subst (λ (n : ℕ). i < n) shows.counted (slice_get_within seen.connections i one e) in
           let is : one ≡ shown hs w (i + 1) = same_Some one (shown hs w (i + 1)) (sym e ∙ shows.each i within) in

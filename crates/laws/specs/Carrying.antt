@@ -1,7 +1,7 @@
 -- What stands in queues can be given out, and what is sent can be put out.
 use Rattle.std.specs.Prelude.{ℕ, List}
 use Rattle.std.specs.List.{AllByRecursion}
-use Rattle.model.specs.Topology.{Topology}
+use Rattle.model.specs.Topology.{Topology, IsWellFormed}
 use Rattle.model.specs.Broker.{Broker}
 use Rattle.model.specs.Step.{Acts}
 use Rattle.model.specs.Run.{empty_broker}
@@ -11,10 +11,10 @@ use Rattle.model.specs.declared.events.Send.{Send}
 use Rattle.model.specs.declared.events.Event.{Event}
 use Rattle.model.specs.declared.notes.Note.{Note}
 
--- In the empty broker each message can be given out, and each event leaves it so.
+-- In the empty broker each message can be given out, and each event leaves it so, under a topology that is well formed.
 pub record MessagesStayCarried : Type 0 where
   pub empty : AreCarried empty_broker
-  pub acts : (t : Topology) (old new : Broker) (e : Event) (sends : List Send) (notes : List Note) → IsSaid e → AreCarried old → Acts t old e sends notes new → AreCarried new
+  pub acts : (t : Topology) (old new : Broker) (e : Event) (sends : List Send) (notes : List Note) → IsWellFormed t → IsSaid e → AreCarried old → Acts t old e sends notes new → AreCarried new
 
 -- Where each message can be given out, what is sent at an event to one connection can be put out, if each of it has an address.
 abbrev pub SendsAreOwn : Type 0

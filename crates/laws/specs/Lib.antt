@@ -5,8 +5,10 @@ pub mod Streams
 pub mod Openings
 pub mod Delivery
 pub mod Rows
+pub mod Deaths
 pub mod Consistency
 pub mod Agreeing
 pub mod Carrying
+pub mod Tracing
 pub mod Consumers
 pub mod Order

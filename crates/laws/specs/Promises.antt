@@ -1,7 +1,10 @@
 -- What every run keeps of the promises.
 use Rattle.std.specs.Prelude.{◌≡◌, ℕ, List, map, filter_map, Option, Some, None}
 use Rattle.std.specs.List.{AllByRecursion}
-use Rattle.model.specs.State.{State}
+use Rattle.model.specs.Topology.{Topology}
+use Rattle.model.specs.Broker.{Broker}
+use Rattle.model.specs.State.{Config, State}
+use Rattle.model.specs.Tracing.{AreTraced}
 use Rattle.model.specs.Run.{Happening, Run, AreCounted, notes_of, sends_of}
 use Rattle.model.specs.Spelling.{sends_to}
 use Rattle.model.specs.Arrivals.{IsSaid}
@@ -29,9 +32,18 @@ ack_sent (send.Command c h m content) = ack_of h m
 abbrev pub AreSound : List Happening → Type 0
 AreSound hs = AllByRecursion (λ (h : Happening). IsSound h.config) hs
 
+-- the same was in force at each event
+abbrev pub AreUnder : Config → List Happening → Type 0
+AreUnder f hs = AllByRecursion (λ (h : Happening). h.config ≡ f) hs
+
 -- each command is a method that has a spelling
 abbrev pub AreSaid : List Happening → Type 0
 AreSaid hs = AllByRecursion (λ (h : Happening). IsSaid h.event) hs
+
+-- What stands in queues at the beginning: messages of publishes that were counted, each of which came to its queue under this topology.
+pub record IsBegun (t : Topology) (b : Broker) : Type 0 where
+  pub counted : AreCounted b
+  pub traced : AreTraced t b
 
 -- ---- laws of every run
 
@@ -43,13 +55,13 @@ AckedEnterOnce = (hs : List Happening) (old new : State) → AreSound hs → Are
 abbrev pub AcksAreAcked : Type 0
 AcksAreAcked = (hs : List Happening) (old new : State) → Run old hs new → (c : ℕ) → filter_map ack_sent (sends_to c (sends_of hs)) ≡ map ack_for (acked c hs)
 
--- No message of a publish entered a queue that was forbidden to it then.
+-- No message, of a publish or a dead letter, entered a queue that was forbidden to its publish.
 abbrev pub ForbiddenAreNotEntered : Type 0
-ForbiddenAreNotEntered = (hs : List Happening) (old new : State) → AreSound hs → AreSaid hs → Run old hs new → AllByRecursion (AreAllowedIn (notes_of hs)) hs
+ForbiddenAreNotEntered = (f : Config) (hs : List Happening) (old new : State) → IsSound f → AreUnder f hs → AreSaid hs → IsBegun f.topology old.broker → Run old hs new → AllByRecursion (AreAllowedIn (notes_of hs)) hs
 
 -- Nor, as each event by itself tells, one that was forbidden to what stood in a queue before it.
 abbrev pub ForbiddenAreNotEnteredAtEvents : Type 0
-ForbiddenAreNotEnteredAtEvents = (hs : List Happening) (old new : State) → AreSound hs → AreSaid hs → AreCounted old.broker → Run old hs new → AllByRecursion AreAllowed hs
+ForbiddenAreNotEnteredAtEvents = (f : Config) (hs : List Happening) (old new : State) → IsSound f → AreUnder f hs → AreSaid hs → IsBegun f.topology old.broker → Run old hs new → AllByRecursion AreAllowed hs
 
 -- What left a queue left it by an event that takes it out.
 abbrev pub CausesAreShown : Type 0
@@ -57,4 +69,4 @@ CausesAreShown = (hs : List Happening) (old new : State) → Run old hs new → 
 
 -- All of these, and the balance of every queue.
 abbrev pub RunsKeepEvents : Type 0
-RunsKeepEvents = (hs : List Happening) (old new : State) → AreSound hs → AreSaid hs → AreCounted old.broker → Run old hs new → KeepsEvents old.broker hs new.broker
+RunsKeepEvents = (f : Config) (hs : List Happening) (old new : State) → IsSound f → AreUnder f hs → AreSaid hs → IsBegun f.topology old.broker → Run old hs new → KeepsEvents old.broker hs new.broker

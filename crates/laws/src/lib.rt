@@ -10,12 +10,14 @@ ghost use Rattle.laws.specs.Alone.{SoundForWords};
 ghost use Rattle.laws.specs.Carrying.{MessagesStayCarried, SendsAreOwn};
 ghost use Rattle.laws.specs.Consumers.{ConsumersAreMade, ConsumersStayNamed, DeliveriesAreAddressed, NextTagsAreFound, PlaysStayNamed, WorldsStayNamed};
 ghost use Rattle.laws.specs.Consistency.{PlaysStayConsistent, WorldsStayConsistent};
+ghost use Rattle.laws.specs.Deaths.{DeathsRefuse, WorkedDeaths};
 ghost use Rattle.laws.specs.Delivery.{OneReading, HeadlineHolds, PumpsKeep, TurnsKeep};
 ghost use Rattle.laws.specs.OneStep.{EveryRunBalances, EveryRunCounts, EveryRunStays};
 ghost use Rattle.laws.specs.Openings.{OpeningsReadByPhase};
 ghost use Rattle.laws.specs.Order.{GivenAfterThoseAhead, GivenInOrder, HeldAreGiven};
 ghost use Rattle.laws.specs.Promises.{AckedEnterOnce, AcksAreAcked, CausesAreShown, ForbiddenAreNotEntered, ForbiddenAreNotEnteredAtEvents, RunsKeepEvents};
 ghost use Rattle.laws.specs.Rows.{WordsOfKeys, FirstInput, FirstOutput, BadEnd, TooLargeContent, HeadlineRefuses, FirstConsumer, RefusedConsumes};
+ghost use Rattle.laws.specs.Tracing.{MessagesStayTraced, TracedAreSafe};
 ghost use Rattle.laws.specs.Streams.{CuttingDoesNotMatter, FaultsStay, FirstBytesComeFirst, TuningDoesNotMatter};
 ghost use Rattle.model.specs.Guarantee.{Guarantee};
 ghost use Rattle.model.specs.State.{Config};
@@ -57,7 +59,7 @@ pub fn acks_are_those_noted()
     ensures { AcksAreAcked }
 {}
 
-/// In every run no message of a publish entered a queue that was forbidden to it then.
+/// In every run no message, of a publish or a dead letter, entered a queue that was forbidden to its publish.
 pub fn forbidden_queues_are_not_entered()
     ensures { ForbiddenAreNotEntered }
 {}
@@ -105,7 +107,7 @@ pub fn openings_read_by_phase()
 {}
 
 /// Whatever is done, the broker has the connections that run, knows those as paused whose output is past the bound, and
-/// holds messages of publishes alone that it counted, each of which can be given out.
+/// holds messages of publishes alone that it counted, each of which can be given out and came by a route and by deaths.
 pub fn worlds_stay_consistent()
     ensures worlds { WorldsStayConsistent }
     ensures plays { PlaysStayConsistent }
@@ -118,9 +120,20 @@ pub fn brokers_stay_agreed()
 {}
 
 /// Whatever happens, each message that stands in a queue can be given out: it is made of a publish whose content is not too
-/// large.
+/// large, and grew by little where it died.
 pub fn messages_stay_carried()
     ensures { MessagesStayCarried }
+{}
+
+/// Whatever happens, each message that stands in a queue came there by the route of its publish and by deaths, where the
+/// topology stays.
+pub fn messages_stay_traced()
+    ensures { MessagesStayTraced }
+{}
+
+/// No message that came so stands in a queue that a guarantee forbids it, nor may it come to one by deaths.
+pub fn traced_messages_are_safe()
+    ensures { TracedAreSafe }
 {}
 
 /// What is sent at one event can be put out, and is spelled by 1,060,000 bytes at most.
@@ -182,7 +195,7 @@ pub fn headline()
     ensures { (f : Config) → HeadlineHolds f }
 {}
 
-/// Worked examples of the definitions, from the bytes of the first publish to what the headline refuses.
+/// Worked examples of the definitions, from the bytes of the first publish to what the headline refuses, and of dead letters.
 pub fn worked_examples()
     ensures words { WordsOfKeys }
     ensures input { FirstInput }
@@ -192,4 +205,6 @@ pub fn worked_examples()
     ensures refused { HeadlineRefuses }
     ensures consumer { FirstConsumer }
     ensures refused_consumers { RefusedConsumes }
+    ensures deaths { WorkedDeaths }
+    ensures refused_deaths { DeathsRefuse }
 {}

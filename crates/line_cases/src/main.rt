@@ -3,16 +3,10 @@
 //! `data` says at its head what its lines ask.
 #![tactic(auto)]
 
-mod answers;
-mod certificates;
 mod counts;
-mod files;
-mod hex_words;
 mod parts;
-mod routing;
 mod running;
 mod wire;
-mod words;
 
 use std::io;
 use std::process::ExitCode;

@@ -1,15 +1,17 @@
 //! Files of lines are answered, and the answers compared.
 
-use crate::answers::{Answer, Unanswered};
 use crate::counts::Count;
 use crate::parts::{Parts, is_silent, parts_of};
-use crate::{certificates, routing, wire};
+use crate::wire;
+use line_words::{Answer, Unanswered};
 use std::process::ExitCode;
 use std::{fs, io};
 
 /// Answers a line of this kind. One that is neither about routing nor about certificates is about the wire.
 fn put_answer(out: &mut Answer, rt: &HostRuntime, kind: &str, asked: &str) {
-    if !routing::answer(out, rt, kind, asked) && !certificates::answer(out, rt, kind, asked) {
+    if !routing_lines::answer(out, rt, kind, asked)
+        && !certificate_lines::answer(out, rt, kind, asked)
+    {
         wire::answer(out, kind, asked);
     }
 }

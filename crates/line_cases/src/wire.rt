@@ -14,8 +14,7 @@ mod segments;
 mod streams;
 mod tables;
 
-use crate::answers::{Answer, Unanswered};
-use crate::hex_words::bytes_of;
+use line_words::{Answer, Unanswered, bytes_of};
 
 /// Answers a line that asks about bytes alone.
 fn answer_of_bytes(out: &mut Answer, kind: &str, bytes: &[u8]) {

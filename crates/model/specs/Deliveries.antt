@@ -1,15 +1,17 @@
 -- Messages that are given out on a channel, and what becomes of them when they are settled.
--- Source: AMQP 0-9-1, section 1.5, basic.get, basic.ack, basic.reject and basic.recover; RabbitMQ, basic.nack.
-use Rattle.std.specs.Prelude.{◌≡◌, ◌+◌, ℕ, List, [], ◌∷◌, ◌++◌, length, filter, map, find, Bool, true, false, not, nat_le, if◌then◌else◌, Option, Some, None}
+-- Source: AMQP 0-9-1, section 1.5, basic.get, basic.ack, basic.reject and basic.recover; RabbitMQ, basic.nack and "Dead Letter Exchanges".
+use Rattle.std.specs.Prelude.{◌≡◌, ◌+◌, ℕ, List, [], ◌∷◌, ◌++◌, length, filter, map, find, Bool, not, nat_le, if◌then◌else◌, Option, Some, None}
 use Rattle.std.specs.Str.{bytes_eq}
 use Rattle.model.specs.Words.{Text}
+use Rattle.model.specs.Topology.{Topology}
+use Rattle.model.specs.Deaths.{MayDie}
 use Rattle.model.specs.Broker.{Outstanding, Channel, Broker, is_ready, with_pair}
 use Rattle.model.specs.Entries.{is_under, is_held_as, freed, held_as, change_first, without_first}
 use Rattle.model.specs.declared.messages.Entry.{Entry}
 use Rattle.model.specs.declared.messages.Holder.{Holder}
 use Rattle.model.specs.declared.messages.Taker.{Taker}
 use Rattle.model.specs.declared.notes.Cause.{Cause}
-use Rattle.model.specs.declared.notes.Cause.TheVariants.{Auto, Rejected, Purged}
+use Rattle.model.specs.declared.notes.Cause.TheVariants.{Auto, Purged}
 use Rattle.model.specs.declared.notes.Note.{Note}
 use Rattle.model.specs.declared.notes.Note.TheVariants.{Left}
 
@@ -79,14 +81,15 @@ abbrev pub left_note : Cause → Text → Option Entry → List Note
 left_note cause queue None = []
 left_note cause queue (Some e) = Left e.message.number queue cause ∷ []
 
--- What is done with each message that is settled: it leaves its queue, or is ready there again.
+-- What is done with each message that is settled: it leaves its queue for this cause, leaves it by a rejection and may become a dead letter, or is ready there again.
 pub data Settlement : Type 0 where
   Leaves : (cause : Cause) → Settlement
+  Rejects : Settlement
   Returns : Settlement
 
 -- a rejected message is requeued, or leaves its queue
 abbrev pub of_rejected : Bool → Settlement
-of_rejected requeue = if requeue then Returns else Leaves Rejected
+of_rejected requeue = if requeue then Returns else Rejects
 
 -- These deliveries of channel h of connection c leave their queues, one after another in the order of their tags, and it is noted of each.
 abbrev pub AreLeft : Cause → ℕ → ℕ → List Outstanding → (Text → List Entry) → List Note → (Text → List Entry) → Type 0
@@ -95,15 +98,23 @@ AreLeft cause c h (o ∷ os) old notes new =
     (mid : Text → List Entry) × (rest : List Note) × ((q : Text) → mid q ≡ without_given c h old o q)
     × (notes ≡ left_note cause o.queue (given_in c h old o) ++ rest) × AreLeft cause c h os mid rest new
 
+-- These deliveries are rejected, one after another in the order of their tags: each leaves its queue, and dies there where the queue has a dead-letter exchange, so that a later one finds the queues as the dead letters of the earlier ones left them.
+abbrev pub AreRejected : Topology → ℕ → ℕ → List Outstanding → (Text → List Entry) → List Note → (Text → List Entry) → Type 0
+AreRejected t c h [] old notes new = (notes ≡ []) × ((q : Text) → new q ≡ old q)
+AreRejected t c h (o ∷ os) old notes new =
+    (mid : Text → List Entry) × (first : List Note) × (rest : List Note) × MayDie t o.queue (without_given c h old o) first mid (given_in c h old o)
+    × (notes ≡ first ++ rest) × AreRejected t c h os mid rest new
+
 -- These deliveries are ready again, each in its place.
 abbrev pub AreReturned : ℕ → ℕ → List Outstanding → (Text → List Entry) → (Text → List Entry) → Type 0
 AreReturned c h [] old new = (q : Text) → new q ≡ old q
 AreReturned c h (o ∷ os) old new = (mid : Text → List Entry) × ((q : Text) → mid q ≡ with_returned c h old o q) × AreReturned c h os mid new
 
 -- These deliveries are settled so.
-abbrev pub AreSettled : Settlement → ℕ → ℕ → List Outstanding → (Text → List Entry) → List Note → (Text → List Entry) → Type 0
-AreSettled (Leaves cause) c h os old notes new = AreLeft cause c h os old notes new
-AreSettled Returns c h os old notes new = (notes ≡ []) × AreReturned c h os old new
+abbrev pub AreSettled : Topology → Settlement → ℕ → ℕ → List Outstanding → (Text → List Entry) → List Note → (Text → List Entry) → Type 0
+AreSettled t (Leaves cause) c h os old notes new = AreLeft cause c h os old notes new
+AreSettled t Rejects c h os old notes new = AreRejected t c h os old notes new
+AreSettled t Returns c h os old notes new = (notes ≡ []) × AreReturned c h os old new
 
 -- ---- purging
 

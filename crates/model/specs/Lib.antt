@@ -14,6 +14,8 @@ pub mod Headers
 pub mod Message
 pub mod Broker
 pub mod Entries
+pub mod Entering
+pub mod Deaths
 pub mod Deliveries
 pub mod Declaring
 pub mod Settling
@@ -29,6 +31,7 @@ pub mod State
 pub mod Run
 pub mod Arrivals
 pub mod Headline
+pub mod Tracing
 pub mod Consistent
 pub mod Agreement
 pub mod Naming

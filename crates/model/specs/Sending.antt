@@ -1,23 +1,43 @@
 -- What may be sent at one event, and which messages may stand in queues so that each can be given out (own).
-use Rattle.std.specs.Prelude.{◌≡◌, ◌≤◌, ◌<◌, ◌^◌, ℕ, List, length}
+use Rattle.std.specs.Prelude.{◌≡◌, ◌≤◌, ◌<◌, ◌^◌, ◌+◌, ℕ, List, length, Option, Some, None}
 use Rattle.std.specs.List.{AllByRecursion}
 use Rattle.model.specs.Words.{Text}
 use Rattle.model.specs.Grammar.{IsMethod, method_bytes}
 use Rattle.model.specs.Message.{Message}
 use Rattle.model.specs.Broker.{Broker}
-use Rattle.model.specs.Commands.{IsWithin, HasWithin}
+use Rattle.model.specs.Headers.{AreProperties, header_bytes}
+use Rattle.model.specs.Deaths.{IsUnmarked}
+use Rattle.model.specs.Commands.{most_body, most_header}
 use Rattle.model.specs.Spelling.{spelling}
+use Rattle.model.specs.declared.contents.Content.{Content}
 use Rattle.model.specs.declared.messages.Entry.{Entry}
 use Rattle.model.specs.declared.events.Send.{Send}
 use Rattle.model.specs.declared.events.Send.TheVariants.{Greeting, Command}
 
 -- ---- messages
 
--- a message that can be given out: its exchange and its key have a spelling, and its content is not too large
+-- by how many bytes a dead letter's header may be longer than its publish's: the three fields of its first death, and the length before them (own)
+abbrev pub most_growth : ℕ
+most_growth = 601
+
+-- A content as it stands in a queue: that of a publish, which is not too large, or of a dead letter, whose header grew once.
+pub record IsStored (content : Content) : Type 0 where
+  pub properties : AreProperties content.properties
+  pub body : length content.body ≤ most_body
+  pub header : length (header_bytes (length content.body) content.properties) ≤ most_header + most_growth
+  -- where its headers tell of no death it has not grown
+  pub unmarked : IsUnmarked content.properties.headers → length (header_bytes (length content.body) content.properties) ≤ most_header
+
+-- where there is a content, it is so
+abbrev pub HasStored : Option Content → Type 0
+HasStored None = Unit {0}
+HasStored (Some content) = IsStored content
+
+-- a message that can be given out: its exchange and its key have a spelling, and its content is no larger than what is stored
 pub record IsCarried (m : Message) : Type 0 where
   pub exchange : length m.exchange < 256
   pub key : length m.key < 256
-  pub content : IsWithin m.content
+  pub content : IsStored m.content
 
 -- each message that stands in a queue can be given out
 abbrev pub AreCarried : Broker → Type 0
@@ -38,10 +58,10 @@ abbrev pub IsAddressed : ℕ → Send → Type 0
 IsAddressed c (Greeting d) = d ≡ c
 IsAddressed c (Command d h m content) = (d ≡ c) × (h < 2 ^ 16) × IsMethod m
 
--- its method fits the least frame, and its content is not too large
+-- its method fits the least frame, and its content is no larger than what is stored
 abbrev pub IsFitting : Send → Type 0
 IsFitting (Greeting d) = Unit {0}
-IsFitting (Command d h m content) = (length (method_bytes m) ≤ most_method) × HasWithin content
+IsFitting (Command d h m content) = (length (method_bytes m) ≤ most_method) × HasStored content
 
 -- it can be put out for connection c, whatever size of frames is agreed on
 abbrev pub IsOwn : ℕ → Send → Type 0

@@ -10,18 +10,17 @@ use Rattle.model.specs.Broker.{Outstanding, Channel, Connection, Broker, new_cha
 use Rattle.model.specs.Entries.{freed, by_channel, by_connection}
 use Rattle.model.specs.Settling.{is_refused, settled, kept}
 use Rattle.model.specs.Prefetch.{has_tag_left}
-use Rattle.model.specs.Deliveries.{Settlement, Leaves, Returns, of_rejected, AreSettled, first_ready, ready_in, written_count, after_giving, after_delivery, delivery_notes, after_purge, purge_notes}
+pub use Rattle.model.specs.Entering.{entry_note, entry_notes, comes_to}
+use Rattle.model.specs.Deliveries.{Settlement, Leaves, Returns, of_rejected, AreSettled, first_ready, ready_in, written_count, after_delivery, delivery_notes, after_purge, purge_notes}
 use Rattle.model.specs.Declaring.{HasConsumers}
 use Rattle.model.specs.Consuming.{tag_for, is_tag_taken, is_tag_wanting, with_consumer, without_consumer, CanDeliver}
 use Rattle.model.specs.Grammar.{Ids, ids, ids_of}
 use Rattle.model.specs.Headers.{no_properties}
 use Rattle.model.specs.Codes.{code_text}
 use Rattle.model.specs.declared.topologies.Exchange.{Exchange}
-use Rattle.model.specs.declared.topologies.DeclaredQueue.{DeclaredQueue}
 use Rattle.model.specs.Message.{Message}
 use Rattle.model.specs.declared.messages.Holder.{Holder}
 use Rattle.model.specs.declared.messages.Entry.{Entry}
-use Rattle.model.specs.declared.messages.Mark.TheVariants.{Ready}
 use Rattle.model.specs.declared.contents.Content.{Content}
 use Rattle.model.specs.declared.events.Send.{Send}
 use Rattle.model.specs.declared.events.Send.TheVariants as send
@@ -38,10 +37,9 @@ use Rattle.model.specs.declared.methods.Method.TheVariants.{ConnectionClose, Con
 use Rattle.model.specs.declared.messages.Taker.TheVariants as taker
 use Rattle.model.specs.declared.notes.Cause.TheVariants.{Acked}
 use Rattle.model.specs.declared.notes.Note.{Note}
-use Rattle.model.specs.declared.notes.Note.TheVariants.{Published, Entered, Refused, Returned, Confirmed}
+use Rattle.model.specs.declared.notes.Note.TheVariants.{Published, Returned, Confirmed}
 use Rattle.model.specs.declared.notes.Answer.{Answer}
 use Rattle.model.specs.declared.notes.Answer.TheVariants as answer
-use Rattle.model.specs.declared.notes.Way.{Way}
 use Rattle.model.specs.declared.notes.Way.TheVariants as way
 use Rattle.model.specs.declared.events.Event.{Event}
 use Rattle.model.specs.declared.events.Event.TheVariants.{Open, First, Running, Command, TooLarge, Fault, Lose, Pause, Resume, Deliver}
@@ -117,25 +115,6 @@ refusal_of_get t b ch m = or_else (refusal_in t m.queue) (refusal_of_tags ch (fi
 abbrev pub refusal_of_settling : Channel → ℕ → Bool → Option Refusal
 refusal_of_settling ch tag multiple = if is_refused tag_of tag multiple ch.outstanding then Some (Of_channel 406) else None
 
--- the queue has a dead-letter exchange (RabbitMQ, "Dead Letter Exchanges")
-abbrev pub has_dead_letters : Option DeclaredQueue → Bool
-has_dead_letters None = false
-has_dead_letters (Some q) = is_some q.dead_letter_exchange
-
--- what was given out from this queue goes to a dead-letter exchange where it is rejected
-abbrev pub is_dead_lettered : Topology → Outstanding → Bool
-is_dead_lettered t o = has_dead_letters (queue_named t.queues o.queue)
-
--- dead letters are not built yet: a rejection that makes one is not implemented (own)
-abbrev pub refusal_of_dead : Topology → Option (List Outstanding) → Option Refusal
-refusal_of_dead t None = None
-refusal_of_dead t (Some gone) = if list_any (is_dead_lettered t) gone then Some (Of_connection 540) else None
-
--- a rejection: its tag must be outstanding, and without requeue nothing that it settles may go to a dead-letter exchange
-abbrev pub refusal_of_rejection : Topology → Channel → ℕ → Bool → Bool → Option Refusal
-refusal_of_rejection t ch tag multiple requeue =
-    or_else (refusal_of_settling ch tag multiple) (if requeue then None else refusal_of_dead t (settled tag_of tag multiple ch.outstanding))
-
 -- what a consume asks for that is not implemented: to be the only one, not to get messages of its own connection, or any argument
 abbrev pub refusal_of_asking : Consume → Option Refusal
 refusal_of_asking m = if m.exclusive || m.no_local || not (bytes_eq m.arguments []) then Some (Of_connection 540) else None
@@ -181,9 +160,9 @@ refusal_of_exchange t (b ∷ bs) = if is_some (exchange_named t.exchanges (b ∷
 abbrev pub refusal_of_exchange_declare : Topology → DeclaresExchange → Option Refusal
 refusal_of_exchange_declare t m = if m.passive then refusal_of_exchange t m.exchange else Some (Of_channel 403)
 
--- or whether the queue is, which is not built yet: it is not implemented
-abbrev pub refusal_of_queue_declare : DeclaresQueue → Option Refusal
-refusal_of_queue_declare m = if m.passive then Some (Of_connection 540) else Some (Of_channel 403)
+-- or whether the queue is
+abbrev pub refusal_of_queue_declare : Topology → DeclaresQueue → Option Refusal
+refusal_of_queue_declare t m = if m.passive then refusal_in t m.queue else Some (Of_channel 403)
 
 -- the connection class
 abbrev pub is_of_connection : Method → Bool
@@ -199,8 +178,8 @@ refusal_of t b ch (BasicConsume m) = refusal_of_consume t ch m
 refusal_of t b ch (BasicCancel m) = None
 refusal_of t b ch (BasicGet m) = refusal_of_get t b ch m
 refusal_of t b ch (BasicAck m) = refusal_of_settling ch m.delivery_tag m.multiple
-refusal_of t b ch (BasicReject m) = refusal_of_rejection t ch m.delivery_tag false m.requeue
-refusal_of t b ch (BasicNack m) = refusal_of_rejection t ch m.delivery_tag m.multiple m.requeue
+refusal_of t b ch (BasicReject m) = refusal_of_settling ch m.delivery_tag false
+refusal_of t b ch (BasicNack m) = refusal_of_settling ch m.delivery_tag m.multiple
 refusal_of t b ch (BasicRecover requeue) = refusal_of_recover requeue
 refusal_of t b ch (ChannelOpen reserved) = Some (Of_connection 504)
 refusal_of t b ch (ChannelFlow active) = refusal_of_flow active
@@ -208,7 +187,7 @@ refusal_of t b ch (ExchangeDeclare m) = refusal_of_exchange_declare t m
 refusal_of t b ch ExchangeDelete = Some (Of_channel 403)
 refusal_of t b ch ExchangeBind = Some (Of_channel 403)
 refusal_of t b ch ExchangeUnbind = Some (Of_channel 403)
-refusal_of t b ch (QueueDeclare m) = refusal_of_queue_declare m
+refusal_of t b ch (QueueDeclare m) = refusal_of_queue_declare t m
 refusal_of t b ch QueueBind = Some (Of_channel 403)
 refusal_of t b ch QueueDelete = Some (Of_channel 403)
 refusal_of t b ch QueueUnbind = Some (Of_channel 403)
@@ -310,17 +289,6 @@ connection_close c code cause = reply c 0 (ConnectionClose (record { reply_code 
 abbrev pub message : ℕ → Publish → Content → Message
 message n p content = record { number = n; first_exchange = p.exchange; first_key = p.routing_key; exchange = p.exchange; key = p.routing_key; content = content; redelivered = false }
 
--- a full queue refuses, any other takes the message
-abbrev pub entry_note : Topology → (Text → List Entry) → ℕ → ℕ → Way → Text → Note
-entry_note t entries size n w q = if is_full t entries q size then Refused n q else Entered n q w
-
--- what comes to the queue q, of a message that goes to these queues
-abbrev pub comes_to : Topology → (Text → List Entry) → Message → Text → List Text → List Entry
-comes_to t entries m q [] = []
-comes_to t entries m q (r ∷ rs) =
-    if bytes_eq r q && not (is_full t entries r (length m.content.body)) then record { message = m; mark = Ready } ∷ comes_to t entries m q rs
-    else comes_to t entries m q rs
-
 -- the publish is routed to no queue
 abbrev pub is_none : List Text → Bool
 is_none [] = true
@@ -374,10 +342,6 @@ after_publish t b c h ch p content targets = record b {
 -- a routed queue is full for this body
 abbrev pub is_some_full : Topology → (Text → List Entry) → Content → List Text → Bool
 is_some_full t entries content targets = list_any (λ q. is_full t entries q (length content.body)) targets
-
--- what is noted of each routed queue, in their order
-abbrev pub entry_notes : Topology → (Text → List Entry) → ℕ → ℕ → Way → List Text → List Note
-entry_notes t entries size n w targets = map (entry_note t entries size n w) targets
 
 -- What a publish does, on a channel of this record: it goes to each routed queue in file order, and is confirmed in confirm mode.
 pub record IsPublish (t : Topology) (old : Broker) (c h : ℕ) (ch : Channel) (p : Publish) (content : Content) (sends : List Send) (notes : List Note) (new : Broker) : Type 0 where
@@ -434,10 +398,10 @@ Gets old c h ch m (Some e) sends notes new =
     (after_delivery old c h ch m.no_ack m.queue taker.Get)
 
 -- What an acknowledgement or a rejection does on a channel of this record: what its tag settles is taken out or requeued, in the order of tags.
-pub record Settles (how : Settlement) (old : Broker) (c h : ℕ) (ch : Channel) (tag : ℕ) (multiple : Bool) (wanted_sends : List Send) (sends : List Send) (notes : List Note) (new : Broker) : Type 0 where
+pub record Settles (t : Topology) (how : Settlement) (old : Broker) (c h : ℕ) (ch : Channel) (tag : ℕ) (multiple : Bool) (wanted_sends : List Send) (sends : List Send) (notes : List Note) (new : Broker) : Type 0 where
   pub gone : List Outstanding
   pub settled_are : settled tag_of tag multiple ch.outstanding ≡ Some gone
-  pub queues : AreSettled how c h gone old.queue notes new.queue
+  pub queues : AreSettled t how c h gone old.queue notes new.queue
   pub sent : sends ≡ wanted_sends
   pub counted : new.published ≡ old.published
   pub connections : (d : ℕ) → new.connection d ≡ old.connection d
@@ -537,13 +501,13 @@ Performs t old c h ch (BasicCancel m) content sends notes new =
 Performs t old c h ch (BasicGet m) content sends notes new =
     Gets old c h ch m (first_ready (old.queue m.queue)) sends notes new
 Performs t old c h ch (BasicAck m) content sends notes new =
-    Settles (Leaves Acked) old c h ch m.delivery_tag m.multiple [] sends notes new
+    Settles t (Leaves Acked) old c h ch m.delivery_tag m.multiple [] sends notes new
 Performs t old c h ch (BasicReject m) content sends notes new =
-    Settles (of_rejected m.requeue) old c h ch m.delivery_tag false [] sends notes new
+    Settles t (of_rejected m.requeue) old c h ch m.delivery_tag false [] sends notes new
 Performs t old c h ch (BasicNack m) content sends notes new =
-    Settles (of_rejected m.requeue) old c h ch m.delivery_tag m.multiple [] sends notes new
+    Settles t (of_rejected m.requeue) old c h ch m.delivery_tag m.multiple [] sends notes new
 Performs t old c h ch (BasicRecover requeue) content sends notes new =
-    Settles Returns old c h ch 0 true (reply c h BasicRecoverOk ∷ []) sends notes new
+    Settles t Returns old c h ch 0 true (reply c h BasicRecoverOk ∷ []) sends notes new
 Performs t old c h ch (QueuePurge m) content sends notes new =
     Purges old c h m sends notes new
 Performs t old c h ch _ content sends notes new = ⊥

@@ -1,6 +1,6 @@
 //! Contents: what a publish carries beside its method.
 
-ghost use Rattle.std.specs.Prelude.{◌≡◌, IfOk};
+ghost use Rattle.std.specs.Prelude.{◌≡◌, IfOk, Some};
 ghost use Rattle.model.specs.Headers.{no_properties};
 
 use crate::tables::Table;
@@ -73,6 +73,38 @@ impl Fields {
             reserved: None,
         }
     }
+
+    /// The same fields but for the headers, sharing their bytes.
+    fn with_headers(&self, headers: Table) -> Result<Fields, AllocError>
+        ensures { IfOk result (λ fields. fields ≡ record self.now { headers = Some headers }) }
+    {
+        Ok(Fields {
+            content_type: shared(&self.content_type)?,
+            content_encoding: shared(&self.content_encoding)?,
+            headers: Some(headers),
+            delivery_mode: self.delivery_mode,
+            priority: self.priority,
+            correlation_id: shared(&self.correlation_id)?,
+            reply_to: shared(&self.reply_to)?,
+            expiration: shared(&self.expiration)?,
+            message_id: shared(&self.message_id)?,
+            timestamp: self.timestamp,
+            kind: shared(&self.kind)?,
+            user_id: shared(&self.user_id)?,
+            app_id: shared(&self.app_id)?,
+            reserved: shared(&self.reserved)?,
+        })
+    }
+}
+
+/// The same text, where there is one, sharing its bytes.
+fn shared(text: &Option<Text>) -> Result<Option<Text>, AllocError>
+    ensures { IfOk result (λ same. same ≡ text.now) }
+{
+    match text {
+        None => Ok(None),
+        Some(text) => Ok(Some(text.clone()?)),
+    }
 }
 
 /// The properties of a content, in 16 bytes of their own. Clones share them, and where there are none there is no block.
@@ -129,6 +161,18 @@ impl Properties {
         }
     }
 
+    /// The same properties but for the headers, of which these are the pairs. The others share their bytes.
+    pub fn with_headers(&self, alloc: Global, headers: &[u8]) -> Result<Properties, AllocError>
+        ensures { IfOk result (λ p. p ≡ record self.now { headers = Some headers.now }) }
+    {
+        let headers = Table::from_pairs(Text::from_slice(alloc, headers)?);
+        let fields = match &self.fields {
+            None => Fields::none().with_headers(headers)?,
+            Some(shared) => shared.with_headers(headers)?,
+        };
+        Properties::new(alloc, fields)
+    }
+
     /// The same properties, sharing their bytes.
     pub fn clone(&self) -> Result<Properties, AllocError>
         ensures { IfOk result (λ p. p ≡ self.now) }
@@ -159,6 +203,18 @@ impl Drop for Content {
 }
 
 impl Content {
+    ghost use Rattle.model.specs.Deaths.{with_headers};
+
+    /// The same body, shared, with the same properties but for the headers, of which these are the pairs.
+    pub fn with_headers(&self, alloc: Global, headers: &[u8]) -> Result<Content, AllocError>
+        ensures { IfOk result (λ c. c ≡ with_headers self.now (Some headers.now)) }
+    {
+        Ok(Content {
+            properties: self.properties.with_headers(alloc, headers)?,
+            body: self.body.clone()?,
+        })
+    }
+
     /// The same content, sharing its bytes.
     pub fn clone(&self) -> Result<Content, AllocError>
         ensures { IfOk result (λ c. c ≡ self.now) }

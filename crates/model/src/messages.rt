@@ -9,9 +9,18 @@ use std::alloc::{AllocError, Global};
 use std::marker::Model;
 use std::sync::Arc;
 
-/// What all copies of a publish share.
+/// Where a message was sent, and under which key.
+#[derive(Drop)]
+struct Sent {
+    exchange: Text,
+    key: Text,
+}
+
+/// What all copies of a publish share, or all copies of a dead letter.
 struct Shared {
     number: u64,
+    /// Where a dead letter was published. A publish was first sent to its own exchange, under its own key.
+    first: Option<Arc<Sent>>,
     exchange: Text,
     key: Text,
     content: Content,
@@ -22,6 +31,7 @@ impl Drop for Shared {
     fn drop(self) {
         let Shared {
             number: _,
+            first: _,
             exchange: _,
             key: _,
             content: _,
@@ -46,15 +56,17 @@ impl Drop for Message {
 }
 
 impl Model for Message {
+    ghost use Rattle.std.specs.Prelude.{Some, None};
     ghost use Rattle.model.specs.Message.{Message as Seen};
 
     ghost Value = { Seen };
 
-    ghost view = { λ m. record { number = m.shared.value.number; first_exchange = m.shared.value.exchange; first_key = m.shared.value.key; exchange = m.shared.value.exchange; key = m.shared.value.key; content = m.shared.value.content; redelivered = m.redelivered } };
+    ghost view = { λ m. record { number = m.shared.value.number; first_exchange = elim m.shared.value.first [ None ↦ m.shared.value.exchange | Some sent ↦ sent.value.exchange ]; first_key = elim m.shared.value.first [ None ↦ m.shared.value.key | Some sent ↦ sent.value.key ]; exchange = m.shared.value.exchange; key = m.shared.value.key; content = m.shared.value.content; redelivered = m.redelivered } };
 }
 
 impl Message {
     ghost use Rattle.std.specs.Prelude.{true};
+    ghost use Rattle.model.specs.Deaths.{dead_letter};
     ghost use Rattle.model.specs.Step.{message};
 
     /// The message of a publish under this publish number. It shares the bytes of the publish and of its content.
@@ -68,6 +80,7 @@ impl Message {
     {
         let shared = Shared {
             number,
+            first: None,
             exchange: publish.exchange.clone()?,
             key: publish.routing_key.clone()?,
             content: content.clone()?,
@@ -77,6 +90,51 @@ impl Message {
                 shared,
                 redelivered: false,
             }),
+            Err(_) => Err(AllocError),
+        }
+    }
+
+    /// The dead letter of this message, which is sent to this exchange under this key, with this content. It keeps the number
+    /// and where the message was first sent, and counts as not delivered. It shares the bytes of all that it is made of.
+    pub fn dead_letter(
+        &self,
+        alloc: Global,
+        exchange: &Text,
+        key: &Text,
+        content: &Content,
+    ) -> Result<Message, AllocError>
+        ensures { IfOk result (λ m. m ≡ dead_letter self.now exchange.now key.now content.now) }
+    {
+        let shared = Shared {
+            number: self.shared.number,
+            first: Some(self.first_sent(alloc)?),
+            exchange: exchange.clone()?,
+            key: key.clone()?,
+            content: content.clone()?,
+        };
+        match Arc::new(alloc, shared) {
+            Ok(shared) => Ok(Message {
+                shared,
+                redelivered: false,
+            }),
+            Err(_) => Err(AllocError),
+        }
+    }
+
+    /// Where it was first sent. All deaths of a message share this.
+    fn first_sent(&self, alloc: Global) -> Result<Arc<Sent>, AllocError>
+        ensures exchange { IfOk result (λ sent. sent.value.exchange ≡ self.now.first_exchange) }
+        ensures key { IfOk result (λ sent. sent.value.key ≡ self.now.first_key) }
+    {
+        if let Some(sent) = &self.shared.first {
+            return Arc::try_clone(sent);
+        }
+        let sent = Sent {
+            exchange: self.shared.exchange.clone()?,
+            key: self.shared.key.clone()?,
+        };
+        match Arc::new(alloc, sent) {
+            Ok(sent) => Ok(sent),
             Err(_) => Err(AllocError),
         }
     }

@@ -2,4 +2,5 @@ pub mod Worlds
 pub mod Places
 pub mod Steps
 pub mod Onward
+pub mod InOrder
 pub mod Ending

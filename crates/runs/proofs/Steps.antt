@@ -181,24 +181,24 @@ tells_delivers a b c hs s notes noted v =
 
 -- ---- nothing happens, and no output changes
 
-tells_idle : (a b : World) (s : Seen) → b.given ≡ a.given → b.state ≡ a.state → ((d : ℕ) → (b.wire d).output ≡ (a.wire d).output) → Tells a s [] b s
-tells_idle a b s given state outputs =
+tells_idle : (a b : World) (s : Seen) → b.given ≡ a.given → b.config ≡ a.config → b.state ≡ a.state → ((d : ℕ) → (b.wire d).output ≡ (a.wire d).output) → Tells a s [] b s
+tells_idle a b s given config state outputs =
     tells_by a b s s []
     (sym (append-nil s.notes))
     (λ n. n ∙ sym given)
-    (λ k. consistent_same a b k state outputs)
+    (λ k. consistent_same a b k config state outputs)
     (λ k none i le. let was = none i (subst (λ (n : ℕ). n ≤ i) given le) in (outputs (i + 1) ∙ was.0, ap (λ (z : State). is_ended (z.session (i + 1)).phase) state ∙ was.1))
     (λ i n none. ap (λ (z : List ℕ). taken_at s.connections i ++ z) (outputs (i + 1)) ∙ sym (append-nil (taken_at s.connections i ++ (a.wire (i + 1)).output)))
 
 pub tells_waits : (a b : World) (c : ℕ) (s : Seen) → Waits a c b → Tells a s [] b s
-tells_waits a b c s v = tells_idle a b s v.given v.state (λ d. go d (eqb d c) refl)
+tells_waits a b c s v = tells_idle a b s v.given v.config v.state (λ d. go d (eqb d c) refl)
   where
     go : (d : ℕ) (x : Bool) → eqb d c ≡ x → (b.wire d).output ≡ (a.wire d).output
     go d true q = subst (λ (n : ℕ). (b.wire n).output ≡ (a.wire n).output) (sym (eqb-true d c q)) v.output
     go d false q = ap (λ (w : Wire). w.output) (v.others d (eqb-false d c q))
 
 pub tells_heard : (a : World) (c : ℕ) (bytes : List ℕ) (s : Seen) → Tells a s [] (with_heard a c bytes) s
-tells_heard a c bytes s = tells_idle a (with_heard a c bytes) s refl refl (λ d. go d (eqb d c) refl)
+tells_heard a c bytes s = tells_idle a (with_heard a c bytes) s refl refl refl (λ d. go d (eqb d c) refl)
   where
     go : (d : ℕ) (x : Bool) → eqb d c ≡ x → ((with_heard a c bytes).wire d).output ≡ (a.wire d).output
     go d true q = ap (λ (w : Wire). w.output) (with_here a.wire c d _ (eqb-true d c q)) ∙ ap (λ (n : ℕ). (a.wire n).output) (sym (eqb-true d c q))

@@ -1,3 +1,4 @@
 pub mod Told
 pub mod Opened
+pub mod InOrder
 pub mod Runs

@@ -6,6 +6,7 @@ use Rattle.model.specs.Arrivals.{World, Answers, WorksOff, Plays, Shows, Seen, n
 use Rattle.model.specs.Headline.{IsSound, KeepsPromises}
 use Rattle.model.specs.declared.events.Arrival.{Arrival}
 use Rattle.runs.specs.Told.{Tells}
+use Rattle.runs.specs.InOrder.{GivesInOrder}
 
 -- all that is to perform for a connection is performed and written down
 abbrev pub WorksAndTells : World → ℕ → Seen → World → Seen → Type 0
@@ -26,3 +27,4 @@ pub record IsRunOf (f : Config) (arrivals : List Arrival) (last : World) (seen :
   pub shows : Shows happenings last seen
   -- certified delivery
   pub promises : IsSound f → KeepsPromises happenings last.state.broker seen.connections
+  pub order : GivesInOrder happenings

@@ -7,6 +7,7 @@ use std::alloc::{AllocError, Global};
 pub trait Machine {
     ghost use Rattle.std.specs.Prelude.{◌≡◌, ◌<◌, ℕ, IfOk, OnOk, OnErr, OnSome, MatchOption, MatchBool};
     ghost use Rattle.model.specs.Arrivals.{World, Same, Waits, is_over};
+    ghost use Rattle.model.specs.Topology.{IsWellFormed};
     ghost use Rattle.runs.specs.Opened.{OpensNew, OpensReady, Hears, Did, DidNothing, Idles, Pumped, Takes, IsLost};
 
     // what it stands for
@@ -56,4 +57,8 @@ pub trait Machine {
     /// Whether `c` is over or lost, or was never opened.
     fn is_over(&self, c: u64) -> bool
         ensures { result ≡ is_over (world self.now) c };
+
+    /// What every topology keeps, of the one that is in force.
+    fn is_well_formed(&self)
+        ensures { IsWellFormed (world self.now).config.topology };
 }

@@ -49,6 +49,8 @@ impl Machine for Closed {
     fn is_over(&self, _c: u64) -> bool {
         true
     }
+
+    fn is_well_formed(&self) {}
 }
 
 #[test]

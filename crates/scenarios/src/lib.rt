@@ -3,6 +3,12 @@
 #![tactic(auto)]
 
 #[cfg(test)]
+mod clients;
+#[cfg(test)]
 mod engines;
+#[cfg(test)]
+mod pauses;
+#[cfg(test)]
+mod rounds;
 #[cfg(test)]
 mod streams;

@@ -6,8 +6,10 @@ use Rattle.model.specs.Broker.{with_one}
 use Rattle.model.specs.Phases.{Session}
 use Rattle.model.specs.State.{Config, State}
 use Rattle.model.specs.Run.{Happening}
-use Rattle.model.specs.Arrivals.{World, Wire, Works, none_more, one_more, Waits, WorksOff, Answers, Takes_off, TakesAndWorks, Loses, Settles, Same, with_heard, is_over, is_gone, is_past_bound, is_ended, is_awake}
+use Rattle.model.specs.Commands.{new_stream}
+use Rattle.model.specs.Arrivals.{World, Wire, Works, none_more, one_more, Waits, WorksOff, Answers, Takes_off, TakesAndWorks, Loses, Settles, Same, with_heard, is_over, is_gone, is_past_bound, is_ended, is_awake, has_output, Opens}
 use Rattle.model.specs.declared.events.Arrival.TheVariants as arrival
+use Rattle.model.specs.declared.events.Event.TheVariants as event
 use Rattle.serving.specs.Wire.{Ask, To_read, To_write}
 use Rattle.serving.specs.Coming.{FallsShort}
 use Rattle.serving.specs.Story.{At}
@@ -61,6 +63,9 @@ either c a b P hs false f p = f p
 pub apart_lose : (c : ℕ) (a b : World) → (hs : List Happening) × Answers a (arrival.Lose c) hs b → ApartFrom c a b
 apart_lose c a b (hs, p) = either c a b _ hs (is_gone a c) (λ (l : Loses a c hs b). record { wires = λ d ne. l.wires d ∙ other_one a.wire c _ d ne; sessions = λ d ne. l.happens.stepped.session d ∙ other_one a.state.session c _ d ne }) p
 
+pub apart_open : (a b : World) (hs : List Happening) → Opens a (event.Open (a.given + 1)) new_stream hs b → ApartFrom (a.given + 1) a b
+apart_open a b hs o = record { wires = λ d ne. o.wires d ∙ other_one a.wire (a.given + 1) _ d ne; sessions = λ d ne. o.happens.stepped.steps.session d ∙ other_one a.state.session (a.given + 1) _ d ne }
+
 pub apart_in : (c : ℕ) (a b : World) (bytes : List ℕ) → (hs : List Happening) × Answers a (arrival.In c bytes) hs b → ApartFrom c a b
 apart_in c a b bytes (hs, p) =
     either c a b _ hs (is_over a c) (λ (l : WorksOff (with_heard a c bytes) c hs b).
@@ -90,23 +95,42 @@ absent_behind w ps i p fit at j q there e =
     let same : i ≡ i + 1 + j = fit.apart i (i + 1 + j) p q at found (sym e) in
     absurd (omega (arith, same))
 
-awake_as : (c : ℕ) (a b : World) → ApartFrom c a b → (d : ℕ) → d ≢ c → is_awake b d ≡ is_awake a d
-awake_as c a b p d ne =
-    ap (λ (s : Session). not (is_ended s.phase) && not (is_past_bound (b.wire d).output)) (p.sessions d ne)
-    ∙ ap (λ (w : Wire). not (is_ended (a.state.session d).phase) && not (is_past_bound w.output)) (p.wires d ne)
+-- of this connection the phase and the output stay
+pub record StaysFor (c : ℕ) (old new : World) : Type 0 where
+  pub wire : new.wire c ≡ old.wire c
+  pub session : new.state.session c ≡ old.state.session c
+
+pub others_stay : (c : ℕ) (a b : World) → ApartFrom c a b → (d : ℕ) → d ≢ c → StaysFor d a b
+others_stay c a b p d ne = record { wire = p.wires d ne; session = p.sessions d ne }
+
+pub same_stays : (a b : World) → Same a b → (d : ℕ) → StaysFor d a b
+same_stays a b s d = record { wire = s.wires d; session = ap (λ (z : State). z.session d) s.state }
+
+pub output_stays : (a b : World) (d : ℕ) → StaysFor d a b → has_output b d ≡ has_output a d
+output_stays a b d p = ap (λ (w : Wire). nat_lt 0 (length w.output)) p.wire
+
+pub awake_stays : (a b : World) (d : ℕ) → StaysFor d a b → is_awake b d ≡ is_awake a d
+awake_stays a b d p =
+    ap (λ (s : Session). not (is_ended s.phase) && not (is_past_bound (b.wire d).output)) p.session
+    ∙ ap (λ (w : Wire). not (is_ended (a.state.session d).phase) && not (is_past_bound w.output)) p.wire
+
+pub gone_stays : (a b : World) (d : ℕ) → StaysFor d a b → is_gone b d ≡ is_gone a d
+gone_stays a b d p =
+    ap (λ (s : Session). is_ended s.phase && not (has_output b d)) p.session
+    ∙ ap (λ (x : Bool). is_over a d && not x) (output_stays a b d p)
 
 pub reads_as : (c : ℕ) (a b : World) → ApartFrom c a b → (ps : List (Option Peer)) → IsAbsent c ps → flat_map (read_of b) ps ≡ flat_map (read_of a) ps
 reads_as c a b p [] absent = refl
 reads_as c a b p (None ∷ ps) absent = reads_as c a b p ps (λ i q at. absent (suc i) q at)
 reads_as c a b p (Some q ∷ ps) absent =
-    ap (λ (x : Bool). (if x then To_read q.socket ∷ [] else []) ++ flat_map (read_of b) ps) (awake_as c a b p q.connection (absent 0 q refl))
+    ap (λ (x : Bool). (if x then To_read q.socket ∷ [] else []) ++ flat_map (read_of b) ps) (awake_stays a b q.connection (others_stay c a b p q.connection (absent 0 q refl)))
     ∙ ap (λ (xs : List Ask). read_of a (Some q) ++ xs) (reads_as c a b p ps (λ i r at. absent (suc i) r at))
 
 pub writes_as : (c : ℕ) (a b : World) → ApartFrom c a b → (ps : List (Option Peer)) → IsAbsent c ps → flat_map (write_of b) ps ≡ flat_map (write_of a) ps
 writes_as c a b p [] absent = refl
 writes_as c a b p (None ∷ ps) absent = writes_as c a b p ps (λ i q at. absent (suc i) q at)
 writes_as c a b p (Some q ∷ ps) absent =
-    ap (λ (w : Wire). (if nat_lt 0 (length w.output) then To_write q.socket ∷ [] else []) ++ flat_map (write_of b) ps) (p.wires q.connection (absent 0 q refl))
+    ap (λ (x : Bool). (if x then To_write q.socket ∷ [] else []) ++ flat_map (write_of b) ps) (output_stays a b q.connection (others_stay c a b p q.connection (absent 0 q refl)))
     ∙ ap (λ (xs : List Ask). write_of a (Some q) ++ xs) (writes_as c a b p ps (λ i r at. absent (suc i) r at))
 
 -- ---- slot by slot

@@ -10,6 +10,7 @@ use Rattle.model.specs.Phases.{Session, no_session, running_session}
 use Rattle.model.specs.Spelling.{sends_to, spelling}
 use Rattle.model.specs.Broker.{with_one}
 use Rattle.model.specs.Commands.{Stream}
+use Rattle.model.specs.Topology.{IsWellFormed}
 use Rattle.model.specs.State.{Config, State}
 use Rattle.model.specs.Run.{Happening, put_out}
 use Rattle.model.specs.Arrivals.{World, Wire, new_world, is_over, is_gone, is_ended, can_open, Turns, Works, none_more, one_more, Waits, WorksOff, Same, with_heard, Takes_off, TakesAndWorks, Opens, Loses, Puts, Pumps, delivers, idles, Answers}
@@ -362,8 +363,8 @@ beginning d taken put w acc = go acc.fits
     go (inl e) = ((w.wire d).output, e)
     go (inr g) = g.2
 
-pub are_beginnings : (f : Config) (ds : List Deed) (told : Told) (new : Served) (hs : List Happening) (xs : List Call) → told.calls ≡ Some xs → Story (served (new_world f) [] told) ds hs new → AreBeginnings ds hs
-are_beginnings f ds told new hs xs tells s p i =
+pub are_beginnings : (f : Config) (ds : List Deed) (told : Told) (new : Served) (hs : List Happening) (xs : List Call) → IsWellFormed f.topology → told.calls ≡ Some xs → Story (served (new_world f) [] told) ds hs new → AreBeginnings ds hs
+are_beginnings f ds told new hs xs formed tells s p i =
     let start : Accounts p.connection [] [] (new_world f) = record { fits = inl refl; unopened = λ lt. (refl, refl, refl) } in
-    let flows = flows_story p ds (served (new_world f) [] told) new hs (new_is_consistent f) s (pairs_in ds (served (new_world f) [] told) new hs xs refl tells s p i) in
+    let flows = flows_story p ds (served (new_world f) [] told) new hs (new_is_consistent f formed) s (pairs_in ds (served (new_world f) [] told) new hs xs refl tells s p i) in
     beginning p.connection (flat_map (written_to p.socket) (flat_map calls ds)) (put_out p.connection hs) new.world (flows.keeps [] [] start)

@@ -5,6 +5,7 @@ pub mod Pumping
 pub mod Staying
 pub mod Apart
 pub mod Fits
+pub mod Quieting
 pub mod Pairs
 pub mod Joining
 pub mod Flowing

@@ -62,7 +62,7 @@ serves_then a b c xs ys p q s t = record {
   done = list_any-append is_done s.deeds t.deeds ∙ ap (λ (z : Bool). z || list_any is_done t.deeds) s.done ∙ ap (λ (z : Bool). p || z) t.done;
 }
 
-or_false : (p : Bool) → (p || false) ≡ p
+pub or_false : (p : Bool) → (p || false) ≡ p
 or_false true = refl
 or_false false = refl
 

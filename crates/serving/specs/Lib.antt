@@ -3,6 +3,7 @@ pub mod Answered
 pub mod Coming
 pub mod Story
 pub mod Fit
+pub mod Quiet
 pub mod Rounds
 pub mod Serving
 pub mod Joined

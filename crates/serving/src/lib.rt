@@ -6,6 +6,7 @@
 #![tactic(auto)]
 
 mod peers;
+mod quiet;
 mod rounds;
 mod servers;
 #[cfg(test)]

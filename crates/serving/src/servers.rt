@@ -3,11 +3,13 @@
 ghost use Rattle.std.specs.Prelude.{◌≡◌, IfOk, []};
 ghost use Rattle.model.specs.Arrivals.{new_world};
 ghost use Rattle.model.specs.State.{Config};
+ghost use Rattle.model.specs.Topology.{IsWellFormed};
 ghost use Rattle.serving.specs.Story.{served};
 ghost use Rattle.serving.specs.Rounds.{IsRound, Rounds};
 ghost use Rattle.serving.specs.Whole.{IsServed};
 
 use crate::peers::Peer;
+use crate::quiet::Quiet;
 use crate::rounds::round;
 use crate::wire::Wire;
 use runs::Machine;
@@ -18,23 +20,24 @@ use std::marker::Model;
 /// The most bytes that one read takes.
 const READ_BOUND: usize = 65_536;
 
-/// A machine, and whose socket is which.
+/// A machine, whose socket is which, and which slots are quiet.
 #[derive(Drop)]
 pub struct Server<M: Machine> {
     machine: M,
     peers: Slab<Peer>,
+    quiet: Quiet,
     buffer: Vec<u8>,
 }
 
 impl<M: Machine> Model for Server<M> {
     ghost use Rattle.serving.specs.Serving.{Serving};
-    ghost use Rattle.serving.specs.Fit.{IsFit};
+    ghost use Rattle.serving.specs.Quiet.{IsKept};
 
     ghost Value = { Serving M };
 
     ghost view = { λ s. record { machine = s.machine; peers = s.peers.slots } };
 
-    ghost invariant = { λ s. IsFit (M.world s.machine) s.peers.slots };
+    ghost invariant = { λ s. IsKept (M.world s.machine) s.peers.slots s.quiet };
 }
 
 impl<M: Machine> Server<M> {
@@ -48,6 +51,7 @@ impl<M: Machine> Server<M> {
         Ok(Server {
             machine,
             peers: Slab::new(alloc),
+            quiet: Quiet::new(alloc),
             buffer,
         })
     }
@@ -61,9 +65,17 @@ impl<M: Machine> Server<M> {
             alloc,
             &mut self.machine,
             &mut self.peers,
+            &mut self.quiet,
             wire,
             self.buffer.as_mut_slice(),
         );
+    }
+
+    /// What every topology keeps, of the one that the machine runs.
+    fn is_well_formed(&self)
+        ensures { IsWellFormed (M.world self.now.machine).config.topology }
+    {
+        self.machine.is_well_formed();
     }
 }
 
@@ -73,6 +85,7 @@ pub fn serve<M: Machine, W: Wire>(alloc: Global, server: &mut Server<M>, wire: &
     // From a new server of a machine with no connection: what arrived, and that the promises are kept.
     ensures served { (f : Config) → M.world server.old.machine ≡ new_world f → server.old.peers ≡ [] → IsServed f (W.told wire.old) (served (M.world server.new.machine) server.new.peers (W.told wire.new)) }
 {
+    server.is_well_formed();
     for _ in 0..turns {
         server.round(alloc, wire);
     }

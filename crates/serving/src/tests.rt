@@ -53,6 +53,8 @@ impl<'a> Machine for Full<'a> {
     fn is_over(&self, _c: u64) -> bool {
         true
     }
+
+    fn is_well_formed(&self) {}
 }
 
 /// One socket comes at the first accept, and none after it.

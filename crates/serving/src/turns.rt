@@ -2,7 +2,7 @@
 
 ghost use Rattle.std.specs.Prelude.{◌≡◌, ◌≤◌, List, OnErr, OnOk, length, nat_le, false, true};
 ghost use Rattle.model.specs.Run.{Happening};
-ghost use Rattle.model.specs.Arrivals.{Answers, WorksOff, has_output, is_awake, is_gone, is_over, is_past_bound};
+ghost use Rattle.model.specs.Arrivals.{Answers, WorksOff, has_output, is_awake, is_over, is_past_bound};
 ghost use Rattle.model.specs.declared.events.Arrival.TheVariants as arrival;
 ghost use Rattle.serving.specs.Coming.{FallsShort, WorksPartly};
 
@@ -24,13 +24,6 @@ pub(crate) fn has_output<M: Machine>(machine: &M, c: u64) -> bool
     ensures { result ≡ has_output (M.world machine.now) c }
 {
     !machine.output(c).is_empty()
-}
-
-/// Whether the connection is over with no output left.
-pub(crate) fn is_gone<M: Machine>(machine: &M, c: u64) -> bool
-    ensures { result ≡ is_gone (M.world machine.now) c }
-{
-    machine.is_over(c) && machine.output(c).is_empty()
 }
 
 /// Turns of a connection, until it is idle, paused or over.

@@ -1,10 +1,10 @@
 //! A listening socket and those that it accepted, none of which blocks.
 
 use crate::patience::Patience;
-use indexmap::IndexMap;
 use mio::net::{TcpListener, TcpStream};
 use mio::{Events, Interest, Poll, Token};
 use serving::{Accept, Read, Wire, Write};
+use slab::Slab;
 use std::alloc::Global;
 use std::io::{self, ErrorKind, Read as _, Write as _};
 use std::net::{Net, SocketAddr};
@@ -13,24 +13,36 @@ use std::time::Duration;
 /// The token of the listening socket. The others have their names, which are never so great.
 const LISTENER: Token = Token(usize::MAX);
 
+/// How many places there are for sockets, which are more than a server has connections.
+const PLACES: u64 = 4096;
+
+/// How many sockets are accepted at most, so that each name is a number of its own, and none is the listener's token.
+const MOST_GIVEN: u64 = u64::MAX / PLACES - 1;
+
 /// A socket that was accepted.
 #[derive(Drop)]
 struct Accepted {
+    /// How many were accepted before it, times the number of places, and its place: so it is found at once, and the socket that
+    /// stands at its place later has another name.
+    name: u64,
     stream: TcpStream,
     patience: Patience,
 }
 
 /// The sockets of a server: one that listens, and those that it accepted, named by numbers that are never used again. None of
 /// them blocks but in `rest`, which waits at most 100 milliseconds for one of them to have something. A socket that had
-/// nothing is asked again after at most 63 turns, or once an event of a rest names it.
+/// nothing is asked again after at most 256 turns and reads that got something, or once an event of a rest names it.
 #[derive(Drop)]
 pub struct Sockets {
     listener: TcpListener,
     poll: Poll,
     events: Events,
-    accepted: IndexMap<u64, Accepted>,
+    /// By the places in their names.
+    accepted: Slab<Accepted>,
     /// How many sockets were accepted and kept.
     given: u64,
+    /// How many turns there were, and reads that got something.
+    now: u64,
     /// How often the listening socket is not asked.
     patience: Patience,
     failures: u64,
@@ -39,6 +51,19 @@ pub struct Sockets {
 /// Whether there is nothing now, but may be later.
 fn is_wait(error: &io::Error) -> bool {
     matches!(error.kind(), ErrorKind::WouldBlock | ErrorKind::Interrupted)
+}
+
+/// The place in a name.
+fn place_of(name: u64) -> usize {
+    (name % PLACES) as usize
+}
+
+/// The socket of this name, where it is still there.
+fn named(accepted: &mut Slab<Accepted>, name: u64) -> Option<&mut Accepted> {
+    match accepted.get_mut(place_of(name)) {
+        Some(found) if found.name == name => Some(found),
+        _ => None,
+    }
 }
 
 /// Listens at this address, and has a poll tell of those who come.
@@ -61,8 +86,9 @@ impl Sockets {
             listener,
             poll,
             events,
-            accepted: IndexMap::new(alloc),
+            accepted: Slab::new(alloc),
             given: 0,
+            now: 0,
             patience: Patience::new(),
             failures: 0,
         })
@@ -88,21 +114,26 @@ impl Sockets {
     fn keep(&mut self, mut stream: TcpStream) -> Option<u64>
         ensures { self.new.failures ≡ self.old.failures }
     {
-        let name = self.given;
-        if name >= u64::MAX - 1 || stream.set_nodelay(true).is_err() {
+        if self.accepted.reserve(1).is_err() || stream.set_nodelay(true).is_err() {
             return None;
         }
+        let place = self.accepted.vacant_key() as u64;
+        if place >= PLACES || self.given >= MOST_GIVEN {
+            return None;
+        }
+        let name = self.given * PLACES + place;
         let both = Interest::READABLE | Interest::WRITABLE;
         self.poll
             .registry()
             .register(&mut stream, Token(name as usize), both)
             .ok()?;
         let accepted = Accepted {
+            name,
             stream,
             patience: Patience::new(),
         };
-        self.accepted.insert(name, accepted).ok()?;
-        self.given = name + 1;
+        self.accepted.insert_reserved(accepted);
+        self.given += 1;
         Some(name)
     }
 
@@ -113,7 +144,7 @@ impl Sockets {
         for event in &self.events {
             if event.token() == LISTENER {
                 self.patience = Patience::new();
-            } else if let Some(accepted) = self.accepted.get_mut(&(event.token().0 as u64)) {
+            } else if let Some(accepted) = named(&mut self.accepted, event.token().0 as u64) {
                 accepted.patience = Patience::new();
             }
         }
@@ -126,7 +157,8 @@ impl Wire for Sockets {
     ghost told = { λ sockets. record { calls = None; failures = sockets.failures } };
 
     fn accept(&mut self) -> Accept {
-        if self.patience.is_left() {
+        self.now = self.now.saturating_add(1);
+        if self.patience.is_left(self.now) {
             return Accept::Nothing;
         }
         match self.listener.accept() {
@@ -136,7 +168,7 @@ impl Wire for Sockets {
                 None => Accept::Nothing,
             },
             Err(error) if is_wait(&error) => {
-                self.patience.wait();
+                self.patience.wait(self.now);
                 Accept::Nothing
             }
             Err(_) if self.fail() => Accept::Failed,
@@ -145,20 +177,21 @@ impl Wire for Sockets {
     }
 
     fn read(&mut self, socket: u64, buffer: &mut [u8]) -> Read {
-        let Some(accepted) = self.accepted.get_mut(&socket) else {
+        let Some(accepted) = named(&mut self.accepted, socket) else {
             return Read::End;
         };
-        if accepted.patience.is_left() {
+        if accepted.patience.is_left(self.now) {
             return Read::Wait;
         }
         match accepted.stream.read(buffer) {
             Ok(0) => Read::End,
             Ok(count) => {
                 accepted.patience = Patience::new();
+                self.now = self.now.saturating_add(1);
                 Read::Got(count)
             }
             Err(error) if is_wait(&error) => {
-                accepted.patience.wait();
+                accepted.patience.wait(self.now);
                 Read::Wait
             }
             Err(_) if self.fail() => Read::Failed,
@@ -167,7 +200,7 @@ impl Wire for Sockets {
     }
 
     fn write(&mut self, socket: u64, bytes: &[u8]) -> Write {
-        let Some(accepted) = self.accepted.get_mut(&socket) else {
+        let Some(accepted) = named(&mut self.accepted, socket) else {
             return Write::Wait;
         };
         match accepted.stream.write(bytes) {
@@ -180,7 +213,9 @@ impl Wire for Sockets {
     }
 
     fn close(&mut self, socket: u64) {
-        self.accepted.swap_remove(&socket);
+        if named(&mut self.accepted, socket).is_some() {
+            self.accepted.try_remove(place_of(socket));
+        }
     }
 
     fn rest(&mut self) {

@@ -1,8 +1,8 @@
 //! Lines about the payloads of methods and of content headers.
 
 use super::put_again;
-use crate::answers::{Answer, Unanswered};
 use headers::{Header, WriteError, read_header, read_size, write_header};
+use line_words::{Answer, Unanswered};
 use methods::{read_method, write_method};
 use model::{Fields, Method, Properties, Text};
 

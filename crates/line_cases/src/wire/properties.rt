@@ -1,8 +1,8 @@
 //! The properties of a content, listed.
 
 use super::payloads::put_header_refusal;
-use crate::answers::Answer;
 use headers::{Header, read_header};
+use line_words::Answer;
 use model::{Fields, Table, Text};
 
 /// Appends ` NAME=`.

@@ -1,9 +1,7 @@
 //! Lines about frames.
 
-use crate::answers::{Answer, Unanswered};
-use crate::hex_words::bytes_of;
-use crate::words::cut;
 use frame::{Frame, Read, read_frame, write_frame};
+use line_words::{Answer, Unanswered, bytes_of, cut};
 
 /// The longest payload that stands in a line, in bytes.
 const LONGEST: usize = 131_072;

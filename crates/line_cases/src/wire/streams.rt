@@ -1,11 +1,10 @@
 //! Lines about streams of frames.
 
 use super::segments::put_frame;
-use crate::answers::{Answer, Unanswered};
-use crate::hex_words::bytes_of;
 use assembly::{Fault, Stream};
 use frame::Frame;
 use headers::write_header;
+use line_words::{Answer, Unanswered, bytes_of};
 use methods::write_method;
 use model::{Command, Content, Method};
 

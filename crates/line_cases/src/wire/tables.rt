@@ -1,8 +1,8 @@
 //! Lines about field tables.
 
 use super::put_again;
-use crate::answers::{Answer, Unanswered};
 use field_table::{Refusal, Table, read_table, write_table};
+use line_words::{Answer, Unanswered};
 
 fn put_written(out: &mut Answer, table: &Table, bytes: &[u8]) {
     let mut written = Vec::new(out.alloc());

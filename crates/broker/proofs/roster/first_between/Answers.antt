@@ -1,36 +1,38 @@
-use Rattle.std.proofs.Common.{◌≡◌, ◌∙◌, ◌+◌, get_or, inl, inr, ℕ, sym, subst, arith}
-use Rattle.std.proofs.lemmas.Bool.{false≢true}
+use Rattle.std.proofs.Common.{◌≡◌, ◌∙◌, ◌+◌, ℕ, List, inl, inr, refl, sym, subst, arith}
 use Rattle.std.proofs.lemmas.Bool.Decides.{leb_tells}
-use Rattle.broker.specs.Picked.{IsPick}
-use Rattle.broker.specs.State.{broker_of}
-use Rattle.broker.proofs.Setting.{same_default}
+use Rattle.model.specs.Topology.{IsIn}
+use Rattle.broker_core.specs.Picked.{IsPickFrom}
+use Rattle.broker.specs.Roster.{ring_at}
+use Rattle.broker_core.specs.declared.picks.Pick.{Pick}
 use Rattle.broker.proofs.roster.first_between.Goals as goal
 
-pub returns-then-may_deliver-clause-some : goal.returns-then-may_deliver-clause-some
-returns-then-may_deliver-clause-some c = λ p.
-    let before = c.loop-place-test.true in
-    let most = c.requires in
-    subst (IsPick (broker_of c.args.core.now)) (same_default c.args.seats.now c.loop-place.place (record { connection = 0; channel = 0; number = 0 }) p (omega (arith, before, most)))
-    (c.may_deliver.ensures.yes c.if-may_deliver.true)
+pub returns-then-queue-to-clause-none : goal.returns-then-queue-to-clause-none
+returns-then-queue-to-clause-none c = λ e place p from lt i pick.
+    let past = c.if-queue-to.true in
+    elim (leb_tells (place + 1) c.queues.next) [
+      | inl a ↦ let le = a.1 in c.queues.invariant.none place p from (omega (arith, le)) i pick
+      | inr a ↦ let gt = a.1 in c.in-Some.ensures.before place p (omega (arith, gt)) (omega (arith, lt, past)) pick
+    ]
 
-pub loop-place-preserved : goal.loop-place-preserved
-loop-place-preserved c =
-    let before = c.loop-place-test.true in
-    let most = c.requires in
-    let least = c.loop-place.invariant.least in
+pub queues-preserved : goal.queues-preserved
+queues-preserved c =
+    let least = c.queues.invariant.least in
+    let next = c.in-Some.ensures.least in
     record {
-      least = omega (arith, least);
-      none = λ i p from lt pick. elim (leb_tells (i + 1) c.loop-place.place) [
-        | inl a ↦ let le = a.1 in c.loop-place.invariant.none i p from (omega (arith, le)) pick
+      same = c.pick_at.ensures.same ∙ c.queues.invariant.same;
+      least = omega (arith, least, next);
+      none = λ place p from lt i pick. elim (leb_tells (place + 1) c.queues.next) [
+        | inl a ↦ let le = a.1 in c.queues.invariant.none place p from (omega (arith, le)) i pick
         | inr a ↦
             let gt = a.1 in
-            let here : i ≡ c.loop-place.place = omega (arith, lt, gt) in
-            false≢true (sym c.if-may_deliver.false
-            ∙ c.may_deliver.ensures.no
-            (subst (IsPick (broker_of c.args.core.now)) (same_default c.args.seats.now c.loop-place.place p (record { connection = 0; channel = 0; number = 0 }) (omega (arith, before, most)))
-            (subst (λ (n : ℕ). IsPick (broker_of c.args.core.now) (get_or c.args.seats.now n p)) here pick)))
+            elim (leb_tells (place + 1) c.in-Some.queue) [
+              | inl b ↦ let before = b.1 in c.in-Some.ensures.before place p (omega (arith, gt)) (omega (arith, before)) pick
+              | inr b ↦
+                  let behind = b.1 in
+                  let here : place ≡ c.in-Some.queue = omega (arith, lt, behind) in
+                  c.in_default-pick_at.ensures.none refl p
+                  (subst (λ (rings : List (List Pick)). IsIn p (ring_at rings c.in-Some.queue)) (sym c.queues.invariant.same) (subst (λ (n : ℕ). IsIn p (ring_at c.args.rings.now n)) here i))
+                  (subst (λ (n : ℕ). IsPickFrom c.args.core.now n p) here pick)
+            ]
       ];
     }
-
-pub returns-clause-none : goal.returns-clause-none
-returns-clause-none c = λ e i p least lt. let done = c.loop-place-test.false in c.loop-place.invariant.none i p least (omega (arith, lt, done))

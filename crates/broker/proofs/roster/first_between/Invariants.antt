@@ -1,13 +1,15 @@
-use Rattle.std.proofs.Common.{◌≤◌, ◌<◌, ℕ}
-use Rattle.std.specs.Prelude.{slice_index_or}
-use Rattle.broker.specs.Picked.{IsPick}
-use Rattle.broker.specs.State.{broker_of}
-use Rattle.broker.specs.declared.roster.Pick.{Pick}
+use Rattle.std.proofs.Common.{◌≡◌, ◌≤◌, ◌-◌, length}
+use Rattle.broker.specs.Roster.{NoneBetween}
+use Rattle.broker_core.specs.State.{topology_of}
 use Rattle.broker.proofs.roster.first_between.Given as goal
 
--- no delivery can be made to those before this place
-abbrev pub invariant-loop-place : goal.invariant-loop-place
-invariant-loop-place l = record {
-  least : l.from ≤ l.place;
-  none : (i : ℕ) (p : Pick) → l.from ≤ i → i < l.place → IsPick (broker_of l.core) (slice_index_or l.seats i p) → ⊥;
+-- the rings stay, and from no queue before the next a delivery can be made
+abbrev pub invariant-queues : goal.invariant-queues
+invariant-queues l = record {
+  same : l.rings ≡ l.fn.rings;
+  least : l.from ≤ l.next;
+  none : NoneBetween l.core l.fn.rings l.from l.next;
 }
+
+abbrev pub decreases-queues : goal.decreases-queues
+decreases-queues l = length (topology_of l.core).queues - l.next

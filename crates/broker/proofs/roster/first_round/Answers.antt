@@ -1,15 +1,13 @@
-use Rattle.std.proofs.Common.{sym, subst, refl, inl, inr, arith}
+use Rattle.std.proofs.Common.{List, inl, inr, refl, sym, subst}
 use Rattle.std.proofs.lemmas.Bool.Decides.{leb_tells}
-use Rattle.broker.specs.Picked.{IsPick}
-use Rattle.broker.specs.State.{broker_of}
-use Rattle.broker.proofs.Seated.{place_in}
+use Rattle.model.specs.Topology.{IsIn}
+use Rattle.broker.specs.Roster.{ring_at}
+use Rattle.broker_core.specs.declared.picks.Pick.{Pick}
 use Rattle.broker.proofs.roster.first_round.Goals as goal
 
 pub returns-in-None-clause-none : goal.returns-in-None-clause-none
-returns-in-None-clause-none c = λ e p i pick.
-    let at = place_in p c.args.seats.now i in
-    let there = subst (IsPick (broker_of c.args.core.now)) (sym at.2) pick in
-    elim (leb_tells c.min-turn.result at.0) [
-      | inl a ↦ c.in-None.ensures.none refl at.0 p a.1 at.1 there
-      | inr a ↦ c.first_between-in-None.ensures.none e at.0 p (omega arith) a.1 there
+returns-in-None-clause-none c = λ e place p least lt i pick.
+    elim (leb_tells c.min-turn.result place) [
+      | inl a ↦ c.in-None.ensures.none refl place p a.1 lt i pick
+      | inr a ↦ c.first_between-in-None.ensures.none e place p least a.1 (subst (λ (rings : List (List Pick)). IsIn p (ring_at rings place)) (sym c.in-None.ensures.same) i) pick
     ]

@@ -1,5 +1,5 @@
 use Rattle.std.proofs.Common.{sym}
-use Rattle.broker.specs.State.{topology_of, broker_of}
+use Rattle.broker_core.specs.State.{topology_of, broker_of}
 use Rattle.engine.specs.Performing.{rules_of}
 use Rattle.engine.proofs.Swept.{changes_swept, took_or}
 use Rattle.engine.proofs.connections.turn_at.Goals as goal

@@ -1,23 +1,23 @@
-use Rattle.broker.specs.State.{topology_of, broker_of}
+use Rattle.broker_core.specs.State.{topology_of, broker_of}
 use Rattle.engine.proofs.Replies.{delivery_sends}
 use Rattle.engine.proofs.pumping.pump_link.Goals as goal
 
 pub put_out-requires-clause-own : goal.put_out-requires-clause-own
 put_out-requires-clause-own c =
-    rw c.deref.ensures.value (delivery_sends (topology_of c.args.broker.now) (broker_of c.args.broker.now) (broker_of c.pump.new.self) c.args.pick.connection c.in_ok-step.step.sends.items c.in_ok-step.step.notes.items
-    c.requires.carried c.in_ok-step.ensures.ok (c.in_ok-step.ensures.own c.requires.carried c.requires.named))
+    rw c.deref.ensures.value (delivery_sends (topology_of c.args.broker.now) (broker_of c.args.broker.now) (broker_of c.pump.new.self) c.args.pick.connection c.in-Ok.step.sends.items c.in-Ok.step.notes.items
+    c.requires.carried c.in-Ok.ensures.ok (c.in-Ok.ensures.own c.requires.carried c.requires.named))
 
-pub returns-clause-ok : goal.returns-clause-ok
-returns-clause-ok c =
+pub returns-in-Ok-clause-ok : goal.returns-in-Ok-clause-ok
+returns-in-Ok-clause-ok c =
     let max = c.frame_max-max.ensures in
     let sends = c.deref.ensures.value in
     record {
-      sends = c.in_ok-step.step.sends.items;
+      sends = c.in-Ok.step.sends.items;
       mid = broker_of c.pump.new.self;
-      acts = c.in_ok-step.ensures.ok;
+      acts = c.in-Ok.ensures.ok;
       own = rw (← sends) c.put_out.ensures.own;
       bounded = rw (← max.value) max.most;
       spelled = rw (← max.value, ← sends) c.put_out.ensures.spelled;
-      put = rw (← max.value, ← sends, ← c.reserve.ensures.bytes) c.put_out.ensures.bytes;
+      put = rw (← max.value, ← sends, ← c.make_room.ensures.bytes) c.put_out.ensures.bytes;
       pauses = rw (← c.pump.ensures.topology) c.put_out.ensures.pauses;
     }

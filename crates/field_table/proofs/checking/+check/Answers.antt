@@ -1,7 +1,7 @@
 -- What is left is values or pairs exactly where the whole is.
 use Rattle.std.proofs.Common.{sym, subst}
 use Rattle.field_table.specs.Reading.{HasValues, HasPairs}
-use Rattle.field_table.proofs.Firsts.{no_leaf, first_is, means_some, unsound, pair_here, values_end, values_onto, values_back, no_values_left, pairs_end, pairs_onto, pairs_back, no_pairs_left, is_nil, not_nil, when_true, when_false}
+use Rattle.field_table.proofs.Firsts.{no_leaf, first_is, means_some, unsound, first_pair, no_first_pair, values_end, values_onto, values_back, no_values_left, pairs_end, pairs_onto, pairs_back, no_pairs_left, is_nil, not_nil, when_true, when_false}
 use Rattle.field_table.proofs.checking.+check.Goals as goal
 
 pub value_end-returns-then-is_sound : goal.value_end-returns-then-is_sound
@@ -12,10 +12,6 @@ value_end-returns-then-is_sound t c =
 pub value_end-returns-else-is_sound : goal.value_end-returns-else-is_sound
 value_end-returns-else-is_sound t c =
     unsound c.args.depth c.args.bytes.now c.in-Some.rest.now c.in-Some.leaf (sym c.in-Some.ensures) (when_false _ _ _ c.if-is_sound.false c.is_sound.ensures)
-
-pub pair_end-returns : goal.pair_end-returns
-pair_end-returns t c =
-    pair_here _ c.args.depth c.args.bytes.now c.in-Some.field-0-0.now c.in-Some.rest.now c.value_end.result (λ i. (c.type_inv.bytes i).fits) (sym c.in-Some.ensures) c.value_end.ensures
 
 pub are_values-returns : goal.are_values-returns
 are_values-returns t c = c.values.invariant.onto (subst (HasValues c.args.depth) (sym (is_nil c.values.rest.now (sym c.values-test.ensures))) (values_end c.args.depth))
@@ -41,8 +37,8 @@ pub are_pairs-pairs-preserved : goal.are_pairs-pairs-preserved
 are_pairs-pairs-preserved t c =
     let f = c.in-Some.ensures in
     record {
-      onto = λ h. c.pairs.invariant.onto (pairs_onto c.args.depth c.pairs.rest.now f.0 f.1 c.in-Some.after.now f.2 h);
-      back = λ h. pairs_back c.args.depth c.pairs.rest.now f.0 f.1 c.in-Some.after.now f.2 (c.pairs.invariant.back h);
+      onto = λ h. c.pairs.invariant.onto (pairs_onto c.args.depth c.pairs.rest.now _ f.0 c.in-Some.after.now f.1 h);
+      back = λ h. pairs_back c.args.depth c.pairs.rest.now _ f.0 c.in-Some.after.now f.1 (c.pairs.invariant.back h);
     }
 
 pub value_end-returns-in_default : goal.value_end-returns-in_default

@@ -8,8 +8,8 @@ decreases-is_sound l = 4 * l.depth
 abbrev pub decreases-value_end : goal.decreases-value_end
 decreases-value_end l = 4 * l.depth + 1
 
-abbrev pub decreases-pair_end : goal.decreases-pair_end
-decreases-pair_end l = 4 * l.depth + 2
+abbrev pub decreases-pair_at : goal.decreases-pair_at
+decreases-pair_at l = 4 * l.depth + 2
 
 abbrev pub decreases-are_values : goal.decreases-are_values
 decreases-are_values l = 4 * l.depth + 3

@@ -1,28 +1,11 @@
-use Rattle.std.proofs.Common.{true, false, arith}
-use Rattle.serving.specs.Story.{served, PumpsOnce}
-use Rattle.serving.specs.Rounds.{most_pumps}
-use Rattle.serving.proofs.Pumping.{pumped_more, pumped_last, pumped_all}
+use Rattle.std.proofs.Common.{refl, inl}
+use Rattle.serving.proofs.Quieting.{none_marked, quiet_idle}
 use Rattle.serving.proofs.rounds.pump_all.Goals as goal
 
-pub returns-then-not-pump_once : goal.returns-then-not-pump_once
-returns-then-not-pump_once g c = λ ps told.
+pub returns-then-not-pump_up-clause-quiet : goal.returns-then-not-pump_up-clause-quiet
+returns-then-not-pump_up-clause-quiet g c = λ ps quiet.
     let world = g.M.Machine.world in
-    let here = served (world c.loop.machine) ps told in
-    let next = served (world c.pump_once.new.machine) ps told in
-    let last : PumpsOnce here false next = rw c.if-not-pump_once.true at c.pump_once.ensures ps told in
-    pumped_last most_pumps c.loop.counter (served (world c.args.machine.now) ps told) here next c.loop.done c.loop-test.true (c.loop.invariant.so_far ps told) last
+    quiet_idle (world c.args.machine.now) (world c.pump_up.new.machine) ps ps 0 c.args.quiet.now c.args.quiet.now (c.pump_up.ensures.idle c.if-not-pump_up.true) (inl refl) (λ j. refl) quiet
 
-pub loop-preserved : goal.loop-preserved
-loop-preserved g c = record {
-  so_far = λ ps told.
-      let world = g.M.Machine.world in
-      let here = served (world c.loop.machine) ps told in
-      let next = served (world c.pump_once.new.machine) ps told in
-      let one : PumpsOnce here true next = rw c.if-not-pump_once.false at c.pump_once.ensures ps told in
-      pumped_more most_pumps c.loop.counter (served (world c.args.machine.now) ps told) here next c.loop.done c.loop-test.true (c.loop.invariant.so_far ps told) one;
-}
-
-pub returns : goal.returns
-returns g c = λ ps told.
-    let world = g.M.Machine.world in
-    pumped_all most_pumps c.loop.counter (served (world c.args.machine.now) ps told) (served (world c.loop.machine) ps told) c.loop.done (omega (arith, c.loop-test.false)) (c.loop.invariant.so_far ps told)
+pub returns-clause-quiet : goal.returns-clause-quiet
+returns-clause-quiet g c = λ ps quiet. none_marked (g.M.Machine.world c.pump_up.new.machine) ps c.clear.new.self c.clear.ensures

@@ -18,6 +18,7 @@ loop-slot-preserved g c =
     let one = c.read_slot-done.ensures in
     record {
       fit = serves_fit here next _ _ one.serves inv.fit;
+      quiet = one.quiet;
       later = one.later ∙ later_on start.peers here.peers i inv.later;
       so_far = (
         inv.so_far.0 ++ read_of here.world (slice_index_or here.peers i None),

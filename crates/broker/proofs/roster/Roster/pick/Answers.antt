@@ -1,14 +1,13 @@
-use Rattle.std.proofs.Common.{◌∙◌, get_or, List, ap, refl, sym, subst}
+use Rattle.std.proofs.Common.{◌∙◌, List, length, refl, sym, ap, subst, arith}
 use Rattle.model.specs.Topology.{IsIn}
-use Rattle.broker.specs.Picked.{IsPick}
-use Rattle.broker.specs.State.{broker_of}
-use Rattle.broker.specs.declared.roster.Pick.{Pick}
+use Rattle.broker.specs.Roster.{ring_at}
+use Rattle.broker_core.specs.declared.picks.Pick.{Pick}
 use Rattle.broker.proofs.roster.Roster.pick.Goals as goal
 
-pub returns-in-Some-clause-some : goal.returns-in-Some-clause-some
-returns-in-Some-clause-some c =
-    let one = c.index.result.now in
-    subst (IsPick (broker_of c.args.core.now)) (ap (λ (xs : List Pick). get_or xs c.in-Some.place one) c.deref.ensures.value ∙ sym c.index.ensures) (c.in-Some.ensures.some one)
-
-pub returns-in-None-clause-none : goal.returns-in-None-clause-none
-returns-in-None-clause-none c = λ e p i. c.in-None.ensures.none refl p (subst (λ (xs : List Pick). IsIn p xs) (sym (c.deref.ensures.value ∙ c.self.view_is)) i)
+pub returns-in_err-found-clause-none : goal.returns-in_err-found-clause-none
+returns-in_err-found-clause-none c = λ e place p i pick.
+    let same = c.deref_mut.ensures.value ∙ c.self.view_is in
+    let long = ap (λ (rings : List (List Pick)). length rings) same in
+    let lt = pick.within in
+    let len = c.requires in
+    c.in_err-found.ensures.none refl place p (omega arith) (omega (arith, lt, len, long)) (subst (λ (rings : List (List Pick)). IsIn p (ring_at rings place)) (sym same) i) pick

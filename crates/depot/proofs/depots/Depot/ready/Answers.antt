@@ -3,9 +3,9 @@ use Rattle.std.specs.Str.{bytes_eq}
 use Rattle.model.specs.Topology.{Topology}
 use Rattle.model.specs.Broker.{queue_named}
 use Rattle.model.specs.declared.topologies.DeclaredQueue.{DeclaredQueue}
-use Rattle.queue.specs.Line.{Line, ready_count}
-use Rattle.depot.specs.Store.{Store, queue_of, entries_of}
-use Rattle.depot.proofs.Changes.{entries_of-at, entries_of-length}
+use Rattle.queue.specs.Line.{ready_count}
+use Rattle.depot.specs.Store.{Store, queue_of, queue_at, entries_of}
+use Rattle.depot.proofs.Changes.{entries_of-length}
 use Rattle.depot.proofs.Naming.{ready_none, ready_some}
 use Rattle.depot.proofs.depots.Depot.ready.Goals as goal
 
@@ -14,16 +14,13 @@ returns-in_err-place c =
     let at : c.queue_at.result ≡ position (λ (q : DeclaredQueue). bytes_eq q.name c.args.name.now) c.self.inside.router.queues =
     c.queue_at.ensures.place ∙ ap (λ (t : Topology). position (λ (q : DeclaredQueue). bytes_eq q.name c.args.name.now) t.queues) c.topology-topology.ensures in
     subst (λ (s : Store). c.from_residual.result ≡ option_map (λ (q : DeclaredQueue). ready_count (queue_of s c.args.name.now)) (queue_named s.topology.queues c.args.name.now)) c.self.view_is
-    (c.from_residual.ensures ∙ sym (ready_none c.self.inside.router.queues (entries_of c.self.inside.queues.items) c.args.name.now c.queue_at.result (sym at) c.in_err-place.was))
+    (c.from_residual.ensures ∙ sym (ready_none c.self.inside.router.queues (entries_of c.self.inside.queues) c.args.name.now c.queue_at.result (sym at) c.in_err-place.was))
 
 pub returns : goal.returns
 returns c =
-    let long : length c.self.inside.queues.items ≡ length c.self.inside.router.queues = c.self.invariant in
-    let all = entries_of-length c.self.inside.queues.items in
-    let same : length c.topology-topology.result.now.queues ≡ length c.self.inside.router.queues = ap (λ (t : Topology). length t.queues) c.topology-topology.ensures in
-    let place = c.in_ok-place.ensures.within in
+    let whole = c.self.invariant in
+    let all = entries_of-length c.self.inside.queues in
     let at : Some c.in_ok-place.place ≡ position (λ (q : DeclaredQueue). bytes_eq q.name c.args.name.now) c.self.inside.router.queues =
     c.in_ok-place.ensures.place ∙ ap (λ (t : Topology). position (λ (q : DeclaredQueue). bytes_eq q.name c.args.name.now) t.queues) c.topology-topology.ensures in
-    subst (λ (s : Store). Some c.ready.result ≡ option_map (λ (q : DeclaredQueue). ready_count (queue_of s c.args.name.now)) (queue_named s.topology.queues c.args.name.now)) c.self.view_is
-    (ap Some (c.ready.ensures ∙ ap (λ (l : Line). ready_count l.entries) c.index.ensures ∙ ap ready_count (sym (entries_of-at c.self.inside.queues.items c.in_ok-place.place c.index.result.now (omega arith))))
-    ∙ sym (ready_some c.self.inside.router.queues (entries_of c.self.inside.queues.items) c.args.name.now c.in_ok-place.place (sym at) (omega arith)))
+    subst (λ (s : Store). Some c.ready_at.result ≡ option_map (λ (q : DeclaredQueue). ready_count (queue_of s c.args.name.now)) (queue_named s.topology.queues c.args.name.now)) c.self.view_is
+    (ap Some (c.ready_at.ensures ∙ ap (λ (s : Store). ready_count (queue_at s c.in_ok-place.place)) (sym c.self.view_is)) ∙ sym (ready_some c.self.inside.router.queues (entries_of c.self.inside.queues) c.args.name.now c.in_ok-place.place (sym at) (omega arith)))

@@ -4,7 +4,7 @@ use Rattle.model.specs.Commands.{new_stream}
 use Rattle.model.specs.Opening.{new_session}
 use Rattle.model.specs.declared.events.Event.TheVariants as event
 use Rattle.runs.specs.Opened.{IsOpened}
-use Rattle.engine.specs.declared.links.Link.{Link}
+use Rattle.engine.specs.declared.link.Link.{Link}
 use Rattle.engine.specs.World.{Parts, world_of, IsNew}
 use Rattle.engine.specs.Opening.{OpenedNew}
 use Rattle.engine.proofs.Openings.{IsOneMore, refused_so, engine_opened, opened_new}

@@ -4,9 +4,9 @@ use Rattle.model.specs.Commands.{running_stream}
 use Rattle.model.specs.Phases.{running_session}
 use Rattle.model.specs.Step.{Acts}
 use Rattle.model.specs.declared.events.Event.TheVariants as event
-use Rattle.broker.specs.State.{topology_of, broker_of}
+use Rattle.broker_core.specs.State.{topology_of, broker_of}
 use Rattle.runs.specs.Opened.{IsOpened}
-use Rattle.engine.specs.declared.links.Link.{Link}
+use Rattle.engine.specs.declared.link.Link.{Link}
 use Rattle.engine.specs.World.{Parts, world_of, IsNew}
 use Rattle.engine.specs.Opening.{OpenedReady}
 use Rattle.engine.proofs.Openings.{IsOneMore, refused_so, refused_memory, engine_opened, opened_ready}

@@ -1,8 +1,8 @@
 use Rattle.std.proofs.Common.{refl, sym, subst}
 use Rattle.model.specs.Naming.{AreNamed}
 use Rattle.model.specs.Arrivals.{Same}
-use Rattle.broker.specs.State.{Kept, topology_of, broker_of}
-use Rattle.broker.specs.Picked.{IsPick}
+use Rattle.broker_core.specs.State.{Kept, topology_of, broker_of}
+use Rattle.broker_core.specs.Picked.{IsPick}
 use Rattle.runs.specs.Opened.{Idles}
 use Rattle.engine.specs.World.{Parts, world_of}
 use Rattle.engine.specs.Pumping.{IsPump}

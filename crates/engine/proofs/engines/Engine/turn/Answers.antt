@@ -1,6 +1,6 @@
 use Rattle.std.proofs.Common.{List, refl, subst, Some}
 use Rattle.model.specs.declared.messages.User.{User}
-use Rattle.broker.specs.State.{topology_of, broker_of}
+use Rattle.broker_core.specs.State.{topology_of, broker_of}
 use Rattle.engine.specs.World.{Parts}
 use Rattle.engine.specs.Performing.{rules_of}
 use Rattle.engine.specs.Engines.{IsPlaceOf, LinksTook}

@@ -1,5 +1,0 @@
-use Rattle.std.proofs.lemmas.Result.{IfOk-weaker}
-use Rattle.broker.proofs.cores.Core.step.Goals as goal
-
-pub returns-in-Command-clause-own : goal.returns-in-Command-clause-own
-returns-in-Command-clause-own c = rw c.in-Command.is (IfOk-weaker c.perform.result _ _ (λ s own said carried. own said.0 carried) c.perform.ensures.own)

@@ -1,0 +1,112 @@
+-- Who may take a message, and what a delivery leaves.
+use Rattle.std.proofs.Common.{◌≡◌, ◌∙◌, ◌<◌, ℕ, List, [], ◌∷◌, false, Option, Some, None, length, refl, sym, ap, subst}
+use Rattle.std.specs.Prelude.{option_map}
+use Rattle.std.proofs.lemmas.Bool.{false≢true}
+use Rattle.std.proofs.lemmas.Option.{same_Some}
+use Rattle.model.specs.Words.{Text}
+use Rattle.model.specs.Topology.{IsIn, AreApart, queue_names}
+use Rattle.model.specs.Broker as seen
+use Rattle.model.specs.Broker.{Broker, Channel, Connection}
+use Rattle.model.specs.Naming.{AreNamed}
+use Rattle.model.specs.Consuming.{MayTake, CanDeliver, may_take}
+use Rattle.model.specs.Deliveries.{first_ready, delivery_notes, after_delivery}
+use Rattle.model.specs.Step.{Is, IsDelivery, channel_or_new, deliver}
+use Rattle.model.specs.declared.messages.Entry.{Entry}
+use Rattle.model.specs.declared.messages.Taker.TheVariants as taker
+use Rattle.model.specs.declared.events.Send.{Send}
+use Rattle.model.specs.declared.notes.Note.{Note}
+use Rattle.exchange_graph.specs.Marks.{queue_name}
+use Rattle.channel.specs.Open.{open_in, consumer_in}
+use Rattle.channel.specs.declared.consumers.Consumer.{Consumer}
+use Rattle.links.specs.Links.{Linked, link_in, limits_of, connection_at, channel_at}
+use Rattle.broker_core.specs.State.{ArePlaced}
+use Rattle.broker_core.specs.Picked.{IsPick, IsPickFrom, Takes, Tells}
+use Rattle.links.specs.Consumers.{TellsOn}
+use Rattle.broker_core.specs.State.{Kept, broker_of, topology_of, names_of}
+use Rattle.broker_core.specs.declared.picks.Pick.{Pick}
+use Rattle.broker_core.proofs.Giving.{all_in}
+use Rattle.broker_core.proofs.Stepping.{seen_there}
+use Rattle.broker_core.proofs.Picking.{same_place}
+use Rattle.broker_core.proofs.Placing.{takes_within}
+
+-- ---- who may take a message
+
+-- who may take one on the connection that stands there may take one
+pub tells_is : (kept : Kept) (p : Pick) (l : Linked) (r : Option Consumer) → link_in kept.links p.connection ≡ Some l → ArePlaced kept → TellsOn l p.channel p.number r → Tells kept p r
+tells_is kept p l (Some k) e placed t = record {
+  channel = open_in (names_of kept) t.channel;
+  taker = record {
+    connection = limits_of l;
+    runs = ap connection_at e;
+    awake = t.awake;
+    there = ap (λ (o : Option Linked). option_map (open_in (names_of kept)) (channel_at o p.channel)) e ∙ ap (option_map (open_in (names_of kept))) t.there;
+    open_still = t.open_still;
+    its = t.taker.its (names_of kept);
+    may = t.taker.may (names_of kept);
+  };
+  numbered = t.taker.numbered;
+  only = t.taker.only (names_of kept);
+  within = takes_within (topology_of kept) k t.channel.given.consumers (placed p.connection p.channel t.channel (ap (λ (o : Option Linked). channel_at o p.channel) e ∙ t.there)).consumers t.taker.seat;
+}
+tells_is kept p l None e placed t = λ ch k taker numbered.
+    let names = names_of kept in
+    let connection : limits_of l ≡ taker.connection = same_Some (limits_of l) taker.connection (sym (ap connection_at e) ∙ taker.runs) in
+    let channel = seen_there names (channel_at (Some l) p.channel) ch (sym (ap (λ (o : Option Linked). option_map (open_in names) (channel_at o p.channel)) e) ∙ taker.there) in
+    let none : may_take (open_in names channel.kept) k ≡ false =
+    t channel.kept (ap (λ (x : Connection). x.is_paused) connection ∙ taker.awake) channel.there (ap (λ (x : Channel). x.is_closing) channel.same ∙ taker.open_still) names k
+    (subst (λ (x : Channel). IsIn k x.consumers) (sym channel.same) taker.its) numbered in
+    false≢true (sym none ∙ ap (λ (x : Channel). may_take x k) channel.same ∙ taker.may)
+
+-- ---- which delivery can be made
+
+-- the one that can be made to it where its queue has a message
+abbrev the_pick : (kept : Kept) (p : Pick) (k : Consumer) (e : Entry) → Takes kept p k → first_ready ((broker_of kept).queue (queue_name (topology_of kept) k.queue)) ≡ Some e → CanDeliver (broker_of kept) p.connection
+the_pick kept p k e t found = record { number = p.channel; channel = t.channel; consumer = consumer_in (names_of kept) k; taker = t.taker; entry = e; first = found }
+
+pub picked : (kept : Kept) (p : Pick) (k : Consumer) (e : Entry) → Takes kept p k → first_ready ((broker_of kept).queue (queue_name (topology_of kept) k.queue)) ≡ Some e → IsPick (broker_of kept) p
+picked kept p k e t found = (the_pick kept p k e t found, refl, t.numbered)
+
+-- and any that can be made to one of its numbers takes from its queue
+pub ready_for : (kept : Kept) (p : Pick) (k : Consumer) → Takes kept p k → (pick : IsPick (broker_of kept) p) → first_ready ((broker_of kept).queue (queue_name (topology_of kept) k.queue)) ≡ Some pick.0.entry
+ready_for kept p k t (made, at, numbered) =
+    let same : made.channel ≡ t.channel = same_Some made.channel t.channel (sym made.taker.there ∙ ap (λ (h : ℕ). (broker_of kept).channel p.connection h) at ∙ t.taker.there) in
+    let one : made.consumer ≡ consumer_in (names_of kept) k = t.only made.consumer (subst (λ (x : Channel). IsIn made.consumer x.consumers) same made.taker.its) numbered in
+    ap (λ (x : seen.Consumer). first_ready ((broker_of kept).queue x.queue)) (sym one) ∙ made.first
+
+-- it is a consumer of the queue from which it is made
+pub same_queue : (kept : Kept) (place : ℕ) (p : Pick) (k : Consumer) → AreApart (queue_names (topology_of kept).queues) → Takes kept p k → IsPickFrom kept place p → k.queue ≡ place
+same_queue kept place p k apart t from =
+    let made = from.pick.0 in
+    let same : made.channel ≡ t.channel = same_Some made.channel t.channel (sym made.taker.there ∙ ap (λ (h : ℕ). (broker_of kept).channel p.connection h) from.pick.1 ∙ t.taker.there) in
+    let one : made.consumer ≡ consumer_in (names_of kept) k = t.only made.consumer (subst (λ (x : Channel). IsIn made.consumer x.consumers) same made.taker.its) from.pick.2 in
+    same_place (topology_of kept) k.queue place apart t.within from.within (sym (from.named ∙ ap (λ (x : seen.Consumer). x.queue) one))
+
+-- none can be made where none may take a message
+pub none_picked : (kept : Kept) (p : Pick) → Tells kept p None → IsPick (broker_of kept) p → ⊥
+none_picked kept p none (made, at, numbered) = none made.channel made.consumer (subst (λ (h : ℕ). MayTake (broker_of kept) p.connection h made.channel made.consumer) at made.taker) numbered
+
+-- ---- what a delivery leaves
+
+-- what was sent, noted and left is the delivery of this message to this consumer
+pub delivered : (kept : Kept) (new : Broker) (p : Pick) (k : Consumer) (e : Entry) (tag : ℕ) (name : Text) (sends : List Send) (notes : List Note) → Takes kept p k
+    → first_ready ((broker_of kept).queue (queue_name (topology_of kept) k.queue)) ≡ Some e → tag ≡ (channel_or_new ((broker_of kept).channel p.connection p.channel)).next_tag → name ≡ queue_name (topology_of kept) k.queue
+    → sends ≡ deliver p.connection p.channel tag k.tag e ∷ [] → notes ≡ delivery_notes k.no_ack e.message.number name
+    → Is (after_delivery (broker_of kept) p.connection p.channel (channel_or_new ((broker_of kept).channel p.connection p.channel)) k.no_ack (queue_name (topology_of kept) k.queue) (taker.Consumer p.number)) new
+    → IsDelivery (broker_of kept) p.connection sends notes new
+delivered kept new p k e tag name sends notes t found tagged named sent noted left =
+    let b = broker_of kept in
+    let q = queue_name (topology_of kept) k.queue in
+    let own : channel_or_new (b.channel p.connection p.channel) ≡ t.channel = ap channel_or_new t.taker.there in
+    record {
+      made = the_pick kept p k e t found;
+      makes = record {
+        sent = sent ∙ ap (λ (n : ℕ). deliver p.connection p.channel n k.tag e ∷ []) (tagged ∙ ap (λ (x : Channel). x.next_tag) own);
+        noted = noted ∙ ap (delivery_notes k.no_ack e.message.number) named;
+        left = subst (λ (n : ℕ). Is (after_delivery b p.connection p.channel t.channel k.no_ack q (taker.Consumer n)) new) (sym t.numbered)
+            (subst (λ (x : Channel). Is (after_delivery b p.connection p.channel x k.no_ack q (taker.Consumer p.number)) new) own left);
+      };
+    }
+
+-- its tag is short where consumers are named
+pub takes_short : (kept : Kept) (p : Pick) (k : Consumer) → Takes kept p k → AreNamed (topology_of kept) (broker_of kept) → length k.tag < 256
+takes_short kept p k t named = all_in (λ (x : seen.Consumer). length x.tag < 256) (consumer_in (names_of kept) k) t.channel.consumers (named p.connection p.channel t.channel t.taker.there).spelled t.taker.its

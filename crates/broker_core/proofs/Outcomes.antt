@@ -1,0 +1,19 @@
+-- What a call gives, and what is there where something is.
+use Rattle.std.proofs.Common.{◌≡◌, refl, true, Option, Some, None, Result, Ok, Err}
+use Rattle.std.specs.Prelude.{IfOk, option_map, is_some}
+use Rattle.std.proofs.lemmas.Bool.{false≢true}
+
+-- two facts of what a call gives are both so, and what follows from them
+pub both_ok : {A E : Type 0} (r : Result A E) (P Q R : A → Type 0) → IfOk r P → IfOk r Q → ((x : A) → P x → Q x → R x) → IfOk r R
+both_ok (Ok x) P Q R p q f = f x p q
+both_ok (Err e) P Q R p q f = p
+
+-- what is there, where something is
+pub some_of : {A : Type 0} (o : Option A) → is_some o ≡ true → (x : A) × (o ≡ Some x)
+some_of None e = absurd (false≢true e)
+some_of (Some x) e = (x, refl)
+
+-- something is there as often as what is made of it
+pub some_mapped : {A B : Type 0} (f : A → B) (o : Option A) → is_some (option_map f o) ≡ is_some o
+some_mapped f None = refl
+some_mapped f (Some x) = refl

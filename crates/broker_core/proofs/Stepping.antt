@@ -1,0 +1,308 @@
+-- What the parts of a step leave, as the model's state.
+use Rattle.std.proofs.Common.{◌≡◌, ◌+◌, ◌++◌, ◌∷◌, [], ℕ, zero, suc, List, Bool, true, false, ◌&&◌, ◌||◌, ◌==◌, IsSome, Result, Ok, Err, Option, Some, None, map, length, replicate, refl, sym, ap, subst, ◌∙◌, if◌then◌else◌}
+use Rattle.std.specs.Prelude.{option_map, is_some, IfSome}
+use Rattle.std.specs.Str.{bytes_eq}
+use Rattle.model.specs.Words.{Text}
+use Rattle.model.specs.Topology.{Topology, queue_names}
+use Rattle.model.specs.Broker.{Broker, Channel, Connection, listed, with_one, with_row, with_pair}
+use Rattle.model.specs.Step as step
+use Rattle.model.specs.Step.{Performs, Decides, OnConnection, Refusal, Ignored, Of_connection, Is, channel_or_new, refusal_of_publish, refusal_to, refusal_of_count, or_else, is_spent, greatest, IsPublish, limited, with_gone, with_freed, with_channel, refusal, refusal_of_large, next_of, confirm_sends, confirm_notes, answer_of, return_of, returned_notes, entry_notes, is_none, is_some_full, channels_up_to}
+use Rattle.model.specs.Entries.{freed, by_channel, by_connection}
+use Rattle.model.specs.declared.messages.Entry.{Entry}
+use Rattle.model.specs.declared.messages.Holder.{Holder}
+use Rattle.model.specs.declared.contents.Content.{Content}
+use Rattle.model.specs.declared.methods.Method.{Method}
+use Rattle.model.specs.declared.methods.Publish.{Publish}
+use Rattle.model.specs.declared.methods.Qos.{Qos}
+use Rattle.model.specs.declared.events.Send.{Send}
+use Rattle.model.specs.declared.notes.Note.{Note}
+use Rattle.model.specs.declared.notes.Note.TheVariants.{Published}
+use Rattle.model.specs.declared.notes.Way.TheVariants as way
+use Rattle.depot.specs.Store.{Store, with_requeued, queue_of}
+use Rattle.depot.specs.Publishing.{Publishes}
+use Rattle.depot.specs.declared.depots.Routed.{Routed}
+use Rattle.channel.specs.Open as opened
+use Rattle.channel.specs.Open.{Open, open_in}
+use Rattle.channel.specs.Deliveries.{with_limit}
+use Rattle.links.specs.Links.{Linked, link_in, channel_seen, limits_of, connection_at, channel_at, connection_of, channel_of, seen_in, CanCount, AreLinks, Puts, Opens}
+use Rattle.replies.specs.Sent.{IsOwn, AreOwn, return_if, sent_back}
+use Rattle.broker_core.specs.State.{Kept, broker_of, topology_of, names_of}
+use Rattle.judging.specs.Judged.{seen, HasChannel, IsIgnored, IsLargeIgnored, IsRequeued, is_requeueing, requeues, Asks, Judges, JudgesOn, JudgesLarge}
+use Rattle.judging.specs.declared.refusals.Refusal as declared
+use Rattle.judging.specs.declared.refusals.Act as wanted
+use Rattle.judging.specs.declared.refusals.Act.TheVariants as act
+
+-- queues with no entry have none by any name
+pub listed_none : (names : List Text) (n : ℕ) (q : Text) → listed names (replicate n []) q ≡ []
+listed_none [] n q = refl
+listed_none (name ∷ names) zero q = refl
+listed_none (name ∷ names) (suc n) q = chosen (bytes_eq name q) (listed names (replicate n []) q) (listed_none names n q)
+  where
+    chosen : (b : Bool) (x : List Entry) → x ≡ [] → (if b then [] else x) ≡ []
+    chosen true x e = refl
+    chosen false x e = e
+
+-- what is requeued in each queue is requeued in the queue of any name
+pub listed_requeued : (mine : Holder → Bool) (names : List Text) (lists : List (List Entry)) (q : Text)
+    → listed names (map (λ (es : List Entry). map (freed mine) es) lists) q ≡ map (freed mine) (listed names lists q)
+listed_requeued mine [] lists q = refl
+listed_requeued mine (name ∷ names) [] q = refl
+listed_requeued mine (name ∷ names) (entries ∷ lists) q = chosen (bytes_eq name q) (map (freed mine) entries) entries (listed names (map (λ (es : List Entry). map (freed mine) es) lists) q) (listed names lists q) refl (listed_requeued mine names lists q)
+  where
+    chosen : (b : Bool) (x y x' y' : List Entry) → x ≡ map (freed mine) y → x' ≡ map (freed mine) y' → (if b then x else x') ≡ map (freed mine) (if b then y else y')
+    chosen true x y x' y' e e' = e
+    chosen false x y x' y' e e' = e'
+
+-- a channel that is seen through names is seen so in each case
+seen_if : (names : List Text) (b : Bool) (x y : Option Open) → option_map (open_in names) (if b then x else y) ≡ (if b then option_map (open_in names) x else option_map (open_in names) y)
+seen_if names true x y = refl
+seen_if names false x y = refl
+
+-- the same names, in another list that equals it
+seen_by : (names others : List Text) (o : Option Open) → others ≡ names → option_map (open_in others) o ≡ option_map (open_in names) o
+seen_by names others o e = ap (λ (z : List Text). option_map (open_in z) o) e
+
+-- one channel is another
+pub seen_put : (names others : List Text) (old new : List (ℕ × Linked)) (c h : ℕ) (ch : Option Open) → others ≡ names → Puts old c h ch new
+    → (d k : ℕ) → seen_in others new d k ≡ with_pair (seen_in names old) c h (option_map (open_in names) ch) d k
+seen_put names others old new c h ch e l d k =
+    seen_by names others (channel_of new d k) e ∙ ap (option_map (open_in names)) (l.channels d k) ∙ seen_if names (d == c && k == h) ch (channel_of old d k)
+
+-- the channels of one connection are gone
+pub seen_gone : (names others : List Text) (old new : List (ℕ × Linked)) (c : ℕ) → others ≡ names → ((d k : ℕ) → channel_of new d k ≡ with_row (channel_of old) c (λ h. None) d k)
+    → (d k : ℕ) → seen_in others new d k ≡ with_row (seen_in names old) c (λ h. None) d k
+seen_gone names others old new c e l d k =
+    seen_by names others (channel_of new d k) e ∙ ap (option_map (open_in names)) (l d k) ∙ seen_if names (d == c) None (channel_of old d k)
+
+-- a connection is gone, and what it held is requeued
+pub gone_is : (old new : Kept) (c : ℕ) → new.store ≡ with_requeued old.store (by_connection c)
+    → AreLinks new.links (with_one (connection_of old.links) c None) (with_row (channel_of old.links) c (λ h. None))
+    → Is (with_gone (broker_of old) c) (broker_of new)
+gone_is old new c e l = record {
+  counted = ap (λ (s : Store). s.published) e;
+  queues = λ q. ap (λ (s : Store). queue_of s q) e ∙ listed_requeued (by_connection c) (queue_names old.store.topology.queues) old.store.queues q;
+  connections = l.connections_are;
+  channels = seen_gone (names_of old) (names_of new) old.links new.links c (ap (λ (s : Store). queue_names s.topology.queues) e) l.channels_are;
+}
+
+-- a connection runs, and what one of its number held is requeued
+pub opened_is : (old new : Kept) (c max k : ℕ) → new.store ≡ with_requeued old.store (by_connection c) → Opens old.links c max k new.links → Is (step.opened (broker_of old) c max k) (broker_of new)
+opened_is old new c max k e l = record {
+  counted = ap (λ (s : Store). s.published) e;
+  queues = λ q. ap (λ (s : Store). queue_of s q) e ∙ listed_requeued (by_connection c) (queue_names old.store.topology.queues) old.store.queues q;
+  connections = l.connections_are;
+  channels = λ d h. l.channels_are (names_of new) d h
+      ∙ ap (λ (names : List Text). with_row (seen_in names old.links) c (channels_up_to k) d h) (ap (λ (s : Store). queue_names s.topology.queues) e);
+}
+
+-- a channel is another, and what it held is requeued
+pub cleared_is : (old new : Kept) (c h : ℕ) (ch : Option Open) → new.store ≡ with_requeued old.store (by_channel c h) → Puts old.links c h ch new.links
+    → Is (with_freed (with_channel (broker_of old) c h (option_map (open_in (names_of old)) ch)) (by_channel c h)) (broker_of new)
+cleared_is old new c h ch e l = record {
+  counted = ap (λ (s : Store). s.published) e;
+  queues = λ q. ap (λ (s : Store). queue_of s q) e ∙ listed_requeued (by_channel c h) (queue_names old.store.topology.queues) old.store.queues q;
+  connections = l.connections;
+  channels = seen_put (names_of old) (names_of new) old.links new.links c h ch (ap (λ (s : Store). queue_names s.topology.queues) e) l;
+}
+
+-- a channel is another, and nothing else changes
+pub put_is : (old new : Kept) (c h : ℕ) (ch : Option Open) → new.store ≡ old.store → Puts old.links c h ch new.links
+    → Is (with_channel (broker_of old) c h (option_map (open_in (names_of old)) ch)) (broker_of new)
+put_is old new c h ch e l = record {
+  counted = ap (λ (s : Store). s.published) e;
+  queues = λ q. ap (λ (s : Store). queue_of s q) e;
+  connections = l.connections;
+  channels = seen_put (names_of old) (names_of new) old.links new.links c h ch (ap (λ (s : Store). queue_names s.topology.queues) e) l;
+}
+
+-- what is judged by the connection that stands there is judged by the broker's state
+pub judged_on : (kept : Kept) (c h : ℕ) (m : Method) (r : Result wanted.Act declared.Refusal) (l : Linked) → link_in kept.links c ≡ Some l
+    → Judges (topology_of kept) (broker_of kept) (channel_seen (names_of kept) l h) m (refusal (topology_of kept) (broker_of kept) (limits_of l) h m (channel_seen (names_of kept) l h)) r
+    → JudgesOn (topology_of kept) (broker_of kept) c h m (Some r)
+judged_on kept c h m r l e j = (
+  limits_of l,
+  ap connection_at e,
+  subst (λ (x : Option Linked). Judges (topology_of kept) (broker_of kept) (option_map (open_in (names_of kept)) (channel_at x h)) m (refusal (topology_of kept) (broker_of kept) (limits_of l) h m (option_map (open_in (names_of kept)) (channel_at x h))) r) (sym e) j,
+)
+
+-- the same of a content that is too large
+pub large_judged : (kept : Kept) (c h : ℕ) (r : declared.Refusal) (l : Linked) → link_in kept.links c ≡ Some l
+    → seen r ≡ refusal_of_large (limits_of l) h (channel_seen (names_of kept) l h) → HasChannel r (channel_seen (names_of kept) l h)
+    → JudgesLarge (broker_of kept) c h (Some r)
+large_judged kept c h r l e is has = (
+  limits_of l,
+  ap connection_at e,
+  subst (λ (x : Option Linked). seen r ≡ refusal_of_large (limits_of l) h (option_map (open_in (names_of kept)) (channel_at x h))) (sym e) is,
+  subst (λ (x : Option Linked). HasChannel r (option_map (open_in (names_of kept)) (channel_at x h))) (sym e) has,
+)
+
+pub some_same : {A : Type 0} (x y : A) → Some x ≡ Some y → x ≡ y
+some_same x y e = cc
+
+-- what is refused where the command is ignored is only ignored
+pub ignored_by : (t : Topology) (b : Broker) (c h : ℕ) (m : Method) (e : declared.Refusal) → JudgesOn t b c h m (Some (Err e)) → IsIgnored t b c h m (b.connection c) → seen e ≡ Ignored
+ignored_by t b c h m e (conn, at, judged) is =
+    let ignored : refusal t b conn h m (b.channel c h) ≡ Some Ignored = subst (λ (o : Option Connection). IsIgnored t b c h m o) at is in
+    some_same (seen e) Ignored (sym judged.0 ∙ ignored)
+
+pub large_ignored_by : (b : Broker) (c h : ℕ) (e : declared.Refusal) → JudgesLarge b c h (Some e) → IsLargeIgnored b c h (b.connection c) → seen e ≡ Ignored
+large_ignored_by b c h e (conn, at, judged, has) is = judged ∙ subst (λ (o : Option Connection). IsLargeIgnored b c h o) at is
+
+-- what goes back of a publish goes back where it is mandatory and routed nowhere
+back_sent : (man none : Bool) (s : Send) → sent_back none (if man then Some s else None) ≡ (if man && none then s ∷ [] else [])
+back_sent true true s = refl
+back_sent true false s = refl
+back_sent false true s = refl
+back_sent false false s = refl
+
+-- and that is noted
+back_noted : (man none : Bool) (s : Send) → (none && is_some (if man then Some s else None)) ≡ (man && none)
+back_noted true true s = refl
+back_noted true false s = refl
+back_noted false true s = refl
+back_noted false false s = refl
+
+-- a publish of the depot, counted on the channel, sent back and confirmed, is one of the broker
+pub published_is : (old new : Kept) (c h : ℕ) (ch : Open) (p : Publish) (content : Content) (noted : List Note) (routed : Routed)
+    → Publishes old.store c h p content (next_of ch.confirm) noted routed new.store
+    → Puts old.links c h (Some (record ch { confirm = next_of ch.confirm })) new.links
+    → IsPublish (topology_of old) (broker_of old) c h (open_in (names_of old) ch) p content
+    (sent_back routed.is_none (return_if c h p content) ++ confirm_sends c h (next_of ch.confirm) (answer_of routed.is_some_full))
+    ((noted ++ returned_notes (old.store.published + 1) (routed.is_none && is_some (return_if c h p content))) ++ confirm_notes (old.store.published + 1) (next_of ch.confirm) (answer_of routed.is_some_full)) (broker_of new)
+published_is old new c h ch p content noted routed made put =
+    let n = old.store.published + 1 in
+    let entries = queue_of old.store in
+    let back : Option Send = return_if c h p content in
+    let full = is_some_full old.store.topology entries content made.targets in
+    let none = is_none made.targets in
+    let front : List Note = Published n c h p.exchange p.routing_key (next_of ch.confirm) ∷ entry_notes old.store.topology entries (length content.body) n way.Publish made.targets in
+    record {
+      targets = made.targets;
+      routed = made.picked;
+      noted = ap (λ (z : List Note). (z ++ returned_notes n (routed.is_none && is_some back)) ++ confirm_notes n (next_of ch.confirm) (answer_of routed.is_some_full)) made.notes
+          ∙ ap (λ (f : Bool). (front ++ returned_notes n (routed.is_none && is_some back)) ++ confirm_notes n (next_of ch.confirm) (answer_of f)) made.full
+          ∙ ap (λ (b : Bool). (front ++ returned_notes n (b && is_some back)) ++ confirm_notes n (next_of ch.confirm) (answer_of full)) made.none
+          ∙ ap (λ (b : Bool). (front ++ returned_notes n b) ++ confirm_notes n (next_of ch.confirm) (answer_of full)) (back_noted p.mandatory none (return_of c h p content));
+      sent = ap (λ (f : Bool). sent_back routed.is_none back ++ confirm_sends c h (next_of ch.confirm) (answer_of f)) made.full
+          ∙ ap (λ (b : Bool). sent_back b back ++ confirm_sends c h (next_of ch.confirm) (answer_of full)) made.none
+          ∙ ap (λ (z : List Send). z ++ confirm_sends c h (next_of ch.confirm) (answer_of full)) (back_sent p.mandatory none (return_of c h p content));
+      left = record {
+        counted = made.counted;
+        queues = made.queues;
+        connections = put.connections;
+        channels = seen_put (names_of old) (names_of new) old.links new.links c h (Some (record ch { confirm = next_of ch.confirm })) (ap (λ (t : Topology). queue_names t.queues) made.topology) put;
+      };
+    }
+
+-- what goes back has an address where all of it has, and what follows it keeps its own
+pub back_own : (c : ℕ) (none : Bool) (back : Option Send) (more : List Send) → IfSome back (λ s. IsOwn c s) → AreOwn c more → AreOwn c (sent_back none back ++ more)
+back_own c false back more own rest = rest
+back_own c true None more own rest = rest
+back_own c true (Some s) more own rest = (own, rest)
+
+-- a channel that is seen is kept
+pub open_there : (names : List Text) (o : Option Open) → IsSome (option_map (open_in names) o) → (ch : Open) × (o ≡ Some ch)
+open_there names None h = absurd (let e : false ≡ true = h in cc)
+open_there names (Some ch) h = (ch, refl)
+
+pub is_there : (names : List Text) (o : Option Open) → IsSome (option_map (open_in names) o) → IsSome o
+is_there names None h = h
+is_there names (Some ch) h = refl
+
+pub kept_there : (old kept : Kept) (c h : ℕ) → old ≡ kept → IsSome ((broker_of kept).channel c h) → IsSome (channel_of old.links c h)
+kept_there old kept c h e some = is_there (names_of old) (channel_of old.links c h) (subst (λ (k : Kept). IsSome ((broker_of k).channel c h)) (sym e) some)
+
+-- a channel that is seen is one that is kept
+pub record IsSeen (names : List Text) (o : Option Open) (ch : Channel) : Type 0 where
+  pub kept : Open
+  pub there : o ≡ Some kept
+  pub same : open_in names kept ≡ ch
+
+pub seen_there : (names : List Text) (o : Option Open) (ch : Channel) → option_map (open_in names) o ≡ Some ch → IsSeen names o ch
+seen_there names None ch e = absurd (let none : None ≡ Some ch = e in cc)
+seen_there names (Some k) ch e = record { kept = k; there = refl; same = some_same (open_in names k) ch e }
+
+past : (b : Bool) (rest : Option Refusal) → (if b then Some (Of_connection 540) else rest) ≡ None → rest ≡ None
+past true rest e = cc
+past false rest e = e
+
+past_first : (first rest : Option Refusal) → or_else first rest ≡ None → rest ≡ None
+past_first None rest e = e
+past_first (Some r) rest e = cc
+
+unspent : (counted spent : Bool) → (if counted || spent then Some (Of_connection 541) else None) ≡ None → spent ≡ false
+unspent true spent e = cc
+unspent false true e = cc
+unspent false false e = refl
+
+-- the confirm number of a publish that is accepted can rise
+pub can_count : (t : Topology) (b : Broker) (names : List Text) (o : Option Open) (p : Publish) → refusal_of_publish t b (channel_or_new (option_map (open_in names) o)) p ≡ None → CanCount o
+can_count t b names o p h k e =
+    let accepted : refusal_of_publish t b (open_in names k) p ≡ None = subst (λ (x : Option Open). refusal_of_publish t b (channel_or_new (option_map (open_in names) x)) p ≡ None) e h in
+    unspent (b.published == greatest) (is_spent k.confirm) (past_first (refusal_to t p.exchange) (refusal_of_count b (open_in names k)) (past p.immediate (or_else (refusal_to t p.exchange) (refusal_of_count b (open_in names k))) accepted))
+
+-- what is decided of a command is what it does
+pub decides_on : (t : Topology) (b : Broker) (c h : ℕ) (m : Method) (content : Option Content) (left : Option Refusal) (sends : List Send) (notes : List Note) (new : Broker) (conn : Connection)
+    → b.connection c ≡ Some conn → refusal t b conn h m (b.channel c h) ≡ left
+    → Decides t b c h m content left sends notes new
+    → OnConnection t b c h m content sends notes new (b.connection c)
+decides_on t b c h m content left sends notes new conn e r p =
+    subst (λ (o : Option Connection). OnConnection t b c h m content sends notes new o) (sym e)
+    (subst (λ (x : Option Refusal). Decides t b c h m content x sends notes new) (sym r) p)
+
+-- a channel that is kept, as it is
+pub kept_one : (o : Option Open) → IsSome o → (ch : Open) × (o ≡ Some ch)
+kept_one None h = absurd (let e : false ≡ true = h in cc)
+kept_one (Some ch) h = (ch, refl)
+
+-- a qos sets the same limit of what is kept and of what is seen of it
+pub limited_is : (names : List Text) (ch : Open) (m : Qos) → open_in names (opened.limited ch m) ≡ limited (open_in names ch) m
+limited_is names ch m = chosen m.global
+  where
+    chosen : (b : Bool) → open_in names (record ch { given = with_limit ch.given m.prefetch_count b }) ≡ (if b then record (open_in names ch) { limit = m.prefetch_count } else record (open_in names ch) { each_limit = m.prefetch_count })
+    chosen true = refl
+    chosen false = refl
+
+-- ---- rejections that requeue
+
+-- the act of a rejection that requeues requeues
+pub requeues_by : (t : Topology) (b : Broker) (ch : Option Channel) (m : Method) (a : wanted.Act) → Asks t b ch m a → is_requeueing m ≡ true → requeues a ≡ true
+requeues_by t b ch m (act.Reject r) asked is = sym (ap is_requeueing asked.0) ∙ is
+requeues_by t b ch m (act.Nack n) asked is = sym (ap is_requeueing asked.0) ∙ is
+requeues_by t b ch m act.OpenChannel (reserved, e) is = sym (ap is_requeueing e) ∙ is
+requeues_by t b ch m act.Flow asked is = sym (ap is_requeueing asked.0) ∙ is
+requeues_by t b ch m (act.FindExchange d) asked is = sym (ap is_requeueing asked.0) ∙ is
+requeues_by t b ch m (act.FindQueue place d) asked is = sym (ap is_requeueing asked.0) ∙ is
+requeues_by t b ch m (act.Select no_wait) asked is = sym (ap is_requeueing asked.0) ∙ is
+requeues_by t b ch m (act.Publish p) asked is = sym (ap is_requeueing asked.0) ∙ is
+requeues_by t b ch m (act.Purge place p) asked is = sym (ap is_requeueing asked.0) ∙ is
+requeues_by t b ch m (act.Get place g) asked is = sym (ap is_requeueing asked.0) ∙ is
+requeues_by t b ch m (act.Consume place k) asked is = sym (ap is_requeueing asked.0) ∙ is
+requeues_by t b ch m (act.Cancel k) asked is = sym (ap is_requeueing asked.0) ∙ is
+requeues_by t b ch m (act.Limit q) asked is = sym (ap is_requeueing asked.0) ∙ is
+requeues_by t b ch m (act.Acknowledge a) asked is = sym (ap is_requeueing asked.0) ∙ is
+requeues_by t b ch m act.Recover asked is = sym (ap is_requeueing asked.0) ∙ is
+requeues_by t b ch m (act.CloseChannel is_closing) (x, e, there, closing) is = sym (ap is_requeueing e) ∙ is
+requeues_by t b ch m act.EndChannel asked is = sym (ap is_requeueing asked.0) ∙ is
+requeues_by t b ch m act.CloseConnection (x, e) is = sym (ap is_requeueing e) ∙ is
+
+-- what is accepted of it is not refused
+pub requeued_not : (t : Topology) (b : Broker) (c h : ℕ) (m : Method) (e : declared.Refusal) → JudgesOn t b c h m (Some (Err e)) → IsRequeued t b c h m (b.connection c) → ⊥
+requeued_not t b c h m e (conn, at, judged) is =
+    let accepted = subst (λ (o : Option Connection). IsRequeued t b c h m o) at is in
+    let none_is_some : None ≡ Some (seen e) = sym accepted.1 ∙ judged.0 in
+    cc
+
+-- and its act requeues
+pub requeued_by : (t : Topology) (b : Broker) (c h : ℕ) (m : Method) (a : wanted.Act) → JudgesOn t b c h m (Some (Ok a)) → IsRequeued t b c h m (b.connection c) → requeues a ≡ true
+requeued_by t b c h m a (conn, at, judged) is =
+    let accepted = subst (λ (o : Option Connection). IsRequeued t b c h m o) at is in
+    requeues_by t b (b.channel c h) m a judged.1 accepted.0
+
+-- a connection that runs is kept
+kept_link : (o : Option Linked) → IsSome (connection_at o) → IsSome o
+kept_link None h = h
+kept_link (Some l) h = refl
+
+pub link_there : (old kept : Kept) (c : ℕ) → old ≡ kept → IsSome ((broker_of kept).connection c) → IsSome (link_in old.links c)
+link_there old kept c e some = kept_link (link_in old.links c) (subst (λ (k : Kept). IsSome ((broker_of k).connection c)) (sym e) some)

@@ -1,0 +1,4 @@
+pub mod State
+pub mod Consumed
+pub mod Picked
+pub mod Seats

@@ -1,0 +1,47 @@
+-- Which delivery is made.
+use Rattle.std.specs.Prelude.{◌≡◌, ◌<◌, ◌≤◌, ℕ, Option, Some, None, length}
+use Rattle.model.specs.Topology.{IsIn}
+use Rattle.model.specs.Broker as seen
+use Rattle.model.specs.Broker.{Broker}
+use Rattle.model.specs.Consuming.{MayTake, CanDeliver}
+use Rattle.exchange_graph.specs.Marks.{queue_name}
+use Rattle.depot.specs.Store.{HasReady}
+use Rattle.channel.specs.Open.{consumer_in}
+use Rattle.channel.specs.declared.consumers.Consumer.{Consumer}
+use Rattle.broker_core.specs.State.{Kept, broker_of, topology_of, names_of}
+use Rattle.broker_core.specs.declared.picks.Pick.{Pick}
+
+-- a delivery that can be made, to this consumer
+abbrev pub IsPick : Broker → Pick → Type 0
+IsPick b p = (made : CanDeliver b p.connection) × (made.number ≡ p.channel) × (made.consumer.number ≡ p.number)
+
+-- A delivery that can be made to this consumer, from the queue at this place.
+pub record IsPickFrom (kept : Kept) (place : ℕ) (p : Pick) : Type 0 where
+  pub pick : IsPick (broker_of kept) p
+  pub within : place < length (topology_of kept).queues
+  pub named : queue_name (topology_of kept) place ≡ pick.0.consumer.queue
+
+-- The first place at or behind `from` whose queue has something ready: no delivery can be made from those before it.
+pub record IsFirst (kept : Kept) (from place : ℕ) : Type 0 where
+  pub least : from ≤ place
+  pub within : place < length (topology_of kept).queues
+  pub ready : HasReady kept.store place
+  pub before : (at : ℕ) (p : Pick) → from ≤ at → at < place → IsPickFrom kept at p → ⊥
+
+-- It is told, or none, and then no delivery can be made from a queue at or behind `from`.
+abbrev pub IsNext : Kept → ℕ → Option ℕ → Type 0
+IsNext kept from (Some place) = IsFirst kept from place
+IsNext kept from None = (at : ℕ) (p : Pick) → from ≤ at → IsPickFrom kept at p → ⊥
+
+-- The consumer of these numbers may take a message now, from a queue that is there, and no other has its numbers.
+pub record Takes (kept : Kept) (p : Pick) (k : Consumer) : Type 0 where
+  pub channel : seen.Channel
+  pub taker : MayTake (broker_of kept) p.connection p.channel channel (consumer_in (names_of kept) k)
+  pub numbered : k.number ≡ p.number
+  pub only : (other : seen.Consumer) → IsIn other channel.consumers → other.number ≡ p.number → other ≡ consumer_in (names_of kept) k
+  pub within : k.queue < length (topology_of kept).queues
+
+-- It is told, exactly where it may.
+abbrev pub Tells : Kept → Pick → Option Consumer → Type 0
+Tells kept p (Some k) = Takes kept p k
+Tells kept p None = (ch : seen.Channel) (k : seen.Consumer) → MayTake (broker_of kept) p.connection p.channel ch k → k.number ≡ p.number → ⊥

@@ -1,0 +1,274 @@
+//! What the broker keeps, and its step, case by case.
+
+mod closing;
+mod consuming;
+mod declaring;
+mod delivering;
+mod getting;
+mod giving;
+mod opening;
+mod publishing;
+mod purging;
+mod running;
+mod seating;
+mod settlements;
+
+use depot::Depot;
+use exchange_graph::Topology;
+use judging::{Act, Refusal, judge, judge_large};
+use links::Links;
+use model::{Cause, Content, Event, Ids, Method};
+use replies::{Step, connection_close, connection_close_ok};
+use std::alloc::{AllocError, Global};
+use std::marker::Model;
+
+/// What names a publish in the close that answers it.
+const PUBLISH: Ids = Ids {
+    class: 60,
+    method: 40,
+};
+
+/// Queues, and the connections that run with their channels.
+pub struct Core {
+    depot: Depot,
+    links: Links,
+}
+
+/// Written out, so that a drop is one call.
+impl Drop for Core {
+    fn drop(self) {
+        let Core { depot: _, links: _ } = self;
+    }
+}
+
+impl Model for Core {
+    ghost use Rattle.broker_core.specs.State.{Kept};
+    ghost use Rattle.broker_core.specs.State.{ArePlaced};
+
+    ghost Value = { Kept };
+
+    ghost view = { λ b. record { store = b.depot; links = b.links } };
+
+    ghost invariant = { λ b. ArePlaced (record { store = b.depot; links = b.links }) };
+}
+
+impl Core {
+    ghost use Rattle.std.specs.Prelude.{◌≡◌, [], true, IsSome, IfOk, IsOk, OnErr};
+    ghost use Rattle.model.specs.Agreement.{IsAgreed};
+    ghost use Rattle.model.specs.Arrivals.{IsSaid};
+    ghost use Rattle.model.specs.Sending.{AreCarried};
+    ghost use Rattle.model.specs.Grammar.{IsMethod};
+    ghost use Rattle.model.specs.Step.{Acts, Is, OnConnection, OnLarge, Decides, channel_or_new};
+    ghost use Rattle.model.specs.declared.methods.Method.{Method as Seen};
+    ghost use Rattle.broker_core.specs.State.{broker_of, topology_of, nothing};
+    ghost use Rattle.judging.specs.Judged.{requeues, left_of, IsAsked, IsRequeued, IsIgnored, IsLargeIgnored, WantsNoMemory, JudgesOn, JudgesLarge, Asks, CanAct};
+    ghost use Rattle.replies.specs.Sent.{AreOwn, connection_of_event};
+
+    /// The broker of this topology: its queues are empty, and no connection runs.
+    pub fn new(alloc: Global, topology: Topology) -> Result<Core, AllocError>
+        ensures topology { IfOk result (λ b. topology_of b ≡ topology) }
+        ensures empty { IfOk result (λ b. Is nothing (broker_of b)) }
+    {
+        Ok(Core {
+            depot: Depot::new(alloc, topology)?,
+            links: Links::new(alloc),
+        })
+    }
+
+    /// What is decided of a command, or none where its connection doesn't run.
+    fn judge_command<'a>(
+        &self,
+        connection: u64,
+        channel: u16,
+        method: &'a Method,
+    ) -> Option<Result<Act<'a>, Refusal>>
+        ensures { JudgesOn (topology_of self.now) (broker_of self.now) connection channel method.now result }
+    {
+        match self.links.get(connection) {
+            None => None,
+            Some(link) => Some(judge(&self.depot, link, channel, method)),
+        }
+    }
+
+    /// What is decided of a publish whose content is too large, or none where its connection doesn't run.
+    fn judge_large(&self, connection: u64, channel: u16) -> Option<Refusal>
+        ensures { JudgesLarge (broker_of self.now) connection channel result }
+    {
+        match self.links.get(connection) {
+            None => None,
+            Some(link) => Some(judge_large(link, channel)),
+        }
+    }
+
+    /// What a command that is not refused asks for is done, or refused where its channel has still something against it.
+    fn act(
+        &mut self,
+        alloc: Global,
+        connection: u64,
+        channel: u16,
+        act: Act<'_>,
+        content: &Option<Content>,
+    ) -> Result<Step, AllocError>
+        requires agreed { IsAgreed (broker_of self.old) }
+        requires runs { IsSome ((broker_of self.old).connection connection) }
+        requires can { CanAct (topology_of self.old) (broker_of self.old) ((broker_of self.old).channel connection channel) act }
+        ensures ok { IfOk result (λ s. (m : Seen) → Asks (topology_of self.old) (broker_of self.old) ((broker_of self.old).channel connection channel) m act.entry → Decides (topology_of self.old) (broker_of self.old) connection channel m content.now (left_of (channel_or_new ((broker_of self.old).channel connection channel)) act.entry) s.sends.items s.notes.items (broker_of self.new)) }
+        ensures own { IfOk result (λ s. (m : Seen) → Asks (topology_of self.old) (broker_of self.old) ((broker_of self.old).channel connection channel) m act.entry → IsMethod m → AreCarried (broker_of self.old) → AreOwn connection s.sends.items) }
+        ensures topology { topology_of self.new ≡ topology_of self.old }
+        ensures err { OnErr result (self.new ≡ self.old) }
+        ensures quiet { requeues act.entry ≡ true → IsOk result }
+    {
+        match act {
+            Act::OpenChannel => self.open_channel(alloc, connection, channel),
+            Act::Flow => self.flow(alloc, connection, channel),
+            Act::FindExchange(declare) => {
+                self.find_exchange(alloc, connection, channel, declare.no_wait)
+            }
+            Act::FindQueue(place, declare) => {
+                self.find_queue(alloc, connection, channel, place, declare)
+            }
+            Act::Select(no_wait) => self.select(alloc, connection, channel, no_wait),
+            Act::Publish(publish) => self.publish_content(
+                alloc, connection, channel, publish, content,
+            ),
+            Act::Purge(place, purge) => self.purge(alloc, connection, channel, place, purge),
+            Act::Get(place, get) => self.get(alloc, connection, channel, place, get),
+            Act::Consume(place, consume) => {
+                self.consume(alloc, connection, channel, place, consume)
+            }
+            Act::Cancel(cancel) => self.cancel(alloc, connection, channel, cancel),
+            Act::Limit(qos) => self.limit(alloc, connection, channel, qos),
+            Act::Acknowledge(ack) => self.leave(
+                alloc,
+                connection,
+                channel,
+                ack.delivery_tag,
+                ack.multiple,
+                Cause::Acked,
+            ),
+            Act::Reject(reject) => self.reject(
+                alloc,
+                connection,
+                channel,
+                reject.delivery_tag,
+                false,
+                reject.requeue,
+            ),
+            Act::Nack(nack) => self.reject(
+                alloc,
+                connection,
+                channel,
+                nack.delivery_tag,
+                nack.multiple,
+                nack.requeue,
+            ),
+            Act::Recover => self.recover(alloc, connection, channel),
+            Act::CloseChannel(is_closing) => self.answer_close(
+                alloc, connection, channel, is_closing,
+            ),
+            Act::EndChannel => Ok(self.end_channel(alloc, connection, channel)),
+            Act::CloseConnection => {
+                self.close_connection(alloc, connection, connection_close_ok(connection))
+            }
+        }
+    }
+
+    /// A command: nothing where its connection doesn't run, else it is refused or performed.
+    fn perform(
+        &mut self,
+        alloc: Global,
+        connection: u64,
+        channel: u16,
+        method: &Method,
+        content: &Option<Content>,
+    ) -> Result<Step, AllocError>
+        requires { IsAgreed (broker_of self.old) }
+        ensures ok { IfOk result (λ s. OnConnection (topology_of self.old) (broker_of self.old) connection channel method.now content.now s.sends.items s.notes.items (broker_of self.new) ((broker_of self.old).connection connection)) }
+        ensures requeued { IsRequeued (topology_of self.old) (broker_of self.old) connection channel method.now ((broker_of self.old).connection connection) → IsOk result }
+        ensures ignored { IsIgnored (topology_of self.old) (broker_of self.old) connection channel method.now ((broker_of self.old).connection connection) → IsOk result }
+        ensures own { IfOk result (λ s. IsMethod method.now → AreCarried (broker_of self.old) → AreOwn connection s.sends.items) }
+        ensures topology { topology_of self.new ≡ topology_of self.old }
+        ensures err { OnErr result (self.new ≡ self.old) }
+    {
+        match self.judge_command(connection, channel, method) {
+            None => Ok(Step::nothing(alloc)),
+            Some(Err(refusal)) => self.refuse(alloc, connection, channel, method.ids(), refusal),
+            Some(Ok(act)) => self.act(alloc, connection, channel, act, content),
+        }
+    }
+
+    /// A publish whose content is too large: nothing where its connection doesn't run, else it is refused.
+    fn refuse_large(
+        &mut self,
+        alloc: Global,
+        connection: u64,
+        channel: u16,
+    ) -> Result<Step, AllocError>
+        ensures ok { IfOk result (λ s. OnLarge (broker_of self.old) connection channel s.sends.items s.notes.items (broker_of self.new) ((broker_of self.old).connection connection)) }
+        ensures ignored { IsLargeIgnored (broker_of self.old) connection channel ((broker_of self.old).connection connection) → IsOk result }
+        ensures own { IfOk result (λ s. AreOwn connection s.sends.items) }
+        ensures topology { topology_of self.new ≡ topology_of self.old }
+        ensures err { OnErr result (self.new ≡ self.old) }
+    {
+        match self.judge_large(connection, channel) {
+            None => Ok(Step::nothing(alloc)),
+            Some(refusal) => self.refuse(alloc, connection, channel, PUBLISH, refusal),
+        }
+    }
+
+    /// One event: what it sends, what it notes, and the state after it. Where the event's method has a spelling, each send
+    /// is for the event's own connection, by a method with a spelling. Where memory is wanting, nothing has changed; an opening,
+    /// a loss, a pause and its end, a command that is ignored, and a rejection that requeues want none.
+    pub fn step(&mut self, alloc: Global, event: &Event) -> Result<Step, AllocError>
+        requires agreed { IsAgreed (broker_of self.old) }
+        requires asked { IsAsked event.now }
+        ensures ok { IfOk result (λ s. Acts (topology_of self.old) (broker_of self.old) event.now s.sends.items s.notes.items (broker_of self.new)) }
+        ensures own { IfOk result (λ s. IsSaid event.now → AreCarried (broker_of self.old) → AreOwn (connection_of_event event.now) s.sends.items) }
+        ensures topology { topology_of self.new ≡ topology_of self.old }
+        ensures err { OnErr result (self.new ≡ self.old) }
+        ensures quiet { WantsNoMemory (topology_of self.old) (broker_of self.old) event.now → IsOk result }
+    {
+        match event {
+            Event::Open { .. } | Event::First { .. } => Ok(Step::nothing(alloc)),
+            Event::Running {
+                connection,
+                channel_max,
+                channels,
+            } => {
+                self.open(alloc, *connection, *channel_max, *channels)?;
+                Ok(Step::nothing(alloc))
+            }
+            Event::Command {
+                connection,
+                channel,
+                method,
+                content,
+            } => self.perform(alloc, *connection, *channel, method, content),
+            Event::TooLarge {
+                connection,
+                channel,
+            } => self.refuse_large(alloc, *connection, *channel),
+            Event::Fault { connection, code } => {
+                let cause = Ids {
+                    class: 0,
+                    method: 0,
+                };
+                let send = connection_close(*connection, *code, cause);
+                self.close_connection(alloc, *connection, send)
+            }
+            Event::Lose { connection } => {
+                self.go(*connection);
+                Ok(Step::nothing(alloc))
+            }
+            Event::Pause { connection } => {
+                self.pause(*connection);
+                Ok(Step::nothing(alloc))
+            }
+            Event::Resume { connection } => {
+                self.resume(*connection);
+                Ok(Step::nothing(alloc))
+            }
+            Event::Deliver { .. } => unreachable!(),
+        }
+    }
+}

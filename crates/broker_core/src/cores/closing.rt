@@ -1,0 +1,133 @@
+//! Closes of channels and connections, from both sides.
+
+use crate::cores::Core;
+use channel::Channel;
+use judging::Refusal;
+use model::{Ids, Send};
+use replies::{Step, channel_close, channel_close_ok, connection_close};
+use std::alloc::{AllocError, Global};
+
+impl Core {
+    ghost use Rattle.std.specs.Prelude.{◌≡◌, ◌∷◌, [], None, Some, IsSome, IfOk, IsOk, OnErr, option_map};
+    ghost use Rattle.model.specs.Grammar.{ids};
+    ghost use Rattle.model.specs.Step as said;
+    ghost use Rattle.model.specs.Entries.{by_channel};
+    ghost use Rattle.model.specs.Step.{Does, Is, Refuses, with_gone, with_closing, with_channel, after_close, reply, channel_or_new};
+    ghost use Rattle.model.specs.declared.methods.Method.TheVariants.{ChannelCloseOk};
+    ghost use Rattle.broker_core.specs.State.{broker_of, topology_of, names_of};
+    ghost use Rattle.channel.specs.Open.{Open, open_in};
+    ghost use Rattle.judging.specs.Judged.{seen as said_of, HasChannel};
+    ghost use Rattle.replies.specs.Sent.{IsOwn, AreOwn};
+
+    /// This close, or answer to a close, is sent, and the connection runs no more.
+    pub(crate) fn close_connection(
+        &mut self,
+        alloc: Global,
+        connection: u64,
+        send: Send,
+    ) -> Result<Step, AllocError>
+        requires { IsOwn connection send }
+        ensures ok { IfOk result (λ s. Does s.sends.items s.notes.items (broker_of self.new) (send ∷ []) (with_gone (broker_of self.old) connection)) }
+        ensures own { IfOk result (λ s. AreOwn connection s.sends.items) }
+        ensures topology { topology_of self.new ≡ topology_of self.old }
+        ensures err { OnErr result (self.new ≡ self.old) }
+    {
+        let step = Step::sending(alloc, send)?;
+        self.go(connection);
+        Ok(step)
+    }
+
+    /// What the channel held is ready again, and this stands in its place.
+    fn clear(&mut self, connection: u64, number: u16, channel: Option<Channel>)
+        requires there { IsSome ((broker_of self.old).channel connection number) }
+        requires nothing { (k : Open) → channel ≡ Some k → k.given.outstanding ≡ [] }
+        requires free { (k : Open) → channel ≡ Some k → k.given.consumers ≡ [] }
+        ensures cleared { Is (said.with_freed (with_channel (broker_of self.old) connection number (option_map (open_in (names_of self.old)) channel)) (by_channel connection number)) (broker_of self.new) }
+        ensures topology { topology_of self.new ≡ topology_of self.old }
+    {
+        self.depot.requeue_channel(connection, number);
+        self.links.put(connection, number, channel);
+    }
+
+    /// This close is sent on the channel, which awaits close-ok from now on.
+    fn close_channel(
+        &mut self,
+        alloc: Global,
+        connection: u64,
+        channel: u16,
+        send: Send,
+    ) -> Result<Step, AllocError>
+        requires there { IsSome ((broker_of self.old).channel connection channel) }
+        requires own { IsOwn connection send }
+        ensures ok { IfOk result (λ s. Does s.sends.items s.notes.items (broker_of self.new) (send ∷ []) (with_closing (broker_of self.old) connection channel)) }
+        ensures own { IfOk result (λ s. AreOwn connection s.sends.items) }
+        ensures topology { topology_of self.new ≡ topology_of self.old }
+        ensures err { OnErr result (self.new ≡ self.old) }
+    {
+        let step = Step::sending(alloc, send)?;
+        self.clear(connection, channel, Some(Channel::closing(alloc)));
+        Ok(step)
+    }
+
+    /// The client's close of a channel is answered. One that awaits close-ok goes on waiting for it; any other is gone.
+    pub(crate) fn answer_close(
+        &mut self,
+        alloc: Global,
+        connection: u64,
+        channel: u16,
+        is_closing: bool,
+    ) -> Result<Step, AllocError>
+        requires there { IsSome ((broker_of self.old).channel connection channel) }
+        requires closing { (channel_or_new ((broker_of self.old).channel connection channel)).is_closing ≡ is_closing }
+        ensures ok { IfOk result (λ s. Does s.sends.items s.notes.items (broker_of self.new) (reply connection channel ChannelCloseOk ∷ []) (after_close (broker_of self.old) connection channel (channel_or_new ((broker_of self.old).channel connection channel)))) }
+        ensures own { IfOk result (λ s. AreOwn connection s.sends.items) }
+        ensures topology { topology_of self.new ≡ topology_of self.old }
+        ensures err { OnErr result (self.new ≡ self.old) }
+    {
+        let step = Step::sending(alloc, channel_close_ok(connection, channel))?;
+        if !is_closing {
+            self.clear(connection, channel, None);
+        }
+        Ok(step)
+    }
+
+    /// The client agrees to the close of the channel, which is gone.
+    pub(crate) fn end_channel(&mut self, alloc: Global, connection: u64, channel: u16) -> Step
+        requires { IsSome ((broker_of self.old).channel connection channel) }
+        ensures does { Does result.sends.items result.notes.items (broker_of self.new) [] (with_channel (broker_of self.old) connection channel None) }
+        ensures topology { topology_of self.new ≡ topology_of self.old }
+    {
+        self.links.put(connection, channel, None);
+        Step::nothing(alloc)
+    }
+
+    /// What is refused does nothing, or closes its channel or its connection with the code of the refusal; the close names
+    /// the method that caused it.
+    pub(crate) fn refuse(
+        &mut self,
+        alloc: Global,
+        connection: u64,
+        channel: u16,
+        cause: Ids,
+        refusal: Refusal,
+    ) -> Result<Step, AllocError>
+        requires { HasChannel refusal ((broker_of self.old).channel connection channel) }
+        ensures ok { IfOk result (λ s. Refuses (broker_of self.old) connection channel (ids cause.class cause.method) (said_of refusal) s.sends.items s.notes.items (broker_of self.new)) }
+        ensures ignored { said_of refusal ≡ said.Ignored → IsOk result }
+        ensures own { IfOk result (λ s. AreOwn connection s.sends.items) }
+        ensures topology { topology_of self.new ≡ topology_of self.old }
+        ensures err { OnErr result (self.new ≡ self.old) }
+    {
+        match refusal {
+            Refusal::Ignored => Ok(Step::nothing(alloc)),
+            Refusal::Channel(code) => {
+                let send = channel_close(connection, channel, code, cause);
+                self.close_channel(alloc, connection, channel, send)
+            }
+            Refusal::Connection(code) => {
+                let send = connection_close(connection, code, cause);
+                self.close_connection(alloc, connection, send)
+            }
+        }
+    }
+}

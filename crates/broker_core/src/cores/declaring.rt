@@ -1,0 +1,55 @@
+//! What a client may ask of what is declared. Source: AMQP 0-9-1, exchange.declare and queue.declare, "passive".
+
+use crate::cores::Core;
+use model::QueueDeclare;
+use replies::{Step, answer_queue_declare, exchange_ok};
+use std::alloc::{AllocError, Global};
+
+impl Core {
+    ghost use Rattle.std.specs.Prelude.{◌≡◌, IfOk};
+    ghost use Rattle.model.specs.Step.{Does, Finds, declare_sends};
+    ghost use Rattle.model.specs.declared.methods.Method.TheVariants.{ExchangeDeclareOk, QueueDeclare as DeclaresQueue};
+    ghost use Rattle.model.specs.Grammar.{IsMethod};
+    ghost use Rattle.broker_core.specs.State.{broker_of, topology_of};
+    ghost use Rattle.judging.specs.Judged.{IsPlaceOf};
+    ghost use Rattle.replies.specs.Sent.{AreOwn};
+
+    /// The exchange is there, and that is answered where an answer is wanted.
+    pub(crate) fn find_exchange(
+        &self,
+        alloc: Global,
+        connection: u64,
+        channel: u16,
+        no_wait: bool,
+    ) -> Result<Step, AllocError>
+        ensures ok { IfOk result (λ s. Does s.sends.items s.notes.items (broker_of self.now) (declare_sends connection channel no_wait ExchangeDeclareOk) (broker_of self.now)) }
+        ensures own { IfOk result (λ s. AreOwn connection s.sends.items) }
+    {
+        if no_wait {
+            Ok(Step::nothing(alloc))
+        } else {
+            Step::sending(alloc, exchange_ok(connection, channel))
+        }
+    }
+
+    /// The queue at this place is there, and that is answered where an answer is wanted: by the numbers of its ready messages
+    /// and of its consumers, on all channels together.
+    pub(crate) fn find_queue(
+        &self,
+        alloc: Global,
+        connection: u64,
+        channel: u16,
+        place: usize,
+        declare: &QueueDeclare,
+    ) -> Result<Step, AllocError>
+        requires { IsPlaceOf (topology_of self.now) declare.now.queue place }
+        ensures ok { IfOk result (λ s. Finds (broker_of self.now) connection channel declare.now s.sends.items s.notes.items (broker_of self.now)) }
+        ensures own { IfOk result (λ s. IsMethod (DeclaresQueue declare.now) → AreOwn connection s.sends.items) }
+    {
+        self.depot.is_whole();
+        self.depot.is_named(place);
+        let ready = self.depot.ready_at(place);
+        let consumers = self.links.count_consumers(place);
+        answer_queue_declare(alloc, connection, channel, declare, ready, consumers)
+    }
+}

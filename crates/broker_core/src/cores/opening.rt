@@ -1,0 +1,47 @@
+//! Channels that a client opens, and their flow. Source: AMQP 0-9-1, channel.open and channel.flow.
+
+use crate::cores::Core;
+use channel::Channel;
+use replies::{Step, flow_ok, open_ok};
+use std::alloc::{AllocError, Global};
+
+impl Core {
+    ghost use Rattle.std.specs.Prelude.{◌≡◌, ◌∷◌, [], true, Some, IsSome, IfOk, OnErr};
+    ghost use Rattle.model.specs.Broker.{new_channel};
+    ghost use Rattle.model.specs.Step.{Does, with_channel, reply};
+    ghost use Rattle.model.specs.declared.methods.Method.TheVariants.{ChannelOpenOk, ChannelFlowOk};
+    ghost use Rattle.broker_core.specs.State.{broker_of, topology_of};
+    ghost use Rattle.replies.specs.Sent.{AreOwn};
+
+    /// The channel is open and new from now on, and that is answered. Where memory is wanting, nothing has changed.
+    pub(crate) fn open_channel(
+        &mut self,
+        alloc: Global,
+        connection: u64,
+        channel: u16,
+    ) -> Result<Step, AllocError>
+        requires { IsSome ((broker_of self.old).connection connection) }
+        ensures ok { IfOk result (λ s. Does s.sends.items s.notes.items (broker_of self.new) (reply connection channel (ChannelOpenOk []) ∷ []) (with_channel (broker_of self.old) connection channel (Some new_channel))) }
+        ensures own { IfOk result (λ s. AreOwn connection s.sends.items) }
+        ensures topology { topology_of self.new ≡ topology_of self.old }
+        ensures err { OnErr result (self.new ≡ self.old) }
+    {
+        let step = Step::sending(alloc, open_ok(connection, channel))?;
+        self.links
+            .open_channel(connection, channel, Channel::new(alloc))?;
+        Ok(step)
+    }
+
+    /// The flow of what is given out on the channel goes on as before, and that is answered.
+    pub(crate) fn flow(
+        &self,
+        alloc: Global,
+        connection: u64,
+        channel: u16,
+    ) -> Result<Step, AllocError>
+        ensures ok { IfOk result (λ s. Does s.sends.items s.notes.items (broker_of self.now) (reply connection channel (ChannelFlowOk true) ∷ []) (broker_of self.now)) }
+        ensures own { IfOk result (λ s. AreOwn connection s.sends.items) }
+    {
+        Step::sending(alloc, flow_ok(connection, channel))
+    }
+}

@@ -1,0 +1,139 @@
+//! What was given out is acknowledged, rejected or requeued. Source: AMQP 0-9-1, basic.ack, basic.reject and basic.recover;
+//! RabbitMQ, basic.nack and "Dead Letter Exchanges".
+
+ghost use Rattle.std.specs.Prelude.{◌≡◌, List};
+ghost use Rattle.model.specs.declared.events.Send.{Send as Sent};
+ghost use Rattle.replies.specs.Sent.{AreOwn};
+
+use crate::cores::Core;
+use depot::places_are_named;
+use model::Cause;
+use replies::{Step, recover_ok};
+use settling::{notes_of, put_back, reject, take_out};
+use std::alloc::{AllocError, Global};
+
+impl Core {
+    ghost use Rattle.std.specs.Prelude.{◌≡◌, ◌∷◌, [], None, true, IsSome, IfOk, IsOk, OnErr};
+    ghost use Rattle.model.specs.Agreement.{IsAgreed};
+    ghost use Rattle.model.specs.Deliveries.{Leaves, Rejects, Returns, of_rejected};
+    ghost use Rattle.model.specs.Step.{Settles, channel_or_new, refusal_of_settling, reply};
+    ghost use Rattle.model.specs.declared.methods.Method.TheVariants.{BasicRecoverOk};
+    ghost use Rattle.broker_core.specs.State.{broker_of, topology_of};
+
+    /// What this tag settles leaves its queues for this cause, and is no longer outstanding. All that takes memory is made
+    /// before the first change.
+    pub(crate) fn leave(
+        &mut self,
+        alloc: Global,
+        connection: u64,
+        channel: u16,
+        tag: u64,
+        multiple: bool,
+        cause: Cause,
+    ) -> Result<Step, AllocError>
+        requires agreed { IsAgreed (broker_of self.old) }
+        requires there { IsSome ((broker_of self.old).channel connection channel) }
+        requires accepted { refusal_of_settling (channel_or_new ((broker_of self.old).channel connection channel)) tag multiple ≡ None }
+        ensures ok { IfOk result (λ s. Settles (topology_of self.old) (Leaves cause) (broker_of self.old) connection channel (channel_or_new ((broker_of self.old).channel connection channel)) tag multiple [] s.sends.items s.notes.items (broker_of self.new)) }
+        ensures own { IfOk result (λ s. AreOwn connection s.sends.items) }
+        ensures topology { topology_of self.new ≡ topology_of self.old }
+        ensures err { OnErr result (self.new ≡ self.old) }
+    {
+        let Some(gone) = self.links.settle(connection, channel, tag, multiple) else {
+            return Ok(Step::nothing(alloc));
+        };
+        let notes = notes_of(alloc, &self.depot, connection, channel, gone, cause)?;
+        self.depot.is_whole();
+        places_are_named();
+        take_out(&mut self.depot, connection, channel, gone);
+        self.links.forget(connection, channel, tag, multiple);
+        Ok(Step::noting(alloc, notes))
+    }
+
+    /// What this tag settles is ready again, each message in its place, and is no longer outstanding. It takes no memory.
+    pub(crate) fn requeue(&mut self, connection: u64, channel: u16, tag: u64, multiple: bool)
+        requires there { IsSome ((broker_of self.old).channel connection channel) }
+        requires accepted { refusal_of_settling (channel_or_new ((broker_of self.old).channel connection channel)) tag multiple ≡ None }
+        ensures settles { (sends : List Sent) → Settles (topology_of self.old) Returns (broker_of self.old) connection channel (channel_or_new ((broker_of self.old).channel connection channel)) tag multiple sends sends [] (broker_of self.new) }
+        ensures topology { topology_of self.new ≡ topology_of self.old }
+    {
+        let Some(gone) = self.links.settle(connection, channel, tag, multiple) else {
+            return;
+        };
+        self.depot.is_whole();
+        places_are_named();
+        put_back(&mut self.depot, connection, channel, gone);
+        self.links.forget(connection, channel, tag, multiple);
+    }
+
+    /// What this tag rejects leaves its queues, in the order of tags, and dies there where the queue has a dead-letter exchange.
+    /// It is no longer outstanding. All that takes memory is made before the first change.
+    pub(crate) fn discard(
+        &mut self,
+        alloc: Global,
+        connection: u64,
+        channel: u16,
+        tag: u64,
+        multiple: bool,
+    ) -> Result<Step, AllocError>
+        requires agreed { IsAgreed (broker_of self.old) }
+        requires there { IsSome ((broker_of self.old).channel connection channel) }
+        requires accepted { refusal_of_settling (channel_or_new ((broker_of self.old).channel connection channel)) tag multiple ≡ None }
+        ensures ok { IfOk result (λ s. Settles (topology_of self.old) Rejects (broker_of self.old) connection channel (channel_or_new ((broker_of self.old).channel connection channel)) tag multiple [] s.sends.items s.notes.items (broker_of self.new)) }
+        ensures own { IfOk result (λ s. AreOwn connection s.sends.items) }
+        ensures topology { topology_of self.new ≡ topology_of self.old }
+        ensures err { OnErr result (self.new ≡ self.old) }
+    {
+        let Some(gone) = self.links.settle(connection, channel, tag, multiple) else {
+            return Ok(Step::nothing(alloc));
+        };
+        let notes = reject(alloc, &mut self.depot, connection, channel, gone)?;
+        self.links.forget(connection, channel, tag, multiple);
+        Ok(Step::noting(alloc, notes))
+    }
+
+    /// What this tag rejects leaves its queues, or is ready again where it is to be requeued, which takes no memory.
+    pub(crate) fn reject(
+        &mut self,
+        alloc: Global,
+        connection: u64,
+        channel: u16,
+        tag: u64,
+        multiple: bool,
+        requeue: bool,
+    ) -> Result<Step, AllocError>
+        requires agreed { IsAgreed (broker_of self.old) }
+        requires there { IsSome ((broker_of self.old).channel connection channel) }
+        requires accepted { refusal_of_settling (channel_or_new ((broker_of self.old).channel connection channel)) tag multiple ≡ None }
+        ensures ok { IfOk result (λ s. Settles (topology_of self.old) (of_rejected requeue) (broker_of self.old) connection channel (channel_or_new ((broker_of self.old).channel connection channel)) tag multiple [] s.sends.items s.notes.items (broker_of self.new)) }
+        ensures own { IfOk result (λ s. AreOwn connection s.sends.items) }
+        ensures topology { topology_of self.new ≡ topology_of self.old }
+        ensures err { OnErr result (self.new ≡ self.old) }
+        ensures quiet { requeue ≡ true → IsOk result }
+    {
+        if requeue {
+            self.requeue(connection, channel, tag, multiple);
+            Ok(Step::nothing(alloc))
+        } else {
+            self.discard(alloc, connection, channel, tag, multiple)
+        }
+    }
+
+    /// All that is outstanding on the channel is ready again, and that is answered.
+    pub(crate) fn recover(
+        &mut self,
+        alloc: Global,
+        connection: u64,
+        channel: u16,
+    ) -> Result<Step, AllocError>
+        requires there { IsSome ((broker_of self.old).channel connection channel) }
+        ensures ok { IfOk result (λ s. Settles (topology_of self.old) Returns (broker_of self.old) connection channel (channel_or_new ((broker_of self.old).channel connection channel)) 0 true (reply connection channel BasicRecoverOk ∷ []) s.sends.items s.notes.items (broker_of self.new)) }
+        ensures own { IfOk result (λ s. AreOwn connection s.sends.items) }
+        ensures topology { topology_of self.new ≡ topology_of self.old }
+        ensures err { OnErr result (self.new ≡ self.old) }
+    {
+        let step = Step::sending(alloc, recover_ok(connection, channel))?;
+        self.requeue(connection, channel, 0, true);
+        Ok(step)
+    }
+}

@@ -1,0 +1,112 @@
+//! Lines about guarantees that are admitted by their certificates.
+
+use super::faults::put_fault;
+use certificate::{Checked, admit};
+use certificate_check::{CertFault, Certificate};
+use certificate_files::read_certificates;
+use definitions::{Definitions, read_definitions};
+use exchange_graph::Topology;
+use guarantees::{Guarantee, read_guarantees};
+use line_words::{Answer, Unanswered, named_and_edits, sources_of, words_of};
+use routing_lines::put_route;
+
+/// Answers about what was admitted: how many guarantees it has, or the queues to which it leads a key.
+fn answer_of_admitted(out: &mut Answer, admitted: &Checked, words: &[&str]) {
+    match words {
+        [] => {
+            out.put("admitted ");
+            out.put_number(admitted.guarantees().len() as u64);
+        }
+        [exchange, key] => put_route(out, admitted.topology(), exchange, key),
+        _ => out.fail(Unanswered::Form),
+    }
+}
+
+/// Answers about a clone of what was admitted.
+fn answer_of_clone(out: &mut Answer, checked: &Checked, words: &[&str]) {
+    match checked.clone(out.alloc()) {
+        Ok(same) => answer_of_admitted(out, &same, words),
+        Err(_) => out.fail(Unanswered::Memory),
+    }
+}
+
+/// Appends the place of the first guarantee that is not admitted, behind its fault.
+fn put_not_admitted(out: &mut Answer, place: usize, fault: &CertFault) {
+    put_fault(out, fault);
+    out.put(" at ");
+    out.put_number(place as u64);
+}
+
+/// Answers about what is admitted of these guarantees.
+fn answer_of_guarantees(
+    out: &mut Answer,
+    topology: Topology,
+    stated: Vec<Guarantee>,
+    certificates: &[Certificate],
+    words: &[&str],
+) {
+    match admit(out.alloc(), topology, stated, certificates) {
+        Ok(checked) => answer_of_clone(out, &checked, words),
+        Err((place, fault)) => put_not_admitted(out, place, &fault),
+    }
+}
+
+/// Answers about what is admitted of a file of guarantees.
+fn answer_over(
+    out: &mut Answer,
+    read: Definitions,
+    guarantees: &str,
+    certificates: &[Certificate],
+    words: &[&str],
+) {
+    let (topology, _) = read.into_parts();
+    match read_guarantees(out.alloc(), guarantees.as_bytes(), &topology) {
+        Ok(stated) => answer_of_guarantees(out, topology, stated, certificates, words),
+        Err(_) => out.fail(Unanswered::File),
+    }
+}
+
+/// Answers about what is admitted by these certificates of two files.
+fn answer_by(
+    out: &mut Answer,
+    definitions: &str,
+    guarantees: &str,
+    certificates: &[Certificate],
+    words: &[&str],
+) {
+    match read_definitions(out.alloc(), definitions.as_bytes()) {
+        Ok(read) => answer_over(out, read, guarantees, certificates, words),
+        Err(_) => out.fail(Unanswered::File),
+    }
+}
+
+/// Answers about what is admitted of three files.
+fn answer_of_files(out: &mut Answer, files: &[String], words: &[&str]) {
+    let [definitions, guarantees, certificates] = files else {
+        return out.fail(Unanswered::Form);
+    };
+    match read_certificates(out.alloc(), certificates.as_bytes()) {
+        Ok(offered) => answer_by(
+            out,
+            definitions.as_str(),
+            guarantees.as_str(),
+            offered.as_slice(),
+            words,
+        ),
+        Err(_) => out.fail(Unanswered::File),
+    }
+}
+
+/// Answers a line about what is admitted, which names three files.
+pub fn answer(out: &mut Answer, rt: &HostRuntime, asked: &str) {
+    let (named, edits) = named_and_edits(asked);
+    let words = words_of(out, named);
+    match words.as_slice() {
+        [definitions, guarantees, certificates, rest @ ..] => {
+            let names = [*definitions, *guarantees, *certificates];
+            let files = sources_of(out, rt, names.as_slice(), edits);
+            answer_of_files(out, files.as_slice(), rest);
+        }
+        _ => out.fail(Unanswered::Form),
+    }
+}

@@ -1,0 +1,220 @@
+//! Lines about certificates, searches and refutations of one guarantee, which the line states.
+
+use super::faults::put_fault;
+use super::rewriting::put_file_of;
+use certificate::{Refutation, disprove};
+use certificate_check::{Certificate, check};
+use certificate_files::read_certificates;
+use definitions::read_definitions;
+use exchange_graph::Topology;
+use guarantee_search::{Cause, Verdict, search};
+use guarantees::Guarantee;
+use line_words::{Answer, Unanswered, named_and_edits, sources_of, words_of};
+use model::{Mode, Text};
+
+/// The mode of this name.
+fn mode_of(out: &mut Answer, mode: &str) -> Mode {
+    match mode {
+        "reaches" => Mode::Reaches,
+        "never" => Mode::Never,
+        _ => {
+            out.fail(Unanswered::Form);
+            Mode::Never
+        }
+    }
+}
+
+/// The text of a word.
+fn text_of(out: &mut Answer, word: &str) -> Text {
+    match Text::from_slice(out.alloc(), word.as_bytes()) {
+        Ok(text) => text,
+        Err(_) => {
+            out.fail(Unanswered::Memory);
+            Text::empty()
+        }
+    }
+}
+
+/// Appends what is told of a certificate.
+fn put_checked(
+    out: &mut Answer,
+    topology: &Topology,
+    guarantee: &Guarantee,
+    certificate: &Certificate,
+) {
+    match check(out.alloc(), topology, guarantee, certificate) {
+        Ok(()) => out.put("ok"),
+        Err(fault) => put_fault(out, &fault),
+    }
+}
+
+/// Appends what is told of the one certificate among these.
+fn put_one_checked(
+    out: &mut Answer,
+    topology: &Topology,
+    guarantee: &Guarantee,
+    found: &[Certificate],
+) {
+    match found {
+        [one] => put_checked(out, topology, guarantee, one),
+        _ => out.fail(Unanswered::File),
+    }
+}
+
+/// Appends what is told of the one certificate of a file.
+fn put_check_of(out: &mut Answer, topology: &Topology, guarantee: &Guarantee, file: &str) {
+    match read_certificates(out.alloc(), file.as_bytes()) {
+        Ok(found) => put_one_checked(out, topology, guarantee, found.as_slice()),
+        Err(_) => out.fail(Unanswered::File),
+    }
+}
+
+/// Appends that a certificate was found, and whether a check accepts it.
+fn put_yes(out: &mut Answer, topology: &Topology, guarantee: &Guarantee, found: &Certificate) {
+    if check(out.alloc(), topology, guarantee, found).is_ok() {
+        out.put("yes states ");
+        out.put_number(found.states().len() as u64);
+    } else {
+        out.put("yes, which is not accepted");
+    }
+}
+
+/// Appends that a key was found, if it is seen to break the guarantee.
+fn put_no(out: &mut Answer, topology: &Topology, guarantee: &Guarantee, found: &Refutation) {
+    match disprove(out.alloc(), topology, guarantee, found) {
+        Ok(true) => {
+            out.put("no key ");
+            out.put_quoted(found.key());
+        }
+        Ok(false) => out.put("no, which is not shown"),
+        Err(_) => out.fail(Unanswered::Memory),
+    }
+}
+
+/// Appends why a search did not decide.
+fn put_cause(out: &mut Answer, cause: Cause) {
+    out.put(match cause {
+        Cause::TooManyStates => "undecided states",
+        Cause::KeyTooLong => "undecided key",
+        Cause::Unfit => "undecided unfit",
+    });
+}
+
+/// Appends what a search says.
+fn put_searched(out: &mut Answer, topology: &Topology, guarantee: &Guarantee) {
+    match search(out.alloc(), topology, guarantee) {
+        Ok(Verdict::Yes(found)) => put_yes(out, topology, guarantee, &found),
+        Ok(Verdict::No(found)) => put_no(out, topology, guarantee, &found),
+        Ok(Verdict::Undecided(cause)) => put_cause(out, cause),
+        Err(_) => out.fail(Unanswered::Memory),
+    }
+}
+
+/// Appends the file of the certificate that a search finds, or `none`.
+fn put_found(out: &mut Answer, topology: &Topology, guarantee: &Guarantee) {
+    match search(out.alloc(), topology, guarantee) {
+        Ok(Verdict::Yes(found)) => put_file_of(out, &[found]),
+        Ok(_) => out.put("none"),
+        Err(_) => out.fail(Unanswered::Memory),
+    }
+}
+
+/// Appends a name to a path.
+fn push_name(out: &mut Answer, path: &mut Vec<Text>, name: &str) {
+    let name = text_of(out, name);
+    if path.push(name).is_err() {
+        out.fail(Unanswered::Memory);
+    }
+}
+
+/// The path of these names.
+fn path_of(out: &mut Answer, names: &[&str]) -> Vec<Text> {
+    let mut path = Vec::new(out.alloc());
+    for name in names {
+        push_name(out, &mut path, name);
+    }
+    path
+}
+
+/// Appends whether a key, with a path of these names, is seen to break the guarantee.
+fn put_disproved(
+    out: &mut Answer,
+    topology: &Topology,
+    guarantee: &Guarantee,
+    key: &str,
+    names: &[&str],
+) {
+    let path = path_of(out, names);
+    let refutation = Refutation::new(text_of(out, key), path);
+    match disprove(out.alloc(), topology, guarantee, &refutation) {
+        Ok(yes) => out.put_yes_or_no(yes),
+        Err(_) => out.fail(Unanswered::Memory),
+    }
+}
+
+/// Answers what is asked about a guarantee, with the words that stand behind it, and with a file of certificates if one
+/// is named.
+fn answer_of_guarantee(
+    out: &mut Answer,
+    kind: &str,
+    topology: &Topology,
+    guarantee: &Guarantee,
+    files: &[String],
+    words: &[&str],
+) {
+    match (words, files) {
+        ([], [_]) if kind == "search" => put_searched(out, topology, guarantee),
+        ([], [_]) if kind == "certificate" => put_found(out, topology, guarantee),
+        ([], [_, file]) if kind == "check" => {
+            put_check_of(out, topology, guarantee, file.as_str());
+        }
+        ([key, names @ ..], [_]) if kind == "disprove" => {
+            put_disproved(out, topology, guarantee, key, names);
+        }
+        _ => out.fail(Unanswered::Form),
+    }
+}
+
+/// Answers a line over a topology. Its first words are a guarantee, `MODE EXCHANGE PATTERN QUEUE`.
+fn answer_over(
+    out: &mut Answer,
+    kind: &str,
+    topology: &Topology,
+    files: &[String],
+    words: &[&str],
+) {
+    let [mode, exchange, pattern, queue, rest @ ..] = words else {
+        return out.fail(Unanswered::Form);
+    };
+    let mode = mode_of(out, mode);
+    let exchange = text_of(out, exchange);
+    let pattern = text_of(out, pattern);
+    let queue = text_of(out, queue);
+    let guarantee = Guarantee::new(mode, exchange, pattern, queue);
+    answer_of_guarantee(out, kind, topology, &guarantee, files, rest);
+}
+
+/// Answers a line over files, the first of which is a definitions file.
+fn answer_of_files(out: &mut Answer, kind: &str, files: &[String], words: &[&str]) {
+    let Some(definitions) = files.first() else {
+        return out.fail(Unanswered::File);
+    };
+    match read_definitions(out.alloc(), definitions.as_bytes()) {
+        Ok(read) => answer_over(out, kind, read.topology(), files, words),
+        Err(_) => out.fail(Unanswered::File),
+    }
+}
+
+/// Answers a line about the certificates or the refutations of a guarantee, which names a definitions file, and for a check
+/// a file of certificates.
+pub fn answer(out: &mut Answer, rt: &HostRuntime, kind: &str, asked: &str) {
+    let (named, edits) = named_and_edits(asked);
+    let words = words_of(out, named);
+    let count = if kind == "check" { 2 } else { 1 };
+    if words.len() < count {
+        return out.fail(Unanswered::Form);
+    }
+    let (names, rest) = words.as_slice().split_at(count);
+    let files = sources_of(out, rt, names, edits);
+    answer_of_files(out, kind, files.as_slice(), rest);
+}

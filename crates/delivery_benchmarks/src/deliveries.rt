@@ -1,0 +1,166 @@
+//! What it costs to publish a message, to deliver it and to have it acknowledged, bytes to bytes.
+
+use crate::consumers::{Acks, put_consume, put_qos};
+use crate::loads::{Load, MESSAGES, load_at};
+use measuring::{Client, Keys, Measured, Part, SELECT, Written, built, print_parts};
+use std::alloc::Global;
+use std::io;
+
+/// How many messages are published, delivered and acknowledged at once.
+const WINDOW: u64 = 100;
+
+/// How many messages a part of a load has.
+const PART: u64 = MESSAGES / 10;
+
+/// The bytes of a body.
+const BODY: usize = 12;
+
+/// A load, as its parts are run: a connection that publishes, and one that consumes.
+#[derive(Drop)]
+struct Running {
+    alloc: Global,
+    engine: Measured,
+    publisher: u64,
+    consumer: u64,
+    client: Client,
+    acks: Acks,
+    /// How many deliveries were made.
+    delivered: u64,
+}
+
+impl Running {
+    /// Publishes so many messages.
+    fn publish(&mut self, messages: u64) {
+        let bytes = self.client.window(self.alloc, messages);
+        self.engine.perform(self.publisher, bytes);
+    }
+
+    /// Makes deliveries, at most so many, and has them acknowledged. Tells how many.
+    fn deliver(&mut self, most: u64) -> u64 {
+        let made = self.engine.deliver(most);
+        self.engine.take_output(self.consumer);
+        let bytes = self.acks.of_next(made);
+        self.engine.perform(self.consumer, bytes);
+        self.delivered = self.delivered.saturating_add(made);
+        made
+    }
+
+    /// Makes so many deliveries, as many at once as the limits allow.
+    fn deliver_all(&mut self, messages: u64) {
+        let mut left = messages;
+        for _ in 0..messages {
+            if left == 0 {
+                break;
+            }
+            left = left.saturating_sub(self.deliver(left));
+        }
+    }
+
+    fn is_whole(&self) -> bool {
+        self.engine.is_whole() && self.client.is_whole() && self.acks.is_whole()
+    }
+}
+
+impl Part for Running {
+    fn prepare(&mut self, _: u64) {}
+
+    fn run(&mut self, _: u64) {
+        for _ in 0..PART / WINDOW {
+            self.publish(WINDOW);
+            self.deliver_all(WINDOW);
+        }
+    }
+}
+
+/// The name of the queue of this number that has a consumer.
+fn put_name(name: &mut Written, load: &Load, number: u32) {
+    name.put_text("q");
+    if load.queues != 1 {
+        name.put_number(u64::from(number));
+    }
+}
+
+/// Appends the consume of the queue of this number.
+fn put_consumer(alloc: Global, out: &mut Written, load: &Load, number: u32) {
+    let mut name = Written::new(alloc);
+    put_name(&mut name, load, number);
+    put_consume(out, name.as_slice());
+}
+
+/// What the consuming client writes first.
+fn consumes(alloc: Global, load: &Load) -> Written {
+    let mut bytes = Written::new(alloc);
+    put_qos(&mut bytes, load.prefetch);
+    for _ in 0..load.idle {
+        put_consume(&mut bytes, b"p1");
+    }
+    for number in 0..load.queues {
+        put_consumer(alloc, &mut bytes, load, number);
+    }
+    bytes
+}
+
+/// Publishes so many messages of 12 bytes to `q`, a hundred at a time, or all of them where they are fewer.
+pub fn fill(engine: &mut Measured, alloc: Global, publisher: u64, messages: u64) {
+    let mut client = Client::new(alloc, BODY, Keys::One);
+    let window = messages.min(WINDOW);
+    for _ in 0..messages / window.max(1) {
+        let bytes = client.window(alloc, window);
+        engine.perform(publisher, bytes);
+    }
+}
+
+/// Fills the load's queue, and has its consumers made.
+fn start(alloc: Global, mut engine: Measured, load: &Load) -> Running {
+    let publisher = engine.open_ready();
+    engine.perform(publisher, SELECT.as_slice());
+    let consumer = engine.open_ready();
+    let mut running = Running {
+        alloc,
+        engine,
+        publisher,
+        consumer,
+        client: Client::new(alloc, BODY, load.keys()),
+        acks: Acks::new(alloc),
+        delivered: 0,
+    };
+    fill(&mut running.engine, alloc, publisher, load.waiting);
+    let bytes = consumes(alloc, load);
+    running.engine.perform(consumer, bytes.as_slice());
+    running
+}
+
+/// Runs a load, and prints what a message took in each part.
+fn measure_over(rt: &HostRuntime, engine: Measured, load: &Load) -> io::Result<()> {
+    let mut running = start(rt.alloc(), engine, load);
+    print!(rt; "{}:", load.name)?;
+    print_parts(rt, &mut running, PART)?;
+    println!(rt; " ns a message; {} delivered", running.delivered)?;
+    if running.is_whole() {
+        return Ok(());
+    }
+    println!(rt; "{}: memory was refused", load.name)
+}
+
+/// An engine over the load's topology, none where it is refused or memory is.
+fn engine_of(alloc: Global, load: &Load) -> Option<Measured> {
+    Measured::over(alloc, built(alloc, load.shape())?, Vec::new(alloc))
+}
+
+fn measure(rt: &HostRuntime, load: &Load) -> io::Result<()> {
+    match engine_of(rt.alloc(), load) {
+        Some(engine) => measure_over(rt, engine, load),
+        None => println!(rt; "{}: there is no engine", load.name),
+    }
+}
+
+/// Runs all loads.
+pub fn measure_all(rt: &HostRuntime) -> io::Result<()> {
+    for place in 0..u32::MAX {
+        match load_at(place) {
+            Some(load) => measure(rt, &load)?,
+            None => break,
+        }
+    }
+    Ok(())
+}

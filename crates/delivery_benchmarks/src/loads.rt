@@ -1,0 +1,76 @@
+//! The loads of deliveries.
+
+use measuring::{Keys, Shape};
+
+/// One load: messages of 12 bytes that are published, delivered to consumers and acknowledged, 100 at a time.
+#[derive(Clone, Copy, Drop)]
+pub struct Load {
+    pub name: &'static str,
+    /// How many queues have a consumer.
+    pub queues: u32,
+    /// How many consumers stand beside, on a queue without messages.
+    pub idle: u32,
+    /// How many deliveries a consumer may have outstanding, any number where it is 0.
+    pub prefetch: u16,
+    /// How many messages wait all the time.
+    pub waiting: u64,
+}
+
+/// How many messages a load publishes, delivers and acknowledges.
+pub const MESSAGES: u64 = 100_000;
+
+impl Load {
+    /// The topology of the load.
+    pub fn shape(&self) -> Shape {
+        if self.queues == 1 {
+            return Shape::Queues(2);
+        }
+        Shape::Keyed(self.queues)
+    }
+
+    /// The keys of its messages.
+    pub fn keys(&self) -> Keys {
+        if self.queues == 1 {
+            return Keys::One;
+        }
+        Keys::Turns(self.queues)
+    }
+}
+
+/// A load with one queue and one consumer.
+fn one(name: &'static str, prefetch: u16, waiting: u64) -> Load {
+    Load {
+        name,
+        queues: 1,
+        idle: 0,
+        prefetch,
+        waiting,
+    }
+}
+
+/// The load at this place, none past the last.
+pub fn load_at(place: u32) -> Option<Load> {
+    let load = match place {
+        0 => one("one consumer, prefetch 0", 0, 0),
+        1 => one("one consumer, prefetch 1", 1, 0),
+        2 => one("one consumer, prefetch 100", 100, 0),
+        3 => one("10 waiting", 0, 10),
+        4 => one("100,000 waiting", 0, 100_000),
+        5 => one("1,000,000 waiting", 0, 1_000_000),
+        6 => one("1,000,000 waiting, prefetch 1", 1, 1_000_000),
+        7 => Load {
+            queues: 256,
+            ..one("256 queues, each with a consumer", 0, 0)
+        },
+        8 => Load {
+            idle: 1,
+            ..one("1 idle consumer beside", 0, 0)
+        },
+        9 => Load {
+            idle: 255,
+            ..one("255 idle consumers beside", 0, 0)
+        },
+        _ => return None,
+    };
+    Some(load)
+}

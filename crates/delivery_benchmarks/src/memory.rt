@@ -1,0 +1,71 @@
+//! How much resident memory a waiting message takes.
+
+use measuring::{Client, Keys, Measured, SELECT, Shape, built, resident_bytes};
+use std::alloc::Global;
+use std::io;
+
+/// How many messages are published at once.
+const WINDOW: u64 = 100;
+
+/// So many messages that wait in one queue.
+#[derive(Drop)]
+struct Waiting {
+    name: &'static str,
+    body: usize,
+    messages: u64,
+    keys: Keys,
+}
+
+/// An engine over a topic exchange that leads each key to one queue.
+fn engine(alloc: Global) -> Option<Measured> {
+    Measured::over(alloc, built(alloc, Shape::Topic(1))?, Vec::new(alloc))
+}
+
+/// Publishes the messages, and prints how much each of them takes.
+fn fill(rt: &HostRuntime, engine: &mut Measured, load: &Waiting) -> io::Result<()> {
+    let publisher = engine.open_ready();
+    engine.perform(publisher, SELECT.as_slice());
+    let mut client = Client::new(rt.alloc(), load.body, load.keys);
+    let before = resident_bytes(rt)?;
+    for _ in 0..load.messages / WINDOW {
+        let bytes = client.window(rt.alloc(), WINDOW);
+        engine.perform(publisher, bytes);
+    }
+    let grown = resident_bytes(rt)?.saturating_sub(before) / load.messages.max(1);
+    println!(rt; "{}: {grown} bytes a waiting message", load.name)
+}
+
+/// Measures one after another, each beside what waits already, so that none takes memory that another has given back.
+pub fn measure_all(rt: &HostRuntime) -> io::Result<()> {
+    let loads = [
+        Waiting {
+            name: "12 bytes, one key",
+            body: 12,
+            messages: 1_000_000,
+            keys: Keys::One,
+        },
+        Waiting {
+            name: "12 bytes, each under a key of its own",
+            body: 12,
+            messages: 250_000,
+            keys: Keys::Fresh,
+        },
+        Waiting {
+            name: "1,024 bytes, one key",
+            body: 1_024,
+            messages: 125_000,
+            keys: Keys::One,
+        },
+    ];
+    let mut engines = Vec::new(rt.alloc());
+    for load in &loads {
+        let Some(mut engine) = engine(rt.alloc()) else {
+            return println!(rt; "there is no engine");
+        };
+        fill(rt, &mut engine, load)?;
+        if engines.push(engine).is_err() {
+            return println!(rt; "memory was refused");
+        }
+    }
+    Ok(())
+}

@@ -1,0 +1,102 @@
+-- Deaths, planned and counted one after another.
+use Rattle.std.proofs.Common.{◌≡◌, ℕ, zero, suc, ◌+◌, ◌<◌, ◌≤◌, List, [], ◌∷◌, ◌++◌, length, get_or, refl, sym, ap, subst, ◌∙◌, arith, All, AllPairs, Option, Some, None, append_assoc, inl, inr, ◌⊎◌}
+use Rattle.std.proofs.lemmas.List.{append-nil}
+use Rattle.model.specs.Topology.{Topology, queue_names}
+use Rattle.model.specs.Routing.{key_after}
+use Rattle.model.specs.Deaths.{dead_letter}
+use Rattle.model.specs.Message.{Message}
+use Rattle.model.specs.Words.{Text}
+use Rattle.model.specs.declared.messages.Entry.{Entry}
+use Rattle.model.specs.declared.topologies.DeclaredQueue.{DeclaredQueue}
+use Rattle.queue.specs.Line.{Line}
+use Rattle.depot.specs.declared.given.Given.{Given}
+use Rattle.depot.specs.declared.plans.Death.{Death}
+use Rattle.depot.specs.declared.turns.Turn.{Turn}
+use Rattle.depot.specs.Turns.{places, room_at, times, HasRoom}
+use Rattle.depot.specs.Rejecting.{AreWithin}
+use Rattle.depot.specs.Dying.{MayHaveLetters, LettersAt, IsDeathOf, Plans, given_at, ArePlanned, IsSound, times_in}
+use Rattle.depot.proofs.Turning.{times_rising, times_or}
+use Rattle.depot.proofs.Naming.{turned_within, turned_rising}
+
+-- ---- one more is planned
+
+pub planned_more : (t : Topology) (c h : ℕ) (entries : List (List Entry)) (gs : List Given) (g : Given) (ds first all : List Death) → ArePlanned t c h entries gs ds → Plans t c h g (given_at c h entries g) first
+    → all ≡ ds ++ first → ArePlanned t c h entries (gs ++ g ∷ []) all
+planned_more t c h entries [] g ds first all are one e = (first, [], one, e ∙ ap (λ (xs : List Death). xs ++ first) are ∙ sym (append-nil first), refl)
+planned_more t c h entries (x ∷ xs) g ds first all are one e =
+    (are.0, are.1 ++ first, are.2, e ∙ ap (λ (ys : List Death). ys ++ first) are.3 ∙ append_assoc are.0 are.1 first, planned_more t c h entries xs g are.1 first (are.1 ++ first) are.4 one refl)
+
+-- ---- what was planned can be done
+
+all_behind : (P : Death → Type 0) (d : Death) (ds : List Death) → P d → All P ds → All P (d ∷ ds)
+all_behind P d ds first others zero e lt = first
+all_behind P d ds first others (suc i) e lt = others i e (omega arith)
+
+sound_letters : (t : Topology) (q : DeclaredQueue) (m : Message) (d : Death) (n : ℕ) (x : Option Text) → d.place < n → n ≡ length t.queues → MayHaveLetters t q m d.turns.items x → IsSound n d
+sound_letters t q m d n None lt same none = record {
+  place = lt;
+  within = subst (λ (ts : List Turn). All (λ (i : ℕ). i < n) (places ts)) (sym none) (λ i e l. absurd (omega arith));
+  rising = subst (λ (ts : List Turn). AllPairs (λ (i j : ℕ). i < j) (places ts)) (sym none) (λ i j e l k. absurd (omega arith));
+}
+sound_letters t q m d n (Some x) lt same made =
+    let letter = dead_letter m x (key_after q.dead_letter_key m.key) made.content in
+    record {
+      place = lt;
+      within = turned_within t letter made.plan.targets d.turns.items d.turns.items n made.plan.turned made.plan.routed.within refl same;
+      rising = turned_rising t letter made.plan.targets d.turns.items d.turns.items made.plan.turned made.plan.routed.rising refl;
+    }
+
+-- the queue at a place
+pub queue_there : (qs : List DeclaredQueue) (i : ℕ) → i < length qs → (q : DeclaredQueue) × (q ≡ get_or qs i q)
+queue_there [] i lt = absurd (omega arith)
+queue_there (q ∷ qs) zero lt = (q, refl)
+queue_there (q ∷ qs) (suc i) lt = queue_there qs i (omega arith)
+
+pub sound_death : (t : Topology) (c h : ℕ) (g : Given) (e : Entry) (d : Death) (n : ℕ) → n ≡ length t.queues → g.place < n → IsDeathOf t c h g e d → IsSound n d
+sound_death t c h g e d n same lt is =
+    let q = queue_there t.queues g.place (omega (arith, same, lt)) in
+    let at = is.place in
+    sound_letters t q.0 e.message d n q.0.dead_letter_exchange (omega (arith, at, lt)) same (is.letters q.0 q.1)
+
+sound_first : (t : Topology) (c h : ℕ) (g : Given) (o : Option Entry) (first rest all : List Death) (n : ℕ) → n ≡ length t.queues → g.place < n → Plans t c h g o first → all ≡ first ++ rest → All (IsSound n) rest → All (IsSound n) all
+sound_first t c h g None first rest all n same lt none e others = subst (All (IsSound n)) (sym (e ∙ ap (λ (xs : List Death). xs ++ rest) none)) others
+sound_first t c h g (Some x) first rest all n same lt one e others =
+    let d = one.0 in
+    subst (All (IsSound n)) (sym (e ∙ ap (λ (xs : List Death). xs ++ rest) one.1)) (all_behind (IsSound n) d rest (sound_death t c h g x d n same lt one.2) others)
+
+pub sound_all : (t : Topology) (c h : ℕ) (entries : List (List Entry)) (gs : List Given) (ds : List Death) (n : ℕ) → n ≡ length t.queues → AreWithin t gs → ArePlanned t c h entries gs ds → All (IsSound n) ds
+sound_all t c h entries [] ds n same within are = subst (All (IsSound n)) (sym are) (λ i d lt. absurd (omega arith))
+sound_all t c h entries (g ∷ gs) ds n same within are =
+    let lt : g.place < length t.queues = within 0 g (omega arith) in
+    sound_first t c h g (given_at c h entries g) are.0 are.1 ds n same (omega (arith, lt, same)) are.2 are.3
+    (sound_all t c h entries gs are.1 n same (λ i d l. within (suc i) d (omega (arith, l))) are.4)
+
+-- ---- room
+
+rooms_or : (lines : List Line) (n m : ℕ) (ds : List Death) (k : ℕ) → ((j : ℕ) (d : Death) → j < length ds → HasRoom lines (places (get_or ds j d).turns.items) n) → All (IsSound m) ds
+    → (times_in k ds ≤ length ds) × ((times_in k ds ≡ 0) ⊎ (n ≤ room_at lines k))
+rooms_or lines n m [] k room sound = (omega arith, inl refl)
+rooms_or lines n m (d ∷ ds) k room sound =
+    let rest = rooms_or lines n m ds k (λ j e lt. room (suc j) e (omega (arith, lt))) (λ j e lt. sound (suc j) e (omega (arith, lt))) in
+    let here : IsSound m d = sound 0 d (omega arith) in
+    let once = times_rising k (places d.turns.items) here.rising in
+    let few = rest.0 in (
+      omega (arith, once, few),
+      elim (times_or k (places d.turns.items)) [
+        | inl none ↦ (elim rest.1 [ inl others ↦ inl (omega (arith, none, others)) | inr enough ↦ inr enough ])
+        | inr there ↦ inr (let made : HasRoom lines (places d.turns.items) n = room 0 d (omega arith) in let enough = made there.0 there.1 in let at = ap (λ (p : ℕ). room_at lines p) there.2 in omega (arith, enough, at))
+      ],
+    )
+
+pub rooms : (lines : List Line) (m : ℕ) (ds : List Death) → ((j : ℕ) (d : Death) → j < length ds → HasRoom lines (places (get_or ds j d).turns.items) (length ds)) → All (IsSound m) ds → (k : ℕ) → times_in k ds ≤ room_at lines k
+rooms lines m ds room sound k =
+    let both = rooms_or lines (length ds) m ds k room sound in
+    let most = both.0 in
+    elim both.1 [ inl none ↦ omega (arith, none) | inr enough ↦ omega (arith, most, enough) ]
+
+-- ---- names
+
+pub name_there : (qs : List DeclaredQueue) (i : ℕ) (q : DeclaredQueue) → i < length qs → q ≡ get_or qs i q → q.name ≡ get_or (queue_names qs) i []
+name_there [] i q lt is = absurd (omega arith)
+name_there (x ∷ xs) zero q lt is = ap (λ (y : DeclaredQueue). y.name) is
+name_there (x ∷ xs) (suc i) q lt is = name_there xs i q (omega arith) is

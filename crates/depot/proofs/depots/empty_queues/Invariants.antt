@@ -1,7 +1,0 @@
-use Rattle.std.proofs.Common.{◌≡◌, [], replicate}
-use Rattle.depot.specs.Store.{entries_of}
-use Rattle.depot.proofs.depots.empty_queues.Given as goal
-
--- so many stand there
-abbrev pub invariant-loop : goal.invariant-loop
-invariant-loop l = entries_of l.queues.items ≡ replicate l.counter []

@@ -1,0 +1,114 @@
+-- Deaths queue by queue, by their places in the file.
+use Rattle.std.specs.Prelude.{◌≡◌, ◌<◌, ◌≤◌, ◌+◌, ℕ, List, [], ◌∷◌, ◌++◌, length, filter, find, not, All, AllPairs, Option, Some, None, slice_index_or, slice_set}
+use Rattle.model.specs.Words.{Text}
+use Rattle.model.specs.Topology.{Topology}
+use Rattle.model.specs.Routing.{key_after}
+use Rattle.model.specs.Message.{Message}
+use Rattle.model.specs.Entries.{is_held_as}
+use Rattle.model.specs.Deaths.{dead_letter}
+use Rattle.model.specs.declared.contents.Content.{Content}
+use Rattle.model.specs.declared.messages.Entry.{Entry}
+use Rattle.model.specs.declared.topologies.DeclaredQueue.{DeclaredQueue}
+use Rattle.model.specs.declared.notes.Cause.TheVariants.{Rejected}
+use Rattle.model.specs.declared.notes.Note.{Note}
+use Rattle.model.specs.declared.notes.Note.TheVariants.{Left}
+use Rattle.model.specs.declared.notes.Way.TheVariants as way
+use Rattle.exchange_graph.specs.Marks.{queue_name}
+use Rattle.deaths.specs.Marked.{IsMarked}
+use Rattle.depot.specs.declared.given.Given.{Given}
+use Rattle.depot.specs.declared.plans.Death.{Death}
+use Rattle.depot.specs.declared.turns.Turn.{Turn}
+use Rattle.depot.specs.Rejecting.{holder_of}
+use Rattle.depot.specs.Turns.{Outcome, outcomes, entered, notes_of, places, times, IsPlan}
+
+-- ---- what is planned
+
+-- The turns of the dead letter of a message that dies in this queue, which goes to this exchange.
+pub record AreLetters (t : Topology) (q : DeclaredQueue) (m : Message) (turns : List Turn) (exchange : Text) : Type 0 where
+  pub content : Content
+  pub marked : IsMarked q.name m.exchange m.content content
+  pub plan : IsPlan t exchange (key_after q.dead_letter_key m.key) (dead_letter m exchange (key_after q.dead_letter_key m.key) content) turns
+
+-- a queue that has no dead-letter exchange makes none
+abbrev pub MayHaveLetters : Topology → DeclaredQueue → Message → List Turn → Option Text → Type 0
+MayHaveLetters t q m turns None = turns ≡ []
+MayHaveLetters t q m turns (Some exchange) = AreLetters t q m turns exchange
+
+-- the turns of the dead letter of a message that dies in the queue at this place, if it makes one
+abbrev pub LettersAt : Topology → ℕ → Message → List Turn → Type 0
+LettersAt t place m turns = (q : DeclaredQueue) → q ≡ slice_index_or t.queues place q → MayHaveLetters t q m turns q.dead_letter_exchange
+
+-- The death of a message that was given out.
+pub record IsDeathOf (t : Topology) (c h : ℕ) (g : Given) (e : Entry) (d : Death) : Type 0 where
+  pub place : d.place ≡ g.place
+  pub holder : d.holder ≡ holder_of c h g
+  pub note : d.note ≡ Left e.message.number (queue_name t g.place) Rejected
+  pub letters : LettersAt t g.place e.message d.turns.items
+
+-- what is not there has none
+abbrev pub Plans : Topology → ℕ → ℕ → Given → Option Entry → List Death → Type 0
+Plans t c h g None deaths = deaths ≡ []
+Plans t c h g (Some e) deaths = (d : Death) × (deaths ≡ d ∷ []) × IsDeathOf t c h g e d
+
+-- the message that was given out so, where it stands in these queues
+abbrev pub given_at : ℕ → ℕ → List (List Entry) → Given → Option Entry
+given_at c h entries g = find (is_held_as (holder_of c h g)) (slice_index_or entries g.place [])
+
+-- the deaths of all that is there of these
+abbrev pub ArePlanned : Topology → ℕ → ℕ → List (List Entry) → List Given → List Death → Type 0
+ArePlanned t c h entries [] deaths = deaths ≡ []
+ArePlanned t c h entries (g ∷ gs) deaths =
+    (first : List Death) × (rest : List Death) × Plans t c h g (given_at c h entries g) first × (deaths ≡ first ++ rest) × ArePlanned t c h entries gs rest
+
+-- ---- what is done
+
+-- the queues without the message that dies
+abbrev pub without : Death → List (List Entry) → List (List Entry)
+without d entries = slice_set entries d.place (filter (λ (e : Entry). not (is_held_as d.holder e)) (slice_index_or entries d.place []))
+
+-- what becomes of its dead letter at each queue
+abbrev pub outcomes_of : List DeclaredQueue → Death → List (List Entry) → List Outcome
+outcomes_of queues d entries = outcomes way.Dead queues d.turns.items (without d entries)
+
+-- the queues after a death
+abbrev pub died : List DeclaredQueue → Death → List (List Entry) → List (List Entry)
+died queues d entries = entered (outcomes_of queues d entries) (without d entries)
+
+-- what is noted of it
+abbrev pub death_notes : List DeclaredQueue → Death → List (List Entry) → List Note
+death_notes queues d entries = d.note ∷ notes_of (outcomes_of queues d entries)
+
+-- the queues after these deaths, one after another
+abbrev pub died_all : List DeclaredQueue → List Death → List (List Entry) → List (List Entry)
+died_all queues [] entries = entries
+died_all queues (d ∷ ds) entries = died_all queues ds (died queues d entries)
+
+-- what is noted of all of them
+abbrev pub all_notes : List DeclaredQueue → List Death → List (List Entry) → List Note
+all_notes queues [] entries = []
+all_notes queues (d ∷ ds) entries = death_notes queues d entries ++ all_notes queues ds (died queues d entries)
+
+-- All that is there of these has died.
+pub record Rejects (t : Topology) (c h : ℕ) (gone : List Given) (old new : List (List Entry)) (before after : List Note) : Type 0 where
+  pub deaths : List Death
+  pub planned : ArePlanned t c h old gone deaths
+  pub entries : new ≡ died_all t.queues deaths old
+  pub notes : after ≡ before ++ all_notes t.queues deaths old
+
+-- ---- room
+
+-- a death whose queues are there, among so many, and whose dead letter comes to each at most once
+pub record IsSound (count : ℕ) (d : Death) : Type 0 where
+  pub place : d.place < count
+  pub within : All (λ (i : ℕ). i < count) (places d.turns.items)
+  pub rising : AllPairs (λ (i j : ℕ). i < j) (places d.turns.items)
+
+-- how many notes are made
+abbrev pub notes_in : List Death → ℕ
+notes_in [] = 0
+notes_in (d ∷ ds) = 1 + length d.turns.items + notes_in ds
+
+-- how often a dead letter may come to the queue at this place
+abbrev pub times_in : ℕ → List Death → ℕ
+times_in place [] = 0
+times_in place (d ∷ ds) = times place (places d.turns.items) + times_in place ds

@@ -1,0 +1,172 @@
+//! How a message comes to its queues: its turns are planned, room is made for them, and then they are taken, which cannot
+//! fail.
+
+ghost use Rattle.std.specs.Prelude.{
+  ◌≡◌,
+  ◌==◌,
+  ◌+◌,
+  ◌<◌,
+  ◌≤◌,
+  ℕ,
+  ◌∷◌,
+  ◌++◌,
+  [],
+  length,
+  map,
+  cond,
+  All,
+  IfOk,
+  OnOk,
+  vec_len,
+  vec_capacity,
+};
+ghost use Rattle.std.specs.List.{list_any};
+ghost use Rattle.depot.specs.Store.{entries_of};
+ghost use Rattle.depot.specs.Turns.{
+  turn_at,
+  places,
+  outcome,
+  outcomes,
+  notes_of,
+  is_full_at,
+  is_refusal,
+  entered_one,
+  entered,
+  room_at,
+  times,
+  HasRoom,
+  IsRoomy,
+};
+
+use crate::queues::Queues;
+use crate::turns::Turn;
+use model::{DeclaredQueue, Message, Note, Way};
+use queue::Indexed;
+use std::alloc::{AllocError, Global};
+
+/// The turns of a message at the queues at these places.
+pub(crate) fn turns(
+    alloc: Global,
+    declared: &[DeclaredQueue],
+    targets: &[usize],
+    message: &Message,
+) -> Result<Vec<Turn>, AllocError>
+    requires { All (λ i. i < length declared.now) targets.now }
+    ensures { IfOk result (λ turns. turns.items ≡ map (turn_at declared.now message.now) targets.now) }
+{
+    let mut turns = Vec::new(alloc);
+    turns.reserve_exact(targets.len())?;
+    for target in targets {
+        turns.push_reserved(turn(declared, *target, message)?);
+    }
+    Ok(turns)
+}
+
+/// The turn of a message at the queue at this place.
+fn turn(declared: &[DeclaredQueue], place: usize, message: &Message) -> Result<Turn, AllocError>
+    requires { place < length declared.now }
+    ensures { IfOk result (λ t. t ≡ turn_at declared.now message.now place) }
+{
+    Ok(Turn {
+        place,
+        name: declared[place].name.clone()?,
+        message: message.clone()?,
+    })
+}
+
+/// Makes room for so many messages in each of these queues.
+pub(crate) fn make_room(queues: &mut Queues, turns: &[Turn], more: usize) -> Result<(), AllocError>
+    requires { All (λ i. i < length queues.old) (places turns.now) }
+    ensures same { entries_of queues.new ≡ entries_of queues.old }
+    ensures len { length queues.new ≡ length queues.old }
+    ensures kept { (place : ℕ) → room_at queues.old place ≤ room_at queues.new place }
+    ensures room { OnOk result (HasRoom queues.new (places turns.now) more) }
+{
+    for turn in turns {
+        queues.reserve(turn.place, more)?;
+    }
+    Ok(())
+}
+
+/// Whether the queue at this place is full.
+fn is_full(declared: &[DeclaredQueue], queues: &[Indexed], place: usize, size: usize) -> bool
+    requires within { place < length declared.now }
+    requires len { length queues.now ≡ length declared.now }
+    ensures { result ≡ is_full_at declared.now (entries_of queues.now) place }
+{
+    queues[place].is_full(declared[place].limit, size)
+}
+
+/// The message comes to one queue, or is refused there where that is full now. Tells whether it is refused.
+fn enter(
+    declared: &[DeclaredQueue],
+    queues: &mut Queues,
+    turn: Turn,
+    way: Way,
+    notes: &mut Vec<Note>,
+) -> bool
+    requires len { length queues.old ≡ length declared.now }
+    requires within { turn.place < length queues.old }
+    requires room { 0 < room_at queues.old turn.place }
+    requires notes { vec_len notes.old < vec_capacity notes.old }
+    ensures refused { result ≡ is_refusal (outcome way declared.now (entries_of queues.old) turn) }
+    ensures entries { entries_of queues.new ≡ entered_one (outcome way declared.now (entries_of queues.old) turn) (entries_of queues.old) }
+    ensures spent { (place : ℕ) → room_at queues.old place ≤ room_at queues.new place + cond (place == turn.place) 1 0 }
+    ensures len { length queues.new ≡ length queues.old }
+    ensures notes { notes.new.items ≡ notes.old.items ++ (outcome way declared.now (entries_of queues.old) turn).note ∷ [] }
+    ensures notes_len { vec_len notes.new ≡ vec_len notes.old + 1 }
+    ensures notes_capacity { vec_capacity notes.new ≡ vec_capacity notes.old }
+{
+    let Turn {
+        place,
+        name,
+        message,
+    } = turn;
+    let number = message.number();
+    if is_full(
+        declared,
+        queues.as_slice(),
+        place,
+        message.content().body.len(),
+    ) {
+        notes.push_reserved(Note::Refused {
+            number,
+            queue: name,
+        });
+        return true;
+    }
+    queues.push(place, message);
+    notes.push_reserved(Note::Entered {
+        number,
+        queue: name,
+        way,
+    });
+    false
+}
+
+/// The message comes to each queue or is refused there, one after another. Tells whether some queue refuses it.
+pub(crate) fn enter_all(
+    declared: &[DeclaredQueue],
+    queues: &mut Queues,
+    turns: Vec<Turn>,
+    way: Way,
+    notes: &mut Vec<Note>,
+) -> bool
+    requires len { length queues.old ≡ length declared.now }
+    requires within { All (λ i. i < length queues.old) (places turns.items) }
+    requires room { IsRoomy queues.old (places turns.items) }
+    requires notes { vec_len notes.old + vec_len turns ≤ vec_capacity notes.old }
+    ensures refused { result ≡ list_any is_refusal (outcomes way declared.now turns.items (entries_of queues.old)) }
+    ensures entries { entries_of queues.new ≡ entered (outcomes way declared.now turns.items (entries_of queues.old)) (entries_of queues.old) }
+    ensures spent { (place : ℕ) → room_at queues.old place ≤ room_at queues.new place + times place (places turns.items) }
+    ensures len { length queues.new ≡ length queues.old }
+    ensures notes { notes.new.items ≡ notes.old.items ++ notes_of (outcomes way declared.now turns.items (entries_of queues.old)) }
+    ensures notes_len { vec_len notes.new ≡ vec_len notes.old + vec_len turns }
+    ensures notes_capacity { vec_capacity notes.new ≡ vec_capacity notes.old }
+{
+    let mut is_some_refused = false;
+    for turn in turns {
+        is_some_refused |= enter(declared, queues, turn, way, notes);
+    }
+    is_some_refused
+}

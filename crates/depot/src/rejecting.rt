@@ -1,0 +1,221 @@
+//! A rejection: each death is planned with its dead letter, then room is made, and then all is done, which cannot fail.
+
+ghost use Rattle.std.specs.Prelude.{◌≡◌, ◌+◌, ◌<◌, ◌≤◌, ℕ, ◌++◌, List, length, All, IfOk, OnOk, OnErr, vec_len, vec_capacity};
+ghost use Rattle.model.specs.Routing.{key_after};
+ghost use Rattle.depot.specs.declared.plans.Death.{Death as Planned};
+ghost use Rattle.depot.specs.Store.{entries_of};
+ghost use Rattle.depot.specs.Turns.{places, room_at, times, IsRoomy};
+ghost use Rattle.depot.specs.Rejecting.{holder_of, AreWithin};
+ghost use Rattle.depot.specs.Dying.{LettersAt, Plans, given_at, ArePlanned, died, death_notes, died_all, all_notes, IsSound, notes_in, times_in, Rejects};
+
+use crate::entering::{enter_all, make_room, turns};
+use crate::given::Given;
+use crate::plans::Death;
+use crate::queues::Queues;
+use crate::turns::Turn;
+use deaths::marked;
+use kept_routes::Router;
+use model::{Cause, DeclaredQueue, Holder, Message, Note, Text, Way};
+use queue::Indexed;
+use std::alloc::{AllocError, Global};
+
+/// The key under which a message of this key dies, where its queue may fix one.
+fn key_of(fixed: &Option<Text>, key: &Text) -> Result<Text, AllocError>
+    ensures { IfOk result (λ k. k ≡ key_after fixed.now key.now) }
+{
+    match fixed {
+        Some(fixed) => fixed.clone(),
+        None => key.clone(),
+    }
+}
+
+/// The turns of the dead letter of a message that dies in the queue at this place: none where the queue has no dead-letter
+/// exchange.
+fn letters(
+    alloc: Global,
+    router: &mut Router,
+    place: usize,
+    message: &Message,
+) -> Result<Vec<Turn>, AllocError>
+    requires { place < length router.old.queues }
+    ensures letters { IfOk result (λ turns. LettersAt router.old place message.now turns.items) }
+    ensures same { router.new ≡ router.old }
+{
+    let declared = router.topology().queue(place);
+    let Some(exchange) = &declared.dead_letter_exchange else {
+        return Ok(Vec::new(alloc));
+    };
+    let exchange = exchange.clone()?;
+    let key = key_of(&declared.dead_letter_key, message.key())?;
+    let content = marked(alloc, &declared.name, message.exchange(), message.content())?;
+    let letter = message.dead_letter(alloc, &exchange, &key, &content)?;
+    let route = router.route(alloc, &exchange, &key)?;
+    turns(alloc, router.topology().queues(), &route.targets, &letter)
+}
+
+/// Puts the death of this message behind the others, if it is there.
+fn plan_one(
+    alloc: Global,
+    router: &mut Router,
+    queues: &[Indexed],
+    connection: u64,
+    channel: u16,
+    given: &Given,
+    deaths: &mut Vec<Death>,
+) -> Result<(), AllocError>
+    requires len { length queues.now ≡ length router.old.queues }
+    requires within { given.now.place < length router.old.queues }
+    ensures planned { OnOk result ((planned : List Planned) × (deaths.new.items ≡ deaths.old.items ++ planned) × Plans router.old connection channel given.now (given_at connection channel (entries_of queues.now) given.now) planned) }
+    ensures same { router.new ≡ router.old }
+{
+    let place = given.place;
+    let holder = Holder {
+        connection,
+        channel,
+        tag: given.tag,
+        by: given.by,
+    };
+    let Some(entry) = queues[place].held(&holder, given.arrival) else {
+        return Ok(());
+    };
+    let note = Note::Left {
+        number: entry.message.number(),
+        queue: router.topology().queue(place).name.clone()?,
+        cause: Cause::Rejected,
+    };
+    let turns = letters(alloc, router, place, &entry.message)?;
+    deaths.push(Death {
+        place,
+        holder,
+        arrival: given.arrival,
+        note,
+        turns,
+    })?;
+    Ok(())
+}
+
+/// The deaths of all of these messages that are there.
+fn plan(
+    alloc: Global,
+    router: &mut Router,
+    queues: &[Indexed],
+    connection: u64,
+    channel: u16,
+    gone: &[Given],
+) -> Result<Vec<Death>, AllocError>
+    requires len { length queues.now ≡ length router.old.queues }
+    requires within { AreWithin router.old gone.now }
+    ensures planned { IfOk result (λ deaths. ArePlanned router.old connection channel (entries_of queues.now) gone.now deaths.items) }
+    ensures same { router.new ≡ router.old }
+{
+    let mut deaths = Vec::new(alloc);
+    for given in gone {
+        plan_one(
+            alloc,
+            router,
+            queues,
+            connection,
+            channel,
+            given,
+            &mut deaths,
+        )?;
+    }
+    Ok(deaths)
+}
+
+/// Makes room for every dead letter in each queue to which it may come.
+fn make_rooms(queues: &mut Queues, deaths: &[Death]) -> Result<(), AllocError>
+    requires { All (IsSound (length queues.old)) deaths.now }
+    ensures same { entries_of queues.new ≡ entries_of queues.old }
+    ensures len { length queues.new ≡ length queues.old }
+    ensures room { OnOk result ((place : ℕ) → times_in place deaths.now ≤ room_at queues.new place) }
+{
+    for death in deaths {
+        make_room(queues, &death.turns, deaths.len())?;
+    }
+    Ok(())
+}
+
+/// How many notes these deaths make.
+fn count_notes(deaths: &[Death]) -> Result<usize, AllocError>
+    ensures { IfOk result (λ count. count ≡ notes_in deaths.now) }
+{
+    let mut count: usize = 0;
+    for death in deaths {
+        count = match count.checked_add(1 + death.turns.len()) {
+            Some(more) => more,
+            None => return Err(AllocError),
+        };
+    }
+    Ok(count)
+}
+
+/// The message leaves its queue, and then its dead letter comes to each of its queues or is refused there.
+fn die(declared: &[DeclaredQueue], queues: &mut Queues, death: Death, notes: &mut Vec<Note>)
+    requires len { length queues.old ≡ length declared.now }
+    requires sound { IsSound (length queues.old) death }
+    requires room { IsRoomy queues.old (places death.turns.items) }
+    requires notes { vec_len notes.old + 1 + vec_len death.turns ≤ vec_capacity notes.old }
+    ensures entries { entries_of queues.new ≡ died declared.now death (entries_of queues.old) }
+    ensures spent { (place : ℕ) → room_at queues.old place ≤ room_at queues.new place + times place (places death.turns.items) }
+    ensures len { length queues.new ≡ length queues.old }
+    ensures notes { notes.new.items ≡ notes.old.items ++ death_notes declared.now death (entries_of queues.old) }
+    ensures notes_len { vec_len notes.new ≡ vec_len notes.old + 1 + vec_len death.turns }
+    ensures notes_capacity { vec_capacity notes.new ≡ vec_capacity notes.old }
+{
+    let Death {
+        place,
+        holder,
+        arrival,
+        note,
+        turns,
+    } = death;
+    queues.remove(place, &holder, arrival);
+    notes.push_reserved(note);
+    enter_all(declared, queues, turns, Way::Dead, notes);
+}
+
+/// These messages die, one after another.
+fn perform(
+    declared: &[DeclaredQueue],
+    queues: &mut Queues,
+    deaths: Vec<Death>,
+    notes: &mut Vec<Note>,
+)
+    requires len { length queues.old ≡ length declared.now }
+    requires sound { All (IsSound (length queues.old)) deaths.items }
+    requires room { (place : ℕ) → times_in place deaths.items ≤ room_at queues.old place }
+    requires notes { vec_len notes.old + notes_in deaths.items ≤ vec_capacity notes.old }
+    ensures entries { entries_of queues.new ≡ died_all declared.now deaths.items (entries_of queues.old) }
+    ensures len { length queues.new ≡ length queues.old }
+    ensures notes { notes.new.items ≡ notes.old.items ++ all_notes declared.now deaths.items (entries_of queues.old) }
+{
+    for death in deaths {
+        die(declared, queues, death, notes);
+    }
+}
+
+/// These messages, which the channel of this connection holds, leave their queues one after another by a rejection.
+pub(crate) fn reject_in(
+    alloc: Global,
+    router: &mut Router,
+    queues: &mut Queues,
+    connection: u64,
+    channel: u16,
+    gone: &[Given],
+    notes: &mut Vec<Note>,
+) -> Result<(), AllocError>
+    requires len { length queues.old ≡ length router.old.queues }
+    requires within { AreWithin router.old gone.now }
+    ensures ok { OnOk result (Rejects router.old connection channel gone.now (entries_of queues.old) (entries_of queues.new) notes.old.items notes.new.items) }
+    ensures same { router.new ≡ router.old }
+    ensures len { length queues.new ≡ length queues.old }
+    ensures queues { OnErr result (entries_of queues.new ≡ entries_of queues.old) }
+    ensures notes { OnErr result (notes.new.items ≡ notes.old.items) }
+{
+    let deaths = plan(alloc, router, queues.as_slice(), connection, channel, gone)?;
+    make_rooms(queues, &deaths)?;
+    notes.reserve_exact(count_notes(&deaths)?)?;
+    perform(router.topology().queues(), queues, deaths, notes);
+    Ok(())
+}

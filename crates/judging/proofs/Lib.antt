@@ -1,0 +1,3 @@
+mod Exchanges
+mod Judging
+mod Settling

@@ -1,0 +1,135 @@
+-- What is decided of a command.
+use Rattle.std.specs.Prelude.{◌≡◌, ◌<◌, ◌⊎◌, Bool, true, false, length, ℕ, Option, Some, None, Result, Ok, Err, IsSome}
+use Rattle.model.specs.Words.{Text}
+use Rattle.model.specs.Topology.{Topology}
+use Rattle.model.specs.Broker.{Broker, Channel, Connection}
+use Rattle.model.specs.Step as step
+use Rattle.model.specs.Step.{Of_channel, Of_connection, refusal, refusal_of_large, refusal_of_publish, refusal_of_get, refusal_of_seat, refusal_of_settling, channel_or_new}
+use Rattle.model.specs.declared.methods.Close.{Close}
+use Rattle.model.specs.declared.methods.Method.{Method}
+use Rattle.model.specs.declared.methods.Method.TheVariants as method
+use Rattle.model.specs.declared.events.Event.{Event}
+use Rattle.model.specs.declared.events.Event.TheVariants as event
+use Rattle.exchange_graph.specs.Marks.{queue_name}
+use Rattle.depot.specs.Store.{Store, queue_of}
+use Rattle.judging.specs.declared.refusals.Refusal.{Refusal}
+use Rattle.judging.specs.declared.refusals.Refusal.TheVariants as refused
+use Rattle.judging.specs.declared.refusals.Act.{Act}
+use Rattle.judging.specs.declared.refusals.Act.TheVariants as act
+
+-- a refusal of the code, as one of the model
+abbrev pub seen : Refusal → step.Refusal
+seen refused.Ignored = step.Ignored
+seen (refused.Channel code) = Of_channel code
+seen (refused.Connection code) = Of_connection code
+
+-- a refusal, if there is one
+abbrev pub seen_if : Option Refusal → Option step.Refusal
+seen_if None = None
+seen_if (Some r) = Some (seen r)
+
+-- a channel that a refusal closes is there
+abbrev pub HasChannel : Refusal → Option Channel → Type 0
+HasChannel refused.Ignored ch = Unit {0}
+HasChannel (refused.Channel code) ch = IsSome ch
+HasChannel (refused.Connection code) ch = Unit {0}
+
+-- nothing is done for this command: its connection doesn't run, or its channel awaits close-ok
+abbrev pub IsIgnored : Topology → Broker → ℕ → ℕ → Method → Option Connection → Type 0
+IsIgnored t b c h m None = Unit {0}
+IsIgnored t b c h m (Some conn) = refusal t b conn h m (b.channel c h) ≡ Some step.Ignored
+
+-- the same of a publish whose content is too large
+abbrev pub IsLargeIgnored : Broker → ℕ → ℕ → Option Connection → Type 0
+IsLargeIgnored b c h None = Unit {0}
+IsLargeIgnored b c h (Some conn) = refusal_of_large conn h (b.channel c h) ≡ step.Ignored
+
+-- a rejection that requeues
+abbrev pub is_requeueing : Method → Bool
+is_requeueing (method.BasicReject m) = m.requeue
+is_requeueing (method.BasicNack m) = m.requeue
+is_requeueing _ = false
+
+-- the act is such a rejection
+abbrev pub requeues : Act → Bool
+requeues (act.Reject r) = r.now.requeue
+requeues (act.Nack n) = n.now.requeue
+requeues _ = false
+
+-- a rejection that requeues, and nothing stands against it
+abbrev pub IsRequeued : Topology → Broker → ℕ → ℕ → Method → Option Connection → Type 0
+IsRequeued t b c h m None = ⊥
+IsRequeued t b c h m (Some conn) = (is_requeueing m ≡ true) × (refusal t b conn h m (b.channel c h) ≡ None)
+
+-- an event that wants no memory: an opening, a loss, a pause and its end, what is ignored, and a rejection that requeues
+abbrev pub WantsNoMemory : Topology → Broker → Event → Type 0
+WantsNoMemory t b (event.Open c) = Unit {0}
+WantsNoMemory t b (event.First c bytes) = Unit {0}
+WantsNoMemory t b (event.Running c max k) = ⊥
+WantsNoMemory t b (event.Command c h m content) = IsIgnored t b c h m (b.connection c) ⊎ IsRequeued t b c h m (b.connection c)
+WantsNoMemory t b (event.TooLarge c h) = IsLargeIgnored b c h (b.connection c)
+WantsNoMemory t b (event.Fault c code) = ⊥
+WantsNoMemory t b (event.Lose c) = Unit {0}
+WantsNoMemory t b (event.Pause c) = Unit {0}
+WantsNoMemory t b (event.Resume c) = Unit {0}
+WantsNoMemory t b (event.Deliver c) = ⊥
+
+-- it comes from a connection or from what becomes of one; a delivery is the broker's own (own)
+abbrev pub IsAsked : Event → Type 0
+IsAsked (event.Deliver c) = ⊥
+IsAsked e = Unit {0}
+
+-- the queue of this name stands at this place of the file
+pub record IsPlaceOf (t : Topology) (name : Text) (place : ℕ) : Type 0 where
+  pub within : place < length t.queues
+  pub named : queue_name t place ≡ name
+
+-- The state has the queues of this depot, and its count of publishes.
+pub record HasStore (b : Broker) (s : Store) : Type 0 where
+  pub counted : b.published ≡ s.published
+  pub queues : (q : Text) → b.queue q ≡ queue_of s q
+
+-- the method asks for this act on the channel, which is there where it needs to be
+abbrev pub Asks : Topology → Broker → Option Channel → Method → Act → Type 0
+Asks t b ch m act.OpenChannel = (reserved : Text) × (m ≡ method.ChannelOpen reserved)
+Asks t b ch m act.Flow = (m ≡ method.ChannelFlow true) × IsSome ch
+Asks t b ch m (act.FindExchange d) = (m ≡ method.ExchangeDeclare d.now) × IsSome ch
+Asks t b ch m (act.FindQueue place d) = (m ≡ method.QueueDeclare d.now) × IsSome ch × IsPlaceOf t d.now.queue place
+Asks t b ch m (act.Select no_wait) = (m ≡ method.ConfirmSelect no_wait) × IsSome ch
+Asks t b ch m (act.Publish p) = (m ≡ method.BasicPublish p.now) × IsSome ch × (refusal_of_publish t b (channel_or_new ch) p.now ≡ None)
+Asks t b ch m (act.Purge place p) = (m ≡ method.QueuePurge p.now) × IsSome ch × IsPlaceOf t p.now.queue place
+Asks t b ch m (act.Get place g) = (m ≡ method.BasicGet g.now) × IsSome ch × IsPlaceOf t g.now.queue place × (refusal_of_get t b (channel_or_new ch) g.now ≡ None)
+Asks t b ch m (act.Consume place k) = (m ≡ method.BasicConsume k.now) × IsSome ch × IsPlaceOf t k.now.queue place
+Asks t b ch m (act.Cancel k) = (m ≡ method.BasicCancel k.now) × IsSome ch
+Asks t b ch m (act.Limit q) = (m ≡ method.BasicQos q.now) × IsSome ch
+Asks t b ch m (act.Acknowledge a) = (m ≡ method.BasicAck a.now) × IsSome ch × (refusal_of_settling (channel_or_new ch) a.now.delivery_tag a.now.multiple ≡ None)
+Asks t b ch m (act.Reject r) = (m ≡ method.BasicReject r.now) × IsSome ch × (refusal_of_settling (channel_or_new ch) r.now.delivery_tag false ≡ None)
+Asks t b ch m (act.Nack n) = (m ≡ method.BasicNack n.now) × IsSome ch × (refusal_of_settling (channel_or_new ch) n.now.delivery_tag n.now.multiple ≡ None)
+Asks t b ch m act.Recover = (m ≡ method.BasicRecover true) × IsSome ch
+Asks t b ch m (act.CloseChannel is_closing) = (x : Close) × (m ≡ method.ChannelClose x) × IsSome ch × ((channel_or_new ch).is_closing ≡ is_closing)
+Asks t b ch m act.EndChannel = (m ≡ method.ChannelCloseOk) × IsSome ch
+Asks t b ch m act.CloseConnection = (x : Close) × (m ≡ method.ConnectionClose x)
+
+-- the act can be done: some method asks for it
+abbrev pub CanAct : Topology → Broker → Option Channel → Act → Type 0
+CanAct t b ch asked = (m : Method) × Asks t b ch m asked
+
+-- what is still to be said against an act on a channel of this record: of one consumer more the channel decides
+abbrev pub left_of : Channel → Act → Option step.Refusal
+left_of ch (act.Consume place m) = refusal_of_seat ch m.now
+left_of ch _ = None
+
+-- Either the method is refused as the model says, or it asks for this act, and nothing is said against it but what is left to say.
+abbrev pub Judges : Topology → Broker → Option Channel → Method → Option step.Refusal → Result Act Refusal → Type 0
+Judges t b ch m r (Ok asked) = (r ≡ left_of (channel_or_new ch) asked) × Asks t b ch m asked
+Judges t b ch m r (Err e) = (r ≡ Some (seen e)) × HasChannel e ch
+
+-- The same of a command on a connection, which is silent where that doesn't run.
+abbrev pub JudgesOn : Topology → Broker → ℕ → ℕ → Method → Option (Result Act Refusal) → Type 0
+JudgesOn t b c h m None = b.connection c ≡ None
+JudgesOn t b c h m (Some r) = (conn : Connection) × (b.connection c ≡ Some conn) × Judges t b (b.channel c h) m (refusal t b conn h m (b.channel c h)) r
+
+-- The same of a publish whose content is too large: it is refused as the model says.
+abbrev pub JudgesLarge : Broker → ℕ → ℕ → Option Refusal → Type 0
+JudgesLarge b c h None = b.connection c ≡ None
+JudgesLarge b c h (Some r) = (conn : Connection) × (b.connection c ≡ Some conn) × (seen r ≡ refusal_of_large conn h (b.channel c h)) × HasChannel r (b.channel c h)

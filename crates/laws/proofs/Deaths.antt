@@ -1,0 +1,355 @@
+-- The worked examples of dead letters.
+use Rattle.std.proofs.Common.{◌≡◌, ◌⊎◌, ◌≤◌, ℕ, Bool, true, false, List, [], ◌∷◌, ◌++◌, refl, sym, ap, subst, ◌∙◌, arith, lit≤, drop, append-nil, inl, inr, length, Option, Some, None}
+use Rattle.std.specs.Prelude.{codes, Contains}
+use Rattle.std.specs.Str.{bytes_eq}
+use Rattle.std.proofs.lemmas.Bool.{false≢true}
+use Rattle.std.proofs.lemmas.Option.{same_Some}
+use Rattle.std.proofs.lemmas.Slice.Eq.{bytes_eq-Decides}
+use Rattle.model.specs.Words.{Text, Matches, word, any_none, any_more, none as matches_none}
+use Rattle.model.specs.Tables.{no_pairs}
+use Rattle.model.specs.Topology.{Topology, IsIn}
+use Rattle.model.specs.Routing.{Reading, of_key, Edge, bound, alternate, default, Leads, here, on, RoutesBy, Routes, Comes, routed, dead, Picks, none, take, pass, reading_after}
+use Rattle.model.specs.Message.{Message}
+use Rattle.model.specs.Entering.{comes_to, entry_notes}
+use Rattle.model.specs.Deaths.{TellsOfDeath, AreMarked, alone, added, marked_before, first_death}
+use Rattle.model.specs.Deliveries.{without_given, AreRejected}
+use Rattle.model.specs.declared.messages.Entry.{Entry}
+use Rattle.model.specs.declared.notes.Cause.TheVariants.{Rejected}
+use Rattle.model.specs.declared.notes.Note.{Note}
+use Rattle.model.specs.declared.notes.Note.TheVariants.{Entered, Refused, Left}
+use Rattle.model.specs.declared.notes.Way.TheVariants.{Dead}
+use Rattle.model.specs.declared.topologies.Binding.{Binding}
+use Rattle.model.specs.declared.topologies.DeclaredQueue.{DeclaredQueue}
+use Rattle.model.specs.declared.topologies.Exchange.{Exchange}
+use Rattle.model.specs.declared.texts.Token.TheVariants.{Any}
+use Rattle.model.specs.declared.topologies.ExchangeKind.TheVariants.{Fanout}
+use Rattle.model.specs.declared.topologies.Place.{Place}
+use Rattle.model.specs.declared.topologies.Place.TheVariants as place
+use Rattle.laws.specs.Deaths.{deaths, circle, crowded, EndsIn, first_publish, got_from, while_held, DiesTo, in_q1, in_q, WorkedDeaths, DeathsRefuse}
+use Rattle.laws.proofs.Counts.{in_from_contains}
+use Rattle.laws.proofs.Marking.{added_tells}
+
+-- two texts that differ
+differ : (a b : Text) → bytes_eq a b ≡ false → a ≡ b → ⊥
+differ a b apart e = false≢true (sym apart ∙ (bytes_eq-Decides a b).1 e)
+
+-- ---- the edges of a topology without alternate exchanges
+
+-- a binding of the exchange of this name leads there
+record Leading (t : Topology) (name : Text) (to : Place) : Type 0 where
+  binding : Binding
+  there : IsIn binding t.bindings
+  source : binding.source ≡ name
+  leads : binding.to ≡ to
+
+abbrev HaveNoAlternate : Topology → Type 0
+HaveNoAlternate t = (x : Exchange) → IsIn x t.exchanges → x.alternate ≡ None
+
+inside : {A : Type 0} (x : A) (xs : List A) → Contains xs x → IsIn x xs
+inside x xs c = in_from_contains xs x c.0 c.1 c.2
+
+edge_leads : (t : Topology) (r : Reading) (name : Text) (to : Place) → HaveNoAlternate t → Edge t r name to → Leading t name to ⊎ (name ≡ [])
+edge_leads t r name to plain (bound x b in_xs named is opens) = inl (record { binding = b; there = inside b t.bindings is.is_binding; source = is.source ∙ named; leads = is.leads })
+edge_leads t r name to plain (alternate x in_xs named other shuts) = absurd (false≢true (ap Rattle.std.specs.Prelude.is_some (sym (plain x (inside x t.exchanges in_xs)) ∙ other)))
+edge_leads t r name to plain (default q in_qs named names) = inr refl
+
+-- the queue of a place
+abbrev is_queue : Place → Bool
+is_queue (place.Queue q) = true
+is_queue (place.Exchange x) = false
+
+abbrev queue_in : Place → Text
+queue_in (place.Queue q) = q
+queue_in (place.Exchange x) = []
+
+-- ---- deaths
+
+deaths_plain : HaveNoAlternate deaths
+deaths_plain x (inl e) = ap (λ (z : Exchange). z.alternate) e
+deaths_plain x (inr (inl e)) = ap (λ (z : Exchange). z.alternate) e
+deaths_plain x (inr (inr (inl e))) = ap (λ (z : Exchange). z.alternate) e
+deaths_plain x (inr (inr (inr none_left))) = absurd none_left
+
+-- from where an edge leads, and to which queue
+data DeathsEdge (name : Text) (to : Place) : Type 0 where
+  to_q1 : name ≡ codes "Y" → to ≡ place.Queue (codes "q1") → DeathsEdge name to
+  to_billing : name ≡ codes "D" → to ≡ place.Queue (codes "billing") → DeathsEdge name to
+  to_q3 : name ≡ codes "E" → to ≡ place.Queue (codes "q3") → DeathsEdge name to
+
+deaths_edge : (name : Text) (to : Place) → Leading deaths name to → DeathsEdge name to
+deaths_edge name to l = by l.there
+  where
+    by : IsIn l.binding deaths.bindings → DeathsEdge name to
+    by (inl e) = to_q1 (sym l.source ∙ ap (λ (b : Binding). b.source) e) (sym l.leads ∙ ap (λ (b : Binding). b.to) e)
+    by (inr (inl e)) = to_billing (sym l.source ∙ ap (λ (b : Binding). b.source) e) (sym l.leads ∙ ap (λ (b : Binding). b.to) e)
+    by (inr (inr (inl e))) = to_q3 (sym l.source ∙ ap (λ (b : Binding). b.source) e) (sym l.leads ∙ ap (λ (b : Binding). b.to) e)
+    by (inr (inr (inr none_left))) = absurd none_left
+
+to_a_queue : (name : Text) (to : Place) → DeathsEdge name to → is_queue to ≡ true
+to_a_queue name to (to_q1 n e) = ap is_queue e
+to_a_queue name to (to_billing n e) = ap is_queue e
+to_a_queue name to (to_q3 n e) = ap is_queue e
+
+-- no edge leads to an exchange
+deaths_here : (r : Reading) (x y : Text) → (x ≡ [] → ⊥) → Leads deaths r x y → y ≡ x
+deaths_here r x y named here = refl
+deaths_here r x y named (on {y = z} e more) = elim (edge_leads deaths r x (place.Exchange z) deaths_plain e) [
+  | inl l ↦ absurd (false≢true (to_a_queue x (place.Exchange z) (deaths_edge x (place.Exchange z) l)))
+  | inr is ↦ absurd (named is)
+]
+
+deaths_route : (r : Reading) (x q : Text) → (x ≡ [] → ⊥) → RoutesBy deaths r x q → DeathsEdge x (place.Queue q)
+deaths_route r x q named (y, leads, edge) =
+    let is = deaths_here r x y named leads in
+    elim (edge_leads deaths r y (place.Queue q) deaths_plain edge) [
+      | inl l ↦ subst (λ (z : Text). DeathsEdge z (place.Queue q)) is (deaths_edge y (place.Queue q) l)
+      | inr empty ↦ absurd (named (sym is ∙ empty))
+    ]
+
+-- the queue where an edge of D ends
+from_d : (q : Text) → DeathsEdge (codes "D") (place.Queue q) → q ≡ codes "billing"
+from_d q (to_q1 n e) = absurd (differ (codes "D") (codes "Y") refl n)
+from_d q (to_billing n e) = ap queue_in e
+from_d q (to_q3 n e) = absurd (differ (codes "D") (codes "E") refl n)
+
+-- and of E
+from_e : (q : Text) → DeathsEdge (codes "E") (place.Queue q) → q ≡ codes "q3"
+from_e q (to_q1 n e) = absurd (differ (codes "E") (codes "Y") refl n)
+from_e q (to_billing n e) = absurd (differ (codes "E") (codes "D") refl n)
+from_e q (to_q3 n e) = ap queue_in e
+
+-- D leads to billing alone, and E to q3 alone
+d_alone : (key q : Text) → Routes deaths (codes "D") key q → q ≡ codes "billing"
+d_alone key q ro = from_d q (deaths_route (of_key key) (codes "D") q (differ (codes "D") [] refl) ro)
+
+e_alone : (key q : Text) → Routes deaths (codes "E") key q → q ≡ codes "q3"
+e_alone key q ro = from_e q (deaths_route (of_key key) (codes "E") q (differ (codes "E") [] refl) ro)
+
+d_leads : Routes deaths (codes "D") (codes "pay") (codes "billing")
+d_leads = (codes "D", here, bound _ _ (1, lit≤ tt, refl) refl (record { is_binding = (1, lit≤ tt, refl); source = refl; leads = refl }) refl)
+
+e_leads : (r : Reading) → ((k : Text) → r.opens Fanout k) → RoutesBy deaths r (codes "E") (codes "q3")
+e_leads r opens = (codes "E", here, bound _ _ (2, lit≤ tt, refl) refl (record { is_binding = (2, lit≤ tt, refl); source = refl; leads = refl }) (opens []))
+
+d_picks : Picks (Routes deaths (codes "D") (codes "pay")) (codes "q1" ∷ codes "billing" ∷ codes "q3" ∷ []) (codes "billing" ∷ [])
+d_picks = pass (λ ro. differ (codes "q1") (codes "billing") refl (d_alone (codes "pay") (codes "q1") ro)) (take d_leads (pass (λ ro. differ (codes "q3") (codes "billing") refl (d_alone (codes "pay") (codes "q3") ro)) none))
+
+e_picks : Picks (Routes deaths (codes "E") (codes "pay")) (codes "q1" ∷ codes "billing" ∷ codes "q3" ∷ []) (codes "q3" ∷ [])
+e_picks = pass (λ ro. differ (codes "q1") (codes "q3") refl (e_alone (codes "pay") (codes "q1") ro)) (pass (λ ro. differ (codes "billing") (codes "q3") refl (e_alone (codes "pay") (codes "billing") ro)) (take (e_leads (of_key (codes "pay")) (λ k. tt)) none))
+
+-- headers of a first death tell of it
+tells : (queue exchange : Text) → length queue ≤ 255 → length exchange ≤ 254 → TellsOfDeath (first_death queue exchange)
+tells queue exchange q x = added_tells no_pairs queue exchange q (omega (arith, x)) (record { size = omega arith; fits = tt }) (omega arith)
+
+-- the queues after a message that was held there alone entered one
+abbrev after_death : (t : Topology) (from to : Text) (m letter : Message) → Text → List Entry
+after_death t from to m letter q = without_given 1 1 (while_held from m) (got_from from) q ++ comes_to t (without_given 1 1 (while_held from m) (got_from from)) letter q (to ∷ [])
+
+first_dies : DiesTo deaths (codes "q1") (codes "billing") (first_publish (codes "Y") (codes "Y") (codes "a") None) (first_publish (codes "Y") (codes "D") (codes "pay") in_q1)
+first_dies = record {
+  after = after;
+  rejected = (after, notes, [], (Entered 1 (codes "billing") Dead ∷ [], refl, record { headers = in_q1; marked = alone; targets = codes "billing" ∷ []; routed = d_picks; noted = refl; left = λ q. refl }), refl, (refl, λ q. refl));
+  enters = refl;
+}
+  where
+    m : Message
+    m = first_publish (codes "Y") (codes "Y") (codes "a") None
+
+    after : Text → List Entry
+    after = after_death deaths (codes "q1") (codes "billing") m (first_publish (codes "Y") (codes "D") (codes "pay") in_q1)
+
+    notes : List Note
+    notes = Left 1 (codes "q1") Rejected ∷ Entered 1 (codes "billing") Dead ∷ []
+
+second_dies : DiesTo deaths (codes "billing") (codes "q3") (first_publish (codes "Y") (codes "D") (codes "pay") in_q1) (first_publish (codes "Y") (codes "E") (codes "pay") in_q1)
+second_dies = record {
+  after = after;
+  rejected = (after, notes, [], (Entered 1 (codes "q3") Dead ∷ [], refl, record { headers = in_q1; marked = marked_before (tells (codes "q1") (codes "Y") (lit≤ tt) (lit≤ tt)); targets = codes "q3" ∷ []; routed = e_picks; noted = refl; left = λ q. refl }), refl, (refl, λ q. refl));
+  enters = refl;
+}
+  where
+    m : Message
+    m = first_publish (codes "Y") (codes "D") (codes "pay") in_q1
+
+    after : Text → List Entry
+    after = after_death deaths (codes "billing") (codes "q3") m (first_publish (codes "Y") (codes "E") (codes "pay") in_q1)
+
+    notes : List Note
+    notes = Left 1 (codes "billing") Rejected ∷ Entered 1 (codes "q3") Dead ∷ []
+
+-- ---- the circle
+
+circle_plain : HaveNoAlternate circle
+circle_plain x (inl e) = ap (λ (z : Exchange). z.alternate) e
+circle_plain x (inr none_left) = absurd none_left
+
+circle_edge : (name : Text) (to : Place) → Leading circle name to → to ≡ place.Queue (codes "q")
+circle_edge name to l = by l.there
+  where
+    by : IsIn l.binding circle.bindings → to ≡ place.Queue (codes "q")
+    by (inl e) = sym l.leads ∙ ap (λ (b : Binding). b.to) e
+    by (inr none_left) = absurd none_left
+
+circle_here : (r : Reading) (x y : Text) → (x ≡ [] → ⊥) → Leads circle r x y → y ≡ x
+circle_here r x y named here = refl
+circle_here r x y named (on {y = z} e more) = elim (edge_leads circle r x (place.Exchange z) circle_plain e) [
+  | inl l ↦ absurd (false≢true (ap is_queue (circle_edge x (place.Exchange z) l)))
+  | inr is ↦ absurd (named is)
+]
+
+circle_route : (r : Reading) (q : Text) → RoutesBy circle r (codes "X") q → q ≡ codes "q"
+circle_route r q (y, leads, edge) = elim (edge_leads circle r y (place.Queue q) circle_plain edge) [
+  | inl l ↦ ap queue_in (circle_edge y (place.Queue q) l)
+  | inr is ↦ absurd (differ (codes "X") [] refl (sym (circle_here r (codes "X") y (differ (codes "X") [] refl) leads) ∙ is))
+]
+
+circle_leads : Routes circle (codes "X") (codes "a") (codes "q")
+circle_leads = (codes "X", here, bound _ _ (0, lit≤ tt, refl) refl (record { is_binding = (0, lit≤ tt, refl); source = refl; leads = refl }) (word (any_none matches_none)))
+
+circle_picks : Picks (Routes circle (codes "X") (codes "a")) (codes "q" ∷ codes "q2" ∷ []) (codes "q" ∷ [])
+circle_picks = take circle_leads (pass (λ ro. differ (codes "q2") (codes "q") refl (circle_route (of_key (codes "a")) (codes "q2") ro)) none)
+
+-- round, with these headers before it
+goes_round : (headers : Option Text) → AreMarked (codes "q") (codes "X") headers in_q → DiesTo circle (codes "q") (codes "q") (first_publish (codes "X") (codes "X") (codes "a") headers) (first_publish (codes "X") (codes "X") (codes "a") in_q)
+goes_round headers marked = record {
+  after = after;
+  rejected = (after, notes, [], (Entered 1 (codes "q") Dead ∷ [], refl, record { headers = in_q; marked = marked; targets = codes "q" ∷ []; routed = circle_picks; noted = refl; left = λ q. refl }), refl, (refl, λ q. refl));
+  enters = refl;
+}
+  where
+    after : Text → List Entry
+    after = after_death circle (codes "q") (codes "q") (first_publish (codes "X") (codes "X") (codes "a") headers) (first_publish (codes "X") (codes "X") (codes "a") in_q)
+
+    notes : List Note
+    notes = Left 1 (codes "q") Rejected ∷ Entered 1 (codes "q") Dead ∷ []
+
+-- ---- a full queue
+
+crowded_plain : HaveNoAlternate crowded
+crowded_plain x (inl e) = ap (λ (z : Exchange). z.alternate) e
+crowded_plain x (inr none_left) = absurd none_left
+
+crowded_edge : (name : Text) (to : Place) → Leading crowded name to → (to ≡ place.Queue (codes "billing")) ⊎ (to ≡ place.Queue (codes "full"))
+crowded_edge name to l = by l.there
+  where
+    by : IsIn l.binding crowded.bindings → (to ≡ place.Queue (codes "billing")) ⊎ (to ≡ place.Queue (codes "full"))
+    by (inl e) = inl (sym l.leads ∙ ap (λ (b : Binding). b.to) e)
+    by (inr (inl e)) = inr (sym l.leads ∙ ap (λ (b : Binding). b.to) e)
+    by (inr (inr none_left)) = absurd none_left
+
+crowded_here : (r : Reading) (x y : Text) → (x ≡ [] → ⊥) → Leads crowded r x y → y ≡ x
+crowded_here r x y named here = refl
+crowded_here r x y named (on {y = z} e more) = elim (edge_leads crowded r x (place.Exchange z) crowded_plain e) [
+  | inl l ↦ elim (crowded_edge x (place.Exchange z) l) [ inl is ↦ absurd (false≢true (ap is_queue is)) | inr is ↦ absurd (false≢true (ap is_queue is)) ]
+  | inr is ↦ absurd (named is)
+]
+
+not_to_q1 : (key : Text) → Routes crowded (codes "D") key (codes "q1") → ⊥
+not_to_q1 key (y, leads, edge) = elim (edge_leads crowded (of_key key) y (place.Queue (codes "q1")) crowded_plain edge) [
+  | inl l ↦ elim (crowded_edge y (place.Queue (codes "q1")) l) [ inl is ↦ differ (codes "q1") (codes "billing") refl (ap queue_in is) | inr is ↦ differ (codes "q1") (codes "full") refl (ap queue_in is) ]
+  | inr is ↦ differ (codes "D") [] refl (sym (crowded_here (of_key key) (codes "D") y (differ (codes "D") [] refl) leads) ∙ is)
+]
+
+to_billing_there : (key : Text) → Routes crowded (codes "D") key (codes "billing")
+to_billing_there key = (codes "D", here, bound _ _ (0, lit≤ tt, refl) refl (record { is_binding = (0, lit≤ tt, refl); source = refl; leads = refl }) tt)
+
+to_full : (key : Text) → Routes crowded (codes "D") key (codes "full")
+to_full key = (codes "D", here, bound _ _ (0, lit≤ tt, refl) refl (record { is_binding = (1, lit≤ tt, refl); source = refl; leads = refl }) tt)
+
+is_refused : EndsIn crowded (codes "q1") (codes "billing") (first_publish (codes "Y") (codes "Y") (codes "a") None) (first_publish (codes "Y") (codes "D") (codes "a") in_q1) (Refused 1 (codes "full") ∷ Entered 1 (codes "billing") Dead ∷ [])
+is_refused = record {
+  after = after;
+  rejected = (after, Left 1 (codes "q1") Rejected ∷ notes, [], (notes, refl, record { headers = in_q1; marked = alone; targets = codes "full" ∷ codes "billing" ∷ []; routed = pass (not_to_q1 (codes "a")) (take (to_full (codes "a")) (take (to_billing_there (codes "a")) none)); noted = refl; left = λ q. refl }), refl, (refl, λ q. refl));
+  enters = refl;
+}
+  where
+    before : Text → List Entry
+    before = without_given 1 1 (while_held (codes "q1") (first_publish (codes "Y") (codes "Y") (codes "a") None)) (got_from (codes "q1"))
+
+    after : Text → List Entry
+    after q = before q ++ comes_to crowded before (first_publish (codes "Y") (codes "D") (codes "a") in_q1) q (codes "full" ∷ codes "billing" ∷ [])
+
+    notes : List Note
+    notes = Refused 1 (codes "full") ∷ Entered 1 (codes "billing") Dead ∷ []
+
+pub worked_deaths : WorkedDeaths
+worked_deaths = record {
+  first = first_dies;
+  second = second_dies;
+  header = refl;
+  whole = refl;
+  refused = is_refused;
+  round = goes_round None alone;
+  round_again = goes_round in_q (marked_before (tells (codes "q") (codes "X") (lit≤ tt) (lit≤ tt)));
+}
+
+-- ---- what deaths don't do
+
+-- without a target D would lead nowhere
+some_target : (targets : List Text) → Picks (Routes deaths (codes "D") (codes "pay")) (codes "q1" ∷ codes "billing" ∷ codes "q3" ∷ []) targets → targets ≡ [] → ⊥
+some_target targets (take leads more) e = absurd cc
+some_target targets (pass first (take leads more)) e = absurd cc
+some_target targets (pass first (pass second more)) e = second d_leads
+
+no_loss : (after : Text → List Entry) → AreRejected deaths 1 1 (got_from (codes "q1") ∷ []) (while_held (codes "q1") (first_publish (codes "Y") (codes "Y") (codes "a") None)) (Left 1 (codes "q1") Rejected ∷ []) after → ⊥
+no_loss after (mid, first, rest, (more, is, dies), all, (end, same)) = some_target dies.targets dies.routed (empty dies.targets (sym dies.noted ∙ nothing))
+  where
+    -- nothing is noted behind that it left
+    nothing : more ≡ []
+    nothing =
+        let whole : Left 1 (codes "q1") Rejected ∷ [] ≡ Left 1 (codes "q1") Rejected ∷ more = all ∙ ap (λ (ns : List Note). ns ++ rest) is ∙ ap (λ (ns : List Note). Left 1 (codes "q1") Rejected ∷ (more ++ ns)) end ∙ ap (λ (ns : List Note). Left 1 (codes "q1") Rejected ∷ ns) (append-nil more) in
+        sym (ap (drop 1) whole)
+
+    empty : (targets : List Text) → entry_notes deaths (without_given 1 1 (while_held (codes "q1") (first_publish (codes "Y") (codes "Y") (codes "a") None)) (got_from (codes "q1"))) 2 1 Dead targets ≡ [] → targets ≡ []
+    empty [] e = refl
+    empty (q ∷ qs) e = absurd cc
+
+-- where headers tell of a death they stay
+marked_once : (queue exchange headers : Text) (old new : Option Text) → old ≡ Some headers → TellsOfDeath headers → AreMarked queue exchange old new → new ≡ Some headers
+marked_once queue exchange headers None new e tells alone = absurd (false≢true (ap Rattle.std.specs.Prelude.is_some e))
+marked_once queue exchange headers (Some old) new e tells (added unmarked) = absurd (unmarked (subst TellsOfDeath (sym (same_Some old headers e)) tells))
+marked_once queue exchange headers (Some old) new e tells (marked_before told) = e
+
+not_twice : AreMarked (codes "billing") (codes "D") in_q1 (Some (first_death (codes "q1") (codes "Y") ++ first_death (codes "billing") (codes "D"))) → ⊥
+not_twice m =
+    let same : ◌≡◌ {A = Option Text} (Some (first_death (codes "q1") (codes "Y") ++ first_death (codes "billing") (codes "D"))) in_q1 = marked_once (codes "billing") (codes "D") (first_death (codes "q1") (codes "Y")) in_q1 _ refl (tells (codes "q1") (codes "Y") (lit≤ tt) (lit≤ tt)) m in
+    let long : ◌≡◌ {A = ℕ} 185 90 = ap length (same_Some _ _ same) in
+    absurd (omega (arith, long))
+
+-- ---- guarantees
+
+any_key : (ws : List Text) → Matches (Any ∷ []) ws
+any_key [] = any_none matches_none
+any_key (w ∷ ws) = any_more (any_key ws)
+
+to_billing_by_death : Comes deaths (of_key (codes "a")) None (codes "Y") (codes "billing")
+to_billing_by_death = dead _ y_leads (record { is_queue = (0, lit≤ tt, refl); is_named = refl; dead = refl }) (routed d_leads)
+  where
+    y_leads : Routes deaths (codes "Y") (codes "a") (codes "q1")
+    y_leads = (codes "Y", here, bound _ _ (0, lit≤ tt, refl) refl (record { is_binding = (0, lit≤ tt, refl); source = refl; leads = refl }) tt)
+
+to_q3_by_deaths : Comes deaths (of_key (codes "a")) None (codes "Y") (codes "q3")
+to_q3_by_deaths = dead _ y_leads (record { is_queue = (0, lit≤ tt, refl); is_named = refl; dead = refl }) (dead _ d_leads (record { is_queue = (1, lit≤ tt, refl); is_named = refl; dead = refl }) (routed (e_leads (of_key (codes "pay")) (λ k. tt))))
+  where
+    y_leads : Routes deaths (codes "Y") (codes "a") (codes "q1")
+    y_leads = (codes "Y", here, bound _ _ (0, lit≤ tt, refl) refl (record { is_binding = (0, lit≤ tt, refl); source = refl; leads = refl }) tt)
+
+-- by whatever route or death, X leads to q alone
+circle_comes : {r : Reading} {fixed : Option Text} {x q : Text} → x ≡ codes "X" → Comes circle r fixed x q → q ≡ codes "q"
+circle_comes {r = r} {fixed = fixed} {q = q} is (routed ro) = circle_route (reading_after fixed r) q (subst (λ (z : Text). RoutesBy circle (reading_after fixed r) z q) is ro)
+circle_comes {r = r} is (dead last ro dies more) = circle_comes (by (inside last circle.queues dies.is_queue) dies.dead) more
+  where
+    by : IsIn last circle.queues → {exchange : Text} → last.dead_letter_exchange ≡ Some exchange → exchange ≡ codes "X"
+    by (inl e) {exchange} f = sym (same_Some (codes "X") exchange (sym (ap (λ (z : DeclaredQueue). z.dead_letter_exchange) e) ∙ f))
+    by (inr (inl e)) f = absurd (false≢true (ap Rattle.std.specs.Prelude.is_some (sym (ap (λ (z : DeclaredQueue). z.dead_letter_exchange) e) ∙ f)))
+    by (inr (inr none_left)) f = absurd none_left
+
+pub deaths_refuse : DeathsRefuse
+deaths_refuse = record {
+  lost = no_loss;
+  told_twice = not_twice;
+  forgets = λ holds. holds (codes "a") (lit≤ tt) (any_key _) to_billing_by_death;
+  forgets_second = λ holds. holds (codes "a") (lit≤ tt) (any_key _) to_q3_by_deaths;
+  forgets_route = λ holds. holds (codes "a") (lit≤ tt) (any_key _) (routed circle_leads);
+  kept = λ key short covers comes. differ (codes "q2") (codes "q") refl (circle_comes refl comes);
+}

@@ -1,0 +1,307 @@
+-- Where each message that stands in a queue came from, and so by which routes and deaths.
+use Rattle.std.proofs.Common.{◌≡◌, ◌≤◌, ◌+◌, arith, ℕ, List, [], ◌∷◌, Bool, true, false, refl, sym, ap, subst, ◌∙◌, map, length, not, Option, Some, None, inl, inr}
+use Rattle.std.specs.Prelude.{if◌then◌else◌}
+use Rattle.model.specs.Words.{Text}
+use Rattle.model.specs.Topology.{Topology, IsIn}
+use Rattle.model.specs.Arrivals.{IsSaid}
+use Rattle.model.specs.Tracing.{HasCome, by_publish, by_death, HasComeTo, AreSentAlike, AreTraced}
+use Rattle.model.specs.Grammar.{Ids, ids_of}
+use Rattle.model.specs.Broker.{Outstanding, Channel, Connection, Broker, is_ready}
+use Rattle.model.specs.Entries.{is_under, by_channel, by_connection, freed}
+use Rattle.model.specs.Deliveries.{Settlement, Leaves, Rejects, Returns, AreSettled, AreLeft, AreReturned, with_queue, first_ready, holder_of, after_giving}
+use Rattle.model.specs.Message.{Message}
+use Rattle.model.specs.Phases.{is_running}
+use Rattle.model.specs.Step.{Refusal, Ignored, Of_channel, Of_connection, Acts, Does, Gets, Settles, Performs, Refuses, Decides, OnConnection, OnLarge, IsDelivery, Is, channel_or_new, empty_publish, message, opened, refusal, refusal_of_large, with_freed, with_channel}
+use Rattle.model.specs.State.{Config, State, Step}
+use Rattle.model.specs.Run.{AreCounted}
+use Rattle.model.specs.declared.contents.Content.{Content}
+use Rattle.model.specs.declared.messages.Entry.{Entry}
+use Rattle.model.specs.declared.messages.Holder.{Holder}
+use Rattle.model.specs.declared.messages.Mark.{Mark}
+use Rattle.model.specs.declared.messages.Mark.TheVariants.{Ready, Held}
+use Rattle.model.specs.declared.methods.Get.{Get}
+use Rattle.model.specs.declared.methods.Method.{Method}
+use Rattle.model.specs.declared.methods.Method.TheVariants.{ConnectionClose, ChannelOpen, ChannelFlow, ChannelClose, ChannelCloseOk, ExchangeDeclare, QueueDeclare, QueuePurge, BasicQos, BasicConsume, BasicCancel, BasicPublish, BasicGet, BasicAck, BasicReject, BasicNack, BasicRecover, ConfirmSelect}
+use Rattle.model.specs.declared.events.Send.{Send}
+use Rattle.model.specs.declared.events.Event.{Event}
+use Rattle.model.specs.declared.events.Event.TheVariants.{Open, First, Running, Command, TooLarge, Fault, Lose, Pause, Resume, Deliver}
+use Rattle.model.specs.declared.notes.Cause.{Cause}
+use Rattle.model.specs.declared.notes.Note.{Note}
+use Rattle.laws.specs.Tracing.{MessagesStayTraced}
+use Rattle.laws.proofs.Dying.{IsLetter, rejected_stood}
+use Rattle.laws.proofs.Leaving.{at_queue, find_in, in_filter, in_rest}
+use Rattle.laws.proofs.View.{Publishes, connection_of, goes}
+use Rattle.laws.proofs.Balance.{number, content as content_of, stands_counted}
+use Rattle.laws.proofs.Once.{key_is_short}
+use Rattle.laws.proofs.Entering.{picked, in_comes}
+use Rattle.laws.proofs.Giving.{in_given}
+use Rattle.laws.proofs.Counts.{in-append}
+
+-- ---- one message under another mark
+
+-- two messages are of one publish, first sent and last sent to the same places
+pub record AreSame (m o : Message) : Type 0 where
+  pub number : m.number ≡ o.number
+  pub first_exchange : m.first_exchange ≡ o.first_exchange
+  pub first_key : m.first_key ≡ o.first_key
+  pub exchange : m.exchange ≡ o.exchange
+  pub key : m.key ≡ o.key
+
+-- the entry is one of these, but for its mark and whether it was redelivered
+pub record IsOneOf (es : List Entry) (x : Entry) : Type 0 where
+  pub entry : Entry
+  pub there : IsIn entry es
+  pub same : AreSame x.message entry.message
+
+abbrev same_self : (m : Message) → AreSame m m
+same_self m = record { number = refl; first_exchange = refl; first_key = refl; exchange = refl; key = refl }
+
+itself_one : (es : List Entry) (x : Entry) → IsIn x es → IsOneOf es x
+itself_one es x i = record { entry = x; there = i; same = same_self x.message }
+
+freed_same : (mine : Holder → Bool) (e : Entry) → AreSame (freed mine e).message e.message
+freed_same mine e = go e.message e.mark
+  where
+    go : (m : Message) (k : Mark) → AreSame (freed mine (record { message = m; mark = k })).message m
+    go m Ready = same_self m
+    go m (Held g) = by (mine g)
+      where
+        made : Bool → Entry
+        made v = if v then record { message = record m { redelivered = true }; mark = Ready } else record { message = m; mark = Held g }
+
+        by : (v : Bool) → AreSame (made v).message m
+        by true = record { number = refl; first_exchange = refl; first_key = refl; exchange = refl; key = refl }
+        by false = same_self m
+
+in_freed : (mine : Holder → Bool) (es : List Entry) (x : Entry) → IsIn x (map (freed mine) es) → IsOneOf es x
+in_freed mine [] x i = absurd i
+in_freed mine (e ∷ es) x (inl is) = record { entry = e; there = inl refl; same = subst (λ (z : Entry). AreSame z.message e.message) (sym is) (freed_same mine e) }
+in_freed mine (e ∷ es) x (inr i) = let r = in_freed mine es x i in record { entry = r.entry; there = inr r.there; same = r.same }
+
+given_one : (no_ack : Bool) (g : Holder) (e : Entry) (es : List Entry) → first_ready es ≡ Some e → (x : Entry) → IsIn x (after_giving no_ack g es) → IsOneOf es x
+given_one no_ack g e es found x i = elim (in_given no_ack g e es found x i) [
+  | inl j ↦ itself_one es x j
+  | inr is ↦ record { entry = e; there = (find_in is_ready e es found).0; same = subst (λ (z : Entry). AreSame z.message e.message) (sym is) (same_self e.message) }
+]
+
+-- ---- settled deliveries
+
+-- what stands in each new queue stood there before
+abbrev Stays : (Text → List Entry) → (Text → List Entry) → Type 0
+Stays old new = (q : Text) (x : Entry) → IsIn x (new q) → IsOneOf (old q) x
+
+one_of_one : (old mid : List Entry) (x : Entry) → ((y : Entry) → IsIn y mid → IsOneOf old y) → IsOneOf mid x → IsOneOf old x
+one_of_one old mid x before r =
+    let b = before r.entry r.there in
+    record {
+      entry = b.entry;
+      there = b.there;
+      same = record {
+        number = r.same.number ∙ b.same.number;
+        first_exchange = r.same.first_exchange ∙ b.same.first_exchange;
+        first_key = r.same.first_key ∙ b.same.first_key;
+        exchange = r.same.exchange ∙ b.same.exchange;
+        key = r.same.key ∙ b.same.key;
+      };
+    }
+
+stays_same : (old new : Text → List Entry) → ((q : Text) → new q ≡ old q) → Stays old new
+stays_same old new is q x i = itself_one (old q) x (subst (IsIn x) (is q) i)
+
+left_stays : (cause : Cause) (c h : ℕ) (os : List Outstanding) (old : Text → List Entry) (notes : List Note) (new : Text → List Entry) → AreLeft cause c h os old notes new → Stays old new
+left_stays cause c h [] old notes new a q x i = stays_same old new a.1 q x i
+left_stays cause c h (o ∷ os) old notes new (mid, rest, is, all, more) q x i =
+    one_of_one (old q) (mid q) x (λ y j. itself_one (old q) y (in_rest c h old o y q (subst (IsIn y) (is q) j))) (left_stays cause c h os mid rest new more q x i)
+
+returned_stays : (c h : ℕ) (os : List Outstanding) (old new : Text → List Entry) → AreReturned c h os old new → Stays old new
+returned_stays c h [] old new same q x i = stays_same old new same q x i
+returned_stays c h (o ∷ os) old new (mid, is, more) q x i =
+    one_of_one (old q) (mid q) x
+    (λ y j. at_queue (λ (r : Text) (es : List Entry). IsIn y es → IsOneOf (old r) y) old o.queue _ (in_freed (is_under (holder_of c h o)) (old o.queue) y) (λ r other. itself_one (old r) y) q (subst (IsIn y) (is q) j))
+    (returned_stays c h os mid new more q x i)
+
+-- ---- where each entry came from
+
+-- An entry in the queue q after an event: it stood there, it is a dead letter of one that was held, or it is the message of the publish that the event is.
+pub data Came (t : Topology) (old new : Broker) (e : Event) (sends : List Send) (notes : List Note) (q : Text) (x : Entry) : Type 0 where
+  stood : IsOneOf (old.queue q) x → Came t old new e sends notes q x
+  by_letter : IsLetter t old.queue q x → Came t old new e sends notes q x
+  published : (p : Publishes t old new e sends notes) → IsIn q p.is.targets → x ≡ record { message = message (number p) p.publish (content_of p); mark = Ready } → Came t old new e sends notes q x
+
+module _ (t : Topology) (old new : Broker) (sends : List Send) (notes : List Note) where
+  abbrev pub AllCame : Event → Type 0
+  AllCame e = (q : Text) (x : Entry) → IsIn x (new.queue q) → Came t old new e sends notes q x
+
+  stays : (e : Event) → Stays old.queue new.queue → AllCame e
+  stays e s q x i = stood (s q x i)
+
+  same : (e : Event) → ((q : Text) → new.queue q ≡ old.queue q) → AllCame e
+  same e is = stays e (stays_same old.queue new.queue is)
+
+  free : (e : Event) (mine : Holder → Bool) → ((q : Text) → new.queue q ≡ map (freed mine) (old.queue q)) → AllCame e
+  free e mine is q x i = stood (in_freed mine (old.queue q) x (subst (IsIn x) (is q) i))
+
+  -- one queue is another
+  other : (e : Event) (name : Text) (entries : List Entry) → ((q : Text) → new.queue q ≡ with_queue old.queue name entries q) → ((x : Entry) → IsIn x entries → IsOneOf (old.queue name) x) → AllCame e
+  other e name entries is here q x i = stood (at_queue (λ (r : Text) (es : List Entry). IsIn x es → IsOneOf (old.queue r) x) old.queue name entries (here x) (λ r apart. itself_one (old.queue r) x) q (subst (IsIn x) (is q) i))
+
+  closes : (e : Event) (c h : ℕ) (wanted : List Send) (v : Bool) → Does sends notes new wanted (if v then old else with_freed (with_channel old c h None) (by_channel c h)) → AllCame e
+  closes e c h wanted true p = same e p.left.queues
+  closes e c h wanted false p = free e (by_channel c h) p.left.queues
+
+  limits : (e : Event) (c h count : ℕ) (ch : Channel) (wanted : List Send) (v : Bool) → Does sends notes new wanted (with_channel old c h (Some (if v then record ch { limit = count } else record ch { each_limit = count }))) → AllCame e
+  limits e c h count ch wanted v p = same e p.left.queues
+
+  gets : (e : Event) (c h : ℕ) (ch : Channel) (m : Get) (o : Option Entry) → first_ready (old.queue m.queue) ≡ o → Gets old c h ch m o sends notes new → AllCame e
+  gets e c h ch m None found p = same e p.left.queues
+  gets e c h ch m (Some y) found p = other e m.queue _ p.left.queues (given_one m.no_ack _ y (old.queue m.queue) found)
+
+  settled_came : (e : Event) (how : Settlement) (c h : ℕ) (os : List Outstanding) → AreSettled t how c h os old.queue notes new.queue → AllCame e
+  settled_came e (Leaves cause) c h os s = stays e (left_stays cause c h os old.queue notes new.queue s)
+  settled_came e Rejects c h os s = λ q x i. elim (rejected_stood t c h os old.queue notes new.queue s q x i) [ inl j ↦ stood (itself_one (old.queue q) x j) | inr l ↦ by_letter l ]
+  settled_came e Returns c h os s = stays e (returned_stays c h os old.queue new.queue s.1)
+
+  settles : (e : Event) (how : Settlement) (c h tag : ℕ) (ch : Channel) (multiple : Bool) (wanted : List Send) → Settles t how old c h ch tag multiple wanted sends notes new → AllCame e
+  settles e how c h tag ch multiple wanted p = settled_came e how c h p.gone p.queues
+
+  delivers : (e : Event) (c : ℕ) → IsDelivery old c sends notes new → AllCame e
+  delivers e c p = let o = p.made in other e o.consumer.queue _ p.makes.left.queues (given_one o.consumer.no_ack _ o.entry (old.queue o.consumer.queue) o.first)
+
+  publishes : (e : Event) → Publishes t old new e sends notes → AllCame e
+  publishes e p q x i = elim (in-append x (old.queue q) _ (subst (IsIn x) (p.is.left.queues q) i)) [
+    | inl j ↦ stood (itself_one (old.queue q) x j)
+    | inr j ↦ let came = in_comes t old.queue (message (number p) p.publish (content_of p)) q p.is.targets x j in published p came.routed came.is
+  ]
+
+  performs : (c h : ℕ) (m : Method) (content : Option Content) (conn : Connection) → refusal t old conn h m (old.channel c h) ≡ None → Performs t old c h (channel_or_new (old.channel c h)) m content sends notes new → AllCame (Command c h m content)
+  performs c h (ConfirmSelect no_wait) content conn accepted p = same (Command c h (ConfirmSelect no_wait) content) p.left.queues
+  performs c h (BasicPublish publish) content conn accepted p = publishes (Command c h (BasicPublish publish) content) (record { c = c; h = h; ch = channel_or_new (old.channel c h); publish = publish; given = content; event = refl; connection = conn; accepted = accepted; is = p })
+  performs c h (ChannelOpen reserved) content conn accepted p = same (Command c h (ChannelOpen reserved) content) p.left.queues
+  performs c h (ChannelFlow active) content conn accepted p = same (Command c h (ChannelFlow active) content) p.left.queues
+  performs c h (ChannelClose m) content conn accepted p = closes (Command c h (ChannelClose m) content) c h _ (channel_or_new (old.channel c h)).is_closing p
+  performs c h ChannelCloseOk content conn accepted p = same (Command c h ChannelCloseOk content) p.left.queues
+  performs c h (ConnectionClose m) content conn accepted p = free (Command c h (ConnectionClose m) content) (by_connection c) p.left.queues
+  performs c h (ExchangeDeclare m) content conn accepted p = same (Command c h (ExchangeDeclare m) content) p.left.queues
+  performs c h (QueueDeclare m) content conn accepted p = same (Command c h (QueueDeclare m) content) p.does.left.queues
+  performs c h (BasicQos m) content conn accepted p = limits (Command c h (BasicQos m) content) c h m.prefetch_count (channel_or_new (old.channel c h)) _ m.global p
+  performs c h (BasicConsume m) content conn accepted p = same (Command c h (BasicConsume m) content) p.left.queues
+  performs c h (BasicCancel m) content conn accepted p = same (Command c h (BasicCancel m) content) p.left.queues
+  performs c h (BasicGet m) content conn accepted p = gets (Command c h (BasicGet m) content) c h (channel_or_new (old.channel c h)) m (first_ready (old.queue m.queue)) refl p
+  performs c h (BasicAck m) content conn accepted p = settles (Command c h (BasicAck m) content) _ c h _ _ _ _ p
+  performs c h (BasicReject m) content conn accepted p = settles (Command c h (BasicReject m) content) _ c h _ _ _ _ p
+  performs c h (BasicNack m) content conn accepted p = settles (Command c h (BasicNack m) content) _ c h _ _ _ _ p
+  performs c h (BasicRecover requeue) content conn accepted p = settles (Command c h (BasicRecover requeue) content) _ c h _ _ _ _ p
+  performs c h (QueuePurge m) content conn accepted p = other (Command c h (QueuePurge m) content) m.queue _ p.left.queues (λ x i. itself_one (old.queue m.queue) x (in_filter (λ e. not (is_ready e)) x (old.queue m.queue) i).0)
+  performs c h _ content conn accepted p = absurd p
+
+  refuses : (e : Event) (c h : ℕ) (cause : Ids) (r : Refusal) → Refuses old c h cause r sends notes new → AllCame e
+  refuses e c h cause Ignored p = same e p.left.queues
+  refuses e c h cause (Of_channel code) p = free e (by_channel c h) p.left.queues
+  refuses e c h cause (Of_connection code) p = free e (by_connection c) p.left.queues
+
+  decides : (c h : ℕ) (m : Method) (content : Option Content) (conn : Connection) (r : Option Refusal) → refusal t old conn h m (old.channel c h) ≡ r → Decides t old c h m content r sends notes new → AllCame (Command c h m content)
+  decides c h m content conn None e p = performs c h m content conn e p
+  decides c h m content conn (Some r) e p = refuses (Command c h m content) c h (ids_of m) r p
+
+  commanded : (c h : ℕ) (m : Method) (content : Option Content) (o : Option Connection) → OnConnection t old c h m content sends notes new o → AllCame (Command c h m content)
+  commanded c h m content None p = same (Command c h m content) p.left.queues
+  commanded c h m content (Some conn) p = decides c h m content conn (refusal t old conn h m (old.channel c h)) refl p
+
+  too_large : (c h : ℕ) (o : Option Connection) → OnLarge old c h sends notes new o → AllCame (TooLarge c h)
+  too_large c h None p = same (TooLarge c h) p.left.queues
+  too_large c h (Some conn) p = refuses (TooLarge c h) c h (ids_of empty_publish) (refusal_of_large conn h (old.channel c h)) p
+
+  -- At each event of the broker it is known where each entry came from.
+  came : (e : Event) → Acts t old e sends notes new → AllCame e
+  came (Open c) p = same (Open c) p.left.queues
+  came (First c bytes) p = same (First c bytes) p.left.queues
+  came (Running c max k) p = free (Running c max k) (by_connection c) p.left.queues
+  came (Command c h m content) p = commanded c h m content (old.connection c) p
+  came (TooLarge c h) p = too_large c h (old.connection c) p
+  came (Fault c code) p = free (Fault c code) (by_connection c) p.left.queues
+  came (Lose c) p = free (Lose c) (by_connection c) p.left.queues
+  came (Pause c) p = same (Pause c) p.left.queues
+  came (Resume c) p = same (Resume c) p.left.queues
+  came (Deliver c) p = delivers (Deliver c) c p
+
+  -- so it is after a move of the phases
+  moved : (e : Event) (c max : ℕ) (v : Bool) → Is (if v then opened old c max 0 else old) new → AllCame e
+  moved e c max true is = free e (by_connection c) is.queues
+  moved e c max false is = same e is.queues
+
+-- and after each step
+pub step_came : (f : Config) (old new : State) (e : Event) (sends : List Send) (notes : List Note) → Step f old e sends notes new → AllCame f.topology old.broker new.broker sends notes e
+step_came f old new e sends notes s = elim (goes f old new sends notes e s) [
+  | inl p ↦ came f.topology old.broker new.broker sends notes e p.acts
+  | inr a ↦ moved f.topology old.broker new.broker sends notes e (connection_of e) a.move.next.channel_max (is_running a.move.next.phase) a.moves.broker
+]
+
+-- ---- each is traced
+
+-- the exchange and the key of a publish
+abbrev pub exchange_of : Event → Text
+exchange_of (Command c h (BasicPublish p) content) = p.exchange
+exchange_of e = []
+
+abbrev pub key_of : Event → Text
+key_of (Command c h (BasicPublish p) content) = p.routing_key
+key_of e = []
+
+come_same : (t : Topology) (q : Text) (m o : Message) → AreSame m o → HasComeTo t q o → HasComeTo t q m
+come_same t q m o s at = record {
+  short = subst (λ (z : Text). length z ≤ 255) (sym s.first_key) at.short;
+  come =
+      subst (λ (z : Text). HasCome t z m.first_key m.exchange m.key q) (sym s.first_exchange) (
+      subst (λ (z : Text). HasCome t o.first_exchange z m.exchange m.key q) (sym s.first_key) (
+      subst (λ (z : Text). HasCome t o.first_exchange o.first_key z m.key q) (sym s.exchange) (
+      subst (λ (z : Text). HasCome t o.first_exchange o.first_key o.exchange z q) (sym s.key) at.come)));
+}
+
+module _ (t : Topology) (old new : Broker) (e : Event) (sends : List Send) (notes : List Note) where
+  each_come : IsSaid e → AreTraced t old → (q : Text) (x : Entry) → Came t old new e sends notes q x → HasComeTo t q x.message
+  each_come said traced q x (stood o) = come_same t q x.message o.entry.message o.same (traced.each q o.entry o.there)
+  each_come said traced q x (by_letter l) =
+      let at = traced.each l.from l.entry l.there in
+      subst (λ (z : Entry). HasComeTo t q z.message) (sym l.is) (record { short = at.short; come = by_death l.last at.come l.dies l.routes })
+  each_come said traced q x (published p i is) =
+      subst (λ (z : Entry). HasComeTo t q z.message) (sym is) (record { short = key_is_short p said; come = by_publish (picked q p.is.routed i) })
+
+  -- its publish was counted before, and a message of it stood in a queue; or the event is its publish
+  pub data Rooted (m : Message) : Type 0 where
+    before : (q : Text) (y : Entry) → IsIn y (old.queue q) → m.number ≡ y.message.number → AreSentAlike m y.message → Rooted m
+    now : Publishes t old new e sends notes → m.number ≡ old.published + 1 → m.first_exchange ≡ exchange_of e → m.first_key ≡ key_of e → Rooted m
+
+  pub rooted : (q : Text) (x : Entry) → Came t old new e sends notes q x → Rooted x.message
+  rooted q x (stood o) = before q o.entry o.there o.same.number (record { exchange = o.same.first_exchange; key = o.same.first_key })
+  rooted q x (by_letter l) =
+      before l.from l.entry l.there (ap (λ (z : Entry). z.message.number) l.is) (record { exchange = ap (λ (z : Entry). z.message.first_exchange) l.is; key = ap (λ (z : Entry). z.message.first_key) l.is })
+  rooted q x (published p i is) =
+      now p (ap (λ (z : Entry). z.message.number) is) (ap (λ (z : Entry). z.message.first_exchange) is ∙ sym (ap exchange_of p.event)) (ap (λ (z : Entry). z.message.first_key) is ∙ sym (ap key_of p.event))
+
+  -- no message has the number of a publish before it
+  apart : AreCounted old → (q : Text) (y : Entry) → IsIn y (old.queue q) → (n : ℕ) → n ≡ y.message.number → n ≡ old.published + 1 → ⊥
+  apart counted q y i n is one = let le = stands_counted old q y counted i in omega (arith, le, is, one)
+
+  both_alike : AreCounted old → AreTraced t old → (m o : Message) → m.number ≡ o.number → Rooted m → Rooted o → AreSentAlike m o
+  both_alike counted traced m o e (before q y i n a) (before r z j k b) =
+      let s = traced.alike q r y z i j (sym n ∙ e ∙ k) in
+      record { exchange = a.exchange ∙ s.exchange ∙ sym b.exchange; key = a.key ∙ s.key ∙ sym b.key }
+  both_alike counted traced m o e (before q y i n a) (now p one x k) = absurd (apart counted q y i m.number n (e ∙ one))
+  both_alike counted traced m o e (now p one x k) (before r z j n b) = absurd (apart counted r z j o.number n (sym e ∙ one))
+  both_alike counted traced m o e (now p one x k) (now p' one' x' k') = record { exchange = x ∙ sym x'; key = k ∙ sym k' }
+
+  pub traced_on : IsSaid e → AreCounted old → AreTraced t old → AllCame t old new sends notes e → AreTraced t new
+  traced_on said counted traced all = record {
+    each = λ q x i. each_come said traced q x (all q x i);
+    alike = λ q r x z i j same. both_alike counted traced x.message z.message same (rooted q x (all q x i)) (rooted r z (all r z j));
+  }
+
+pub stay_traced : MessagesStayTraced
+stay_traced = record {
+  empty = λ t. record { each = λ q e i. absurd i; alike = λ q r e d i j same. absurd i };
+  acts = λ t old new e sends notes said counted traced a. traced_on t old new e sends notes said counted traced (came t old new sends notes e a);
+}
+
+-- Each step leaves messages traced.
+pub step_traced : (f : Config) (old new : State) (e : Event) (sends : List Send) (notes : List Note) → IsSaid e → AreCounted old.broker → AreTraced f.topology old.broker → Step f old e sends notes new → AreTraced f.topology new.broker
+step_traced f old new e sends notes said counted traced s = traced_on f.topology old.broker new.broker e sends notes said counted traced (step_came f old new e sends notes s)

@@ -1,0 +1,22 @@
+-- Messages are traced: each came to its queue by the route of its publish and by deaths, and so none stands where a guarantee forbids it.
+use Rattle.std.specs.Prelude.{List}
+use Rattle.model.specs.Topology.{Topology}
+use Rattle.model.specs.Broker.{Broker}
+use Rattle.model.specs.Step.{Acts}
+use Rattle.model.specs.State.{Config}
+use Rattle.model.specs.Run.{AreCounted, empty_broker}
+use Rattle.model.specs.Arrivals.{IsSaid}
+use Rattle.model.specs.Tracing.{AreTraced, AreSafe}
+use Rattle.model.specs.Headline.{IsSound}
+use Rattle.model.specs.declared.events.Send.{Send}
+use Rattle.model.specs.declared.events.Event.{Event}
+use Rattle.model.specs.declared.notes.Note.{Note}
+
+-- In the empty broker messages are traced, and each event leaves it so.
+pub record MessagesStayTraced : Type 0 where
+  pub empty : (t : Topology) → AreTraced t empty_broker
+  pub acts : (t : Topology) (old new : Broker) (e : Event) (sends : List Send) (notes : List Note) → IsSaid e → AreCounted old → AreTraced t old → Acts t old e sends notes new → AreTraced t new
+
+-- Where they are, none stands in a queue that a guarantee forbids it, nor may one come to such a queue by deaths.
+abbrev pub TracedAreSafe : Type 0
+TracedAreSafe = (f : Config) (b : Broker) → IsSound f → AreTraced f.topology b → AreSafe f.topology f.guarantees b

@@ -1,0 +1,27 @@
+-- Answers that are put together piece by piece (own).
+use Rattle.std.specs.Prelude.{◌≡◌, ◌++◌, ◌⊎◌, Option, Some, None}
+use Rattle.model.specs.Words.{Text}
+use Rattle.line_words.specs.declared.answers.Unanswered.{Unanswered}
+use Rattle.line_words.specs.declared.answers.Unanswered.TheVariants.{Memory}
+
+-- what was appended, and the first reason why there is no answer, if there is one
+pub record Answering : Type 0 where
+  pub text : Text
+  pub lack : Option Unanswered
+
+-- the first of two reasons
+abbrev pub first_of : Option Unanswered → Unanswered → Unanswered
+first_of None why = why
+first_of (Some first) why = first
+
+-- there is no answer, for this reason if it is the first
+abbrev pub failed : Unanswered → Answering → Answering
+failed why a = record a { lack = Some (first_of a.lack why) }
+
+-- a piece was appended, where nothing is lacking; memory may have been refused for it
+abbrev pub PutsAt : Option Unanswered → Text → Answering → Answering → Type 0
+PutsAt (Some why) piece old new = new ≡ old
+PutsAt None piece old new = (new ≡ record old { text = old.text ++ piece }) ⊎ (new ≡ record old { lack = Some Memory })
+
+abbrev pub Puts : Text → Answering → Answering → Type 0
+Puts piece old new = PutsAt old.lack piece old new

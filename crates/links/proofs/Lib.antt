@@ -1,0 +1,4 @@
+pub mod Counting
+mod Opening
+pub mod Outcomes
+pub mod Setting

@@ -1,0 +1,11 @@
+use Rattle.std.proofs.Common.{◌∙◌, ap, sym, Some}
+use Rattle.std.specs.Option.{option_copied_mut}
+use Rattle.links.proofs.Outcomes.{on_err}
+use Rattle.links.proofs.Setting.{set_same}
+use Rattle.links.proofs.links.Links.consume.Goals as goal
+
+pub returns-clause-err : goal.returns-clause-err
+returns-clause-err c = on_err c.consume.result c.consume.ensures.err
+    (λ same. (c.get_mut.follows.holds c.consume.new.self).0
+    ∙ set_same _ c.self.inside.links.entries c.consume.new.self (sym c.get_mut.ensures.value ∙ ap option_copied_mut c.in-Some.is ∙ ap Some (sym same))
+    ∙ c.self.view_is)

@@ -1,0 +1,15 @@
+use Rattle.std.proofs.Common.{◌∙◌, ap, sym, Some}
+use Rattle.std.specs.Option.{option_copied_mut}
+use Rattle.links.proofs.Outcomes.{on_err}
+use Rattle.links.proofs.Setting.{set_same}
+use Rattle.links.proofs.links.Links.reserve.Goals.{in-Some, in-None}
+use Rattle.links.proofs.links.Links.reserve.Goals as goal
+
+pub returns-clause-err : goal.returns-clause-err
+returns-clause-err c = elim c.match-get_mut.branch [
+  | in-Some w ↦ rw (w.result-is, w.self-inside-is) (on_err w.reserve.result w.reserve.ensures.err (λ same.
+      (c.get_mut.follows.holds w.reserve.new.self).0
+      ∙ set_same _ c.self.inside.links.entries w.reserve.new.self (sym c.get_mut.ensures.value ∙ ap option_copied_mut w.in-Some.is ∙ ap Some (sym same))
+      ∙ c.self.view_is))
+  | in-None w ↦ rw w.result-is tt
+]

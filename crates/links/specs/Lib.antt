@@ -1,0 +1,4 @@
+pub mod Links
+pub mod Placed
+pub mod Consumers
+pub mod Counting

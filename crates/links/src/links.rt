@@ -1,0 +1,305 @@
+//! Connections that run, and their channels.
+//!
+//! A connection is looked up by its number in a map, and a channel stands in its connection at its number.
+
+ghost use Rattle.links.specs.Counting.{CountsConsumers};
+
+use crate::link::Link;
+use channel::{Channel, Outstanding, Refusal};
+use model::{Consume, Qos, Taker, Text};
+use std::alloc::{AllocError, Global};
+use std::collections::HashMap;
+use std::marker::Model;
+
+/// The connections that run, each under its number.
+#[derive(Drop)]
+pub struct Links {
+    links: HashMap<u64, Link>,
+}
+
+impl Model for Links {
+    ghost use Rattle.std.specs.Prelude.{ℕ, List};
+    ghost use Rattle.links.specs.Links.{Linked};
+
+    ghost Value = { List (ℕ × Linked) };
+
+    ghost view = { λ l. l.links.entries };
+}
+
+impl Links {
+    ghost use Rattle.std.specs.Prelude.{
+      ◌≡◌,
+      ◌+◌,
+      ◌<◌,
+      ◌^◌,
+      [],
+      ℕ,
+      None,
+      Some,
+      false,
+      Option,
+      IsSome,
+      IfSome,
+      OnOk,
+      OnErr,
+      option_map,
+    };
+    ghost use Rattle.std.specs.Option.{option_copied};
+    ghost use Rattle.model.specs.Broker.{with_one, with_row};
+    ghost use Rattle.model.specs.Step.{started, next_of, paused};
+    ghost use Rattle.model.specs.declared.methods.Qos.{Qos as Limit};
+    ghost use Rattle.model.specs.Settling.{settled};
+    ghost use Rattle.channel.specs.Outstanding.{tag_of};
+    ghost use Rattle.channel.specs.Open.{Open, limited, given_on, settled_on, without_settled, without_named, Seats};
+    ghost use Rattle.links.specs.Counting.{CountsConsumers};
+    ghost use Rattle.links.specs.Links.{link_in, connection_of, channel_of, room_in, seats_in, CanCount, CanGive, HasRoom, SetsRoom, Puts, Opens, AreLinks};
+
+    /// No connection runs. It takes no memory.
+    pub fn new(alloc: Global) -> Links
+        ensures { result ≡ [] }
+    {
+        Links {
+            links: HashMap::new(alloc),
+        }
+    }
+
+    /// The connection of this number, if it runs.
+    pub fn get(&self, connection: u64) -> Option<&Link>
+        ensures { option_copied result ≡ link_in self.now connection }
+    {
+        self.links.get(&connection)
+    }
+
+    /// The open channel of this number on the connection, if that runs.
+    pub fn channel(&self, connection: u64, number: u16) -> Option<&Channel>
+        ensures { option_copied result ≡ channel_of self.now connection number }
+    {
+        match self.get(connection) {
+            Some(link) => link.channel(number),
+            None => None,
+        }
+    }
+
+    /// How many consumers on all channels together take from the queue at this place, at most the greatest number. It passes
+    /// every channel that is kept, and takes no memory.
+    pub fn count_consumers(&self, queue: usize) -> usize
+        ensures { CountsConsumers self.now queue result }
+    {
+        count_consumers(&self.links, queue)
+    }
+
+    /// The connection runs from now on, with channels 1 to `channels` open and new.
+    pub fn open(
+        &mut self,
+        alloc: Global,
+        connection: u64,
+        channel_max: u16,
+        channels: u16,
+    ) -> Result<(), AllocError>
+        ensures ok { OnOk result (Opens self.old connection channel_max channels self.new) }
+        ensures err { OnErr result (self.new ≡ self.old) }
+    {
+        let link = Link::new(alloc, channel_max, channels)?;
+        match self.links.insert(connection, link) {
+            Ok(_) => Ok(()),
+            Err(_) => Err(AllocError),
+        }
+    }
+
+    /// The connection runs no more, and its channels are gone with it.
+    pub fn remove(&mut self, connection: u64)
+        ensures { AreLinks self.new (with_one (connection_of self.old) connection None) (with_row (channel_of self.old) connection (λ h. None)) }
+    {
+        self.links.remove(&connection);
+    }
+
+    /// The connection is paused from now on, or is not, if it runs.
+    pub fn set_paused(&mut self, connection: u64, is_paused: bool)
+        ensures { AreLinks self.new (with_one (connection_of self.old) connection (paused is_paused (connection_of self.old connection))) (channel_of self.old) }
+    {
+        if let Some(link) = self.links.get_mut(&connection) {
+            link.set_paused(is_paused);
+        }
+    }
+
+    /// The confirm number of the next publish on this channel, where publishes are confirmed there.
+    pub fn next_confirm(&self, connection: u64, channel: u16) -> Option<u64>
+        requires { CanCount (channel_of self.now connection channel) }
+        ensures { (ch : Open) → channel_of self.now connection channel ≡ Some ch → result ≡ next_of ch.confirm }
+    {
+        match self.get(connection) {
+            Some(link) => link.next_confirm(channel),
+            None => None,
+        }
+    }
+
+    /// The delivery tag under which the next message is given out on this channel.
+    pub fn next_tag(&self, connection: u64, channel: u16) -> u64
+        ensures { (ch : Open) → channel_of self.now connection channel ≡ Some ch → result ≡ ch.given.next_tag }
+    {
+        match self.get(connection) {
+            Some(link) => link.next_tag(channel),
+            None => 0,
+        }
+    }
+
+    /// Publishes on this channel are confirmed from now on.
+    pub fn select(&mut self, connection: u64, channel: u16)
+        requires { IsSome (channel_of self.old connection channel) }
+        ensures { (ch : Open) → channel_of self.old connection channel ≡ Some ch → Puts self.old connection channel (Some (record ch { confirm = started ch.confirm })) self.new }
+    {
+        if let Some(link) = self.links.get_mut(&connection) {
+            link.select(channel);
+        }
+    }
+
+    /// One publish more on this channel.
+    pub fn count_publish(&mut self, connection: u64, channel: u16)
+        requires there { IsSome (channel_of self.old connection channel) }
+        requires room { CanCount (channel_of self.old connection channel) }
+        ensures { (ch : Open) → channel_of self.old connection channel ≡ Some ch → Puts self.old connection channel (Some (record ch { confirm = next_of ch.confirm })) self.new }
+    {
+        if let Some(link) = self.links.get_mut(&connection) {
+            link.count_publish(channel);
+        }
+    }
+
+    /// The limit that a qos sets is this channel's.
+    pub fn limit(&mut self, connection: u64, channel: u16, qos: &Qos)
+        requires { IsSome (channel_of self.old connection channel) }
+        ensures { (ch : Open) → channel_of self.old connection channel ≡ Some ch → Puts self.old connection channel (Some (limited ch qos.now)) self.new }
+    {
+        if let Some(link) = self.links.get_mut(&connection) {
+            link.limit(channel, qos);
+        }
+    }
+
+    /// A consumer of the queue at this place is made on this channel, or refused: then nothing changes. Tells its tag.
+    pub fn consume(
+        &mut self,
+        connection: u64,
+        channel: u16,
+        alloc: Global,
+        queue: usize,
+        consume: &Consume,
+    ) -> Result<Text, Refusal>
+        requires { IsSome (channel_of self.old connection channel) }
+        ensures seats { (ch : Open) → channel_of self.old connection channel ≡ Some ch → (new : Open) × Seats ch queue consume.now result new × Puts self.old connection channel (Some new) self.new }
+        ensures err { OnErr result (self.new ≡ self.old) }
+    {
+        match self.links.get_mut(&connection) {
+            Some(link) => link.consume(channel, alloc, queue, consume),
+            None => unreachable!(),
+        }
+    }
+
+    /// The consumer of this tag is this channel's no more. It takes no memory.
+    pub fn cancel(&mut self, connection: u64, channel: u16, tag: &[u8])
+        requires { IsSome (channel_of self.old connection channel) }
+        ensures { (ch : Open) → channel_of self.old connection channel ≡ Some ch → Puts self.old connection channel (Some (without_named ch tag.now (seats_in (channel_of self.new connection channel)))) self.new }
+    {
+        if let Some(link) = self.links.get_mut(&connection) {
+            link.cancel(channel, tag);
+        }
+    }
+
+    /// Room is made for one message more that is given out on this channel.
+    pub fn reserve(&mut self, connection: u64, channel: u16) -> Result<(), AllocError>
+        requires { IsSome (channel_of self.old connection channel) }
+        ensures ok { OnOk result ((ch : Open) → channel_of self.old connection channel ≡ Some ch → (new : Option Open) × SetsRoom ch new × Puts self.old connection channel new self.new) }
+        ensures err { OnErr result (self.new ≡ self.old) }
+    {
+        match self.links.get_mut(&connection) {
+            Some(link) => link.reserve(channel),
+            None => Ok(()),
+        }
+    }
+
+    /// A message of the queue at this place is given out on this channel, and waits to be settled.
+    pub fn give(&mut self, connection: u64, channel: u16, queue: usize, arrival: u64, by: Taker)
+        requires there { IsSome (channel_of self.old connection channel) }
+        requires tag { CanGive (channel_of self.old connection channel) }
+        requires room { HasRoom (channel_of self.old connection channel) }
+        ensures { (ch : Open) → channel_of self.old connection channel ≡ Some ch → Puts self.old connection channel (Some (given_on ch queue arrival by)) self.new }
+    {
+        if let Some(link) = self.links.get_mut(&connection) {
+            link.give(channel, queue, arrival, by);
+        }
+    }
+
+    /// A message is given out on this channel that needs no acknowledgement.
+    pub fn give_settled(&mut self, connection: u64, channel: u16)
+        requires there { IsSome (channel_of self.old connection channel) }
+        requires tag { CanGive (channel_of self.old connection channel) }
+        ensures { (ch : Open) → channel_of self.old connection channel ≡ Some ch → Puts self.old connection channel (Some (settled_on ch)) self.new }
+    {
+        if let Some(link) = self.links.get_mut(&connection) {
+            link.give_settled(channel);
+        }
+    }
+
+    /// What this tag settles on this channel, in tag order; none where it is refused.
+    pub fn settle(
+        &self,
+        connection: u64,
+        channel: u16,
+        tag: u64,
+        multiple: bool,
+    ) -> Option<&[Outstanding]>
+        ensures { (ch : Open) → channel_of self.now connection channel ≡ Some ch → option_map (λ s. s.now) result ≡ settled tag_of tag multiple ch.given.outstanding }
+    {
+        match self.get(connection) {
+            Some(link) => link.settle(channel, tag, multiple),
+            None => None,
+        }
+    }
+
+    /// What this tag settles is no longer outstanding on this channel. It takes no memory.
+    pub fn forget(&mut self, connection: u64, channel: u16, tag: u64, multiple: bool)
+        requires { IsSome (channel_of self.old connection channel) }
+        ensures { (ch : Open) → channel_of self.old connection channel ≡ Some ch → Puts self.old connection channel (Some (without_settled ch tag multiple (room_in (channel_of self.new connection channel)))) self.new }
+    {
+        if let Some(link) = self.links.get_mut(&connection) {
+            link.forget(channel, tag, multiple);
+        }
+    }
+
+    /// This stands at this channel from now on, where none may have been open yet. Where memory is wanting, nothing has
+    /// changed.
+    pub fn open_channel(
+        &mut self,
+        connection: u64,
+        number: u16,
+        channel: Channel,
+    ) -> Result<(), AllocError>
+        requires { IsSome (link_in self.old connection) }
+        ensures ok { OnOk result (Puts self.old connection number (Some channel) self.new) }
+        ensures err { OnErr result (self.new ≡ self.old) }
+    {
+        match self.links.get_mut(&connection) {
+            Some(link) => link.open_channel(number, channel),
+            None => Ok(()),
+        }
+    }
+
+    /// This stands at this channel from now on.
+    pub fn put(&mut self, connection: u64, number: u16, channel: Option<Channel>)
+        requires { IsSome (channel_of self.old connection number) }
+        ensures { Puts self.old connection number channel self.new }
+    {
+        if let Some(link) = self.links.get_mut(&connection) {
+            link.put(number, channel);
+        }
+    }
+}
+
+/// How many consumers on all channels of these connections take from the queue at this place, at most the greatest number.
+fn count_consumers(links: &HashMap<u64, Link>, queue: usize) -> usize
+    ensures { CountsConsumers links.now.entries queue result }
+{
+    let mut count: usize = 0;
+    for link in links.values() {
+        count = count.saturating_add(link.count_consumers(queue));
+    }
+    count
+}

@@ -1,0 +1,18 @@
+//! What benchmarks share: topologies, an engine over them, what clients write, and what the process has used.
+#![tactic(auto)]
+
+mod clients;
+mod engines;
+mod meters;
+mod parts;
+mod shapes;
+mod topologies;
+mod written;
+
+pub use clients::{Client, SELECT};
+pub use engines::Measured;
+pub use meters::{processor_time, resident_bytes};
+pub use parts::{Part, print_parts};
+pub use shapes::{Keys, Shape};
+pub use topologies::built;
+pub use written::{Texts, Written};

@@ -1,0 +1,37 @@
+//! The shapes of what is measured.
+
+/// A topology. But for the last shape it has the exchange `x`, to which messages are sent.
+#[derive(Clone, Copy, Drop)]
+pub enum Shape {
+    /// A direct exchange, bound to one queue by each key.
+    Direct,
+    /// A fanout exchange bound to three queues.
+    Fanout,
+    /// A topic exchange with so many bindings, of which the last matches each key.
+    Topic(u32),
+    /// A direct exchange among so many others.
+    Exchanges(u32),
+    /// A direct exchange bound to one queue among so many.
+    Queues(u32),
+    /// A direct exchange bound to each of so many queues, `q0`, `q1` .., by a key of its own, `k.0`, `k.1` ..
+    Keyed(u32),
+    /// An exchange bound to the queue `q`: a fanout one where the number is 0; else a topic one, by `#` and by each pattern of at
+    /// most so many words, of which each is `a` or `*`.
+    Worded(u32),
+    /// 256 topic exchanges, each bound to a queue of its own by 16 patterns, of which the first is `k.#`.
+    Starred,
+    /// 256 topic exchanges, so many of which lead on to the next, 256 queues, and as many bindings as there may be where
+    /// all lead on.
+    Linked(u32),
+}
+
+/// How the routing keys of a load go.
+#[derive(Clone, Copy, PartialEq, Eq, Drop)]
+pub enum Keys {
+    /// One key comes again.
+    One,
+    /// No key comes again.
+    Fresh,
+    /// So many keys in turn.
+    Turns(u32),
+}

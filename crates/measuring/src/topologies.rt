@@ -1,0 +1,298 @@
+//! The topologies that are measured.
+
+use crate::shapes::Shape;
+use crate::written::{Texts, Written};
+use exchange_graph::Topology;
+use model::{Binding, DeclaredQueue, Exchange, ExchangeKind, Place, Text};
+use std::alloc::Global;
+
+/// Exchanges, queues and bindings, as they are put together.
+#[derive(Drop)]
+struct Plan {
+    texts: Texts,
+    exchanges: Vec<Exchange>,
+    queues: Vec<DeclaredQueue>,
+    bindings: Vec<Binding>,
+}
+
+impl Plan {
+    fn new(alloc: Global) -> Plan {
+        Plan {
+            texts: Texts::new(alloc),
+            exchanges: Vec::new(alloc),
+            queues: Vec::new(alloc),
+            bindings: Vec::new(alloc),
+        }
+    }
+
+    fn put_exchange(&mut self, name: Text, kind: ExchangeKind) {
+        let exchange = Exchange {
+            name,
+            kind,
+            internal: false,
+            alternate: None,
+        };
+        if self.exchanges.push(exchange).is_err() {
+            self.texts.fail();
+        }
+    }
+
+    fn put_queue(&mut self, name: Text) {
+        let queue = DeclaredQueue {
+            name,
+            limit: None,
+            dead_letter_exchange: None,
+            dead_letter_key: None,
+        };
+        if self.queues.push(queue).is_err() {
+            self.texts.fail();
+        }
+    }
+
+    fn put_binding(&mut self, source: Text, to: Place, key: Text) {
+        if self.bindings.push(Binding { source, to, key }).is_err() {
+            self.texts.fail();
+        }
+    }
+
+    fn exchange(&mut self, name: &str, kind: ExchangeKind) {
+        let name = self.texts.text(name.as_bytes());
+        self.put_exchange(name, kind);
+    }
+
+    fn queue(&mut self, name: &str) {
+        let name = self.texts.text(name.as_bytes());
+        self.put_queue(name);
+    }
+
+    /// Binds a queue to an exchange by a key.
+    fn bind(&mut self, source: &str, queue: &str, key: &str) {
+        let source = self.texts.text(source.as_bytes());
+        let queue = self.texts.text(queue.as_bytes());
+        let key = self.texts.text(key.as_bytes());
+        self.put_binding(source, Place::Queue(queue), key);
+    }
+
+    /// Binds the queue `q` to the exchange `x` by the key that was put together.
+    fn bind_by(&mut self, key: &Written) {
+        let source = self.texts.text(b"x");
+        let queue = self.texts.text(b"q");
+        let key = self.texts.of(key);
+        self.put_binding(source, Place::Queue(queue), key);
+    }
+
+    /// Binds the queue of a number to the exchange of the same number by the key that was put together.
+    fn bind_numbered(&mut self, number: u32, key: &Written) {
+        let source = self.texts.numbered("x", number);
+        let queue = self.texts.numbered("q", number);
+        let key = self.texts.of(key);
+        self.put_binding(source, Place::Queue(queue), key);
+    }
+
+    /// The topic exchange and the queue of this number.
+    fn numbered(&mut self, number: u32) {
+        let exchange = self.texts.numbered("x", number);
+        self.put_exchange(exchange, ExchangeKind::Topic);
+        let queue = self.texts.numbered("q", number);
+        self.put_queue(queue);
+    }
+
+    /// The exchange of this number leads to the next one by every key.
+    fn link_on(&mut self, number: u32) {
+        let source = self.texts.numbered("x", number);
+        let next = self.texts.numbered("x", number.saturating_add(1));
+        let key = self.texts.text(b"#");
+        self.put_binding(source, Place::Exchange(next), key);
+    }
+
+    /// A key without a word.
+    fn key(&self) -> Written {
+        Written::new(self.texts.alloc())
+    }
+}
+
+/// The direct exchange `x`, with the queue `q` bound by `k`.
+fn direct(plan: &mut Plan) {
+    plan.exchange("x", ExchangeKind::Direct);
+    plan.queue("q");
+    plan.bind("x", "q", "k");
+}
+
+fn fanout(plan: &mut Plan) {
+    plan.exchange("x", ExchangeKind::Fanout);
+    for name in ["a", "b", "c"] {
+        plan.queue(name);
+        plan.bind("x", name, "");
+    }
+}
+
+/// The direct exchange `x`, with each queue of so many bound by its own key.
+fn keyed(plan: &mut Plan, count: u32) {
+    plan.exchange("x", ExchangeKind::Direct);
+    for number in 0..count {
+        keyed_queue(plan, number);
+    }
+}
+
+/// The queue of this number, bound to `x` by its key.
+fn keyed_queue(plan: &mut Plan, number: u32) {
+    let queue = plan.texts.numbered("q", number);
+    plan.put_queue(queue);
+    let source = plan.texts.text(b"x");
+    let queue = plan.texts.numbered("q", number);
+    let key = plan.texts.numbered("k.", number);
+    plan.put_binding(source, Place::Queue(queue), key);
+}
+
+/// A binding that matches no key.
+fn other(plan: &mut Plan, place: u32) {
+    let mut key = plan.key();
+    key.put_text("other.");
+    key.put_number(u64::from(place));
+    key.put_text(".*");
+    plan.bind_by(&key);
+}
+
+/// The last of the bindings is `k.#`, the others match no key.
+fn topic(plan: &mut Plan, bindings: u32) {
+    plan.exchange("x", ExchangeKind::Topic);
+    plan.queue("q");
+    for place in 1..bindings {
+        other(plan, place);
+    }
+    plan.bind("x", "q", "k.#");
+}
+
+fn among_exchanges(plan: &mut Plan, count: u32) {
+    for place in 1..count {
+        let name = plan.texts.numbered("y", place);
+        plan.put_exchange(name, ExchangeKind::Direct);
+    }
+    direct(plan);
+}
+
+fn among_queues(plan: &mut Plan, count: u32) {
+    for place in 1..count {
+        let name = plan.texts.numbered("p", place);
+        plan.put_queue(name);
+    }
+    direct(plan);
+}
+
+/// The exchange of this number, among 256, is bound to its queue by one of the patterns.
+fn bound(plan: &mut Plan, place: u32) {
+    let mut key = plan.key();
+    if place % 16 == 0 {
+        key.put_text("a.*.#.d.e");
+    } else {
+        key.put_text("#.");
+        key.put_number(u64::from(place));
+        key.put_text(".*.#.d.e");
+    }
+    plan.bind_numbered(place % 256, &key);
+}
+
+/// 256 exchanges, so many of which lead on to the next, 256 queues and 3,841 bindings from exchanges to queues.
+fn linked(plan: &mut Plan, links: u32) {
+    for place in 0..256 {
+        plan.numbered(place);
+    }
+    for place in 0..links {
+        plan.link_on(place);
+    }
+    for place in 0..3841 {
+        bound(plan, place);
+    }
+}
+
+/// A binding by a pattern of words `a` and `*`: the binary digits of a number behind its first.
+fn by_digits(plan: &mut Plan, number: u32) {
+    let mut key = plan.key();
+    let mut rest = number;
+    for _ in 0..32 {
+        if rest > 1 {
+            put_digit(&mut key, rest % 2);
+        }
+        rest /= 2;
+    }
+    plan.bind_by(&key);
+}
+
+/// Appends a word, with a dot before it unless it is the first.
+fn put_digit(key: &mut Written, digit: u32) {
+    if !key.as_slice().is_empty() {
+        key.put_text(".");
+    }
+    key.put_text(if digit == 1 { "a" } else { "*" });
+}
+
+/// One exchange and one queue, bound by all patterns of at most so many words.
+fn worded(plan: &mut Plan, words: u32) {
+    plan.queue("q");
+    if words == 0 {
+        plan.exchange("x", ExchangeKind::Fanout);
+        return plan.bind("x", "q", "");
+    }
+    plan.exchange("x", ExchangeKind::Topic);
+    plan.bind("x", "q", "#");
+    for number in 2..2u32.saturating_pow(words.saturating_add(1)) {
+        by_digits(plan, number);
+    }
+}
+
+/// One of the 16 bindings of an exchange to its queue.
+fn starred_binding(plan: &mut Plan, number: u32, place: u32) {
+    let mut key = plan.key();
+    key.put_text("k.");
+    if place == 0 {
+        key.put_text("#");
+    } else {
+        key.put_number(u64::from(place));
+        key.put_text(".*");
+    }
+    plan.bind_numbered(number, &key);
+}
+
+/// An exchange and its queue, bound by 16 patterns.
+fn star(plan: &mut Plan, number: u32) {
+    plan.numbered(number);
+    for place in 0..16 {
+        starred_binding(plan, number, place);
+    }
+}
+
+/// 256 exchanges, each bound to its queue by 16 patterns.
+fn starred(plan: &mut Plan) {
+    for number in 0..256 {
+        star(plan, number);
+    }
+}
+
+fn put_shape(plan: &mut Plan, shape: Shape) {
+    match shape {
+        Shape::Direct => direct(plan),
+        Shape::Fanout => fanout(plan),
+        Shape::Topic(bindings) => topic(plan, bindings),
+        Shape::Exchanges(count) => among_exchanges(plan, count),
+        Shape::Queues(count) => among_queues(plan, count),
+        Shape::Keyed(count) => keyed(plan, count),
+        Shape::Worded(words) => worded(plan, words),
+        Shape::Starred => starred(plan),
+        Shape::Linked(links) => linked(plan, links),
+    }
+}
+
+/// The topology that was put together, none where memory was refused or it is refused itself.
+fn built_of(alloc: Global, plan: Plan) -> Option<Topology> {
+    if !plan.texts.is_whole() {
+        return None;
+    }
+    Topology::build(alloc, plan.exchanges, plan.queues, plan.bindings).ok()
+}
+
+/// The topology of this shape, none where it is refused or memory is.
+pub fn built(alloc: Global, shape: Shape) -> Option<Topology> {
+    let mut plan = Plan::new(alloc);
+    put_shape(&mut plan, shape);
+    built_of(alloc, plan)
+}

@@ -1,0 +1,152 @@
+//! Steps that answer a command.
+
+ghost use Rattle.std.specs.Prelude.{◌≡◌, ◌<◌, ◌∷◌, [], IfOk, length, vec_len, vec_capacity};
+ghost use Rattle.model.specs.Deliveries.{delivery_notes};
+ghost use Rattle.model.specs.Sending.{IsCarried};
+ghost use Rattle.model.specs.Step as said;
+ghost use Rattle.model.specs.Step.{select_sends, purge_sends, declare_sends, queue_declared, consume_sends, cancel_sends};
+ghost use Rattle.replies.specs.Sent.{AreOwn};
+
+use crate::answers::{cancel_ok, consume_ok, purge_ok, queue_ok, select_ok};
+use crate::contents::get_ok;
+use crate::steps::Step;
+use model::{Cancel, Cause, Entry, Get, Note, QueueDeclare, Send, Text};
+use std::alloc::{AllocError, Global};
+
+/// The answer to confirm.select, where one is wanted.
+pub fn answer_select(
+    alloc: Global,
+    connection: u64,
+    channel: u16,
+    no_wait: bool,
+) -> Result<Step, AllocError>
+    ensures sends { IfOk result (λ s. s.sends.items ≡ select_sends connection channel no_wait) }
+    ensures notes { IfOk result (λ s. s.notes.items ≡ []) }
+    ensures own { IfOk result (λ s. AreOwn connection s.sends.items) }
+{
+    if no_wait {
+        Ok(Step::nothing(alloc))
+    } else {
+        Step::sending(alloc, select_ok(connection, channel))
+    }
+}
+
+/// The answer to a purge that took out so many messages, where one is wanted.
+pub fn answer_purge(
+    alloc: Global,
+    connection: u64,
+    channel: u16,
+    no_wait: bool,
+    count: usize,
+) -> Result<Step, AllocError>
+    ensures sends { IfOk result (λ s. s.sends.items ≡ purge_sends connection channel no_wait count) }
+    ensures notes { IfOk result (λ s. s.notes.items ≡ []) }
+    ensures own { IfOk result (λ s. AreOwn connection s.sends.items) }
+{
+    if no_wait {
+        Ok(Step::nothing(alloc))
+    } else {
+        Step::sending(alloc, purge_ok(connection, channel, count))
+    }
+}
+
+/// The answer to a declare that asks for a queue with so many ready messages and so many consumers, where one is wanted.
+pub fn answer_queue_declare(
+    alloc: Global,
+    connection: u64,
+    channel: u16,
+    declare: &QueueDeclare,
+    ready: usize,
+    consumers: usize,
+) -> Result<Step, AllocError>
+    ensures sends { IfOk result (λ s. s.sends.items ≡ declare_sends connection channel declare.now.no_wait (queue_declared declare.now.queue ready consumers)) }
+    ensures notes { IfOk result (λ s. s.notes.items ≡ []) }
+    ensures own { IfOk result (λ s. length declare.now.queue < 256 → AreOwn connection s.sends.items) }
+{
+    if declare.no_wait {
+        Ok(Step::nothing(alloc))
+    } else {
+        let queue = declare.queue.clone()?;
+        Step::sending(
+            alloc,
+            queue_ok(connection, channel, queue, ready, consumers),
+        )
+    }
+}
+
+/// The answer to a consume stands in the step, which sends nothing yet, where one is wanted. There is room for it.
+pub fn answer_consume(step: &mut Step, connection: u64, channel: u16, no_wait: bool, tag: Text)
+    requires empty { step.old.sends.items ≡ [] }
+    requires room { vec_len step.old.sends < vec_capacity step.old.sends }
+    ensures sends { step.new.sends.items ≡ consume_sends connection channel no_wait tag }
+    ensures notes { step.new.notes.items ≡ step.old.notes.items }
+    ensures own { length tag < 256 → AreOwn connection step.new.sends.items }
+{
+    if !no_wait {
+        step.sends
+            .push_reserved(consume_ok(connection, channel, tag));
+    }
+}
+
+/// The answer to a cancel, where one is wanted.
+pub fn answer_cancel(
+    alloc: Global,
+    connection: u64,
+    channel: u16,
+    cancel: &Cancel,
+) -> Result<Step, AllocError>
+    ensures sends { IfOk result (λ s. s.sends.items ≡ cancel_sends connection channel cancel.now.no_wait cancel.now.consumer_tag) }
+    ensures notes { IfOk result (λ s. s.notes.items ≡ []) }
+    ensures own { IfOk result (λ s. length cancel.now.consumer_tag < 256 → AreOwn connection s.sends.items) }
+{
+    if cancel.no_wait {
+        Ok(Step::nothing(alloc))
+    } else {
+        let tag = cancel.consumer_tag.clone()?;
+        Step::sending(alloc, cancel_ok(connection, channel, tag))
+    }
+}
+
+/// This is sent of a message that is given out, and where that needs no acknowledgement it is noted that the message leaves
+/// its queue, which has this name.
+pub fn giving(
+    alloc: Global,
+    send: Send,
+    no_ack: bool,
+    entry: &Entry,
+    queue: &Text,
+) -> Result<Step, AllocError>
+    ensures sends { IfOk result (λ s. s.sends.items ≡ send ∷ []) }
+    ensures notes { IfOk result (λ s. s.notes.items ≡ delivery_notes no_ack entry.now.message.number queue.now) }
+{
+    let mut step = Step::sending(alloc, send)?;
+    if !no_ack {
+        return Ok(step);
+    }
+    let note = Note::Left {
+        number: entry.message.number(),
+        queue: queue.clone()?,
+        cause: Cause::Auto,
+    };
+    step.notes.reserve_exact(1)?;
+    step.notes.push_reserved(note);
+    Ok(step)
+}
+
+/// What is sent and noted of the message that a get takes, under this delivery tag, where so many are ready behind it.
+pub fn answer_get(
+    alloc: Global,
+    connection: u64,
+    channel: u16,
+    tag: u64,
+    get: &Get,
+    entry: &Entry,
+    remaining: usize,
+) -> Result<Step, AllocError>
+    ensures sends { IfOk result (λ s. s.sends.items ≡ said.get_ok connection channel tag entry.now remaining ∷ []) }
+    ensures notes { IfOk result (λ s. s.notes.items ≡ delivery_notes get.now.no_ack entry.now.message.number get.now.queue) }
+    ensures own { IfOk result (λ s. IsCarried entry.now.message → AreOwn connection s.sends.items) }
+{
+    let send = get_ok(connection, channel, tag, entry, remaining)?;
+    giving(alloc, send, get.no_ack, entry, &get.queue)
+}

@@ -1,0 +1,110 @@
+//! Messages that are sent with their contents, whose bytes are shared.
+
+ghost use Rattle.std.specs.Prelude.{◌≡◌, ◌<◌, length, IfOk, IfSome};
+ghost use Rattle.model.specs.Grammar.{IsMethod};
+ghost use Rattle.model.specs.Sending.{IsCarried};
+ghost use Rattle.model.specs.Step as said;
+ghost use Rattle.model.specs.declared.methods.Method.TheVariants as seen;
+ghost use Rattle.replies.specs.Sent as sent;
+ghost use Rattle.replies.specs.Sent.{IsOwn};
+
+use crate::answers::written;
+use model::{Content, Deliver, Entry, GetOk, Method, Publish, Return, Send, Text, reply_text};
+use std::alloc::AllocError;
+
+/// The reply code of a publish that is sent back: no-route.
+const NO_ROUTE: u16 = 312;
+
+/// basic.return of this publish, with its content, whose bytes are shared.
+fn return_of(
+    connection: u64,
+    channel: u16,
+    publish: &Publish,
+    content: &Content,
+) -> Result<Send, AllocError>
+    ensures send { IfOk result (λ s. s ≡ said.return_of connection channel publish.now content.now) }
+    ensures own { IfOk result (λ s. IsMethod (seen.BasicPublish publish.now) → IsOwn connection s) }
+{
+    Ok(Send::Command {
+        connection,
+        channel,
+        method: Method::BasicReturn(Return {
+            reply_code: NO_ROUTE,
+            reply_text: reply_text(NO_ROUTE),
+            exchange: publish.exchange.clone()?,
+            routing_key: publish.routing_key.clone()?,
+        }),
+        content: Some(content.clone()?),
+    })
+}
+
+/// What goes back of this publish where it is routed nowhere: nothing where it is not mandatory.
+pub fn return_if(
+    connection: u64,
+    channel: u16,
+    publish: &Publish,
+    content: &Content,
+) -> Result<Option<Send>, AllocError>
+    ensures send { IfOk result (λ r. r ≡ sent.return_if connection channel publish.now content.now) }
+    ensures own { IfOk result (λ r. IsMethod (seen.BasicPublish publish.now) → IfSome r (λ s. IsOwn connection s)) }
+{
+    if publish.mandatory {
+        Ok(Some(return_of(connection, channel, publish, content)?))
+    } else {
+        Ok(None)
+    }
+}
+
+/// basic.get-ok of this message under this delivery tag, where so many are ready behind it. It carries the message's content,
+/// whose bytes are shared.
+pub(crate) fn get_ok(
+    connection: u64,
+    channel: u16,
+    tag: u64,
+    entry: &Entry,
+    remaining: usize,
+) -> Result<Send, AllocError>
+    ensures send { IfOk result (λ s. s ≡ said.get_ok connection channel tag entry.now remaining) }
+    ensures own { IfOk result (λ s. IsCarried entry.now.message → IsOwn connection s) }
+{
+    let message = &entry.message;
+    Ok(Send::Command {
+        connection,
+        channel,
+        method: Method::BasicGetOk(GetOk {
+            delivery_tag: tag,
+            redelivered: message.is_redelivered(),
+            exchange: message.exchange().clone()?,
+            routing_key: message.key().clone()?,
+            message_count: written(remaining),
+        }),
+        content: Some(message.content().clone()?),
+    })
+}
+
+/// basic.deliver of this message under this delivery tag, to the consumer of this tag. It carries the message's content, whose
+/// bytes are shared.
+pub fn deliver(
+    connection: u64,
+    channel: u16,
+    tag: u64,
+    consumer_tag: &Text,
+    entry: &Entry,
+) -> Result<Send, AllocError>
+    ensures send { IfOk result (λ s. s ≡ said.deliver connection channel tag consumer_tag.now entry.now) }
+    ensures own { IfOk result (λ s. length consumer_tag.now < 256 → IsCarried entry.now.message → IsOwn connection s) }
+{
+    let message = &entry.message;
+    Ok(Send::Command {
+        connection,
+        channel,
+        method: Method::BasicDeliver(Deliver {
+            consumer_tag: consumer_tag.clone()?,
+            delivery_tag: tag,
+            redelivered: message.is_redelivered(),
+            exchange: message.exchange().clone()?,
+            routing_key: message.key().clone()?,
+        }),
+        content: Some(message.content().clone()?),
+    })
+}

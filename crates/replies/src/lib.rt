@@ -1,0 +1,19 @@
+//! The methods that the broker sends, and what a step sends and notes.
+//!
+//! Each method is one of the model's (`Step` and `Deliveries`), sent to the connection that it is said for (`specs/Sent.antt`).
+#![tactic(auto)]
+
+mod answering;
+mod answers;
+mod closes;
+mod contents;
+mod steps;
+
+pub use answering::{
+    answer_cancel, answer_consume, answer_get, answer_purge, answer_queue_declare, answer_select,
+    giving,
+};
+pub use answers::{exchange_ok, flow_ok, get_empty, open_ok, qos_ok, recover_ok};
+pub use closes::{channel_close, channel_close_ok, connection_close, connection_close_ok};
+pub use contents::{deliver, return_if};
+pub use steps::Step;

@@ -1,0 +1,100 @@
+//! What a step sends and notes.
+
+ghost use Rattle.std.specs.Prelude.{◌≡◌, ◌<◌, ◌≤◌, ◌+◌, ◌∷◌, ◌++◌, ◌&&◌, [], None, IfOk, is_some, cond, vec_len, vec_capacity};
+ghost use Rattle.model.specs.Step as said;
+ghost use Rattle.model.specs.Step.{confirm_sends, confirm_notes, returned_notes};
+ghost use Rattle.replies.specs.Sent.{AreOwn, sent_back};
+
+use crate::answers::{answer_of, confirm};
+use model::{Note, Send};
+use std::alloc::{AllocError, Global};
+
+/// What a step sends, in this order, and what it notes.
+#[derive(Drop)]
+pub struct Step {
+    pub sends: Vec<Send>,
+    pub notes: Vec<Note>,
+}
+
+impl Step {
+    /// Nothing is sent and nothing noted. It takes no memory.
+    pub fn nothing(alloc: Global) -> Step
+        ensures sends { result.sends.items ≡ [] }
+        ensures notes { result.notes.items ≡ [] }
+    {
+        Step {
+            sends: Vec::new(alloc),
+            notes: Vec::new(alloc),
+        }
+    }
+
+    /// This is sent, and nothing noted.
+    pub fn sending(alloc: Global, send: Send) -> Result<Step, AllocError>
+        ensures sends { IfOk result (λ s. s.sends.items ≡ send ∷ []) }
+        ensures notes { IfOk result (λ s. s.notes.items ≡ []) }
+    {
+        let mut sends = Vec::new(alloc);
+        sends.reserve_exact(1)?;
+        sends.push_reserved(send);
+        Ok(Step {
+            sends,
+            notes: Vec::new(alloc),
+        })
+    }
+
+    /// This is noted, and nothing sent. It takes no memory.
+    pub fn noting(alloc: Global, notes: Vec<Note>) -> Step
+        ensures sends { result.sends.items ≡ [] }
+        ensures notes { result.notes.items ≡ notes.items }
+    {
+        Step {
+            sends: Vec::new(alloc),
+            notes,
+        }
+    }
+
+    /// This goes back behind what is there, and that is noted of this publish, where there is something to go back and the
+    /// publish was routed nowhere. There is room for it.
+    pub fn send_back(&mut self, number: u64, returned: Option<Send>, is_none: bool)
+        requires sends { vec_len self.old.sends < vec_capacity self.old.sends }
+        requires notes { vec_len self.old.notes < vec_capacity self.old.notes }
+        ensures sends { self.new.sends.items ≡ self.old.sends.items ++ sent_back is_none returned }
+        ensures notes { self.new.notes.items ≡ self.old.notes.items ++ returned_notes number (is_none && is_some returned) }
+        ensures sends_len { vec_len self.new.sends ≤ vec_len self.old.sends + cond (is_some returned) 1 0 }
+        ensures notes_len { vec_len self.new.notes ≤ vec_len self.old.notes + 1 }
+        ensures sends_capacity { vec_capacity self.new.sends ≡ vec_capacity self.old.sends }
+        ensures notes_capacity { vec_capacity self.new.notes ≡ vec_capacity self.old.notes }
+    {
+        if !is_none {
+            return;
+        }
+        if let Some(send) = returned {
+            self.sends.push_reserved(send);
+            self.notes.push_reserved(Note::Returned { number });
+        }
+    }
+
+    /// The confirm of this publish is sent and noted behind what is there, where there is a confirm number. There is room
+    /// for it.
+    pub fn confirm(
+        &mut self,
+        connection: u64,
+        channel: u16,
+        number: u64,
+        confirm_number: Option<u64>,
+        is_some_full: bool,
+    )
+        requires sends { vec_len self.old.sends < vec_capacity self.old.sends }
+        requires notes { vec_len self.old.notes < vec_capacity self.old.notes }
+        ensures sends { self.new.sends.items ≡ self.old.sends.items ++ confirm_sends connection channel confirm_number (said.answer_of is_some_full) }
+        ensures notes { self.new.notes.items ≡ self.old.notes.items ++ confirm_notes number confirm_number (said.answer_of is_some_full) }
+        ensures own { AreOwn connection (confirm_sends connection channel confirm_number (said.answer_of is_some_full)) }
+    {
+        if let Some(confirm_number) = confirm_number {
+            let answer = answer_of(is_some_full);
+            self.sends
+                .push_reserved(confirm(connection, channel, answer, confirm_number));
+            self.notes.push_reserved(Note::Confirmed { number, answer });
+        }
+    }
+}

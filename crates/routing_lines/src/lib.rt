@@ -1,0 +1,50 @@
+//! Lines about routing: patterns and keys, definitions files and what they set up, guarantees files and what they cover.
+//!
+//! | kinds | asked of |
+//! |---|---|
+//! | `pattern`, `match`, `places`, `words` | `topic_match`: what is a pattern, and which keys it matches |
+//! | `definitions`, `definitions-hex` | `definitions`: whether a file is read, or why it is refused |
+//! | `counts`, `queue`, `exchange`, `user` | `definitions`: what a file sets up |
+//! | `route`, `visited` | `exchange_graph`: the queues to which a key leads, by a clone of the topology too; the exchanges that it passes |
+//! | `guarantees`, `guarantees-hex`, `guarantee`, `covers` | `guarantees`: whether a file is read, or why it is refused; what a guarantee says and covers |
+#![tactic(auto)]
+
+mod guarantee_files;
+mod keys;
+mod routes;
+mod stated;
+
+use line_words::Answer;
+pub use routes::put_route;
+
+/// The kinds of lines about patterns.
+const OF_PATTERNS: [&str; 4] = ["pattern", "match", "places", "words"];
+
+/// The kinds of lines about guarantees files.
+const OF_GUARANTEES: [&str; 4] = ["guarantees", "guarantees-hex", "guarantee", "covers"];
+
+/// The kinds of lines about definitions files.
+const OF_DEFINITIONS: [&str; 8] = [
+    "definitions",
+    "definitions-hex",
+    "counts",
+    "queue",
+    "exchange",
+    "user",
+    "route",
+    "visited",
+];
+
+/// Answers a line about routing. Tells whether its kind is one of these.
+pub fn answer(out: &mut Answer, rt: &HostRuntime, kind: &str, asked: &str) -> bool {
+    if OF_PATTERNS.contains(&kind) {
+        keys::answer(out, kind, asked);
+    } else if OF_DEFINITIONS.contains(&kind) {
+        stated::answer(out, rt, kind, asked);
+    } else if OF_GUARANTEES.contains(&kind) {
+        guarantee_files::answer(out, rt, kind, asked);
+    } else {
+        return false;
+    }
+    true
+}

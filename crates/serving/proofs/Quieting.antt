@@ -1,0 +1,158 @@
+-- A slot that is marked is quiet, and what comes for other connections leaves it so.
+use Rattle.std.proofs.Common.{◌≡◌, ◌≢◌, ◌≤◌, ◌+◌, ◌⊎◌, ℕ, suc, zero, List, [], ◌∷◌, Bool, true, false, not, Option, Some, None, length, refl, sym, ap, subst, ◌∙◌, inl, inr, slice_set, slice_index_or, arith}
+use Rattle.std.proofs.lemmas.Bool.{false≢true, le-ltb, ltb-false}
+use Rattle.std.proofs.lemmas.Option.{same_Some}
+use Rattle.std.specs.Prelude.{nat_le, nat_lt, ◌&&◌, if◌then◌else◌}
+use Rattle.model.specs.Arrivals.{World, Same, is_over, is_gone, is_paused, has_output}
+use Rattle.serving.specs.Wire.{To_write}
+use Rattle.serving.specs.Story.{At, Filled}
+use Rattle.serving.specs.Fit.{ApartFrom, IsFit}
+use Rattle.serving.specs.Quiet.{IsQuiet, IsMarked, AreQuiet}
+use Rattle.serving.specs.Rounds.{HasEnded, write_of}
+use Rattle.serving.specs.declared.peers.Peer.{Peer}
+use Rattle.serving.proofs.Turning.{awake_stands}
+use Rattle.serving.proofs.Apart.{StaysFor, others_stay, same_stays, output_stays, awake_stays, gone_stays}
+use Rattle.serving.proofs.Fits.{freed_at}
+
+-- ---- marks
+
+-- what is marked after one mark was set was marked, or is that one
+marked_now : (marks : List Bool) (i j : ℕ) → IsMarked (slice_set marks i true) j → (j ≡ i) ⊎ IsMarked marks j
+marked_now [] i j m = inr m
+marked_now (x ∷ xs) zero zero m = inl refl
+marked_now (x ∷ xs) zero (suc j) m = inr m
+marked_now (x ∷ xs) (suc i) zero m = inr m
+marked_now (x ∷ xs) (suc i) (suc j) m = go (marked_now xs i j m)
+  where
+    go : (j ≡ i) ⊎ IsMarked xs j → (suc j ≡ suc i) ⊎ IsMarked xs j
+    go (inl e) = inl (ap suc e)
+    go (inr n) = inr n
+
+-- what is marked after one mark was taken away was marked, and is another
+pub still_marked : (marks : List Bool) (i j : ℕ) → IsMarked (slice_set marks i false) j → (j ≢ i) × IsMarked marks j
+still_marked [] i j m = absurd (cc m)
+still_marked (x ∷ xs) zero zero m = absurd (false≢true m)
+still_marked (x ∷ xs) zero (suc j) m = (λ e. omega (arith, e), m)
+still_marked (x ∷ xs) (suc i) zero m = (λ e. omega (arith, e), m)
+still_marked (x ∷ xs) (suc i) (suc j) m = let s = still_marked xs i j m in (λ e. s.0 (omega (arith, e)), s.1)
+
+-- where a slot has no mark, what is marked is another
+pub other_marked : (marks : List Bool) (i : ℕ) → slice_index_or marks i false ≡ false → (j : ℕ) → IsMarked marks j → (j ≢ i) × IsMarked marks j
+other_marked marks i none j m = (λ e. false≢true (sym none ∙ ap (λ (k : ℕ). slice_index_or marks k false) (sym e) ∙ m), m)
+
+-- with no mark nothing is said
+pub none_marked : (w : World) (ps : List (Option Peer)) (marks : List Bool) → ((i : ℕ) → slice_index_or marks i false ≡ false) → AreQuiet w ps marks
+none_marked w ps marks none = λ i p at m. absurd (false≢true (sym (none i) ∙ m))
+
+-- ---- one connection
+
+quiet_stays : (a b : World) (c : ℕ) → StaysFor c a b → IsQuiet a c → IsQuiet b c
+quiet_stays a b c s q = record { awake = awake_stays a b c s ∙ q.awake; silent = output_stays a b c s ∙ q.silent }
+
+not_over_not_gone : (over out : Bool) → over ≡ false → over && not out ≡ false
+not_over_not_gone true out e = absurd (false≢true (sym e))
+not_over_not_gone false out e = refl
+
+pub stands_not_gone : (w : World) (c : ℕ) → is_over w c ≡ false → is_gone w c ≡ false
+stands_not_gone w c e = not_over_not_gone (is_over w c) (has_output w c) e
+
+pub is_gone_silent : (w : World) (c : ℕ) → is_over w c ≡ true → has_output w c ≡ false → is_gone w c ≡ true
+is_gone_silent w c e f = go (is_over w c) (has_output w c) e f
+  where
+    go : (over out : Bool) → over ≡ true → out ≡ false → over && not out ≡ true
+    go true false e f = refl
+    go true true e f = absurd (false≢true (sym f))
+    go false out e f = absurd (false≢true e)
+
+quiet_not_gone : (w : World) (c : ℕ) → IsQuiet w c → is_gone w c ≡ false
+quiet_not_gone w c q = stands_not_gone w c (awake_stands w c q.awake)
+
+-- with no output it is not paused
+not_paused : (n : ℕ) → nat_lt 0 n ≡ false → nat_le 1048576 n ≡ false
+not_paused n e = let none : n ≤ 0 = ltb-false 0 n e in le-ltb 1048575 n (omega (arith, none))
+
+pub is_quiet : (w : World) (c : ℕ) → is_over w c ≡ false → has_output w c ≡ false → IsQuiet w c
+is_quiet w c stands silent = record { awake = go (is_over w c) (is_paused w c) stands (not_paused (length (w.wire c).output) silent); silent = silent }
+  where
+    go : (over paused : Bool) → over ≡ false → paused ≡ false → not over && not paused ≡ true
+    go false false e f = refl
+    go false true e f = absurd (false≢true (sym f))
+    go true paused e f = absurd (false≢true (sym e))
+
+-- nothing happened, and again
+pub same_then : (a b c : World) → Same a b → Same b c → Same a c
+same_then a b c s t = record { config = t.config ∙ s.config; state = t.state ∙ s.state; given = t.given ∙ s.given; wires = λ d. t.wires d ∙ s.wires d }
+
+-- ---- the slots
+
+-- slots that stay, but that one may be freed
+abbrev pub StaysOrFrees : List (Option Peer) → ℕ → List (Option Peer) → Type 0
+StaysOrFrees ps i qs = (qs ≡ ps) ⊎ (qs ≡ slice_set ps i None)
+
+pub at_before : (ps qs : List (Option Peer)) (i : ℕ) → StaysOrFrees ps i qs → (j : ℕ) (q : Peer) → At qs j q → At ps j q
+at_before ps qs i (inl e) j q at = subst (λ (z : List (Option Peer)). At z j q) e at
+at_before ps qs i (inr e) j q at = freed_at ps i j q (subst (λ (z : List (Option Peer)). At z j q) e at)
+
+still_quiet : (a b : World) (ps qs : List (Option Peer)) (ms ns : List Bool) → AreQuiet a ps ms
+    → ((j : ℕ) (q : Peer) → At qs j q → IsMarked ns j → At ps j q × IsMarked ms j × StaysFor q.connection a b) → AreQuiet b qs ns
+still_quiet a b ps qs ms ns quiet from = λ j q at m. let f = from j q at m in quiet_stays a b q.connection f.2 (quiet j q f.0 f.1)
+
+-- nothing happened
+pub quiet_idle : (a b : World) (ps qs : List (Option Peer)) (i : ℕ) (ms ns : List Bool) → Same a b → StaysOrFrees ps i qs → ((j : ℕ) → slice_index_or ns j false ≡ slice_index_or ms j false) → AreQuiet a ps ms → AreQuiet b qs ns
+quiet_idle a b ps qs i ms ns same slots marks quiet = still_quiet a b ps qs ms ns quiet (λ j q at m. (at_before ps qs i slots j q at, sym (marks j) ∙ m, same_stays a b same q.connection))
+
+-- something happened for the connection of one slot, which is not marked now
+pub quiet_apart : (a b : World) (ps qs : List (Option Peer)) (i : ℕ) (p : Peer) (ms ns : List Bool) → IsFit a ps → At ps i p → ApartFrom p.connection a b → StaysOrFrees ps i qs
+    → ((j : ℕ) → IsMarked ns j → (j ≢ i) × IsMarked ms j) → AreQuiet a ps ms → AreQuiet b qs ns
+quiet_apart a b ps qs i p ms ns fit here apart slots marks quiet = still_quiet a b ps qs ms ns quiet (λ j q at m.
+    let before : At ps j q = at_before ps qs i slots j q at in
+    let old = marks j m in
+    (before, old.1, others_stay p.connection a b apart q.connection (λ e. old.0 (fit.apart j i q p before here e))))
+
+-- a slot was filled by a connection that was opened
+pub quiet_met : (a b : World) (ps qs : List (Option Peer)) (i : ℕ) (p : Peer) (ms : List Bool) → IsFit a ps → ApartFrom (a.given + 1) a b → Filled ps i p qs → AreQuiet a ps ms → AreQuiet b qs (slice_set ms i false)
+quiet_met a b ps qs i p ms fit apart filled quiet = still_quiet a b ps qs ms (slice_set ms i false) quiet (λ j q at m.
+    let old = still_marked ms i j m in
+    let before : At ps j q = sym (filled.others j old.0) ∙ at in
+    let given = fit.given j q before in
+    (before, old.1, others_stay (a.given + 1) a b apart q.connection (λ e. omega (arith, given, e))))
+
+-- a slot is marked whose connection is quiet
+pub quiet_marked : (w : World) (ps : List (Option Peer)) (i : ℕ) (p : Peer) (ms : List Bool) → At ps i p → IsQuiet w p.connection → AreQuiet w ps ms → AreQuiet w ps (slice_set ms i true)
+quiet_marked w ps i p ms here is quiet = λ j q at m. go j q at (marked_now ms i j m)
+  where
+    go : (j : ℕ) (q : Peer) → At ps j q → (j ≡ i) ⊎ IsMarked ms j → IsQuiet w q.connection
+    go j q at (inl e) =
+        let same : q ≡ p = same_Some q p (sym at ∙ ap (λ (k : ℕ). slice_index_or ps k None) e ∙ here) in
+        subst (λ (x : Peer). IsQuiet w x.connection) (sym same) is
+    go j q at (inr m) = quiet j q at m
+
+pub quiet_freed : (w : World) (ps : List (Option Peer)) (i : ℕ) (ms : List Bool) → AreQuiet w ps ms → AreQuiet w (slice_set ps i None) ms
+quiet_freed w ps i ms quiet = λ j q at m. quiet j q (freed_at ps i j q at) m
+
+-- ---- what is due of a slot that is marked
+
+-- it is not to be let go
+pub marked_ended : (w : World) (ps : List (Option Peer)) (i : ℕ) (ms : List Bool) → AreQuiet w ps ms → IsMarked ms i → HasEnded w ps i
+marked_ended w ps i ms quiet m = λ p at. quiet_not_gone w p.connection (quiet i p at m)
+
+-- no write is due of it
+pub marked_silent : (w : World) (ps : List (Option Peer)) (i : ℕ) (ms : List Bool) → AreQuiet w ps ms → IsMarked ms i → write_of w (slice_index_or ps i None) ≡ []
+marked_silent w ps i ms quiet m = go (slice_index_or ps i None) (λ p at. (quiet i p at m).silent)
+  where
+    go : (o : Option Peer) → ((p : Peer) → o ≡ Some p → has_output w p.connection ≡ false) → write_of w o ≡ []
+    go None f = refl
+    go (Some p) f = ap (λ (x : Bool). if x then To_write p.socket ∷ [] else []) (f p refl)
+
+-- one write is due of a slot whose connection has output
+pub output_due : (w : World) (ps : List (Option Peer)) (i : ℕ) (p : Peer) → At ps i p → has_output w p.connection ≡ true → write_of w (slice_index_or ps i None) ≡ To_write p.socket ∷ []
+output_due w ps i p at e = ap (write_of w) at ∙ ap (λ (x : Bool). if x then To_write p.socket ∷ [] else []) e
+
+-- a slot that had ended has ended, where something happened for another
+pub ended_apart : (a b : World) (ps qs : List (Option Peer)) (i : ℕ) (p : Peer) → IsFit a ps → At ps i p → ApartFrom p.connection a b → StaysOrFrees ps i qs → (j : ℕ) → j ≢ i → HasEnded a ps j → HasEnded b qs j
+ended_apart a b ps qs i p fit here apart slots j ne ended = λ q at.
+    let before : At ps j q = at_before ps qs i slots j q at in
+    gone_stays a b q.connection (others_stay p.connection a b apart q.connection (λ e. ne (fit.apart j i q p before here e))) ∙ ended q before
+
+pub ended_before : (w : World) (ps qs : List (Option Peer)) (i : ℕ) → StaysOrFrees ps i qs → (j : ℕ) → HasEnded w ps j → HasEnded w qs j
+ended_before w ps qs i slots j ended = λ q at. ended q (at_before ps qs i slots j q at)

@@ -1,0 +1,24 @@
+-- Which slots there is nothing to do for until something comes for them (own).
+use Rattle.std.specs.Prelude.{◌≡◌, ℕ, List, Bool, true, false, Option, slice_index_or}
+use Rattle.model.specs.Arrivals.{World, is_awake, has_output}
+use Rattle.serving.specs.Story.{At}
+use Rattle.serving.specs.Fit.{IsFit}
+use Rattle.serving.specs.declared.peers.Peer.{Peer}
+
+-- It is awake, and nothing is put out for it.
+pub record IsQuiet (w : World) (c : ℕ) : Type 0 where
+  pub awake : is_awake w c ≡ true
+  pub silent : has_output w c ≡ false
+
+-- this slot is marked
+abbrev pub IsMarked : List Bool → ℕ → Type 0
+IsMarked marks i = slice_index_or marks i false ≡ true
+
+-- each slot that is marked and holds a peer is quiet
+abbrev pub AreQuiet : World → List (Option Peer) → List Bool → Type 0
+AreQuiet w ps marks = (i : ℕ) (p : Peer) → At ps i p → IsMarked marks i → IsQuiet w p.connection
+
+-- What a server keeps: each slot has a connection of its own, and each that is marked is quiet.
+pub record IsKept (w : World) (ps : List (Option Peer)) (marks : List Bool) : Type 0 where
+  pub fit : IsFit w ps
+  pub quiet : AreQuiet w ps marks

@@ -1,0 +1,67 @@
+//! Which slots there is nothing to do for until something comes for them.
+
+ghost use Rattle.std.specs.Prelude.{◌≡◌, ◌<◌, ◌≤◌, ℕ, OnOk, length, slice_index_or, slice_set, false};
+
+use std::alloc::{AllocError, Global};
+use std::marker::Model;
+
+/// Slots that are marked as quiet: one without a mark is looked at.
+#[derive(Drop)]
+pub(crate) struct Quiet {
+    marks: Vec<bool>,
+}
+
+impl Model for Quiet {
+    ghost use Rattle.std.specs.Prelude.{Bool, List};
+
+    ghost Value = { List Bool };
+
+    ghost view = { λ q. q.marks.items };
+}
+
+impl Quiet {
+    /// No slot is marked, and none can be.
+    pub(crate) fn new(alloc: Global) -> Quiet
+        ensures { (i : ℕ) → slice_index_or result i false ≡ false }
+    {
+        Quiet {
+            marks: Vec::new(alloc),
+        }
+    }
+
+    /// Makes room for a mark of this slot, where all before it have one.
+    pub(crate) fn make_room(&mut self, slot: usize) -> Result<(), AllocError>
+        ensures marks { (i : ℕ) → slice_index_or self.new i false ≡ slice_index_or self.old i false }
+        ensures room { OnOk result (slot ≤ length self.old → slot < length self.new) }
+    {
+        if self.marks.len() <= slot {
+            self.marks.push(false)?;
+        }
+        Ok(())
+    }
+
+    /// Whether this slot is marked.
+    pub(crate) fn contains(&self, slot: usize) -> bool
+        ensures { result ≡ slice_index_or self.now slot false }
+    {
+        slot < self.marks.len() && self.marks[slot]
+    }
+
+    /// Marks a slot, or takes its mark away.
+    pub(crate) fn mark(&mut self, slot: usize, is_quiet: bool)
+        ensures { self.new ≡ slice_set self.old slot is_quiet }
+    {
+        if slot < self.marks.len() {
+            self.marks[slot] = is_quiet;
+        }
+    }
+
+    /// Takes all marks away.
+    pub(crate) fn clear(&mut self)
+        ensures { (i : ℕ) → slice_index_or self.new i false ≡ false }
+    {
+        for slot in 0..self.marks.len() {
+            self.marks[slot] = false;
+        }
+    }
+}

@@ -1,0 +1,3 @@
+mod Purging
+mod Rejections
+pub mod Settlements

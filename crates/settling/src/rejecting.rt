@@ -1,0 +1,59 @@
+//! What was given out is rejected: it leaves its queue, and dies there where the queue has a dead-letter exchange.
+
+ghost use Rattle.std.specs.Prelude.{◌≡◌, map, IfOk, OnErr};
+ghost use Rattle.model.specs.Settling.{Rises};
+ghost use Rattle.channel.specs.Outstanding.{tag_of};
+ghost use Rattle.depot.specs.Rejecting.{IsApart};
+ghost use Rattle.links.specs.Placed.{AreWithin};
+ghost use Rattle.settling.specs.Settled as settled;
+ghost use Rattle.settling.specs.Settled.{IsRejection};
+
+use channel::Outstanding;
+use depot::{Depot, Given};
+use model::Note;
+use std::alloc::{AllocError, Global};
+
+/// What was given out so, as the depot finds it.
+fn given_of(outstanding: &Outstanding) -> Given
+    ensures { result ≡ settled.given_of outstanding.now }
+{
+    Given {
+        place: outstanding.queue,
+        arrival: outstanding.arrival,
+        tag: outstanding.tag,
+        by: outstanding.by,
+    }
+}
+
+/// The same of each of these.
+fn all_given(alloc: Global, gone: &[Outstanding]) -> Result<Vec<Given>, AllocError>
+    ensures { IfOk result (λ given. given.items ≡ map settled.given_of gone.now) }
+{
+    let mut given = Vec::new(alloc);
+    given.reserve_exact(gone.len())?;
+    for outstanding in gone {
+        given.push_reserved(given_of(outstanding));
+    }
+    Ok(given)
+}
+
+/// These messages leave their queues by a rejection, in the order of their tags, and die there where the queue has a
+/// dead-letter exchange. Tells what is noted of that. Where memory is wanting, nothing has changed.
+pub fn reject(
+    alloc: Global,
+    depot: &mut Depot,
+    connection: u64,
+    channel: u16,
+    gone: &[Outstanding],
+) -> Result<Vec<Note>, AllocError>
+    requires within { AreWithin depot.old.topology gone.now }
+    requires ordered { Rises tag_of gone.now }
+    requires apart { IsApart depot.old }
+    ensures ok { IfOk result (λ notes. IsRejection depot.old connection channel gone.now notes.items depot.new) }
+    ensures err { OnErr result (depot.new ≡ depot.old) }
+{
+    let given = all_given(alloc, gone)?;
+    let mut notes = Vec::new(alloc);
+    depot.reject(alloc, connection, channel, &given, &mut notes)?;
+    Ok(notes)
+}

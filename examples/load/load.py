@@ -1,0 +1,150 @@
+"""Loads a server over sockets, and prints what each message costs the server's process.
+
+Takes the server's port and the number of its process. Each load is a fixed number of messages and ends early once it has
+taken its seconds, so the whole ends by itself.
+"""
+
+import os
+import sys
+import time
+
+from client import Client, publish
+
+SECONDS = 10
+"""How long one load takes at most."""
+
+SMALL = b"x" * 12
+LARGE = b"x" * 1024
+
+
+class Server:
+    def __init__(self, port, process):
+        self.port = port
+        self.process = process
+
+    def nanoseconds(self):
+        """Of processor time so far, in the system's calls too."""
+        with open(f"/proc/{self.process}/schedstat") as file:
+            return int(file.read().split()[0])
+
+    def resident(self):
+        """Bytes of memory that are there."""
+        with open(f"/proc/{self.process}/statm") as file:
+            return int(file.read().split()[1]) * os.sysconf("SC_PAGE_SIZE")
+
+    def clients(self, count):
+        return [Client(self.port) for _ in range(count)]
+
+    def settle(self):
+        """Waits until what was closed is let go."""
+        time.sleep(0.5)
+
+
+def measured(server, step, wanted):
+    """Takes steps until so many messages were sent or the time is over: microseconds of the server a message."""
+    step()
+    start, until = server.nanoseconds(), time.monotonic() + SECONDS
+    sent = 0
+    while sent < wanted and time.monotonic() < until:
+        sent += step()
+    return (server.nanoseconds() - start) / 1000 / sent, sent
+
+
+def tell(name, cost, sent):
+    print(f"{name}: {cost:.2f} us a message, of {sent}", flush=True)
+
+
+def publish_windows(server, clients, words, window):
+    """One window of publishes by each client, then all their acks."""
+    batch = words * window
+
+    def step():
+        for client in clients:
+            client.socket.sendall(batch)
+        for client in clients:
+            client.await_acks(window)
+        return window * len(clients)
+
+    return step
+
+
+def confirmed(server, name, words, window, count, wanted, queues=("one",)):
+    clients = server.clients(count)
+    for client in clients:
+        client.select()
+    cost = measured(server, publish_windows(server, clients, words, window), wanted)
+    tell(name, *cost)
+    for queue in queues:
+        clients[0].purge(queue)
+    for client in clients:
+        client.close()
+    server.settle()
+
+
+def delivered(server, words, window, wanted):
+    """Publishes with confirms, deliveries to a consumer, and an ack for each."""
+    [publisher, consumer] = server.clients(2)
+    publisher.select()
+    consumer.consume("one")
+    batch = words * window
+
+    def step():
+        publisher.socket.sendall(batch)
+        publisher.await_acks(window)
+        consumer.acknowledge(window)
+        return window
+
+    tell(f"publish, deliver and ack, 12 bytes, window {window}", *measured(server, step, wanted))
+    publisher.close()
+    consumer.close()
+    server.settle()
+
+
+def waiting(server, words, count):
+    """What memory a message takes that waits."""
+    [client] = server.clients(1)
+    client.select()
+    step = publish_windows(server, [client], words, 100)
+    for _ in range(10):
+        step()
+    before = server.resident()
+    for _ in range(count // 100):
+        step()
+    print(f"a waiting message of 12 bytes: {(server.resident() - before) / count:.0f} bytes of memory", flush=True)
+    client.purge("one")
+    client.close()
+    server.settle()
+
+
+def beside_idle(server, words, count):
+    """What memory an idle connection takes, and a busy connection beside so many of them."""
+    before = server.resident()
+    idle = server.clients(count)
+    server.settle()
+    taken = (server.resident() - before) / count
+    print(f"{count} idle connections with one channel open: {taken:.0f} bytes of memory each", flush=True)
+    waiting(server, words, 100000)
+    for window in (1, 100):
+        name = f"publish, 12 bytes, window {window}, beside {count} idle connections"
+        confirmed(server, name, words, window, 1, 20000 if window == 1 else 200000)
+    for client in idle:
+        client.close()
+    server.settle()
+
+
+def main(port, process):
+    server = Server(port, process)
+    small, large = publish("direct", "new", SMALL), publish("direct", "new", LARGE)
+    # first, since later memory is taken that was given back
+    beside_idle(server, small, 1000)
+    for count in (1, 64, 1000):
+        for window in (1, 100):
+            name = f"publish, 12 bytes, window {window}, connections {count}"
+            confirmed(server, name, small, window, count, 20000 if window == 1 else 200000)
+    confirmed(server, "publish, 1,024 bytes, window 100, connections 1", large, 100, 1, 100000)
+    delivered(server, small, 100, 100000)
+    fanout = publish("fanout", "new", SMALL)
+    confirmed(server, "publish, 12 bytes, fanout to three, window 100", fanout, 100, 1, 100000, ("one", "two", "three"))
+
+
+main(int(sys.argv[1]), int(sys.argv[2]))
