@@ -1,2 +1,5 @@
+mod Among
 mod Outcomes
 mod Seated
+mod Sleeping
+mod Waking

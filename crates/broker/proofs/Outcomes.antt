@@ -1,6 +1,6 @@
 -- What both outcomes of a call give.
-use Rattle.std.proofs.Common.{Result, Ok, Err}
-use Rattle.std.specs.Prelude.{IfOk, OnOk, OnErr}
+use Rattle.std.proofs.Common.{Option, Some, None, Result, Ok, Err}
+use Rattle.std.specs.Prelude.{IfOk, IfSome, OnOk, OnErr}
 
 -- what follows from success and from failure follows
 pub either_way : {A E : Type 0} {X Y Z : Type 0} (r : Result A E) → OnOk r X → OnErr r Y → (X → Z) → (Y → Z) → Z
@@ -11,3 +11,8 @@ either_way (Err e) ok err f g = g err
 pub either_if : {A E : Type 0} {Y Z : Type 0} (r : Result A E) (P : A → Type 0) → IfOk r P → OnErr r Y → ((x : A) → P x → Z) → (Y → Z) → Z
 either_if (Ok x) P ok err f g = f x ok
 either_if (Err e) P ok err f g = g err
+
+-- what follows of whatever is there follows
+pub if_some : {A : Type 0} (o : Option A) (P Q : A → Type 0) → ((x : A) → P x → Q x) → IfSome o P → IfSome o Q
+if_some None P Q f p = p
+if_some (Some x) P Q f p = f x p

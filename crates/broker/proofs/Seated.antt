@@ -1,9 +1,8 @@
 -- Seats of consumers: among others, after a sweep, and at each event.
-use Rattle.std.proofs.Common.{◌≡◌, ◌∙◌, ◌<◌, ℕ, zero, suc, List, [], ◌∷◌, ◌++◌, Bool, true, false, cond, Option, Some, None, length, get_or, map, filter, find, not, inl, inr, ◌⊎◌, refl, sym, ap, subst, arith, if◌then◌else◌}
+use Rattle.std.proofs.Common.{◌≡◌, ◌∙◌, ◌<◌, ℕ, List, [], ◌∷◌, ◌++◌, Bool, true, false, cond, Option, Some, None, length, map, find, not, inl, inr, ◌⊎◌, refl, sym, ap, subst, if◌then◌else◌}
 use Rattle.std.specs.Prelude.{option_map, is_some, nat_lt, ◌==◌, ◌&&◌, ◌||◌, IfSome}
-use Rattle.std.specs.List.{list_any}
 use Rattle.std.specs.Str.{bytes_eq}
-use Rattle.std.proofs.lemmas.Bool.{eqb-true, eq-eqb, false≢true}
+use Rattle.std.proofs.lemmas.Bool.{eq-eqb, false≢true}
 use Rattle.std.proofs.lemmas.Option.{same_Some}
 use Rattle.model.specs.Words.{Text}
 use Rattle.model.specs.Topology.{Topology, IsIn}
@@ -28,65 +27,18 @@ use Rattle.links.specs.Links.{Linked, link_in, channel_in, channel_at, channel_o
 use Rattle.exchange_graph.specs.Marks.{queue_name}
 use Rattle.broker_core.specs.State.{Kept, broker_of, topology_of, names_of}
 use Rattle.judging.specs.Judged.{IsIgnored, IsRequeued, WantsNoMemory}
-use Rattle.broker.specs.Roster.{ring_at, HasConsumer, AllHaveSeats, IsServing, is_seat, KeepsSeats}
+use Rattle.broker.specs.Roster.{Rings, ring_at, wakes, HasConsumer, AllHaveSeats, IsServing, Seats, Listing, IsListed, IsSeated, IsThere, IsUp, IsAwake, IsSeatedIn, KeepsSeats, AllDrowse, AllWaken}
 use Rattle.links.specs.Consumers.{has_number, next_number}
 use Rattle.broker_core.specs.Seats.{has_consumer, is_consume, next_seat, seat_of, consumed, IsConsumed}
 use Rattle.broker_core.specs.declared.picks.Pick.{Pick}
 use Rattle.broker_core.proofs.Consuming.{seat_not_ignored}
 use Rattle.broker_core.proofs.Stepping.{seen_there}
+use Rattle.broker.proofs.Sleeping.{stands, up_still, seated_woken}
+use Rattle.broker.proofs.Waking.{cannot_still}
 
 -- each step leaves what is held and what is outstanding in agreement
 abbrev pub StayAgreed : Type 0
 StayAgreed = (t : Topology) (old new : Broker) (e : Event) (sends : List Send) (notes : List Note) → IsAgreed old → Acts t old e sends notes new → IsAgreed new
-
--- ---- a seat among others
-
-same_seat : (p q : Pick) → is_seat p q ≡ true → p ≡ q
-same_seat p q = go (p.connection == q.connection) (p.channel == q.channel) (p.number == q.number) refl refl refl
-  where
-    go : (u v w : Bool) → (p.connection == q.connection) ≡ u → (p.channel == q.channel) ≡ v → (p.number == q.number) ≡ w → (u && (v && w)) ≡ true → p ≡ q
-    go true true true a b c e =
-        ap (λ (n : ℕ). record { connection = n; channel = p.channel; number = p.number }) (eqb-true p.connection q.connection a)
-        ∙ ap (λ (n : ℕ). record { connection = q.connection; channel = n; number = p.number }) (eqb-true p.channel q.channel b)
-        ∙ ap (λ (n : ℕ). record { connection = q.connection; channel = q.channel; number = n }) (eqb-true p.number q.number c)
-    go true true false a b c e = absurd (false≢true e)
-    go true false w a b c e = absurd (false≢true e)
-    go false v w a b c e = absurd (false≢true e)
-
--- what is found among others is there
-pub among : (p : Pick) (seats : List Pick) → list_any (is_seat p) seats ≡ true → IsIn p seats
-among p [] e = absurd (false≢true e)
-among p (x ∷ xs) e = go (is_seat p x) refl (among p xs) e
-  where
-    go : (v : Bool) → is_seat p x ≡ v → (list_any (is_seat p) xs ≡ true → IsIn p xs) → (v || list_any (is_seat p) xs) ≡ true → IsIn p (x ∷ xs)
-    go true is more f = inl (same_seat p x is)
-    go false is more f = inr (more f)
-
--- what passes a test stays
-pub stays : (test : Pick → Bool) (p : Pick) (seats : List Pick) → IsIn p seats → test p ≡ true → IsIn p (filter test seats)
-stays test p [] i e = absurd i
-stays test p (x ∷ xs) (inl s) e = subst (λ (v : Bool). IsIn p (cond v (x ∷ filter test xs) (filter test xs))) (sym (ap test (sym s) ∙ e)) (inl s)
-stays test p (x ∷ xs) (inr i) e = go (test x) (stays test p xs i e)
-  where
-    go : (v : Bool) → IsIn p (filter test xs) → IsIn p (cond v (x ∷ filter test xs) (filter test xs))
-    go true more = inr more
-    go false more = more
-
--- before what is appended
-pub in_front : (p : Pick) (seats more : List Pick) → IsIn p seats → IsIn p (seats ++ more)
-in_front p [] more i = absurd i
-in_front p (x ∷ xs) more (inl s) = inl s
-in_front p (x ∷ xs) more (inr i) = inr (in_front p xs more i)
-
-pub at_end : (p : Pick) (seats : List Pick) → IsIn p (seats ++ p ∷ [])
-at_end p [] = inl refl
-at_end p (x ∷ xs) = inr (at_end p xs)
-
--- the place at which it stands
-pub place_in : (p : Pick) (seats : List Pick) → IsIn p seats → (i : ℕ) × (i < length seats) × (get_or seats i p ≡ p)
-place_in p [] i = absurd i
-place_in p (x ∷ xs) (inl s) = (zero, (omega arith), sym s)
-place_in p (x ∷ xs) (inr i) = let (n, lt, e) = place_in p xs i in (suc n, (omega (arith, lt)), e)
 
 -- ---- a consumer that is seen is kept
 
@@ -107,7 +59,7 @@ has_kept kept place p has =
     ∙ found_by (names_of kept) channel.kept.given.consumers has.consumer p.number (subst (λ (x : Channel). IsIn has.consumer x.consumers) (sym channel.same) has.was.2) has.numbered
 
 -- where no seat of a consumer that is there is gone, each still has its seat
-pub seats_kept : (kept : Kept) (old new : List (List Pick)) → KeepsSeats kept old new → AllHaveSeats (topology_of kept) (broker_of kept) old → AllHaveSeats (topology_of kept) (broker_of kept) new
+pub seats_kept : (kept : Kept) (old new : Rings) → KeepsSeats kept old new → AllHaveSeats (topology_of kept) (broker_of kept) old → AllHaveSeats (topology_of kept) (broker_of kept) new
 seats_kept kept old new keeps seated place p has = keeps place p (seated place p has) (has_kept kept place p has)
 
 -- ---- events
@@ -116,17 +68,37 @@ seats_kept kept old new keeps seated place p has = keeps place p (seated place p
 abbrev seat_for : ℕ → ℕ → seen.Consumer → Pick
 seat_for c h k = record { connection = c; channel = h; number = k.number }
 
+-- the seats of those that may take more after this event are awake
+abbrev pub AreWoken : Event → Rings → Type 0
+AreWoken e rings = (place : ℕ) (p : Pick) → wakes e p ≡ true → IsThere rings place p → IsAwake (ring_at rings.rings place) p
+
 -- each consumer has its seat after an event where the one that the event makes has
-seated_after : ConsumersAreMade → (t : Topology) (old new : Broker) (e : Event) (sends : List Send) (notes : List Note) (rings : List (List Pick)) → Acts t old e sends notes new → AllHaveSeats t old rings
-    → ((c h : ℕ) (k : seen.Consumer) → IsMadeBy old e c h k → WasConsumer new c h k → (place : ℕ) → place < length t.queues → queue_name t place ≡ k.queue → IsIn (seat_for c h k) (ring_at rings place))
+seated_after : ConsumersAreMade → (t : Topology) (old new : Broker) (e : Event) (sends : List Send) (notes : List Note) (rings : Rings) → Acts t old e sends notes new → AreWoken e rings → AllHaveSeats t old rings
+    → ((c h : ℕ) (k : seen.Consumer) → IsMadeBy old e c h k → WasConsumer new c h k → (place : ℕ) → place < length t.queues → queue_name t place ≡ k.queue → IsSeated old rings place (seat_for c h k) ⊎ IsUp rings place (seat_for c h k))
     → AllHaveSeats t new rings
-seated_after law t old new e sends notes rings acts seated makes place p has = go (law t old new e sends notes acts p.connection p.channel has.consumer has.was)
+seated_after law t old new e sends notes rings acts woken seated makes place p has = go (law t old new e sends notes acts p.connection p.channel has.consumer has.was)
   where
-    go : WasConsumer old p.connection p.channel has.consumer ⊎ IsMadeBy old e p.connection p.channel has.consumer → IsIn p (ring_at rings place)
-    go (inl before) = seated place p (record { consumer = has.consumer; was = before; numbered = has.numbered; within = has.within; named = has.named })
+    up : IsUp rings place p → IsSeated new rings place p
+    up is = record { listed = is.listed; seat = inl is.awake }
+
+    still : IsSeated old rings place p → IsSeated new rings place p
+    still was = record { listed = was.listed; seat = on (wakes e p) refl was.seat }
+      where
+        on : (v : Bool) → wakes e p ≡ v → IsSeatedIn old (ring_at rings.rings place) p → IsSeatedIn new (ring_at rings.rings place) p
+        on true f i = inl (woken place p f (record { listed = was.listed; there = stands old (ring_at rings.rings place) p was.seat }))
+        on false f (inl awake) = inl awake
+        on false f (inr (i, cannot)) = inr (i, cannot_still t old new e sends notes p acts f cannot)
+
+    made_there : IsSeated old rings place p ⊎ IsUp rings place p → IsSeated new rings place p
+    made_there (inl was) = still was
+    made_there (inr is) = up is
+
+    go : WasConsumer old p.connection p.channel has.consumer ⊎ IsMadeBy old e p.connection p.channel has.consumer → IsSeated new rings place p
+    go (inl before) = still (seated place p (record { consumer = has.consumer; was = before; numbered = has.numbered; within = has.within; named = has.named }))
     go (inr made) =
-        subst (λ (n : ℕ). IsIn (record { connection = p.connection; channel = p.channel; number = n }) (ring_at rings place)) has.numbered
-        (makes p.connection p.channel has.consumer made has.was place has.within has.named)
+        made_there
+        (subst (λ (n : ℕ). IsSeated old rings place (record { connection = p.connection; channel = p.channel; number = n }) ⊎ IsUp rings place (record { connection = p.connection; channel = p.channel; number = n })) has.numbered
+        (makes p.connection p.channel has.consumer made has.was place has.within has.named))
 
 -- an event is a command
 abbrev pub is_command : Event → Bool
@@ -134,9 +106,9 @@ is_command (Command c h m content) = true
 is_command e = false
 
 -- no other makes a consumer
-pub seated_still : ConsumersAreMade → (t : Topology) (old new : Broker) (e : Event) (sends : List Send) (notes : List Note) (rings : List (List Pick)) → Acts t old e sends notes new → is_command e ≡ false → AllHaveSeats t old rings → AllHaveSeats t new rings
-seated_still law t old new e sends notes rings acts none seated =
-    seated_after law t old new e sends notes rings acts seated (λ c h k made was place within named. absurd (false≢true (sym none ∙ ap is_command made.2)))
+pub seated_still : ConsumersAreMade → (t : Topology) (old new : Broker) (e : Event) (sends : List Send) (notes : List Note) (rings : Rings) → Acts t old e sends notes new → AreWoken e rings → is_command e ≡ false → AllHaveSeats t old rings → AllHaveSeats t new rings
+seated_still law t old new e sends notes rings acts woken none seated =
+    seated_after law t old new e sends notes rings acts woken seated (λ c h k made was place within named. absurd (false≢true (sym none ∙ ap is_command made.2)))
 
 -- ---- consumes
 
@@ -236,66 +208,96 @@ module _ (t : Topology) (old new : Broker) (c h : ℕ) (m : Consume) (content : 
   came (Some conn) p = decided (refusal t old conn h (BasicConsume m) (old.channel c h)) p
 
 -- a consumer that an event makes has its seat where the event's seat is there
-pub seated_next : ConsumersAreMade → (t : Topology) (kept : Kept) (new : Broker) (e : Event) (sends : List Send) (notes : List Note) (rings : List (List Pick)) → Acts t (broker_of kept) e sends notes new → AllHaveSeats t (broker_of kept) rings
-    → IfSome (seat_of kept e) (λ p. (place : ℕ) → IsConsumed t e place → IsIn p (ring_at rings place)) → AllHaveSeats t new rings
-seated_next law t kept new e sends notes rings acts seated next = seated_after law t b new e sends notes rings acts seated made
+pub seated_next : ConsumersAreMade → (t : Topology) (kept : Kept) (new : Broker) (e : Event) (sends : List Send) (notes : List Note) (rings : Rings) → Acts t (broker_of kept) e sends notes new → AreWoken e rings → AllHaveSeats t (broker_of kept) rings
+    → IfSome (seat_of kept e) (λ p. (place : ℕ) → IsConsumed t e place → IsUp rings place p) → AllHaveSeats t new rings
+seated_next law t kept new e sends notes rings acts woken seated next = seated_after law t b new e sends notes rings acts woken seated made
   where
     b : Broker
     b = broker_of kept
 
-    made : (c h : ℕ) (k : seen.Consumer) → IsMadeBy b e c h k → WasConsumer new c h k → (place : ℕ) → place < length t.queues → queue_name t place ≡ k.queue → IsIn (seat_for c h k) (ring_at rings place)
+    made : (c h : ℕ) (k : seen.Consumer) → IsMadeBy b e c h k → WasConsumer new c h k → (place : ℕ) → place < length t.queues → queue_name t place ≡ k.queue → IsSeated b rings place (seat_for c h k) ⊎ IsUp rings place (seat_for c h k)
     made c h k (m, content, is, numbered) was place within named = on (came t b new c h m content sends notes k (b.connection c) same was)
       where
         same : OnConnection t b c h (BasicConsume m) content sends notes new (b.connection c)
         same = subst (λ (x : Event). Acts t b x sends notes new) is acts
 
-        before : WasConsumer b c h k → IsIn (seat_for c h k) (ring_at rings place)
-        before there = seated place (seat_for c h k) (record { consumer = k; was = there; numbered = refl; within = within; named = named })
+        before : WasConsumer b c h k → IsSeated b rings place (seat_for c h k) ⊎ IsUp rings place (seat_for c h k)
+        before there = inl (seated place (seat_for c h k) (record { consumer = k; was = there; numbered = refl; within = within; named = named }))
 
         here : k.queue ≡ m.queue → IsConsumed t e place
         here queue = record { within = within; named = ap consumed is ∙ ap (λ (q : Text). Some q) (sym queue ∙ sym named) }
 
-        go : k.queue ≡ m.queue → (o : Option Pick) → next_seat c h (link_in kept.links c) ≡ o → IfSome o (λ p. (at : ℕ) → IsConsumed t e at → IsIn p (ring_at rings at)) → IsIn (seat_for c h k) (ring_at rings place)
+        go : k.queue ≡ m.queue → (o : Option Pick) → next_seat c h (link_in kept.links c) ≡ o → IfSome o (λ p. (at : ℕ) → IsConsumed t e at → IsUp rings at p) → IsSeated b rings place (seat_for c h k) ⊎ IsUp rings place (seat_for c h k)
         go queue None f i =
             let stays = ignored_stays t b c h (BasicConsume m) content sends notes new (b.connection c) (no_seat t kept c h m f) same in
             before (was.0, sym (stays.channels c h) ∙ was.1, was.2)
         go queue (Some p) f i =
-            subst (λ (q : Pick). IsIn q (ring_at rings place)) (next_number_is (names_of kept) c h (link_in kept.links c) p f ∙ ap (λ (n : ℕ). record { connection = c; channel = h; number = n }) (sym numbered))
-            (i place (here queue))
+            inr (subst (λ (q : Pick). IsUp rings place q) (next_number_is (names_of kept) c h (link_in kept.links c) p f ∙ ap (λ (n : ℕ). record { connection = c; channel = h; number = n }) (sym numbered))
+            (i place (here queue)))
 
-        on : WasConsumer b c h k ⊎ (k.queue ≡ m.queue) → IsIn (seat_for c h k) (ring_at rings place)
+        on : WasConsumer b c h k ⊎ (k.queue ≡ m.queue) → IsSeated b rings place (seat_for c h k) ⊎ IsUp rings place (seat_for c h k)
         on (inl there) = before there
-        on (inr queue) = go queue (next_seat c h (link_in kept.links c)) refl (subst (λ (x : Event). IfSome (seat_of kept x) (λ p. (at : ℕ) → IsConsumed t e at → IsIn p (ring_at rings at))) is next)
+        on (inr queue) = go queue (next_seat c h (link_in kept.links c)) refl (subst (λ (x : Event). IfSome (seat_of kept x) (λ p. (at : ℕ) → IsConsumed t e at → IsUp rings at p)) is next)
 
 -- ---- what every broker keeps
 
 -- each event that is no command leaves it so
-pub serves_still : StayAgreed → ConsumersAreMade → (t : Topology) (old new : Kept) (e : Event) (sends : List Send) (notes : List Note) (rings : List (List Pick))
-    → Acts t (broker_of old) e sends notes (broker_of new) → is_command e ≡ false → topology_of old ≡ t → topology_of new ≡ t → IsServing old rings → IsServing new rings
-serves_still agrees law t old new e sends notes rings acts none was is serving = record {
+pub serves_still : StayAgreed → ConsumersAreMade → (t : Topology) (old new : Kept) (e : Event) (sends : List Send) (notes : List Note) (rings : Rings)
+    → Acts t (broker_of old) e sends notes (broker_of new) → AreWoken e rings → is_command e ≡ false → topology_of old ≡ t → topology_of new ≡ t → IsServing old rings → IsServing new rings
+serves_still agrees law t old new e sends notes rings acts woken none was is serving = record {
   agreed = agrees t (broker_of old) (broker_of new) e sends notes serving.agreed acts;
   rings_for = serving.rings_for ∙ ap (λ (x : Topology). length x.queues) (was ∙ sym is);
   seated = subst (λ (x : Topology). AllHaveSeats x (broker_of new) rings) (sym is)
-      (seated_still law t (broker_of old) (broker_of new) e sends notes rings acts none (subst (λ (x : Topology). AllHaveSeats x (broker_of old) rings) was serving.seated));
+      (seated_still law t (broker_of old) (broker_of new) e sends notes rings acts woken none (subst (λ (x : Topology). AllHaveSeats x (broker_of old) rings) was serving.seated));
 }
 
--- and so does one whose seat is there
-pub serves_next : StayAgreed → ConsumersAreMade → (old new : Kept) (e : Event) (sends : List Send) (notes : List Note) (before rings : List (List Pick))
-    → Acts (topology_of old) (broker_of old) e sends notes (broker_of new) → topology_of new ≡ topology_of old → KeepsSeats old before rings → length rings ≡ length before
-    → IfSome (seat_of old e) (λ p. (place : ℕ) → IsConsumed (topology_of old) e place → IsIn p (ring_at rings place)) → IsServing old before → IsServing new rings
-serves_next agrees law old new e sends notes before rings acts is keeps len next serving = record {
+-- and one that wakes no seat
+pub serves_asleep : StayAgreed → ConsumersAreMade → (t : Topology) (old new : Kept) (e : Event) (sends : List Send) (notes : List Note) (rings : Rings)
+    → Acts t (broker_of old) e sends notes (broker_of new) → ((p : Pick) → wakes e p ≡ false) → is_command e ≡ false → topology_of old ≡ t → topology_of new ≡ t → IsServing old rings → IsServing new rings
+serves_asleep agrees law t old new e sends notes rings acts asleep none was is serving =
+    serves_still agrees law t old new e sends notes rings acts (λ place p woken there. absurd (false≢true (sym (asleep p) ∙ woken))) none was is serving
+
+-- so does one whose seat is there
+pub serves_next : StayAgreed → ConsumersAreMade → (old new : Kept) (e : Event) (sends : List Send) (notes : List Note) (rings : Rings)
+    → Acts (topology_of old) (broker_of old) e sends notes (broker_of new) → AreWoken e rings → topology_of new ≡ topology_of old
+    → IfSome (seat_of old e) (λ p. (place : ℕ) → IsConsumed (topology_of old) e place → IsUp rings place p) → IsServing old rings → IsServing new rings
+serves_next agrees law old new e sends notes rings acts woken is next serving = record {
   agreed = agrees (topology_of old) (broker_of old) (broker_of new) e sends notes serving.agreed acts;
-  rings_for = len ∙ serving.rings_for ∙ ap (λ (x : Topology). length x.queues) (sym is);
+  rings_for = serving.rings_for ∙ ap (λ (x : Topology). length x.queues) (sym is);
   seated = subst (λ (x : Topology). AllHaveSeats x (broker_of new) rings) (sym is)
-      (seated_next law (topology_of old) old (broker_of new) e sends notes rings acts (seats_kept old before rings keeps serving.seated) next);
+      (seated_next law (topology_of old) old (broker_of new) e sends notes rings acts woken serving.seated next);
 }
 
 -- where no seat of a consumer that is there is gone it is so still
-pub serves_kept : (kept : Kept) (before rings : List (List Pick)) → KeepsSeats kept before rings → length rings ≡ length before → IsServing kept before → IsServing kept rings
+pub serves_kept : (kept : Kept) (before rings : Rings) → KeepsSeats kept before rings → length rings.rings ≡ length before.rings → IsServing kept before → IsServing kept rings
 serves_kept kept before rings keeps len serving = record { agreed = serving.agreed; rings_for = len ∙ serving.rings_for; seated = seats_kept kept before rings keeps serving.seated }
 
+-- where seats are woken, or fall asleep whose consumers may take nothing, each is there still
+pub keeps_drowsy : (kept : Kept) (old new : Rings) → AllDrowse (broker_of kept) old.rings new.rings → new.lists ≡ old.lists → KeepsSeats kept old new
+keeps_drowsy kept old new drowse same place p was has = record {
+  listed = subst (λ (ls : List (ℕ × List Listing)). IsListed ls (record { queue = place; seat = p })) (sym same) was.listed;
+  seat = drowse place p was.seat;
+}
+
+pub woken_drowse : (b : Broker) (old new : List Seats) → AllWaken old new → AllDrowse b old new
+woken_drowse b old new w place = seated_woken b (ring_at old place) (ring_at new place) (w place)
+
+-- who is up stays up where seats are woken
+pub up_woken : (old new : Rings) (place : ℕ) (p : Pick) → AllWaken old.rings new.rings → new.lists ≡ old.lists → IsUp old place p → IsUp new place p
+up_woken old new place p w same is = record {
+  listed = subst (λ (ls : List (ℕ × List Listing)). IsListed ls (record { queue = place; seat = p })) (sym same) is.listed;
+  awake = up_still (ring_at old.rings place) (ring_at new.rings place) p (w place) is.awake;
+}
+
+-- where seats are woken, one that is there was there
+pub woken_there : (old new : Rings) (place : ℕ) (p : Pick) → AllWaken old.rings new.rings → new.lists ≡ old.lists → IsThere new place p → IsThere old place p
+woken_there old new place p w same is = record {
+  listed = subst (λ (ls : List (ℕ × List Listing)). IsListed ls (record { queue = place; seat = p })) same is.listed;
+  there = subst (λ (xs : List Pick). IsIn p xs) (w place).seats is.there;
+}
+
 -- with no consumer none wants a seat
-pub serves_none : (kept : Kept) (rings : List (List Pick)) → IsAgreed (broker_of kept) → length rings ≡ length (topology_of kept).queues → ((c h : ℕ) → (broker_of kept).channel c h ≡ None) → IsServing kept rings
+pub serves_none : (kept : Kept) (rings : Rings) → IsAgreed (broker_of kept) → length rings.rings ≡ length (topology_of kept).queues → ((c h : ℕ) → (broker_of kept).channel c h ≡ None) → IsServing kept rings
 serves_none kept rings agreed len none = record {
   agreed = agreed;
   rings_for = len;

@@ -70,7 +70,8 @@ impl Broker {
     {
         brokers_stay_agreed();
         consumers_are_made();
-        self.roster.seat_next(&self.core, event)?;
+        self.roster.seat_next(alloc, &self.core, event)?;
+        self.roster.wake_for(event);
         self.core.step(alloc, event)
     }
 
@@ -125,6 +126,7 @@ impl Broker {
         brokers_stay_agreed();
         consumers_are_made();
         self.core.lose(connection);
+        self.roster.forget(&self.core, connection);
     }
 
     /// The output of the connection holds 1,048,576 bytes or more from now on. It takes no memory.
@@ -144,6 +146,7 @@ impl Broker {
     {
         brokers_stay_agreed();
         consumers_are_made();
+        self.roster.wake(connection, None);
         self.core.resume(connection);
     }
 }

@@ -2,21 +2,25 @@
 //!
 //! Each queue has the ring of its consumers' seats. What is picked is found by going round the queues that have something ready,
 //! from the one behind that from which was picked last, and in each round its ring. So a consumer of a queue that has nothing
-//! ready costs nothing, nor does such a queue.
+//! ready costs nothing, nor does such a queue. A seat that is found when its consumer may take nothing falls asleep, and costs
+//! nothing until an event of its own channel or connection wakes it; by what was listed of the connection its seats are found.
 
+mod desk;
 mod ring;
 
-ghost use Rattle.std.specs.Prelude.{◌≡◌, ◌<◌, ◌≤◌, ℕ, [], None, IfSome, IfOk, OnOk, length, replicate};
+ghost use Rattle.std.specs.Prelude.{◌≡◌, ◌<◌, ◌≤◌, ℕ, None, IfSome, IfOk, OnOk, length, true};
 ghost use Rattle.model.specs.Topology.{IsIn};
 ghost use Rattle.broker_core.specs.State.{broker_of, topology_of};
-ghost use Rattle.broker_core.specs.Picked.{IsPick, IsPickFrom};
-ghost use Rattle.broker.specs.Roster.{ring_at, KeepsSeats, NoneBetween};
+ghost use Rattle.broker_core.specs.Picked.{IsPickFrom};
+ghost use Rattle.broker.specs.Roster.{ring_at, is_of, wakes_on, Listing, IsAwake, IsSeatedIn, IsListed, KeepRings, KeepLists, AllDrowse, AllWaken, NoneBetween};
 ghost use Rattle.broker_core.specs.declared.picks.Pick.{Pick as Seat};
 
+use crate::roster::desk::{Desk, Listed};
 use crate::roster::ring::Ring;
 use broker_core::{Core, Pick};
-use model::Event;
+use model::{Event, Method};
 use std::alloc::{AllocError, Global};
+use std::collections::HashMap;
 use std::marker::Model;
 
 /// A consumer to which a delivery can be made, from the queue at this place.
@@ -28,7 +32,7 @@ struct Found {
 
 /// So many rings with no seat.
 fn empty_rings(alloc: Global, count: usize) -> Result<Vec<Ring>, AllocError>
-    ensures { IfOk result (λ rings. rings.items ≡ replicate count []) }
+    ensures { IfOk result (λ rings. length rings.items ≡ count) }
 {
     let mut rings = Vec::new(alloc);
     for _ in 0..count {
@@ -37,12 +41,12 @@ fn empty_rings(alloc: Global, count: usize) -> Result<Vec<Ring>, AllocError>
     Ok(rings)
 }
 
-/// This seat is in the ring of the queue at this place from now on. Where memory is wanting it may not be; no seat of a consumer
-/// that is there is gone.
-fn seat_at(rings: &mut [Ring], core: &Core, queue: usize, seat: Pick) -> Result<(), AllocError>
+/// This seat is in the ring of the queue at this place from now on, and awake. Where memory is wanting it may not be; no seat of
+/// a consumer that is there is gone. Tells its place.
+fn seat_at(rings: &mut [Ring], core: &Core, queue: usize, seat: Pick) -> Result<usize, AllocError>
     requires { queue < length rings.old }
-    ensures seated { OnOk result (IsIn seat (ring_at rings.new queue)) }
-    ensures kept { KeepsSeats core.now rings.old rings.new }
+    ensures seated { OnOk result (IsAwake (ring_at rings.new queue) seat) }
+    ensures kept { KeepRings core.now rings.old rings.new }
 {
     rings[queue].seat(core, seat)
 }
@@ -50,9 +54,10 @@ fn seat_at(rings: &mut [Ring], core: &Core, queue: usize, seat: Pick) -> Result<
 /// The first delivery that can be made from the queue at this place.
 fn pick_at(rings: &mut [Ring], core: &Core, queue: usize) -> Option<Pick>
     requires { queue < length rings.old }
-    ensures same { rings.new ≡ rings.old }
-    ensures some { IfSome result (λ p. IsPick (broker_of core.now) p) }
-    ensures none { result ≡ None → (p : Seat) → IsIn p (ring_at rings.old queue) → IsPickFrom core.now queue p → ⊥ }
+    ensures len { length rings.new ≡ length rings.old }
+    ensures drowse { AllDrowse (broker_of core.now) rings.old rings.new }
+    ensures some { IfSome result (λ p. IsPickFrom core.now queue p) }
+    ensures none { result ≡ None → (p : Seat) → IsSeatedIn (broker_of core.now) (ring_at rings.old queue) p → IsPickFrom core.now queue p → ⊥ }
 {
     rings[queue].pick(core, queue)
 }
@@ -60,9 +65,9 @@ fn pick_at(rings: &mut [Ring], core: &Core, queue: usize) -> Option<Pick>
 /// The first delivery that can be made from one of the queues from this place on, up to that one.
 fn first_between(rings: &mut [Ring], core: &Core, from: usize, to: usize) -> Option<Found>
     requires { length rings.old ≡ length (topology_of core.now).queues }
-    ensures same { rings.new ≡ rings.old }
+    ensures drowse { AllDrowse (broker_of core.now) rings.old rings.new }
     ensures within { IfSome result (λ f. f.queue < length rings.new) }
-    ensures some { IfSome result (λ f. IsPick (broker_of core.now) f.pick) }
+    ensures some { IfSome result (λ f. IsPickFrom core.now f.queue f.pick) }
     ensures none { result ≡ None → NoneBetween core.now rings.old from to }
 {
     let mut next = from;
@@ -81,9 +86,9 @@ fn first_between(rings: &mut [Ring], core: &Core, from: usize, to: usize) -> Opt
 /// The first delivery that can be made from one of the queues, from this place on and then from the front.
 fn first_round(rings: &mut [Ring], core: &Core, next: usize) -> Option<Found>
     requires { length rings.old ≡ length (topology_of core.now).queues }
-    ensures same { rings.new ≡ rings.old }
+    ensures drowse { AllDrowse (broker_of core.now) rings.old rings.new }
     ensures within { IfSome result (λ f. f.queue < length rings.new) }
-    ensures some { IfSome result (λ f. IsPick (broker_of core.now) f.pick) }
+    ensures some { IfSome result (λ f. IsPickFrom core.now f.queue f.pick) }
     ensures none { result ≡ None → NoneBetween core.now rings.old 0 (length rings.old) }
 {
     let turn = next.min(rings.len());
@@ -93,9 +98,67 @@ fn first_round(rings: &mut [Ring], core: &Core, next: usize) -> Option<Found>
     }
 }
 
-/// The rings of all queues, in the order of the file.
+/// This seat is listed at its connection from now on. Where memory is wanting it may not be; none of a consumer that is there is
+/// gone.
+fn list_seat(
+    desks: &mut HashMap<u64, Desk>,
+    alloc: Global,
+    core: &Core,
+    one: Listed,
+) -> Result<(), AllocError>
+    ensures listed { OnOk result (IsListed desks.new.entries one) }
+    ensures kept { KeepLists core.now desks.old.entries desks.new.entries }
+{
+    let connection = one.connection();
+    match desks.get_mut(&connection) {
+        Some(desk) => desk.list(core, one),
+        None => {
+            let mut desk = Desk::new(alloc);
+            desk.list(core, one)?;
+            match desks.insert(connection, desk) {
+                Ok(_) => Ok(()),
+                Err(_) => Err(AllocError),
+            }
+        }
+    }
+}
+
+/// The seats of this connection's consumers are awake from now on that are of this channel, or all where none is named.
+fn wake_desk(
+    desks: &mut HashMap<u64, Desk>,
+    rings: &mut [Ring],
+    connection: u64,
+    channel: Option<u16>,
+)
+    ensures same { desks.new.entries ≡ desks.old.entries }
+    ensures woken { (l : Listing) → l.seat.connection ≡ connection → IsListed desks.old.entries l → is_of channel l.seat ≡ true → IsIn l.seat (ring_at rings.old l.queue).seats → IsAwake (ring_at rings.new l.queue) l.seat }
+    ensures wakens { AllWaken rings.old rings.new }
+{
+    if let Some(desk) = desks.get_mut(&connection) {
+        desk.wake(rings, channel);
+    }
+}
+
+/// What is listed of this connection is gone if it runs no more.
+fn forget_desk(desks: &mut HashMap<u64, Desk>, core: &Core, connection: u64)
+    ensures { KeepLists core.now desks.old.entries desks.new.entries }
+{
+    if !core.runs(connection) {
+        desks.remove(&connection);
+    }
+}
+
+/// Whether a command may leave more that a consumer of its channel may take.
+fn wakes_on(method: &Method) -> bool
+    ensures { result ≡ wakes_on method.now }
+{
+    !matches!(method, Method::BasicPublish(_) | Method::BasicGet(_))
+}
+
+/// The rings of all queues, in the order of the file, and the desks of the connections.
 pub(crate) struct Roster {
     rings: Vec<Ring>,
+    desks: HashMap<u64, Desk>,
     /// The place behind the queue from which was picked last.
     next: usize,
 }
@@ -103,45 +166,48 @@ pub(crate) struct Roster {
 /// Written out, so that a drop is one call.
 impl Drop for Roster {
     fn drop(self) {
-        let Roster { rings: _, next: _ } = self;
+        let Roster {
+            rings: _,
+            desks: _,
+            next: _,
+        } = self;
     }
 }
 
 impl Model for Roster {
-    ghost use Rattle.std.specs.Prelude.{List};
-    ghost use Rattle.broker_core.specs.declared.picks.Pick.{Pick as Seat};
+    ghost use Rattle.broker.specs.Roster.{Rings};
 
-    ghost Value = { List (List Seat) };
+    ghost Value = { Rings };
 
-    ghost view = { λ r. r.rings.items };
+    ghost view = { λ r. record { rings = r.rings.items; lists = r.desks.entries } };
 }
 
 impl Roster {
-    ghost use Rattle.std.specs.Prelude.{◌≡◌, ℕ, [], None, IfSome, IfOk, IsOk, OnOk, length, replicate};
-    ghost use Rattle.model.specs.Topology.{IsIn};
+    ghost use Rattle.std.specs.Prelude.{◌≡◌, ℕ, true, None, Option, IfSome, IfOk, IsOk, OnOk, length};
     ghost use Rattle.broker_core.specs.declared.picks.Pick.{Pick as Seat};
     ghost use Rattle.broker_core.specs.State.{broker_of, topology_of};
-    ghost use Rattle.broker_core.specs.Picked.{IsPick, IsPickFrom};
+    ghost use Rattle.broker_core.specs.Picked.{IsPickFrom};
     ghost use Rattle.broker_core.specs.Seats.{seat_of, IsConsumed};
-    ghost use Rattle.broker.specs.Roster.{ring_at, KeepsSeats};
+    ghost use Rattle.broker.specs.Roster.{ring_at, is_of, wakes, IsUp, IsAwake, IsThere, IsSeatedIn, KeepsSeats, AllDrowse, AllWaken};
 
     /// No seat, for so many queues.
     pub fn new(alloc: Global, queues: usize) -> Result<Roster, AllocError>
-        ensures { IfOk result (λ r. r ≡ replicate queues []) }
+        ensures { IfOk result (λ r. length r.rings ≡ queues) }
     {
         Ok(Roster {
             rings: empty_rings(alloc, queues)?,
+            desks: HashMap::new(alloc),
             next: 0,
         })
     }
 
-    /// The consumer that this event is to make, if any, has its seat from now on. Where memory is wanting it may not; no seat of
-    /// a consumer that is there is gone.
-    pub fn seat_next(&mut self, core: &Core, event: &Event) -> Result<(), AllocError>
-        requires { length self.old ≡ length (topology_of core.now).queues }
-        ensures seated { OnOk result (IfSome (seat_of core.now event.now) (λ p. (place : ℕ) → IsConsumed (topology_of core.now) event.now place → IsIn p (ring_at self.new place))) }
+    /// The consumer that this event is to make, if any, has its seat from now on, and it is awake. Where memory is wanting it may
+    /// not; no seat of a consumer that is there is gone.
+    pub fn seat_next(&mut self, alloc: Global, core: &Core, event: &Event) -> Result<(), AllocError>
+        requires { length self.old.rings ≡ length (topology_of core.now).queues }
+        ensures seated { OnOk result (IfSome (seat_of core.now event.now) (λ p. (place : ℕ) → IsConsumed (topology_of core.now) event.now place → IsUp self.new place p)) }
         ensures kept { KeepsSeats core.now self.old self.new }
-        ensures len { length self.new ≡ length self.old }
+        ensures len { length self.new.rings ≡ length self.old.rings }
         ensures quiet { seat_of core.now event.now ≡ None → IsOk result }
     {
         let Some(seat) = core.seat_of(event) else {
@@ -150,15 +216,65 @@ impl Roster {
         let Some(queue) = core.queue_consumed(event) else {
             return Ok(());
         };
-        seat_at(&mut self.rings, core, queue, seat)
+        let place = seat_at(&mut self.rings, core, queue, seat)?;
+        list_seat(
+            &mut self.desks,
+            alloc,
+            core,
+            Listed::new(queue, seat, place),
+        )
+    }
+
+    /// The seats of this connection's consumers are awake from now on that are of this channel, or all where none is named. It
+    /// takes no memory.
+    pub fn wake(&mut self, connection: u64, channel: Option<u16>)
+        ensures woken { (place : ℕ) (p : Seat) → p.connection ≡ connection → is_of channel p ≡ true → IsThere self.old place p → IsAwake (ring_at self.new.rings place) p }
+        ensures wakens { AllWaken self.old.rings self.new.rings }
+        ensures lists { self.new.lists ≡ self.old.lists }
+        ensures len { length self.new.rings ≡ length self.old.rings }
+    {
+        wake_desk(&mut self.desks, &mut self.rings, connection, channel);
+    }
+
+    /// The seats of consumers that may be able to take more after this event are awake from now on. It takes no memory.
+    pub fn wake_for(&mut self, event: &Event)
+        ensures woken { (place : ℕ) (p : Seat) → wakes event.now p ≡ true → IsThere self.old place p → IsAwake (ring_at self.new.rings place) p }
+        ensures wakens { AllWaken self.old.rings self.new.rings }
+        ensures lists { self.new.lists ≡ self.old.lists }
+        ensures len { length self.new.rings ≡ length self.old.rings }
+    {
+        match event {
+            Event::Command {
+                connection,
+                channel,
+                method,
+                ..
+            } => {
+                if wakes_on(method) {
+                    self.wake(*connection, Some(*channel));
+                }
+            }
+            Event::Resume { connection } => self.wake(*connection, None),
+            _ => {}
+        }
+    }
+
+    /// What is known of this connection's seats is gone if it runs no more. It takes no memory.
+    pub fn forget(&mut self, core: &Core, connection: u64)
+        ensures kept { KeepsSeats core.now self.old self.new }
+        ensures len { length self.new.rings ≡ length self.old.rings }
+    {
+        forget_desk(&mut self.desks, core, connection);
     }
 
     /// The first delivery that can be made, from the queue behind that from which was picked last, and then from the front.
     pub fn pick(&mut self, core: &Core) -> Option<Pick>
-        requires { length self.old ≡ length (topology_of core.now).queues }
-        ensures same { self.new ≡ self.old }
-        ensures some { IfSome result (λ p. IsPick (broker_of core.now) p) }
-        ensures none { result ≡ None → (place : ℕ) (p : Seat) → IsIn p (ring_at self.old place) → IsPickFrom core.now place p → ⊥ }
+        requires { length self.old.rings ≡ length (topology_of core.now).queues }
+        ensures drowse { AllDrowse (broker_of core.now) self.old.rings self.new.rings }
+        ensures lists { self.new.lists ≡ self.old.lists }
+        ensures len { length self.new.rings ≡ length self.old.rings }
+        ensures some { IfSome result (λ p. (place : ℕ) × IsPickFrom core.now place p) }
+        ensures none { result ≡ None → (place : ℕ) (p : Seat) → IsSeatedIn (broker_of core.now) (ring_at self.old.rings place) p → IsPickFrom core.now place p → ⊥ }
     {
         let found = first_round(&mut self.rings, core, self.next)?;
         self.next = found.queue + 1;

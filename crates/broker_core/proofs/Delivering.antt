@@ -1,6 +1,6 @@
 -- Who may take a message, and what a delivery leaves.
 use Rattle.std.proofs.Common.{◌≡◌, ◌∙◌, ◌<◌, ℕ, List, [], ◌∷◌, false, Option, Some, None, length, refl, sym, ap, subst}
-use Rattle.std.specs.Prelude.{option_map}
+use Rattle.std.specs.Prelude.{option_map, is_some}
 use Rattle.std.proofs.lemmas.Bool.{false≢true}
 use Rattle.std.proofs.lemmas.Option.{same_Some}
 use Rattle.model.specs.Words.{Text}
@@ -20,7 +20,7 @@ use Rattle.channel.specs.Open.{open_in, consumer_in}
 use Rattle.channel.specs.declared.consumers.Consumer.{Consumer}
 use Rattle.links.specs.Links.{Linked, link_in, limits_of, connection_at, channel_at}
 use Rattle.broker_core.specs.State.{ArePlaced}
-use Rattle.broker_core.specs.Picked.{IsPick, IsPickFrom, Takes, Tells}
+use Rattle.broker_core.specs.Picked.{IsPick, IsPickFrom, Takes, Tells, CannotTake}
 use Rattle.links.specs.Consumers.{TellsOn}
 use Rattle.broker_core.specs.State.{Kept, broker_of, topology_of, names_of}
 use Rattle.broker_core.specs.declared.picks.Pick.{Pick}
@@ -57,14 +57,24 @@ tells_is kept p l None e placed t = λ ch k taker numbered.
     (subst (λ (x : Channel). IsIn k x.consumers) (sym channel.same) taker.its) numbered in
     false≢true (sym none ∙ ap (λ (x : Channel). may_take x k) channel.same ∙ taker.may)
 
+-- where none is told none may take
+pub none_told : {B : Type 0} (f : B → Consumer) (kept : Kept) (p : Pick) (r : Option B) → is_some r ≡ false → Tells kept p (option_map f r) → CannotTake (broker_of kept) p
+none_told f kept p None e t = t
+none_told f kept p (Some k) e t = absurd (false≢true (sym e))
+
 -- ---- which delivery can be made
 
 -- the one that can be made to it where its queue has a message
 abbrev the_pick : (kept : Kept) (p : Pick) (k : Consumer) (e : Entry) → Takes kept p k → first_ready ((broker_of kept).queue (queue_name (topology_of kept) k.queue)) ≡ Some e → CanDeliver (broker_of kept) p.connection
 the_pick kept p k e t found = record { number = p.channel; channel = t.channel; consumer = consumer_in (names_of kept) k; taker = t.taker; entry = e; first = found }
 
-pub picked : (kept : Kept) (p : Pick) (k : Consumer) (e : Entry) → Takes kept p k → first_ready ((broker_of kept).queue (queue_name (topology_of kept) k.queue)) ≡ Some e → IsPick (broker_of kept) p
-picked kept p k e t found = (the_pick kept p k e t found, refl, t.numbered)
+-- and it is made from its queue
+pub picked_from : (kept : Kept) (place : ℕ) (p : Pick) (k : Consumer) (e : Entry) → Takes kept p k → first_ready ((broker_of kept).queue (queue_name (topology_of kept) k.queue)) ≡ Some e → k.queue ≡ place → IsPickFrom kept place p
+picked_from kept place p k e t found here = record {
+  pick = (the_pick kept p k e t found, refl, t.numbered);
+  within = subst (λ (n : ℕ). n < length (topology_of kept).queues) here t.within;
+  named = ap (queue_name (topology_of kept)) (sym here);
+}
 
 -- and any that can be made to one of its numbers takes from its queue
 pub ready_for : (kept : Kept) (p : Pick) (k : Consumer) → Takes kept p k → (pick : IsPick (broker_of kept) p) → first_ready ((broker_of kept).queue (queue_name (topology_of kept) k.queue)) ≡ Some pick.0.entry

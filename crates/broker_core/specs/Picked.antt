@@ -33,6 +33,10 @@ abbrev pub IsNext : Kept → ℕ → Option ℕ → Type 0
 IsNext kept from (Some place) = IsFirst kept from place
 IsNext kept from None = (at : ℕ) (p : Pick) → from ≤ at → IsPickFrom kept at p → ⊥
 
+-- the consumer of these numbers may take no message now, or is not there
+abbrev pub CannotTake : Broker → Pick → Type 0
+CannotTake b p = (ch : seen.Channel) (k : seen.Consumer) → MayTake b p.connection p.channel ch k → k.number ≡ p.number → ⊥
+
 -- The consumer of these numbers may take a message now, from a queue that is there, and no other has its numbers.
 pub record Takes (kept : Kept) (p : Pick) (k : Consumer) : Type 0 where
   pub channel : seen.Channel
@@ -44,4 +48,4 @@ pub record Takes (kept : Kept) (p : Pick) (k : Consumer) : Type 0 where
 -- It is told, exactly where it may.
 abbrev pub Tells : Kept → Pick → Option Consumer → Type 0
 Tells kept p (Some k) = Takes kept p k
-Tells kept p None = (ch : seen.Channel) (k : seen.Consumer) → MayTake (broker_of kept) p.connection p.channel ch k → k.number ≡ p.number → ⊥
+Tells kept p None = CannotTake (broker_of kept) p

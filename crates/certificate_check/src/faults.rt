@@ -12,8 +12,11 @@ pub enum CertFault {
     /// 2: from this state a letter leads to one that is not listed. None is the letter of all words that no pattern
     /// names.
     Open { state: usize, word: Option<Text> },
-    /// 3: the guarantee's pattern accepts at this state, and the queue is not sure to be reached.
+    /// 3, of a `reaches`: the guarantee's pattern accepts at this state, and the queue is not sure to be reached.
     Missed { state: usize },
+    /// 4, of a `never`: the guarantee's pattern accepts at this state, and it is not sure that no message comes to the
+    /// queue.
+    Forbidden { state: usize },
     /// 5: it has not the form that the guarantee needs.
     Form,
     /// 6: a growth was refused.

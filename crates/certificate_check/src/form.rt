@@ -2,9 +2,8 @@
 
 ghost use Rattle.std.specs.Prelude.{◌≡◌, ◌≤◌, ◌<◌, ◌+◌, ◌^◌, Decides, length};
 ghost use Rattle.std.specs.List.{AllByRecursion, list_all};
-ghost use Rattle.model.specs.Certificates.{AreFew, IsFormed, IsOf, IsShort};
+ghost use Rattle.model.specs.Certificates.{AreFew, IsFormed, IsOf, IsShort, mode_name};
 ghost use Rattle.model.specs.Positions.{FitsEach};
-ghost use Rattle.model.specs.declared.topologies.Mode.TheVariants.{Reaches};
 ghost use Rattle.state_walks.specs.Judged.{states_of};
 ghost use Rattle.certificate_check.specs.Checks.{FitsGuarantee};
 ghost use Rattle.certificate_check.specs.Forms.{is_short};
@@ -24,23 +23,22 @@ pub const MOST_WORDS: usize = 31;
 /// The most states of a certificate.
 pub const MOST_STATES: usize = 65_536;
 
-/// Whether it promises that messages come.
-fn reaches(mode: Mode) -> bool
-    ensures { Decides result (mode ≡ Reaches) }
+/// Whether this is the mode's name.
+fn is_mode(mode: Mode, name: &[u8]) -> bool
+    ensures { Decides result (name.now ≡ mode_name mode) }
 {
     match mode {
-        Mode::Reaches => true,
-        Mode::Never => false,
+        Mode::Reaches => name == b"reaches".as_slice(),
+        Mode::Never => name == b"never".as_slice(),
     }
 }
 
-/// Whether the certificate has the guarantee's texts, that of a `reaches`.
+/// Whether the certificate has the guarantee's texts.
 fn is_of(guarantee: &Guarantee, certificate: &Certificate) -> bool
-    requires { guarantee.now.mode ≡ Reaches }
     ensures { Decides result (IsOf guarantee.now certificate.now) }
 {
     certificate.exchange().as_bytes() == guarantee.exchange().as_bytes()
-        && certificate.mode().as_bytes() == b"reaches".as_slice()
+        && is_mode(guarantee.mode(), certificate.mode().as_bytes())
         && certificate.pattern().as_bytes() == guarantee.pattern().as_bytes()
         && certificate.queue().as_bytes() == guarantee.queue().as_bytes()
 }
@@ -107,8 +105,7 @@ fn all_fit(patterns: &[Tracked], states: &[Vec<u64>]) -> bool
 pub fn fits_guarantee(guarantee: &Guarantee, certificate: &Certificate) -> bool
     ensures { Decides result (FitsGuarantee guarantee.now certificate.now) }
 {
-    reaches(guarantee.mode())
-        && is_of(guarantee, certificate)
+    is_of(guarantee, certificate)
         && certificate.states().len() <= MOST_STATES
         && ascend(certificate.states())
 }

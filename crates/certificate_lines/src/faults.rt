@@ -20,9 +20,9 @@ fn put_open(out: &mut Answer, state: usize, named: &Option<Text>) {
     put_letter(out, named);
 }
 
-/// Appends the state that breaks the promise.
-fn put_missed(out: &mut Answer, state: usize) {
-    out.put("fault 3 state ");
+/// Appends the state that breaks the promise, behind the fault's number.
+fn put_broken(out: &mut Answer, fault: &str, state: usize) {
+    out.put(fault);
     out.put_number(state as u64);
 }
 
@@ -31,7 +31,8 @@ pub fn put_fault(out: &mut Answer, fault: &CertFault) {
     match fault {
         CertFault::Start => out.put("fault 1"),
         CertFault::Open { state, word } => put_open(out, *state, word),
-        CertFault::Missed { state } => put_missed(out, *state),
+        CertFault::Missed { state } => put_broken(out, "fault 3 state ", *state),
+        CertFault::Forbidden { state } => put_broken(out, "fault 4 state ", *state),
         CertFault::Form => out.put("fault 5"),
         CertFault::Memory => out.fail(Unanswered::Memory),
     }

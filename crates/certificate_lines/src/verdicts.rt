@@ -79,12 +79,25 @@ fn put_yes(out: &mut Answer, topology: &Topology, guarantee: &Guarantee, found: 
     }
 }
 
-/// Appends that a key was found, if it is seen to break the guarantee.
+/// Appends the names of a path, if it has some.
+fn put_path(out: &mut Answer, path: &[Text]) {
+    if path.is_empty() {
+        return;
+    }
+    out.put(" path");
+    for name in path {
+        out.put(" ");
+        out.put_quoted(name);
+    }
+}
+
+/// Appends that a key was found, with its path, if it is seen to break the guarantee.
 fn put_no(out: &mut Answer, topology: &Topology, guarantee: &Guarantee, found: &Refutation) {
     match disprove(out.alloc(), topology, guarantee, found) {
         Ok(true) => {
             out.put("no key ");
             out.put_quoted(found.key());
+            put_path(out, found.path());
         }
         Ok(false) => out.put("no, which is not shown"),
         Err(_) => out.fail(Unanswered::Memory),

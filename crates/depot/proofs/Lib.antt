@@ -1,3 +1,4 @@
+pub mod Firsts
 pub mod Changes
 pub mod Turning
 pub mod Naming

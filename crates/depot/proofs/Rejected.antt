@@ -38,82 +38,10 @@ use Rattle.depot.specs.Store.{Store, queue_of, IsWhole}
 use Rattle.depot.specs.Turns.{Outcome, outcomes, arriving, entered_one, entered, notes_of}
 use Rattle.depot.specs.Rejecting.{holder_of, outstanding_of, AreWithin, AreOrdered, IsApart, Rejecting}
 use Rattle.depot.specs.Dying.{MayHaveLetters, LettersAt, IsDeathOf, Plans, given_at, ArePlanned, without, outcomes_of, died, death_notes, died_all, all_notes, Rejects}
+use Rattle.depot.proofs.Firsts.{number, count-cons, one_passes, none_found, count-filter, find-filter, held_apart}
 use Rattle.depot.proofs.Naming.{names-length, same_name, other_name, later_name, noted_by_names, entered_by_names}
 use Rattle.depot.proofs.Named.{queue_of-changed, queue_of-place}
 use Rattle.depot.proofs.Planned.{queue_there}
-
--- ---- one queue
-
--- 1 for yes, 0 for no
-abbrev number : Bool → ℕ
-number b = cond b 1 0
-
-count-cons : {A : Type 0} (p : A → Bool) (x : A) (xs : List A) → count_by p (x ∷ xs) ≡ number (p x) + count_by p xs
-count-cons p x xs = sum_by-cons (λ x. cond (p x) 1 0) x xs
-
-none_passes : {A : Type 0} (p : A → Bool) (xs : List A) → count_by p xs ≡ 0 → filter (λ x. not (p x)) xs ≡ xs
-none_passes p [] e = refl
-none_passes {A} p (x ∷ xs) e = go (p x) refl (none_passes p xs)
-  where
-    go : (v : Bool) → p x ≡ v → (count_by p xs ≡ 0 → filter (λ y. not (p y)) xs ≡ xs) → cond (not v) (x ∷ filter (λ y. not (p y)) xs) (filter (λ y. not (p y)) xs) ≡ x ∷ xs
-    go true is rest = let n = count-cons p x xs in let one = ap number is in absurd (omega (arith, e, n, one))
-    go false is rest = let n = count-cons p x xs in let none = ap number is in ap (λ (ys : List A). x ∷ ys) (rest (omega (arith, e, n, none)))
-
--- where at most one passes, to take out all that pass is to take out the first
-one_passes : {A : Type 0} (p : A → Bool) (xs : List A) → count_by p xs ≤ 1 → filter (λ x. not (p x)) xs ≡ without_first p xs
-one_passes p [] le = refl
-one_passes {A} p (x ∷ xs) le = go (p x) refl (one_passes p xs)
-  where
-    go : (v : Bool) → p x ≡ v → (count_by p xs ≤ 1 → filter (λ y. not (p y)) xs ≡ without_first p xs) → cond (not v) (x ∷ filter (λ y. not (p y)) xs) (filter (λ y. not (p y)) xs) ≡ (if v then xs else x ∷ without_first p xs)
-    go true is rest = let n = count-cons p x xs in let one = ap number is in none_passes p xs (omega (arith, le, n, one))
-    go false is rest = let n = count-cons p x xs in ap (λ (ys : List A). x ∷ ys) (rest (omega (arith, le, n)))
-
--- where none is found, none is taken out
-none_found : {A : Type 0} (p : A → Bool) (xs : List A) → find p xs ≡ None → without_first p xs ≡ xs
-none_found p [] e = refl
-none_found {A} p (x ∷ xs) e = go (p x) e (none_found p xs)
-  where
-    go : (v : Bool) → cond v (Some x) (find p xs) ≡ None → (find p xs ≡ None → without_first p xs ≡ xs) → (if v then xs else x ∷ without_first p xs) ≡ x ∷ xs
-    go true h rest = absurd (cc)
-    go false h rest = ap (λ (ys : List A). x ∷ ys) (rest h)
-
-count-filter : {A : Type 0} (p q : A → Bool) (xs : List A) → count_by p (filter q xs) ≤ count_by p xs
-count-filter p q [] = omega arith
-count-filter {A} p q (x ∷ xs) = go (q x) (count-filter p q xs)
-  where
-    go : (v : Bool) → count_by p (filter q xs) ≤ count_by p xs → count_by p (cond v (x ∷ filter q xs) (filter q xs)) ≤ count_by p (x ∷ xs)
-    go true le = let n = count-cons p x xs in let m = count-cons p x (filter q xs) in omega (arith, le, n, m)
-    go false le = let n = count-cons p x xs in omega (arith, le, n)
-
--- the first that passes is found as well where others are taken out
-find-filter : {A : Type 0} (p q : A → Bool) → ((x : A) → p x ≡ true → q x ≡ false) → (xs : List A) → find p (filter (λ x. not (q x)) xs) ≡ find p xs
-find-filter p q apart [] = refl
-find-filter {A} p q apart (x ∷ xs) = go (p x) refl (q x) refl (find-filter p q apart xs)
-  where
-    rest : List A
-    rest = filter (λ y. not (q y)) xs
-
-    go : (v : Bool) → p x ≡ v → (w : Bool) → q x ≡ w → find p rest ≡ find p xs → find p (cond (not w) (x ∷ rest) rest) ≡ cond v (Some x) (find p xs)
-    go true e true f more = absurd (false≢true (sym (apart x e) ∙ f))
-    go true e false f more = ap (λ (b : Bool). cond b (Some x) (find p rest)) e
-    go false e true f more = more
-    go false e false f more = ap (λ (b : Bool). cond b (Some x) (find p rest)) e ∙ more
-
--- an entry that is held under one tag is not held under another
-held_apart : (a b : Holder) → ((a.tag ≡ b.tag) → ⊥) → (e : Entry) → is_held_as a e ≡ true → is_held_as b e ≡ false
-held_apart a b ne e is = go e.mark is
-  where
-    go : (m : Mark) → is_held_as a (record { message = e.message; mark = m }) ≡ true → is_held_as b (record { message = e.message; mark = m }) ≡ false
-    go Ready at = refl
-    go (Held k) at = other (k.connection == b.connection && k.channel == b.channel) (ne_eqb k.tag b.tag (λ t. ne (sym (eqb-true k.tag a.tag (second (k.connection == a.connection && k.channel == a.channel) (k.tag == a.tag) at)) ∙ t)))
-      where
-        second : (v w : Bool) → (v && w) ≡ true → w ≡ true
-        second true w f = f
-        second false w f = absurd (false≢true f)
-
-        other : (v : Bool) → (k.tag == b.tag) ≡ false → (v && (k.tag == b.tag)) ≡ false
-        other true f = f
-        other false f = refl
 
 -- ---- what a death leaves alone
 

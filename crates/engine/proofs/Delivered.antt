@@ -18,7 +18,7 @@ use Rattle.laws.proofs.Whole.{pump_keeps}
 use Rattle.broker_core.specs.State.{Kept, topology_of, broker_of}
 use Rattle.runs.specs.Opened.{Idles}
 use Rattle.engine.specs.Reading.{IsKept}
-use Rattle.engine.specs.Waiting.{Waiting}
+use Rattle.outputs.specs.Waiting.{Waiting}
 use Rattle.engine.specs.Pumping.{LinkPumped, OutputChanges, LinksPumped, LinksNotPumped, IsPump}
 use Rattle.engine.specs.World.{Parts, link_in, session_of, wire_in, wire_of, config_of, state_of, world_of, is_link_gone, AreRising, IsEngine}
 use Rattle.engine.specs.Engines.{Becomes, Changes, IsPlaceOf}

@@ -1,6 +1,5 @@
 pub mod Asked
 pub mod Replies
-pub mod Putting
 pub mod Turned
 pub mod Numbered
 pub mod Found

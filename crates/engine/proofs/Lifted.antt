@@ -29,7 +29,7 @@ use Rattle.broker_core.specs.State.{topology_of, broker_of}
 use Rattle.engine.specs.Performing.{rules_of, Decides, ByBroker, ByPhase, session_after, PausesOr}
 use Rattle.engine.specs.Reading.{kept_of}
 use Rattle.engine.specs.Turning.{LinkDid, LinkWaits}
-use Rattle.engine.specs.Waiting.{Waiting}
+use Rattle.outputs.specs.Waiting.{Waiting}
 use Rattle.engine.specs.World.{Parts, link_in, session_of, wire_in, wire_of, config_of, state_of, world_of}
 use Rattle.engine.specs.Engines.{Becomes, LinkSent, LinkFed}
 use Rattle.engine.proofs.Changed.{either}

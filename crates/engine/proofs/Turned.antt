@@ -18,7 +18,7 @@ use Rattle.assembly.specs.Held.{stream_of}
 use Rattle.engine.specs.Reading.{kept_of, IsMade, IsKept, Has, Comes, to_read}
 use Rattle.engine.specs.Performing.{Rules, IsAsked, Decides}
 use Rattle.engine.specs.Turning.{Performed, LinkPerformed, DidEvent, LinkTook, LinkWaits, OnIdle}
-use Rattle.engine.specs.Waiting.{HoldsNone}
+use Rattle.outputs.specs.Waiting.{HoldsNone}
 use Rattle.engine.specs.declared.reading.Next.{Next}
 use Rattle.engine.specs.declared.reading.Next.TheVariants as next
 use Rattle.engine.specs.declared.link.Link.{Link}

@@ -1,5 +1,3 @@
-pub mod Waiting
-pub mod Sending
 pub mod Reading
 pub mod Performing
 pub mod Turning

@@ -19,7 +19,7 @@ ghost use Rattle.model.specs.Arrivals.{is_ended};
 ghost use Rattle.model.specs.Sending.{AreCarried};
 ghost use Rattle.broker_core.specs.State.{topology_of, broker_of};
 ghost use Rattle.engine.specs.Reading.{IsKept};
-ghost use Rattle.engine.specs.Waiting.{HoldsNone};
+ghost use Rattle.outputs.specs.Waiting.{HoldsNone};
 ghost use Rattle.engine.specs.Performing.{rules_of};
 ghost use Rattle.engine.specs.Turning.{LinkTook, LinkWaits, OnIdle};
 ghost use Rattle.engine.specs.World.{AreRising};
@@ -36,11 +36,10 @@ ghost use Rattle.engine.specs.declared.link.Link as seen_link;
 
 use crate::link::Link;
 use crate::performing::resume_if;
-use crate::scratch::Scratch;
-use crate::spares::Spares;
 use crate::turning::{Turn, turn_awake};
 use broker::Broker;
 use model::User;
+use outputs::{Scratch, Spares};
 use std::alloc::{AllocError, Global};
 
 /// An output of so many bytes pauses its connection.

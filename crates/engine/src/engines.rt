@@ -13,13 +13,12 @@ ghost use Rattle.engine.specs.Certified.{in_force};
 use crate::connections::{feed_at, place_of, take_at, turn_at};
 use crate::link::Link;
 use crate::pumping::pump_among;
-use crate::scratch::Scratch;
-use crate::spares::Spares;
 use crate::turning::Turn;
 use broker::Broker;
 use certificate::Checked;
 use guarantees::Guarantee;
 use model::{Note, User};
+use outputs::{Scratch, Spares};
 use std::alloc::{AllocError, Global};
 use std::marker::Model;
 

@@ -8,13 +8,9 @@ mod connections;
 mod engines;
 mod link;
 mod machines;
-mod output;
 mod performing;
 mod pumping;
 mod reading;
-mod scratch;
-mod sending;
-mod spares;
 mod turning;
 
 pub use engines::{Engine, Refused};

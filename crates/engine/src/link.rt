@@ -6,9 +6,9 @@ ghost use Rattle.model.specs.Opening.{new_session};
 ghost use Rattle.model.specs.Commands.{new_stream, running_stream};
 ghost use Rattle.engine.specs.World.{is_link_gone, IsNew};
 
-use crate::output::Output;
 use assembly::Stream;
 use model::Event;
+use outputs::Output;
 use session::Session;
 use std::alloc::Global;
 

@@ -10,11 +10,10 @@ ghost use Rattle.engine.specs.Pumping.{LinkPumped, LinksPumped, LinksNotPumped};
 
 use crate::connections::place_of;
 use crate::link::Link;
-use crate::scratch::Scratch;
-use crate::spares::Spares;
 use crate::turning::put_out;
 use broker::{Broker, Pick};
 use model::Note;
+use outputs::{Scratch, Spares};
 use std::alloc::{AllocError, Global};
 
 /// The delivery that was picked, to its connection, with room made for the greatest.

@@ -11,17 +11,14 @@ ghost use Rattle.broker_core.specs.State.{topology_of, broker_of};
 ghost use Rattle.engine.specs.Reading.{IsKept, IsMade};
 ghost use Rattle.engine.specs.Performing.{IsAsked, PausesOr, rules_of};
 ghost use Rattle.engine.specs.Turning.{Performed, DidEvent, LinkTook, LinkWaits, OnIdle};
-ghost use Rattle.engine.specs.Waiting.{HoldsNone};
+ghost use Rattle.outputs.specs.Waiting.{HoldsNone};
 
 use crate::link::Link;
-use crate::output::Output;
 use crate::performing::{pause_if, perform};
 use crate::reading::{Next, forget, read_next};
-use crate::scratch::Scratch;
-use crate::sending::put_sends;
-use crate::spares::Spares;
 use broker::Broker;
 use model::{Event, Note, Send, User};
+use outputs::{Output, Scratch, Spares, put_sends};
 use session::Session;
 use std::alloc::{AllocError, Global};
 

@@ -11,4 +11,5 @@ mod places;
 mod reach;
 mod topologies;
 
+pub use ends::End;
 pub use topologies::Topology;

@@ -148,12 +148,7 @@ impl Topology {
     }
 
     /// The steps of a route from the exchange at this place.
-    pub(crate) fn steps(
-        &self,
-        alloc: Global,
-        place: usize,
-        key: &[u8],
-    ) -> Result<Vec<End>, AllocError>
+    pub fn steps(&self, alloc: Global, place: usize, key: &[u8]) -> Result<Vec<End>, AllocError>
         requires { place < length self.now.exchanges }
         ensures { IfOk result (λ ends. AreSteps self.now key.now (exchange_name self.now place) ends.items) }
     {

@@ -10,8 +10,7 @@ pub enum Cause {
     TooManyStates,
     /// The key that breaks it has more than 255 bytes.
     KeyTooLong,
-    /// It is a `never`, which is not searched yet, or some tracked pattern has more than 31 words or names the empty
-    /// word. No file that is read has such a pattern.
+    /// Some tracked pattern has more than 31 words or names the empty word. No file that is read has such a pattern.
     Unfit,
 }
 

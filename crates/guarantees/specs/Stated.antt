@@ -6,16 +6,16 @@ use Rattle.json_file.specs.Members.{array_at, each, text_at}
 use Rattle.model.specs.Words.{Text}
 use Rattle.model.specs.Guarantee.{Guarantee}
 use Rattle.model.specs.declared.topologies.Mode.{Mode}
-use Rattle.model.specs.declared.topologies.Mode.TheVariants.{Reaches}
+use Rattle.model.specs.declared.topologies.Mode.TheVariants.{Reaches, Never}
 
 -- what `←` means below: where one member is missing or of another kind, there is no guarantee
 infixl 10 ◌>>=◌
 abbrev pub ◌>>=◌ : {A B : Type 0} → Option A → (A → Option B) → Option B
 o >>= f = option_and_then f o
 
--- the mode of this name; `never` is not read yet
+-- the mode of this name
 abbrev pub mode_named : Text → Option Mode
-mode_named t = if bytes_eq t (codes "reaches") then Some Reaches else None
+mode_named t = if bytes_eq t (codes "reaches") then Some Reaches else if bytes_eq t (codes "never") then Some Never else None
 
 -- the mode at the member `mode`
 unfoldable pub mode_at : Data → Option Mode

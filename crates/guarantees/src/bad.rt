@@ -11,7 +11,8 @@ use std::alloc::{AllocError, AllocFailed};
 pub enum Bad {
     /// 1: the file is not JSON.
     NotJson,
-    /// 2: the list of guarantees or a member of one is missing or of the wrong kind, or a mode is another than `reaches`.
+    /// 2: the list of guarantees or a member of one is missing or of the wrong kind, or a mode is neither `reaches`
+    /// nor `never`.
     Malformed,
     /// 5: an exchange or a queue is not there. The default exchange `""` is.
     Absent,

@@ -24,10 +24,12 @@ fn mode(alloc: Global, value: &Value) -> Result<Mode, Fault>
 {
     let name = text(alloc, value, "mode")?;
     if name.as_bytes() == b"reaches".as_slice() {
-        Ok(Mode::Reaches)
-    } else {
-        Err(Fault::Malformed)
+        return Ok(Mode::Reaches);
     }
+    if name.as_bytes() == b"never".as_slice() {
+        return Ok(Mode::Never);
+    }
+    Err(Fault::Malformed)
 }
 
 impl Entry for Guarantee {
@@ -132,8 +134,7 @@ fn open(alloc: Global, bytes: &[u8]) -> Result<Vec<Guarantee>, Bad>
 /// The guarantees that a file states of a topology, in the order of the file. It is refused by the least cause that
 /// stands anywhere in it.
 ///
-/// A file has at most 16,777,216 bytes and 64 guarantees. The one mode that is read is `reaches`. Other members are
-/// ignored.
+/// A file has at most 16,777,216 bytes and 64 guarantees. The modes are `reaches` and `never`. Other members are ignored.
 pub fn read_guarantees(
     alloc: Global,
     bytes: &[u8],

@@ -102,6 +102,7 @@ in_q1 = Some (first_death (codes "q1") (codes "Y"))
 abbrev pub in_q : Option Text
 in_q = Some (first_death (codes "q") (codes "X"))
 
+-- What the definitions say of worked deaths: a first and a second one, a full queue, and a circle of exchanges.
 pub record WorkedDeaths : Type 0 where
   -- the dead letter stands in billing as one that was sent to D under `pay`, with the headers of its death
   pub first : DiesTo deaths (codes "q1") (codes "billing") (first_publish (codes "Y") (codes "Y") (codes "a") None) (first_publish (codes "Y") (codes "D") (codes "pay") in_q1)
@@ -122,6 +123,7 @@ pub record WorkedDeaths : Type 0 where
 abbrev pub never_to : Text → Text → Guarantee
 never_to exchange queue = record { mode = Never; exchange = exchange; pattern = codes "#"; queue = queue }
 
+-- What they refuse: a dead letter that is lost, a second death that is told of, and guarantees that forget deaths.
 pub record DeathsRefuse : Type 0 where
   -- a dead letter is not lost where a queue takes it
   pub lost : (after : Text → List Entry) → AreRejected deaths 1 1 (got_from (codes "q1") ∷ []) (while_held (codes "q1") (first_publish (codes "Y") (codes "Y") (codes "a") None)) (Left 1 (codes "q1") Rejected ∷ []) after → ⊥

@@ -173,10 +173,11 @@ consume_of tag = record { reserved = 0; queue = codes "audit"; consumer_tag = ta
 abbrev pub one_each : Channel
 one_each = record new_channel { each_limit = 1 }
 
--- the consumer of this tag that is made there, and the channel with it
+-- the consumer of this tag that is made there
 abbrev pub consumer_under : Text → Consumer
 consumer_under tag = consumer_of one_each (consume_of tag)
 
+-- the channel with that consumer
 abbrev pub consuming_under : Text → Channel
 consuming_under tag = with_consumer one_each (consume_of tag)
 

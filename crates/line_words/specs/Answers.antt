@@ -23,5 +23,6 @@ abbrev pub PutsAt : Option Unanswered → Text → Answering → Answering → T
 PutsAt (Some why) piece old new = new ≡ old
 PutsAt None piece old new = (new ≡ record old { text = old.text ++ piece }) ⊎ (new ≡ record old { lack = Some Memory })
 
+-- this piece was appended, so far as nothing was lacking before
 abbrev pub Puts : Text → Answering → Answering → Type 0
 Puts piece old new = PutsAt old.lack piece old new

@@ -1,10 +1,9 @@
 -- What is outstanding was given out from queues that are there, and consumers take from such queues.
-use Rattle.std.specs.Prelude.{◌≡◌, ◌<◌, ℕ, List, Some, length, All}
+use Rattle.std.specs.Prelude.{◌<◌, ℕ, List, length, All}
 use Rattle.model.specs.Topology.{Topology}
 use Rattle.channel.specs.Open.{Open}
 use Rattle.channel.specs.declared.pending.Outstanding.{Outstanding}
 use Rattle.channel.specs.declared.consumers.Consumer.{Consumer}
-use Rattle.links.specs.Links.{Linked, channel_in, channel_of}
 
 -- each of these was given out from a queue at a place of the file
 abbrev pub AreWithin : Topology → List Outstanding → Type 0
@@ -18,7 +17,3 @@ TakeWithin t consumers = All (λ (k : Consumer). k.queue < length t.queues) cons
 pub record IsPlaced (t : Topology) (ch : Open) : Type 0 where
   pub outstanding : AreWithin t ch.given.outstanding
   pub consumers : TakeWithin t ch.given.consumers
-
--- with each channel of a connection
-abbrev pub ArePlacedIn : Topology → Linked → Type 0
-ArePlacedIn t l = (h : ℕ) (ch : Open) → channel_in l h ≡ Some ch → IsPlaced t ch

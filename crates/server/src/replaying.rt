@@ -70,6 +70,7 @@ fn number_of(fault: &CertFault) -> u8
         CertFault::Start => 1,
         CertFault::Open { .. } => 2,
         CertFault::Missed { .. } => 3,
+        CertFault::Forbidden { .. } => 4,
         CertFault::Form => 5,
         CertFault::Memory => 6,
     }

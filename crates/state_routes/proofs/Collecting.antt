@@ -1,14 +1,14 @@
 -- The patterns that are collected are those of the exchanges that a message may meet.
-use Rattle.std.proofs.Common.{◌≡◌, ◌⊎◌, ℕ, zero, suc, ◌+◌, ◌<◌, Bool, true, false, cond, List, [], ◌∷◌, length, map, refl, sym, ap, subst, ◌∙◌, inl, inr, Some, arith}
-use Rattle.std.specs.Prelude.{slice_index_or, fold, flat_map}
+use Rattle.std.proofs.Common.{◌≡◌, ◌⊎◌, ℕ, zero, suc, ◌+◌, ◌<◌, ◌≤◌, Bool, true, false, cond, List, [], ◌∷◌, length, map, ◌++◌, refl, sym, ap, subst, ◌∙◌, inl, inr, Option, Some, arith}
+use Rattle.std.specs.Prelude.{Contains, slice_index_or, fold, flat_map}
 use Rattle.std.specs.Str.{bytes_eq}
 use Rattle.std.proofs.lemmas.Bool.{false≢true}
 use Rattle.std.proofs.lemmas.List.Sums.{fold-append}
 use Rattle.model.specs.Words.{Text}
 use Rattle.model.specs.Topology.{Topology, IsIn, IsWellFormed, exchange_names}
 use Rattle.model.specs.Guarantee.{Guarantee}
-use Rattle.model.specs.Tracking.{Tracked, Met, own, by_bound, by_alternate, by_death, IsTrackedList, Selects, same_tracked, once_more, keys_from, keys_by, keys_of, names_in}
-use Rattle.model.specs.declared.topologies.Mode.TheVariants.{Reaches, Never}
+use Rattle.model.specs.Tracking.{Tracked, Met, own, by_bound, by_alternate, by_death, MayEnter, by_binding, by_name, IsTrackedList, Selects, same_tracked, once_more, keys_from, keys_by, keys_of, names_in}
+use Rattle.model.specs.declared.topologies.Mode.{Mode}
 use Rattle.model.specs.declared.topologies.Exchange.{Exchange}
 use Rattle.model.specs.declared.topologies.DeclaredQueue.{DeclaredQueue}
 use Rattle.model.specs.declared.topologies.Binding.{Binding}
@@ -20,9 +20,12 @@ use Rattle.exchange_graph.specs.Marks.{IsSet}
 use Rattle.state_routes.specs.declared.reach.Link.{Link}
 use Rattle.state_routes.specs.Reach.{Chain, still, along, AreWithin, AreReached}
 use Rattle.state_routes.specs.Nodes.{node, count, end_node, link_of, links_of, alternate_links, any_links}
-use Rattle.state_routes.specs.Collected.{onto, keys_onto, keys_by_onto, names_onto, met_onto, collected}
+use Rattle.state_routes.specs.declared.gates.Gate.{Gate}
+use Rattle.state_routes.specs.Deaths.{AreEntered, IsUnfixedEnd, dying, entry, default_entry, links_in, unfixed_end}
+use Rattle.state_routes.specs.Collected.{AreMet, onto, keys_onto, keys_by_onto, names_onto, met_onto, collected}
 use Rattle.state_routes.proofs.Numbers.{node_same, node_default, node_above, node_within}
 use Rattle.state_routes.proofs.Known.{alternate_in, from_alternates}
+use Rattle.state_routes.proofs.DeadLetters.{FromDeath, ToDeath, from_entered, to_entered, dying_tells, dying_has, unfixed_tells, link_of_gate, gate_of_link}
 use Rattle.state_routes.proofs.Chains.{chain_on}
 use Rattle.certificate_laws.proofs.Onces.{in_front, in_back, in_either, in_map, from_map}
 use Rattle.certificate_laws.proofs.Trackings.{contained, has_place}
@@ -55,39 +58,104 @@ links_within t q l i = elim (in_either l (links_of t.exchanges q t.bindings) (al
       subst (λ (z : Link). (z.from < length t.exchanges + 4) × (z.to < length t.exchanges + 4)) (sym r.4) (node_within t.exchanges r.0.name, node_within t.exchanges r.1)
 ]
 
-pub within_as : (t : Topology) (q : Text) (n : ℕ) (links : List Link) → n ≡ length t.exchanges + 4 → links ≡ any_links t q → AreWithin n links
-within_as t q n links e f = subst (λ (z : ℕ). AreWithin z links) (sym e) (subst (λ (z : List Link). AreWithin (length t.exchanges + 4) z) (sym f) (links_within t q))
+module _ (t : Topology) (m : Mode) (q : Text) (deaths : List Gate) (entered : AreEntered t [] (IsUnfixedEnd t) (dying m t.queues) deaths) where
+  -- the ways by which dead letters lead on start from exchanges, and end in them
+  death_low : (g : Gate) → IsIn g deaths → (2 ≤ g.link.from) × (g.link.from < length t.exchanges + 4) × (g.link.to < length t.exchanges + 4)
+  death_low g i =
+      let w = from_entered t [] (IsUnfixedEnd t) g entered i in
+      let u = unfixed_tells t.exchanges w.last.dead_letter_exchange w.last.dead_letter_key g.link.to w.ends in
+      let e = u.3 in
+      let h = node_within t.exchanges u.0 in (
+        elim w.way [ inl r ↦ (let f = r.3 in let k = node_above t.exchanges r.0.source in omega (arith, f, k)) | inr r ↦ (let f = r.0 in omega (arith, f)) ],
+        elim w.way [ inl r ↦ (let f = r.3 in let k = node_within t.exchanges r.0.source in omega (arith, f, k)) | inr r ↦ (let f = r.0 in omega (arith, f)) ],
+        omega (arith, e, h),
+      )
 
-module _ (t : Topology) (g : Guarantee) (q : Text) (reaches : g.mode ≡ Reaches) (formed : IsWellFormed t) where
-  pub met_chain : {y : Text} → Met t g y → Chain (any_links t q) (node t.exchanges g.exchange) (node t.exchanges y)
+  pub within_as : (n : ℕ) (links : List Link) → n ≡ length t.exchanges + 4 → links ≡ any_links t q ++ links_in deaths → AreWithin n links
+  within_as n links e f = subst (λ (z : ℕ). AreWithin z links) (sym e) (λ l i. elim (in_either l (any_links t q) (links_in deaths) (subst (λ (z : List Link). IsIn l z) f i)) [
+    | inl j ↦ links_within t q l j
+    | inr j ↦ let r = gate_of_link l deaths j in let w = death_low r.0 r.1 in subst (λ (z : Link). (z.from < length t.exchanges + 4) × (z.to < length t.exchanges + 4)) (sym r.2) (w.1, w.2)
+  ])
+
+module _ (t : Topology) (g : Guarantee) (q : Text) (deaths : List Gate) (entered : AreEntered t [] (IsUnfixedEnd t) (dying g.mode t.queues) deaths) (formed : IsWellFormed t) where
+  abbrev Linked : ℕ → ℕ → Type 0
+  Linked a b = (l : Link) × IsIn l (any_links t q ++ links_in deaths) × (l.from ≡ a) × (l.to ≡ b)
+
+  onward : {a b c : ℕ} → Chain (any_links t q ++ links_in deaths) a b → Linked b c → Chain (any_links t q ++ links_in deaths) a c
+  onward {c = c} h (l, i, f, u) = chain_on (any_links t q ++ links_in deaths) h l c i f u
+
+  any_link : (l : Link) → IsIn l (any_links t q) → Linked l.from l.to
+  any_link l i = (l, in_front l (any_links t q) (links_in deaths) i, refl, refl)
+
+  death_link : (w : Gate) → IsIn w deaths → Linked w.link.from w.link.to
+  death_link w i = (w.link, in_back w.link (any_links t q) (links_in deaths) (link_of_gate w deaths i), refl, refl)
+
+  -- from where a queue may be entered that leaves the key as it is
+  entered_link : (x p : Text) (last : DeclaredQueue) (w : ToDeath t [] (IsUnfixedEnd t) last deaths) (n : ℕ) → w.end ≡ Some n → last.name ≡ p → MayEnter t x p → Linked (node t.exchanges x) n
+  entered_link x p last w n e same (by_binding ex b c nm bs) =
+      let r = death_link (entry t.exchanges [] n b) (w.bound n e b (contained t.bindings b bs.is_binding) (bs.leads ∙ ap (λ (z : Text). place.Queue z) (sym same))) in
+      (r.0, r.1, r.2 ∙ ap (node t.exchanges) (bs.source ∙ nm), r.3)
+  entered_link x p last w n e same (by_name d c nm) = death_link (default_entry [] last.name n) (w.default n e)
+
+  pub met_chain : {y : Text} → Met t g y → Chain (any_links t q ++ links_in deaths) (node t.exchanges g.exchange) (node t.exchanges y)
   met_chain own = still
   met_chain (by_bound {y = y} e b m c n bs) =
-      chain_on (any_links t q) (met_chain m) (link_of t.exchanges q b) (node t.exchanges y)
-      (in_front (link_of t.exchanges q b) (links_of t.exchanges q t.bindings) (alternate_links t.exchanges t.exchanges) (link_in t.exchanges q b t.bindings (contained t.bindings b bs.is_binding)))
-      (ap (node t.exchanges) (bs.source ∙ n)) (ap (end_node t.exchanges q) bs.leads)
+      let r = any_link (link_of t.exchanges q b) (in_front (link_of t.exchanges q b) (links_of t.exchanges q t.bindings) (alternate_links t.exchanges t.exchanges) (link_in t.exchanges q b t.bindings (contained t.bindings b bs.is_binding))) in
+      onward (met_chain m) (r.0, r.1, r.2 ∙ ap (node t.exchanges) (bs.source ∙ n), r.3 ∙ ap (end_node t.exchanges q) bs.leads)
   met_chain (by_alternate {y = y} e m c n a) =
-      chain_on (any_links t q) (met_chain m) (record { from = node t.exchanges e.name; to = node t.exchanges y }) (node t.exchanges y)
-      (in_back (record { from = node t.exchanges e.name; to = node t.exchanges y }) (links_of t.exchanges q t.bindings) (alternate_links t.exchanges t.exchanges) (alternate_in t.exchanges t.exchanges e y (contained t.exchanges e c) a))
-      (ap (node t.exchanges) n) refl
-  met_chain (by_death last never m e d k) = absurd (let h : Never ≡ Reaches = sym never ∙ reaches in cc)
+      let l : Link = record { from = node t.exchanges e.name; to = node t.exchanges y } in
+      let r = any_link l (in_back l (links_of t.exchanges q t.bindings) (alternate_links t.exchanges t.exchanges) (alternate_in t.exchanges t.exchanges e y (contained t.exchanges e c) a)) in
+      onward (met_chain m) (r.0, r.1, r.2 ∙ ap (node t.exchanges) n, r.3)
+  met_chain (by_death {x = x} {q = p} {y = y} last never m e d k) =
+      let w = to_entered t [] (IsUnfixedEnd t) last entered (dying_has g.mode t.queues last never (contained t.queues last d.is_queue)) in
+      let end = w.ends ∙ ap (λ (o : Option Text). unfixed_end t.exchanges o last.dead_letter_key) d.dead ∙ ap (λ (o : Option Text). unfixed_end t.exchanges (Some y) o) k in
+      onward (met_chain m) (entered_link x p last w (node t.exchanges y) end d.is_named e)
 
   -- from places that are no exchanges nothing leads on
-  low_end : {a b : ℕ} → Chain (any_links t q) a b → a < 2 → (y : Text) → b ≡ node t.exchanges y → ⊥
+  low_end : {a b : ℕ} → Chain (any_links t q ++ links_in deaths) a b → a < 2 → (y : Text) → b ≡ node t.exchanges y → ⊥
   low_end still h y e = let k = node_above t.exchanges y in omega arith
-  low_end (along l i f u rest) h y e = elim (in_either l (links_of t.exchanges q t.bindings) (alternate_links t.exchanges t.exchanges) i) [
-    | inl j ↦ let r = from_links t.exchanges q l t.bindings j in let k = node_above t.exchanges r.0.source in let m : l.from ≡ node t.exchanges r.0.source = ap (λ (z : Link). z.from) r.2 in omega arith
-    | inr j ↦ let r = from_alternates t.exchanges t.exchanges l j in let k = node_above t.exchanges r.0.name in let m : l.from ≡ node t.exchanges r.0.name = ap (λ (z : Link). z.from) r.4 in omega arith
+  low_end (along l i f u rest) h y e = elim (in_either l (any_links t q) (links_in deaths) i) [
+    | inl j ↦ elim (in_either l (links_of t.exchanges q t.bindings) (alternate_links t.exchanges t.exchanges) j) [
+      | inl j ↦ let r = from_links t.exchanges q l t.bindings j in let k = node_above t.exchanges r.0.source in let m : l.from ≡ node t.exchanges r.0.source = ap (λ (z : Link). z.from) r.2 in omega arith
+      | inr j ↦ let r = from_alternates t.exchanges t.exchanges l j in let k = node_above t.exchanges r.0.name in let m : l.from ≡ node t.exchanges r.0.name = ap (λ (z : Link). z.from) r.4 in omega arith
+    ]
+    | inr j ↦ let r = gate_of_link l deaths j in let k = (death_low t g.mode q deaths entered r.0 r.1).0 in let m : l.from ≡ r.0.link.from = ap (λ (z : Link). z.from) r.2 in omega arith
   ]
 
   same_name : (y x : Text) → IsIn y (exchange_names t.exchanges) ⊎ (y ≡ []) → node t.exchanges y ≡ node t.exchanges x → y ≡ x
   same_name y x (inl i) e = node_same t.exchanges y x formed.default_apart i e
   same_name y x (inr s) e = s ∙ sym (node_default t.exchanges x (sym e ∙ ap (node t.exchanges) s))
 
-  pub chain_met : {a b : ℕ} → Chain (any_links t q) a b → (x : Text) → a ≡ node t.exchanges x → Met t g x → (y : Text) → b ≡ node t.exchanges y → IsIn y (exchange_names t.exchanges) ⊎ (y ≡ []) → Met t g y
+  -- a met exchange may enter a queue that leaves the key as it is
+  death_met : (x : Text) (w : Gate) → Met t g x → IsIn w deaths → w.link.from ≡ node t.exchanges x → (y : Text) × (w.link.to ≡ node t.exchanges y) × Met t g y
+  death_met x w m i e =
+      let f = from_entered t [] (IsUnfixedEnd t) w entered i in
+      let u = unfixed_tells t.exchanges f.last.dead_letter_exchange f.last.dead_letter_key w.link.to f.ends in
+      let d = dying_tells g.mode t.queues f.last f.is_in in
+      let c = has_place t.queues f.last d.1 in
+      (u.0, u.3, by_death f.last d.0 m (enters f c) (record { is_queue = c; is_named = refl; dead = u.1 }) u.2)
+    where
+      enters : (f : FromDeath t [] (IsUnfixedEnd t) (dying g.mode t.queues) w) → Contains t.queues f.last → MayEnter t x f.last.name
+      enters f c = elim f.way [
+        | inl r ↦
+            let source = formed.sources r.0 (has_place t.bindings r.0 r.1) in
+            let same : r.0.source ≡ x = node_same t.exchanges r.0.source x formed.default_apart source (sym r.3 ∙ e) in
+            let o = from_map (λ (z : Exchange). z.name) r.0.source t.exchanges source in
+            by_binding o.0 r.0 (has_place t.exchanges o.0 o.1) (sym o.2 ∙ same) (record { is_binding = has_place t.bindings r.0 r.1; source = o.2; leads = r.2 })
+        | inr r ↦ subst (λ (z : Text). MayEnter t z f.last.name) (sym (node_default t.exchanges x (sym e ∙ r.0))) (by_name f.last c refl)
+      ]
+
+  pub chain_met : {a b : ℕ} → Chain (any_links t q ++ links_in deaths) a b → (x : Text) → a ≡ node t.exchanges x → Met t g x → (y : Text) → b ≡ node t.exchanges y → IsIn y (exchange_names t.exchanges) ⊎ (y ≡ []) → Met t g y
   chain_met still x e m y f s = subst (λ (z : Text). Met t g z) (sym (same_name y x s (sym f ∙ e))) m
-  chain_met (along {b = b} {c = last} l i f u rest) x e m y k s = elim (in_either l (links_of t.exchanges q t.bindings) (alternate_links t.exchanges t.exchanges) i) [
-    | inl j ↦ by_link (from_links t.exchanges q l t.bindings j) (λ z h n. chain_met rest z h n y k s)
-    | inr j ↦ by_other (from_alternates t.exchanges t.exchanges l j) (λ z h n. chain_met rest z h n y k s)
+  chain_met (along {b = b} {c = last} l i f u rest) x e m y k s = elim (in_either l (any_links t q) (links_in deaths) i) [
+    | inl j ↦ elim (in_either l (links_of t.exchanges q t.bindings) (alternate_links t.exchanges t.exchanges) j) [
+      | inl j ↦ by_link (from_links t.exchanges q l t.bindings j) (λ z h n. chain_met rest z h n y k s)
+      | inr j ↦ by_other (from_alternates t.exchanges t.exchanges l j) (λ z h n. chain_met rest z h n y k s)
+    ]
+    | inr j ↦
+        let r = gate_of_link l deaths j in
+        let d = death_met x r.0 m r.1 (sym (ap (λ (z : Link). z.from) r.2) ∙ f ∙ e) in
+        chain_met rest d.0 (sym u ∙ ap (λ (z : Link). z.to) r.2 ∙ d.1) d.2 y k s
   ]
     where
       low : (v : Bool) → b ≡ cond v zero (suc zero) → b < 2
@@ -95,19 +163,19 @@ module _ (t : Topology) (g : Guarantee) (q : Text) (reaches : g.mode ≡ Reaches
       low false r = omega (arith, r)
 
       to_place : (c : Binding) (w : IsIn c t.bindings) (to : Place) → c.to ≡ to → b ≡ end_node t.exchanges q c.to → ((z : Exchange) × IsIn z t.exchanges × (c.source ≡ z.name)) → c.source ≡ x → ((z : Text) → b ≡ node t.exchanges z → Met t g z → Met t g y) → Met t g y
-      to_place c w (place.Exchange z) d h o same onward = onward z (h ∙ ap (end_node t.exchanges q) d) (by_bound o.0 c m (has_place t.exchanges o.0 o.1) (sym o.2 ∙ same) (record { is_binding = has_place t.bindings c w; source = o.2; leads = d }))
-      to_place c w (place.Queue z) d h o same onward = absurd (low_end rest (low (bytes_eq z q) (h ∙ ap (end_node t.exchanges q) d)) y k)
+      to_place c w (place.Exchange z) d h o same next = next z (h ∙ ap (end_node t.exchanges q) d) (by_bound o.0 c m (has_place t.exchanges o.0 o.1) (sym o.2 ∙ same) (record { is_binding = has_place t.bindings c w; source = o.2; leads = d }))
+      to_place c w (place.Queue z) d h o same next = absurd (low_end rest (low (bytes_eq z q) (h ∙ ap (end_node t.exchanges q) d)) y k)
 
       by_link : ((c : Binding) × IsIn c t.bindings × (l ≡ link_of t.exchanges q c)) → ((z : Text) → b ≡ node t.exchanges z → Met t g z → Met t g y) → Met t g y
-      by_link (c, w, p) onward =
+      by_link (c, w, p) next =
           let source = formed.sources c (has_place t.bindings c w) in
           let same : c.source ≡ x = node_same t.exchanges c.source x formed.default_apart source (sym (ap (λ (z : Link). z.from) p) ∙ f ∙ e) in
-          to_place c w c.to refl (sym u ∙ ap (λ (z : Link). z.to) p) (from_map (λ (z : Exchange). z.name) c.source t.exchanges source) same onward
+          to_place c w c.to refl (sym u ∙ ap (λ (z : Link). z.to) p) (from_map (λ (z : Exchange). z.name) c.source t.exchanges source) same next
 
       by_other : ((z : Exchange) × (other : Text) × IsIn z t.exchanges × (z.alternate ≡ Some other) × (l ≡ record { from = node t.exchanges z.name; to = node t.exchanges other })) → ((z : Text) → b ≡ node t.exchanges z → Met t g z → Met t g y) → Met t g y
-      by_other (z, other, w, a, p) onward =
+      by_other (z, other, w, a, p) next =
           let same : z.name ≡ x = node_same t.exchanges z.name x formed.default_apart (in_map (λ (v : Exchange). v.name) z t.exchanges w) (sym (ap (λ (v : Link). v.from) p) ∙ f ∙ e) in
-          onward other (sym u ∙ ap (λ (v : Link). v.to) p) (by_alternate z m (has_place t.exchanges z w) same a)
+          next other (sym u ∙ ap (λ (v : Link). v.to) p) (by_alternate z m (has_place t.exchanges z w) same a)
 
 -- ---- the list
 
@@ -150,18 +218,18 @@ selects t marks P (x ∷ xs) f = go (slice_index_or marks (node t.exchanges x.na
     go true e s = Selects.take ((f x (inl refl)).0 e) s
     go false e s = Selects.pass (λ p. false≢true (sym e ∙ (f x (inl refl)).1 p)) s
 
-pub tracked_list : (t : Topology) (g : Guarantee) (q : Text) (marks : List Bool) (ps : List Tracked) → g.mode ≡ Reaches → IsWellFormed t → AreReached (any_links t q) (count t) (node t.exchanges g.exchange) marks
+pub tracked_list : (t : Topology) (g : Guarantee) (q : Text) (marks : List Bool) (ps : List Tracked) → IsWellFormed t → AreMet t g.mode g.exchange q marks
     → ps ≡ met_onto t marks (cond (slice_index_or marks 2 false) (names_onto (once_more same_tracked [] (record { kind = Topic; text = g.pattern })) t.queues) (once_more same_tracked [] (record { kind = Topic; text = g.pattern }))) t.exchanges
     → IsTrackedList t g ps
-tracked_list t g q marks ps reaches formed reached is = go (slice_index_or marks 2 false) refl is
+tracked_list t g q marks ps formed (deaths, entered, reached) is = go (slice_index_or marks 2 false) refl is
   where
     first : Tracked
     first = record { kind = Topic; text = g.pattern }
 
     found : Selects (Met t g) t.exchanges (chosen t marks t.exchanges)
     found = selects t marks (Met t g) t.exchanges (λ x i. (
-      (λ s. chain_met t g q reaches formed (reached.sound (node t.exchanges x.name) s) g.exchange refl own x.name refl (inl (in_map (λ (z : Exchange). z.name) x t.exchanges i))),
-      (λ m. reached.all (node t.exchanges x.name) (met_chain t g q reaches formed m)),
+      (λ s. chain_met t g q deaths entered formed (reached.sound (node t.exchanges x.name) s) g.exchange refl own x.name refl (inl (in_map (λ (z : Exchange). z.name) x t.exchanges i))),
+      (λ m. reached.all (node t.exchanges x.name) (met_chain t g q deaths entered formed m)),
     ))
 
     go : (v : Bool) → slice_index_or marks 2 false ≡ v → ps ≡ met_onto t marks (cond v (names_onto (once_more same_tracked [] first) t.queues) (once_more same_tracked [] first)) t.exchanges → IsTrackedList t g ps
@@ -170,7 +238,7 @@ tracked_list t g q marks ps reaches formed reached is = go (slice_index_or marks
       names = names_in t;
       selects = found;
       default_met = λ m. refl;
-      default_unmet = λ n. absurd (n (chain_met t g q reaches formed (reached.sound 2 e) g.exchange refl own [] refl (inr refl)));
+      default_unmet = λ n. absurd (n (chain_met t g q deaths entered formed (reached.sound 2 e) g.exchange refl own [] refl (inr refl)));
       is = p ∙ met_fold t marks (names_onto (once_more same_tracked [] first) t.queues) t.exchanges
           ∙ ap (λ (z : List Tracked). fold (once_more same_tracked) z (flat_map (keys_of t) (chosen t marks t.exchanges))) (names_fold (once_more same_tracked [] first) t.queues)
           ∙ sym (fold-append (once_more same_tracked) (once_more same_tracked [] first) (names_in t) (flat_map (keys_of t) (chosen t marks t.exchanges)));
@@ -179,15 +247,16 @@ tracked_list t g q marks ps reaches formed reached is = go (slice_index_or marks
       met = chosen t marks t.exchanges;
       names = [];
       selects = found;
-      default_met = λ m. absurd (false≢true (sym e ∙ reached.all 2 (met_chain t g q reaches formed m)));
+      default_met = λ m. absurd (false≢true (sym e ∙ reached.all 2 (met_chain t g q deaths entered formed m)));
       default_unmet = λ n. refl;
       is = p ∙ met_fold t marks (once_more same_tracked [] first) t.exchanges;
     }
 
-pub reached_as : (t : Topology) (x q : Text) (links : List Link) (n from : ℕ) (marks : List Bool) → links ≡ any_links t q → n ≡ count t → from ≡ node t.exchanges x → AreReached links n from marks → AreReached (any_links t q) (count t) (node t.exchanges x) marks
-reached_as t x q links n from marks l c f r = subst (λ (z : List Link). AreReached z (count t) (node t.exchanges x) marks) l (subst (λ (z : ℕ). AreReached links z (node t.exchanges x) marks) c (subst (λ (z : ℕ). AreReached links n z marks) f r))
+pub met_as : (t : Topology) (m : Mode) (x q : Text) (deaths : List Gate) (links : List Link) (n from : ℕ) (marks : List Bool) → AreEntered t [] (IsUnfixedEnd t) (dying m t.queues) deaths → links ≡ any_links t q ++ links_in deaths → n ≡ count t → from ≡ node t.exchanges x → AreReached links n from marks → AreMet t m x q marks
+met_as t m x q deaths links n from marks entered l c f r =
+    (deaths, entered, subst (λ (z : List Link). AreReached z (count t) (node t.exchanges x) marks) l (subst (λ (z : ℕ). AreReached links z (node t.exchanges x) marks) c (subst (λ (z : ℕ). AreReached links n z marks) f r)))
 
-pub tracked_from : (t : Topology) (g : Guarantee) (x q pattern : Text) (marks seen : List Bool) (ps : List Tracked) → g.mode ≡ Reaches → IsWellFormed t → x ≡ g.exchange → pattern ≡ g.pattern → seen ≡ marks → AreReached (any_links t q) (count t) (node t.exchanges x) marks → ps ≡ collected t pattern seen → IsTrackedList t g ps
-tracked_from t g x q pattern marks seen ps m f ex pa se r is =
-    tracked_list t g q marks ps m f (subst (λ (z : Text). AreReached (any_links t q) (count t) (node t.exchanges z) marks) ex r)
+pub tracked_from : (t : Topology) (g : Guarantee) (m : Mode) (x q pattern : Text) (marks seen : List Bool) (ps : List Tracked) → IsWellFormed t → m ≡ g.mode → x ≡ g.exchange → pattern ≡ g.pattern → seen ≡ marks → AreMet t m x q marks → ps ≡ collected t pattern seen → IsTrackedList t g ps
+tracked_from t g m x q pattern marks seen ps f mo ex pa se r is =
+    tracked_list t g q marks ps f (subst (λ (z : Mode). AreMet t z g.exchange q marks) mo (subst (λ (z : Text). AreMet t m z q marks) ex r))
     (is ∙ ap (λ (z : Text). collected t z seen) pa ∙ ap (λ (z : List Bool). collected t g.pattern z) se)

@@ -1,4 +1,4 @@
--- The open links lead exactly where a state makes sure that keys lead.
+-- The open links lead exactly where a state makes sure, or does not rule out, that keys lead.
 use Rattle.std.proofs.Common.{rules, ◌≡◌, ◌⊎◌, ℕ, zero, suc, Bool, true, false, cond, eqb, List, [], ◌∷◌, ◌++◌, refl, sym, ap, subst, ◌∙◌, inl, inr, Option, Some, None, arith}
 use Rattle.std.specs.Prelude.{Decides, Contains, not, ◌&&◌, ◌||◌, slice_get, unwrap_or, option_map}
 use Rattle.std.specs.Str.{bytes_eq}
@@ -6,10 +6,12 @@ use Rattle.std.proofs.lemmas.Bool.{false≢true, eqb-true}
 use Rattle.std.proofs.lemmas.Slice.Eq.{bytes_eq-Decides}
 use Rattle.model.specs.Words.{Text}
 use Rattle.model.specs.Topology.{Topology, IsIn, IsWellFormed, exchange_names}
-use Rattle.model.specs.Routing.{Binds, Edge, bound, alternate, default, Leads, here, on, RoutesBy}
+use Rattle.model.specs.Routing.{Reading, Binds, Edge, bound, alternate, default, Leads, here, on, RoutesBy, of_key, reading_after, fixed_after, Comes, routed, dead}
 use Rattle.model.specs.Tracking.{Tracked, same_tracked}
 use Rattle.model.specs.Positions.{is_accepted}
-use Rattle.model.specs.Certificates.{Answers, sure}
+use Rattle.model.specs.Certificates.{Answers, sure, possible}
+use Rattle.model.specs.declared.topologies.Mode.{Mode}
+use Rattle.model.specs.declared.topologies.Mode.TheVariants.{Reaches, Never}
 use Rattle.model.specs.declared.topologies.Exchange.{Exchange}
 use Rattle.model.specs.declared.topologies.DeclaredQueue.{DeclaredQueue}
 use Rattle.model.specs.declared.topologies.Binding.{Binding}
@@ -19,12 +21,17 @@ use Rattle.model.specs.declared.topologies.ExchangeKind.{ExchangeKind}
 use Rattle.model.specs.declared.topologies.ExchangeKind.TheVariants.{Direct, Fanout, Topic}
 use Rattle.state_routes.specs.declared.reach.Link.{Link}
 use Rattle.state_routes.specs.declared.gates.Gate.{Gate}
+use Rattle.state_routes.specs.declared.gates.Test.{Test}
+use Rattle.state_routes.specs.declared.gates.Test.TheVariants.{Pattern}
 use Rattle.state_routes.specs.Reach.{Chain, still, along}
 use Rattle.state_routes.specs.Nodes.{node, end_node, alternate_link, alternate_links}
-use Rattle.state_routes.specs.Gates.{place_of, test_by, kind_at, kind_or_direct, gate_of, binding_gates, has_queue, default_gate, gates_of, accepted, is_open, is_shut, all_shut, open_links, open_alternates, sure_links}
+use Rattle.state_routes.specs.Gates.{place_of, test_by, kind_at, kind_or_direct, gate_of, binding_gates, has_queue, default_gate, gates_of, accepted, is_open, is_shut, passes, blocks, all_block, open_links, open_alternates, open_ways}
+use Rattle.state_routes.specs.Deaths.{entry, default_entry, AreEntered, dying, GoOn, IsEnd}
 use Rattle.state_routes.specs.Known.{AreOnce}
+use Rattle.state_routes.proofs.DeadLetters.{ToDeath, from_entered, to_entered, dying_tells, dying_has, fixed_goes, fixed_sent, sent_fixed}
 use Rattle.state_routes.proofs.Numbers.{node_same, node_default, node_above, found_same}
 use Rattle.certificate_laws.proofs.Onces.{in_front, in_back, in_either, in_map, from_map}
+use Rattle.certificate_laws.proofs.Refutations.{comes_on}
 use Rattle.certificate_laws.proofs.Trackings.{contained, has_place, same_tracked_tells}
 
 -- ---- what a place among the tracked patterns answers
@@ -67,6 +74,19 @@ not_or_true None e = absurd (false≢true e)
 not_or_true (Some true) e = absurd (false≢true e)
 not_or_true (Some false) e = refl
 
+not_true : (b : Bool) → (b ≡ true → ⊥) → not b ≡ true
+not_true true n = absurd (n refl)
+not_true false n = refl
+
+true_not : (b : Bool) → not b ≡ true → b ≡ true → ⊥
+true_not true e f = false≢true e
+true_not false e f = false≢true f
+
+-- what a state tells a promise of this mode
+abbrev pub reading_by : Mode → List Tracked → List ℕ → Reading
+reading_by Reaches ps ms = sure ps ms
+reading_by Never ps ms = possible ps ms
+
 module _ (ps : List Tracked) (ms : List ℕ) (once : AreOnce ps) where
   pub opens_test : (kind : ExchangeKind) (key : Text) → (kind ≡ Fanout) ⊎ Answers ps ms kind key true → is_open (test_by ps kind key) (accepted ps ms) ≡ true
   opens_test Fanout key o = refl
@@ -89,6 +109,33 @@ module _ (ps : List Tracked) (ms : List ℕ) (once : AreOnce ps) where
   test_shuts Fanout key e = absurd (false≢true e)
   test_shuts Direct key e = ((λ f. let h : Direct ≡ Fanout = f in cc), from_its_place ps ms Direct key false (not_or_true (slice_get (accepted ps ms) (place_of ps Direct key)) e))
   test_shuts Topic key e = ((λ f. let h : Topic ≡ Fanout = f in cc), from_its_place ps ms Topic key false (not_or_true (slice_get (accepted ps ms) (place_of ps Topic key)) e))
+
+  pub opens_passes : (m : Mode) (kind : ExchangeKind) (key : Text) → (reading_by m ps ms).opens kind key → passes m (test_by ps kind key) (accepted ps ms) ≡ true
+  opens_passes Reaches kind key o = opens_test kind key o
+  opens_passes Never kind key o = not_true (is_shut (test_by ps kind key) (accepted ps ms)) (λ e. let s = test_shuts kind key e in elim o [ inl f ↦ s.0 f | inr n ↦ n s.1 ])
+
+  pub passes_opens : (m : Mode) (kind : ExchangeKind) (key : Text) → passes m (test_by ps kind key) (accepted ps ms) ≡ true → (reading_by m ps ms).opens kind key
+  passes_opens Reaches kind key e = test_opens kind key e
+  passes_opens Never Fanout key e = inl refl
+  passes_opens Never Direct key e = inr (λ a. true_not (is_shut (test_by ps Direct key) (accepted ps ms)) e (shuts_test Direct key ((λ f. let h : Direct ≡ Fanout = f in cc), a)))
+  passes_opens Never Topic key e = inr (λ a. true_not (is_shut (test_by ps Topic key) (accepted ps ms)) e (shuts_test Topic key ((λ f. let h : Topic ≡ Fanout = f in cc), a)))
+
+  pub shuts_blocks : (m : Mode) (kind : ExchangeKind) (key : Text) → (reading_by m ps ms).shuts kind key → blocks m (test_by ps kind key) (accepted ps ms) ≡ true
+  shuts_blocks Reaches kind key s = shuts_test kind key s
+  shuts_blocks Never kind key s = not_true (is_open (test_by ps kind key) (accepted ps ms)) (λ e. elim (test_opens kind key e) [ inl f ↦ s.0 f | inr a ↦ s.1 a ])
+
+  pub blocks_shuts : (m : Mode) (kind : ExchangeKind) (key : Text) → blocks m (test_by ps kind key) (accepted ps ms) ≡ true → (reading_by m ps ms).shuts kind key
+  blocks_shuts Reaches kind key e = test_shuts kind key e
+  blocks_shuts Never kind key e = ((λ f. true_not (is_open (test_by ps kind key) (accepted ps ms)) e (opens_test kind key (inl f))), (λ a. true_not (is_open (test_by ps kind key) (accepted ps ms)) e (opens_test kind key (inr a))))
+
+  -- the default exchange asks for a name as a direct exchange for a key
+  pub names_passes : (m : Mode) (queue : Text) → (reading_by m ps ms).names queue → passes m (Pattern (place_of ps Direct queue)) (accepted ps ms) ≡ true
+  names_passes Reaches queue a = opens_passes Reaches Direct queue (inr a)
+  names_passes Never queue a = opens_passes Never Direct queue (inr a)
+
+  pub passes_names : (m : Mode) (queue : Text) → passes m (Pattern (place_of ps Direct queue)) (accepted ps ms) ≡ true → (reading_by m ps ms).names queue
+  passes_names Reaches queue e = elim (passes_opens Reaches Direct queue e) [ inl f ↦ absurd (let h : Direct ≡ Fanout = f in cc) | inr a ↦ a ]
+  passes_names Never queue e = elim (passes_opens Never Direct queue e) [ inl f ↦ absurd (let h : Direct ≡ Fanout = f in cc) | inr a ↦ a ]
 
 -- ---- gates, links and alternates in their lists
 
@@ -121,19 +168,19 @@ from_gates t q ps g i = go (has_queue t.queues q) refl i
     ]
     go false e j = inl (from_binding_gates t.exchanges q ps g t.bindings j)
 
-open_in : (g : Gate) (gs : List Gate) (acc : List Bool) → IsIn g gs → is_open g.test acc ≡ true → IsIn g.link (open_links gs acc)
-open_in g [] acc i o = absurd i
-open_in g (h ∷ hs) acc (inl e) o = subst (λ (v : Bool). IsIn g.link (cond v (h.link ∷ open_links hs acc) (open_links hs acc))) (sym (ap (λ (z : Gate). is_open z.test acc) (sym e) ∙ o)) (inl (ap (λ (z : Gate). z.link) e))
-open_in g (h ∷ hs) acc (inr i) o = elim (is_open h.test acc) as (λ v. IsIn g.link (cond v (h.link ∷ open_links hs acc) (open_links hs acc))) [
-  | true ↦ inr (open_in g hs acc i o)
-  | false ↦ open_in g hs acc i o
+open_in : (m : Mode) (g : Gate) (gs : List Gate) (acc : List Bool) → IsIn g gs → passes m g.test acc ≡ true → IsIn g.link (open_links m gs acc)
+open_in m g [] acc i o = absurd i
+open_in m g (h ∷ hs) acc (inl e) o = subst (λ (v : Bool). IsIn g.link (cond v (h.link ∷ open_links m hs acc) (open_links m hs acc))) (sym (ap (λ (z : Gate). passes m z.test acc) (sym e) ∙ o)) (inl (ap (λ (z : Gate). z.link) e))
+open_in m g (h ∷ hs) acc (inr i) o = elim (passes m h.test acc) as (λ v. IsIn g.link (cond v (h.link ∷ open_links m hs acc) (open_links m hs acc))) [
+  | true ↦ inr (open_in m g hs acc i o)
+  | false ↦ open_in m g hs acc i o
 ]
 
-pub from_open : (l : Link) (gs : List Gate) (acc : List Bool) → IsIn l (open_links gs acc) → (g : Gate) × IsIn g gs × (l ≡ g.link) × (is_open g.test acc ≡ true)
-from_open l [] acc i = absurd i
-from_open l (h ∷ hs) acc i = go (is_open h.test acc) refl i (λ j. from_open l hs acc j)
+pub from_open : (m : Mode) (l : Link) (gs : List Gate) (acc : List Bool) → IsIn l (open_links m gs acc) → (g : Gate) × IsIn g gs × (l ≡ g.link) × (passes m g.test acc ≡ true)
+from_open m l [] acc i = absurd i
+from_open m l (h ∷ hs) acc i = go (passes m h.test acc) refl i (λ j. from_open m l hs acc j)
   where
-    go : (v : Bool) → is_open h.test acc ≡ v → IsIn l (cond v (h.link ∷ open_links hs acc) (open_links hs acc)) → (IsIn l (open_links hs acc) → (g : Gate) × IsIn g hs × (l ≡ g.link) × (is_open g.test acc ≡ true)) → (g : Gate) × IsIn g (h ∷ hs) × (l ≡ g.link) × (is_open g.test acc ≡ true)
+    go : (v : Bool) → passes m h.test acc ≡ v → IsIn l (cond v (h.link ∷ open_links m hs acc) (open_links m hs acc)) → (IsIn l (open_links m hs acc) → (g : Gate) × IsIn g hs × (l ≡ g.link) × (passes m g.test acc ≡ true)) → (g : Gate) × IsIn g (h ∷ hs) × (l ≡ g.link) × (passes m g.test acc ≡ true)
     go true e (inl s) f = (h, inl refl, s, e)
     go true e (inr j) f = let r = f j in (r.0, inr r.1, r.2, r.3)
     go false e j f = let r = f j in (r.0, inr r.1, r.2, r.3)
@@ -141,24 +188,24 @@ from_open l (h ∷ hs) acc i = go (is_open h.test acc) refl i (λ j. from_open l
 eqb_same : (n : ℕ) → eqb n n ≡ true
 eqb_same n = search rules
 
-shut_all : (gs : List Gate) (from : ℕ) (acc : List Bool) → ((g : Gate) → IsIn g gs → g.link.from ≡ from → is_shut g.test acc ≡ true) → all_shut gs from acc ≡ true
-shut_all [] from acc f = refl
-shut_all (h ∷ hs) from acc f = go (eqb h.link.from from) (is_shut h.test acc) (λ e. f h (inl refl) (eqb-true h.link.from from e)) (shut_all hs from acc (λ g i. f g (inr i)))
+blocks_all : (m : Mode) (gs : List Gate) (from : ℕ) (acc : List Bool) → ((g : Gate) → IsIn g gs → g.link.from ≡ from → blocks m g.test acc ≡ true) → all_block m gs from acc ≡ true
+blocks_all m [] from acc f = refl
+blocks_all m (h ∷ hs) from acc f = go (eqb h.link.from from) (blocks m h.test acc) (λ e. f h (inl refl) (eqb-true h.link.from from e)) (blocks_all m hs from acc (λ g i. f g (inr i)))
   where
-    go : (a b : Bool) → (a ≡ true → b ≡ true) → all_shut hs from acc ≡ true → ((not a || b) && all_shut hs from acc) ≡ true
+    go : (a b : Bool) → (a ≡ true → b ≡ true) → all_block m hs from acc ≡ true → ((not a || b) && all_block m hs from acc) ≡ true
     go true true k e = e
     go true false k e = absurd (false≢true (k refl))
     go false b k e = e
 
-all_shut_at : (gs : List Gate) (from : ℕ) (acc : List Bool) → all_shut gs from acc ≡ true → (g : Gate) → IsIn g gs → g.link.from ≡ from → is_shut g.test acc ≡ true
-all_shut_at [] from acc e g i s = absurd i
-all_shut_at (h ∷ hs) from acc e g i s = go (eqb h.link.from from) (is_shut h.test acc) refl refl e i (λ k j. all_shut_at hs from acc k g j s)
+all_block_at : (m : Mode) (gs : List Gate) (from : ℕ) (acc : List Bool) → all_block m gs from acc ≡ true → (g : Gate) → IsIn g gs → g.link.from ≡ from → blocks m g.test acc ≡ true
+all_block_at m [] from acc e g i s = absurd i
+all_block_at m (h ∷ hs) from acc e g i s = go (eqb h.link.from from) (blocks m h.test acc) refl refl e i (λ k j. all_block_at m hs from acc k g j s)
   where
-    go : (a b : Bool) → eqb h.link.from from ≡ a → is_shut h.test acc ≡ b → ((not a || b) && all_shut hs from acc) ≡ true → (g ≡ h) ⊎ IsIn g hs → (all_shut hs from acc ≡ true → IsIn g hs → is_shut g.test acc ≡ true) → is_shut g.test acc ≡ true
-    go true true p r e (inl m) f = ap (λ (z : Gate). is_shut z.test acc) m ∙ r
+    go : (a b : Bool) → eqb h.link.from from ≡ a → blocks m h.test acc ≡ b → ((not a || b) && all_block m hs from acc) ≡ true → (g ≡ h) ⊎ IsIn g hs → (all_block m hs from acc ≡ true → IsIn g hs → blocks m g.test acc ≡ true) → blocks m g.test acc ≡ true
+    go true true p r e (inl s) f = ap (λ (z : Gate). blocks m z.test acc) s ∙ r
     go true true p r e (inr j) f = f e j
     go true false p r e j f = absurd (false≢true e)
-    go false b p r e (inl m) f = absurd (false≢true (sym p ∙ subst (λ (n : ℕ). eqb n from ≡ true) (sym (ap (λ (z : Gate). z.link.from) (sym m) ∙ s)) (eqb_same from)))
+    go false b p r e (inl k) f = absurd (false≢true (sym p ∙ subst (λ (n : ℕ). eqb n from ≡ true) (sym (ap (λ (z : Gate). z.link.from) (sym k) ∙ s)) (eqb_same from)))
     go false b p r e (inr j) f = f e j
 
 pub alternate_in : (xs es : List Exchange) (e : Exchange) (other : Text) → IsIn e es → e.alternate ≡ Some other → IsIn (record { from = node xs e.name; to = node xs other }) (alternate_links xs es)
@@ -181,20 +228,20 @@ from_alternates xs (z ∷ zs) l i = elim (in_either l (alternate_link xs z.name 
   | inr j ↦ let r = from_alternates xs zs l j in (r.0, r.1, inr r.2, r.3, r.4)
 ]
 
-shut_in : (gs : List Gate) (l : Link) (ls : List Link) (acc : List Bool) → IsIn l ls → all_shut gs l.from acc ≡ true → IsIn l (open_alternates gs ls acc)
-shut_in gs l [] acc i e = absurd i
-shut_in gs l (m ∷ ms) acc (inl s) e = subst (λ (v : Bool). IsIn l (cond v (m ∷ open_alternates gs ms acc) (open_alternates gs ms acc))) (sym (ap (λ (z : Link). all_shut gs z.from acc) (sym s) ∙ e)) (inl s)
-shut_in gs l (m ∷ ms) acc (inr i) e = elim (all_shut gs m.from acc) as (λ v. IsIn l (cond v (m ∷ open_alternates gs ms acc) (open_alternates gs ms acc))) [
-  | true ↦ inr (shut_in gs l ms acc i e)
-  | false ↦ shut_in gs l ms acc i e
+blocked_in : (m : Mode) (gs : List Gate) (l : Link) (ls : List Link) (acc : List Bool) → IsIn l ls → all_block m gs l.from acc ≡ true → IsIn l (open_alternates m gs ls acc)
+blocked_in m gs l [] acc i e = absurd i
+blocked_in m gs l (k ∷ ks) acc (inl s) e = subst (λ (v : Bool). IsIn l (cond v (k ∷ open_alternates m gs ks acc) (open_alternates m gs ks acc))) (sym (ap (λ (z : Link). all_block m gs z.from acc) (sym s) ∙ e)) (inl s)
+blocked_in m gs l (k ∷ ks) acc (inr i) e = elim (all_block m gs k.from acc) as (λ v. IsIn l (cond v (k ∷ open_alternates m gs ks acc) (open_alternates m gs ks acc))) [
+  | true ↦ inr (blocked_in m gs l ks acc i e)
+  | false ↦ blocked_in m gs l ks acc i e
 ]
 
-pub from_shut : (gs : List Gate) (l : Link) (ls : List Link) (acc : List Bool) → IsIn l (open_alternates gs ls acc) → IsIn l ls × (all_shut gs l.from acc ≡ true)
-from_shut gs l [] acc i = absurd i
-from_shut gs l (m ∷ ms) acc i = go (all_shut gs m.from acc) refl i (λ j. from_shut gs l ms acc j)
+pub from_blocked : (m : Mode) (gs : List Gate) (l : Link) (ls : List Link) (acc : List Bool) → IsIn l (open_alternates m gs ls acc) → IsIn l ls × (all_block m gs l.from acc ≡ true)
+from_blocked m gs l [] acc i = absurd i
+from_blocked m gs l (k ∷ ks) acc i = go (all_block m gs k.from acc) refl i (λ j. from_blocked m gs l ks acc j)
   where
-    go : (v : Bool) → all_shut gs m.from acc ≡ v → IsIn l (cond v (m ∷ open_alternates gs ms acc) (open_alternates gs ms acc)) → (IsIn l (open_alternates gs ms acc) → IsIn l ms × (all_shut gs l.from acc ≡ true)) → IsIn l (m ∷ ms) × (all_shut gs l.from acc ≡ true)
-    go true e (inl s) f = (inl s, ap (λ (z : Link). all_shut gs z.from acc) s ∙ e)
+    go : (v : Bool) → all_block m gs k.from acc ≡ v → IsIn l (cond v (k ∷ open_alternates m gs ks acc) (open_alternates m gs ks acc)) → (IsIn l (open_alternates m gs ks acc) → IsIn l ks × (all_block m gs l.from acc ≡ true)) → IsIn l (k ∷ ks) × (all_block m gs l.from acc ≡ true)
+    go true e (inl s) f = (inl s, ap (λ (z : Link). all_block m gs z.from acc) s ∙ e)
     go true e (inr j) f = let r = f j in (inr r.0, r.1)
     go false e j f = let r = f j in (inr r.0, r.1)
 
@@ -224,20 +271,41 @@ same_end xs q = go (bytes_eq q q) (bytes_eq-Decides q q)
 
 -- ---- edges and links
 
-module _ (t : Topology) (q : Text) (ps : List Tracked) (ms : List ℕ) (formed : IsWellFormed t) (once : AreOnce ps) where
-  abbrev Linked : ℕ → ℕ → Type 0
-  Linked a b = (l : Link) × IsIn l (sure_links t q ps (accepted ps ms)) × (l.from ≡ a) × (l.to ≡ b)
+-- messages arrive, or, dead letters included, come
+abbrev pub Arrives : Mode → Topology → Reading → Text → Text → Type 0
+Arrives Reaches t r x q = RoutesBy t r x q
+Arrives Never t r x q = Comes t r None x q
 
-  by_gate : (g : Gate) → IsIn g (gates_of t q ps) → is_open g.test (accepted ps ms) ≡ true → Linked g.link.from g.link.to
-  by_gate g i o = (g.link, in_front g.link (open_links (gates_of t q ps) (accepted ps ms)) (open_alternates (gates_of t q ps) (alternate_links t.exchanges t.exchanges) (accepted ps ms)) (open_in g (gates_of t q ps) (accepted ps ms) i o), refl, refl)
+arrives_at : (m : Mode) (t : Topology) (r : Reading) (x q : Text) → Edge t r x (place.Queue q) → Arrives m t r x q
+arrives_at Reaches t r x q e = (x, here, e)
+arrives_at Never t r x q e = routed (x, here, e)
+
+arrives_on : (m : Mode) (t : Topology) (r : Reading) (x y q : Text) → Edge t r x (place.Exchange y) → Arrives m t r y q → Arrives m t r x q
+arrives_on Reaches t r x y q e (z, l, f) = (z, on e l, f)
+arrives_on Never t r x y q e c = comes_on t r None x y q e c
+
+-- where a key leads of which no more is known than a state tells
+abbrev pub ways_at : Mode → Topology → Text → List Tracked → List ℕ → List Gate → List Link
+ways_at m t q ps ms deaths = open_ways m (gates_of t q ps ++ deaths) (alternate_links t.exchanges t.exchanges) (accepted ps ms)
+
+module _ (m : Mode) (t : Topology) (q : Text) (ps : List Tracked) (ms : List ℕ) (deaths : List Gate) (entered : AreEntered t ps (IsEnd t q) (dying m t.queues) deaths) (formed : IsWellFormed t) (once : AreOnce ps) where
+  abbrev Linked : ℕ → ℕ → Type 0
+  Linked a b = (l : Link) × IsIn l (ways_at m t q ps ms deaths) × (l.from ≡ a) × (l.to ≡ b)
+
+  by_gate : (g : Gate) → IsIn g (gates_of t q ps ++ deaths) → passes m g.test (accepted ps ms) ≡ true → Linked g.link.from g.link.to
+  by_gate g i o = (g.link, in_front g.link (open_links m (gates_of t q ps ++ deaths) (accepted ps ms)) (open_alternates m (gates_of t q ps ++ deaths) (alternate_links t.exchanges t.exchanges) (accepted ps ms)) (open_in m g (gates_of t q ps ++ deaths) (accepted ps ms) i o), refl, refl)
 
   kind_is : (e : Exchange) (name : Text) → Contains t.exchanges e → name ≡ e.name → kind_at t.exchanges name ≡ e.kind
   kind_is e name c s = ap (kind_at t.exchanges) s ∙ ap kind_or_direct (found_same t.exchanges e formed.exchanges_apart (contained t.exchanges e c))
 
-  by_binding_edge : (x : Text) (to : Place) (e : Exchange) (b : Binding) → Contains t.exchanges e → e.name ≡ x → Binds t e to b → (e.kind ≡ Fanout) ⊎ Answers ps ms e.kind b.key true → Linked (node t.exchanges x) (end_node t.exchanges q to)
+  -- a binding's test passes a key that its exchange lets pass
+  lets_pass : (e : Exchange) (b : Binding) → Contains t.exchanges e → b.source ≡ e.name → (reading_by m ps ms).opens e.kind b.key → passes m (test_by ps (kind_at t.exchanges b.source) b.key) (accepted ps ms) ≡ true
+  lets_pass e b c s o = subst (λ (k : ExchangeKind). passes m (test_by ps k b.key) (accepted ps ms) ≡ true) (sym (kind_is e b.source c s)) (opens_passes ps ms once m e.kind b.key o)
+
+  by_binding_edge : (x : Text) (to : Place) (e : Exchange) (b : Binding) → Contains t.exchanges e → e.name ≡ x → Binds t e to b → (reading_by m ps ms).opens e.kind b.key → Linked (node t.exchanges x) (end_node t.exchanges q to)
   by_binding_edge x to e b c n bs o =
       let g = gate_of t.exchanges q ps b in
-      let r = by_gate g (in_gates t q ps b (contained t.bindings b bs.is_binding)) (subst (λ (k : ExchangeKind). is_open (test_by ps k b.key) (accepted ps ms) ≡ true) (sym (kind_is e b.source c bs.source)) (opens_test ps ms once e.kind b.key o)) in
+      let r = by_gate g (in_front g (gates_of t q ps) deaths (in_gates t q ps b (contained t.bindings b bs.is_binding))) (lets_pass e b c bs.source o) in
       (r.0, r.1, r.2 ∙ ap (node t.exchanges) (bs.source ∙ n), r.3 ∙ ap (end_node t.exchanges q) bs.leads)
 
   source_in : (b : Binding) → IsIn b t.bindings → IsIn b.source (exchange_names t.exchanges)
@@ -249,120 +317,212 @@ module _ (t : Topology) (q : Text) (ps : List Tracked) (ms : List ℕ) (formed :
   name_in : (e : Exchange) → IsIn e t.exchanges → IsIn e.name (exchange_names t.exchanges)
   name_in e i = in_map (λ (x : Exchange). x.name) e t.exchanges i
 
-  by_alternate_edge : (x other : Text) (e : Exchange) → Contains t.exchanges e → e.name ≡ x → e.alternate ≡ Some other → ((to : Place) (b : Binding) → Binds t e to b → (e.kind ≡ Fanout → ⊥) × Answers ps ms e.kind b.key false) → Linked (node t.exchanges x) (node t.exchanges other)
+  no_default : (e : Exchange) → IsIn e t.exchanges → node t.exchanges e.name ≡ 2 → ⊥
+  no_default e i f = formed.default_apart (subst (λ (z : Text). IsIn z (exchange_names t.exchanges)) (node_default t.exchanges e.name f) (name_in e i))
+
+  -- the gates from an exchange none of whose bindings lets the key pass
+  module _ (e : Exchange) (c : Contains t.exchanges e) (s : (to : Place) (b : Binding) → Binds t e to b → (reading_by m ps ms).shuts e.kind b.key) where
+    binding_blocks : (b : Binding) → IsIn b t.bindings → node t.exchanges b.source ≡ node t.exchanges e.name → blocks m (test_by ps (kind_at t.exchanges b.source) b.key) (accepted ps ms) ≡ true
+    binding_blocks b i f =
+        let same : b.source ≡ e.name = node_same t.exchanges b.source e.name formed.default_apart (source_in b i) f in
+        subst (λ (k : ExchangeKind). blocks m (test_by ps k b.key) (accepted ps ms) ≡ true) (sym (kind_is e b.source c same))
+        (shuts_blocks ps ms once m e.kind b.key (s b.to b (record { is_binding = has_place t.bindings b i; source = same; leads = refl })))
+
+    gate_blocks : (g : Gate) → IsIn g (gates_of t q ps ++ deaths) → g.link.from ≡ node t.exchanges e.name → blocks m g.test (accepted ps ms) ≡ true
+    gate_blocks g i f = elim (in_either g (gates_of t q ps) deaths i) [
+      | inl j ↦ elim (from_gates t q ps g j) [
+        | inl r ↦ ap (λ (z : Gate). blocks m z.test (accepted ps ms)) r.2 ∙ binding_blocks r.0 r.1 (ap (λ (z : Gate). z.link.from) (sym r.2) ∙ f)
+        | inr r ↦ absurd (no_default e (contained t.exchanges e c) (sym f ∙ ap (λ (z : Gate). z.link.from) r.1))
+      ]
+      | inr j ↦ elim (from_entered t ps (IsEnd t q) g entered j).way [
+        | inl r ↦ ap (λ (z : Test). blocks m z (accepted ps ms)) r.4 ∙ binding_blocks r.0 r.1 (sym r.3 ∙ f)
+        | inr r ↦ absurd (no_default e (contained t.exchanges e c) (sym f ∙ r.0))
+      ]
+    ]
+
+  by_alternate_edge : (x other : Text) (e : Exchange) → Contains t.exchanges e → e.name ≡ x → e.alternate ≡ Some other → ((to : Place) (b : Binding) → Binds t e to b → (reading_by m ps ms).shuts e.kind b.key) → Linked (node t.exchanges x) (node t.exchanges other)
   by_alternate_edge x other e c n a s =
       let l : Link = record { from = node t.exchanges e.name; to = node t.exchanges other } in (
         l,
-        in_back l (open_links (gates_of t q ps) (accepted ps ms)) (open_alternates (gates_of t q ps) (alternate_links t.exchanges t.exchanges) (accepted ps ms))
-            (shut_in (gates_of t q ps) l (alternate_links t.exchanges t.exchanges) (accepted ps ms) (alternate_in t.exchanges t.exchanges e other (contained t.exchanges e c) a) (shut_all (gates_of t q ps) (node t.exchanges e.name) (accepted ps ms) shut)),
+        in_back l (open_links m (gates_of t q ps ++ deaths) (accepted ps ms)) (open_alternates m (gates_of t q ps ++ deaths) (alternate_links t.exchanges t.exchanges) (accepted ps ms))
+            (blocked_in m (gates_of t q ps ++ deaths) l (alternate_links t.exchanges t.exchanges) (accepted ps ms) (alternate_in t.exchanges t.exchanges e other (contained t.exchanges e c) a) (blocks_all m (gates_of t q ps ++ deaths) (node t.exchanges e.name) (accepted ps ms) (gate_blocks e c s))),
         ap (node t.exchanges) n,
         refl,
       )
-    where
-      shut : (g : Gate) → IsIn g (gates_of t q ps) → g.link.from ≡ node t.exchanges e.name → is_shut g.test (accepted ps ms) ≡ true
-      shut g i f = elim (from_gates t q ps g i) [
-        | inl r ↦
-            let same : r.0.source ≡ e.name = node_same t.exchanges r.0.source e.name formed.default_apart (source_in r.0 r.1) (ap (λ (z : Gate). z.link.from) (sym r.2) ∙ f) in
-            subst (λ (z : Gate). is_shut z.test (accepted ps ms) ≡ true) (sym r.2)
-            (subst (λ (k : ExchangeKind). is_shut (test_by ps k r.0.key) (accepted ps ms) ≡ true) (sym (kind_is e r.0.source c same))
-            (shuts_test ps ms once e.kind r.0.key (s r.0.to r.0 (record { is_binding = has_place t.bindings r.0 r.1; source = same; leads = refl }))))
-        | inr r ↦ absurd (formed.default_apart (subst (λ (z : Text). IsIn z (exchange_names t.exchanges)) (node_default t.exchanges e.name (sym f ∙ ap (λ (z : Gate). z.link.from) r.1)) (name_in e (contained t.exchanges e c))))
-      ]
 
-  onward_link : (x y : Text) → Edge t (sure ps ms) x (place.Exchange y) → Linked (node t.exchanges x) (node t.exchanges y)
+  onward_link : (x y : Text) → Edge t (reading_by m ps ms) x (place.Exchange y) → Linked (node t.exchanges x) (node t.exchanges y)
   onward_link x y (bound e b c n bs o) = by_binding_edge x (place.Exchange y) e b c n bs o
   onward_link x y (alternate e c n a s) = by_alternate_edge x y e c n a s
 
-  into_link : (x : Text) (p : Text) → p ≡ q → Edge t (sure ps ms) x (place.Queue p) → Linked (node t.exchanges x) 0
+  into_link : (x : Text) (p : Text) → p ≡ q → Edge t (reading_by m ps ms) x (place.Queue p) → Linked (node t.exchanges x) 0
   into_link x p same (bound e b c n bs o) = let r = by_binding_edge x (place.Queue p) e b c n bs o in (r.0, r.1, r.2, r.3 ∙ ap (λ (z : Text). end_node t.exchanges q (place.Queue z)) same ∙ same_end t.exchanges q)
   into_link x p same (default d c n o) =
-      by_gate (default_gate ps q) (default_in t q ps (has_queue_in q t.queues (d, contained t.queues d c, n ∙ same)))
-      (ap (λ (z : Option Bool). unwrap_or z false) (at_its_place ps ms Direct q true once (subst (λ (z : Text). Answers ps ms Direct z true) same o)))
+      by_gate (default_gate ps q) (in_front (default_gate ps q) (gates_of t q ps) deaths (default_in t q ps (has_queue_in q t.queues (d, contained t.queues d c, n ∙ same))))
+      (names_passes ps ms once m q (subst (λ (z : Text). (reading_by m ps ms).names z) same o))
 
-  leads_chain : {x y : Text} → Leads t (sure ps ms) x y → Chain (sure_links t q ps (accepted ps ms)) (node t.exchanges y) 0 → Chain (sure_links t q ps (accepted ps ms)) (node t.exchanges x) 0
+  -- into a queue whose dead letters lead on
+  death_link : (x p : Text) (last : DeclaredQueue) (w : ToDeath t ps (IsEnd t q) last deaths) (n : ℕ) → w.end ≡ Some n → last.name ≡ p → Edge t (reading_by m ps ms) x (place.Queue p) → Linked (node t.exchanges x) n
+  death_link x p last w n e same (bound ex b c nm bs o) =
+      let r = by_gate (entry t.exchanges ps n b) (in_back (entry t.exchanges ps n b) (gates_of t q ps) deaths (w.bound n e b (contained t.bindings b bs.is_binding) (bs.leads ∙ ap (λ (z : Text). place.Queue z) (sym same)))) (lets_pass ex b c bs.source o) in
+      (r.0, r.1, r.2 ∙ ap (node t.exchanges) (bs.source ∙ nm), r.3)
+  death_link x p last w n e same (default d c nm o) =
+      by_gate (default_entry ps last.name n) (in_back (default_entry ps last.name n) (gates_of t q ps) deaths (w.default n e))
+      (names_passes ps ms once m last.name (subst (λ (z : Text). (reading_by m ps ms).names z) (sym same) o))
+
+  leads_chain : {x y : Text} → Leads t (reading_by m ps ms) x y → Chain (ways_at m t q ps ms deaths) (node t.exchanges y) 0 → Chain (ways_at m t q ps ms deaths) (node t.exchanges x) 0
   leads_chain here c = c
   leads_chain (on {x = x} {y = y} e l) c = let r = onward_link x y e in along r.0 r.1 r.2 r.3 (leads_chain l c)
 
-  pub routes_chain : (x : Text) → RoutesBy t (sure ps ms) x q → Chain (sure_links t q ps (accepted ps ms)) (node t.exchanges x) 0
+  routes_chain : (x : Text) → RoutesBy t (reading_by m ps ms) x q → Chain (ways_at m t q ps ms deaths) (node t.exchanges x) 0
   routes_chain x (y, l, e) = let r = into_link y q refl e in leads_chain l (along r.0 r.1 r.2 r.3 still)
 
-  -- a link is an edge
+  death_chain : (x p : Text) (last : DeclaredQueue) (w : ToDeath t ps (IsEnd t q) last deaths) (n : ℕ) → w.end ≡ Some n → last.name ≡ p → RoutesBy t (reading_by m ps ms) x p → Chain (ways_at m t q ps ms deaths) n 0 → Chain (ways_at m t q ps ms deaths) (node t.exchanges x) 0
+  death_chain x p last w n e same (y, l, f) c = let r = death_link y p last w n e same f in leads_chain l (along r.0 r.1 r.2 r.3 c)
+
+  comes_chain : {fixed : Option Text} {x p : Text} → Comes t (reading_by m ps ms) fixed x p → fixed ≡ None → p ≡ q → m ≡ Never → Chain (ways_at m t q ps ms deaths) (node t.exchanges x) 0
+  comes_chain {fixed = fixed} {x = x} {p = p} (routed ro) e same never =
+      routes_chain x (subst (λ (z : Text). RoutesBy t (reading_by m ps ms) x z) same (subst (λ (f : Option Text). RoutesBy t (reading_after f (reading_by m ps ms)) x p) e ro))
+  comes_chain {fixed = fixed} {x = x} {p = end} (dead {p = p} {exchange = exchange} last ro d c) e same never =
+      go last.dead_letter_key (λ f. comes_chain c (f ∙ e) same never) (λ k f. subst (λ (z : Text). Comes t (of_key k) None exchange z) same (fixed_sent t (reading_by m ps ms) k c f))
+      (subst (λ (o : Option Text). GoOn t q o last.dead_letter_key w.end) d.dead w.ends)
+    where
+      w : ToDeath t ps (IsEnd t q) last deaths
+      w = to_entered t ps (IsEnd t q) last entered (dying_has m t.queues last never (contained t.queues last d.is_queue))
+
+      route : RoutesBy t (reading_by m ps ms) x p
+      route = subst (λ (f : Option Text). RoutesBy t (reading_after f (reading_by m ps ms)) x p) e ro
+
+      go : (o : Option Text) → (fixed_after o fixed ≡ fixed → Chain (ways_at m t q ps ms deaths) (node t.exchanges exchange) 0) → ((k : Text) → fixed_after o fixed ≡ Some k → Comes t (of_key k) None exchange q) → GoOn t q (Some exchange) o w.end → Chain (ways_at m t q ps ms deaths) (node t.exchanges x) 0
+      go None f g h = death_chain x p last w (node t.exchanges exchange) h d.is_named route (f refl)
+      go (Some k) f g h = death_chain x p last w 0 (fixed_goes t q exchange k w.end h (g k refl)) d.is_named route still
+
+  -- a link is an edge, or leads on from a queue that an edge enters
   record FromEdge (l : Link) : Type 0 where
     pub name : Text
-    pub to : Place
     pub source : IsIn name (exchange_names t.exchanges) ⊎ (name ≡ [])
-    pub edge : Edge t (sure ps ms) name to
     pub from_is : l.from ≡ node t.exchanges name
-    pub to_is : l.to ≡ end_node t.exchanges q to
+    pub leads : ((to : Place) × Edge t (reading_by m ps ms) name to × (l.to ≡ end_node t.exchanges q to)) ⊎ ((last : DeclaredQueue) × IsIn last (dying m t.queues) × Edge t (reading_by m ps ms) name (place.Queue last.name) × IsEnd t q last (Some l.to))
 
-  edge_of : (l : Link) → IsIn l (sure_links t q ps (accepted ps ms)) → FromEdge l
-  edge_of l i = elim (in_either l (open_links (gates_of t q ps) (accepted ps ms)) (open_alternates (gates_of t q ps) (alternate_links t.exchanges t.exchanges) (accepted ps ms)) i) [
-    | inl j ↦ by_open (from_open l (gates_of t q ps) (accepted ps ms) j)
-    | inr j ↦ by_shut (from_shut (gates_of t q ps) l (alternate_links t.exchanges t.exchanges) (accepted ps ms) j)
+  binding_edge : (b : Binding) (to : Place) → IsIn b t.bindings → b.to ≡ to → passes m (test_by ps (kind_at t.exchanges b.source) b.key) (accepted ps ms) ≡ true → Edge t (reading_by m ps ms) b.source to
+  binding_edge b to i leads o =
+      let e = exchange_of b.source (source_in b i) in
+      let opens = passes_opens ps ms once m e.0.kind b.key (subst (λ (k : ExchangeKind). passes m (test_by ps k b.key) (accepted ps ms) ≡ true) (kind_is e.0 b.source (has_place t.exchanges e.0 e.1) e.2) o) in
+      bound e.0 b (has_place t.exchanges e.0 e.1) (sym e.2) (record { is_binding = has_place t.bindings b i; source = e.2; leads = leads }) opens
+
+  default_edge : (d : DeclaredQueue) → IsIn d t.queues → passes m (Pattern (place_of ps Direct d.name)) (accepted ps ms) ≡ true → Edge t (reading_by m ps ms) [] (place.Queue d.name)
+  default_edge d i o = default d (has_place t.queues d i) refl (passes_names ps ms once m d.name o)
+
+  edge_of : (l : Link) → IsIn l (ways_at m t q ps ms deaths) → FromEdge l
+  edge_of l i = elim (in_either l (open_links m (gates_of t q ps ++ deaths) (accepted ps ms)) (open_alternates m (gates_of t q ps ++ deaths) (alternate_links t.exchanges t.exchanges) (accepted ps ms)) i) [
+    | inl j ↦ by_open (from_open m l (gates_of t q ps ++ deaths) (accepted ps ms) j)
+    | inr j ↦ by_alternate (from_blocked m (gates_of t q ps ++ deaths) l (alternate_links t.exchanges t.exchanges) (accepted ps ms) j)
   ]
     where
-      by_open : ((g : Gate) × IsIn g (gates_of t q ps) × (l ≡ g.link) × (is_open g.test (accepted ps ms) ≡ true)) → FromEdge l
-      by_open (g, i, s, o) = elim (from_gates t q ps g i) [
-        | inl r ↦
-            let e = exchange_of r.0.source (source_in r.0 r.1) in
-            let opens = test_opens ps ms once e.0.kind r.0.key (subst (λ (k : ExchangeKind). is_open (test_by ps k r.0.key) (accepted ps ms) ≡ true) (kind_is e.0 r.0.source (has_place t.exchanges e.0 e.1) e.2) (subst (λ (z : Gate). is_open z.test (accepted ps ms) ≡ true) r.2 o)) in
-            record {
-              name = r.0.source;
-              to = r.0.to;
-              source = inl (source_in r.0 r.1);
-              edge = bound e.0 r.0 (has_place t.exchanges e.0 e.1) (sym e.2) (record { is_binding = has_place t.bindings r.0 r.1; source = e.2; leads = refl }) opens;
-              from_is = ap (λ (z : Link). z.from) s ∙ ap (λ (z : Gate). z.link.from) r.2;
-              to_is = ap (λ (z : Link). z.to) s ∙ ap (λ (z : Gate). z.link.to) r.2;
-            }
+      by_gates : (g : Gate) → IsIn g (gates_of t q ps) → l ≡ g.link → passes m g.test (accepted ps ms) ≡ true → FromEdge l
+      by_gates g i s o = elim (from_gates t q ps g i) [
+        | inl r ↦ record {
+          name = r.0.source;
+          source = inl (source_in r.0 r.1);
+          from_is = ap (λ (z : Link). z.from) s ∙ ap (λ (z : Gate). z.link.from) r.2;
+          leads = inl (r.0.to, binding_edge r.0 r.0.to r.1 refl (subst (λ (z : Gate). passes m z.test (accepted ps ms) ≡ true) r.2 o), ap (λ (z : Link). z.to) s ∙ ap (λ (z : Gate). z.link.to) r.2);
+        }
         | inr r ↦
             let d = from_has_queue q t.queues r.0 in
             record {
               name = [];
-              to = place.Queue q;
               source = inr refl;
-              edge = default d.0 (has_place t.queues d.0 d.1) d.2 (from_its_place ps ms Direct q true (or_true (slice_get (accepted ps ms) (place_of ps Direct q)) (subst (λ (z : Gate). is_open z.test (accepted ps ms) ≡ true) r.1 o)));
               from_is = ap (λ (z : Link). z.from) s ∙ ap (λ (z : Gate). z.link.from) r.1;
-              to_is = ap (λ (z : Link). z.to) s ∙ ap (λ (z : Gate). z.link.to) r.1 ∙ sym (same_end t.exchanges q);
+              leads = inl (
+                place.Queue d.0.name,
+                default_edge d.0 d.1 (subst (λ (z : Text). passes m (Pattern (place_of ps Direct z)) (accepted ps ms) ≡ true) (sym d.2) (subst (λ (z : Gate). passes m z.test (accepted ps ms) ≡ true) r.1 o)),
+                ap (λ (z : Link). z.to) s ∙ ap (λ (z : Gate). z.link.to) r.1 ∙ sym (ap (λ (z : Text). end_node t.exchanges q (place.Queue z)) d.2 ∙ same_end t.exchanges q),
+              );
             }
       ]
 
-      by_shut : IsIn l (alternate_links t.exchanges t.exchanges) × (all_shut (gates_of t q ps) l.from (accepted ps ms) ≡ true) → FromEdge l
-      by_shut (i, s) =
+      by_deaths : (g : Gate) → IsIn g deaths → l ≡ g.link → passes m g.test (accepted ps ms) ≡ true → FromEdge l
+      by_deaths g i s o =
+          let w = from_entered t ps (IsEnd t q) g entered i in
+          let ends : IsEnd t q w.last (Some l.to) = subst (λ (z : Link). IsEnd t q w.last (Some z.to)) (sym s) w.ends in
+          elim w.way [
+            | inl r ↦ record {
+              name = r.0.source;
+              source = inl (source_in r.0 r.1);
+              from_is = ap (λ (z : Link). z.from) s ∙ r.3;
+              leads = inr (w.last, w.is_in, binding_edge r.0 (place.Queue w.last.name) r.1 r.2 (subst (λ (z : Test). passes m z (accepted ps ms) ≡ true) r.4 o), ends);
+            }
+            | inr r ↦ record {
+              name = [];
+              source = inr refl;
+              from_is = ap (λ (z : Link). z.from) s ∙ r.0;
+              leads = inr (w.last, w.is_in, default_edge w.last (dying_tells m t.queues w.last w.is_in).1 (subst (λ (z : Test). passes m z (accepted ps ms) ≡ true) r.1 o), ends);
+            }
+          ]
+
+      by_open : ((g : Gate) × IsIn g (gates_of t q ps ++ deaths) × (l ≡ g.link) × (passes m g.test (accepted ps ms) ≡ true)) → FromEdge l
+      by_open (g, i, s, o) = elim (in_either g (gates_of t q ps) deaths i) [
+        | inl j ↦ by_gates g j s o
+        | inr j ↦ by_deaths g j s o
+      ]
+
+      by_alternate : IsIn l (alternate_links t.exchanges t.exchanges) × (all_block m (gates_of t q ps ++ deaths) l.from (accepted ps ms) ≡ true) → FromEdge l
+      by_alternate (i, s) =
           let r = from_alternates t.exchanges t.exchanges l i in
+          let e = alternate r.0 (has_place t.exchanges r.0 r.2) refl r.3 (λ to b bs.
+          blocks_shuts ps ms once m r.0.kind b.key
+          (subst (λ (k : ExchangeKind). blocks m (test_by ps k b.key) (accepted ps ms) ≡ true) (kind_is r.0 b.source (has_place t.exchanges r.0 r.2) bs.source)
+          (all_block_at m (gates_of t q ps ++ deaths) l.from (accepted ps ms) s (gate_of t.exchanges q ps b) (in_front (gate_of t.exchanges q ps b) (gates_of t q ps) deaths (in_gates t q ps b (contained t.bindings b bs.is_binding))) (ap (node t.exchanges) bs.source ∙ sym (ap (λ (z : Link). z.from) r.4))))) in
           record {
             name = r.0.name;
-            to = place.Exchange r.1;
             source = inl (name_in r.0 r.2);
-            edge = alternate r.0 (has_place t.exchanges r.0 r.2) refl r.3 (λ to b bs.
-                test_shuts ps ms once r.0.kind b.key
-                (subst (λ (k : ExchangeKind). is_shut (test_by ps k b.key) (accepted ps ms) ≡ true) (kind_is r.0 b.source (has_place t.exchanges r.0 r.2) bs.source)
-                (all_shut_at (gates_of t q ps) l.from (accepted ps ms) s (gate_of t.exchanges q ps b) (in_gates t q ps b (contained t.bindings b bs.is_binding)) (ap (node t.exchanges) bs.source ∙ sym (ap (λ (z : Link). z.from) r.4)))));
             from_is = ap (λ (z : Link). z.from) r.4;
-            to_is = ap (λ (z : Link). z.to) r.4;
+            leads = inl (place.Exchange r.1, e, ap (λ (z : Link). z.to) r.4);
           }
 
   same_source : (name x : Text) → IsIn name (exchange_names t.exchanges) ⊎ (name ≡ []) → node t.exchanges name ≡ node t.exchanges x → name ≡ x
   same_source name x (inl i) e = node_same t.exchanges name x formed.default_apart i e
   same_source name x (inr s) e = s ∙ sym (node_default t.exchanges x (sym e ∙ ap (node t.exchanges) s))
 
-  step_on : (x y : Text) → Edge t (sure ps ms) x (place.Exchange y) → RoutesBy t (sure ps ms) y q → RoutesBy t (sure ps ms) x q
-  step_on x y e (z, l, f) = (z, on e l, f)
+  -- from places that are no exchanges nothing leads on
+  elsewhere : {a b : ℕ} → Chain (ways_at m t q ps ms deaths) a b → a ≡ 1 → b ≡ 0 → ⊥
+  elsewhere still g k = omega arith
+  elsewhere (along l i f u rest) g k = let w = edge_of l i in let h = node_above t.exchanges w.name in let n = w.from_is in omega arith
 
-  pub chain_routes : {a b : ℕ} → Chain (sure_links t q ps (accepted ps ms)) a b → b ≡ 0 → (x : Text) → a ≡ node t.exchanges x → RoutesBy t (sure ps ms) x q
-  chain_routes still z x e = absurd (let h = node_above t.exchanges x in omega arith)
-  chain_routes (along {b = b} {c = last} l i f u rest) z x e =
+  -- from an exchange into a queue whose dead letters lead on
+  death_arrives : (x : Text) (last : DeclaredQueue) (n : ℕ) → IsIn last (dying m t.queues) → Edge t (reading_by m ps ms) x (place.Queue last.name) → IsEnd t q last (Some n) → ((y : Text) → n ≡ node t.exchanges y → Arrives m t (reading_by m ps ms) y q) → Arrives m t (reading_by m ps ms) x q
+  death_arrives x last n i e ends onward =
+      let w = dying_tells m t.queues last i in
+      subst (λ (z : Mode). Arrives z t (reading_by m ps ms) x q) (sym w.0) (go last.dead_letter_exchange last.dead_letter_key refl refl ends w)
+    where
+      go : (o k : Option Text) → last.dead_letter_exchange ≡ o → last.dead_letter_key ≡ k → GoOn t q o k (Some n) → (m ≡ Never) × IsIn last t.queues → Comes t (reading_by m ps ms) None x q
+      go None k f g h w = absurd (let z : Some n ≡ None = h in cc)
+      go (Some y) None f g h w =
+          dead last (x, here, e) (record { is_queue = has_place t.queues last w.1; is_named = refl; dead = f })
+          (subst (λ (z : Option Text). Comes t (reading_by m ps ms) (fixed_after z None) y q) (sym g)
+          (subst (λ (z : Mode). Arrives z t (reading_by m ps ms) y q) w.0 (onward y (let z : Some n ≡ Some (node t.exchanges y) = h in cc))))
+      go (Some y) (Some k) f g h w =
+          dead last (x, here, e) (record { is_queue = has_place t.queues last w.1; is_named = refl; dead = f })
+          (subst (λ (z : Option Text). Comes t (reading_by m ps ms) (fixed_after z None) y q) (sym g) (sent_fixed t (reading_by m ps ms) k h.1 refl))
+
+  pub chain_arrives : {a b : ℕ} → Chain (ways_at m t q ps ms deaths) a b → b ≡ 0 → (x : Text) → a ≡ node t.exchanges x → Arrives m t (reading_by m ps ms) x q
+  chain_arrives still z x e = absurd (let h = node_above t.exchanges x in omega arith)
+  chain_arrives (along {b = b} {c = last} l i f u rest) z x e =
       let w = edge_of l i in
       let same = same_source w.name x w.source (sym w.from_is ∙ f ∙ e) in
-      go w.to (subst (λ (v : Text). Edge t (sure ps ms) v w.to) same w.edge) (sym u ∙ w.to_is) rest (λ y k. chain_routes rest z y k)
+      elim w.leads [
+        | inl r ↦ go r.0 (subst (λ (v : Text). Edge t (reading_by m ps ms) v r.0) same r.1) (sym u ∙ r.2) rest (λ y k. chain_arrives rest z y k)
+        | inr r ↦ death_arrives x r.0 l.to r.1 (subst (λ (v : Text). Edge t (reading_by m ps ms) v (place.Queue r.0.name)) same r.2) r.3 (λ y k. chain_arrives rest z y (sym u ∙ k))
+      ]
     where
-      elsewhere : {a b : ℕ} → Chain (sure_links t q ps (accepted ps ms)) a b → a ≡ 1 → b ≡ 0 → ⊥
-      elsewhere still g k = omega arith
-      elsewhere (along l i f u rest) g k = let w = edge_of l i in let h = node_above t.exchanges w.name in let m = w.from_is in omega arith
-
-      go : (to : Place) → Edge t (sure ps ms) x to → b ≡ end_node t.exchanges q to → Chain (sure_links t q ps (accepted ps ms)) b last → ((y : Text) → b ≡ node t.exchanges y → RoutesBy t (sure ps ms) y q) → RoutesBy t (sure ps ms) x q
-      go (place.Exchange y) d k c r = step_on x y d (r y k)
+      go : (to : Place) → Edge t (reading_by m ps ms) x to → b ≡ end_node t.exchanges q to → Chain (ways_at m t q ps ms deaths) b last → ((y : Text) → b ≡ node t.exchanges y → Arrives m t (reading_by m ps ms) y q) → Arrives m t (reading_by m ps ms) x q
+      go (place.Exchange y) d k c r = arrives_on m t (reading_by m ps ms) x y q d (r y k)
       go (place.Queue p) d k c r = at (bytes_eq p q) (bytes_eq-Decides p q) k
         where
-          at : (v : Bool) → Decides v (p ≡ q) → b ≡ cond v 0 1 → RoutesBy t (sure ps ms) x q
-          at true m k = (x, here, subst (λ (z : Text). Edge t (sure ps ms) x (place.Queue z)) (m.0 refl) d)
-          at false m k = absurd (elsewhere c k z)
+          at : (v : Bool) → Decides v (p ≡ q) → b ≡ cond v 0 1 → Arrives m t (reading_by m ps ms) x q
+          at true n k = arrives_at m t (reading_by m ps ms) x q (subst (λ (z : Text). Edge t (reading_by m ps ms) x (place.Queue z)) (n.0 refl) d)
+          at false n k = absurd (elsewhere c k z)
+
+-- the other way round, by the mode
+pub arrives_chain : (m : Mode) (t : Topology) (q : Text) (ps : List Tracked) (ms : List ℕ) (deaths : List Gate) → AreEntered t ps (IsEnd t q) (dying m t.queues) deaths → IsWellFormed t → AreOnce ps → (x : Text) → Arrives m t (reading_by m ps ms) x q → Chain (ways_at m t q ps ms deaths) (node t.exchanges x) 0
+arrives_chain Reaches t q ps ms deaths entered formed once x r = routes_chain Reaches t q ps ms deaths entered formed once x r
+arrives_chain Never t q ps ms deaths entered formed once x c = comes_chain Never t q ps ms deaths entered formed once c refl refl refl

@@ -1,5 +1,6 @@
 pub mod Chains
 pub mod Numbers
+pub mod DeadLetters
 pub mod Known
 pub mod Collecting
 pub mod Sure

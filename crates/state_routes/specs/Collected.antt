@@ -1,10 +1,14 @@
 -- The tracked patterns, one after another.
-use Rattle.std.specs.Prelude.{List, [], ◌∷◌, Bool, false, slice_index_or, if◌then◌else◌}
+use Rattle.std.specs.Prelude.{List, [], ◌∷◌, ◌++◌, Bool, false, slice_index_or, if◌then◌else◌}
 use Rattle.std.specs.Str.{bytes_eq}
 use Rattle.model.specs.Words.{Text}
 use Rattle.model.specs.Topology.{Topology}
-use Rattle.state_routes.specs.Nodes.{node}
+use Rattle.state_routes.specs.declared.gates.Gate.{Gate}
+use Rattle.state_routes.specs.Nodes.{node, count, any_links}
+use Rattle.state_routes.specs.Reach.{AreReached}
+use Rattle.state_routes.specs.Deaths.{AreEntered, IsUnfixedEnd, dying, links_in}
 use Rattle.model.specs.Tracking.{Tracked, once_more, same_tracked}
+use Rattle.model.specs.declared.topologies.Mode.{Mode}
 use Rattle.model.specs.declared.topologies.Exchange.{Exchange}
 use Rattle.model.specs.declared.topologies.DeclaredQueue.{DeclaredQueue}
 use Rattle.model.specs.declared.topologies.Binding.{Binding}
@@ -39,3 +43,7 @@ met_onto t marks ps (x ∷ xs) = met_onto t marks (if slice_index_or marks (node
 -- the pattern, then the queue names where the default exchange is marked, then the keys of the marked exchanges
 abbrev pub collected : Topology → Text → List Bool → List Tracked
 collected t pattern marks = met_onto t marks (if slice_index_or marks 2 false then names_onto (onto [] Topic pattern) t.queues else onto [] Topic pattern) t.exchanges
+
+-- the marks are those of the exchanges that a message may meet under its own key, of a `never` also as a dead letter
+abbrev pub AreMet : Topology → Mode → Text → Text → List Bool → Type 0
+AreMet t m x q marks = (deaths : List Gate) × AreEntered t [] (IsUnfixedEnd t) (dying m t.queues) deaths × AreReached (any_links t q ++ links_in deaths) (count t) (node t.exchanges x) marks

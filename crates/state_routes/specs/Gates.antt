@@ -6,6 +6,8 @@ use Rattle.model.specs.Words.{Text}
 use Rattle.model.specs.Topology.{Topology}
 use Rattle.model.specs.Tracking.{Tracked, same_tracked}
 use Rattle.model.specs.Positions.{is_accepted}
+use Rattle.model.specs.declared.topologies.Mode.{Mode}
+use Rattle.model.specs.declared.topologies.Mode.TheVariants.{Reaches, Never}
 use Rattle.model.specs.declared.topologies.Exchange.{Exchange}
 use Rattle.model.specs.declared.topologies.DeclaredQueue.{DeclaredQueue}
 use Rattle.model.specs.declared.topologies.Binding.{Binding}
@@ -15,7 +17,7 @@ use Rattle.state_routes.specs.declared.reach.Link.{Link}
 use Rattle.state_routes.specs.declared.gates.Test.{Test}
 use Rattle.state_routes.specs.declared.gates.Test.TheVariants.{Always, Pattern}
 use Rattle.state_routes.specs.declared.gates.Gate.{Gate}
-use Rattle.state_routes.specs.Nodes.{link_of, alternate_links}
+use Rattle.state_routes.specs.Nodes.{link_of}
 
 -- the first place of a tracked pattern, or how many there are
 abbrev pub place_of : List Tracked → ExchangeKind → Text → ℕ
@@ -76,21 +78,31 @@ abbrev pub is_shut : Test → List Bool → Bool
 is_shut Always acc = false
 is_shut (Pattern i) acc = unwrap_or (option_map not (slice_get acc i)) false
 
--- each gate from this place is known to be shut
-abbrev pub all_shut : List Gate → ℕ → List Bool → Bool
-all_shut [] from acc = true
-all_shut (g ∷ gs) from acc = (not (g.link.from == from) || is_shut g.test acc) && all_shut gs from acc
+-- A test lets a key pass, as a promise of this mode counts: for a `reaches` where that is known, for a `never` where nothing rules it out.
+abbrev pub passes : Mode → Test → List Bool → Bool
+passes Reaches test acc = is_open test acc
+passes Never test acc = not (is_shut test acc)
 
--- the links of the gates that are known to be open
-abbrev pub open_links : List Gate → List Bool → List Link
-open_links [] acc = []
-open_links (g ∷ gs) acc = if is_open g.test acc then g.link ∷ open_links gs acc else open_links gs acc
+-- a test holds a key up, counted in the same way
+abbrev pub blocks : Mode → Test → List Bool → Bool
+blocks Reaches test acc = is_shut test acc
+blocks Never test acc = not (is_open test acc)
 
--- the links to the alternate exchanges of those whose gates are all known to be shut
-abbrev pub open_alternates : List Gate → List Link → List Bool → List Link
-open_alternates gs [] acc = []
-open_alternates gs (l ∷ ls) acc = if all_shut gs l.from acc then l ∷ open_alternates gs ls acc else open_alternates gs ls acc
+-- each gate from this place holds a key up
+abbrev pub all_block : Mode → List Gate → ℕ → List Bool → Bool
+all_block m [] from acc = true
+all_block m (g ∷ gs) from acc = (not (g.link.from == from) || blocks m g.test acc) && all_block m gs from acc
 
--- where a key leads of which no more is known than what the patterns accept
-abbrev pub sure_links : Topology → Text → List Tracked → List Bool → List Link
-sure_links t queue ps acc = open_links (gates_of t queue ps) acc ++ open_alternates (gates_of t queue ps) (alternate_links t.exchanges t.exchanges) acc
+-- the links of the gates that let a key pass
+abbrev pub open_links : Mode → List Gate → List Bool → List Link
+open_links m [] acc = []
+open_links m (g ∷ gs) acc = if passes m g.test acc then g.link ∷ open_links m gs acc else open_links m gs acc
+
+-- the links to the alternate exchanges of those whose gates all hold a key up
+abbrev pub open_alternates : Mode → List Gate → List Link → List Bool → List Link
+open_alternates m gs [] acc = []
+open_alternates m gs (l ∷ ls) acc = if all_block m gs l.from acc then l ∷ open_alternates m gs ls acc else open_alternates m gs ls acc
+
+-- where a key leads of which no more is known than what the patterns accept, as a promise of this mode counts
+abbrev pub open_ways : Mode → List Gate → List Link → List Bool → List Link
+open_ways m gs alternates acc = open_links m gs acc ++ open_alternates m gs alternates acc

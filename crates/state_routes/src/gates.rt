@@ -2,12 +2,12 @@
 
 ghost use Rattle.std.specs.Prelude.{◌≡◌, ◌++◌, IfOk, OnOk};
 ghost use Rattle.model.specs.Tracking.{same_kind, same_tracked};
-ghost use Rattle.state_routes.specs.Gates.{all_shut, binding_gates, gate_of, gates_of, has_queue, is_open, is_shut, kind_at, open_alternates, open_links, place_of, test_by};
+ghost use Rattle.state_routes.specs.Gates.{all_block, binding_gates, blocks, gate_of, gates_of, has_queue, is_open, is_shut, kind_at, open_alternates, open_links, passes, place_of, test_by};
 
 use crate::nodes::link_of;
 use crate::reach::Link;
 use exchange_graph::Topology;
-use model::{Binding, ExchangeKind};
+use model::{Binding, ExchangeKind, Mode};
 use std::alloc::{AllocError, Global};
 use word_automata::Tracked;
 
@@ -59,7 +59,7 @@ pub fn is_same(pattern: &Tracked, kind: ExchangeKind, text: &[u8]) -> bool
 }
 
 /// The place of a tracked pattern, or how many there are.
-fn place_of(patterns: &[Tracked], kind: ExchangeKind, text: &[u8]) -> usize
+pub fn place_of(patterns: &[Tracked], kind: ExchangeKind, text: &[u8]) -> usize
     ensures { result ≡ place_of patterns.now kind text.now }
 {
     let mut place = 0;
@@ -73,7 +73,7 @@ fn place_of(patterns: &[Tracked], kind: ExchangeKind, text: &[u8]) -> usize
 }
 
 /// What a binding key of an exchange of this kind asks.
-fn test_by(patterns: &[Tracked], kind: ExchangeKind, key: &[u8]) -> Test
+pub fn test_by(patterns: &[Tracked], kind: ExchangeKind, key: &[u8]) -> Test
     ensures { result ≡ test_by patterns.now kind key.now }
 {
     match kind {
@@ -84,7 +84,7 @@ fn test_by(patterns: &[Tracked], kind: ExchangeKind, key: &[u8]) -> Test
 }
 
 /// The kind of the exchange of this name.
-fn kind_at(topology: &Topology, name: &[u8]) -> ExchangeKind
+pub fn kind_at(topology: &Topology, name: &[u8]) -> ExchangeKind
     ensures { result ≡ kind_at topology.now.exchanges name.now }
 {
     match topology.exchange(name) {
@@ -177,41 +177,68 @@ fn is_shut(test: Test, accepted: &[bool]) -> bool
     }
 }
 
-/// Whether each gate from this place is known to be shut.
-fn all_shut(gates: &[Gate], from: usize, accepted: &[bool]) -> bool
-    ensures { result ≡ all_shut gates.now from accepted.now }
+/// Whether the test lets a key pass, as a promise of this mode counts: for a `reaches` where that is known, for a `never`
+/// where nothing rules it out.
+fn passes(mode: Mode, test: Test, accepted: &[bool]) -> bool
+    ensures { result ≡ passes mode test accepted.now }
+{
+    match mode {
+        Mode::Reaches => is_open(test, accepted),
+        Mode::Never => !is_shut(test, accepted),
+    }
+}
+
+/// Whether the test holds a key up, counted in the same way.
+fn blocks(mode: Mode, test: Test, accepted: &[bool]) -> bool
+    ensures { result ≡ blocks mode test accepted.now }
+{
+    match mode {
+        Mode::Reaches => is_shut(test, accepted),
+        Mode::Never => !is_open(test, accepted),
+    }
+}
+
+/// Whether each gate from this place holds a key up.
+fn all_block(mode: Mode, gates: &[Gate], from: usize, accepted: &[bool]) -> bool
+    ensures { result ≡ all_block mode gates.now from accepted.now }
 {
     for gate in gates {
-        if gate.link.from == from && !is_shut(gate.test, accepted) {
+        if gate.link.from == from && !blocks(mode, gate.test, accepted) {
             return false;
         }
     }
     true
 }
 
-/// Adds the links of the gates that are known to be open.
-pub fn add_open(links: &mut Vec<Link>, gates: &[Gate], accepted: &[bool]) -> Result<(), AllocError>
-    ensures { OnOk result (links.new.items ≡ links.old.items ++ open_links gates.now accepted.now) }
+/// Adds the links of the gates that let a key pass.
+pub fn add_open(
+    mode: Mode,
+    links: &mut Vec<Link>,
+    gates: &[Gate],
+    accepted: &[bool],
+) -> Result<(), AllocError>
+    ensures { OnOk result (links.new.items ≡ links.old.items ++ open_links mode gates.now accepted.now) }
 {
     for gate in gates {
-        if is_open(gate.test, accepted) {
+        if passes(mode, gate.test, accepted) {
             links.push(gate.link)?;
         }
     }
     Ok(())
 }
 
-/// Adds the links to the alternate exchanges of those whose gates are all known to be shut.
+/// Adds the links to the alternate exchanges of those whose gates all hold a key up.
 pub fn add_alternates(
+    mode: Mode,
     links: &mut Vec<Link>,
     gates: &[Gate],
     alternates: &[Link],
     accepted: &[bool],
 ) -> Result<(), AllocError>
-    ensures { OnOk result (links.new.items ≡ links.old.items ++ open_alternates gates.now alternates.now accepted.now) }
+    ensures { OnOk result (links.new.items ≡ links.old.items ++ open_alternates mode gates.now alternates.now accepted.now) }
 {
     for link in alternates {
-        if all_shut(gates, link.from, accepted) {
+        if all_block(mode, gates, link.from, accepted) {
             links.push(*link)?;
         }
     }

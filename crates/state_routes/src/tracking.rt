@@ -3,17 +3,16 @@
 ghost use Rattle.std.specs.Prelude.{◌≡◌, length, if◌then◌else◌, IfOk, OnOk};
 ghost use Rattle.std.specs.List.{list_any};
 ghost use Rattle.model.specs.Tracking.{IsTrackedList, once_more, same_tracked};
-ghost use Rattle.model.specs.declared.topologies.Mode.TheVariants.{Reaches};
-ghost use Rattle.state_routes.specs.Nodes.{any_links, count, node};
-ghost use Rattle.state_routes.specs.Reach.{AreReached};
-ghost use Rattle.state_routes.specs.Collected.{collected, keys_by_onto, keys_onto, met_onto, names_onto};
+ghost use Rattle.state_routes.specs.Nodes.{count};
+ghost use Rattle.state_routes.specs.Collected.{AreMet, collected, keys_by_onto, keys_onto, met_onto, names_onto};
 
+use crate::deaths::{add_links, dying, unfixed_gates};
 use crate::gates::is_same;
 use crate::nodes::{any_links, node};
 use crate::reach::reached;
 use exchange_graph::Topology;
 use guarantees::Guarantee;
-use model::{Binding, DeclaredQueue, Exchange, ExchangeKind, Text};
+use model::{Binding, DeclaredQueue, Exchange, ExchangeKind, Mode, Text};
 use std::alloc::{AllocError, Global};
 use word_automata::Tracked;
 
@@ -134,16 +133,19 @@ fn add_met(
     Ok(())
 }
 
-/// The places of the exchanges that a covered message may meet.
+/// The places of the exchanges that a covered message may meet under its own key, of a `never` also as a dead letter.
 fn met(
     alloc: Global,
     topology: &Topology,
+    mode: Mode,
     exchange: &[u8],
     queue: &[u8],
 ) -> Result<Vec<bool>, AllocError>
-    ensures { IfOk result (λ marks. AreReached (any_links topology.now queue.now) (count topology.now) (node topology.now.exchanges exchange.now) marks.items) }
+    ensures { IfOk result (λ marks. AreMet topology.now mode exchange.now queue.now marks.items) }
 {
-    let links = any_links(alloc, topology, queue)?;
+    let mut links = any_links(alloc, topology, queue)?;
+    let deaths = unfixed_gates(alloc, topology, dying(mode, topology))?;
+    add_links(&mut links, deaths.as_slice())?;
     let start = node(topology.exchanges(), exchange);
     let count = topology.exchanges().len() + 4;
     let marks = reached(alloc, links.as_slice(), count, start)?;
@@ -168,18 +170,25 @@ fn collected(
     Ok(list)
 }
 
-/// The patterns that a certificate of a `reaches` keeps track of: its own, the queue names where the default exchange
-/// is met, and the binding keys of each exchange that a covered message may meet.
+/// The patterns that a certificate keeps track of: its own, the queue names where the default exchange is met, and the
+/// binding keys of each exchange that a covered message may meet, of a `never` also as a dead letter with its own key.
 pub fn tracked_patterns(
     alloc: Global,
     topology: &Topology,
     guarantee: &Guarantee,
 ) -> Result<Vec<Tracked>, AllocError>
-    ensures { IfOk result (λ list. guarantee.now.mode ≡ Reaches → IsTrackedList topology.now guarantee.now list.items) }
+    ensures { IfOk result (λ list. IsTrackedList topology.now guarantee.now list.items) }
 {
     topology.is_well_formed();
+    let mode = guarantee.mode();
     let exchange = guarantee.exchange().as_bytes();
-    let marks = met(alloc, topology, exchange, guarantee.queue().as_bytes())?;
+    let marks = met(
+        alloc,
+        topology,
+        mode,
+        exchange,
+        guarantee.queue().as_bytes(),
+    )?;
     let list = collected(alloc, topology, guarantee.pattern(), marks.as_slice())?;
     Ok(list)
 }

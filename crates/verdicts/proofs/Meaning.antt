@@ -36,7 +36,7 @@ some_no t n [] [] f a = absurd (cc)
 some_no t n [] (v ∷ vs) f a = absurd f
 some_no t n (h ∷ gs) [] f a = absurd f
 some_no t n (h ∷ gs) (Yes c ∷ vs) f a = let s = some_no t (n + 1) gs vs f.1 a in (s.0, inr s.1, s.2)
-some_no t n (h ∷ gs) (No r ∷ vs) f a = (h, inl refl, refutation_sound t h r f.0.1)
+some_no t n (h ∷ gs) (No r ∷ vs) f a = (h, inl refl, refutation_sound t h r f.0)
 some_no t n (h ∷ gs) (Undecided why ∷ vs) f a = let s = some_no t (n + 1) gs vs f.1 a in (s.0, inr s.1, s.2)
 
 -- the status by whether some verdict is a no, and some is undecided

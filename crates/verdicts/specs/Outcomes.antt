@@ -6,7 +6,7 @@ use Rattle.model.specs.Topology.{Topology}
 use Rattle.model.specs.Guarantee.{Guarantee, AllHold}
 use Rattle.model.specs.Certificates.{Certificate}
 use Rattle.certificate_check.specs.declared.faults.CertFault.{CertFault}
-use Rattle.certificate_check.specs.declared.faults.CertFault.TheVariants.{Start, Open, Missed, Form, Memory}
+use Rattle.certificate_check.specs.declared.faults.CertFault.TheVariants.{Start, Open, Missed, Forbidden, Form, Memory}
 use Rattle.certificate.specs.Certified.{ChecksAt, AreCertified}
 use Rattle.scripts.specs.Transcript.{line, name_word}
 use Rattle.verdicts.specs.Verdicts.{EachWith}
@@ -16,6 +16,7 @@ abbrev pub fault_number : CertFault → ℕ
 fault_number Start = 1
 fault_number (Open at word) = 2
 fault_number (Missed at) = 3
+fault_number (Forbidden at) = 4
 fault_number Form = 5
 fault_number Memory = 6
 
@@ -31,6 +32,7 @@ IsTold (Ok u) = Unit {0}
 IsTold (Err Start) = Unit {0}
 IsTold (Err (Open at word)) = Unit {0}
 IsTold (Err (Missed at)) = Unit {0}
+IsTold (Err (Forbidden at)) = Unit {0}
 IsTold (Err Form) = Unit {0}
 IsTold (Err Memory) = ⊥
 
@@ -70,6 +72,7 @@ outcome_line number (Ok u) = line (decimal number ∷ codes "ok" ∷ [])
 outcome_line number (Err Start) = line (decimal number ∷ codes "fault 1" ∷ [])
 outcome_line number (Err (Open at word)) = line (decimal number ∷ codes "fault 2 state" ∷ decimal at ∷ codes "letter" ∷ letter_word word ∷ [])
 outcome_line number (Err (Missed at)) = line (decimal number ∷ codes "fault 3 state" ∷ decimal at ∷ [])
+outcome_line number (Err (Forbidden at)) = line (decimal number ∷ codes "fault 4 state" ∷ decimal at ∷ [])
 outcome_line number (Err Form) = line (decimal number ∷ codes "fault 5" ∷ [])
 outcome_line number (Err Memory) = line (decimal number ∷ codes "fault 6" ∷ [])
 

@@ -1,5 +1,5 @@
 -- What `check` prints (own): the verdict on each guarantee, a line each, and the status.
-use Rattle.std.specs.Prelude.{◌≡◌, ◌+◌, ◌++◌, ℕ, Bool, true, false, List, [], ◌∷◌, codes, decimal, length, if◌then◌else◌, Contains}
+use Rattle.std.specs.Prelude.{◌≡◌, ◌+◌, ◌++◌, ℕ, Bool, true, false, List, [], ◌∷◌, codes, decimal, length, map, if◌then◌else◌, Contains}
 use Rattle.std.specs.List.{list_any}
 use Rattle.model.specs.Words.{Text}
 use Rattle.model.specs.Topology.{Topology}
@@ -56,10 +56,25 @@ cause_word TooManyStates = codes "states"
 cause_word KeyTooLong = codes "key"
 cause_word Unfit = codes "form"
 
--- the line of a verdict on the guarantee of this number
+-- the names of a path, each behind a space
+abbrev pub names_text : List Text → Text
+names_text [] = []
+names_text (n ∷ ns) = 32 ∷ (name_word n ++ names_text ns)
+
+-- a path as it is shown behind a key; where there is none, nothing
+abbrev pub path_text : List Text → Text
+path_text [] = []
+path_text (n ∷ ns) = 32 ∷ (codes "path" ++ names_text (n ∷ ns))
+
+-- the words of a path; where there is none, no word
+abbrev pub path_words : List Text → List Text
+path_words [] = []
+path_words (n ∷ ns) = codes "path" ∷ name_word n ∷ map name_word ns
+
+-- the line of a verdict on the guarantee of this number; what breaks a `reaches` has no path
 abbrev pub verdict_line : ℕ → Verdict → Text
 verdict_line number (Yes c) = line (decimal number ∷ codes "yes states" ∷ decimal (length c.states) ∷ [])
-verdict_line number (No r) = line (decimal number ∷ codes "no key" ∷ name_word r.key ∷ [])
+verdict_line number (No r) = line (decimal number ∷ codes "no key" ∷ name_word r.key ∷ path_words r.path)
 verdict_line number (Undecided why) = line (decimal number ∷ codes "undecided" ∷ cause_word why ∷ [])
 
 -- the lines of some verdicts, numbered from here on

@@ -10,6 +10,8 @@ ghost use Rattle.verdicts.specs.Verdicts.{
   is_no,
   is_undecided,
   Judges,
+  path_text,
+  path_words,
   status_of_verdicts,
   verdict_line,
   verdict_lines,
@@ -19,6 +21,7 @@ use certificate_check::Certificate;
 use exchange_graph::Topology;
 use guarantee_search::{Cause, Verdict, search};
 use guarantees::Guarantee;
+use model::Text;
 use scripts::{name_word, put_line};
 use std::alloc::{AllocError, Global};
 
@@ -51,12 +54,44 @@ fn yes_line(alloc: Global, number: u64, states: usize) -> Result<String, AllocEr
     format!(in alloc; "{number} yes states {states}\n")
 }
 
-/// The line of a guarantee that a key breaks.
-fn no_line(alloc: Global, number: u64, key: &[u8]) -> Result<String, AllocError>
-    ensures { IfOk result (λ text. string_bytes text ≡ line (decimal number ∷ codes "no key" ∷ name_word key.now ∷ [])) }
+/// Appends a name behind a space.
+fn put_name(alloc: Global, text: &mut String, name: &Text) -> Result<(), AllocError>
+    ensures { OnOk result (string_bytes text.new ≡ string_bytes text.old ++ 32 ∷ name_word name.now) }
+{
+    let word = name_word(alloc, name.as_bytes())?;
+    text.push_str(" ")?;
+    text.push_str(&word)?;
+    Ok(())
+}
+
+/// A path as it is shown behind a key; where there is none, nothing.
+fn path_text(alloc: Global, path: &[Text]) -> Result<String, AllocError>
+    ensures { IfOk result (λ text. string_bytes text ≡ path_text path.now) }
+{
+    if path.is_empty() {
+        return Ok(String::new(alloc));
+    }
+    let mut text = String::from_str(alloc, " path")?;
+    for name in path {
+        put_name(alloc, &mut text, name)?;
+    }
+    Ok(text)
+}
+
+/// The line of a guarantee that a key breaks, with what is shown behind the key.
+fn no_line_with(alloc: Global, number: u64, key: &[u8], shown: &str) -> Result<String, AllocError>
+    ensures { IfOk result (λ text. string_bytes text ≡ decimal number ++ 32 ∷ (codes "no key" ++ 32 ∷ (name_word key.now ++ (shown.now ++ 10 ∷ [])))) }
 {
     let key = name_word(alloc, key)?;
-    format!(in alloc; "{number} no key {key}\n")
+    format!(in alloc; "{number} no key {key}{shown}\n")
+}
+
+/// The line of a guarantee that a key breaks, with the path that shows it, if it needs one.
+fn no_line(alloc: Global, number: u64, key: &[u8], path: &[Text]) -> Result<String, AllocError>
+    ensures { IfOk result (λ text. string_bytes text ≡ line (decimal number ∷ codes "no key" ∷ name_word key.now ∷ path_words path.now)) }
+{
+    let shown = path_text(alloc, path)?;
+    no_line_with(alloc, number, key, &shown)
 }
 
 /// Why a guarantee is not decided, in a word.
@@ -84,7 +119,12 @@ fn verdict_line(alloc: Global, number: u64, verdict: &Verdict) -> Result<String,
 {
     match verdict {
         Verdict::Yes(certificate) => yes_line(alloc, number, certificate.states().len()),
-        Verdict::No(refutation) => no_line(alloc, number, refutation.key().as_bytes()),
+        Verdict::No(refutation) => no_line(
+            alloc,
+            number,
+            refutation.key().as_bytes(),
+            refutation.path(),
+        ),
         Verdict::Undecided(cause) => undecided_line(alloc, number, *cause),
     }
 }

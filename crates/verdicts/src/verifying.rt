@@ -109,6 +109,9 @@ fn outcome_line(alloc: Global, number: u64, outcome: &Outcome) -> Result<String,
         Err(CertFault::Start) => format!(in alloc; "{number} fault 1\n"),
         Err(CertFault::Open { state, word }) => open_line(alloc, number, *state, word),
         Err(CertFault::Missed { state }) => format!(in alloc; "{number} fault 3 state {state}\n"),
+        Err(CertFault::Forbidden { state }) => {
+            format!(in alloc; "{number} fault 4 state {state}\n")
+        }
         Err(CertFault::Form) => format!(in alloc; "{number} fault 5\n"),
         Err(CertFault::Memory) => format!(in alloc; "{number} fault 6\n"),
     }

@@ -1,33 +1,53 @@
 //! The consumers of one queue, over which its deliveries go round.
 //!
 //! Each consumer has its seat in the ring, by its numbers. A seat stays there after its consumer is gone, until the ring is full
-//! and is swept. What is picked is found by looking at one seat after another, from the one behind that which was picked last.
+//! and is swept. What is picked is found by looking at one seat after another, from the one behind that which was picked last; a
+//! seat whose consumer may take nothing then falls asleep, and is passed over until it is woken.
 
-ghost use Rattle.std.specs.Prelude.{◌≡◌, ◌<◌, ◌≤◌, ℕ, true, None, IfSome, OnOk, length, count_by, filter, slice_index_or, vec_len, vec_capacity};
-ghost use Rattle.std.specs.List.{list_any};
+ghost use Rattle.std.specs.Prelude.{◌≡◌, ◌<◌, ◌≤◌, ◌+◌, ◌*◌, ◌⊎◌, ℕ, true, None, IfSome, OnOk, length, count_by, filter, slice_index_or, vec_len, vec_capacity};
+ghost use Rattle.std.specs.List.{position_from};
 ghost use Rattle.model.specs.Topology.{IsIn};
+ghost use Rattle.marks.specs.Places.{bit_of, Differs};
 ghost use Rattle.broker_core.specs.State.{broker_of};
-ghost use Rattle.broker_core.specs.Picked.{IsPick, IsPickFrom};
-ghost use Rattle.broker.specs.Roster.{is_seat, KeepsRing};
+ghost use Rattle.broker_core.specs.Picked.{IsPickFrom, CannotTake};
+ghost use Rattle.broker.specs.Roster.{is_seat, KeepsRing, Sleep};
 ghost use Rattle.broker_core.specs.Seats.{has_consumer};
 ghost use Rattle.broker_core.specs.declared.picks.Pick.{Pick as Seat};
 
 use broker_core::{Core, Pick};
+use marks::{Flat, Over, Places};
 use std::alloc::{AllocError, Global};
 use std::marker::Model;
 
+/// A bit for each seat, 1 where it is awake.
+type Marks = Over<Flat>;
+
 /// Two seats are one.
-fn is_same(one: Pick, other: Pick) -> bool
+pub(crate) fn is_same(one: Pick, other: Pick) -> bool
     ensures { result ≡ is_seat one other }
 {
     one.connection == other.connection && one.channel == other.channel && one.number == other.number
 }
 
-/// Whether this seat is among these.
-fn has_seat(seats: &[Pick], seat: Pick) -> bool
-    ensures { result ≡ list_any (is_seat seat) seats.now }
+/// The first place at which this seat stands.
+fn search(seats: &[Pick], seat: Pick) -> Option<usize>
+    ensures is { result ≡ position_from (is_seat seat) 0 seats.now }
+    ensures within { IfSome result (λ i. i < length seats.now) }
+    ensures there { IfSome result (λ i. (p : Seat) → slice_index_or seats.now i p ≡ seat) }
 {
-    seats.iter().any(|other| is_same(seat, *other))
+    seats.iter().position(|other| is_same(seat, *other))
+}
+
+/// The place at which this seat stands; this one is looked at first.
+fn place_of(seats: &[Pick], seat: Pick, guess: usize) -> Option<usize>
+    ensures within { IfSome result (λ i. i < length seats.now) }
+    ensures there { IfSome result (λ i. (p : Seat) → slice_index_or seats.now i p ≡ seat) }
+    ensures none { result ≡ None → IsIn seat seats.now → ⊥ }
+{
+    if guess < seats.len() && is_same(seat, seats[guess]) {
+        return Some(guess);
+    }
+    search(seats, seat)
 }
 
 /// Takes out the seats whose consumer is gone.
@@ -51,53 +71,114 @@ fn staying(seats: &[Pick], core: &Core) -> usize
     count
 }
 
-/// Makes room for one seat more. Where the list is full, the seats whose consumer is gone are taken out, and then there is room
-/// for as many again as are left, so that few sweeps are made. Where memory is wanting, no other seat is gone.
-fn make_room(seats: &mut Vec<Pick>, next: &mut usize, core: &Core) -> Result<(), AllocError>
+/// All seats at places below this are awake from now on.
+fn wake_all(awake: &mut Marks, count: usize)
+    requires { count ≤ length awake.old * 64 }
+    ensures len { length awake.new ≡ length awake.old }
+    ensures awake { (i : ℕ) → i < count → bit_of awake.new i ≡ 1 }
+{
+    for place in 0..count {
+        awake.set(place);
+    }
+}
+
+/// Makes room for one seat more. Where the list is full, the seats whose consumer is gone are taken out, those that are left
+/// are awake, and then there is room for as many again, so that few sweeps are made. Where memory is wanting, no other seat is
+/// gone.
+fn make_room(
+    seats: &mut Vec<Pick>,
+    awake: &mut Marks,
+    next: &mut usize,
+    core: &Core,
+) -> Result<(), AllocError>
+    requires { length seats.old.items ≤ length awake.old * 64 }
     ensures room { OnOk result (vec_len seats.new < vec_capacity seats.new) }
-    ensures kept { KeepsRing core.now seats.old.items seats.new.items }
+    ensures mark { OnOk result (vec_len seats.new + 1 ≤ length awake.new * 64) }
+    ensures marks { length seats.new.items ≤ length awake.new * 64 }
+    ensures kept { KeepsRing core.now (record { seats = seats.old.items; awake = awake.old }) (record { seats = seats.new.items; awake = awake.new }) }
 {
     if seats.len() < seats.capacity() {
-        return Ok(());
+        return awake.grow(seats.len() + 1);
     }
     let before = (*next).min(seats.len());
     *next = staying(seats.split_at(before).0, core);
     sweep(seats, core);
+    wake_all(awake, seats.len());
+    awake.grow(seats.len() + 1)?;
     seats.reserve(seats.len().max(1))
 }
 
-/// The place of the first of the seats from this one on, up to that one, to whose consumer a delivery can be made from the queue
-/// at this place.
-fn first_between(core: &Core, queue: usize, seats: &[Pick], from: usize, to: usize) -> Option<usize>
-    requires { to ≤ length seats.now }
-    ensures within { IfSome result (λ i. i < length seats.now) }
-    ensures some { IfSome result (λ i. (p : Seat) → IsPick (broker_of core.now) (slice_index_or seats.now i p)) }
-    ensures none { result ≡ None → (i : ℕ) (p : Seat) → from ≤ i → i < to → IsPickFrom core.now queue (slice_index_or seats.now i p) → ⊥ }
+/// The seat at this place falls asleep if its consumer may take nothing now.
+fn rest(awake: &mut Marks, core: &Core, place: usize, seat: Pick)
+    requires { place < length awake.old * 64 }
+    ensures len { length awake.new ≡ length awake.old }
+    ensures here { (bit_of awake.new place ≡ bit_of awake.old place) ⊎ CannotTake (broker_of core.now) seat }
+    ensures asleep { CannotTake (broker_of core.now) seat → bit_of awake.new place ≡ 0 }
+    ensures others { (k : ℕ) → (k ≡ place → ⊥) → bit_of awake.new k ≡ bit_of awake.old k }
 {
-    for place in from..to {
+    if !core.may_take(seat) {
+        awake.clear(place);
+    }
+}
+
+/// The place of the first of the seats from this one on, up to that one, to whose consumer a delivery can be made from the queue
+/// at this place. Those that are looked at before it and may take nothing fall asleep.
+fn first_between(
+    core: &Core,
+    queue: usize,
+    seats: &[Pick],
+    awake: &mut Marks,
+    from: usize,
+    to: usize,
+) -> Option<usize>
+    requires within { to ≤ length seats.now }
+    requires room { length seats.now ≤ length awake.old * 64 }
+    ensures len { length awake.new ≡ length awake.old }
+    ensures sleep { Sleep (broker_of core.now) seats.now awake.old awake.new }
+    ensures within { IfSome result (λ i. i < length seats.now) }
+    ensures some { IfSome result (λ i. (p : Seat) → IsPickFrom core.now queue (slice_index_or seats.now i p)) }
+    ensures none { result ≡ None → (i : ℕ) (p : Seat) → from ≤ i → i < to → bit_of awake.old i ≡ 1 → IsPickFrom core.now queue (slice_index_or seats.now i p) → ⊥ }
+{
+    let mut next = from;
+    'seats: while let Some(place) = awake.next(next) {
+        if place >= to {
+            return None;
+        }
         if core.may_deliver(queue, seats[place]) {
             return Some(place);
         }
+        rest(awake, core, place, seats[place]);
+        next = place + 1;
     }
     None
 }
 
 /// The place of the first seat to whose consumer a delivery can be made, from this one on and then from the front.
-fn first_round(core: &Core, queue: usize, seats: &[Pick], next: usize) -> Option<usize>
+fn first_round(
+    core: &Core,
+    queue: usize,
+    seats: &[Pick],
+    awake: &mut Marks,
+    next: usize,
+) -> Option<usize>
+    requires { length seats.now ≤ length awake.old * 64 }
+    ensures len { length awake.new ≡ length awake.old }
+    ensures sleep { Sleep (broker_of core.now) seats.now awake.old awake.new }
     ensures within { IfSome result (λ i. i < length seats.now) }
-    ensures some { IfSome result (λ i. (p : Seat) → IsPick (broker_of core.now) (slice_index_or seats.now i p)) }
-    ensures none { result ≡ None → (p : Seat) → IsIn p seats.now → IsPickFrom core.now queue p → ⊥ }
+    ensures some { IfSome result (λ i. (p : Seat) → IsPickFrom core.now queue (slice_index_or seats.now i p)) }
+    ensures none { result ≡ None → (i : ℕ) (p : Seat) → i < length seats.now → bit_of awake.old i ≡ 1 → IsPickFrom core.now queue (slice_index_or seats.now i p) → ⊥ }
 {
     let turn = next.min(seats.len());
-    match first_between(core, queue, seats, turn, seats.len()) {
+    match first_between(core, queue, seats, awake, turn, seats.len()) {
         Some(place) => Some(place),
-        None => first_between(core, queue, seats, 0, turn),
+        None => first_between(core, queue, seats, awake, 0, turn),
     }
 }
 
 /// The seats of the consumers of one queue, in the order in which they were made; some may be of consumers that are gone.
 pub(crate) struct Ring {
     seats: Vec<Pick>,
+    awake: Marks,
     /// The place behind the seat that was picked last.
     next: usize,
 }
@@ -105,17 +186,23 @@ pub(crate) struct Ring {
 /// Written out, so that a drop is one call.
 impl Drop for Ring {
     fn drop(self) {
-        let Ring { seats: _, next: _ } = self;
+        let Ring {
+            seats: _,
+            awake: _,
+            next: _,
+        } = self;
     }
 }
 
 impl Model for Ring {
-    ghost use Rattle.std.specs.Prelude.{List};
-    ghost use Rattle.broker_core.specs.declared.picks.Pick.{Pick as Seat};
+    ghost use Rattle.std.specs.Prelude.{◌≤◌, ◌*◌, length};
+    ghost use Rattle.broker.specs.Roster.{Seats};
 
-    ghost Value = { List Seat };
+    ghost Value = { Seats };
 
-    ghost view = { λ r. r.seats.items };
+    ghost view = { λ r. record { seats = r.seats.items; awake = r.awake } };
+
+    ghost invariant = { λ r. length r.seats.items ≤ length r.awake * 64 };
 }
 
 impl Ring {
@@ -123,40 +210,60 @@ impl Ring {
     ghost use Rattle.model.specs.Topology.{IsIn};
     ghost use Rattle.broker_core.specs.declared.picks.Pick.{Pick as Seat};
     ghost use Rattle.broker_core.specs.State.{broker_of};
-    ghost use Rattle.broker_core.specs.Picked.{IsPick, IsPickFrom};
-    ghost use Rattle.broker.specs.Roster.{KeepsRing};
+    ghost use Rattle.broker_core.specs.Picked.{IsPickFrom};
+    ghost use Rattle.broker.specs.Roster.{IsAwake, IsSeatedIn, KeepsRing, Drowses, Wakens};
 
     /// No seat. It takes no memory.
     pub fn new(alloc: Global) -> Ring
-        ensures { result ≡ [] }
+        ensures { result.seats ≡ [] }
     {
         Ring {
             seats: Vec::new(alloc),
+            awake: <Over<Flat>>::empty(alloc),
             next: 0,
         }
     }
 
-    /// This seat is there from now on. Where memory is wanting it may not be; no seat of a consumer that is there is gone.
-    pub fn seat(&mut self, core: &Core, seat: Pick) -> Result<(), AllocError>
-        ensures seated { OnOk result (IsIn seat self.new) }
+    /// This seat is there from now on, and awake. Where memory is wanting it may not be; no seat of a consumer that is there is
+    /// gone. Tells its place.
+    pub fn seat(&mut self, core: &Core, seat: Pick) -> Result<usize, AllocError>
+        ensures seated { OnOk result (IsAwake self.new seat) }
         ensures kept { KeepsRing core.now self.old self.new }
     {
-        if has_seat(&self.seats, seat) {
-            return Ok(());
+        if let Some(place) = place_of(&self.seats, seat, 0) {
+            self.awake.set(place);
+            return Ok(place);
         }
-        make_room(&mut self.seats, &mut self.next, core)?;
+        make_room(&mut self.seats, &mut self.awake, &mut self.next, core)?;
+        let place = self.seats.len();
         self.seats.push_reserved(seat);
-        Ok(())
+        self.awake.set(place);
+        Ok(place)
+    }
+
+    /// The seat is awake from now on, if it is there; it is looked for at this place first. Tells its place.
+    pub fn wake(&mut self, seat: Pick, guess: usize) -> usize
+        ensures woken { IsIn seat self.old.seats → IsAwake self.new seat }
+        ensures wakens { Wakens self.old self.new }
+    {
+        match place_of(&self.seats, seat, guess) {
+            Some(place) => {
+                self.awake.set(place);
+                place
+            }
+            None => guess,
+        }
     }
 
     /// The first seat to whose consumer a delivery can be made from the queue at this place, from the one behind that which was
-    /// picked last, and then from the front.
+    /// picked last, and then from the front. Only seats that are awake are looked at, and those whose consumer may take nothing
+    /// then fall asleep.
     pub fn pick(&mut self, core: &Core, queue: usize) -> Option<Pick>
-        ensures same { self.new ≡ self.old }
-        ensures some { IfSome result (λ p. IsPick (broker_of core.now) p) }
-        ensures none { result ≡ None → (p : Seat) → IsIn p self.old → IsPickFrom core.now queue p → ⊥ }
+        ensures drowses { Drowses (broker_of core.now) self.old self.new }
+        ensures some { IfSome result (λ p. IsPickFrom core.now queue p) }
+        ensures none { result ≡ None → (p : Seat) → IsSeatedIn (broker_of core.now) self.old p → IsPickFrom core.now queue p → ⊥ }
     {
-        match first_round(core, queue, &self.seats, self.next) {
+        match first_round(core, queue, &self.seats, &mut self.awake, self.next) {
             Some(place) => {
                 self.next = place + 1;
                 Some(self.seats[place])

@@ -41,13 +41,14 @@ fn delivery(
 }
 
 impl Core {
-    ghost use Rattle.std.specs.Prelude.{◌≡◌, true, IfOk, OnErr, option_map};
+    ghost use Rattle.std.specs.Prelude.{◌≡◌, true, false, IfOk, OnErr, option_map};
     ghost use Rattle.model.specs.Agreement.{IsAgreed};
     ghost use Rattle.model.specs.Naming.{AreNamed};
     ghost use Rattle.model.specs.Sending.{AreCarried};
     ghost use Rattle.model.specs.Step.{IsDelivery};
     ghost use Rattle.broker_core.specs.State.{broker_of, topology_of};
-    ghost use Rattle.broker_core.specs.Picked.{IsPick, IsPickFrom, IsNext, Tells};
+    ghost use Rattle.broker_core.specs.Picked.{IsPick, IsPickFrom, IsNext, Takes, Tells, CannotTake};
+    ghost use Rattle.channel.specs.declared.consumers.Consumer.{Consumer as One};
 
     /// The consumer of these numbers, exactly where it may take a message now.
     fn taker(&self, pick: Pick) -> Option<&Consumer>
@@ -71,7 +72,7 @@ impl Core {
     /// Whether a delivery can be made from the queue at this place to the consumer of these numbers: it is a consumer of that
     /// queue and may take a message now, and the queue has one.
     pub fn may_deliver(&self, queue: usize, pick: Pick) -> bool
-        ensures yes { result ≡ true → IsPick (broker_of self.now) pick }
+        ensures yes { result ≡ true → IsPickFrom self.now queue pick }
         ensures no { IsPickFrom self.now queue pick → result ≡ true }
     {
         match self.taker(pick) {
@@ -82,6 +83,14 @@ impl Core {
             }
             None => false,
         }
+    }
+
+    /// Whether the consumer of these numbers may take a message now, from whatever queue.
+    pub fn may_take(&self, pick: Pick) -> bool
+        ensures yes { result ≡ true → (k : One) × Takes self.now pick k }
+        ensures no { result ≡ false → CannotTake (broker_of self.now) pick }
+    {
+        self.taker(pick).is_some()
     }
 
     /// The delivery to the consumer of these numbers that can be made: the first ready message of its queue goes to it, and

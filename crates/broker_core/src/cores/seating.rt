@@ -35,10 +35,17 @@ fn consumed(event: &Event) -> Option<&Text>
 }
 
 impl Core {
-    ghost use Rattle.std.specs.Prelude.{◌≡◌, ◌<◌, ℕ, Some, IfSome, length};
+    ghost use Rattle.std.specs.Prelude.{◌≡◌, ◌<◌, ℕ, Some, IfSome, is_some, length};
     ghost use Rattle.links.specs.Links.{link_in};
     ghost use Rattle.broker_core.specs.State.{topology_of};
     ghost use Rattle.broker_core.specs.Seats.{has_consumer, next_seat, seat_of, IsConsumed};
+
+    /// Whether the connection of this number runs.
+    pub fn runs(&self, connection: u64) -> bool
+        ensures { result ≡ is_some (link_in self.now.links connection) }
+    {
+        self.links.get(connection).is_some()
+    }
 
     /// Whether the consumer of these numbers is there.
     pub fn has_consumer(&self, pick: Pick) -> bool

@@ -1,9 +1,8 @@
-use Rattle.std.proofs.Common.{◌≡◌, ◌∙◌, ◌+◌, ℕ, List, inl, inr, refl, sym, subst, arith}
+use Rattle.std.proofs.Common.{◌≡◌, ◌∙◌, ◌+◌, ℕ, inl, inr, refl, subst, arith}
 use Rattle.std.proofs.lemmas.Bool.Decides.{leb_tells}
-use Rattle.model.specs.Topology.{IsIn}
 use Rattle.broker_core.specs.Picked.{IsPickFrom}
-use Rattle.broker.specs.Roster.{ring_at}
-use Rattle.broker_core.specs.declared.picks.Pick.{Pick}
+use Rattle.broker_core.specs.State.{broker_of}
+use Rattle.broker.specs.Roster.{ring_at, IsSeatedIn}
 use Rattle.broker.proofs.roster.first_between.Goals as goal
 
 pub returns-then-queue-to-clause-none : goal.returns-then-queue-to-clause-none
@@ -19,7 +18,8 @@ queues-preserved c =
     let least = c.queues.invariant.least in
     let next = c.in-Some.ensures.least in
     record {
-      same = c.pick_at.ensures.same ∙ c.queues.invariant.same;
+      drowse = λ place p i. c.pick_at.ensures.drowse place p (c.queues.invariant.drowse place p i);
+      len = c.pick_at.ensures.len ∙ c.queues.invariant.len;
       least = omega (arith, least, next);
       none = λ place p from lt i pick. elim (leb_tells (place + 1) c.queues.next) [
         | inl a ↦ let le = a.1 in c.queues.invariant.none place p from (omega (arith, le)) i pick
@@ -31,8 +31,18 @@ queues-preserved c =
                   let behind = b.1 in
                   let here : place ≡ c.in-Some.queue = omega (arith, lt, behind) in
                   c.in_default-pick_at.ensures.none refl p
-                  (subst (λ (rings : List (List Pick)). IsIn p (ring_at rings c.in-Some.queue)) (sym c.queues.invariant.same) (subst (λ (n : ℕ). IsIn p (ring_at c.args.rings.now n)) here i))
+                  (c.queues.invariant.drowse c.in-Some.queue p (subst (λ (n : ℕ). IsSeatedIn (broker_of c.args.core.now) (ring_at c.args.rings.now n) p) here i))
                   (subst (λ (n : ℕ). IsPickFrom c.args.core.now n p) here pick)
             ]
       ];
     }
+
+pub returns-in-Some-pick_at-clause-drowse : goal.returns-in-Some-pick_at-clause-drowse
+returns-in-Some-pick_at-clause-drowse c = λ place p i. c.pick_at.ensures.drowse place p (c.queues.invariant.drowse place p i)
+
+pub returns-clause-none : goal.returns-clause-none
+returns-clause-none c = λ e place p from lt i pick.
+    elim (leb_tells (place + 1) c.queues.next) [
+      | inl a ↦ let le = a.1 in c.queues.invariant.none place p from (omega (arith, le)) i pick
+      | inr a ↦ let gt = a.1 in c.in_default.ensures place p (omega (arith, gt)) pick
+    ]

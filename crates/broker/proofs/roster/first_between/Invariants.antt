@@ -1,12 +1,13 @@
 use Rattle.std.proofs.Common.{◌≡◌, ◌≤◌, ◌-◌, length}
-use Rattle.broker.specs.Roster.{NoneBetween}
-use Rattle.broker_core.specs.State.{topology_of}
+use Rattle.broker.specs.Roster.{AllDrowse, NoneBetween}
+use Rattle.broker_core.specs.State.{broker_of, topology_of}
 use Rattle.broker.proofs.roster.first_between.Given as goal
 
--- the rings stay, and from no queue before the next a delivery can be made
+-- each seat is there still, and from no queue before the next a delivery can be made
 abbrev pub invariant-queues : goal.invariant-queues
 invariant-queues l = record {
-  same : l.rings ≡ l.fn.rings;
+  drowse : AllDrowse (broker_of l.core) l.fn.rings l.rings;
+  len : length l.rings ≡ length l.fn.rings;
   least : l.from ≤ l.next;
   none : NoneBetween l.core l.fn.rings l.from l.next;
 }

@@ -3,4 +3,4 @@ use Rattle.state_routes.specs.Gates.{open_links}
 use Rattle.state_routes.proofs.gates.add_open.Given as goal
 
 abbrev pub invariant-loop-gate : goal.invariant-loop-gate
-invariant-loop-gate l = l.links.items ++ open_links (drop l.gate-index l.gates) l.accepted ≡ l.fn.links.items ++ open_links l.gates l.accepted
+invariant-loop-gate l = l.links.items ++ open_links l.mode (drop l.gate-index l.gates) l.accepted ≡ l.fn.links.items ++ open_links l.mode l.gates l.accepted

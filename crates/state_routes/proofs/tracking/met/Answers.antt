@@ -1,16 +1,18 @@
-use Rattle.std.proofs.Common.{List, ◌+◌, length, ap, ◌∙◌}
+use Rattle.std.proofs.Common.{List, [], ◌+◌, ◌++◌, length, ap, subst, ◌∙◌}
 use Rattle.model.specs.declared.topologies.Exchange.{Exchange}
-use Rattle.state_routes.specs.Nodes.{node}
-use Rattle.state_routes.proofs.Collecting.{within_as, reached_as}
+use Rattle.model.specs.declared.topologies.DeclaredQueue.{DeclaredQueue}
+use Rattle.state_routes.specs.declared.reach.Link.{Link}
+use Rattle.state_routes.specs.declared.gates.Gate.{Gate}
+use Rattle.state_routes.specs.Nodes.{any_links}
+use Rattle.state_routes.specs.Deaths.{AreEntered, IsUnfixedEnd, links_in}
+use Rattle.state_routes.proofs.Collecting.{within_as}
 use Rattle.state_routes.proofs.tracking.met.Goals as goal
 
 pub reached-requires-clause-within : goal.reached-requires-clause-within
-reached-requires-clause-within c = within_as c.args.topology.now c.args.queue.now (length c.exchanges-2.result.now + 4) c.as_slice.result.now (ap (λ (xs : List Exchange). length xs + 4) c.exchanges-2.ensures) (c.as_slice.ensures.value ∙ c.in_ok-links.ensures)
-
-pub returns : goal.returns
-returns c =
-    reached_as c.args.topology.now c.args.exchange.now c.args.queue.now c.as_slice.result.now (length c.exchanges-2.result.now + 4) c.node-start.result c.in_ok-marks.marks.items
-    (c.as_slice.ensures.value ∙ c.in_ok-links.ensures)
-    (ap (λ (xs : List Exchange). length xs + 4) c.exchanges-2.ensures)
-    (c.node-start.ensures.is ∙ ap (λ (xs : List Exchange). node xs c.args.exchange.now) c.exchanges.ensures)
-    c.in_ok-marks.ensures
+reached-requires-clause-within c =
+    within_as c.args.topology.now c.args.mode c.args.queue.now c.in_ok-deaths.deaths.items
+    (subst (λ (z : List DeclaredQueue). AreEntered c.args.topology.now [] (IsUnfixedEnd c.args.topology.now) z c.in_ok-deaths.deaths.items) c.dying.ensures c.in_ok-deaths.ensures)
+    (length c.exchanges-2.result.now + 4) c.as_slice-2.result.now (ap (λ (xs : List Exchange). length xs + 4) c.exchanges-2.ensures)
+    (c.as_slice-2.ensures.value ∙ c.in_ok-add_links.ensures
+    ∙ ap (λ (z : List Link). z ++ links_in c.as_slice.result.now) c.in_ok-links.ensures
+    ∙ ap (λ (z : List Gate). any_links c.args.topology.now c.args.queue.now ++ links_in z) c.as_slice.ensures.value)

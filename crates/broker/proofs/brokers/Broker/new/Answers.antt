@@ -1,7 +1,6 @@
 use Rattle.std.proofs.Common.{◌≡◌, ◌∙◌, ◌≤◌, ℕ, List, Some, length, sym, ap, subst, arith}
 use Rattle.std.specs.Prelude.{is_some, count_by}
 use Rattle.std.proofs.lemmas.Bool.{false≢true}
-use Rattle.std.proofs.lemmas.List.{length-replicate}
 use Rattle.model.specs.Topology.{Topology, IsIn}
 use Rattle.model.specs.Agreement.{IsAgreed}
 use Rattle.model.specs.Broker.{Broker, Channel}
@@ -9,7 +8,7 @@ use Rattle.model.specs.Entries.{is_held_as}
 use Rattle.model.specs.Step.{Is}
 use Rattle.model.specs.declared.messages.Entry.{Entry}
 use Rattle.broker_core.specs.State.{Kept, broker_of, topology_of, nothing}
-use Rattle.broker_core.specs.declared.picks.Pick.{Pick}
+use Rattle.broker.specs.Roster.{Rings}
 use Rattle.broker.proofs.Seated.{serves_none}
 use Rattle.broker.proofs.brokers.Broker.new.Goals as goal
 
@@ -29,7 +28,6 @@ nothing_agreed b is = record {
 pub invariant_of-result : goal.invariant_of-result
 invariant_of-result c =
     let core : Kept = c.in_ok-core.core in
-    let rings : List (List Pick) = c.in_ok-roster.roster in
-    let long : length rings ≡ length (topology_of core).queues =
-    ap (λ (rs : List (List Pick)). length rs) c.in_ok-roster.ensures ∙ length-replicate _ _ ∙ ap length c.queues.ensures ∙ ap (λ (t : Topology). length t.queues) (sym c.in_ok-core.ensures.topology) in
+    let rings : Rings = c.in_ok-roster.roster in
+    let long : length rings.rings ≡ length (topology_of core).queues = c.in_ok-roster.ensures ∙ ap length c.queues.ensures ∙ ap (λ (t : Topology). length t.queues) (sym c.in_ok-core.ensures.topology) in
     serves_none core rings (nothing_agreed (broker_of core) c.in_ok-core.ensures.empty) long (λ d h. c.in_ok-core.ensures.empty.channels d h)

@@ -1,9 +1,12 @@
-use Rattle.std.proofs.Common.{refl, sym, subst}
+use Rattle.std.proofs.Common.{ℕ, refl, sym, subst}
 use Rattle.model.specs.Consuming.{CanDeliver}
 use Rattle.broker.specs.Roster.{HasConsumer}
 use Rattle.broker_core.specs.State.{Kept, broker_of, topology_of}
 use Rattle.broker_core.specs.declared.picks.Pick.{Pick}
+use Rattle.broker_core.specs.Picked.{IsPick, IsPickFrom}
 use Rattle.broker_core.proofs.Picking.{pick_from}
+use Rattle.broker.proofs.Outcomes.{if_some}
+use Rattle.broker.proofs.Seated.{serves_kept, keeps_drowsy}
 use Rattle.broker.proofs.brokers.Broker.pick.Goals as goal
 
 pub pick-requires : goal.pick-requires
@@ -15,4 +18,12 @@ returns-clause-none c = λ e d can.
     let p : Pick = record { connection = d; channel = made.number; number = made.consumer.number } in
     let from = pick_from c.self.inside.core d made in
     let has : HasConsumer (topology_of c.self.inside.core) (broker_of c.self.inside.core) from.place p = record { consumer = made.consumer; was = (made.channel, made.taker.there, made.taker.its); numbered = refl; within = from.within; named = from.named } in
-    c.pick.ensures.none e from.place p (c.self.invariant.seated from.place p has) (record { pick = (made, refl, refl); within = from.within; named = from.named })
+    c.pick.ensures.none e from.place p (c.self.invariant.seated from.place p has).seat (record { pick = (made, refl, refl); within = from.within; named = from.named })
+
+pub returns-clause-some : goal.returns-clause-some
+returns-clause-some c =
+    if_some c.pick.result (λ p. (place : ℕ) × IsPickFrom c.self.inside.core place p) (λ p. IsPick (broker_of c.args.self.now) p) (λ p from. subst (λ (k : Kept). IsPick (broker_of k) p) c.self.view_is from.1.pick) c.pick.ensures.some
+
+pub invariant_of-self : goal.invariant_of-self
+invariant_of-self c =
+    serves_kept c.self.inside.core c.self.inside.roster c.pick.new.self (keeps_drowsy c.self.inside.core c.self.inside.roster c.pick.new.self c.pick.ensures.drowse c.pick.ensures.lists) c.pick.ensures.len c.self.invariant

@@ -1,14 +1,10 @@
-use Rattle.std.proofs.Common.{sym, subst, refl, inl, inr, arith}
-use Rattle.std.proofs.lemmas.Bool.Decides.{leb_tells}
-use Rattle.broker_core.specs.Picked.{IsPickFrom}
-use Rattle.broker.proofs.Seated.{place_in}
+use Rattle.std.proofs.Common.{refl, arith}
+use Rattle.broker_core.specs.State.{broker_of}
+use Rattle.broker.proofs.Sleeping.{sleep_on, none_round}
 use Rattle.broker.proofs.roster.ring.first_round.Goals as goal
 
+pub returns-in-None-clause-sleep : goal.returns-in-None-clause-sleep
+returns-in-None-clause-sleep c = sleep_on (broker_of c.args.core.now) c.args.seats.now _ _ _ c.in-None.ensures.sleep c.first_between-in-None.ensures.sleep
+
 pub returns-in-None-clause-none : goal.returns-in-None-clause-none
-returns-in-None-clause-none c = λ e p i pick.
-    let at = place_in p c.args.seats.now i in
-    let there = subst (IsPickFrom c.args.core.now c.args.queue) (sym at.2) pick in
-    elim (leb_tells c.min-turn.result at.0) [
-      | inl a ↦ c.in-None.ensures.none refl at.0 p a.1 at.1 there
-      | inr a ↦ c.first_between-in-None.ensures.none e at.0 p (omega arith) a.1 there
-    ]
+returns-in-None-clause-none c = λ e i p lt. none_round c.args.core.now c.args.queue c.args.seats.now _ _ c.min-turn.result c.in-None.ensures.sleep (c.in-None.ensures.none refl) (c.first_between-in-None.ensures.none e) i p (omega arith) lt

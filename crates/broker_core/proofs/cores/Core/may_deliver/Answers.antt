@@ -5,7 +5,7 @@ use Rattle.model.specs.Topology.{AreApart, queue_names}
 use Rattle.exchange_graph.specs.Marks.{queue_name}
 use Rattle.broker_core.specs.State.{Kept, broker_of, topology_of}
 use Rattle.broker_core.proofs.Outcomes.{some_of, some_mapped}
-use Rattle.broker_core.proofs.Delivering.{picked, ready_for, none_picked, same_queue}
+use Rattle.broker_core.proofs.Delivering.{picked_from, ready_for, none_picked, same_queue}
 use Rattle.broker_core.proofs.cores.Core.may_deliver.Goals as goal
 
 pub returns-then-consumer-queue-clause-yes : goal.returns-then-consumer-queue-clause-yes
@@ -15,7 +15,7 @@ returns-then-consumer-queue-clause-yes c = λ is.
     subst (λ (k : Kept). first_ready ((broker_of k).queue (queue_name (topology_of k) place)) ≡ option_map (λ e. e.now) c.first_ready.result) c.self.view_is
     (ap first_ready c.is_named.ensures.entries_are ∙ sym c.first_ready.ensures) in
     let some = some_of (first_ready ((broker_of c.args.self.now).queue (queue_name (topology_of c.args.self.now) place))) (ap is_some same ∙ some_mapped (λ e. e.now) c.first_ready.result ∙ sym c.is_some.ensures ∙ is) in
-    picked c.args.self.now c.args.pick c.in-Some.consumer.now some.0 c.in-Some.ensures some.1
+    picked_from c.args.self.now c.args.queue c.args.pick c.in-Some.consumer.now some.0 c.in-Some.ensures some.1 c.if-consumer-queue.true
 
 pub returns-then-consumer-queue-clause-no : goal.returns-then-consumer-queue-clause-no
 returns-then-consumer-queue-clause-no c = λ from.

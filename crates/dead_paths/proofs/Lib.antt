@@ -1,0 +1,4 @@
+pub mod Marked
+pub mod Stepped
+pub mod Visited
+pub mod Traced

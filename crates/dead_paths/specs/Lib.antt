@@ -1,0 +1,5 @@
+pub mod Stands
+pub mod Onward
+pub mod Rows
+pub mod Visits
+pub mod Found

@@ -1,9 +1,0 @@
-use Rattle.std.proofs.Common.{length}
-use Rattle.engine.proofs.Putting.{Putting}
-use Rattle.engine.proofs.sending.put_body.Given as goal
-
-abbrev pub invariant-pieces : goal.invariant-pieces
-invariant-pieces l = Putting l.max l.channel l.fn.body l.fn.output l.rest l.output
-
-abbrev pub decreases-pieces : goal.decreases-pieces
-decreases-pieces l = length l.rest

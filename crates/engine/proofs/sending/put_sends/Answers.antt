@@ -1,9 +1,0 @@
-use Rattle.engine.proofs.Putting.{all_spelled, all_received}
-use Rattle.engine.proofs.sending.put_sends.Goals as goal
-
-pub returns : goal.returns
-returns c = record {
-  bytes = c.put_each.ensures;
-  spelled = all_spelled c.args.c c.args.max c.args.sends.now c.requires.max c.requires.own.each;
-  own = all_received c.args.c c.args.sends.now c.requires.own.each;
-}

@@ -1,0 +1,170 @@
+//! Bytes that are put in at the back and taken from the front.
+
+ghost use Rattle.std.specs.Prelude.{◌≡◌, ◌≤◌, ◌+◌, ◌^◌, [], ◌++◌, length, take, drop, true, OnOk, vec_len, vec_capacity};
+ghost use Rattle.model.specs.Frames.{frame_bytes};
+ghost use Rattle.frame.specs.Reading.{seen};
+
+use frame::{Frame, put_frame};
+use std::alloc::{AllocError, Global};
+use std::marker::Model;
+use std::mem;
+
+/// From so many taken bytes on, what is left moves to the front.
+const MOVED_FROM: usize = 16_384;
+
+/// Bytes that wait to be taken. What was taken lies in front of `start` for a while.
+#[derive(Drop)]
+pub struct Output {
+    bytes: Vec<u8>,
+    start: usize,
+}
+
+impl Model for Output {
+    ghost use Rattle.std.specs.Prelude.{◌≤◌, ◌-◌, drop, vec_len, vec_capacity};
+    ghost use Rattle.outputs.specs.Waiting.{Waiting};
+
+    ghost Value = { Waiting };
+
+    ghost view = { λ o. record { bytes = drop o.start o.bytes.items; room = vec_capacity o.bytes - vec_len o.bytes } };
+
+    ghost invariant = { λ o. o.start ≤ vec_len o.bytes };
+}
+
+impl Output {
+    /// Nothing waits. It holds no storage, and takes no memory.
+    pub fn new(alloc: Global) -> Output
+        ensures bytes { result.bytes ≡ [] }
+        ensures room { result.room ≡ 0 }
+    {
+        Output {
+            bytes: Vec::new(alloc),
+            start: 0,
+        }
+    }
+
+    /// All that waits.
+    pub fn bytes(&self) -> &[u8]
+        ensures { result.now ≡ self.now.bytes }
+    {
+        &self.bytes[self.start..]
+    }
+
+    /// Whether it has no storage.
+    pub(crate) fn has_none(&self) -> bool
+        ensures bytes { result ≡ true → self.now.bytes ≡ [] }
+        ensures room { result ≡ true → self.now.room ≡ 0 }
+    {
+        self.bytes.capacity() == 0
+    }
+
+    /// Moves to this storage, where nothing waits in its own, which it gives back.
+    pub(crate) fn move_into(&mut self, mut storage: Vec<u8>) -> Vec<u8>
+        requires { self.old.bytes ≡ [] }
+        ensures bytes { self.new.bytes ≡ [] }
+        ensures room { self.new.room ≡ vec_capacity storage }
+    {
+        storage.clear();
+        self.start = 0;
+        mem::replace(&mut self.bytes, storage)
+    }
+
+    /// Makes room for `n` more bytes.
+    pub(crate) fn reserve(&mut self, n: usize) -> Result<(), AllocError>
+        ensures bytes { self.new.bytes ≡ self.old.bytes }
+        ensures ok { OnOk result (n ≤ self.new.room) }
+    {
+        self.bytes.reserve(n)
+    }
+
+    /// Puts bytes in, for which there is room.
+    pub(crate) fn put(&mut self, more: &[u8])
+        requires { length more.now ≤ self.old.room }
+        ensures bytes { self.new.bytes ≡ self.old.bytes ++ more.now }
+        ensures room { self.old.room ≤ self.new.room + length more.now }
+    {
+        append(&mut self.bytes, more);
+    }
+
+    /// Puts a frame in, for which there is room.
+    pub(crate) fn put_frame(&mut self, frame: &Frame<'_>)
+        requires size { length frame.now.payload.now + 9 ≤ 2 ^ 32 }
+        requires room { length frame.now.payload.now + 8 ≤ self.old.room }
+        ensures bytes { self.new.bytes ≡ self.old.bytes ++ frame_bytes (seen frame.now) }
+        ensures room { self.old.room ≤ self.new.room + (length frame.now.payload.now + 8) }
+    {
+        frame_into(&mut self.bytes, frame);
+    }
+
+    /// Takes `n` bytes. Where none is left the front is free at once; else what is left moves there once 16 KiB or more
+    /// were taken since it last moved, and no less than what is left.
+    pub fn take(&mut self, n: usize)
+        requires { n ≤ length self.old.bytes }
+        ensures { self.new.bytes ≡ drop n self.old.bytes }
+    {
+        self.start += n;
+        let left = self.bytes.len() - self.start;
+        if left == 0 {
+            self.start = 0;
+            self.bytes.clear();
+        } else if self.start >= MOVED_FROM && left <= self.start {
+            let start = self.start;
+            self.start = 0;
+            drop_front(&mut self.bytes, start);
+        }
+    }
+
+    /// Takes `n` bytes, or all if there are fewer.
+    pub fn take_up_to(&mut self, n: u64)
+        ensures { self.new.bytes ≡ drop n self.old.bytes }
+    {
+        let waiting = self.bytes().len();
+        if n < waiting as u64 {
+            self.take(n as usize);
+        } else {
+            self.take(waiting);
+        }
+    }
+}
+
+fn frame_into(bytes: &mut Vec<u8>, frame: &Frame<'_>)
+    requires size { length frame.now.payload.now + 9 ≤ 2 ^ 32 }
+    requires room { vec_len bytes.old + (length frame.now.payload.now + 8) ≤ vec_capacity bytes.old }
+    ensures items { bytes.new.items ≡ bytes.old.items ++ frame_bytes (seen frame.now) }
+    ensures len { vec_len bytes.new ≡ vec_len bytes.old + (length frame.now.payload.now + 8) }
+    ensures capacity { vec_capacity bytes.old ≤ vec_capacity bytes.new }
+{
+    put_frame(bytes, frame);
+}
+
+fn append(bytes: &mut Vec<u8>, more: &[u8])
+    requires { vec_len bytes.old + length more.now ≤ vec_capacity bytes.old }
+    ensures items { bytes.new.items ≡ bytes.old.items ++ more.now }
+    ensures capacity { vec_capacity bytes.old ≤ vec_capacity bytes.new }
+{
+    match bytes.extend_from_slice(more) {
+        Ok(()) => {}
+        Err(_) => unreachable!(),
+    }
+}
+
+/// Takes `n` bytes from the front, no less than what is left, which moves there at once.
+fn drop_front(bytes: &mut Vec<u8>, n: usize)
+    requires within { n ≤ vec_len bytes.old }
+    requires half { vec_len bytes.old ≤ n + n }
+    ensures { bytes.new.items ≡ drop n bytes.old.items }
+{
+    let left = bytes.len() - n;
+    move_to_front(bytes, n, left);
+    bytes.truncate(left);
+}
+
+/// Copies the bytes behind the first `n`, of which there are `left`, to the front.
+fn move_to_front(bytes: &mut [u8], n: usize, left: usize)
+    requires within { n + left ≡ length bytes.old }
+    requires apart { left ≤ n }
+    ensures len { length bytes.new ≡ length bytes.old }
+    ensures moved { take left bytes.new ≡ drop n bytes.old }
+{
+    let (taken, waiting) = bytes.split_at_mut(n);
+    taken[..left].copy_from_slice(waiting);
+}

@@ -1,0 +1,88 @@
+//! Storages that no output holds: those of outputs that were wholly taken, for outputs in which something is to wait next.
+
+ghost use Rattle.std.specs.Prelude.{◌≡◌, ◌≤◌, ◌<◌, ◌+◌, IfOk, OnOk};
+ghost use Rattle.model.specs.Sending.{most_sent};
+ghost use Rattle.outputs.specs.Waiting.{HoldsNone};
+
+use crate::output::Output;
+use std::alloc::{AllocError, Global};
+use std::marker::Model;
+
+/// How many bytes spell what one event sends, at most.
+const MOST_SENT: usize = 1_060_000;
+
+/// So many storages are kept, as many as a round of deliveries may put out to; what is more is freed.
+const MOST_SPARE: usize = 256;
+
+/// Storages for outputs. The one that came last is given first.
+#[derive(Drop)]
+pub struct Spares {
+    alloc: Global,
+    storages: Vec<Vec<u8>>,
+}
+
+impl Model for Spares {
+    ghost use Rattle.std.specs.Prelude.{◌≤◌, ℕ, vec_len, vec_capacity};
+
+    ghost Value = { ℕ };
+
+    ghost view = { λ s. vec_len s.storages };
+
+    ghost invariant = { λ s. (vec_len s.storages ≤ 256) × (256 ≤ vec_capacity s.storages) };
+}
+
+impl Spares {
+    /// None yet, with room for as many as are kept, so that keeping one wants no memory.
+    pub fn new(alloc: Global) -> Result<Spares, AllocError>
+        ensures { IfOk result (λ s. s ≡ 0) }
+    {
+        Ok(Spares {
+            alloc,
+            storages: Vec::with_capacity(alloc, MOST_SPARE)?,
+        })
+    }
+
+    /// Makes room in an output for all that one event sends. One without storage gets a spare one, or a new one where none is
+    /// spare.
+    pub fn make_room(&mut self, output: &mut Output) -> Result<(), AllocError>
+        ensures bytes { output.new.bytes ≡ output.old.bytes }
+        ensures ok { OnOk result (most_sent ≤ output.new.room) }
+    {
+        self.furnish(output);
+        output.reserve(MOST_SENT)
+    }
+
+    /// Takes the storage of an output in which nothing waits.
+    pub fn take_back(&mut self, output: &mut Output)
+        ensures bytes { output.new.bytes ≡ output.old.bytes }
+        ensures none { HoldsNone output.new }
+    {
+        if output.has_none() || !output.bytes().is_empty() {
+            return;
+        }
+        let storage = output.move_into(Vec::new(self.alloc));
+        self.keep(storage);
+    }
+
+    /// Gives an output that has no storage a spare one, if there is one.
+    fn furnish(&mut self, output: &mut Output)
+        ensures { output.new.bytes ≡ output.old.bytes }
+    {
+        if !output.has_none() {
+            return;
+        }
+        if let Some(storage) = self.storages.pop() {
+            drop(output.move_into(storage));
+        }
+    }
+
+    /// Keeps a storage, unless as many as can be are kept.
+    fn keep(&mut self, storage: Vec<u8>)
+        ensures kept { self.old < 256 → self.new ≡ self.old + 1 }
+        ensures freed { 256 ≤ self.old → self.new ≡ self.old }
+    {
+        if self.storages.len() < MOST_SPARE {
+            self.storages.push_reserved(storage);
+        }
+    }
+}
