@@ -7,7 +7,5 @@
 mod hashes;
 mod logins;
 mod responses;
-#[cfg(test)]
-mod tests;
 
 pub use logins::accepts;

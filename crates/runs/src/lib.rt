@@ -3,8 +3,6 @@
 
 mod machine;
 mod runs;
-#[cfg(test)]
-mod tests;
 mod transcript;
 
 pub use machine::Machine;

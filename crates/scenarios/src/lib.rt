@@ -11,4 +11,6 @@ mod pauses;
 #[cfg(test)]
 mod rounds;
 #[cfg(test)]
+mod shut;
+#[cfg(test)]
 mod streams;

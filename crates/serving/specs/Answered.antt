@@ -8,6 +8,7 @@ use Rattle.serving.specs.declared.wire.Read.TheVariants as read
 use Rattle.serving.specs.declared.wire.Write.{Write}
 use Rattle.serving.specs.declared.wire.Write.TheVariants as write
 
+-- what an accept was answered
 abbrev pub accept_call : Accept → Call
 accept_call (accept.Socket s) = Accepted s
 accept_call accept.Nothing = Not_accepted

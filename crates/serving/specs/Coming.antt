@@ -10,9 +10,11 @@ pub record Attempt : Type 0 where
   pub arrival : Arrival
   pub is_whole : Bool
 
+-- all of it
 abbrev pub whole : Arrival → Attempt
 whole a = record { arrival = a; is_whole = true }
 
+-- as much of it as there was memory for
 abbrev pub short : Arrival → Attempt
 short a = record { arrival = a; is_whole = false }
 

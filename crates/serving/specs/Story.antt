@@ -15,9 +15,11 @@ pub record Served : Type 0 where
   pub peers : List (Option Peer)
   pub told : Told
 
+-- these three together
 abbrev pub served : World → List (Option Peer) → Told → Served
 served w ps t = record { world = w; peers = ps; told = t }
 
+-- One thing that a server does: what it makes of one answer of its wire, a pump, or a pause of the wire.
 pub data Deed : Type 0 where
   -- a socket came, and a connection was opened for it in this slot
   Met : (slot : ℕ) → (peer : Peer) → Deed

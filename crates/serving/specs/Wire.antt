@@ -2,6 +2,7 @@
 use Rattle.std.specs.Prelude.{◌≡◌, ◌+◌, ℕ, List, ◌++◌, Option, Some, None, Bool, true, false, filter_map, count_by}
 use Rattle.model.specs.Topology.{IsIn}
 
+-- One call of a wire, with its answer.
 pub data Call : Type 0 where
   Accepted : (socket : ℕ) → Call
   Not_accepted : Call
@@ -22,6 +23,7 @@ pub data Ask : Type 0 where
   To_read : (socket : ℕ) → Ask
   To_write : (socket : ℕ) → Ask
 
+-- the ask of a call, if it is an accept, a read or a write
 abbrev pub ask : Call → Option Ask
 ask (Accepted s) = Some To_accept
 ask Not_accepted = Some To_accept

@@ -9,8 +9,6 @@ mod peers;
 mod quiet;
 mod rounds;
 mod servers;
-#[cfg(test)]
-mod tests;
 mod turns;
 mod wire;
 

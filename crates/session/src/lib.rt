@@ -9,8 +9,6 @@ mod answers;
 mod examples;
 mod sends;
 mod sessions;
-#[cfg(test)]
-mod tests;
 
 pub use examples::worked_examples;
 pub use sessions::Session;

@@ -1,19 +1,19 @@
-//! Rounds over a wire that is scripted, of a machine on which no connection can be opened, and which has no memory.
+//! Runs, and rounds over a wire that is scripted, of a machine on which no connection can be opened.
 
-use crate::servers::{Server, serve};
-use crate::wire::{Accept, Read, Wire, Write};
-use model::Note;
-use runs::Machine;
+use model::{Arrival, Note, Text};
+use runs::{Machine, run_over};
+use serving::{Accept, Read, Server, Wire, Write, serve};
 use std::alloc::{AllocError, Global};
 use std::test::Fail;
 
-/// It counts how often it is to make a delivery.
+/// It counts how often it is to make a delivery; without memory it says so.
 #[derive(Drop)]
-struct Full<'a> {
+struct Shut<'a> {
+    has_memory: bool,
     pumps: &'a mut u64,
 }
 
-impl<'a> Machine for Full<'a> {
+impl<'a> Machine for Shut<'a> {
     ghost use Rattle.std.specs.Prelude.{[]};
     ghost use Rattle.model.specs.Arrivals.{new_world};
 
@@ -41,6 +41,9 @@ impl<'a> Machine for Full<'a> {
 
     fn pump(&mut self, _alloc: Global) -> Result<Option<Vec<Note>>, AllocError> {
         *self.pumps = self.pumps.saturating_add(1);
+        if self.has_memory {
+            return Ok(None);
+        }
         Err(AllocError)
     }
 
@@ -96,10 +99,39 @@ impl Wire for OneCaller {
 }
 
 #[test]
+fn arrivals_for_no_connection_do_nothing(rt: HostRuntime) -> Result<(), Fail> {
+    let alloc = rt.alloc();
+    let bytes = Text::from_slice(alloc, b"AMQP")?;
+    let arrivals = [
+        Arrival::In(1, bytes),
+        Arrival::Sent(1, 5),
+        Arrival::Pump,
+        Arrival::Lose(2),
+    ];
+    let mut pumps = 0;
+    let mut machine = Shut {
+        has_memory: true,
+        pumps: &mut pumps,
+    };
+    let transcript = run_over(alloc, &mut machine, &arrivals)?;
+    drop(machine);
+    assert!(rt; transcript.connections().is_empty());
+    assert!(rt; transcript.output(1).is_empty());
+    assert!(rt; transcript.is_over(1));
+    assert!(rt; transcript.notes().is_empty());
+    assert_eq!(rt; pumps, 1);
+    Ok(())
+}
+
+#[test]
 fn a_socket_that_is_refused_is_closed_and_quiet_rounds_rest(rt: HostRuntime) -> Result<(), Fail> {
     let alloc = rt.alloc();
     let mut pumps = 0;
-    let mut server = Server::new(alloc, Full { pumps: &mut pumps })?;
+    let machine = Shut {
+        has_memory: false,
+        pumps: &mut pumps,
+    };
+    let mut server = Server::new(alloc, machine)?;
     let mut wire = OneCaller {
         has_come: false,
         closed: None,
@@ -116,7 +148,11 @@ fn a_socket_that_is_refused_is_closed_and_quiet_rounds_rest(rt: HostRuntime) -> 
 fn want_of_memory_ends_the_pumps_of_a_round(rt: HostRuntime) -> Result<(), Fail> {
     let alloc = rt.alloc();
     let mut pumps = 0;
-    let mut server = Server::new(alloc, Full { pumps: &mut pumps })?;
+    let machine = Shut {
+        has_memory: false,
+        pumps: &mut pumps,
+    };
+    let mut server = Server::new(alloc, machine)?;
     let mut wire = OneCaller {
         has_come: true,
         closed: None,
