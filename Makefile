@@ -1,7 +1,7 @@
 # `make` alone lists the targets.
 SHELL := bash
 .SHELLFLAGS := -o pipefail -c
-.PHONY: help try run shop verdicts serve clients load cases examples bench install test
+.PHONY: help try run shop verdicts serve clients load cases same examples bench install test
 
 # where `make install` puts the program
 PREFIX ?= /usr/local
@@ -60,12 +60,15 @@ cases:
 EXAMPLES = ../../examples
 CASES = crates/cases/data/examples
 
-examples:
+# the examples' texts are cases, which the gate runs
+same:
 	@cmp examples/first_publish/script $(CASES)/first_publish.script
 	@cmp examples/first_publish/output $(CASES)/first_publish.expected
 	@cmp examples/shop/script $(CASES)/shop.script
 	@cmp examples/shop/output $(CASES)/shop.expected
 	@cmp examples/shop/definitions.json $(CASES)/shop.json
+
+examples: same
 	@cd crates/warren && rt run -- replay $(EXAMPLES)/first_publish/script | diff $(EXAMPLES)/first_publish/output -
 	@cd crates/warren && rt run -- replay $(EXAMPLES)/shop/script --definitions $(EXAMPLES)/shop/definitions.json | diff $(EXAMPLES)/shop/output -
 	@cd crates/warren && rt run -- check $(EXAMPLES)/shop/definitions.json $(EXAMPLES)/shop/guarantees.json --out out/certificates.json | diff $(EXAMPLES)/shop/verdicts -
@@ -80,5 +83,5 @@ bench:
 install: run
 	@install -D crates/warren/out/warren $(PREFIX)/bin/warren
 
-test:
+test: same
 	@rt ci

@@ -41,17 +41,19 @@ class Server:
 
 
 def measured(server, step, wanted):
-    """Takes steps until so many messages were sent or the time is over: microseconds of the server a message."""
+    """Takes steps until so many messages were sent or the time is over: microseconds of the server a message, how many, and how
+    many a second."""
     step()
-    start, until = server.nanoseconds(), time.monotonic() + SECONDS
+    start, began = server.nanoseconds(), time.monotonic()
     sent = 0
-    while sent < wanted and time.monotonic() < until:
+    while sent < wanted and time.monotonic() < began + SECONDS:
         sent += step()
-    return (server.nanoseconds() - start) / 1000 / sent, sent
+    return (server.nanoseconds() - start) / 1000 / sent, sent, sent / (time.monotonic() - began)
 
 
-def tell(name, cost, sent):
-    print(f"{name}: {cost:.2f} us a message, of {sent}", flush=True)
+def tell(name, cost, sent, rate):
+    print(f"{name}: {cost:.2f} us a message, of {sent}, {rate:.0f} a second", flush=True)
+    return rate
 
 
 def publish_windows(server, clients, words, window):
@@ -72,13 +74,13 @@ def confirmed(server, name, words, window, count, wanted, queues=("one",)):
     clients = server.clients(count)
     for client in clients:
         client.select()
-    cost = measured(server, publish_windows(server, clients, words, window), wanted)
-    tell(name, *cost)
+    rate = tell(name, *measured(server, publish_windows(server, clients, words, window), wanted))
     for queue in queues:
         clients[0].purge(queue)
     for client in clients:
         client.close()
     server.settle()
+    return rate
 
 
 def delivered(server, words, window, wanted):
@@ -117,30 +119,34 @@ def waiting(server, words, count):
 
 
 def beside_idle(server, words, count):
-    """What memory an idle connection takes, and a busy connection beside so many of them."""
+    """What memory an idle connection takes, and a busy connection beside so many of them: its rates, by its window."""
     before = server.resident()
     idle = server.clients(count)
     server.settle()
     taken = (server.resident() - before) / count
     print(f"{count} idle connections with one channel open: {taken:.0f} bytes of memory each", flush=True)
     waiting(server, words, 100000)
+    rates = {}
     for window in (1, 100):
         name = f"publish, 12 bytes, window {window}, beside {count} idle connections"
-        confirmed(server, name, words, window, 1, 20000 if window == 1 else 200000)
+        rates[window] = confirmed(server, name, words, window, 1, 20000 if window == 1 else 200000)
     for client in idle:
         client.close()
     server.settle()
+    return rates
 
 
 def main(port, process):
     server = Server(port, process)
     small, large = publish("direct", "new", SMALL), publish("direct", "new", LARGE)
     # first, since later memory is taken that was given back
-    beside_idle(server, small, 1000)
+    beside = beside_idle(server, small, 1000)
     for count in (1, 64, 1000):
         for window in (1, 100):
             name = f"publish, 12 bytes, window {window}, connections {count}"
-            confirmed(server, name, small, window, count, 20000 if window == 1 else 200000)
+            rate = confirmed(server, name, small, window, count, 20000 if window == 1 else 200000)
+            if count == 1:
+                print(f"beside 1000 idle connections: {beside[window] / rate:.2f} of that rate", flush=True)
     confirmed(server, "publish, 1,024 bytes, window 100, connections 1", large, 100, 1, 100000)
     delivered(server, small, 100, 100000)
     fanout = publish("fanout", "new", SMALL)
