@@ -100,14 +100,30 @@ fn consumes(alloc: Global, load: &Load) -> Written {
     bytes
 }
 
-/// Publishes so many messages of 12 bytes to `q`, a hundred at a time, or all of them where they are fewer.
-pub fn fill(engine: &mut Measured, alloc: Global, publisher: u64, messages: u64) {
+/// Publishes so many messages of 12 bytes to `q`, a hundred at a time, or all of them where they are fewer. Tells whether no
+/// memory was refused.
+pub fn fill(engine: &mut Measured, alloc: Global, publisher: u64, messages: u64) -> bool {
     let mut client = Client::new(alloc, BODY, Keys::One);
     let window = messages.min(WINDOW);
     for _ in 0..messages / window.max(1) {
         let bytes = client.window(alloc, window);
         engine.perform(publisher, bytes);
     }
+    client.is_whole() && engine.is_whole()
+}
+
+/// Has so many consumers of `q` each hold the one message that they may.
+fn hold_back(engine: &mut Measured, alloc: Global, publisher: u64, consumers: u32) {
+    let holder = engine.open_ready();
+    let mut bytes = Written::new(alloc);
+    put_qos(&mut bytes, 1);
+    for _ in 0..consumers {
+        put_consume(&mut bytes, b"q");
+    }
+    engine.perform(holder, bytes.as_slice());
+    fill(engine, alloc, publisher, u64::from(consumers));
+    engine.deliver(u64::from(consumers));
+    engine.take_output(holder);
 }
 
 /// Fills the load's queue, and has its consumers made.
@@ -124,6 +140,7 @@ fn start(alloc: Global, mut engine: Measured, load: &Load) -> Running {
         acks: Acks::new(alloc),
         delivered: 0,
     };
+    hold_back(&mut running.engine, alloc, publisher, load.full);
     fill(&mut running.engine, alloc, publisher, load.waiting);
     let bytes = consumes(alloc, load);
     running.engine.perform(consumer, bytes.as_slice());

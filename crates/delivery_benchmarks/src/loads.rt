@@ -10,6 +10,8 @@ pub struct Load {
     pub queues: u32,
     /// How many consumers stand beside, on a queue without messages.
     pub idle: u32,
+    /// How many consumers stand beside, on the first queue, that hold as much as they may.
+    pub full: u32,
     /// How many deliveries a consumer may have outstanding, any number where it is 0.
     pub prefetch: u16,
     /// How many messages wait all the time.
@@ -43,6 +45,7 @@ fn one(name: &'static str, prefetch: u16, waiting: u64) -> Load {
         name,
         queues: 1,
         idle: 0,
+        full: 0,
         prefetch,
         waiting,
     }
@@ -69,6 +72,10 @@ pub fn load_at(place: u32) -> Option<Load> {
         9 => Load {
             idle: 255,
             ..one("255 idle consumers beside", 0, 0)
+        },
+        10 => Load {
+            full: 255,
+            ..one("255 consumers beside that hold what they may", 0, 0)
         },
         _ => return None,
     };

@@ -32,6 +32,9 @@ fn fill(rt: &HostRuntime, engine: &mut Measured, load: &Waiting) -> io::Result<(
         engine.perform(publisher, bytes);
     }
     let grown = resident_bytes(rt)?.saturating_sub(before) / load.messages.max(1);
+    if !client.is_whole() || !engine.is_whole() {
+        return println!(rt; "{}: memory was refused", load.name);
+    }
     println!(rt; "{}: {grown} bytes a waiting message", load.name)
 }
 

@@ -19,6 +19,8 @@ struct Losing {
     engine: Measured,
     /// The connection that holds them.
     holder: u64,
+    /// How many messages were held when it was lost, over all losses.
+    held: u64,
 }
 
 impl Losing {
@@ -28,7 +30,7 @@ impl Losing {
         let mut consume = Written::new(self.alloc);
         put_consume(&mut consume, b"q");
         self.engine.perform(self.holder, consume.as_slice());
-        self.engine.deliver(HELD);
+        self.held = self.held.saturating_add(self.engine.deliver(HELD));
         self.engine.take_output(self.holder);
     }
 }
@@ -43,12 +45,24 @@ impl Part for Losing {
     }
 }
 
-/// An engine with so many messages in the queue `q`.
+/// An engine with so many messages in the queue `q`, none where memory is refused.
 fn filled(alloc: Global, messages: u64) -> Option<Measured> {
     let mut engine = Measured::over(alloc, built(alloc, Shape::Direct)?, Vec::new(alloc))?;
     let publisher = engine.open_ready();
-    fill(&mut engine, alloc, publisher, messages);
-    Some(engine)
+    if fill(&mut engine, alloc, publisher, messages) {
+        Some(engine)
+    } else {
+        None
+    }
+}
+
+/// How many of so many messages are left in the queue `q` to be delivered.
+fn left_of(engine: &mut Measured, alloc: Global, messages: u64) -> u64 {
+    let consumer = engine.open_ready();
+    let mut consume = Written::new(alloc);
+    put_consume(&mut consume, b"q");
+    engine.perform(consumer, consume.as_slice());
+    engine.deliver(messages)
 }
 
 /// Prints what it costs for each message that a lost connection held, ten times one after another.
@@ -57,10 +71,11 @@ fn measure_losses(rt: &HostRuntime, engine: Measured) -> io::Result<()> {
         alloc: rt.alloc(),
         engine,
         holder: 0,
+        held: 0,
     };
     print!(rt; "loss of a connection that holds {HELD}:")?;
     print_parts(rt, &mut losing, HELD)?;
-    println!(rt; " ns a message")
+    println!(rt; " ns a message; {} held in all", losing.held)
 }
 
 /// Prints what it costs to purge a queue, for each message.
@@ -71,16 +86,18 @@ fn measure_purge(rt: &HostRuntime, mut engine: Measured) -> io::Result<()> {
     let start = processor_time(rt)?;
     engine.perform(connection, purge.as_slice());
     let took = processor_time(rt)?.saturating_sub(start);
-    println!(rt; "purge of {PURGED}: {} ns a message", took / PURGED)
+    let left = left_of(&mut engine, rt.alloc(), PURGED);
+    println!(rt; "purge of {PURGED}: {} ns a message; {left} left", took / PURGED)
 }
 
 /// Measures both.
 pub fn measure_all(rt: &HostRuntime) -> io::Result<()> {
-    if let Some(engine) = filled(rt.alloc(), HELD) {
-        measure_losses(rt, engine)?;
+    match filled(rt.alloc(), HELD) {
+        Some(engine) => measure_losses(rt, engine)?,
+        None => println!(rt; "there is no engine")?,
     }
-    if let Some(engine) = filled(rt.alloc(), PURGED) {
-        measure_purge(rt, engine)?;
+    match filled(rt.alloc(), PURGED) {
+        Some(engine) => measure_purge(rt, engine),
+        None => println!(rt; "there is no engine"),
     }
-    Ok(())
 }

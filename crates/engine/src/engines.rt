@@ -2,7 +2,7 @@
 
 ghost use Rattle.std.specs.Prelude.{◌≡◌, ◌<◌, true, IfOk, IsOk, OnErr, OnOk, MatchOption, vec_len, vec_capacity};
 ghost use Rattle.model.specs.Arrivals.{Same, Waits, new_world, is_over};
-ghost use Rattle.model.specs.Topology.{IsWellFormed};
+ghost use Rattle.model.specs.Headline.{IsSound};
 ghost use Rattle.runs.specs.Opened.{Hears, Idles, Takes, IsLost};
 ghost use Rattle.engine.specs.World.{world_of};
 ghost use Rattle.engine.specs.Engines.{Turned, OnDid, left_in};
@@ -234,9 +234,9 @@ impl Engine {
         }
     }
 
-    /// What every topology keeps, of the one that is in force.
-    pub fn is_well_formed(&self)
-        ensures { IsWellFormed (world_of self.now).config.topology }
+    /// What is in force is sound: the topology is well formed, and its guarantees hold.
+    pub fn is_sound(&self)
+        ensures { IsSound (world_of self.now).config }
     {
         // A look at a field, by which what every engine keeps is known.
         let _links = &self.links;

@@ -63,8 +63,8 @@ impl Machine for Engine {
         Engine::is_over(self, c)
     }
 
-    fn is_well_formed(&self) {
-        Engine::is_well_formed(self);
+    fn is_sound(&self) {
+        Engine::is_sound(self);
     }
 }
 
@@ -91,7 +91,6 @@ pub fn run(
 ) -> Result<Transcript, AllocError>
     ensures { IfOk result (λ t. IsCertified (in_force checked users.items) arrivals.now t) }
 {
-    checked.holds();
     let mut engine = Engine::new(alloc, checked, users)?;
     run_over(alloc, &mut engine, arrivals)
 }

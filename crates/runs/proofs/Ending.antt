@@ -4,6 +4,7 @@ use Rattle.model.specs.Topology.{IsWellFormed}
 use Rattle.model.specs.State.{Config}
 use Rattle.model.specs.Run.{Happening}
 use Rattle.model.specs.Arrivals.{World, Seen, Shown, Shows, Plays, new_world, is_over}
+use Rattle.model.specs.Headline.{IsSound}
 use Rattle.model.specs.declared.events.Arrival.{Arrival}
 use Rattle.laws.proofs.Consistency.{new_is_consistent}
 use Rattle.laws.proofs.Plays.{told_plays}
@@ -30,18 +31,18 @@ shows_at_end hs w s t r f n = record {
       f.each i x.0 x.1 ∙ ap (λ (z : List ℕ). Some (record { output = z; is_over = is_over w (i + 1) })) (ap (λ (z : List ℕ). z ++ (w.wire (i + 1)).output) (sym x.2) ∙ r.each i);
 }
 
-pub is_run : (start last : World) (arrivals : List Arrival) (none s t : Seen) → IsWellFormed start.config.topology → start ≡ new_world start.config → none ≡ record { connections = []; notes = [] } → PlaysAndTells start arrivals none last s
+pub is_run : (start last : World) (arrivals : List Arrival) (none s t : Seen) → IsSound start.config → start ≡ new_world start.config → none ≡ record { connections = []; notes = [] } → PlaysAndTells start arrivals none last s
     → AreFinished last s.connections t.connections → t.notes ≡ s.notes → IsRunOf start.config arrivals last t
-is_run start last arrivals none s t formed fresh empty played f n =
+is_run start last arrivals none s t sound fresh empty played f n =
     let hs = played.0 in
     let plays : Plays (new_world start.config) arrivals hs last = subst (λ (z : World). Plays z arrivals hs last) fresh played.1 in
     let tells : Tells (new_world start.config) (record { connections = []; notes = [] }) hs last s =
     subst (λ (z : Seen). Tells (new_world start.config) z hs last s) empty (subst (λ (z : World). Tells z none hs last s) fresh played.2) in
-    let shows : Shows hs last t = shows_at_end hs last s t (tells.keeps [] (no_records start.config formed)) f n in
+    let shows : Shows hs last t = shows_at_end hs last s t (tells.keeps [] (no_records start.config sound.wf)) f n in
     record {
       happenings = hs;
       plays = plays;
       shows = shows;
-      promises = λ sound. headline_holds start.config arrivals hs last t sound plays shows;
+      promises = headline_holds start.config arrivals hs last t sound plays shows;
       order = gives_in_order start.config hs last (told_plays (new_world start.config) last arrivals hs plays);
     }

@@ -3,7 +3,7 @@ use Rattle.std.specs.Prelude.{ℕ, List}
 use Rattle.model.specs.Run.{Happening}
 use Rattle.model.specs.State.{Config}
 use Rattle.model.specs.Arrivals.{World, Answers, WorksOff, Plays, Shows, Seen, new_world}
-use Rattle.model.specs.Headline.{IsSound, KeepsPromises}
+use Rattle.model.specs.Headline.{KeepsPromises}
 use Rattle.model.specs.declared.events.Arrival.{Arrival}
 use Rattle.runs.specs.Told.{Tells}
 use Rattle.runs.specs.InOrder.{GivesInOrder}
@@ -26,5 +26,5 @@ pub record IsRunOf (f : Config) (arrivals : List Arrival) (last : World) (seen :
   pub plays : Plays (new_world f) arrivals happenings last
   pub shows : Shows happenings last seen
   -- certified delivery
-  pub promises : IsSound f → KeepsPromises happenings last.state.broker seen.connections
+  pub promises : KeepsPromises happenings last.state.broker seen.connections
   pub order : GivesInOrder happenings

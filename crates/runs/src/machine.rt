@@ -7,7 +7,7 @@ use std::alloc::{AllocError, Global};
 pub trait Machine {
     ghost use Rattle.std.specs.Prelude.{◌≡◌, ◌<◌, ℕ, IfOk, OnOk, OnErr, OnSome, MatchOption, MatchBool};
     ghost use Rattle.model.specs.Arrivals.{World, Same, Waits, is_over};
-    ghost use Rattle.model.specs.Topology.{IsWellFormed};
+    ghost use Rattle.model.specs.Headline.{IsSound};
     ghost use Rattle.runs.specs.Opened.{OpensNew, OpensReady, Hears, Did, DidNothing, Idles, Pumped, Takes, IsLost};
 
     // what it stands for
@@ -58,7 +58,7 @@ pub trait Machine {
     fn is_over(&self, c: u64) -> bool
         ensures { result ≡ is_over (world self.now) c };
 
-    /// What every topology keeps, of the one that is in force.
-    fn is_well_formed(&self)
-        ensures { IsWellFormed (world self.now).config.topology };
+    /// What is in force is sound: the topology is well formed, and its guarantees hold.
+    fn is_sound(&self)
+        ensures { IsSound (world self.now).config };
 }

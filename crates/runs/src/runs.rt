@@ -19,7 +19,7 @@ pub fn run_over<M: Machine>(
     requires { M.world machine.old ≡ new_world (M.world machine.old).config }
     ensures { IfOk result (λ t. IsRunOf (M.world machine.old).config arrivals.now (M.world machine.new) t) }
 {
-    machine.is_well_formed();
+    machine.is_sound();
     let mut transcript = Transcript::new(alloc);
     play(alloc, machine, arrivals, &mut transcript)?;
     transcript.finish(machine)?;

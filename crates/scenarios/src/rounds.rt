@@ -126,3 +126,32 @@ fn a_client_of_the_system_is_served(rt: HostRuntime) -> Result<(), Fail> {
     assert_eq!(rt; answered, expected);
     Ok(())
 }
+
+#[test]
+fn a_client_that_is_reset_is_lost_alone(rt: HostRuntime) -> Result<(), Fail> {
+    let alloc = rt.alloc();
+    let broker = new_broker(alloc).expect(&rt, "a broker");
+    let mut server = Server::new(alloc, broker)?;
+    let address = "127.0.0.1:0"
+        .parse::<SocketAddr>()
+        .ok()
+        .expect(&rt, "an address");
+    let mut sockets = Sockets::bind(&rt, alloc, address)?;
+    let mut reset = TcpStream::connect(&rt, sockets.local_addr()?)?;
+    let mut client = TcpStream::connect(&rt, sockets.local_addr()?)?;
+    reset.write_all(OPENING)?;
+    client.write_all(OPENING)?;
+    serve(alloc, &mut server, &mut sockets, 64);
+    // its answers are there and were not read, so that the system resets the connection
+    drop(reset);
+    client.write_all(PUBLISH)?;
+    serve(alloc, &mut server, &mut sockets, 64);
+    drop(server);
+    drop(sockets);
+    let mut answered: Vec<u8> = Vec::new(alloc);
+    client.read_to_end(&mut answered)?;
+    let mut expected = Vec::from_slice(alloc, OPENED)?;
+    expected.extend_from_slice(ACKED)?;
+    assert_eq!(rt; answered, expected);
+    Ok(())
+}

@@ -57,7 +57,7 @@ impl<'a> Machine for Shut<'a> {
         true
     }
 
-    fn is_well_formed(&self) {}
+    fn is_sound(&self) {}
 }
 
 /// One socket comes at the first accept, and none after it.

@@ -2,7 +2,6 @@
 use Rattle.std.proofs.Common.{◌≡◌, ◌<◌, ℕ, zero, suc, ◌+◌, List, [], ◌∷◌, ◌++◌, Bool, true, false, Option, Some, length, slice_get, refl, sym, ap, subst, ◌∙◌, append_assoc, flat_map, inl, inr, arith}
 use Rattle.std.specs.Prelude.{MatchBool}
 use Rattle.std.specs.List.{AllByRecursion}
-use Rattle.model.specs.Topology.{IsWellFormed}
 use Rattle.model.specs.State.{Config}
 use Rattle.model.specs.Run.{Happening, notes_of}
 use Rattle.model.specs.Arrivals.{World, new_world, Answers, Same, Shows, shown, Plays, with_heard}
@@ -150,8 +149,8 @@ went_rounds : (n : ℕ) (a b : Served) → Rounds n a b → Went a b
 went_rounds zero a b e = subst (λ (z : Served). Went a z) (sym e) (went a a [] false (serves_not a))
 went_rounds (suc n) a b (mid, rs, r) = went_then a mid b (went_rounds n a mid rs) (went_round mid b r)
 
-is_served : (f : Config) (told : Told) (new : Served) → IsWellFormed f.topology → Went (served (new_world f) [] told) new → IsServed f told new
-is_served f told new formed (ds, hs, s) =
+is_served : (f : Config) (told : Told) (new : Served) → IsSound f → Went (served (new_world f) [] told) new → IsServed f told new
+is_served f told new sound (ds, hs, s) =
     let arrives = story_arrives ds (served (new_world f) [] told) new hs s in
     record {
       deeds = ds;
@@ -160,12 +159,12 @@ is_served f told new formed (ds, hs, s) =
       asked = story_asked ds (served (new_world f) [] told) new hs s;
       arrives = arrives;
       plays = λ all. plays_all (arrived ds) (new_world f) new.world hs all arrives;
-      promises = λ sound. promises_hold f hs new.world (record { connections = seen_of hs new.world; notes = notes_of hs }) sound
+      promises = promises_hold f hs new.world (record { connections = seen_of hs new.world; notes = notes_of hs }) sound
           (told_attempts (arrived ds) (new_world f) new.world hs arrives)
-          (spoken_from_start f hs new.world (attempts_speak (arrived ds) (new_world f) new.world hs (new_is_consistent f formed) arrives)) (shows_all hs new.world);
+          (spoken_from_start f hs new.world (attempts_speak (arrived ds) (new_world f) new.world hs (new_is_consistent f sound.wf) arrives)) (shows_all hs new.world);
       order = gives_in_order f hs new.world (told_attempts (arrived ds) (new_world f) new.world hs arrives);
       joined = λ before tells. are_joined ds (served (new_world f) [] told) new hs before refl tells s;
-      written = λ before tells. are_beginnings f ds told new hs before formed tells s;
+      written = λ before tells. are_beginnings f ds told new hs before sound.wf tells s;
     }
 
 -- one round more
@@ -173,7 +172,7 @@ pub rounds_more : (n : ℕ) (a b c : Served) → Rounds n a b → IsRound b c �
 rounds_more n a b c rs r = let next : suc n ≡ n + 1 = omega arith in subst (λ (m : ℕ). Rounds m a c) next (b, rs, r)
 
 -- rounds from the start
-pub rounds_serve : (f : Config) (n : ℕ) (w : World) (ps : List (Option Peer)) (told : Told) (new : Served) → IsWellFormed f.topology → w ≡ new_world f → ps ≡ [] → Rounds n (served w ps told) new → IsServed f told new
-rounds_serve f n w ps told new formed fresh none rs =
-    is_served f told new formed (went_rounds n (served (new_world f) [] told) new
+pub rounds_serve : (f : Config) (n : ℕ) (w : World) (ps : List (Option Peer)) (told : Told) (new : Served) → IsSound f → w ≡ new_world f → ps ≡ [] → Rounds n (served w ps told) new → IsServed f told new
+rounds_serve f n w ps told new sound fresh none rs =
+    is_served f told new sound (went_rounds n (served (new_world f) [] told) new
     (subst (λ (z : World). Rounds n (served z [] told) new) fresh (subst (λ (z : List (Option Peer)). Rounds n (served w z told) new) none rs)))

@@ -4,7 +4,7 @@ use Rattle.std.specs.List.{AllByRecursion}
 use Rattle.model.specs.State.{Config}
 use Rattle.model.specs.Run.{Happening}
 use Rattle.model.specs.Arrivals.{World, Shown, shown, new_world, Plays}
-use Rattle.model.specs.Headline.{IsSound, KeepsPromises}
+use Rattle.model.specs.Headline.{KeepsPromises}
 use Rattle.model.specs.declared.events.Arrival.{Arrival}
 use Rattle.runs.specs.InOrder.{GivesInOrder}
 use Rattle.serving.specs.Wire.{Call, Told, after}
@@ -41,7 +41,7 @@ pub record IsServed (f : Config) (told : Told) (new : Served) : Type 0 where
   -- where memory was never refused, the arrivals are played exactly
   pub plays : AllByRecursion IsWhole (arrived deeds) → Plays (new_world f) (arrivals_of (arrived deeds)) happenings new.world
   -- certified delivery, also where memory was refused
-  pub promises : IsSound f → KeepsPromises happenings new.world.state.broker (seen_of happenings new.world)
+  pub promises : KeepsPromises happenings new.world.state.broker (seen_of happenings new.world)
   -- messages were given out in order
   pub order : GivesInOrder happenings
   -- over a wire that tells its calls, what arrived for a connection is what its socket gave and took

@@ -3,7 +3,7 @@
 ghost use Rattle.std.specs.Prelude.{◌≡◌, IfOk, []};
 ghost use Rattle.model.specs.Arrivals.{new_world};
 ghost use Rattle.model.specs.State.{Config};
-ghost use Rattle.model.specs.Topology.{IsWellFormed};
+ghost use Rattle.model.specs.Headline.{IsSound};
 ghost use Rattle.serving.specs.Story.{served};
 ghost use Rattle.serving.specs.Rounds.{IsRound, Rounds};
 ghost use Rattle.serving.specs.Whole.{IsServed};
@@ -71,11 +71,11 @@ impl<M: Machine> Server<M> {
         );
     }
 
-    /// What every topology keeps, of the one that the machine runs.
-    fn is_well_formed(&self)
-        ensures { IsWellFormed (M.world self.now.machine).config.topology }
+    /// What the machine has in force is sound: the topology is well formed, and its guarantees hold.
+    fn is_sound(&self)
+        ensures { IsSound (M.world self.now.machine).config }
     {
-        self.machine.is_well_formed();
+        self.machine.is_sound();
     }
 }
 
@@ -85,7 +85,7 @@ pub fn serve<M: Machine, W: Wire>(alloc: Global, server: &mut Server<M>, wire: &
     // From a new server of a machine with no connection: what arrived, and that the promises are kept.
     ensures served { (f : Config) → M.world server.old.machine ≡ new_world f → server.old.peers ≡ [] → IsServed f (W.told wire.old) (served (M.world server.new.machine) server.new.peers (W.told wire.new)) }
 {
-    server.is_well_formed();
+    server.is_sound();
     for _ in 0..turns {
         server.round(alloc, wire);
     }

@@ -1,6 +1,6 @@
 use Rattle.std.proofs.Common.{subst}
-use Rattle.model.specs.Topology.{IsWellFormed}
 use Rattle.model.specs.Arrivals.{World}
+use Rattle.model.specs.Headline.{IsSound}
 use Rattle.serving.specs.Story.{served}
 use Rattle.serving.proofs.Keeping.{rounds_more, rounds_serve}
 use Rattle.serving.proofs.servers.serve.Goals as goal
@@ -18,5 +18,5 @@ pub returns-clause-served : goal.returns-clause-served
 returns-clause-served g c = λ f fresh none.
     let world = g.M.Machine.world in
     let told = g.W.Wire.told in
-    let formed = subst (λ (w : World). IsWellFormed w.config.topology) fresh c.is_well_formed.ensures in
-    rounds_serve f c.loop.counter (world c.args.server.now.machine) c.args.server.now.peers (told c.args.wire.now) (served (world c.loop.server.machine) c.loop.server.peers (told c.loop.wire)) formed fresh none c.loop.invariant.rounds
+    let sound = subst (λ (w : World). IsSound w.config) fresh c.is_sound.ensures in
+    rounds_serve f c.loop.counter (world c.args.server.now.machine) c.args.server.now.peers (told c.args.wire.now) (served (world c.loop.server.machine) c.loop.server.peers (told c.loop.wire)) sound fresh none c.loop.invariant.rounds

@@ -1,0 +1,8 @@
+use Rattle.std.proofs.Common.{subst}
+use Rattle.model.specs.Headline.{IsSound}
+use Rattle.engine.specs.World.{Parts, world_of}
+use Rattle.engine.proofs.Tooks.{sound}
+use Rattle.engine.proofs.engines.Engine.is_sound.Goals as goal
+
+pub returns : goal.returns
+returns c = subst (λ (p : Parts). IsSound (world_of p).config) c.self.view_is (sound _ c.self.invariant)
