@@ -15,7 +15,7 @@ ghost use Rattle.laws.specs.Delivery.{OneReading, HeadlineHolds, PumpsKeep, Turn
 ghost use Rattle.laws.specs.OneStep.{EveryRunBalances, EveryRunCounts, EveryRunStays};
 ghost use Rattle.laws.specs.Openings.{OpeningsReadByPhase};
 ghost use Rattle.laws.specs.Order.{GivenAfterThoseAhead, GivenInOrder, HeldAreGiven};
-ghost use Rattle.laws.specs.Promises.{AckedEnterOnce, AcksAreAcked, CausesAreShown, ForbiddenAreNotEntered, ForbiddenAreNotEnteredAtEvents, RunsKeepEvents};
+ghost use Rattle.laws.specs.Promises.{AckedEnterOnce, AcksAreAcked, CausesAreShown, ForbiddenAreNotEntered, ForbiddenAreNotEnteredAtEvents, OriginsAreShown, RunsKeepEvents};
 ghost use Rattle.laws.specs.Rows.{WordsOfKeys, FirstInput, FirstOutput, BadEnd, TooLargeContent, HeadlineRefuses, FirstConsumer, RefusedConsumes};
 ghost use Rattle.laws.specs.Tracing.{MessagesStayTraced, TracedAreSafe};
 ghost use Rattle.laws.specs.Streams.{CuttingDoesNotMatter, FaultsStay, FirstBytesComeFirst, TuningDoesNotMatter};
@@ -72,6 +72,11 @@ pub fn no_event_enters_a_forbidden_queue()
 /// In every run a message left a queue only by an event that takes it out.
 pub fn what_leaves_has_a_cause()
     ensures { CausesAreShown }
+{}
+
+/// In every run a message entered a queue only by its own publish, or as a dead letter by a rejection where it stood.
+pub fn what_enters_has_an_origin()
+    ensures { OriginsAreShown }
 {}
 
 /// All of this at once: what happens keeps the promises.
