@@ -111,8 +111,9 @@ pub fn openings_read_by_phase()
     ensures { OpeningsReadByPhase }
 {}
 
-/// Whatever is done, the broker has the connections that run, knows those as paused whose output is past the bound, and
-/// holds messages of publishes alone that it counted, each of which can be given out and came by a route and by deaths.
+/// Whatever is done, the broker has the connections that run, knows those as paused whose output is past the bound, has
+/// the channel-max that was agreed on for each, and holds messages of publishes alone that it counted, each of which can
+/// be given out and came by a route and by deaths.
 pub fn worlds_stay_consistent()
     ensures worlds { WorldsStayConsistent }
     ensures plays { PlaysStayConsistent }
