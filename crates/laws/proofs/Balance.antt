@@ -143,7 +143,7 @@ stands_counted b q e counted i = go (nat_le e.message.number b.published) refl
         let none = counted e.message.number q (omega (arith, lt)) in
         absurd (omega (arith, one, none))
 
-not_counted : (old : Broker) (n : ℕ) (q : Text) (m : ℕ) (r : Text) {t : Topology} → AreCounted old → old.published < n → HasDied t old.queue m r → is_entered n q (Entered m r way.Dead) ≡ false
+not_counted : (old : Broker) (n : ℕ) (q : Text) (m : ℕ) (r : Text) {t : Topology} {notes : List Note} → AreCounted old → old.published < n → HasDied t old.queue notes m r → is_entered n q (Entered m r way.Dead) ≡ false
 not_counted old n q m r counted lt d =
     let le = stands_counted old d.from d.entry counted d.there in
     let same = d.number in

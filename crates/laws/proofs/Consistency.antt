@@ -18,7 +18,7 @@ use Rattle.laws.proofs.Never.{run_begun}
 use Rattle.laws.proofs.Plays.{Told, said_each, under_each, told_same, told_turns, told_waits, told_taken, told_opens, told_loses, told_pumps, told_answers, told_plays}
 
 pub linked : (w : World) → IsConsistent w → IsLinked w
-linked w k = record { running = k.running; paused = k.paused }
+linked w k = record { running = k.running; paused = k.paused; limits = k.limits }
 
 -- what happened leaves messages that were counted, can be given out and are traced, under a topology that is well formed
 record Messages (w : World) : Type 0 where
@@ -51,13 +51,14 @@ consistent_same old new k config state outputs =
       formed = subst (λ (g : Config). IsWellFormed g.topology) (sym config) k.formed;
       running = after.running;
       paused = after.paused;
+      limits = after.limits;
     }
 
 -- what happened, and what links the world
 kept_consistent : (old new : World) (hs : List Happening) → IsConsistent old → Told old hs new → IsLinked new → IsConsistent new
 kept_consistent old new hs k told after =
     let messages = told_messages hs old new k told in
-    record { counted = messages.counted; carried = messages.carried; traced = messages.traced; formed = messages.formed; running = after.running; paused = after.paused }
+    record { counted = messages.counted; carried = messages.carried; traced = messages.traced; formed = messages.formed; running = after.running; paused = after.paused; limits = after.limits }
 
 pub turns_consistent : (old new : World) (c : ℕ) (hs : List Happening) → IsConsistent old → Turns old c hs new → IsConsistent new
 turns_consistent old new c hs k t = kept_consistent old new hs k (told_turns old new c hs t) (turns_linked old new c hs (linked old k) t)
@@ -89,7 +90,7 @@ pumps_consistent old new hs k p = kept_consistent old new hs k (told_pumps old n
 pub new_is_consistent : (f : Config) → IsWellFormed f.topology → IsConsistent (new_world f)
 new_is_consistent f formed =
     let start = new_is_linked f in
-    record { counted = λ n q lt. refl; carried = λ q. tt; traced = stay_traced.empty f.topology; formed = formed; running = start.running; paused = start.paused }
+    record { counted = λ n q lt. refl; carried = λ q. tt; traced = stay_traced.empty f.topology; formed = formed; running = start.running; paused = start.paused; limits = start.limits }
 
 pub stay_consistent : WorldsStayConsistent
 stay_consistent = record {

@@ -68,6 +68,15 @@ in-append x [] ys i = inr i
 in-append x (y ∷ xs) ys (inl e) = inl (inl e)
 in-append x (y ∷ xs) ys (inr i) = elim (in-append x xs ys i) [ inl j ↦ inl (inr j) | inr j ↦ inr j ]
 
+pub in_front : {A : Type 0} (x : A) (xs ys : List A) → IsIn x xs → IsIn x (xs ++ ys)
+in_front x [] ys i = absurd i
+in_front x (y ∷ xs) ys (inl e) = inl e
+in_front x (y ∷ xs) ys (inr i) = inr (in_front x xs ys i)
+
+pub in_back : {A : Type 0} (x : A) (xs ys : List A) → IsIn x ys → IsIn x (xs ++ ys)
+in_back x [] ys i = i
+in_back x (y ∷ xs) ys i = inr (in_back x xs ys i)
+
 pub in_from_contains : {A : Type 0} (xs : List A) (x : A) (k : ℕ) → k < length xs → get_or xs k x ≡ x → IsIn x xs
 in_from_contains [] x k lt e = absurd (omega arith)
 in_from_contains (y ∷ xs) x zero lt e = inl (sym e)

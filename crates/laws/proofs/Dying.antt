@@ -1,5 +1,5 @@
 -- Messages that are rejected: each leaves its queue, and its dead letter enters others.
-use Rattle.std.proofs.Common.{◌≡◌, ℕ, suc, ◌+◌, ◌⊎◌, List, [], ◌∷◌, true, false, length, refl, sym, ap, subst, ◌∙◌, arith, Option, Some, None, inl, inr}
+use Rattle.std.proofs.Common.{◌≡◌, ℕ, suc, ◌+◌, ◌⊎◌, List, [], ◌∷◌, ◌++◌, true, false, length, refl, sym, ap, subst, ◌∙◌, arith, Option, Some, None, inl, inr}
 use Rattle.std.specs.Prelude.{count_by, Contains}
 use Rattle.std.specs.Str.{bytes_eq}
 use Rattle.std.specs.List.{AllByRecursion}
@@ -25,7 +25,7 @@ use Rattle.model.specs.declared.notes.Cause.TheVariants.{Rejected}
 use Rattle.model.specs.declared.notes.Note.{Note}
 use Rattle.model.specs.declared.notes.Note.TheVariants.{Entered, Refused, Left}
 use Rattle.model.specs.declared.notes.Way.TheVariants as way
-use Rattle.laws.proofs.Counts.{count-append, count-cons_no, count_none, all-append, in-append}
+use Rattle.laws.proofs.Counts.{count-append, count-cons_no, count_none, all-append, in-append, in_front, in_back}
 use Rattle.laws.proofs.Leaving.{is_leaving, OfLeft, find_in, in_rest, given_balances}
 use Rattle.laws.proofs.Entering.{picked, entries_all, comes_as_noted, in_comes}
 
@@ -60,27 +60,32 @@ goes_by t name gone notes new (Some e) (rest, is, dies) = by (queue_named t.queu
 
 -- ---- what is noted
 
--- a message of this number stood in these queues, and its dead letter may enter the queue r
-pub record HasDied (t : Topology) (queues : Text → List Entry) (n : ℕ) (r : Text) : Type 0 where
+-- a message of this number stood in one of these queues, which it left by a rejection as these notes say, and its dead letter may enter the queue r
+pub record HasDied (t : Topology) (queues : Text → List Entry) (noted : List Note) (n : ℕ) (r : Text) : Type 0 where
   pub from : Text
   pub entry : Entry
   pub there : IsIn entry (queues from)
   pub number : entry.message.number ≡ n
+  pub left : IsIn (Left n from Rejected) noted
   pub last : DeclaredQueue
   pub exchange : Text
   pub dies : Dies t from exchange last
   pub routes : Routes t exchange (key_after last.dead_letter_key entry.message.key) r
 
--- the note says that a message left its queue, or of the dead letter of one of these that it entered a queue or was refused there
-abbrev pub IsQuiet : Topology → (Text → List Entry) → Note → Type 0
-IsQuiet t queues (Left n q cause) = Unit {0}
-IsQuiet t queues (Refused n q) = Unit {0}
-IsQuiet t queues (Entered n q way.Dead) = HasDied t queues n q
-IsQuiet t queues note = ⊥
+-- the note says that a message left its queue, or of the dead letter of one that died, as these notes say, that it entered a queue or was refused there
+abbrev pub IsQuiet : Topology → (Text → List Entry) → List Note → Note → Type 0
+IsQuiet t queues noted (Left n q cause) = Unit {0}
+IsQuiet t queues noted (Refused n q) = Unit {0}
+IsQuiet t queues noted (Entered n q way.Dead) = HasDied t queues noted n q
+IsQuiet t queues noted note = ⊥
 
-pub leaving_quiet : (t : Topology) (queues : Text → List Entry) (note : Note) → is_leaving note ≡ true → IsQuiet t queues note
-leaving_quiet t queues (Left n q cause) e = tt
-leaving_quiet t queues _ e = absurd (false≢true e)
+pub leaving_quiet : (t : Topology) (queues : Text → List Entry) (noted : List Note) (note : Note) → is_leaving note ≡ true → IsQuiet t queues noted note
+leaving_quiet t queues noted (Left n q cause) e = tt
+leaving_quiet t queues noted _ e = absurd (false≢true e)
+
+-- each of these notes is one of those
+abbrev AreAmong : List Note → List Note → Type 0
+AreAmong notes noted = (note : Note) → IsIn note notes → IsIn note noted
 
 pub leaving_enters : (n : ℕ) (q : Text) (note : Note) → is_leaving note ≡ true → is_entered n q note ≡ false
 leaving_enters n q (Left m r cause) e = refl
@@ -142,16 +147,18 @@ module _ (t : Topology) (c h : ℕ) (old : Text → List Entry) (o : Outstanding
   one_held found f g q x i idle = elim (one_stood found f g q x i) [ inl j ↦ j | inr l ↦ absurd (false≢true (sym idle ∙ letter_ready q x l)) ]
 
   -- of messages that stood in the queues at first, where what is held now was held then
-  one_quiet : (first : Text → List Entry) → HeldStay first old → (found : Option Entry) → given_in c h old o ≡ found → GoesSo found → AllByRecursion (IsQuiet t first) notes
-  one_quiet first stay None f (not_found none same) = subst (AllByRecursion (IsQuiet t first)) (sym none) tt
-  one_quiet first stay (Some e) f (left_only is same) = subst (AllByRecursion (IsQuiet t first)) (sym is) (tt, tt)
-  one_quiet first stay (Some e) f (died p exchange rest dies is d) =
+  one_quiet : (first : Text → List Entry) (noted : List Note) → HeldStay first old → AreAmong notes noted → (found : Option Entry) → given_in c h old o ≡ found → GoesSo found → AllByRecursion (IsQuiet t first noted) notes
+  one_quiet first noted stay among None f (not_found none same) = subst (AllByRecursion (IsQuiet t first noted)) (sym none) tt
+  one_quiet first noted stay among (Some e) f (left_only is same) = subst (AllByRecursion (IsQuiet t first noted)) (sym is) (tt, tt)
+  one_quiet first noted stay among (Some e) f (died p exchange rest dies is d) =
       let at = found_there e f in
       let there : IsIn e (first o.queue) = stay o.queue e at.0 (idle_if_held (holder_of c h o) e at.1) in
-      subst (AllByRecursion (IsQuiet t first)) (sym is) (
+      let note = Left e.message.number o.queue Rejected in
+      let left : IsIn note noted = among note (subst (IsIn note) (sym is) (inl refl)) in
+      subst (AllByRecursion (IsQuiet t first noted)) (sym is) (
         tt,
-        subst (AllByRecursion (IsQuiet t first)) (sym d.noted) (entries_all (IsQuiet t first) t gone (length e.message.content.body) e.message.number way.Dead d.targets (λ r. tt)
-            (λ r i. record { from = o.queue; entry = e; there = there; number = refl; last = p; exchange = exchange; dies = dies; routes = picked r d.routed i })),
+        subst (AllByRecursion (IsQuiet t first noted)) (sym d.noted) (entries_all (IsQuiet t first noted) t gone (length e.message.content.body) e.message.number way.Dead d.targets (λ r. tt)
+            (λ r i. record { from = o.queue; entry = e; there = there; number = refl; left = left; last = p; exchange = exchange; dies = dies; routes = picked r d.routed i })),
       )
 
   one_causes : (P : ℕ → Text → Cause → Type 0) → ((e : Entry) → IsIn e (old o.queue) → is_held_as (holder_of c h o) e ≡ true → P e.message.number o.queue Rejected)
@@ -193,13 +200,14 @@ module _ (t : Topology) (c h : ℕ) (old : Text → List Entry) (o : Outstanding
 
 -- ---- all of them
 
-pub rejected_quiet : (t : Topology) (c h : ℕ) (first : Text → List Entry) (os : List Outstanding) (old : Text → List Entry) (notes : List Note) (new : Text → List Entry) → HeldStay first old → AreRejected t c h os old notes new
-    → AllByRecursion (IsQuiet t first) notes
-rejected_quiet t c h first [] old notes new stay (none, same) = subst (AllByRecursion (IsQuiet t first)) (sym none) tt
-rejected_quiet t c h first (o ∷ os) old notes new stay (mid, one, rest, dies, all, more) =
+pub rejected_quiet : (t : Topology) (c h : ℕ) (first : Text → List Entry) (noted : List Note) (os : List Outstanding) (old : Text → List Entry) (notes : List Note) (new : Text → List Entry) → HeldStay first old → AreAmong notes noted
+    → AreRejected t c h os old notes new → AllByRecursion (IsQuiet t first noted) notes
+rejected_quiet t c h first noted [] old notes new stay among (none, same) = subst (AllByRecursion (IsQuiet t first noted)) (sym none) tt
+rejected_quiet t c h first noted (o ∷ os) old notes new stay among (mid, one, rest, dies, all, more) =
     let goes = goes_by t o.queue _ one mid (given_in c h old o) dies in
-    subst (AllByRecursion (IsQuiet t first)) (sym all) (all-append (IsQuiet t first) one rest (one_quiet t c h old o one mid first stay (given_in c h old o) refl goes)
-    (rejected_quiet t c h first os mid rest new (λ q e i idle. stay q e (one_held t c h old o one mid (given_in c h old o) refl goes q e i idle) idle) more))
+    let these : AreAmong (one ++ rest) noted = subst (λ (ns : List Note). AreAmong ns noted) all among in
+    subst (AllByRecursion (IsQuiet t first noted)) (sym all) (all-append (IsQuiet t first noted) one rest (one_quiet t c h old o one mid first noted stay (λ note i. these note (in_front note one rest i)) (given_in c h old o) refl goes)
+    (rejected_quiet t c h first noted os mid rest new (λ q e i idle. stay q e (one_held t c h old o one mid (given_in c h old o) refl goes q e i idle) idle) (λ note i. these note (in_back note one rest i)) more))
 
 pub rejected_balances : (t : Topology) (c h : ℕ) (os : List Outstanding) (old : Text → List Entry) (notes : List Note) (new : Text → List Entry) → AreRejected t c h os old notes new
     → (n : ℕ) (q : Text) → count_by (has_number n) (old q) + count_by (is_entered n q) notes ≡ count_by (is_left n q) notes + count_by (has_number n) (new q)

@@ -1,4 +1,4 @@
--- Which connections the broker has, and which of them are paused: after each event as the phases and the outputs say.
+-- Which connections the broker has, which of them are paused, and how many channels each may have: after each event as the sessions and the outputs say.
 use Rattle.std.proofs.Common.{◌≡◌, ◌≢◌, ℕ, List, Bool, true, false, cond, Option, Some, None, refl, sym, ap, subst, ◌∙◌, if◌then◌else◌, inl, inr}
 use Rattle.std.specs.Prelude.{is_some, ◌==◌}
 use Rattle.std.proofs.lemmas.Bool.{eqb-true, eqb-false, false≢true}
@@ -33,18 +33,20 @@ with_by f g n others d = go (d == n) refl
 
 -- ---- phases and flags
 
--- the broker has the connections that are in Running, and knows those as paused that are
+-- the broker has the connections that are in Running, knows those as paused that are, and has the channel-max of each
 pub record Agrees (b : Broker) (sessions : ℕ → Session) (is_paused : ℕ → Bool) : Type 0 where
   pub running : (d : ℕ) → is_some (b.connection d) ≡ is_running (sessions d).phase
   pub paused : (d : ℕ) (conn : Connection) → b.connection d ≡ Some conn → conn.is_paused ≡ is_paused d
+  pub limits : (d : ℕ) (conn : Connection) → b.connection d ≡ Some conn → conn.channel_max ≡ (sessions d).channel_max
 
 -- one connection changed, and agrees
 agrees_with : (old new : Broker) (sessions after : ℕ → Session) (p q : ℕ → Bool) (c : ℕ) (o : Option Connection) (s : Session) → Agrees old sessions p
     → ((d : ℕ) → new.connection d ≡ with_one old.connection c o d) → ((d : ℕ) → after d ≡ with_one sessions c s d) → ((d : ℕ) → with_one p c (q c) d ≡ q d)
-    → is_some o ≡ is_running s.phase → ((conn : Connection) → o ≡ Some conn → conn.is_paused ≡ q c) → Agrees new after q
-agrees_with old new sessions after p q c o s a connections are flags runs flag = record {
+    → is_some o ≡ is_running s.phase → ((conn : Connection) → o ≡ Some conn → conn.is_paused ≡ q c) → ((conn : Connection) → o ≡ Some conn → conn.channel_max ≡ s.channel_max) → Agrees new after q
+agrees_with old new sessions after p q c o s a connections are flags runs flag limit = record {
   running = λ d. ap is_some (connections d) ∙ one d (d == c) ∙ sym (ap (λ (z : Session). is_running z.phase) (are d));
   paused = λ d conn e. each d conn (d == c) (sym (connections d) ∙ e) ∙ flags d;
+  limits = λ d conn e. each_limit d conn (d == c) (sym (connections d) ∙ e) ∙ sym (ap (λ (z : Session). z.channel_max) (are d));
 }
   where
     one : (d : ℕ) (v : Bool) → is_some (cond v o (old.connection d)) ≡ is_running (cond v s (sessions d)).phase
@@ -54,6 +56,10 @@ agrees_with old new sessions after p q c o s a connections are flags runs flag =
     each : (d : ℕ) (conn : Connection) (v : Bool) → cond v o (old.connection d) ≡ Some conn → conn.is_paused ≡ cond v (q c) (p d)
     each d conn true e = flag conn e
     each d conn false e = a.paused d conn e
+
+    each_limit : (d : ℕ) (conn : Connection) (v : Bool) → cond v o (old.connection d) ≡ Some conn → conn.channel_max ≡ (cond v s (sessions d)).channel_max
+    each_limit d conn true e = limit conn e
+    each_limit d conn false e = a.limits d conn e
 
 none_is_some : {A : Type 0} (P : Type 0) (x : A) → None ≡ Some x → P
 none_is_some P x e = absurd (false≢true (ap is_some e))
@@ -67,6 +73,26 @@ runs_on phase.Open o s e = refl
 runs_on phase.Running o s e = e
 runs_on phase.Closing o s e = refl
 runs_on phase.Over o s e = refl
+
+-- one that runs on keeps its limits
+limit_on : (p : Phase) (o : Option Connection) (s : Session) (conn : Connection) → (o ≡ Some conn → conn.channel_max ≡ s.channel_max) → cond (is_running p) o None ≡ Some conn → conn.channel_max ≡ (to_phase s p).channel_max
+limit_on phase.Header o s conn was e = none_is_some _ conn e
+limit_on phase.Start o s conn was e = none_is_some _ conn e
+limit_on phase.Tune o s conn was e = none_is_some _ conn e
+limit_on phase.Open o s conn was e = none_is_some _ conn e
+limit_on phase.Running o s conn was e = was e
+limit_on phase.Closing o s conn was e = none_is_some _ conn e
+limit_on phase.Over o s conn was e = none_is_some _ conn e
+
+-- the channel-max of a connection, where there is one
+abbrev limit_of : Option Connection → ℕ
+limit_of None = 0
+limit_of (Some conn) = conn.channel_max
+
+-- a pause changes no limits
+paused_limit : (b : Bool) (o : Option Connection) (s : Session) → ((conn : Connection) → o ≡ Some conn → conn.channel_max ≡ s.channel_max) → (conn : Connection) → paused b o ≡ Some conn → conn.channel_max ≡ s.channel_max
+paused_limit b None s was conn e = none_is_some _ conn e
+paused_limit b (Some k) s was conn e = sym (ap limit_of e) ∙ was k refl
 
 -- the flag of a connection, where there is one
 abbrev flag_of : Option Connection → Bool
@@ -132,12 +158,25 @@ module _ (b : Broker) (sessions : ℕ → Session) (p : ℕ → Bool) (sends : L
   flag_after (event.Deliver c) is x free conn e = a.paused c conn e ∙ sym x
   flag_after _ is x free conn e = none_is_some _ conn e
 
+  -- its limits are those of its session
+  limit_after : (e : Event) → (is_opening e ≡ true → is_running (sessions (connection_of e)).phase ≡ false) → (conn : Connection) → connection_after b e sends ≡ Some conn → conn.channel_max ≡ (session_after (sessions (connection_of e)) e sends).channel_max
+  limit_after (event.Open c) free conn e = absurd (false≢true (sym (a.running c ∙ free refl) ∙ ap is_some e))
+  limit_after (event.First c bytes) free conn e = limit_on (after_sends sends) (b.connection c) (sessions c) conn (a.limits c conn) e
+  limit_after (event.Running c max k) free conn e = sym (ap limit_of e)
+  limit_after (event.Command c h m content) free conn e = limit_on (after_sends sends) (b.connection c) (sessions c) conn (a.limits c conn) e
+  limit_after (event.TooLarge c h) free conn e = limit_on (after_sends sends) (b.connection c) (sessions c) conn (a.limits c conn) e
+  limit_after (event.Pause c) free conn e = paused_limit true (b.connection c) (sessions c) (a.limits c) conn e
+  limit_after (event.Resume c) free conn e = paused_limit false (b.connection c) (sessions c) (a.limits c) conn e
+  limit_after (event.Deliver c) free conn e = a.limits c conn e
+  limit_after _ free conn e = none_is_some _ conn e
+
 module _ (f : Config) (old new : State) (e : Event) (sends : List Send) (notes : List Note) (p q : ℕ → Bool) (a : Agrees old.broker old.session p)
     (others : (d : ℕ) → d ≢ connection_of e → q d ≡ p d) (flag : IsFlagAfter e (p (connection_of e)) (q (connection_of e))) where
   agrees_performed : Performed f old e sends notes new → Agrees new.broker new.session q
   agrees_performed s =
       agrees_with old.broker new.broker old.session new.session p q (connection_of e) _ _ a (acted f.topology old.broker new.broker sends notes e s.acts).connections s.sessions (with_by p q (connection_of e) others)
       (runs_after old.broker old.session p sends a e s.runs s.free) (flag_after old.broker old.session p sends a e (q (connection_of e)) flag s.free)
+      (limit_after old.broker old.session p sends a e s.free)
 
   -- a move of the phases alone
   agrees_answered : Answered old e sends notes new → Agrees new.broker new.session q
@@ -148,10 +187,10 @@ module _ (f : Config) (old new : State) (e : Event) (sends : List Send) (notes :
 
       go : (v : Bool) → is_running s.move.next.phase ≡ v → ((d : ℕ) → new.broker.connection d ≡ (if v then opened old.broker c s.move.next.channel_max 0 else old.broker).connection d) → Agrees new.broker new.session q
       go true is connections = agrees_with old.broker new.broker old.session new.session p q c _ s.move.next a connections s.moves.session (with_by p q c others) (sym is)
-          (λ conn k. sym (ap flag_of k) ∙ sym (awake_after e (p c) (q c) s.read flag))
+          (λ conn k. sym (ap flag_of k) ∙ sym (awake_after e (p c) (q c) s.read flag)) (λ conn k. sym (ap limit_of k))
       go false is connections = agrees_with old.broker new.broker old.session new.session p q c (old.broker.connection c) s.move.next a
           (λ d. connections d ∙ sym (with_same old.broker.connection c (old.broker.connection c) refl d)) s.moves.session (with_by p q c others) (a.running c ∙ s.idle ∙ sym is)
-          (λ conn k. absurd (false≢true (sym (a.running c ∙ s.idle) ∙ ap is_some k)))
+          (λ conn k. absurd (false≢true (sym (a.running c ∙ s.idle) ∙ ap is_some k))) (λ conn k. absurd (false≢true (sym (a.running c ∙ s.idle) ∙ ap is_some k)))
 
   -- Each step leaves it so.
   pub step_agrees : Step f old e sends notes new → Agrees new.broker new.session q
@@ -173,7 +212,7 @@ read_agrees c k st nx e f old new sends notes p (fault {code = code} y) a awake 
 -- ---- pauses
 
 agrees_as : (mid new : State) (p q : ℕ → Bool) → Agrees mid.broker mid.session p → new ≡ mid → ((d : ℕ) → p d ≡ q d) → Agrees new.broker new.session q
-agrees_as mid new p q a same flags = subst (λ (z : State). Agrees z.broker z.session q) (sym same) (record { running = a.running; paused = λ d conn e. a.paused d conn e ∙ flags d })
+agrees_as mid new p q a same flags = subst (λ (z : State). Agrees z.broker z.session q) (sym same) (record { running = a.running; paused = λ d conn e. a.paused d conn e ∙ flags d; limits = a.limits })
 
 -- The pause or resumption that an output brings makes the broker agree with it.
 pub settled_agrees : (f : Config) (mid new : State) (c : ℕ) (was is : Bool) (hs : List _) (p q : ℕ → Bool) → Settles f mid c was is hs new → Agrees mid.broker mid.session p → p c ≡ was → q c ≡ is

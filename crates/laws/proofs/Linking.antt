@@ -1,4 +1,4 @@
--- Whatever arrives, the broker has the connections that run, and knows which of them are paused.
+-- Whatever arrives, the broker has the connections that run, knows which of them are paused, and has the channel-max of each.
 use Rattle.std.proofs.Common.{◌≡◌, ◌≢◌, ◌+◌, ℕ, List, [], ◌∷◌, Bool, true, false, cond, refl, sym, ap, subst, ◌∙◌}
 use Rattle.std.specs.Prelude.{◌&&◌, ◌==◌, not}
 use Rattle.std.proofs.lemmas.Bool.{ne_eqb, eqb-true, eqb-false, false≢true}
@@ -14,7 +14,7 @@ use Rattle.model.specs.declared.events.Event.TheVariants as event
 use Rattle.laws.proofs.Counts.{from_either}
 use Rattle.laws.proofs.Linked.{Agrees, with_here, read_agrees, settled_agrees, step_agrees}
 
--- the broker has exactly the connections that run, and knows those as paused whose output is past the bound
+-- the broker has exactly the connections that run, knows those as paused whose output is past the bound, and has the channel-max of each
 abbrev pub IsLinked : World → Type 0
 IsLinked w = Agrees w.state.broker w.state.session (is_paused w)
 
@@ -23,6 +23,7 @@ pub linked_same : (old new : World) → IsLinked old → new.state ≡ old.state
 linked_same old new k state outputs = record {
   running = subst (λ (z : State). (c : ℕ) → Rattle.std.specs.Prelude.is_some (z.broker.connection c) ≡ Rattle.model.specs.Phases.is_running (z.session c).phase) (sym state) k.running;
   paused = λ c conn e. k.paused c conn (ap (λ (z : State). z.broker.connection c) (sym state) ∙ e) ∙ ap is_past_bound (sym (outputs c));
+  limits = λ c conn e. k.limits c conn (ap (λ (z : State). z.broker.connection c) (sym state) ∙ e) ∙ ap (λ (z : State). (z.session c).channel_max) (sym state);
 }
 
 others_and_own : (old new : World) (c : ℕ) → ((d : ℕ) → d ≢ c → (new.wire d).output ≡ (old.wire d).output) → (new.wire c).output ≡ (old.wire c).output → (d : ℕ) → (new.wire d).output ≡ (old.wire d).output
@@ -103,7 +104,7 @@ pumps_linked old new hs k (delivers {c = c} d) = delivers_linked old new c hs k 
 pumps_linked old new hs k (idles n p) = same_linked old new hs k p
 
 pub new_is_linked : (f : Config) → IsLinked (new_world f)
-new_is_linked f = record { running = λ c. refl; paused = λ c conn e. absurd (false≢true (ap Rattle.std.specs.Prelude.is_some e)) }
+new_is_linked f = record { running = λ c. refl; paused = λ c conn e. absurd (false≢true (ap Rattle.std.specs.Prelude.is_some e)); limits = λ c conn e. absurd (false≢true (ap Rattle.std.specs.Prelude.is_some e)) }
 
 -- ---- arrivals
 

@@ -1,4 +1,4 @@
--- No message, of a publish or a dead letter, enters a queue that is forbidden to its publish, and what leaves a queue has a cause. And so a run keeps the promises.
+-- No message, of a publish or a dead letter, enters a queue that is forbidden to its publish; what leaves a queue has a cause, and what enters one an origin. And so a run keeps the promises.
 use Rattle.std.proofs.Common.{◌≡◌, ℕ, ◌+◌, ◌⊎◌, Bool, true, false, eqb, List, [], ◌∷◌, ◌++◌, refl, sym, ap, subst, ◌∙◌, inl, inr, arith, Option}
 use Rattle.std.specs.Prelude.{count_by}
 use Rattle.std.specs.List.{AllByRecursion}
@@ -12,7 +12,7 @@ use Rattle.model.specs.Guarantee.{Covers}
 use Rattle.model.specs.State.{Config, State, Step}
 use Rattle.model.specs.Arrivals.{IsSaid}
 use Rattle.model.specs.Run.{Happening, Run, AreCounted, has_number, notes_of}
-use Rattle.model.specs.Headline.{IsSound, IsNoted, WasSentTo, IsAllowed, AreAllowed, AreAllowedIn, IsCauseAt, HasCause, HaveCauses, KeepsEvents}
+use Rattle.model.specs.Headline.{IsSound, IsNoted, WasSentTo, IsAllowed, AreAllowed, AreAllowedIn, IsCauseAt, HasCause, HaveCauses, IsPublishedAt, HasOrigin, HaveOrigins, KeepsEvents}
 use Rattle.model.specs.declared.messages.Entry.{Entry}
 use Rattle.model.specs.declared.notes.Note.{Note}
 use Rattle.model.specs.declared.notes.Note.TheVariants.{Published, Entered, Left}
@@ -27,7 +27,7 @@ use Rattle.laws.proofs.Traced.{Rooted, before, now, rooted, exchange_of, key_of,
 use Rattle.laws.proofs.Leaving.{OfLeft}
 use Rattle.laws.proofs.Counts.{all_each, all_in, in-append, count-cons, count-cons_yes}
 use Rattle.laws.proofs.View.{Publishes, Seen, CountsNone, seen_at, quiet_notes}
-use Rattle.laws.proofs.Balance.{number, first_note, entry_part, answer_part, noted, others_all, run_stays, counted_at, stands_counted}
+use Rattle.laws.proofs.Balance.{number, confirm, first_note, entry_part, answer_part, noted, others_all, run_stays, counted_at, stands_counted}
 use Rattle.laws.proofs.Once.{is_of_publish, AreOfOthers, Placed, places, key_is_short, run_of_others, run_entered_once}
 
 -- ---- what the publish of a number was
@@ -110,7 +110,7 @@ allowed_where : (h : Happening) (Sent : ℕ → Text → Text → Type 0) → Se
     → IsSound h.config → IsSaid h.event → AreTraced h.config.topology h.before.broker → AllByRecursion (IsAllowed h.config.guarantees Sent) h.notes
 allowed_where h Sent (inl quiet) own known sound said traced = quiet_notes (IsAllowed h.config.guarantees Sent) (λ m r cause. tt) (λ m r. tt) died quiet
   where
-    died : (n : ℕ) (r : Text) → HasDied h.config.topology h.before.broker.queue n r → IsAllowed h.config.guarantees Sent (Entered n r way.Dead)
+    died : (n : ℕ) (r : Text) → HasDied h.config.topology h.before.broker.queue h.notes n r → IsAllowed h.config.guarantees Sent (Entered n r way.Dead)
     died n r d x key sent g in_gs m covers e =
         let at = traced.each d.from d.entry d.there in
         let same = known quiet d.from d.entry d.there x key (subst (λ (k : ℕ). Sent k x key) (sym d.number) sent) in
@@ -216,6 +216,21 @@ pub run_causes : (hs : List Happening) (old new : State) → Run old hs new → 
 run_causes [] old new r = tt
 run_causes (h ∷ hs) old new (e, s, r) = (step_causes h (seen_at h s), run_causes hs h.after new r)
 
+-- ---- origins
+
+-- a publish is noted before what entered by it, and of a dead letter that its message left the queue where it stood
+step_origins : (h : Happening) → Seen h.config.topology h.before.broker h.after.broker h.event h.sends h.notes → HaveOrigins h
+step_origins h (inl q) = quiet_notes (HasOrigin h) (λ n r cause. tt) (λ n r. tt) (λ n r d. record { queue = d.from; entry = d.entry; stood = d.there; number = d.number; left = d.left }) q
+step_origins h (inr p) = subst (AllByRecursion (HasOrigin h)) (sym (noted p)) (tt, others_all p _ (λ r. tt) (λ r i. published) tt (λ a. tt))
+  where
+    published : IsPublishedAt h (number p)
+    published = (p.publish.exchange, p.publish.routing_key, (p.c, p.h, confirm p, subst (IsIn (first_note p)) (sym (noted p)) (inl refl)))
+
+-- In every run what entered a queue came by its publish, or from a queue where it stood and which it left by a rejection.
+pub run_origins : (hs : List Happening) (old new : State) → Run old hs new → AllByRecursion HaveOrigins hs
+run_origins [] old new r = tt
+run_origins (h ∷ hs) old new (e, s, r) = (step_origins h (seen_at h s), run_origins hs h.after new r)
+
 -- ---- all of it
 
 sound_each : (f : Config) (hs : List Happening) → IsSound f → AreUnder f hs → AreSound hs
@@ -230,4 +245,5 @@ run_keeps f hs old new sound under said begun r = record {
   never_in_all = run_allowed_in f hs old new sound under said begun r;
   stays = run_stays hs old new r;
   causes = run_causes hs old new r;
+  come = run_origins hs old new r;
 }

@@ -2,9 +2,11 @@
 use Rattle.std.proofs.Common.{◌≡◌, ℕ, suc, ◌+◌, ◌-◌, Bool, true, false, List, [], ◌∷◌, ◌++◌, refl, sym, ap, ◌∙◌, arith, get_or, drop, lit≤, inl, inr, length}
 use Rattle.std.specs.Prelude.{codes, decimal, if◌then◌else◌}
 use Rattle.std.specs.List.{AllByRecursion}
+use Rattle.std.specs.Str.{bytes_eq}
 use Rattle.std.proofs.lemmas.Bool.{false≢true}
 use Rattle.std.proofs.lemmas.Fmt.{decimal_digit}
 use Rattle.model.specs.Words.{Text, none, word}
+use Rattle.model.specs.Topology.{IsIn}
 use Rattle.model.specs.Frames.{Frame, frame_bytes, IsFrame, Begins}
 use Rattle.model.specs.Guarantee.{CoversKey}
 use Rattle.model.specs.Spelling.{method_frame, spelling}
@@ -13,13 +15,13 @@ use Rattle.model.specs.Consuming.{is_in_use, server_tag, first_free}
 use Rattle.model.specs.Broker.{Consumer, Broker}
 use Rattle.model.specs.State.{State}
 use Rattle.model.specs.Run.{Stays}
-use Rattle.model.specs.Headline.{Ack, acks_in, HasAcksOf, IsReading, EnteredOnce, AreAllowed, ack_for}
+use Rattle.model.specs.Headline.{Ack, acks_in, HasAcksOf, IsReading, EnteredOnce, AreAllowed, HaveOrigins, DiesAt, ack_for}
 use Rattle.model.specs.declared.notes.Note.{Note}
 use Rattle.model.specs.declared.notes.Note.TheVariants.{Entered, Left}
-use Rattle.model.specs.declared.notes.Way.TheVariants.{Dead}
-use Rattle.model.specs.declared.notes.Cause.TheVariants.{Acked}
+use Rattle.model.specs.declared.notes.Way.TheVariants.{Publish, Dead}
+use Rattle.model.specs.declared.notes.Cause.TheVariants.{Acked, Rejected}
 use Rattle.model.specs.declared.methods.Method.TheVariants.{ConfirmSelectOk, BasicAck}
-use Rattle.laws.specs.Rows.{WordsOfKeys, FirstConsumer, RefusedConsumes, FirstInput, FirstOutput, BadEnd, TooLargeContent, HeadlineRefuses, select_ok, first_ack, multiple_ack, first_entry, with_entries, forbids, event_of_notes, vanishing, bad_end, wanted, first_acked, notes_without_entry, consumer_under, consuming_under}
+use Rattle.laws.specs.Rows.{WordsOfKeys, FirstConsumer, RefusedConsumes, FirstInput, FirstOutput, BadEnd, TooLargeContent, HeadlineRefuses, select_ok, first_ack, multiple_ack, first_entry, with_entries, forbids, event_of_notes, one_event, vanishing, bad_end, wanted, first_acked, notes_without_entry, consumer_under, consuming_under}
 use Rattle.laws.proofs.Reading.{reading_apart, size_at, size_is, rest_is}
 
 pub words_of_keys : WordsOfKeys
@@ -111,6 +113,31 @@ forbidden : AreAllowed (event_of_notes (forbids ∷ []) (with_entries (first_ent
 forbidden allowed =
     allowed.0 (codes "orders") (codes "new") (inr (record { queue = codes "audit"; entry = first_entry; there = inl refl; number = refl; exchange = refl; first_key = refl })) forbids (0, lit≤ tt, refl) refl (refl, word none) refl
 
+-- one left by each of the two notes, where there was one
+both_left : Stays (with_entries (first_entry ∷ [])).broker (one_event (with_entries (first_entry ∷ [])) (Left 1 (codes "audit") Acked ∷ Left 1 (codes "audit") Acked ∷ []) (with_entries [])) (with_entries []).broker → ⊥
+both_left stays =
+    let one : 1 ≡ 2 = stays.1 1 (codes "audit") in
+    two_is_not_one (sym one)
+  where
+    two_is_not_one : ◌≡◌ {A = ℕ} 2 1 → ⊥
+    two_is_not_one e = omega (arith, e)
+
+-- no note is of a publish
+no_publish_there : HaveOrigins (event_of_notes [] (with_entries []) (Entered 1 (codes "audit") Publish ∷ []) (with_entries (first_entry ∷ []))) → ⊥
+no_publish_there has = elim has.0.2.3 [ inl is ↦ cc | inr i ↦ i ]
+
+-- no message stood anywhere
+none_stood : DiesAt (event_of_notes [] (with_entries []) (Left 1 (codes "audit") Rejected ∷ Entered 1 (codes "bin") Dead ∷ []) (with_entries [])) 1 → ⊥
+none_stood d = nowhere (bytes_eq d.queue (codes "audit")) d.stood
+  where
+    nowhere : (v : Bool) → IsIn d.entry (if v then [] else []) → ⊥
+    nowhere true i = i
+    nowhere false i = i
+
+-- and none that stood is noted to have left
+none_left : DiesAt (event_of_notes [] (with_entries (first_entry ∷ [])) (Entered 1 (codes "bin") Dead ∷ []) (with_entries (first_entry ∷ []))) 1 → ⊥
+none_left d = elim d.left [ inl is ↦ cc | inr i ↦ i ]
+
 pub headline_refuses : HeadlineRefuses
 headline_refuses = record {
   output_without_ack = no_ack_there;
@@ -120,7 +147,11 @@ headline_refuses = record {
   message_comes_back = one_is_gone [] (with_entries (first_entry ∷ [])) (with_entries (first_entry ∷ [])).broker;
   late_note = one_is_gone (Left 1 (codes "audit") Acked ∷ []) (with_entries []) (with_entries []).broker;
   forbidden_entry = forbidden;
+  left_twice = both_left;
   left_by_no_cause = λ has. has.0;
+  entered_by_no_publish = no_publish_there;
+  dead_letter_of_none = λ has. none_stood has.1.0;
+  dead_letter_of_one_that_stays = λ has. none_left has.0;
 }
 
 -- ---- consumers

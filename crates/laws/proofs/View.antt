@@ -130,17 +130,17 @@ with_same f n a e d = go (d == n) refl
 -- no publish is counted, what is noted is that messages left their queues and that dead letters of what stood there came, each queue has what that leaves and adds, and one answer at most is sent
 pub record CountsNone (t : Topology) (old new : Broker) (e : Event) (sends : List Send) (notes : List Note) : Type 0 where
   pub same : new.published ≡ old.published
-  pub noted : AllByRecursion (IsQuiet t old.queue) notes
+  pub noted : AllByRecursion (IsQuiet t old.queue notes) notes
   pub balances : Balances old notes new
   pub caused : AllByRecursion (OfLeft (IsCauseAt old e)) notes
   pub few : IsAnswerAtMost sends
 
 -- of what is true of each note of a leaving, of a refusal, and of a dead letter's entering, each of these notes is
 pub quiet_notes : {t : Topology} {old new : Broker} {e : Event} {sends : List Send} {notes : List Note} (P : Note → Type 0) → ((n : ℕ) (q : Text) (cause : Cause) → P (Left n q cause)) → ((n : ℕ) (q : Text) → P (Refused n q))
-    → ((n : ℕ) (q : Text) → HasDied t old.queue n q → P (Entered n q way.Dead)) → CountsNone t old new e sends notes → AllByRecursion P notes
+    → ((n : ℕ) (q : Text) → HasDied t old.queue notes n q → P (Entered n q way.Dead)) → CountsNone t old new e sends notes → AllByRecursion P notes
 quiet_notes {t = t} {old = old} {notes = notes} P left refused died a = all_each _ P only notes a.noted
   where
-    only : (note : Note) → IsQuiet t old.queue note → P note
+    only : (note : Note) → IsQuiet t old.queue notes note → P note
     only (Left n q cause) is = left n q cause
     only (Refused n q) is = refused n q
     only (Entered n q way.Dead) is = died n q is
@@ -243,7 +243,7 @@ noting : (t : Topology) (old new made : Broker) (e : Event) (c : ℕ) (after : L
 noting t old new made e c after sends wanted notes left d few alone same leaving kept caused = record {
   adds = record {
     same = d.left.counted ∙ same;
-    noted = all_each _ _ (leaving_quiet t old.queue) notes all_leaving;
+    noted = all_each _ _ (leaving_quiet t old.queue notes) notes all_leaving;
     balances = leaving_balances old new notes all_leaving (λ n q. kept n q ∙ sym (ap (λ (ns : List Note). count_by (is_left n q) ns + count_by (has_number n) (new.queue q)) d.noted ∙ ap (λ (es : List Entry). count_by (is_left n q) left + count_by (has_number n) es) (d.left.queues q)));
     caused = subst (AllByRecursion (OfLeft (IsCauseAt old e))) (sym d.noted) caused;
     few = reply_answers sends (subst IsReplyAtMost (sym d.sent) few);
@@ -345,10 +345,10 @@ module _ (t : Topology) (old new : Broker) (sends : List Send) (notes : List Not
     connections = λ d. p.connections d ∙ sym (with_same old.connection c _ (ap (λ (s : List Send). cond (is_running (after_sends s)) (old.connection c) None) p.sent ∙ ap (λ (b : Bool). cond b (old.connection c) None) runs) d);
   }
     where
-      quiet_ones : (s : Settlement) → AreSettled t s c h p.gone old.queue notes new.queue → AllByRecursion (IsQuiet t old.queue) notes
-      quiet_ones (Leaves why) a = all_each _ _ (leaving_quiet t old.queue) notes (are_leaving why c h p.gone old.queue notes new.queue a)
-      quiet_ones Rejects a = rejected_quiet t c h old.queue p.gone old.queue notes new.queue (λ q x i idle. i) a
-      quiet_ones Returns a = subst (AllByRecursion (IsQuiet t old.queue)) (sym a.0) tt
+      quiet_ones : (s : Settlement) → AreSettled t s c h p.gone old.queue notes new.queue → AllByRecursion (IsQuiet t old.queue notes) notes
+      quiet_ones (Leaves why) a = all_each _ _ (leaving_quiet t old.queue notes) notes (are_leaving why c h p.gone old.queue notes new.queue a)
+      quiet_ones Rejects a = rejected_quiet t c h old.queue notes p.gone old.queue notes new.queue (λ q x i idle. i) (λ note i. i) a
+      quiet_ones Returns a = subst (AllByRecursion (IsQuiet t old.queue notes)) (sym a.0) tt
 
       balances : (s : Settlement) → AreSettled t s c h p.gone old.queue notes new.queue → Balances old notes new
       balances (Leaves why) a n q = leaving_balances old new notes (are_leaving why c h p.gone old.queue notes new.queue a) (left_balances why c h p.gone old.queue notes new.queue a) n q
@@ -681,7 +681,7 @@ module _ (f : Config) (old new : State) (sends : List Send) (notes : List Note) 
   answered_adds : (e : Event) → Answered old e sends notes new → CountsNone f.topology old.broker new.broker e sends notes
   answered_adds e a = record {
     same = a.moves.broker.counted ∙ (elim (is_running a.move.next.phase) as (λ v. (if v then opened old.broker (connection_of e) a.move.next.channel_max 0 else old.broker).published ≡ old.broker.published) [ true ↦ refl | false ↦ refl ]);
-    noted = subst (AllByRecursion (IsQuiet f.topology old.broker.queue)) (sym a.moves.noted) tt;
+    noted = subst (AllByRecursion (IsQuiet f.topology old.broker.queue notes)) (sym a.moves.noted) tt;
     balances = λ n q.
         let left : count_by (is_left n q) notes ≡ 0 = ap (count_by (is_left n q)) a.moves.noted in
         let entered : count_by (is_entered n q) notes ≡ 0 = ap (count_by (is_entered n q)) a.moves.noted in

@@ -16,15 +16,15 @@ use Rattle.model.specs.Step.{channel_close, connection_close, select_sends, conf
 use Rattle.model.specs.Phases.{no_session}
 use Rattle.model.specs.State.{Config, State}
 use Rattle.model.specs.Run.{Happening, Stays, empty_broker}
-use Rattle.model.specs.Headline.{Acked as AckedPublish, HasAcksOf, EnteredOnce, AreAllowed, HaveCauses}
+use Rattle.model.specs.Headline.{Acked as AckedPublish, HasAcksOf, EnteredOnce, AreAllowed, HaveCauses, HaveOrigins}
 use Rattle.model.specs.declared.contents.Content.{Content}
 use Rattle.model.specs.declared.messages.Entry.{Entry}
 use Rattle.model.specs.declared.messages.Taker.TheVariants as taker
 use Rattle.model.specs.declared.methods.Consume.{Consume}
 use Rattle.model.specs.declared.messages.Mark.TheVariants.{Ready}
 use Rattle.model.specs.declared.events.Event.TheVariants.{Resume}
-use Rattle.model.specs.declared.notes.Cause.TheVariants.{Acked}
-use Rattle.model.specs.declared.notes.Way.TheVariants.{Dead}
+use Rattle.model.specs.declared.notes.Cause.TheVariants.{Acked, Rejected}
+use Rattle.model.specs.declared.notes.Way.TheVariants.{Publish, Dead}
 use Rattle.model.specs.declared.topologies.Mode.TheVariants.{Reaches, Never}
 use Rattle.model.specs.declared.events.Command.TheVariants.{TooLarge}
 use Rattle.model.specs.declared.methods.Method.TheVariants.{ConfirmSelect, BasicPublish}
@@ -140,6 +140,10 @@ under guarantees = record { topology = record { exchanges = []; queues = []; bin
 abbrev pub event_of_notes : List Guarantee → State → List Note → State → Happening
 event_of_notes guarantees old notes new = record { config = under guarantees; event = Resume 1; before = old; sends = []; notes = notes; frame_max = 131072; after = new }
 
+-- one event alone
+abbrev pub one_event : State → List Note → State → List Happening
+one_event old notes new = event_of_notes [] old notes new ∷ []
+
 -- two events: by the first the entry vanishes, and these are the notes of both
 abbrev pub vanishing : List Note → List Note → State → List Happening
 vanishing first second last = event_of_notes [] (with_entries (first_entry ∷ [])) first (with_entries []) ∷ event_of_notes [] (with_entries []) second last ∷ []
@@ -160,8 +164,16 @@ pub record HeadlineRefuses : Type 0 where
   pub late_note : Stays (with_entries (first_entry ∷ [])).broker (vanishing [] (Left 1 (codes "audit") Acked ∷ []) (with_entries [])) (with_entries []).broker → ⊥
   -- a dead letter that enters a queue forbidden to its publish, which is known by the queue that it stood in
   pub forbidden_entry : AreAllowed (event_of_notes (forbids ∷ []) (with_entries (first_entry ∷ [])) (Entered 1 (codes "bin") Dead ∷ []) (with_entries (first_entry ∷ []))) → ⊥
+  -- a message that leaves a queue twice in which it stood once
+  pub left_twice : Stays (with_entries (first_entry ∷ [])).broker (one_event (with_entries (first_entry ∷ [])) (Left 1 (codes "audit") Acked ∷ Left 1 (codes "audit") Acked ∷ []) (with_entries [])) (with_entries []).broker → ⊥
   -- a message that leaves by an event that takes none out
   pub left_by_no_cause : HaveCauses (event_of_notes [] (with_entries (first_entry ∷ [])) (Left 1 (codes "audit") Acked ∷ []) (with_entries [])) → ⊥
+  -- one that enters with no publish and no death
+  pub entered_by_no_publish : HaveOrigins (event_of_notes [] (with_entries []) (Entered 1 (codes "audit") Publish ∷ []) (with_entries (first_entry ∷ []))) → ⊥
+  -- a dead letter of a message that stood nowhere
+  pub dead_letter_of_none : HaveOrigins (event_of_notes [] (with_entries []) (Left 1 (codes "audit") Rejected ∷ Entered 1 (codes "bin") Dead ∷ []) (with_entries [])) → ⊥
+  -- and one of a message that stays where it stood
+  pub dead_letter_of_one_that_stays : HaveOrigins (event_of_notes [] (with_entries (first_entry ∷ [])) (Entered 1 (codes "bin") Dead ∷ []) (with_entries (first_entry ∷ []))) → ⊥
 
 -- ---- consumers
 

@@ -15,7 +15,7 @@ ghost use Rattle.laws.specs.Delivery.{OneReading, HeadlineHolds, PumpsKeep, Turn
 ghost use Rattle.laws.specs.OneStep.{EveryRunBalances, EveryRunCounts, EveryRunStays};
 ghost use Rattle.laws.specs.Openings.{OpeningsReadByPhase};
 ghost use Rattle.laws.specs.Order.{GivenAfterThoseAhead, GivenInOrder, HeldAreGiven};
-ghost use Rattle.laws.specs.Promises.{AckedEnterOnce, AcksAreAcked, CausesAreShown, ForbiddenAreNotEntered, ForbiddenAreNotEnteredAtEvents, RunsKeepEvents};
+ghost use Rattle.laws.specs.Promises.{AckedEnterOnce, AcksAreAcked, CausesAreShown, ForbiddenAreNotEntered, ForbiddenAreNotEnteredAtEvents, OriginsAreShown, RunsKeepEvents};
 ghost use Rattle.laws.specs.Rows.{WordsOfKeys, FirstInput, FirstOutput, BadEnd, TooLargeContent, HeadlineRefuses, FirstConsumer, RefusedConsumes};
 ghost use Rattle.laws.specs.Tracing.{MessagesStayTraced, TracedAreSafe};
 ghost use Rattle.laws.specs.Streams.{CuttingDoesNotMatter, FaultsStay, FirstBytesComeFirst, TuningDoesNotMatter};
@@ -74,6 +74,11 @@ pub fn what_leaves_has_a_cause()
     ensures { CausesAreShown }
 {}
 
+/// In every run a message entered a queue only by its own publish, or as a dead letter by a rejection where it stood.
+pub fn what_enters_has_an_origin()
+    ensures { OriginsAreShown }
+{}
+
 /// All of this at once: what happens keeps the promises.
 pub fn runs_keep_events()
     ensures { RunsKeepEvents }
@@ -106,8 +111,9 @@ pub fn openings_read_by_phase()
     ensures { OpeningsReadByPhase }
 {}
 
-/// Whatever is done, the broker has the connections that run, knows those as paused whose output is past the bound, and
-/// holds messages of publishes alone that it counted, each of which can be given out and came by a route and by deaths.
+/// Whatever is done, the broker has the connections that run, knows those as paused whose output is past the bound, has
+/// the channel-max that was agreed on for each, and holds messages of publishes alone that it counted, each of which can
+/// be given out and came by a route and by deaths.
 pub fn worlds_stay_consistent()
     ensures worlds { WorldsStayConsistent }
     ensures plays { PlaysStayConsistent }

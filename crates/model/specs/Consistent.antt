@@ -22,3 +22,5 @@ pub record IsConsistent (w : World) : Type 0 where
   pub running : (c : ℕ) → is_some (w.state.broker.connection c) ≡ is_running (w.state.session c).phase
   -- and the broker knows it as paused exactly where its output is past the bound
   pub paused : (c : ℕ) (conn : Connection) → w.state.broker.connection c ≡ Some conn → conn.is_paused ≡ is_paused w c
+  -- and under the channel-max that was agreed on for it
+  pub limits : (c : ℕ) (conn : Connection) → w.state.broker.connection c ≡ Some conn → conn.channel_max ≡ (w.state.session c).channel_max

@@ -227,6 +227,30 @@ HasCause h note = Unit {0}
 abbrev pub HaveCauses : Happening → Type 0
 HaveCauses h = AllByRecursion (HasCause h) h.notes
 
+-- ---- origins
+
+-- the event notes the publish of this number
+abbrev pub IsPublishedAt : Happening → ℕ → Type 0
+IsPublishedAt h n = (x : Text) × (key : Text) × IsNoted h.notes n x key
+
+-- A message of this number stood in a queue before the event, and the event notes that it left this queue by a rejection.
+pub record DiesAt (h : Happening) (n : ℕ) : Type 0 where
+  pub queue : Text
+  pub entry : Entry
+  pub stood : IsIn entry (h.before.broker.queue queue)
+  pub number : entry.message.number ≡ n
+  pub left : IsIn (Left n queue Rejected) h.notes
+
+-- where the note says that a message entered a queue, it came by its publish, or as a dead letter by its death, at this event
+abbrev pub HasOrigin : Happening → Note → Type 0
+HasOrigin h (Entered n q way.Publish) = IsPublishedAt h n
+HasOrigin h (Entered n q way.Dead) = DiesAt h n
+HasOrigin h note = Unit {0}
+
+-- so did each message of which the event notes that it entered
+abbrev pub HaveOrigins : Happening → Type 0
+HaveOrigins h = AllByRecursion (HasOrigin h) h.notes
+
 -- ---- the promises
 
 -- Of what happened between these two states of the broker:
@@ -241,6 +265,8 @@ pub record KeepsEvents (old : Broker) (hs : List Happening) (new : Broker) : Typ
   pub stays : Stays old hs new
   -- and it left by acknowledgement, rejection or purge
   pub causes : AllByRecursion HaveCauses hs
+  -- each message that entered a queue came by its own publish, noted at this event, or, as a dead letter, from a queue where it stood before the event and which it left there
+  pub come : AllByRecursion HaveOrigins hs
 
 -- Of all that happened from the empty broker to this one, and of the outputs of the connections:
 pub record KeepsPromises (hs : List Happening) (last : Broker) (connections : List Shown) : Type 0 where
