@@ -9,7 +9,7 @@ use Rattle.model.specs.Phases.{Session, is_running}
 use Rattle.model.specs.State.{State}
 use Rattle.model.specs.Spelling.{spelling}
 use Rattle.model.specs.Run.{Happening, notes_of}
-use Rattle.model.specs.Arrivals.{Wire, Same, Settles, Delivers, delivers, NoneCanDeliver, is_ended, is_past_bound, is_paused}
+use Rattle.model.specs.Arrivals.{Wire, Same, Pauses, Delivers, delivers, NoneCanDeliver, is_ended, is_past_bound, is_paused}
 use Rattle.model.specs.declared.events.Phase.{Phase}
 use Rattle.model.specs.declared.events.Phase.TheVariants as phase
 use Rattle.model.specs.declared.events.Event.TheVariants as event
@@ -124,8 +124,8 @@ delivered old new l l' notes b found k only p =
           bounded = p.bounded;
           spelled = p.spelled;
           output = output_is ∙ p.put ∙ ap (λ (z : List ℕ). z ++ spelling l.session.frame_max p.sends) (sym output_was);
-          settled = subst (λ (v : Bool). Settles (config_of old) mid c v (is_paused (world_of new) c) rest.hs (state_of new)) (sym past_was)
-              (subst (λ (v : Bool). Settles (config_of old) mid c false v rest.hs (state_of new)) (sym past_is) rest.settled);
+          pauses = subst (λ (v : Bool). Pauses (config_of old) mid c v (is_paused (world_of new) c) rest.hs (state_of new)) (sym past_was)
+              (subst (λ (v : Bool). Pauses (config_of old) mid c false v rest.hs (state_of new)) (sym past_is) rest.pauses);
           config = same_config old new l l' b;
           others = λ d ne. b.wires d ∙ at_others (λ n. wire_of (link_in old.links n)) c d (wire_of (Some l')) ne;
           rests = λ d ne. sessions d;

@@ -11,7 +11,7 @@ use Rattle.model.specs.State.{Config, State, Step, Steps, Moves, OfCommand, OfLa
 use Rattle.model.specs.Step.{Acts, empty_publish}
 use Rattle.model.specs.Spelling.{spelling}
 use Rattle.model.specs.Run.{Happening, notes_of}
-use Rattle.model.specs.Arrivals.{Wire, Turns, Settles, Reads, again, fresh, fault, event_of, is_over, is_paused, is_ended, is_past_bound, wire_after, new_wire, Waits, Same, SameToCome, still, waits, IsIdle, Takes_off, Loses, with_heard}
+use Rattle.model.specs.Arrivals.{Wire, Turns, Pauses, Reads, again, fresh, fault, event_of, is_over, is_paused, is_ended, is_past_bound, wire_after, new_wire, Waits, Same, SameToCome, still, waits, IsIdle, Takes_off, Loses, with_heard}
 use Rattle.model.specs.Words.{Text}
 use Rattle.model.specs.declared.contents.Content.{Content}
 use Rattle.model.specs.declared.methods.Method.{Method}
@@ -117,18 +117,18 @@ asked_steps c k st nx e f s sess sess' sends notes mid (fault {code = code} y) e
 -- what follows the event itself
 pub record Ended (f : Config) (mid : State) (c : ℕ) (was is : Bool) (new : State) : Type 0 where
   pub hs : List Happening
-  pub settled : Settles f mid c was is hs new
+  pub pauses : Pauses f mid c was is hs new
   pub quiet : notes_of hs ≡ []
 
 pub ended : (f : Config) (mid new : State) (c : ℕ) (was is : Bool) → PausesOr f.topology c was is mid.broker new.broker → ((d : ℕ) → new.session d ≡ mid.session d) → Ended f mid c was is new
 ended f mid new c false true p s =
     let h : Happening = record { config = f; event = event.Pause c; before = mid; sends = []; notes = []; frame_max = 0; after = new } in
-    record { hs = h ∷ []; settled = (h, refl, record { under = refl; event = refl; before = refl; after = refl; stepped = record { acts = p.acts; session = s } }); quiet = refl }
+    record { hs = h ∷ []; pauses = (h, refl, record { under = refl; event = refl; before = refl; after = refl; stepped = record { acts = p.acts; session = s } }); quiet = refl }
 ended f mid new c true false p s =
     let h : Happening = record { config = f; event = event.Resume c; before = mid; sends = []; notes = []; frame_max = 0; after = new } in
-    record { hs = h ∷ []; settled = (h, refl, record { under = refl; event = refl; before = refl; after = refl; stepped = record { acts = p.acts; session = s } }); quiet = refl }
-ended f mid new c true true p s = record { hs = []; settled = (refl, λ i. record { broker = p i; session = λ d. s d i }); quiet = refl }
-ended f mid new c false false p s = record { hs = []; settled = (refl, λ i. record { broker = p i; session = λ d. s d i }); quiet = refl }
+    record { hs = h ∷ []; pauses = (h, refl, record { under = refl; event = refl; before = refl; after = refl; stepped = record { acts = p.acts; session = s } }); quiet = refl }
+ended f mid new c true true p s = record { hs = []; pauses = (refl, λ i. record { broker = p i; session = λ d. s d i }); quiet = refl }
+ended f mid new c false false p s = record { hs = []; pauses = (refl, λ i. record { broker = p i; session = λ d. s d i }); quiet = refl }
 
 -- ---- the turn
 
@@ -194,8 +194,8 @@ turned old new l l' notes b found open_still below did =
           bounded = p.bounded;
           spelled = p.spelled;
           output = output_is ∙ p.put ∙ ap (λ (z : List ℕ). z ++ spelling l.session.frame_max p.sends) (sym output_was);
-          settled = subst (λ (v : Bool). Settles (config_of old) mid c v (is_paused (world_of new) c) rest.hs (state_of new)) (sym past_was)
-              (subst (λ (v : Bool). Settles (config_of old) mid c false v rest.hs (state_of new)) (sym past_is) rest.settled);
+          pauses = subst (λ (v : Bool). Pauses (config_of old) mid c v (is_paused (world_of new) c) rest.hs (state_of new)) (sym past_was)
+              (subst (λ (v : Bool). Pauses (config_of old) mid c false v rest.hs (state_of new)) (sym past_is) rest.pauses);
           config = same_config old new l l' b;
           others = λ d ne. b.wires d ∙ at_others (λ k. wire_of (link_in old.links k)) c d (wire_of (Some l')) ne;
           rests = λ d ne. b.sessions d ∙ at_others (λ k. session_of (link_in old.links k)) c d l'.session ne;
@@ -273,8 +273,8 @@ taken old new l l' n b found s =
         config = same_config old new l l' b;
         given = b.given;
         wires = λ d. b.wires d ∙ ap (λ (x : Wire). with_one (λ k. wire_of (link_in old.links k)) c x d) dropped;
-        settled = subst (λ (v : Bool). Settles (config_of old) (state_of old) c v (is_paused (world_of new) c) rest.hs (state_of new)) (sym (ap is_past_bound output_was))
-            (subst (λ (v : Bool). Settles (config_of old) (state_of old) c (is_past_bound l.output.bytes) v rest.hs (state_of new)) (sym (ap is_past_bound output_is)) rest.settled);
+        pauses = subst (λ (v : Bool). Pauses (config_of old) (state_of old) c v (is_paused (world_of new) c) rest.hs (state_of new)) (sym (ap is_past_bound output_was))
+            (subst (λ (v : Bool). Pauses (config_of old) (state_of old) c (is_past_bound l.output.bytes) v rest.hs (state_of new)) (sym (ap is_past_bound output_is)) rest.pauses);
       },
     )
   where

@@ -6,7 +6,7 @@ use Rattle.model.specs.Broker.{Broker, Connection, with_one}
 use Rattle.model.specs.Phases.{Session, is_running, after_sends, to_phase}
 use Rattle.model.specs.State.{Config, State, Step}
 use Rattle.model.specs.Step.{paused, opened}
-use Rattle.model.specs.Arrivals.{Settles, Reads, again, fresh, fault, event_of}
+use Rattle.model.specs.Arrivals.{Pauses, Reads, again, fresh, fault, event_of}
 use Rattle.model.specs.Commands.{Stream}
 use Rattle.model.specs.declared.notes.Note.{Note}
 use Rattle.model.specs.declared.events.Send.{Send}
@@ -215,7 +215,7 @@ agrees_as : (mid new : State) (p q : ℕ → Bool) → Agrees mid.broker mid.ses
 agrees_as mid new p q a same flags = subst (λ (z : State). Agrees z.broker z.session q) (sym same) (record { running = a.running; paused = λ d conn e. a.paused d conn e ∙ flags d; limits = a.limits })
 
 -- The pause or resumption that an output brings makes the broker agree with it.
-pub settled_agrees : (f : Config) (mid new : State) (c : ℕ) (was is : Bool) (hs : List _) (p q : ℕ → Bool) → Settles f mid c was is hs new → Agrees mid.broker mid.session p → p c ≡ was → q c ≡ is
+pub settled_agrees : (f : Config) (mid new : State) (c : ℕ) (was is : Bool) (hs : List _) (p q : ℕ → Bool) → Pauses f mid c was is hs new → Agrees mid.broker mid.session p → p c ≡ was → q c ≡ is
     → ((d : ℕ) → d ≢ c → q d ≡ p d) → Agrees new.broker new.session q
 settled_agrees f mid new c false true hs p q (h, all, s) a was is others = step_agrees f mid new (event.Pause c) h.sends h.notes p q a others is s.stepped
 settled_agrees f mid new c true false hs p q (h, all, s) a was is others = step_agrees f mid new (event.Resume c) h.sends h.notes p q a others is s.stepped

@@ -41,7 +41,7 @@ is_awake_still false true e = absurd (false≢true e)
 -- an event whose sends are put out, after which the broker agrees with the phases
 puts_linked : (old new : World) (e : Event) (c : ℕ) (hs : List Happening) → IsSaid e → IsLinked old → (p : Puts old e c hs new) → Agrees p.mid.broker p.mid.session (is_paused old) → IsLinked new
 puts_linked old new e c hs said k p mid =
-    settled_agrees old.config p.mid new.state c (is_paused old c) (is_paused new c) p.rest (is_paused old) (is_paused new) p.settled mid refl refl (λ d ne. ap (λ (w : Wire). is_past_bound w.output) (p.others d ne))
+    settled_agrees old.config p.mid new.state c (is_paused old c) (is_paused new c) p.rest (is_paused old) (is_paused new) p.pauses mid refl refl (λ d ne. ap (λ (w : Wire). is_past_bound w.output) (p.others d ne))
 
 pub turns_linked : (old new : World) (c : ℕ) (hs : List Happening) → IsLinked old → Turns old c hs new → IsLinked new
 turns_linked old new c hs k t =
@@ -61,7 +61,7 @@ hears_linked w c bytes k = linked_same w (with_heard w c bytes) k refl
 
 pub takes_linked : (old new : World) (c n : ℕ) (hs : List Happening) → IsLinked old → Takes_off old c n hs new → IsLinked new
 takes_linked old new c n hs k t =
-    settled_agrees old.config old.state new.state c (is_paused old c) (is_paused new c) hs (is_paused old) (is_paused new) t.settled k refl refl
+    settled_agrees old.config old.state new.state c (is_paused old c) (is_paused new c) hs (is_paused old) (is_paused new) t.pauses k refl refl
     (λ d ne. ap (λ (w : Wire). is_past_bound w.output) (t.wires d ∙ wire_changed old.wire c d _ ne))
 
 -- an opening, after which the broker agrees with the phases

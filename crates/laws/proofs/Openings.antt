@@ -127,7 +127,7 @@ turn_all c old new hs t a d = by (d == c) refl
         (step_no_header old.config old.state t.puts.mid t.event t.puts.h.sends t.puts.h.notes (read_is c _ _ _ t.event t.read).1 t.puts.happens.stepped) read.0
 
     after : is_header (new.state.session c).phase ≡ false
-    after = session_as (t.puts.mid.session c) (new.state.session c) (settled_sessions old.config t.puts.mid new.state c _ _ t.puts.rest t.puts.settled c) ∙ mid
+    after = session_as (t.puts.mid.session c) (new.state.session c) (settled_sessions old.config t.puts.mid new.state c _ _ t.puts.rest t.puts.pauses c) ∙ mid
 
     here : ReadsByPhase new c
     here = subst (OfWire (is_header (new.state.session c).phase)) (sym t.wire) (after_framed _ (new.state.session c) t.next (new.wire c).output after read.1)
@@ -160,7 +160,7 @@ heard_all w c bytes a d = by (d == c) refl
 
 takes_all : (c n : ℕ) (old new : World) (hs : List Happening) → Takes_off old c n hs new → All old → All new
 takes_all c n old new hs t a d =
-    wire_as _ _ _ (new.wire d) (session_as (old.state.session d) (new.state.session d) (settled_sessions old.config old.state new.state c _ _ hs t.settled d)) (t.wires d) (by (d == c) refl)
+    wire_as _ _ _ (new.wire d) (session_as (old.state.session d) (new.state.session d) (settled_sessions old.config old.state new.state c _ _ hs t.pauses d)) (t.wires d) (by (d == c) refl)
   where
     by : (v : Bool) → (d == c) ≡ v → OfWire (is_header (old.state.session d).phase) (cond v (record (old.wire c) { output = Rattle.std.specs.Prelude.drop n (old.wire c).output }) (old.wire d))
     by true e = subst (λ (x : ℕ). AreToCome (is_header (old.state.session d).phase) (old.wire x).kept (old.wire x).stream) (eqb-true d c e) (a d)
@@ -171,7 +171,7 @@ delivers_all : (c : ℕ) (old new : World) (hs : List Happening) → Delivers ol
 delivers_all c old new hs t a d = by (d == c) refl
   where
     session : (x : ℕ) → new.state.session x ≡ old.state.session x
-    session x = settled_sessions old.config t.puts.mid new.state c _ _ t.puts.rest t.puts.settled x ∙ t.puts.happens.stepped.session x
+    session x = settled_sessions old.config t.puts.mid new.state c _ _ t.puts.rest t.puts.pauses x ∙ t.puts.happens.stepped.session x
 
     here : ReadsByPhase new c
     here = subst (OfWire (is_header (new.state.session c).phase)) (sym t.wire) (subst (λ (b : Bool). AreToCome b (old.wire c).kept (old.wire c).stream) (sym (session_as (old.state.session c) (new.state.session c) (session c))) (a c))

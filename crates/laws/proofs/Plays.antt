@@ -5,7 +5,7 @@ use Rattle.model.specs.State.{Config, State, Step}
 use Rattle.model.specs.Run.{Happening, Run}
 use Rattle.model.specs.Spelling.{IsSpelled}
 use Rattle.model.specs.Commands.{Stream}
-use Rattle.model.specs.Arrivals.{World, Turns, Works, none_more, one_more, Waits, WorksOff, Answers, Same, with_heard, is_over, is_gone, can_open, Opens, Loses, Pumps, delivers, idles, Takes_off, TakesAndWorks, Puts, Settles, Happens, IsSaid, Plays}
+use Rattle.model.specs.Arrivals.{World, Turns, Works, none_more, one_more, Waits, WorksOff, Answers, Same, with_heard, is_over, is_gone, can_open, Opens, Loses, Pumps, delivers, idles, Takes_off, TakesAndWorks, Puts, Pauses, Happens, IsSaid, Plays}
 use Rattle.model.specs.declared.events.Send.{Send}
 use Rattle.model.specs.declared.events.Event.{Event}
 use Rattle.model.specs.declared.events.Event.TheVariants as event
@@ -92,7 +92,7 @@ settled_one f mid new e h hs said silent all p = record {
   each = subst (λ (z : List Happening). AllByRecursion (IsTold f) z) (sym all) (silent_told f mid new e h said silent p, tt);
 }
 
-settled_is : (f : Config) (mid new : State) (c : ℕ) (x y : Bool) (hs : List Happening) → Settles f mid c x y hs new → Settled f mid hs new
+settled_is : (f : Config) (mid new : State) (c : ℕ) (x y : Bool) (hs : List Happening) → Pauses f mid c x y hs new → Settled f mid hs new
 settled_is f mid new c false true hs (h, all, p) = settled_one f mid new (event.Pause c) h hs tt p.stepped.acts.sent all p
 settled_is f mid new c true false hs (h, all, p) = settled_one f mid new (event.Resume c) h hs tt p.stepped.acts.sent all p
 settled_is f mid new c true true hs p = settled_none f mid new hs p
@@ -100,7 +100,7 @@ settled_is f mid new c false false hs p = settled_none f mid new hs p
 
 pub told_puts : (a b : World) (e : Event) (c : ℕ) (hs : List Happening) → IsSaid e → Puts a e c hs b → Told a hs b
 told_puts a b e c hs said p =
-    let rest = settled_is a.config p.mid b.state c _ _ p.rest p.settled in
+    let rest = settled_is a.config p.mid b.state c _ _ p.rest p.pauses in
     let put : IsPut p.h = record {
       spelled = p.spelled;
       bounded = inr p.bounded;
@@ -135,7 +135,7 @@ told_heard a b c bytes hs t = record { run = t.run; each = t.each; config = t.co
 
 pub told_taken : (c n : ℕ) (a b : World) (hs : List Happening) → Takes_off a c n hs b → Told a hs b
 told_taken c n a b hs t =
-    let s = settled_is a.config a.state b.state c _ _ hs t.settled in
+    let s = settled_is a.config a.state b.state c _ _ hs t.pauses in
     record { run = s.run; each = s.each; config = t.config }
 
 told_taken_and_works : (c n : ℕ) (a b : World) (hs : List Happening) → TakesAndWorks a c n hs b → Told a hs b

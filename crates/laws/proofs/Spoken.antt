@@ -12,7 +12,7 @@ use Rattle.model.specs.Phases.{Session, running_session, no_session, is_running,
 use Rattle.model.specs.State.{Config, State, Step}
 use Rattle.model.specs.Run.{Happening, sends_of}
 use Rattle.model.specs.Spelling.{receiver, sends_to}
-use Rattle.model.specs.Arrivals.{World, new_world, is_ended, is_over, is_paused, is_gone, can_open, event_of, Reads, again, fresh, fault, Settles, Puts, Turns, Waits, Works, none_more, one_more, WorksOff, Same, Takes_off, Opens, Loses, Answers, Plays, with_heard, Delivers, Pumps, delivers, idles}
+use Rattle.model.specs.Arrivals.{World, new_world, is_ended, is_over, is_paused, is_gone, can_open, event_of, Reads, again, fresh, fault, Pauses, Puts, Turns, Waits, Works, none_more, one_more, WorksOff, Same, Takes_off, Opens, Loses, Answers, Plays, with_heard, Delivers, Pumps, delivers, idles}
 use Rattle.model.specs.declared.methods.Method.{Method}
 use Rattle.model.specs.declared.methods.Method.TheVariants.{ConnectionClose, ConnectionCloseOk}
 use Rattle.model.specs.declared.events.Command.{Command}
@@ -163,13 +163,13 @@ speaks_at old new hs ks e s = subst (λ (z : List Happening). Speaks old z new) 
 
 -- ---- pauses
 
-settled_silent : (f : Config) (mid new : State) (c : ℕ) (was is : Bool) (hs : List Happening) → Settles f mid c was is hs new → sends_of hs ≡ []
+settled_silent : (f : Config) (mid new : State) (c : ℕ) (was is : Bool) (hs : List Happening) → Pauses f mid c was is hs new → sends_of hs ≡ []
 settled_silent f mid new c false true hs (h, all, p) = ap sends_of all ∙ ap (λ (z : List Send). z ++ []) p.stepped.acts.sent
 settled_silent f mid new c true false hs (h, all, p) = ap sends_of all ∙ ap (λ (z : List Send). z ++ []) p.stepped.acts.sent
 settled_silent f mid new c true true hs p = ap sends_of p.0
 settled_silent f mid new c false false hs p = ap sends_of p.0
 
-pub settled_sessions : (f : Config) (mid new : State) (c : ℕ) (was is : Bool) (hs : List Happening) → Settles f mid c was is hs new → (d : ℕ) → new.session d ≡ mid.session d
+pub settled_sessions : (f : Config) (mid new : State) (c : ℕ) (was is : Bool) (hs : List Happening) → Pauses f mid c was is hs new → (d : ℕ) → new.session d ≡ mid.session d
 settled_sessions f mid new c false true hs (h, all, p) d = p.stepped.session d
 settled_sessions f mid new c true false hs (h, all, p) d = p.stepped.session d
 settled_sessions f mid new c true true hs p d = ap (λ (z : State). z.session d) p.1
@@ -183,7 +183,7 @@ awake_stands false paused e = refl
 
 puts_sends : (a b : World) (e : Event) (c : ℕ) (hs : List Happening) (p : Puts a e c hs b) → sends_of hs ≡ p.h.sends
 puts_sends a b e c hs p =
-    ap sends_of p.all ∙ ap (λ (z : List Send). p.h.sends ++ z) (settled_silent a.config p.mid b.state c _ _ p.rest p.settled) ∙ append-nil p.h.sends
+    ap sends_of p.all ∙ ap (λ (z : List Send). p.h.sends ++ z) (settled_silent a.config p.mid b.state c _ _ p.rest p.pauses) ∙ append-nil p.h.sends
 
 -- an event of c whose sends are put out, of which it is known how they go on
 put_speaks : (c : ℕ) (old new : World) (e : Event) (hs : List Happening) (p : Puts old e c hs new) → new.given ≡ old.given → is_ended (old.state.session c).phase ≡ false
@@ -194,7 +194,7 @@ put_speaks c old new e hs p given stands goes_on d sent s = by (d == c) refl
     own = ap (sends_to c) (puts_sends old new e c hs p) ∙ own_sends c p.h.sends p.own
 
     after : new.state.session c ≡ p.mid.session c
-    after = settled_sessions old.config p.mid new.state c _ _ p.rest p.settled c
+    after = settled_sessions old.config p.mid new.state c _ _ p.rest p.pauses c
 
     here : Stands old.given c (old.state.session c).phase sent → Stands new.given c (new.state.session c).phase (sent ++ sent_to c hs)
     here s = record {
@@ -274,7 +274,7 @@ loses_speaks old new c hs o d sent s = by (d == c) refl
 
 pub takes_speaks : (c n : ℕ) (old new : World) (hs : List Happening) → Takes_off old c n hs new → Speaks old hs new
 takes_speaks c n old new hs t d sent s =
-    speaks_nothing old new hs d sent t.given (settled_sessions old.config old.state new.state c _ _ hs t.settled d) (ap (sends_to d) (settled_silent old.config old.state new.state c _ _ hs t.settled)) s
+    speaks_nothing old new hs d sent t.given (settled_sessions old.config old.state new.state c _ _ hs t.pauses d) (ap (sends_to d) (settled_silent old.config old.state new.state c _ _ hs t.pauses)) s
 
 -- ---- arrivals
 

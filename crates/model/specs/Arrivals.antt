@@ -118,10 +118,10 @@ pub record Happens (f : Config) (old : State) (e : Event) (h : Happening) (new :
   pub stepped : Step f old e h.sends h.notes new
 
 -- an output that passes the bound pauses its connection, and one that falls below it resumes it
-abbrev pub Settles : Config → State → ℕ → Bool → Bool → List Happening → State → Type 0
-Settles f mid c false true hs new = (h : Happening) × (hs ≡ h ∷ []) × Happens f mid (event.Pause c) h new
-Settles f mid c true false hs new = (h : Happening) × (hs ≡ h ∷ []) × Happens f mid (event.Resume c) h new
-Settles f mid c was is hs new = (hs ≡ []) × (new ≡ mid)
+abbrev pub Pauses : Config → State → ℕ → Bool → Bool → List Happening → State → Type 0
+Pauses f mid c false true hs new = (h : Happening) × (hs ≡ h ∷ []) × Happens f mid (event.Pause c) h new
+Pauses f mid c true false hs new = (h : Happening) × (hs ≡ h ∷ []) × Happens f mid (event.Resume c) h new
+Pauses f mid c was is hs new = (hs ≡ []) × (new ≡ mid)
 
 -- An event whose sends go to c and are put out, and the pause that it brings.
 pub record Puts (old : World) (e : Event) (c : ℕ) (hs : List Happening) (new : World) : Type 0 where
@@ -135,7 +135,7 @@ pub record Puts (old : World) (e : Event) (c : ℕ) (hs : List Happening) (new :
   pub bounded : h.frame_max ≤ 131072
   pub spelled : AllByRecursion (IsSpelled h.frame_max) h.sends
   pub output : (new.wire c).output ≡ (old.wire c).output ++ spelling h.frame_max h.sends
-  pub settled : Settles old.config mid c (is_paused old c) (is_paused new c) rest new.state
+  pub pauses : Pauses old.config mid c (is_paused old c) (is_paused new c) rest new.state
   pub config : new.config ≡ old.config
   pub others : (d : ℕ) → d ≢ c → new.wire d ≡ old.wire d
   pub rests : (d : ℕ) → d ≢ c → new.state.session d ≡ old.state.session d
@@ -203,7 +203,7 @@ pub record Takes_off (old : World) (c n : ℕ) (hs : List Happening) (new : Worl
   pub config : new.config ≡ old.config
   pub given : new.given ≡ old.given
   pub wires : (d : ℕ) → new.wire d ≡ with_one old.wire c (record (old.wire c) { output = drop n (old.wire c).output }) d
-  pub settled : Settles old.config old.state c (is_paused old c) (is_paused new c) hs new.state
+  pub pauses : Pauses old.config old.state c (is_paused old c) (is_paused new c) hs new.state
 
 -- at most 1,024 connections that are not gone; a number is given once
 abbrev pub can_open : World → Bool

@@ -10,7 +10,7 @@ use Rattle.model.specs.Broker.{with_one}
 use Rattle.model.specs.Run.{Happening, notes_of, put_out}
 use Rattle.model.specs.Spelling.{receiver, sends_to, spelling}
 use Rattle.model.specs.Commands.{Stream}
-use Rattle.model.specs.Arrivals.{World, Wire, Shown, Seen, is_over, is_paused, is_ended, Settles, Happens, Puts, Turns, Waits, Same, with_heard, Takes_off, Opens, Delivers, delivers, Loses}
+use Rattle.model.specs.Arrivals.{World, Wire, Shown, Seen, is_over, is_paused, is_ended, Pauses, Happens, Puts, Turns, Waits, Same, with_heard, Takes_off, Opens, Delivers, delivers, Loses}
 use Rattle.model.specs.Consistent.{IsConsistent}
 use Rattle.laws.proofs.Consistency.{consistent_same, turns_consistent, takes_consistent, pumps_consistent, loses_consistent}
 use Rattle.model.specs.declared.notes.Note.{Note}
@@ -92,7 +92,7 @@ pauses f mid new c h hs e p = record { quiet = quiet_one h hs e p.stepped.acts.n
 resumes : (f : Config) (mid new : State) (c : ℕ) (h : Happening) (hs : List Happening) → hs ≡ h ∷ [] → Happens f mid (event.Resume c) h new → Settled mid hs new
 resumes f mid new c h hs e p = record { quiet = quiet_one h hs e p.stepped.acts.noted p.stepped.acts.sent; sessions = p.stepped.session }
 
-pub settled : (f : Config) (mid new : State) (c : ℕ) (was is : Bool) (hs : List Happening) → Settles f mid c was is hs new → Settled mid hs new
+pub settled : (f : Config) (mid new : State) (c : ℕ) (was is : Bool) (hs : List Happening) → Pauses f mid c was is hs new → Settled mid hs new
 settled f mid new c false true hs (h, e, p) = pauses f mid new c h hs e p
 settled f mid new c true false hs (h, e, p) = resumes f mid new c h hs e p
 settled f mid new c true true hs p = settled_none mid new hs p
@@ -112,7 +112,7 @@ other_sends c d (s ∷ sends) ne a =
 
 puts_all : (a b : World) (e : Event) (c : ℕ) (hs : List Happening) (d : ℕ) (p : Puts a e c hs b) → put_out d hs ≡ spelling p.h.frame_max (sends_to d p.h.sends)
 puts_all a b e c hs d p =
-    ap (put_out d) p.all ∙ ap (λ (z : List ℕ). spelling p.h.frame_max (sends_to d p.h.sends) ++ z) ((settled a.config p.mid b.state c _ _ p.rest p.settled).quiet.silent d)
+    ap (put_out d) p.all ∙ ap (λ (z : List ℕ). spelling p.h.frame_max (sends_to d p.h.sends) ++ z) ((settled a.config p.mid b.state c _ _ p.rest p.pauses).quiet.silent d)
     ∙ append-nil (spelling p.h.frame_max (sends_to d p.h.sends))
 
 puts_here : (a b : World) (e : Event) (c : ℕ) (hs : List Happening) → Puts a e c hs b → (b.wire c).output ≡ (a.wire c).output ++ put_out c hs
@@ -247,7 +247,7 @@ unopened_still a b c given here over there others none i le = go (eqb (i + 1) c)
 pub tells_takes : (a b : World) (c n : ℕ) (hs : List Happening) (s : Seen) → Takes_off a c n hs b → Tells a s hs b (record s { connections = gathered s.connections c (take n (a.wire c).output) })
 tells_takes a b c n hs s t =
     let out = (a.wire c).output in
-    let after = settled a.config a.state b.state c _ _ hs t.settled in
+    let after = settled a.config a.state b.state c _ _ hs t.pauses in
     let here : (b.wire c).output ≡ drop n out = ap (λ (w : Wire). w.output) (t.wires c ∙ with_here a.wire c c _ refl) in
     let there : (d : ℕ) → d ≢ c → (b.wire d).output ≡ (a.wire d).output = λ d ne. ap (λ (w : Wire). w.output) (t.wires d ∙ with_other a.wire c d _ ne) in
     let over : (d : ℕ) → is_over b d ≡ is_over a d = λ d. ap (λ (z : Session). is_ended z.phase) (after.sessions d) in

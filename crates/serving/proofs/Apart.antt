@@ -7,7 +7,7 @@ use Rattle.model.specs.Phases.{Session}
 use Rattle.model.specs.State.{Config, State}
 use Rattle.model.specs.Run.{Happening}
 use Rattle.model.specs.Commands.{new_stream}
-use Rattle.model.specs.Arrivals.{World, Wire, Works, none_more, one_more, Waits, WorksOff, Answers, Takes_off, TakesAndWorks, Loses, Settles, Same, with_heard, is_over, is_gone, is_past_bound, is_ended, is_awake, has_output, Opens}
+use Rattle.model.specs.Arrivals.{World, Wire, Works, none_more, one_more, Waits, WorksOff, Answers, Takes_off, TakesAndWorks, Loses, Pauses, Same, with_heard, is_over, is_gone, is_past_bound, is_ended, is_awake, has_output, Opens}
 use Rattle.model.specs.declared.events.Arrival.TheVariants as arrival
 use Rattle.model.specs.declared.events.Event.TheVariants as event
 use Rattle.serving.specs.Wire.{Ask, To_read, To_write}
@@ -46,14 +46,14 @@ apart_same c a b s = record { wires = λ d ne. s.wires d; sessions = λ d ne. ap
 apart_heard : (c : ℕ) (a : World) (bytes : List ℕ) → ApartFrom c a (with_heard a c bytes)
 apart_heard c a bytes = record { wires = λ d ne. other_one a.wire c _ d ne; sessions = λ d ne. refl }
 
-settles_sessions : (f : Config) (mid new : State) (c : ℕ) (x y : Bool) (hs : List Happening) → Settles f mid c x y hs new → (d : ℕ) → new.session d ≡ mid.session d
+settles_sessions : (f : Config) (mid new : State) (c : ℕ) (x y : Bool) (hs : List Happening) → Pauses f mid c x y hs new → (d : ℕ) → new.session d ≡ mid.session d
 settles_sessions f mid new c false true hs s d = s.2.stepped.session d
 settles_sessions f mid new c true false hs s d = s.2.stepped.session d
 settles_sessions f mid new c true true hs s d = ap (λ (z : State). z.session d) s.1
 settles_sessions f mid new c false false hs s d = ap (λ (z : State). z.session d) s.1
 
 apart_takes : (c n : ℕ) (a b : World) (hs : List Happening) → Takes_off a c n hs b → ApartFrom c a b
-apart_takes c n a b hs t = record { wires = λ d ne. t.wires d ∙ other_one a.wire c _ d ne; sessions = λ d ne. settles_sessions a.config a.state b.state c _ _ hs t.settled d }
+apart_takes c n a b hs t = record { wires = λ d ne. t.wires d ∙ other_one a.wire c _ d ne; sessions = λ d ne. settles_sessions a.config a.state b.state c _ _ hs t.pauses d }
 
 -- an arrival does nothing, or this
 either : (c : ℕ) (a b : World) (P : Type 0) (hs : List Happening) (x : Bool) → (P → ApartFrom c a b) → MatchBool x ((hs ≡ []) × Same a b) P → ApartFrom c a b

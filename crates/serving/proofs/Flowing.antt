@@ -200,10 +200,10 @@ flows_takes : (d c n : ℕ) (a b : World) (hs : List Happening) → Takes_off a 
 flows_takes d c n a b hs t = go (c == d) refl
   where
     quiet : put_out d hs ≡ []
-    quiet = (settled a.config a.state b.state c _ _ hs t.settled).quiet.silent d
+    quiet = (settled a.config a.state b.state c _ _ hs t.pauses).quiet.silent d
 
     over : is_over b d ≡ is_over a d
-    over = ap (λ (s : Session). is_ended s.phase) ((settled a.config a.state b.state c _ _ hs t.settled).sessions d)
+    over = ap (λ (s : Session). is_ended s.phase) ((settled a.config a.state b.state c _ _ hs t.pauses).sessions d)
 
     go : (x : Bool) → eqb c d ≡ x → Flows d a (if x then take n (a.wire c).output else []) hs b
     go false q = flows_not d a b hs t.given quiet (ap (λ (w : Wire). w.output) (t.wires d ∙ with_other a.wire c d _ (λ e. eqb-false c d q (sym e)))) over
