@@ -211,6 +211,14 @@ impl Channel {
     {
         self.deliveries.give_settled();
     }
+
+    /// All that is outstanding, in tag order.
+    pub fn outstanding(&self) -> &[Outstanding]
+        ensures { result.now ≡ self.now.given.outstanding }
+    {
+        self.deliveries.outstanding()
+    }
+
     /// What this tag settles, in tag order; none where it is refused, with 406. Source: AMQP 0-9-1, basic.ack.
     pub fn settle(&self, tag: u64, multiple: bool) -> Option<&[Outstanding]>
         ensures { option_map (λ s. s.now) result ≡ settled tag_of tag multiple self.now.given.outstanding }

@@ -1,9 +1,9 @@
 -- The channels of a connection that begins to run.
-use Rattle.std.proofs.Common.{◌≡◌, ◌-◌, ◌+◌, ℕ, List, [], ◌∷◌, ◌++◌, get_or, map, replicate, option_map, Option, Some, None, Bool, true, false, ◌&&◌, refl, sym, ap, ◌∙◌, arith, nat_le, if◌then◌else◌, inl, inr}
+use Rattle.std.proofs.Common.{◌≡◌, ◌-◌, ◌+◌, ◌<◌, ◌≤◌, ◌^◌, ℕ, List, [], ◌∷◌, ◌++◌, length, get_or, map, replicate, option_map, Option, Some, None, Bool, true, false, ◌&&◌, refl, sym, ap, ◌∙◌, arith, nat_le, if◌then◌else◌, inl, inr}
 use Rattle.std.proofs.Math.ListN as numbered
 use Rattle.std.proofs.lemmas.Bool.Decides.{leb_tells}
 use Rattle.std.proofs.lemmas.Grind.{get_or_head, get_or_tail}
-use Rattle.std.proofs.lemmas.List.{get_or-replicate, get_or_past, length-replicate, map-append, replicate_more}
+use Rattle.std.proofs.lemmas.List.{get_or-replicate, get_or_past, length-map, length-replicate, map-append, replicate_more}
 use Rattle.model.specs.Words.{Text}
 use Rattle.model.specs.Broker.{Channel, new_channel}
 use Rattle.model.specs.Step.{channels_up_to}
@@ -37,3 +37,11 @@ opened_next names old new ch n e is before =
     ∙ ap (λ (cs : List (Option Channel)). cs ++ Some (open_in names ch) ∷ []) before
     ∙ ap (λ (k : Channel). None ∷ replicate n (Some new_channel) ++ Some k ∷ []) is
     ∙ ap (λ (cs : List (Option Channel)). None ∷ cs) (replicate_more n (Some new_channel))
+
+-- there are no more of them than there are numbers
+pub opened_few : (channels : List (Option Open)) (n : ℕ) → n < 2 ^ 16 → map (option_map (open_in [])) channels ≡ None ∷ replicate n (Some new_channel) → length channels ≤ 2 ^ 16
+opened_few channels n lt e =
+    let same = ap length e in
+    let seen = length-map channels (option_map (open_in [])) in
+    let count = length-replicate n (Some new_channel) in
+    omega (arith, lt, same, seen, count)

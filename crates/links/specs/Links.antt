@@ -1,11 +1,12 @@
 -- The connections that run, each with its open channels, as they are kept.
-use Rattle.std.specs.Prelude.{◌≡◌, ◌==◌, ◌<◌, true, false, ℕ, List, Bool, Option, Some, None, nat_eq, slice_index_or, option_map}
+use Rattle.std.specs.Prelude.{◌≡◌, ◌==◌, ◌<◌, true, false, ℕ, List, [], Bool, Option, Some, None, nat_eq, slice_index_or, option_map}
 use Rattle.std.specs.Map.{lookup}
 use Rattle.model.specs.Words.{Text}
 use Rattle.model.specs.Step.{is_spent, channels_up_to}
 use Rattle.model.specs.Broker.{Channel, Connection, with_one, with_row, with_pair}
 use Rattle.model.specs.Prefetch.{has_tag_left}
 use Rattle.channel.specs.Open.{Open, open_in}
+use Rattle.channel.specs.declared.pending.Outstanding.{Outstanding}
 
 -- a connection that runs; its channels stand at their numbers
 pub record Linked : Type 0 where
@@ -78,6 +79,11 @@ pub record PutsIn (old : Linked) (h : ℕ) (ch : Option Open) (new : Linked) : T
   pub max : new.channel_max ≡ old.channel_max
   pub pause : new.is_paused ≡ old.is_paused
   pub channels : (k : ℕ) → channel_in new k ≡ with_one (channel_in old) h ch k
+
+-- what is outstanding on a channel, if it is open
+abbrev pub outstanding_on : Option Open → List Outstanding
+outstanding_on None = []
+outstanding_on (Some ch) = ch.given.outstanding
 
 -- how many messages more a channel can give out without memory
 abbrev pub room_in : Option Open → ℕ

@@ -19,15 +19,18 @@ pub struct Link {
 }
 
 impl Model for Link {
+    ghost use Rattle.std.specs.Prelude.{◌≤◌, ◌^◌, vec_len};
     ghost use Rattle.links.specs.Links.{Linked};
 
     ghost Value = { Linked };
 
     ghost view = { λ l. record { channel_max = l.channel_max; is_paused = l.is_paused; channels = l.channels.items } };
+
+    ghost invariant = { λ l. vec_len l.channels ≤ 2 ^ 16 };
 }
 
 impl Link {
-    ghost use Rattle.std.specs.Prelude.{◌≡◌, ◌+◌, ◌<◌, ◌^◌, ℕ, List, Option, None, Some, false, IsSome, IfSome, IfOk, OnOk, OnErr, min, option_map};
+    ghost use Rattle.std.specs.Prelude.{◌≡◌, ◌+◌, ◌<◌, ◌≤◌, ◌^◌, ℕ, List, length, Option, None, Some, false, IsSome, IfSome, IfOk, OnOk, OnErr, min, option_map};
     ghost use Rattle.std.specs.Option.{option_copied};
     ghost use Rattle.model.specs.Words.{Text as Name};
     ghost use Rattle.model.specs.Step.{started, next_of, channels_up_to, greatest};
@@ -38,7 +41,7 @@ impl Link {
     ghost use Rattle.links.specs.Consumers.{TellsOn};
     ghost use Rattle.links.specs.Consumers.{next_number};
     ghost use Rattle.links.specs.Counting.{consumers_of};
-    ghost use Rattle.links.specs.Links.{channel_in, room_in, seats_in, PutsIn, CanCount, CanGive, HasRoom, SetsRoom};
+    ghost use Rattle.links.specs.Links.{channel_in, outstanding_on, room_in, seats_in, PutsIn, CanCount, CanGive, HasRoom, SetsRoom};
 
     /// A connection with channels 1 to `channels` open and new.
     pub(crate) fn new(alloc: Global, channel_max: u16, channels: u16) -> Result<Link, AllocError>
@@ -67,6 +70,24 @@ impl Link {
         match self.channels.get(number as usize) {
             Some(Some(channel)) => Some(channel),
             _ => None,
+        }
+    }
+
+    /// How many numbers have a place for a channel, from 0 on: no channel of a greater number is open.
+    pub fn places(&self) -> usize
+        ensures places { result ≡ length self.now.channels }
+        ensures few { result ≤ 2 ^ 16 }
+    {
+        self.channels.len()
+    }
+
+    /// All that is outstanding on this channel, in tag order; nothing where it is not open.
+    pub fn outstanding(&self, number: u16) -> &[Outstanding]
+        ensures { result.now ≡ outstanding_on (channel_in self.now number) }
+    {
+        match self.channel(number) {
+            Some(channel) => channel.outstanding(),
+            None => &[],
         }
     }
 

@@ -52,7 +52,7 @@ impl Links {
     ghost use Rattle.channel.specs.Outstanding.{tag_of};
     ghost use Rattle.channel.specs.Open.{Open, limited, given_on, settled_on, without_settled, without_named, Seats};
     ghost use Rattle.links.specs.Counting.{CountsConsumers};
-    ghost use Rattle.links.specs.Links.{link_in, connection_of, channel_of, room_in, seats_in, CanCount, CanGive, HasRoom, SetsRoom, Puts, Opens, AreLinks};
+    ghost use Rattle.links.specs.Links.{link_in, connection_of, channel_of, outstanding_on, room_in, seats_in, CanCount, CanGive, HasRoom, SetsRoom, Puts, Opens, AreLinks};
 
     /// No connection runs. It takes no memory.
     pub fn new(alloc: Global) -> Links
@@ -77,6 +77,16 @@ impl Links {
         match self.get(connection) {
             Some(link) => link.channel(number),
             None => None,
+        }
+    }
+
+    /// All that is outstanding on this channel, in tag order; nothing where it is not open, or its connection doesn't run.
+    pub fn outstanding(&self, connection: u64, number: u16) -> &[Outstanding]
+        ensures { result.now ≡ outstanding_on (channel_of self.now connection number) }
+    {
+        match self.get(connection) {
+            Some(link) => link.outstanding(number),
+            None => &[],
         }
     }
 

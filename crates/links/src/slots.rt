@@ -3,6 +3,8 @@
 ghost use Rattle.std.specs.Prelude.{
   ◌≡◌,
   ◌+◌,
+  ◌≤◌,
+  ◌^◌,
   ◌∷◌,
   ◌++◌,
   None,
@@ -21,6 +23,7 @@ ghost use Rattle.std.specs.Prelude.{
   min,
   sum_by,
   option_map,
+  vec_len,
 };
 ghost use Rattle.model.specs.Words.{Text as Name};
 ghost use Rattle.model.specs.Broker.{new_channel};
@@ -277,6 +280,7 @@ pub(crate) fn open_at(
 ) -> Result<(), AllocError>
     ensures ok { OnOk result (IsSet channels.old.items number (Some channel) channels.new.items) }
     ensures err { OnErr result (channels.new.items ≡ channels.old.items) }
+    ensures few { vec_len channels.old ≤ 2 ^ 16 → vec_len channels.new ≤ 2 ^ 16 }
 {
     let at = number as usize;
     let more = (at + 1).saturating_sub(channels.len());
