@@ -13,7 +13,7 @@ use Rattle.model.specs.Grammar.{Ids, ids_of}
 use Rattle.model.specs.Broker.{Outstanding, Channel, Connection, Broker, new_channel, is_full, is_ready, with_pair, with_row}
 use Rattle.model.specs.Entries.{is_under, is_held_as, by_channel, by_connection, freed, held_as, change_first}
 use Rattle.model.specs.Settling.{Rises, is_refused, settled, kept, takes}
-use Rattle.model.specs.Deliveries.{Settlement, Leaves, Rejects, Returns, AreSettled, AreRejected, first_ready, holder_of, given_in, without_given, after_delivery, channel_after}
+use Rattle.model.specs.Deliveries.{Settlement, Leaves, Rejects, Returns, AreSettled, AreRejected, first_ready, holder_of, given_in, without_given, after_delivery, after_giving, channel_after, outstanding_after}
 use Rattle.model.specs.Step.{tag_of, Refusal, Ignored, Of_channel, Of_connection, Acts, Does, Makes, Gets, Settles, Performs, Refuses, Decides, OnConnection, OnLarge, IsPublish, IsDelivery, Is, channel_or_new, channels_up_to, comes_to, empty_publish, refusal, refusal_of_large, reply, with_freed, with_channel, is_awaiting}
 use Rattle.model.specs.Run.{empty_broker}
 use Rattle.model.specs.Deaths.{MayDie}
@@ -36,6 +36,7 @@ use Rattle.laws.specs.Agreeing.{BrokersStayAgreed}
 use Rattle.laws.proofs.Counts.{count-append, count-cons, in-append, all_in, all-append, all_each}
 use Rattle.model.specs.declared.messages.Mark.{Mark}
 use Rattle.laws.proofs.Agreement.{Passes, number, HeldIn, Shrinks, shrinks_same, shrinks_freed, shrinks_without, shrinks_filter, left_shrinks, returned_shrinks, left_clear, returned_clear, in_freed, held_here, counted_in, find_counted, ready_not_held, same_holder, shrinks_on, AreApart, IsClear, clear_on, apart_on, count_own, at_own}
+use Rattle.laws.proofs.Given.{Keeps, Any, IsOther, keeps_same, keeps_on, keeps_arrivals, keeps_freed, keeps_purged, keeps_given, left_keeps, rejected_keeps, returned_keeps, first_is_held, in_front, in_passing}
 use Rattle.laws.proofs.Dying.{Goes, not_found, left_only, died, goes_by}
 use Rattle.laws.proofs.Leaving.{at_queue}
 
@@ -48,8 +49,13 @@ IsGood ch = Rises tag_of ch.outstanding × AllByRecursion (λ (o : Outstanding).
 good_new : IsGood new_channel
 good_new = (λ i j x y lt. absurd (omega arith), tt, λ e. refl)
 
-good_closing : IsGood (record new_channel { is_closing = true })
-good_closing = (λ i j x y lt. absurd (omega arith), tt, λ e. refl)
+-- so is one on which nothing is outstanding
+good_empty : (ch : Channel) → ch.outstanding ≡ [] → IsGood ch
+good_empty ch none = (
+  subst (λ (os : List Outstanding). Rises tag_of os) (sym none) good_new.0,
+  subst (λ (os : List Outstanding). AllByRecursion (λ (o : Outstanding). o.tag < ch.next_tag) os) (sym none) tt,
+  λ e. none,
+)
 
 -- those of a broker that agrees are so, and so is one that stands for a channel that is not open
 good_or_new : (old : Broker) → IsAgreed old → (c h : ℕ) → IsGood (channel_or_new (old.channel c h))
@@ -59,6 +65,20 @@ good_or_new old a c h = go (old.channel c h) refl
     go None e = good_new
     go (Some ch) e = (a.rising c h ch e, a.before c h ch e, a.closed c h ch e)
 
+-- what is outstanding is held
+abbrev AreHeld : Broker → Type 0
+AreHeld b = (c h : ℕ) (ch : Channel) (o : Outstanding) → b.channel c h ≡ Some ch → IsIn o ch.outstanding → HeldIn (b.queue o.queue) (holder_of c h o)
+
+held_of : (old : Broker) → IsAgreed old → AreHeld old
+held_of old a c h ch o e i = let was = a.given c h ch o e i in record { entry = was.entry; there = was.there; mark = was.mark }
+
+held_or_new : (old : Broker) → IsAgreed old → (c h : ℕ) (o : Outstanding) → IsIn o (channel_or_new (old.channel c h)).outstanding → HeldIn (old.queue o.queue) (holder_of c h o)
+held_or_new old a c h o = go (old.channel c h) refl
+  where
+    go : (x : Option Channel) → old.channel c h ≡ x → IsIn o (channel_or_new x).outstanding → HeldIn (old.queue o.queue) (holder_of c h o)
+    go None e i = absurd i
+    go (Some ch) e i = held_of old a c h ch o e i
+
 -- the channel where a delivery is outstanding
 own_of : (old : Broker) (q : Text) (holder : Holder) (o : IsOutstanding old q holder) (c h : ℕ) → holder.connection ≡ c → holder.channel ≡ h → channel_or_new (old.channel c h) ≡ o.channel
 own_of old q holder o c h e f = ap channel_or_new (ap (λ (d : ℕ). old.channel d h) (sym e) ∙ ap (old.channel holder.connection) (sym f) ∙ o.there)
@@ -67,11 +87,12 @@ own_of old q holder o c h e f = ap channel_or_new (ap (λ (d : ℕ). old.channel
 
 agreed_by : (old new : Broker) → IsAgreed old → Shrinks old.queue new.queue
     → ((q : Text) (holder : Holder) → HeldIn (new.queue q) holder → IsOutstanding old q holder → IsOutstanding new q holder)
-    → ((c h : ℕ) (ch : Channel) → new.channel c h ≡ Some ch → IsGood ch) → IsAgreed new
-agreed_by old new a s keep good = record {
+    → AreHeld new → ((c h : ℕ) (ch : Channel) → new.channel c h ≡ Some ch → IsGood ch) → IsAgreed new
+agreed_by old new a s keep given good = record {
   held = λ q e holder i is.
       let was = s.held q e holder i is in
       keep q holder (record { entry = e; there = i; mark = is }) (a.held q was.entry holder was.there was.mark);
+  given = λ c h ch o e i. let it = given c h ch o e i in record { entry = it.entry; there = it.there; mark = it.mark };
   apart = λ q holder. let x = s.fewer q holder in let y = a.apart q holder in omega (arith, x, y);
   rising = λ c h ch e. (good c h ch e).0;
   before = λ c h ch e. (good c h ch e).1;
@@ -79,94 +100,123 @@ agreed_by old new a s keep good = record {
 }
 
 -- the channels are as they were
-keeps_same : (old new : Broker) → ((c h : ℕ) → new.channel c h ≡ old.channel c h) → (q : Text) (holder : Holder) → IsOutstanding old q holder → IsOutstanding new q holder
-keeps_same old new same q holder o = record { channel = o.channel; there = same holder.connection holder.channel ∙ o.there; delivery = o.delivery; outstanding = o.outstanding; tag = o.tag; queue = o.queue }
+outstanding_same : (old new : Broker) → ((c h : ℕ) → new.channel c h ≡ old.channel c h) → (q : Text) (holder : Holder) → IsOutstanding old q holder → IsOutstanding new q holder
+outstanding_same old new same q holder o = record { channel = o.channel; there = same holder.connection holder.channel ∙ o.there; delivery = o.delivery; outstanding = o.outstanding; tag = o.tag; queue = o.queue; by = o.by }
 
 good_same : (old new : Broker) → IsAgreed old → ((c h : ℕ) → new.channel c h ≡ old.channel c h) → (c h : ℕ) (ch : Channel) → new.channel c h ≡ Some ch → IsGood ch
 good_same old new a same c h ch e = let was = sym (same c h) ∙ e in (a.rising c h ch was, a.before c h ch was, a.closed c h ch was)
 
-agreed_same : (old new : Broker) → IsAgreed old → Shrinks old.queue new.queue → ((c h : ℕ) → new.channel c h ≡ old.channel c h) → IsAgreed new
-agreed_same old new a s same = agreed_by old new a s (λ q holder i o. keeps_same old new same q holder o) (good_same old new a same)
+agreed_same : (old new : Broker) → IsAgreed old → Shrinks old.queue new.queue → Keeps Any old.queue new.queue → ((c h : ℕ) → new.channel c h ≡ old.channel c h) → IsAgreed new
+agreed_same old new a s stays same = agreed_by old new a s (λ q holder i o. outstanding_same old new same q holder o)
+    (λ c h ch o e i. stays o.queue (holder_of c h o) tt (held_of old a c h ch o (sym (same c h) ∙ e) i)) (good_same old new a same)
+
+-- and so are the queues
+agreed_still : (old new : Broker) → IsAgreed old → ((q : Text) → new.queue q ≡ old.queue q) → ((c h : ℕ) → new.channel c h ≡ old.channel c h) → IsAgreed new
+agreed_still old new a queues same = agreed_same old new a (shrinks_same old.queue new.queue queues) (keeps_same Any old.queue new.queue queues) same
 
 -- one channel is another: it is this one, or one of the others
 data At (A : Type 0) (f : ℕ → ℕ → A) (c h : ℕ) (x : A) (d k : ℕ) : Type 0 where
   own : d ≡ c → k ≡ h → with_pair f c h x d k ≡ x → At A f c h x d k
-  other : with_pair f c h x d k ≡ f d k → At A f c h x d k
+  other : ((d == c) && (k == h)) ≡ false → with_pair f c h x d k ≡ f d k → At A f c h x d k
 
 pair_at : {A : Type 0} (f : ℕ → ℕ → A) (c h : ℕ) (x : A) (d k : ℕ) → At A f c h x d k
 pair_at {A = A} f c h x d k = go (d == c) refl (k == h) refl
   where
+    apart : ((d == c) && (k == h)) ≡ false → At A f c h x d k
+    apart e = other e (ap (λ (b : Bool). if b then x else f d k) e)
+
     go : (v : Bool) → (d == c) ≡ v → (w : Bool) → (k == h) ≡ w → At A f c h x d k
     go true e true g = own (eqb-true d c e) (eqb-true k h g) (ap (λ (b : Bool). if b && (k == h) then x else f d k) e ∙ ap (λ (b : Bool). if true && b then x else f d k) g)
-    go true e false g = other (ap (λ (b : Bool). if b && (k == h) then x else f d k) e ∙ ap (λ (b : Bool). if true && b then x else f d k) g)
-    go false e w g = other (ap (λ (b : Bool). if b && (k == h) then x else f d k) e)
+    go true e false g = apart (ap (λ (b : Bool). b && (k == h)) e ∙ ap (λ (b : Bool). true && b) g)
+    go false e w g = apart (ap (λ (b : Bool). b && (k == h)) e)
 
-keeps_with : (old new : Broker) (c h : ℕ) (x : Option Channel) → ((d k : ℕ) → new.channel d k ≡ with_pair old.channel c h x d k) → (q : Text) (holder : Holder) → IsOutstanding old q holder
+outstanding_with : (old new : Broker) (c h : ℕ) (x : Option Channel) → ((d k : ℕ) → new.channel d k ≡ with_pair old.channel c h x d k) → (q : Text) (holder : Holder) → IsOutstanding old q holder
     → (holder.connection ≡ c → holder.channel ≡ h → new.channel holder.connection holder.channel ≡ x → IsOutstanding new q holder) → IsOutstanding new q holder
-keeps_with old new c h x are q holder o here = go (pair_at old.channel c h x holder.connection holder.channel)
+outstanding_with old new c h x are q holder o here = go (pair_at old.channel c h x holder.connection holder.channel)
   where
     go : At (Option Channel) old.channel c h x holder.connection holder.channel → IsOutstanding new q holder
     go (own e f is) = here e f (are holder.connection holder.channel ∙ is)
-    go (other is) = record { channel = o.channel; there = are holder.connection holder.channel ∙ is ∙ o.there; delivery = o.delivery; outstanding = o.outstanding; tag = o.tag; queue = o.queue }
+    go (other apart is) = record { channel = o.channel; there = are holder.connection holder.channel ∙ is ∙ o.there; delivery = o.delivery; outstanding = o.outstanding; tag = o.tag; queue = o.queue; by = o.by }
 
 good_with : (old new : Broker) (c h : ℕ) (x : Option Channel) → IsAgreed old → ((d k : ℕ) → new.channel d k ≡ with_pair old.channel c h x d k) → ((ch : Channel) → x ≡ Some ch → IsGood ch) → (d k : ℕ) (ch : Channel) → new.channel d k ≡ Some ch → IsGood ch
 good_with old new c h x a are good d k ch e = go (pair_at old.channel c h x d k)
   where
     go : At (Option Channel) old.channel c h x d k → IsGood ch
     go (own f g is) = good ch (sym is ∙ sym (are d k) ∙ e)
-    go (other is) = let was = sym is ∙ sym (are d k) ∙ e in (a.rising d k ch was, a.before d k ch was, a.closed d k ch was)
+    go (other apart is) = let was = sym is ∙ sym (are d k) ∙ e in (a.rising d k ch was, a.before d k ch was, a.closed d k ch was)
 
--- one channel is another, on which what is still held is outstanding
-agreed_with : (old new : Broker) (c h : ℕ) (ch : Channel) → IsAgreed old → Shrinks old.queue new.queue → ((d k : ℕ) → new.channel d k ≡ with_pair old.channel c h (Some ch) d k) → IsGood ch
+-- what other channels hold stays held, and what is outstanding on this one is held
+held_with : (P : Holder → Type 0) (old new : Broker) (c h : ℕ) (x : Option Channel) → IsAgreed old → Keeps P old.queue new.queue → ((holder : Holder) → by_channel c h holder ≡ false → P holder) → ((d k : ℕ) → new.channel d k ≡ with_pair old.channel c h x d k)
+    → ((ch : Channel) (o : Outstanding) → x ≡ Some ch → IsIn o ch.outstanding → HeldIn (new.queue o.queue) (holder_of c h o)) → AreHeld new
+held_with P old new c h x a stays others are here d k ch o e i = go (pair_at old.channel c h x d k)
+  where
+    go : At (Option Channel) old.channel c h x d k → HeldIn (new.queue o.queue) (holder_of d k o)
+    go (own f g is) =
+        let it = here ch o (sym is ∙ sym (are d k) ∙ e) i in
+        subst (λ (m : ℕ). HeldIn (new.queue o.queue) (holder_of m k o)) (sym f) (subst (λ (m : ℕ). HeldIn (new.queue o.queue) (holder_of c m o)) (sym g) it)
+    go (other apart is) = stays o.queue (holder_of d k o) (others (holder_of d k o) apart) (held_of old a d k ch o (sym is ∙ sym (are d k) ∙ e) i)
+
+-- one channel is another, on which what is outstanding is what is still held
+agreed_with : (old new : Broker) (c h : ℕ) (ch : Channel) → IsAgreed old → Shrinks old.queue new.queue → ((d k : ℕ) → new.channel d k ≡ with_pair old.channel c h (Some ch) d k) → IsGood ch → AreHeld new
     → ((q : Text) (holder : Holder) → HeldIn (new.queue q) holder → holder.connection ≡ c → holder.channel ≡ h → (o : Outstanding) → IsIn o (channel_or_new (old.channel c h)).outstanding → o.tag ≡ holder.tag → o.queue ≡ q → IsIn o ch.outstanding)
     → IsAgreed new
-agreed_with old new c h ch a s are good stays = agreed_by old new a s keep (good_with old new c h (Some ch) a are (λ x e. subst IsGood (same_Some ch x e) good))
+agreed_with old new c h ch a s are good given stays = agreed_by old new a s keep given (good_with old new c h (Some ch) a are (λ x e. subst IsGood (same_Some ch x e) good))
   where
     keep : (q : Text) (holder : Holder) → HeldIn (new.queue q) holder → IsOutstanding old q holder → IsOutstanding new q holder
-    keep q holder i o = keeps_with old new c h (Some ch) are q holder o (λ e f is. record {
+    keep q holder i o = outstanding_with old new c h (Some ch) are q holder o (λ e f is. record {
       channel = ch;
       there = is;
       delivery = o.delivery;
       outstanding = stays q holder i e f o.delivery (subst (λ (x : Channel). IsIn o.delivery x.outstanding) (sym (own_of old q holder o c h e f)) o.outstanding) o.tag o.queue;
       tag = o.tag;
       queue = o.queue;
+      by = o.by;
     })
 
 -- and nothing is held on one that is closed, or has nothing on it
 agreed_cleared : (old new : Broker) (c h : ℕ) (x : Option Channel) → IsAgreed old → ((q : Text) → new.queue q ≡ map (freed (by_channel c h)) (old.queue q)) → ((d k : ℕ) → new.channel d k ≡ with_pair old.channel c h x d k)
-    → ((ch : Channel) → x ≡ Some ch → IsGood ch) → IsAgreed new
-agreed_cleared old new c h x a is are good = agreed_by old new a (shrinks_freed (by_channel c h) old.queue new.queue is) keep (good_with old new c h x a are good)
+    → ((ch : Channel) → x ≡ Some ch → ch.outstanding ≡ []) → IsAgreed new
+agreed_cleared old new c h x a is are none = agreed_by old new a (shrinks_freed (by_channel c h) old.queue new.queue is) keep given (good_with old new c h x a are (λ ch e. good_empty ch (none ch e)))
   where
+    given : AreHeld new
+    given = held_with (λ holder. by_channel c h holder ≡ false) old new c h x a (keeps_freed (by_channel c h) old.queue new.queue is) (λ holder other. other) are (λ ch o e i. absurd (subst (IsIn o) (none ch e) i))
+
     keep : (q : Text) (holder : Holder) → HeldIn (new.queue q) holder → IsOutstanding old q holder → IsOutstanding new q holder
-    keep q holder i o = keeps_with old new c h x are q holder o (λ e f there. absurd (false≢true (sym (in_freed (by_channel c h) i.entry (old.queue q) holder (subst (IsIn i.entry) (is q) i.there) i.mark).1 ∙ mine e f)))
+    keep q holder i o = outstanding_with old new c h x are q holder o (λ e f there. absurd (false≢true (sym (in_freed (by_channel c h) i.entry (old.queue q) holder (subst (IsIn i.entry) (is q) i.there) i.mark).1 ∙ mine e f)))
       where
         mine : holder.connection ≡ c → holder.channel ≡ h → by_channel c h holder ≡ true
         mine e f = ap (λ (b : Bool). b && (holder.channel == h)) (eq-eqb holder.connection c e) ∙ ap (λ (b : Bool). true && b) (eq-eqb holder.channel h f)
 
--- all channels of a connection are gone, or new where it had none
-agreed_row : (old new : Broker) (c : ℕ) (row : ℕ → Option Channel) → IsAgreed old → Shrinks old.queue new.queue → ((d k : ℕ) → new.channel d k ≡ with_row old.channel c row d k)
-    → ((k : ℕ) (ch : Channel) → row k ≡ Some ch → IsGood ch) → ((q : Text) (holder : Holder) → HeldIn (new.queue q) holder → IsOutstanding old q holder → holder.connection ≡ c → ⊥) → IsAgreed new
-agreed_row old new c row a s are good none = agreed_by old new a s keep goods
+-- all channels of a connection are gone or have nothing on them, and what they held is ready again
+agreed_freed : (old new : Broker) (c : ℕ) (row : ℕ → Option Channel) → IsAgreed old → ((q : Text) → new.queue q ≡ map (freed (by_connection c)) (old.queue q)) → ((d k : ℕ) → new.channel d k ≡ with_row old.channel c row d k)
+    → ((k : ℕ) (ch : Channel) → row k ≡ Some ch → ch.outstanding ≡ []) → IsAgreed new
+agreed_freed old new c row a is are none = agreed_by old new a (shrinks_freed (by_connection c) old.queue new.queue is) keep given good
   where
-    keep : (q : Text) (holder : Holder) → HeldIn (new.queue q) holder → IsOutstanding old q holder → IsOutstanding new q holder
-    keep q holder i o = go (holder.connection == c) refl
-      where
-        go : (v : Bool) → (holder.connection == c) ≡ v → IsOutstanding new q holder
-        go true e = absurd (none q holder i o (eqb-true holder.connection c e))
-        go false e = record { channel = o.channel; there = are holder.connection holder.channel ∙ ap (λ (b : Bool). if b then row holder.channel else old.channel holder.connection holder.channel) e ∙ o.there; delivery = o.delivery; outstanding = o.outstanding; tag = o.tag; queue = o.queue }
+    -- a channel of this connection is one of the row, and any other is as it was
+    mine : (d k : ℕ) → (d == c) ≡ true → new.channel d k ≡ row k
+    mine d k e = are d k ∙ ap (λ (b : Bool). if b then row k else old.channel d k) e
 
-    goods : (d k : ℕ) (ch : Channel) → new.channel d k ≡ Some ch → IsGood ch
-    goods d k ch is = go (d == c) refl
+    other : (d k : ℕ) → (d == c) ≡ false → new.channel d k ≡ old.channel d k
+    other d k e = are d k ∙ ap (λ (b : Bool). if b then row k else old.channel d k) e
+
+    keep : (q : Text) (holder : Holder) → HeldIn (new.queue q) holder → IsOutstanding old q holder → IsOutstanding new q holder
+    keep q holder i o =
+        let apart = (in_freed (by_connection c) i.entry (old.queue q) holder (subst (IsIn i.entry) (is q) i.there) i.mark).1 in
+        record { channel = o.channel; there = other holder.connection holder.channel apart ∙ o.there; delivery = o.delivery; outstanding = o.outstanding; tag = o.tag; queue = o.queue; by = o.by }
+
+    given : AreHeld new
+    given d k ch o e i = go (d == c) refl
+      where
+        go : (v : Bool) → (d == c) ≡ v → HeldIn (new.queue o.queue) (holder_of d k o)
+        go true f = absurd (subst (IsIn o) (none k ch (sym (mine d k f) ∙ e)) i)
+        go false f = keeps_freed (by_connection c) old.queue new.queue is o.queue (holder_of d k o) f (held_of old a d k ch o (sym (other d k f) ∙ e) i)
+
+    good : (d k : ℕ) (ch : Channel) → new.channel d k ≡ Some ch → IsGood ch
+    good d k ch e = go (d == c) refl
       where
         go : (v : Bool) → (d == c) ≡ v → IsGood ch
-        go true e = good k ch (sym (are d k ∙ ap (λ (b : Bool). if b then row k else old.channel d k) e) ∙ is)
-        go false e = let was = sym (are d k ∙ ap (λ (b : Bool). if b then row k else old.channel d k) e) ∙ is in (a.rising d k ch was, a.before d k ch was, a.closed d k ch was)
-
--- the same where what the connection held is ready again
-agreed_freed : (old new : Broker) (c : ℕ) (row : ℕ → Option Channel) → IsAgreed old → ((q : Text) → new.queue q ≡ map (freed (by_connection c)) (old.queue q)) → ((d k : ℕ) → new.channel d k ≡ with_row old.channel c row d k)
-    → ((k : ℕ) (ch : Channel) → row k ≡ Some ch → IsGood ch) → IsAgreed new
-agreed_freed old new c row a is are good = agreed_row old new c row a (shrinks_freed (by_connection c) old.queue new.queue is) are good
-    (λ q holder i o e. false≢true (sym (in_freed (by_connection c) i.entry (old.queue q) holder (subst (IsIn i.entry) (is q) i.there) i.mark).1 ∙ eq-eqb holder.connection c e))
+        go true f = good_empty ch (none k ch (sym (mine d k f) ∙ e))
+        go false f = let was = sym (other d k f) ∙ e in (a.rising d k ch was, a.before d k ch was, a.closed d k ch was)
 
 -- a connection is gone, and what it held is ready again
 agreed_gone : (old new : Broker) (c : ℕ) → IsAgreed old → ((q : Text) → new.queue q ≡ map (freed (by_connection c)) (old.queue q)) → ((d k : ℕ) → new.channel d k ≡ with_row old.channel c (λ h. None) d k) → IsAgreed new
@@ -247,16 +297,6 @@ in_kept p o (x ∷ xs) i e = go (p x) refl (in_kept p o xs) i
     go false is more (inl same) = inl same
     go false is more (inr j) = inr (more j e)
 
-in_gone : (p : Outstanding → Bool) (o : Outstanding) (os : List Outstanding) → IsIn o os → p o ≡ true → IsIn o (filter p os)
-in_gone p o [] i e = i
-in_gone p o (x ∷ xs) i e = go (p x) refl (in_gone p o xs) i
-  where
-    go : (v : Bool) → p x ≡ v → (IsIn o xs → p o ≡ true → IsIn o (filter p xs)) → IsIn o (x ∷ xs) → IsIn o (cond v (x ∷ filter p xs) (filter p xs))
-    go true is more (inl same) = inl same
-    go true is more (inr j) = inr (more j e)
-    go false is more (inl same) = absurd (false≢true (sym is ∙ sym (ap p same) ∙ e))
-    go false is more (inr j) = more j e
-
 all_kept : (P : Outstanding → Type 0) (p : Outstanding → Bool) (os : List Outstanding) → AllByRecursion P os → AllByRecursion P (filter p os)
 all_kept P p [] a = tt
 all_kept P p (x ∷ xs) a = go (p x) (all_kept P p xs a.1)
@@ -278,6 +318,24 @@ good_kept ch tag multiple g = go (is_refused tag_of tag multiple ch.outstanding)
       all_kept (λ (o : Outstanding). o.tag < ch.next_tag) (λ x. not (takes tag_of tag multiple x)) ch.outstanding g.1,
       λ e. ap (filter (λ x. not (takes tag_of tag multiple x))) (g.2 e),
     )
+
+-- what passes was there, and passes
+passing : {A : Type 0} (p : A → Bool) (x : A) (xs : List A) → IsIn x (filter p xs) → IsIn x xs × (p x ≡ true)
+passing p x [] i = absurd i
+passing p x (y ∷ ys) i = go (p y) refl (passing p x ys) i
+  where
+    go : (v : Bool) → p y ≡ v → (IsIn x (filter p ys) → IsIn x ys × (p x ≡ true)) → IsIn x (cond v (y ∷ filter p ys) (filter p ys)) → IsIn x (y ∷ ys) × (p x ≡ true)
+    go true e more (inl same) = (inl same, ap p same ∙ e)
+    go true e more (inr j) = let rest = more j in (inr rest.0, rest.1)
+    go false e more j = let rest = more j in (inr rest.0, rest.1)
+
+and_false : (b : Bool) → (b && false) ≡ false
+and_false true = refl
+and_false false = refl
+
+not_true : (b : Bool) → not b ≡ true → b ≡ false
+not_true true e = absurd (false≢true e)
+not_true false e = refl
 
 module _ (old new : Broker) (c h : ℕ) (tag : ℕ) (multiple : Bool) (gone : List Outstanding) (a : IsAgreed old) where
   abbrev mine : Channel
@@ -312,18 +370,59 @@ module _ (old new : Broker) (c h : ℕ) (tag : ℕ) (multiple : Bool) (gone : Li
           omega (arith, none, some)
 
       stays : filter (takes tag_of tag multiple) mine.outstanding ≡ gone → (v : Bool) → takes tag_of tag multiple o ≡ v → IsIn o (filter (λ x. not (takes tag_of tag multiple x)) mine.outstanding)
-      stays all true t = absurd (not_gone (subst (IsIn o) all (in_gone (takes tag_of tag multiple) o mine.outstanding there t)))
+      stays all true t = absurd (not_gone (subst (IsIn o) all (in_passing (takes tag_of tag multiple) o mine.outstanding there t)))
       stays all false t = in_kept (takes tag_of tag multiple) o mine.outstanding there t
 
       go : (v : Bool) → (if v then None else Some (filter (takes tag_of tag multiple) mine.outstanding)) ≡ Some gone → IsIn o (if v then mine.outstanding else filter (λ x. not (takes tag_of tag multiple x)) mine.outstanding)
       go true s = there
       go false s = stays (same_Some _ gone s) (takes tag_of tag multiple o) refl
 
+  -- a tag that settles one delivery and not another is not the tag of both
+  other_tag : (o p : Outstanding) → takes tag_of tag multiple o ≡ false → takes tag_of tag multiple p ≡ true → (o.tag == p.tag) ≡ false
+  other_tag o p spared taken_by = go (o.tag == p.tag) refl
+    where
+      taken : ℕ → Bool
+      taken n = if multiple then (if tag == 0 then true else nat_le n tag) else n == tag
+
+      go : (v : Bool) → (o.tag == p.tag) ≡ v → v ≡ false
+      go true e = absurd (false≢true (sym spared ∙ ap taken (eqb-true o.tag p.tag e) ∙ taken_by))
+      go false e = refl
+
+  -- what stays outstanding was so, and has none of the tags that are gone
+  kept_is_other : settled tag_of tag multiple mine.outstanding ≡ Some gone → (o : Outstanding) → IsIn o (kept tag_of tag multiple mine.outstanding) → IsIn o mine.outstanding × IsOther c h gone (holder_of c h o)
+  kept_is_other is o i = go (is_refused tag_of tag multiple mine.outstanding) is i
+    where
+      under : (p : Outstanding) → (o.tag == p.tag) ≡ false → is_under (holder_of c h p) (holder_of c h o) ≡ false
+      under p e = ap (λ (b : Bool). ((c == c) && (h == h)) && b) e ∙ and_false ((c == c) && (h == h))
+
+      go : (v : Bool) → (if v then None else Some (filter (takes tag_of tag multiple) mine.outstanding)) ≡ Some gone → IsIn o (if v then mine.outstanding else filter (λ x. not (takes tag_of tag multiple x)) mine.outstanding) → IsIn o mine.outstanding × IsOther c h gone (holder_of c h o)
+      go true s i = absurd (false≢true (ap is_some s))
+      go false s i =
+          let stays = passing (λ x. not (takes tag_of tag multiple x)) o mine.outstanding i in
+          (stays.0, λ p j. under p (other_tag o p (not_true (takes tag_of tag multiple o) stays.1) (passing (takes tag_of tag multiple) p mine.outstanding (subst (IsIn p) (sym (same_Some _ gone s)) j)).1))
+
 settles_agree : (t : Topology) (how : Settlement) (old new : Broker) (c h tag : ℕ) (multiple : Bool) (wanted sends : List Send) (notes : List Note) → IsAgreed old
     → Settles t how old c h (channel_or_new (old.channel c h)) tag multiple wanted sends notes new → IsAgreed new
-settles_agree t how old new c h tag multiple wanted sends notes a p = agreed_with old new c h _ a (shrinks how p.queues) p.channels (good_kept (channel_or_new (old.channel c h)) tag multiple (good_or_new old a c h))
+settles_agree t how old new c h tag multiple wanted sends notes a p = agreed_with old new c h _ a (shrinks how p.queues) p.channels (good_kept (channel_or_new (old.channel c h)) tag multiple (good_or_new old a c h)) given
     (still_outstanding old new c h tag multiple p.gone a p.settled_are (clear how p.queues))
   where
+    keeps : (s : Settlement) → AreSettled t s c h p.gone old.queue notes new.queue → Keeps (IsOther c h p.gone) old.queue new.queue
+    keeps (Leaves cause) q = left_keeps cause c h p.gone old.queue notes new.queue q
+    keeps Rejects q = rejected_keeps t c h p.gone old.queue notes new.queue q
+    keeps Returns q = returned_keeps c h p.gone old.queue new.queue q.1
+
+    -- another channel holds under none of these tags
+    others : (holder : Holder) → by_channel c h holder ≡ false → IsOther c h p.gone holder
+    others holder e o i = ap (λ (b : Bool). b && (holder.tag == o.tag)) e
+
+    here : (ch : Channel) (o : Outstanding) → Some (record (channel_or_new (old.channel c h)) { outstanding = kept tag_of tag multiple (channel_or_new (old.channel c h)).outstanding }) ≡ Some ch → IsIn o ch.outstanding → HeldIn (new.queue o.queue) (holder_of c h o)
+    here ch o e i =
+        let was = kept_is_other old new c h tag multiple p.gone a p.settled_are o (subst (λ (x : Channel). IsIn o x.outstanding) (sym (same_Some _ ch e)) i) in
+        keeps how p.queues o.queue (holder_of c h o) was.1 (held_or_new old a c h o was.0)
+
+    given : AreHeld new
+    given = held_with (IsOther c h p.gone) old new c h _ a (keeps how p.queues) others p.channels here
+
     shrinks : (s : Settlement) → AreSettled t s c h p.gone old.queue notes new.queue → Shrinks old.queue new.queue
     shrinks (Leaves cause) q = left_shrinks cause c h p.gone old.queue notes new.queue q
     shrinks Rejects q = rejected_shrinks t c h p.gone old.queue notes new.queue q
@@ -349,11 +448,6 @@ good_given ch false queue by open_still g = (
     in_at [] k d lt = absurd (omega arith)
     in_at (o ∷ os) zero d lt = inl refl
     in_at (o ∷ os) (suc k) d lt = inr (in_at os k d (omega arith))
-
-in_front : {A : Type 0} (x : A) (xs ys : List A) → IsIn x xs → IsIn x (xs ++ ys)
-in_front x [] ys i = absurd i
-in_front x (y ∷ xs) ys (inl e) = inl e
-in_front x (y ∷ xs) ys (inr i) = inr (in_front x xs ys i)
 
 in_end : {A : Type 0} (x : A) (xs : List A) → IsIn x (xs ++ x ∷ [])
 in_end x [] = inl refl
@@ -426,13 +520,41 @@ none_under_next old a c h by q holder under = go (count_by (is_held_as holder) (
     go zero e = e
     go (suc n) e = absurd (none (omega (arith, e)))
 
+-- what was outstanding is held still, and so is what is given out
+delivered_are_held : (old new : Broker) (c h : ℕ) (no_ack : Bool) (queue : Text) (by : Taker) (first : Entry) → first_ready (old.queue queue) ≡ Some first → IsAgreed old → Is (after_delivery old c h (channel_or_new (old.channel c h)) no_ack queue by) new → AreHeld new
+delivered_are_held old new c h no_ack queue by first found a is = held_with Any old new c h _ a stays (λ holder other. tt) is.channels (λ ch o e i. here no_ack refl o (subst (λ (x : Channel). IsIn o x.outstanding) (sym (same_Some _ ch e)) i))
+  where
+    mine : Channel
+    mine = channel_or_new (old.channel c h)
+
+    holder : Holder
+    holder = record { connection = c; channel = h; tag = mine.next_tag; by = by }
+
+    stays : Keeps Any old.queue new.queue
+    stays = keeps_on Any old.queue _ new.queue (keeps_given no_ack holder old.queue queue) (keeps_same Any _ new.queue is.queues)
+
+    still : (o : Outstanding) → IsIn o mine.outstanding → HeldIn (new.queue o.queue) (holder_of c h o)
+    still o i = stays o.queue (holder_of c h o) tt (held_or_new old a c h o i)
+
+    now_held : no_ack ≡ false → HeldIn (new.queue queue) holder
+    now_held e = subst (λ (es : List Entry). HeldIn es holder) (sym (is.queues queue ∙ at_own old.queue queue _ ∙ ap (λ (v : Bool). after_giving v holder (old.queue queue)) e)) (first_is_held holder first (old.queue queue) found)
+
+    here : (v : Bool) → no_ack ≡ v → (o : Outstanding) → IsIn o (outstanding_after v mine.next_tag queue by mine.outstanding) → HeldIn (new.queue o.queue) (holder_of c h o)
+    here true e o i = still o i
+    here false e o i = elim (in-append o mine.outstanding _ i) [
+      | inl j ↦ still o j
+      | inr (inl same) ↦ subst (λ (x : Outstanding). HeldIn (new.queue x.queue) (holder_of c h x)) (sym same) (now_held e)
+      | inr (inr j) ↦ absurd j
+    ]
+
 -- A delivery: the first ready message of a queue is held under the next tag, or leaves the queue.
-delivery_agrees : (old new : Broker) (c h : ℕ) (no_ack : Bool) (queue : Text) (by : Taker) → (channel_or_new (old.channel c h)).is_closing ≡ false → IsAgreed old → Is (after_delivery old c h (channel_or_new (old.channel c h)) no_ack queue by) new → IsAgreed new
-delivery_agrees old new c h true queue by open_still a is = agreed_with old new c h _ a
+delivery_agrees : (old new : Broker) (c h : ℕ) (no_ack : Bool) (queue : Text) (by : Taker) (first : Entry) → first_ready (old.queue queue) ≡ Some first → (channel_or_new (old.channel c h)).is_closing ≡ false → IsAgreed old → Is (after_delivery old c h (channel_or_new (old.channel c h)) no_ack queue by) new → IsAgreed new
+delivery_agrees old new c h true queue by first found open_still a is = agreed_with old new c h _ a
     (shrinks_on old.queue _ new.queue (shrinks_without is_ready old.queue queue) (shrinks_same _ new.queue is.queues)) is.channels
-    (good_given (channel_or_new (old.channel c h)) true queue by open_still (good_or_new old a c h)) (λ q holder i e f o there same at. there)
-delivery_agrees old new c h false queue by open_still a is = record {
+    (good_given (channel_or_new (old.channel c h)) true queue by open_still (good_or_new old a c h)) (delivered_are_held old new c h true queue by first found a is) (λ q holder i e f o there same at. there)
+delivery_agrees old new c h false queue by first found open_still a is = record {
   held = λ q e holder i mark. at_queue (λ (r : Text) (es : List Entry). new.queue r ≡ es → IsIn e es → IsOutstanding new r holder) old.queue queue _ (λ same j. here e holder j mark) (λ r other same j. old_one r holder (a.held r e holder j mark)) q (is.queues q) (subst (IsIn e) (is.queues q) i);
+  given = λ d k ch o e i. let it = delivered_are_held old new c h false queue by first found a is d k ch o e i in record { entry = it.entry; there = it.there; mark = it.mark };
   apart = λ q holder. subst (λ (es : List Entry). count_by (is_held_as holder) es ≤ 1) (sym (is.queues q)) (at_queue (λ (r : Text) (es : List Entry). count_by (is_held_as holder) es ≤ 1) old.queue queue _ (few holder (is_under holder (record { connection = c; channel = h; tag = (channel_or_new (old.channel c h)).next_tag; by = by })) refl) (λ r other. a.apart r holder) q);
   rising = λ d k x e. (goods d k x e).0;
   before = λ d k x e. (goods d k x e).1;
@@ -444,13 +566,14 @@ delivery_agrees old new c h false queue by open_still a is = record {
 
     -- what was outstanding is so still
     old_one : (q : Text) (holder : Holder) → IsOutstanding old q holder → IsOutstanding new q holder
-    old_one q holder o = keeps_with old new c h (Some (channel_after false queue by (channel_or_new (old.channel c h)))) is.channels q holder o (λ e f there. record {
+    old_one q holder o = outstanding_with old new c h (Some (channel_after false queue by (channel_or_new (old.channel c h)))) is.channels q holder o (λ e f there. record {
       channel = channel_after false queue by (channel_or_new (old.channel c h));
       there = there;
       delivery = o.delivery;
       outstanding = in_front o.delivery (channel_or_new (old.channel c h)).outstanding _ (subst (λ (x : Channel). IsIn o.delivery x.outstanding) (sym (own_of old q holder o c h e f)) o.outstanding);
       tag = o.tag;
       queue = o.queue;
+      by = o.by;
     })
 
     new_one : (holder : Holder) → record { connection = c; channel = h; tag = (channel_or_new (old.channel c h)).next_tag; by = by } ≡ holder → IsOutstanding new queue holder
@@ -461,6 +584,7 @@ delivery_agrees old new c h false queue by open_still a is = record {
       outstanding = in_end _ (channel_or_new (old.channel c h)).outstanding;
       tag = refl;
       queue = refl;
+      by = refl;
     })
 
     here : (e : Entry) (holder : Holder) → IsIn e (change_first is_ready (held_as (record { connection = c; channel = h; tag = (channel_or_new (old.channel c h)).next_tag; by = by })) (old.queue queue)) → e.mark ≡ Held holder → IsOutstanding new queue holder
@@ -482,10 +606,14 @@ delivery_agrees old new c h false queue by open_still a is = record {
 -- ---- all cases
 
 -- the record of one channel changed, and neither its next tag nor what is outstanding there
-agreed_record : (old new : Broker) (c h : ℕ) (ch : Channel) → IsAgreed old → Shrinks old.queue new.queue → ((d k : ℕ) → new.channel d k ≡ with_pair old.channel c h (Some ch) d k)
+agreed_record : (old new : Broker) (c h : ℕ) (ch : Channel) → IsAgreed old → Shrinks old.queue new.queue → Keeps Any old.queue new.queue → ((d k : ℕ) → new.channel d k ≡ with_pair old.channel c h (Some ch) d k)
     → ch.outstanding ≡ (channel_or_new (old.channel c h)).outstanding → ch.next_tag ≡ (channel_or_new (old.channel c h)).next_tag → ch.is_closing ≡ (channel_or_new (old.channel c h)).is_closing → IsAgreed new
-agreed_record old new c h ch a s are same next closing = agreed_with old new c h ch a s are good (λ q holder i e f o there tag at. subst (IsIn o) (sym same) there)
+agreed_record old new c h ch a s stays are same next closing = agreed_with old new c h ch a s are good given (λ q holder i e f o there tag at. subst (IsIn o) (sym same) there)
   where
+    given : AreHeld new
+    given = held_with Any old new c h (Some ch) a stays (λ holder other. tt) are
+        (λ x o e i. stays o.queue (holder_of c h o) tt (held_or_new old a c h o (subst (IsIn o) same (subst (λ (y : Channel). IsIn o y.outstanding) (sym (same_Some ch x e)) i))))
+
     good : IsGood ch
     good =
         let g = good_or_new old a c h in (
@@ -494,9 +622,14 @@ agreed_record old new c h ch a s are same next closing = agreed_with old new c h
           λ e. same ∙ g.2 (sym closing ∙ e),
         )
 
+-- where the queues are as they were too
+agreed_alone : (old new : Broker) (c h : ℕ) (ch : Channel) → IsAgreed old → ((q : Text) → new.queue q ≡ old.queue q) → ((d k : ℕ) → new.channel d k ≡ with_pair old.channel c h (Some ch) d k)
+    → ch.outstanding ≡ (channel_or_new (old.channel c h)).outstanding → ch.next_tag ≡ (channel_or_new (old.channel c h)).next_tag → ch.is_closing ≡ (channel_or_new (old.channel c h)).is_closing → IsAgreed new
+agreed_alone old new c h ch a queues = agreed_record old new c h ch a (shrinks_same old.queue new.queue queues) (keeps_same Any old.queue new.queue queues)
+
 module _ (t : Topology) (old new : Broker) (a : IsAgreed old) where
   nothing : (sends wanted : List Send) (notes : List Note) → Does sends notes new wanted old → IsAgreed new
-  nothing sends wanted notes p = agreed_same old new a (shrinks_same old.queue new.queue p.left.queues) p.left.channels
+  nothing sends wanted notes p = agreed_still old new a p.left.queues p.left.channels
 
   goes : (sends wanted : List Send) (notes : List Note) (c : ℕ) → Does sends notes new wanted (Rattle.model.specs.Step.with_gone old c) → IsAgreed new
   goes sends wanted notes c p = agreed_gone old new c a p.left.queues p.left.channels
@@ -505,13 +638,13 @@ module _ (t : Topology) (old new : Broker) (a : IsAgreed old) where
   closes sends notes c h true p = nothing sends _ notes p
   closes sends notes c h false p = agreed_cleared old new c h None a p.left.queues p.left.channels (λ ch e. absurd (false≢true (ap is_some e)))
 
-  gets : (sends : List Send) (notes : List Note) (c h : ℕ) (m : Get) (o : Option Entry) → (channel_or_new (old.channel c h)).is_closing ≡ false → Gets old c h (channel_or_new (old.channel c h)) m o sends notes new → IsAgreed new
-  gets sends notes c h m None open_still p = agreed_same old new a (shrinks_same old.queue new.queue p.left.queues) p.left.channels
-  gets sends notes c h m (Some e) open_still p = delivery_agrees old new c h m.no_ack m.queue taker.Get open_still a p.left
+  gets : (sends : List Send) (notes : List Note) (c h : ℕ) (m : Get) (o : Option Entry) → first_ready (old.queue m.queue) ≡ o → (channel_or_new (old.channel c h)).is_closing ≡ false → Gets old c h (channel_or_new (old.channel c h)) m o sends notes new → IsAgreed new
+  gets sends notes c h m None found open_still p = agreed_still old new a p.left.queues p.left.channels
+  gets sends notes c h m (Some e) found open_still p = delivery_agrees old new c h m.no_ack m.queue taker.Get e found open_still a p.left
 
   refuses : (sends : List Send) (notes : List Note) (c h : ℕ) (cause : Ids) (r : Refusal) → Refuses old c h cause r sends notes new → IsAgreed new
   refuses sends notes c h cause Ignored p = nothing sends _ notes p
-  refuses sends notes c h cause (Of_channel code) p = agreed_cleared old new c h _ a p.left.queues p.left.channels (λ ch e. subst IsGood (same_Some _ ch e) good_closing)
+  refuses sends notes c h cause (Of_channel code) p = agreed_cleared old new c h _ a p.left.queues p.left.channels (λ ch e. ap (λ (x : Channel). x.outstanding) (sym (same_Some _ ch e)))
   refuses sends notes c h cause (Of_connection code) p = goes sends _ notes c p
 
   -- on a channel that awaits close-ok nothing is outstanding
@@ -524,12 +657,13 @@ module _ (t : Topology) (old new : Broker) (a : IsAgreed old) where
   -- a close-ok is taken only where it is awaited
   ends : (sends : List Send) (notes : List Note) (c h : ℕ) → is_awaiting (old.channel c h) ≡ true → Does sends notes new [] (with_channel old c h None) → IsAgreed new
   ends sends notes c h awaits p = agreed_by old new a (shrinks_same old.queue new.queue p.left.queues)
-      (λ q holder i o. keeps_with old new c h None p.left.channels q holder o (λ e f there. absurd (closing_has_none c h awaits q holder o e f)))
+      (λ q holder i o. outstanding_with old new c h None p.left.channels q holder o (λ e f there. absurd (closing_has_none c h awaits q holder o e f)))
+      (held_with Any old new c h None a (keeps_same Any old.queue new.queue p.left.queues) (λ holder other. tt) p.left.channels (λ ch o e i. absurd (false≢true (ap is_some e))))
       (good_with old new c h None a p.left.channels (λ ch e. absurd (false≢true (ap is_some e))))
 
   limits : (sends wanted : List Send) (notes : List Note) (c h count : ℕ) (v : Bool) → Does sends notes new wanted (with_channel old c h (Some (if v then record (channel_or_new (old.channel c h)) { limit = count } else record (channel_or_new (old.channel c h)) { each_limit = count }))) → IsAgreed new
-  limits sends wanted notes c h count true d = agreed_record old new c h _ a (shrinks_same old.queue new.queue d.left.queues) d.left.channels refl refl refl
-  limits sends wanted notes c h count false d = agreed_record old new c h _ a (shrinks_same old.queue new.queue d.left.queues) d.left.channels refl refl refl
+  limits sends wanted notes c h count true d = agreed_alone old new c h _ a d.left.queues d.left.channels refl refl refl
+  limits sends wanted notes c h count false d = agreed_alone old new c h _ a d.left.queues d.left.channels refl refl refl
 
   -- what a channel that awaits close-ok takes, and what it doesn't
   awaited : (conn : Connection) (h : ℕ) (ch : Option Channel) → refusal t old conn h ChannelCloseOk ch ≡ None → is_awaiting ch ≡ true
@@ -561,7 +695,8 @@ module _ (t : Topology) (old new : Broker) (a : IsAgreed old) where
   -- so nothing was outstanding there
   opens : (sends wanted : List Send) (notes : List Note) (c h : ℕ) → old.channel c h ≡ None → Does sends notes new wanted (with_channel old c h (Some new_channel)) → IsAgreed new
   opens sends wanted notes c h none p = agreed_by old new a (shrinks_same old.queue new.queue p.left.queues)
-      (λ q holder i o. keeps_with old new c h (Some new_channel) p.left.channels q holder o (λ e f there. absurd (false≢true (ap is_some (sym none ∙ ap (λ (d : ℕ). old.channel d h) (sym e) ∙ ap (old.channel holder.connection) (sym f) ∙ o.there)))))
+      (λ q holder i o. outstanding_with old new c h (Some new_channel) p.left.channels q holder o (λ e f there. absurd (false≢true (ap is_some (sym none ∙ ap (λ (d : ℕ). old.channel d h) (sym e) ∙ ap (old.channel holder.connection) (sym f) ∙ o.there)))))
+      (held_with Any old new c h (Some new_channel) a (keeps_same Any old.queue new.queue p.left.queues) (λ holder other. tt) p.left.channels (λ ch o e i. absurd (subst (λ (x : Channel). IsIn o x.outstanding) (sym (same_Some new_channel ch e)) i)))
       (good_with old new c h (Some new_channel) a p.left.channels (λ ch e. subst IsGood (same_Some new_channel ch e) good_new))
 
   not_awaited : (conn : Connection) (h : ℕ) (m : Get) (ch : Option Channel) → refusal t old conn h (BasicGet m) ch ≡ None → (channel_or_new ch).is_closing ≡ false
@@ -573,8 +708,8 @@ module _ (t : Topology) (old new : Broker) (a : IsAgreed old) where
       by false rest e = refl
 
   performs : (sends : List Send) (notes : List Note) (c h : ℕ) (m : Method) (content : Option Content) (conn : Connection) → refusal t old conn h m (old.channel c h) ≡ None → Performs t old c h (channel_or_new (old.channel c h)) m content sends notes new → IsAgreed new
-  performs sends notes c h (ConfirmSelect no_wait) content conn accepted p = agreed_record old new c h _ a (shrinks_same old.queue new.queue p.left.queues) p.left.channels refl refl refl
-  performs sends notes c h (BasicPublish publish) content conn accepted p = agreed_record old new c h _ a (shrinks_arrivals t old.queue new.queue old.queue _ p.targets p.left.queues) p.left.channels refl refl refl
+  performs sends notes c h (ConfirmSelect no_wait) content conn accepted p = agreed_alone old new c h _ a p.left.queues p.left.channels refl refl refl
+  performs sends notes c h (BasicPublish publish) content conn accepted p = agreed_record old new c h _ a (shrinks_arrivals t old.queue new.queue old.queue _ p.targets p.left.queues) (keeps_arrivals Any old.queue _ new.queue p.left.queues) p.left.channels refl refl refl
   performs sends notes c h (ChannelOpen reserved) content conn accepted p = opens sends _ notes c h (not_open conn h reserved (old.channel c h) accepted) p
   performs sends notes c h (ChannelFlow active) content conn accepted p = nothing sends _ notes p
   performs sends notes c h (ChannelClose m) content conn accepted p = closes sends notes c h (channel_or_new (old.channel c h)).is_closing p
@@ -583,15 +718,16 @@ module _ (t : Topology) (old new : Broker) (a : IsAgreed old) where
   performs sends notes c h (ExchangeDeclare m) content conn accepted p = nothing sends _ notes p
   performs sends notes c h (QueueDeclare m) content conn accepted p = nothing sends _ notes p.does
   performs sends notes c h (BasicQos m) content conn accepted p = limits sends _ notes c h m.prefetch_count m.global p
-  performs sends notes c h (BasicConsume m) content conn accepted p = agreed_record old new c h _ a (shrinks_same old.queue new.queue p.left.queues) p.left.channels refl refl refl
-  performs sends notes c h (BasicCancel m) content conn accepted p = agreed_record old new c h _ a (shrinks_same old.queue new.queue p.left.queues) p.left.channels refl refl refl
-  performs sends notes c h (BasicGet m) content conn accepted p = gets sends notes c h m (first_ready (old.queue m.queue)) (not_awaited conn h m (old.channel c h) accepted) p
+  performs sends notes c h (BasicConsume m) content conn accepted p = agreed_alone old new c h _ a p.left.queues p.left.channels refl refl refl
+  performs sends notes c h (BasicCancel m) content conn accepted p = agreed_alone old new c h _ a p.left.queues p.left.channels refl refl refl
+  performs sends notes c h (BasicGet m) content conn accepted p = gets sends notes c h m (first_ready (old.queue m.queue)) refl (not_awaited conn h m (old.channel c h) accepted) p
   performs sends notes c h (BasicAck m) content conn accepted p = settles_agree t _ old new c h m.delivery_tag m.multiple [] sends notes a p
   performs sends notes c h (BasicReject m) content conn accepted p = settles_agree t _ old new c h m.delivery_tag false [] sends notes a p
   performs sends notes c h (BasicNack m) content conn accepted p = settles_agree t _ old new c h m.delivery_tag m.multiple [] sends notes a p
   performs sends notes c h (BasicRecover requeue) content conn accepted p = settles_agree t _ old new c h 0 true _ sends notes a p
   performs sends notes c h (QueuePurge m) content conn accepted p =
-      agreed_same old new a (shrinks_on old.queue _ new.queue (shrinks_filter (λ e. not (is_ready e)) old.queue m.queue) (shrinks_same _ new.queue p.left.queues)) p.left.channels
+      agreed_same old new a (shrinks_on old.queue _ new.queue (shrinks_filter (λ e. not (is_ready e)) old.queue m.queue) (shrinks_same _ new.queue p.left.queues))
+      (keeps_on Any old.queue _ new.queue (keeps_purged old.queue m.queue) (keeps_same Any _ new.queue p.left.queues)) p.left.channels
   performs sends notes c h _ content conn accepted p = absurd p
 
   decides : (sends : List Send) (notes : List Note) (c h : ℕ) (m : Method) (content : Option Content) (conn : Connection) (r : Option Refusal) → refusal t old conn h m (old.channel c h) ≡ r → Decides t old c h m content r sends notes new → IsAgreed new
@@ -606,37 +742,38 @@ module _ (t : Topology) (old new : Broker) (a : IsAgreed old) where
   too_large sends notes c h None p = nothing sends _ notes p
   too_large sends notes c h (Some conn) p = refuses sends notes c h (ids_of empty_publish) (refusal_of_large conn h (old.channel c h)) p
 
-  row_good : (k n : ℕ) (ch : Channel) → channels_up_to k n ≡ Some ch → IsGood ch
-  row_good k n ch e = by (nat_le 1 n && nat_le n k) e
+  row_is_empty : (k n : ℕ) (ch : Channel) → channels_up_to k n ≡ Some ch → ch.outstanding ≡ []
+  row_is_empty k n ch e = by (nat_le 1 n && nat_le n k) e
     where
-      by : (v : Bool) → (if v then Some new_channel else None) ≡ Some ch → IsGood ch
-      by true e = subst IsGood (same_Some new_channel ch e) good_new
+      by : (v : Bool) → (if v then Some new_channel else None) ≡ Some ch → ch.outstanding ≡ []
+      by true e = ap (λ (x : Channel). x.outstanding) (sym (same_Some new_channel ch e))
       by false e = absurd (false≢true (ap is_some e))
 
   delivers : (sends : List Send) (notes : List Note) (c : ℕ) → IsDelivery old c sends notes new → IsAgreed new
   delivers sends notes c p =
       let o = p.made in
       let is : channel_or_new (old.channel c o.number) ≡ o.channel = ap channel_or_new o.taker.there in
-      delivery_agrees old new c o.number o.consumer.no_ack o.consumer.queue (taker.Consumer o.consumer.number) (ap (λ (ch : Channel). ch.is_closing) is ∙ o.taker.open_still) a
+      delivery_agrees old new c o.number o.consumer.no_ack o.consumer.queue (taker.Consumer o.consumer.number) o.entry o.first (ap (λ (ch : Channel). ch.is_closing) is ∙ o.taker.open_still) a
       (subst (λ (ch : Channel). Is (after_delivery old c o.number ch o.consumer.no_ack o.consumer.queue (taker.Consumer o.consumer.number)) new) (sym is) p.makes.left)
 
   -- Each event keeps the agreement.
   pub onward : (e : Event) (sends : List Send) (notes : List Note) → Acts t old e sends notes new → IsAgreed new
   onward (Open c) sends notes p = nothing sends _ notes p
   onward (First c bytes) sends notes p = nothing sends _ notes p
-  onward (Running c max k) sends notes p = agreed_freed old new c (channels_up_to k) a p.left.queues p.left.channels (row_good k)
+  onward (Running c max k) sends notes p = agreed_freed old new c (channels_up_to k) a p.left.queues p.left.channels (row_is_empty k)
   onward (Command c h m content) sends notes p = commanded sends notes c h m content (old.connection c) p
   onward (TooLarge c h) sends notes p = too_large sends notes c h (old.connection c) p
   onward (Fault c code) sends notes p = goes sends _ notes c p
   onward (Lose c) sends notes p = goes sends _ notes c p
-  onward (Pause c) sends notes p = agreed_same old new a (shrinks_same old.queue new.queue p.left.queues) p.left.channels
-  onward (Resume c) sends notes p = agreed_same old new a (shrinks_same old.queue new.queue p.left.queues) p.left.channels
+  onward (Pause c) sends notes p = agreed_still old new a p.left.queues p.left.channels
+  onward (Resume c) sends notes p = agreed_still old new a p.left.queues p.left.channels
   onward (Deliver c) sends notes p = delivers sends notes c p
 
 -- in the empty broker nothing is held
 none_held : IsAgreed empty_broker
 none_held = record {
   held = λ q e holder i is. absurd i;
+  given = λ c h ch o e i. absurd (false≢true (ap is_some e));
   apart = λ q holder. omega arith;
   rising = λ c h ch e. absurd (false≢true (ap is_some e));
   before = λ c h ch e. absurd (false≢true (ap is_some e));

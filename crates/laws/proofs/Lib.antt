@@ -4,6 +4,7 @@ pub mod Leaving
 pub mod Entering
 pub mod Dying
 pub mod Agreement
+pub mod Given
 pub mod Agreed
 pub mod Speaking
 pub mod View
