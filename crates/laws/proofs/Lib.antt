@@ -35,4 +35,5 @@ pub mod Naming
 pub mod Openings
 pub mod Whole
 pub mod Rows
+pub mod Disagreeing
 pub mod Deaths

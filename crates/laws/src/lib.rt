@@ -5,7 +5,7 @@
 #![tactic(auto)]
 
 ghost use Rattle.std.specs.Prelude.{◌≡◌};
-ghost use Rattle.laws.specs.Agreeing.{BrokersStayAgreed};
+ghost use Rattle.laws.specs.Agreeing.{AgreementRefuses, BrokersStayAgreed};
 ghost use Rattle.laws.specs.Alone.{SoundForWords};
 ghost use Rattle.laws.specs.Carrying.{MessagesStayCarried, SendsAreOwn};
 ghost use Rattle.laws.specs.Consumers.{ConsumersAreMade, ConsumersStayNamed, DeliveriesAreAddressed, NextTagsAreFound, PlaysStayNamed, WorldsStayNamed};
@@ -120,7 +120,7 @@ pub fn worlds_stay_consistent()
 {}
 
 /// Whatever happens, each message that is held in a queue is outstanding on the channel that holds it, under a tag of its
-/// own that is below the next one.
+/// own that is below the next one, and each that is outstanding on a channel is held in its queue by that channel.
 pub fn brokers_stay_agreed()
     ensures { BrokersStayAgreed }
 {}
@@ -201,7 +201,8 @@ pub fn headline()
     ensures { (f : Config) → HeadlineHolds f }
 {}
 
-/// Worked examples of the definitions, from the bytes of the first publish to what the headline refuses, and of dead letters.
+/// Worked examples of the definitions, from the bytes of the first publish to what the headline refuses, of what is held and
+/// outstanding, and of dead letters.
 pub fn worked_examples()
     ensures words { WordsOfKeys }
     ensures input { FirstInput }
@@ -211,6 +212,7 @@ pub fn worked_examples()
     ensures refused { HeadlineRefuses }
     ensures consumer { FirstConsumer }
     ensures refused_consumers { RefusedConsumes }
+    ensures agreement { AgreementRefuses }
     ensures deaths { WorkedDeaths }
     ensures refused_deaths { DeathsRefuse }
 {}
