@@ -6,6 +6,7 @@ use Rattle.model.specs.State.{Config}
 use Rattle.model.specs.Run.{Happening, notes_of}
 use Rattle.model.specs.Arrivals.{World, new_world, Answers, Same, Shows, shown, Plays, with_heard}
 use Rattle.model.specs.Consistent.{IsConsistent}
+use Rattle.model.specs.Headline.{IsSound}
 use Rattle.model.specs.declared.events.Arrival.{Arrival}
 use Rattle.model.specs.declared.events.Arrival.TheVariants as arrival
 use Rattle.laws.proofs.Consistency.{linked, new_is_consistent}
