@@ -1,6 +1,7 @@
 pub mod Consuming
 mod Declaring
 mod Delivering
+mod Freed
 mod Getting
 mod Giving
 mod Outcomes

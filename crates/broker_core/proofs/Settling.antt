@@ -38,11 +38,11 @@ without_published : (c h : ℕ) (os : List Outstanding) (s : Store) → (without
 without_published c h [] s = refl
 without_published c h (o ∷ os) s = without_published c h os (without_one c h s o)
 
-returned_topology : (c h : ℕ) (os : List Outstanding) (s : Store) → (returned_all c h s os).topology ≡ s.topology
+pub returned_topology : (c h : ℕ) (os : List Outstanding) (s : Store) → (returned_all c h s os).topology ≡ s.topology
 returned_topology c h [] s = refl
 returned_topology c h (o ∷ os) s = returned_topology c h os (returned_one c h s o)
 
-returned_published : (c h : ℕ) (os : List Outstanding) (s : Store) → (returned_all c h s os).published ≡ s.published
+pub returned_published : (c h : ℕ) (os : List Outstanding) (s : Store) → (returned_all c h s os).published ≡ s.published
 returned_published c h [] s = refl
 returned_published c h (o ∷ os) s = returned_published c h os (returned_one c h s o)
 

@@ -18,7 +18,7 @@ use Rattle.model.specs.declared.events.Send.{Send}
 use Rattle.model.specs.declared.notes.Note.{Note}
 use Rattle.model.specs.declared.notes.Note.TheVariants.{Published}
 use Rattle.model.specs.declared.notes.Way.TheVariants as way
-use Rattle.depot.specs.Store.{Store, with_requeued, queue_of}
+use Rattle.depot.specs.Store.{Store, queue_of}
 use Rattle.depot.specs.Publishing.{Publishes}
 use Rattle.depot.specs.declared.depots.Routed.{Routed}
 use Rattle.channel.specs.Open as opened
@@ -74,35 +74,41 @@ pub seen_gone : (names others : List Text) (old new : List (ℕ × Linked)) (c :
 seen_gone names others old new c e l d k =
     seen_by names others (channel_of new d k) e ∙ ap (option_map (open_in names)) (l d k) ∙ seen_if names (d == c) None (channel_of old d k)
 
+-- What these held is ready again, and nothing else changes.
+pub record IsFreed (mine : Holder → Bool) (old new : Store) : Type 0 where
+  pub topology : new.topology ≡ old.topology
+  pub published : new.published ≡ old.published
+  pub queues : (q : Text) → queue_of new q ≡ map (freed mine) (queue_of old q)
+
 -- a connection is gone, and what it held is requeued
-pub gone_is : (old new : Kept) (c : ℕ) → new.store ≡ with_requeued old.store (by_connection c)
+pub gone_is : (old new : Kept) (c : ℕ) → IsFreed (by_connection c) old.store new.store
     → AreLinks new.links (with_one (connection_of old.links) c None) (with_row (channel_of old.links) c (λ h. None))
     → Is (with_gone (broker_of old) c) (broker_of new)
-gone_is old new c e l = record {
-  counted = ap (λ (s : Store). s.published) e;
-  queues = λ q. ap (λ (s : Store). queue_of s q) e ∙ listed_requeued (by_connection c) (queue_names old.store.topology.queues) old.store.queues q;
+gone_is old new c f l = record {
+  counted = f.published;
+  queues = f.queues;
   connections = l.connections_are;
-  channels = seen_gone (names_of old) (names_of new) old.links new.links c (ap (λ (s : Store). queue_names s.topology.queues) e) l.channels_are;
+  channels = seen_gone (names_of old) (names_of new) old.links new.links c (ap (λ (t : Topology). queue_names t.queues) f.topology) l.channels_are;
 }
 
 -- a connection runs, and what one of its number held is requeued
-pub opened_is : (old new : Kept) (c max k : ℕ) → new.store ≡ with_requeued old.store (by_connection c) → Opens old.links c max k new.links → Is (step.opened (broker_of old) c max k) (broker_of new)
-opened_is old new c max k e l = record {
-  counted = ap (λ (s : Store). s.published) e;
-  queues = λ q. ap (λ (s : Store). queue_of s q) e ∙ listed_requeued (by_connection c) (queue_names old.store.topology.queues) old.store.queues q;
+pub opened_is : (old new : Kept) (c max k : ℕ) → IsFreed (by_connection c) old.store new.store → Opens old.links c max k new.links → Is (step.opened (broker_of old) c max k) (broker_of new)
+opened_is old new c max k f l = record {
+  counted = f.published;
+  queues = f.queues;
   connections = l.connections_are;
   channels = λ d h. l.channels_are (names_of new) d h
-      ∙ ap (λ (names : List Text). with_row (seen_in names old.links) c (channels_up_to k) d h) (ap (λ (s : Store). queue_names s.topology.queues) e);
+      ∙ ap (λ (names : List Text). with_row (seen_in names old.links) c (channels_up_to k) d h) (ap (λ (t : Topology). queue_names t.queues) f.topology);
 }
 
 -- a channel is another, and what it held is requeued
-pub cleared_is : (old new : Kept) (c h : ℕ) (ch : Option Open) → new.store ≡ with_requeued old.store (by_channel c h) → Puts old.links c h ch new.links
+pub cleared_is : (old new : Kept) (c h : ℕ) (ch : Option Open) → IsFreed (by_channel c h) old.store new.store → Puts old.links c h ch new.links
     → Is (with_freed (with_channel (broker_of old) c h (option_map (open_in (names_of old)) ch)) (by_channel c h)) (broker_of new)
-cleared_is old new c h ch e l = record {
-  counted = ap (λ (s : Store). s.published) e;
-  queues = λ q. ap (λ (s : Store). queue_of s q) e ∙ listed_requeued (by_channel c h) (queue_names old.store.topology.queues) old.store.queues q;
+cleared_is old new c h ch f l = record {
+  counted = f.published;
+  queues = f.queues;
   connections = l.connections;
-  channels = seen_put (names_of old) (names_of new) old.links new.links c h ch (ap (λ (s : Store). queue_names s.topology.queues) e) l;
+  channels = seen_put (names_of old) (names_of new) old.links new.links c h ch (ap (λ (t : Topology). queue_names t.queues) f.topology) l;
 }
 
 -- a channel is another, and nothing else changes

@@ -2,3 +2,4 @@ pub mod State
 pub mod Consumed
 pub mod Picked
 pub mod Seats
+pub mod Freed

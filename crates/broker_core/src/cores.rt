@@ -204,6 +204,7 @@ impl Core {
         connection: u64,
         channel: u16,
     ) -> Result<Step, AllocError>
+        requires { IsAgreed (broker_of self.old) }
         ensures ok { IfOk result (λ s. OnLarge (broker_of self.old) connection channel s.sends.items s.notes.items (broker_of self.new) ((broker_of self.old).connection connection)) }
         ensures ignored { IsLargeIgnored (broker_of self.old) connection channel ((broker_of self.old).connection connection) → IsOk result }
         ensures own { IfOk result (λ s. AreOwn connection s.sends.items) }

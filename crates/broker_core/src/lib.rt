@@ -5,6 +5,7 @@
 #![tactic(auto)]
 
 mod cores;
+mod freeing;
 mod picks;
 
 pub use cores::Core;

@@ -2,13 +2,16 @@
 
 use crate::cores::Core;
 use channel::Channel;
+use depot::places_are_named;
 use judging::Refusal;
 use model::{Ids, Send};
 use replies::{Step, channel_close, channel_close_ok, connection_close};
+use settling::put_back;
 use std::alloc::{AllocError, Global};
 
 impl Core {
     ghost use Rattle.std.specs.Prelude.{◌≡◌, ◌∷◌, [], None, Some, IsSome, IfOk, IsOk, OnErr, option_map};
+    ghost use Rattle.model.specs.Agreement.{IsAgreed};
     ghost use Rattle.model.specs.Grammar.{ids};
     ghost use Rattle.model.specs.Step as said;
     ghost use Rattle.model.specs.Entries.{by_channel};
@@ -26,7 +29,8 @@ impl Core {
         connection: u64,
         send: Send,
     ) -> Result<Step, AllocError>
-        requires { IsOwn connection send }
+        requires agreed { IsAgreed (broker_of self.old) }
+        requires own { IsOwn connection send }
         ensures ok { IfOk result (λ s. Does s.sends.items s.notes.items (broker_of self.new) (send ∷ []) (with_gone (broker_of self.old) connection)) }
         ensures own { IfOk result (λ s. AreOwn connection s.sends.items) }
         ensures topology { topology_of self.new ≡ topology_of self.old }
@@ -39,13 +43,17 @@ impl Core {
 
     /// What the channel held is ready again, and this stands in its place.
     fn clear(&mut self, connection: u64, number: u16, channel: Option<Channel>)
+        requires agreed { IsAgreed (broker_of self.old) }
         requires there { IsSome ((broker_of self.old).channel connection number) }
         requires nothing { (k : Open) → channel ≡ Some k → k.given.outstanding ≡ [] }
         requires free { (k : Open) → channel ≡ Some k → k.given.consumers ≡ [] }
         ensures cleared { Is (said.with_freed (with_channel (broker_of self.old) connection number (option_map (open_in (names_of self.old)) channel)) (by_channel connection number)) (broker_of self.new) }
         ensures topology { topology_of self.new ≡ topology_of self.old }
     {
-        self.depot.requeue_channel(connection, number);
+        self.depot.is_whole();
+        places_are_named();
+        let held = self.links.outstanding(connection, number);
+        put_back(&mut self.depot, connection, number, held);
         self.links.put(connection, number, channel);
     }
 
@@ -57,6 +65,7 @@ impl Core {
         channel: u16,
         send: Send,
     ) -> Result<Step, AllocError>
+        requires agreed { IsAgreed (broker_of self.old) }
         requires there { IsSome ((broker_of self.old).channel connection channel) }
         requires own { IsOwn connection send }
         ensures ok { IfOk result (λ s. Does s.sends.items s.notes.items (broker_of self.new) (send ∷ []) (with_closing (broker_of self.old) connection channel)) }
@@ -77,6 +86,7 @@ impl Core {
         channel: u16,
         is_closing: bool,
     ) -> Result<Step, AllocError>
+        requires agreed { IsAgreed (broker_of self.old) }
         requires there { IsSome ((broker_of self.old).channel connection channel) }
         requires closing { (channel_or_new ((broker_of self.old).channel connection channel)).is_closing ≡ is_closing }
         ensures ok { IfOk result (λ s. Does s.sends.items s.notes.items (broker_of self.new) (reply connection channel ChannelCloseOk ∷ []) (after_close (broker_of self.old) connection channel (channel_or_new ((broker_of self.old).channel connection channel)))) }
@@ -111,7 +121,8 @@ impl Core {
         cause: Ids,
         refusal: Refusal,
     ) -> Result<Step, AllocError>
-        requires { HasChannel refusal ((broker_of self.old).channel connection channel) }
+        requires agreed { IsAgreed (broker_of self.old) }
+        requires there { HasChannel refusal ((broker_of self.old).channel connection channel) }
         ensures ok { IfOk result (λ s. Refuses (broker_of self.old) connection channel (ids cause.class cause.method) (said_of refusal) s.sends.items s.notes.items (broker_of self.new)) }
         ensures ignored { said_of refusal ≡ said.Ignored → IsOk result }
         ensures own { IfOk result (λ s. AreOwn connection s.sends.items) }

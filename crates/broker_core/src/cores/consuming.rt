@@ -31,6 +31,7 @@ fn code_of(why: Unmade) -> Option<u16>
 
 impl Core {
     ghost use Rattle.std.specs.Prelude.{◌≡◌, ◌<◌, Option, IsSome, IfOk, OnErr};
+    ghost use Rattle.model.specs.Agreement.{IsAgreed};
     ghost use Rattle.model.specs.Grammar.{IsMethod};
     ghost use Rattle.model.specs.Step.{Cancels, Decides, channel_or_new, refusal_of_seat};
     ghost use Rattle.model.specs.declared.contents.Content.{Content};
@@ -69,6 +70,7 @@ impl Core {
         place: usize,
         consume: &Consume,
     ) -> Result<Step, AllocError>
+        requires agreed { IsAgreed (broker_of self.old) }
         requires at { IsPlaceOf (topology_of self.old) consume.now.queue place }
         requires there { IsSome ((broker_of self.old).channel connection channel) }
         ensures ok { IfOk result (λ s. (content : Option Content) → Decides (topology_of self.old) (broker_of self.old) connection channel (BasicConsume consume.now) content (refusal_of_seat (channel_or_new ((broker_of self.old).channel connection channel)) consume.now) s.sends.items s.notes.items (broker_of self.new)) }

@@ -1,10 +1,13 @@
 //! Connections that run, and their pauses.
 
 use crate::cores::Core;
+use crate::freeing::put_back_all;
+use depot::places_are_named;
 use std::alloc::{AllocError, Global};
 
 impl Core {
     ghost use Rattle.std.specs.Prelude.{◌≡◌, [], true, false, OnOk, OnErr};
+    ghost use Rattle.model.specs.Agreement.{IsAgreed};
     ghost use Rattle.model.specs.Step.{Acts, Is, with_gone, with_paused};
     ghost use Rattle.model.specs.declared.events.Event.TheVariants as event_is;
     ghost use Rattle.broker_core.specs.State.{broker_of, topology_of};
@@ -18,21 +21,28 @@ impl Core {
         channel_max: u16,
         channels: u16,
     ) -> Result<(), AllocError>
+        requires { IsAgreed (broker_of self.old) }
         ensures ok { OnOk result (Acts (topology_of self.old) (broker_of self.old) (event_is.Running connection channel_max channels) [] [] (broker_of self.new)) }
         ensures topology { topology_of self.new ≡ topology_of self.old }
         ensures err { OnErr result (self.new ≡ self.old) }
     {
+        let was_there = self.runs(connection);
         self.links.open(alloc, connection, channel_max, channels)?;
-        self.depot.requeue_connection(connection);
+        if was_there {
+            self.depot.requeue_connection(connection);
+        }
         Ok(())
     }
 
     /// The connection runs no more: what it held is ready again.
     pub(crate) fn go(&mut self, connection: u64)
+        requires { IsAgreed (broker_of self.old) }
         ensures gone { Is (with_gone (broker_of self.old) connection) (broker_of self.new) }
         ensures topology { topology_of self.new ≡ topology_of self.old }
     {
-        self.depot.requeue_connection(connection);
+        self.depot.is_whole();
+        places_are_named();
+        put_back_all(&mut self.depot, connection, self.links.get(connection));
         self.links.remove(connection);
     }
 
@@ -46,6 +56,7 @@ impl Core {
 
     /// The connection is lost: what it held is ready again, and it is gone with its channels. It takes no memory.
     pub fn lose(&mut self, connection: u64)
+        requires { IsAgreed (broker_of self.old) }
         ensures acts { Acts (topology_of self.old) (broker_of self.old) (event_is.Lose connection) [] [] (broker_of self.new) }
         ensures topology { topology_of self.new ≡ topology_of self.old }
     {

@@ -1,7 +1,36 @@
-use Rattle.broker_core.proofs.Stepping.{gone_is}
+use Rattle.std.proofs.Common.{◌≡◌, ◌∙◌, ap, sym, subst}
+use Rattle.std.specs.Option.{option_copied}
+use Rattle.model.specs.Agreement.{IsAgreed}
+use Rattle.model.specs.Entries.{by_connection}
+use Rattle.broker_core.specs.State.{Kept, broker_of, topology_of}
+use Rattle.broker_core.proofs.Freed.{connection_is_freed, within_at}
+use Rattle.broker_core.proofs.Placing.{placed_gone}
+use Rattle.broker_core.proofs.Stepping.{IsFreed, gone_is}
 use Rattle.broker_core.proofs.cores.Core.go.Goals as goal
+
+pub put_back_all-requires : goal.put_back_all-requires
+put_back_all-requires c = within_at (record { store = c.self.inside.depot; links = c.self.inside.links }) c.args.connection (option_copied c.get.result) c.get.ensures c.self.invariant
 
 pub returns-clause-gone : goal.returns-clause-gone
 returns-clause-gone c =
-    rw (← c.self.view_is)
-    (gone_is (record { store = c.self.inside.depot; links = c.self.inside.links }) (record { store = c.requeue_connection.new.self; links = c.remove.new.self }) c.args.connection c.requeue_connection.ensures c.remove.ensures)
+    let old : Kept = record { store = c.self.inside.depot; links = c.self.inside.links } in
+    let agreed : IsAgreed (broker_of old) = subst (λ (k : Kept). IsAgreed (broker_of k)) (sym c.self.view_is) c.requires in
+    let freed : IsFreed (by_connection c.args.connection) old.store c.put_back_all.new.depot =
+    connection_is_freed c.places_are_named.ensures old c.args.connection (option_copied c.get.result) c.put_back_all.new.depot c.is_whole.ensures agreed (sym c.get.ensures) (within_at old c.args.connection (option_copied c.get.result) c.get.ensures c.self.invariant) c.put_back_all.ensures in
+    rw (← c.self.view_is) (gone_is old (record { store = c.put_back_all.new.depot; links = c.remove.new.self }) c.args.connection freed c.remove.ensures)
+
+pub invariant_of-self : goal.invariant_of-self
+invariant_of-self c =
+    let old : Kept = record { store = c.self.inside.depot; links = c.self.inside.links } in
+    let agreed : IsAgreed (broker_of old) = subst (λ (k : Kept). IsAgreed (broker_of k)) (sym c.self.view_is) c.requires in
+    let freed : IsFreed (by_connection c.args.connection) old.store c.put_back_all.new.depot =
+    connection_is_freed c.places_are_named.ensures old c.args.connection (option_copied c.get.result) c.put_back_all.new.depot c.is_whole.ensures agreed (sym c.get.ensures) (within_at old c.args.connection (option_copied c.get.result) c.get.ensures c.self.invariant) c.put_back_all.ensures in
+    placed_gone old (record { store = c.put_back_all.new.depot; links = c.remove.new.self }) c.args.connection freed.topology c.remove.ensures.channels_are c.self.invariant
+
+pub returns-clause-topology : goal.returns-clause-topology
+returns-clause-topology c =
+    let old : Kept = record { store = c.self.inside.depot; links = c.self.inside.links } in
+    let agreed : IsAgreed (broker_of old) = subst (λ (k : Kept). IsAgreed (broker_of k)) (sym c.self.view_is) c.requires in
+    let freed : IsFreed (by_connection c.args.connection) old.store c.put_back_all.new.depot =
+    connection_is_freed c.places_are_named.ensures old c.args.connection (option_copied c.get.result) c.put_back_all.new.depot c.is_whole.ensures agreed (sym c.get.ensures) (within_at old c.args.connection (option_copied c.get.result) c.get.ensures c.self.invariant) c.put_back_all.ensures in
+    freed.topology ∙ ap topology_of c.self.view_is

@@ -1,0 +1,270 @@
+-- What is outstanding on a channel or on the channels of a connection, put back one by one, is all that was held there.
+use Rattle.std.proofs.Common.{◌≡◌, ◌∙◌, ◌+◌, ◌<◌, ◌≤◌, ◌&&◌, ◌==◌, ℕ, zero, suc, List, [], ◌∷◌, length, get_or, drop, map, Bool, true, false, cond, Option, Some, None, inl, inr, refl, sym, ap, subst, arith}
+use Rattle.std.specs.Prelude.{count_by, is_some, option_map}
+use Rattle.std.proofs.lemmas.Bool.{and_from, and_parts, eqb-true, eq-eqb, false≢true}
+use Rattle.std.proofs.lemmas.List.{at_drop_more, at_drop_all, length-set}
+use Rattle.model.specs.Words.{Text}
+use Rattle.model.specs.Topology.{Topology, IsIn, queue_names}
+use Rattle.model.specs.Broker as seen
+use Rattle.model.specs.Agreement.{IsAgreed}
+use Rattle.model.specs.Entries.{by_channel, by_connection, is_held_as, is_held_by, is_under, freed, freed_now}
+use Rattle.model.specs.Deliveries.{holder_of, with_returned, AreReturned}
+use Rattle.model.specs.declared.messages.Entry.{Entry}
+use Rattle.model.specs.declared.messages.Holder.{Holder}
+use Rattle.model.specs.declared.messages.Mark.{Mark}
+use Rattle.model.specs.declared.messages.Mark.TheVariants.{Ready, Held}
+use Rattle.laws.proofs.Leaving.{at_queue}
+use Rattle.laws.proofs.Agreement.{IsClear, Shrinks, counted_in, in_freed, returned_clear, returned_shrinks}
+use Rattle.channel.specs.Open.{Open, open_in, outstanding_in}
+use Rattle.channel.specs.declared.pending.Outstanding.{Outstanding}
+use Rattle.depot.specs.Store.{Store, queue_of, queue_at, with_queue, with_requeued, IsWhole}
+use Rattle.links.specs.Links.{Linked, channel_at, channel_in, channel_of, link_in, outstanding_on}
+use Rattle.links.specs.Placed.{AreWithin, IsPlaced}
+use Rattle.settling.specs.Settled as settled
+use Rattle.settling.specs.Settled.{returned_one, returned_all}
+use Rattle.settling.proofs.Settlements.{AreNamed, returned_by_names}
+use Rattle.broker_core.specs.Freed.{returned_from, returned_at}
+use Rattle.broker_core.specs.State.{Kept, ArePlaced, broker_of, topology_of, names_of}
+use Rattle.broker_core.proofs.Placing.{none_within}
+use Rattle.broker_core.proofs.Settling.{returned_topology, returned_published}
+use Rattle.broker_core.proofs.Stepping.{IsFreed, listed_requeued, some_same}
+
+-- ---- one queue
+
+not_true : (b : Bool) → (b ≡ true → ⊥) → b ≡ false
+not_true true never = absurd (never refl)
+not_true false never = refl
+
+-- an entry that none of these holds stays
+freed_stays : (mine : Holder → Bool) (e : Entry) → ((holder : Holder) → e.mark ≡ Held holder → mine holder ≡ false) → freed mine e ≡ e
+freed_stays mine e none = go e.mark refl
+  where
+    go : (m : Mark) → e.mark ≡ m → elim m [ Ready ↦ e | Held g ↦ cond (mine g) (freed_now e) e ] ≡ e
+    go Ready is = refl
+    go (Held g) is = ap (λ (b : Bool). cond b (freed_now e) e) (none g is)
+
+all_stay : (mine : Holder → Bool) (es : List Entry) → ((e : Entry) (holder : Holder) → IsIn e es → e.mark ≡ Held holder → mine holder ≡ false) → map (freed mine) es ≡ es
+all_stay mine [] none = refl
+all_stay mine (e ∷ es) none =
+    ap (λ (x : Entry). x ∷ map (freed mine) es) (freed_stays mine e (λ holder is. none e holder (inl refl) is))
+    ∙ ap (λ (xs : List Entry). e ∷ xs) (all_stay mine es (λ x holder i is. none x holder (inr i) is))
+
+-- what some of these held and is free, and then what all of them held, is what all of them held
+freed_through : (some mine : Holder → Bool) → ((g : Holder) → some g ≡ true → mine g ≡ true) → (e : Entry) → freed mine (freed some e) ≡ freed mine e
+freed_through some mine within e = go e.mark refl
+  where
+    go : (m : Mark) → e.mark ≡ m → freed mine (elim m [ Ready ↦ e | Held g ↦ cond (some g) (freed_now e) e ]) ≡ freed mine e
+    go Ready is = refl
+    go (Held g) is = by (some g) refl
+      where
+        by : (b : Bool) → some g ≡ b → freed mine (cond b (freed_now e) e) ≡ freed mine e
+        by false other = refl
+        by true own = sym (ap (λ (m : Mark). elim m [ Ready ↦ e | Held h ↦ cond (mine h) (freed_now e) e ]) is ∙ ap (λ (b : Bool). cond b (freed_now e) e) (within g own))
+
+all_through : (some mine : Holder → Bool) → ((g : Holder) → some g ≡ true → mine g ≡ true) → (es : List Entry) → map (freed mine) (map (freed some) es) ≡ map (freed mine) es
+all_through some mine within [] = refl
+all_through some mine within (e ∷ es) =
+    ap (λ (x : Entry). x ∷ map (freed mine) (map (freed some) es)) (freed_through some mine within e)
+    ∙ ap (λ (xs : List Entry). freed mine e ∷ xs) (all_through some mine within es)
+
+-- ---- one channel
+
+-- a delivery of this tag, from this queue, is among these
+pub record IsAmong (tag : ℕ) (q : Text) (os : List seen.Outstanding) : Type 0 where
+  pub delivery : seen.Outstanding
+  pub there : IsIn delivery os
+  pub tag_is : delivery.tag ≡ tag
+  pub queue_is : delivery.queue ≡ q
+
+-- what the channel holds in these queues is among these
+abbrev pub AreFound : ℕ → ℕ → List seen.Outstanding → (Text → List Entry) → Type 0
+AreFound c h os queues = (q : Text) (e : Entry) (holder : Holder) → IsIn e (queues q) → e.mark ≡ Held holder → by_channel c h holder ≡ true → IsAmong holder.tag q os
+
+returned_through : (c h : ℕ) (os : List seen.Outstanding) (old new : Text → List Entry) → AreReturned c h os old new → (q : Text) → map (freed (by_channel c h)) (new q) ≡ map (freed (by_channel c h)) (old q)
+returned_through c h [] old new same q = ap (map (freed (by_channel c h))) (same q)
+returned_through c h (o ∷ os) old new (mid, is, more) q = returned_through c h os mid new more q ∙ ap (map (freed mine)) (is q) ∙ one q
+  where
+    mine : Holder → Bool
+    mine = by_channel c h
+
+    one : (q : Text) → map (freed mine) (with_returned c h old o q) ≡ map (freed mine) (old q)
+    one = at_queue (λ (q : Text) (es : List Entry). map (freed mine) es ≡ map (freed mine) (old q)) old o.queue _
+        (all_through (is_under (holder_of c h o)) mine (λ g under. (and_parts (mine g) (g.tag == o.tag) under).0) (old o.queue)) (λ q other. refl)
+
+-- so what is put back of it is all that it held
+pub channel_freed : (c h : ℕ) (os : List seen.Outstanding) (old new : Text → List Entry) → AreFound c h os old → AreReturned c h os old new → (q : Text) → new q ≡ map (freed (by_channel c h)) (old q)
+channel_freed c h os old new found made q = sym (all_stay (by_channel c h) (new q) (λ e holder i is. not_true (by_channel c h holder) (none_left e holder i is))) ∙ returned_through c h os old new made q
+  where
+    none_left : (e : Entry) (holder : Holder) → IsIn e (new q) → e.mark ≡ Held holder → by_channel c h holder ≡ true → ⊥
+    none_left e holder i is own =
+        let was = (returned_shrinks c h os old new made).held q e holder i is in
+        let among = found q was.entry holder was.there was.mark own in
+        let d = among.delivery in
+        let clear : IsClear c h new d = returned_clear c h os old new made d among.there in
+        let held : is_held_as (holder_of c h d) e ≡ true =
+        ap (λ (m : Mark). elim m [ Ready ↦ false | Held g ↦ is_under (holder_of c h d) g ]) is ∙ and_from (by_channel c h holder) (holder.tag == d.tag) own (eq-eqb holder.tag d.tag (sym among.tag_is)) in
+        let one = counted_in (is_held_as (holder_of c h d)) e (new q) i held in
+        let here = ap (λ (r : Text). count_by (is_held_as (holder_of c h d)) (new r)) among.queue_is in
+        omega (arith, clear, one, here)
+
+-- ---- the channels of a connection
+
+-- a delivery to this holder, from this queue, is outstanding on the channel of its number; the first of these channels has the number n
+pub record IsOnChannel (n : ℕ) (names : List Text) (slots : List (Option Open)) (q : Text) (holder : Holder) : Type 0 where
+  pub place : ℕ
+  pub number : holder.channel ≡ n + place
+  pub among : IsAmong holder.tag q (map (outstanding_in names) (outstanding_on (get_or slots place None)))
+
+-- what the connection holds in these queues is outstanding on one of these channels
+abbrev pub AreOnChannels : ℕ → ℕ → List Text → List (Option Open) → (Text → List Entry) → Type 0
+AreOnChannels c n names slots queues = (q : Text) (e : Entry) (holder : Holder) → IsIn e (queues q) → e.mark ≡ Held holder → by_connection c holder ≡ true → IsOnChannel n names slots q holder
+
+returned_whole : (c h : ℕ) (os : List Outstanding) (s : Store) → IsWhole s → IsWhole (returned_all c h s os)
+returned_whole c h [] s whole = whole
+returned_whole c h (o ∷ os) s whole =
+    returned_whole c h os (returned_one c h s o) (record { formed = whole.formed; len = length-set s.queues o.queue (map (freed (is_under (settled.holder_of c h o))) (queue_at s o.queue)) ∙ whole.len })
+
+-- those of the first channel are among its own
+first_found : (c n : ℕ) (names : List Text) (slot : Option Open) (slots : List (Option Open)) (queues : Text → List Entry) → AreOnChannels c n names (slot ∷ slots) queues
+    → AreFound c n (map (outstanding_in names) (outstanding_on slot)) queues
+first_found c n names slot slots queues found q e holder i is own =
+    let parts = and_parts (holder.connection == c) (holder.channel == n) own in
+    let on = found q e holder i is parts.0 in
+    let same = eqb-true holder.channel n parts.1 in
+    let number = on.number in
+    let first : on.place ≡ zero = omega (arith, same, number) in
+    subst (λ (k : ℕ). IsAmong holder.tag q (map (outstanding_in names) (outstanding_on (get_or (slot ∷ slots) k None)))) first on.among
+
+-- once they are put back, the others are on the channels behind it
+rest_found : (c n : ℕ) (names : List Text) (slot : Option Open) (slots : List (Option Open)) (queues mid : Text → List Entry) → AreOnChannels c n names (slot ∷ slots) queues
+    → ((q : Text) → mid q ≡ map (freed (by_channel c n)) (queues q)) → AreOnChannels c (n + 1) names slots mid
+rest_found c n names slot slots queues mid found here q e holder i is own =
+    let was = in_freed (by_channel c n) e (queues q) holder (subst (IsIn e) (here q) i) is in
+    let on = found q was.0.entry holder was.0.there was.0.mark own in
+    later on.place on.number on.among was.1
+  where
+    later : (k : ℕ) → holder.channel ≡ n + k → IsAmong holder.tag q (map (outstanding_in names) (outstanding_on (get_or (slot ∷ slots) k None))) → by_channel c n holder ≡ false → IsOnChannel (n + 1) names slots q holder
+    later zero number among other =
+        let same : holder.channel ≡ n = omega (arith, number) in
+        absurd (false≢true (sym other ∙ and_from (holder.connection == c) (holder.channel == n) own (eq-eqb holder.channel n same)))
+    later (suc k) number among other = record { place = k; number = omega (arith, number); among = among }
+
+pub connection_freed : AreNamed → (c n : ℕ) (names : List Text) (slots : List (Option Open)) (s : Store) → queue_names s.topology.queues ≡ names → IsWhole s → ((k : ℕ) → AreWithin s.topology (outstanding_on (get_or slots k None)))
+    → AreOnChannels c n names slots (queue_of s) → (q : Text) → queue_of (returned_from c n s slots) q ≡ map (freed (by_connection c)) (queue_of s q)
+connection_freed are c n names [] s same whole within found q = sym (all_stay (by_connection c) (queue_of s q) (λ e holder i is. not_true (by_connection c holder) (λ own. (found q e holder i is own).among.there)))
+connection_freed are c n names (slot ∷ slots) s same whole within found q =
+    connection_freed are c (n + 1) names slots mid (ap (λ (t : Topology). queue_names t.queues) stays ∙ same) (returned_whole c n (outstanding_on slot) s whole)
+    (λ k. subst (λ (t : Topology). AreWithin t (outstanding_on (get_or slots k None))) (sym stays) (within (suc k))) (rest_found c n names slot slots (queue_of s) (queue_of mid) found here) q
+    ∙ ap (map (freed (by_connection c))) (here q)
+    ∙ all_through (by_channel c n) (by_connection c) (λ g own. (and_parts (g.connection == c) (g.channel == n) own).0) (queue_of s q)
+  where
+    mid : Store
+    mid = returned_all c n s (outstanding_on slot)
+
+    stays : mid.topology ≡ s.topology
+    stays = returned_topology c n (outstanding_on slot) s
+
+    here : (q : Text) → queue_of mid q ≡ map (freed (by_channel c n)) (queue_of s q)
+    here = channel_freed c n (map (outstanding_in names) (outstanding_on slot)) (queue_of s) (queue_of mid) (first_found c n names slot slots (queue_of s) found)
+        (subst (λ (ns : List Text). AreReturned c n (map (outstanding_in ns) (outstanding_on slot)) (queue_of s) (queue_of mid)) same (returned_by_names are c n (outstanding_on slot) s whole (within zero)))
+
+-- ---- a broker that agrees with itself
+
+seen_outstanding : (names : List Text) (o : Option Open) (ch : seen.Channel) → option_map (open_in names) o ≡ Some ch → ch.outstanding ≡ map (outstanding_in names) (outstanding_on o)
+seen_outstanding names None ch e = absurd (false≢true (ap is_some e))
+seen_outstanding names (Some k) ch e = sym (ap (λ (x : seen.Channel). x.outstanding) (some_same (open_in names k) ch e))
+
+-- what is held is outstanding on the channel that holds it, as it is kept
+found_at : (kept : Kept) → IsAgreed (broker_of kept) → (q : Text) (e : Entry) (holder : Holder) → IsIn e (queue_of kept.store q) → e.mark ≡ Held holder
+    → IsAmong holder.tag q (map (outstanding_in (names_of kept)) (outstanding_on (channel_of kept.links holder.connection holder.channel)))
+found_at kept agreed q e holder i is =
+    let on = agreed.held q e holder i is in
+    record {
+      delivery = on.delivery;
+      there = subst (IsIn on.delivery) (seen_outstanding (names_of kept) (channel_of kept.links holder.connection holder.channel) on.channel on.there) on.outstanding;
+      tag_is = on.tag;
+      queue_is = on.queue;
+    }
+
+found_on_channel : (kept : Kept) (c h : ℕ) → IsAgreed (broker_of kept) → AreFound c h (map (outstanding_in (names_of kept)) (outstanding_on (channel_of kept.links c h))) (queue_of kept.store)
+found_on_channel kept c h agreed q e holder i is own =
+    let parts = and_parts (holder.connection == c) (holder.channel == h) own in
+    subst (λ (k : ℕ). IsAmong holder.tag q (map (outstanding_in (names_of kept)) (outstanding_on (channel_of kept.links c k)))) (eqb-true holder.channel h parts.1)
+    (subst (λ (d : ℕ). IsAmong holder.tag q (map (outstanding_in (names_of kept)) (outstanding_on (channel_of kept.links d holder.channel)))) (eqb-true holder.connection c parts.0) (found_at kept agreed q e holder i is))
+
+found_on_link : (kept : Kept) (c : ℕ) (l : Option Linked) → link_in kept.links c ≡ l → IsAgreed (broker_of kept) → (q : Text) (e : Entry) (holder : Holder) → IsIn e (queue_of kept.store q) → e.mark ≡ Held holder → by_connection c holder ≡ true
+    → IsAmong holder.tag q (map (outstanding_in (names_of kept)) (outstanding_on (channel_at l holder.channel)))
+found_on_link kept c l at agreed q e holder i is own =
+    subst (λ (x : Option Linked). IsAmong holder.tag q (map (outstanding_in (names_of kept)) (outstanding_on (channel_at x holder.channel)))) at
+    (subst (λ (d : ℕ). IsAmong holder.tag q (map (outstanding_in (names_of kept)) (outstanding_on (channel_of kept.links d holder.channel)))) (eqb-true holder.connection c own) (found_at kept agreed q e holder i is))
+
+pub within_on : (t : Topology) (o : Option Open) → ((ch : Open) → o ≡ Some ch → IsPlaced t ch) → AreWithin t (outstanding_on o)
+within_on t None placed = none_within t [] refl
+within_on t (Some ch) placed = (placed ch refl).outstanding
+
+pub within_at : (kept : Kept) (c : ℕ) (l : Option Linked) → l ≡ link_in kept.links c → ArePlaced kept → (h : ℕ) → AreWithin (topology_of kept) (outstanding_on (channel_at l h))
+within_at kept c l at placed h = subst (λ (x : Option Linked). AreWithin (topology_of kept) (outstanding_on (channel_at x h))) (sym at) (within_on (topology_of kept) (channel_of kept.links c h) (placed c h))
+
+from_topology : (c h : ℕ) (slots : List (Option Open)) (s : Store) → (returned_from c h s slots).topology ≡ s.topology
+from_topology c h [] s = refl
+from_topology c h (o ∷ os) s = from_topology c (h + 1) os (returned_all c h s (outstanding_on o)) ∙ returned_topology c h (outstanding_on o) s
+
+from_published : (c h : ℕ) (slots : List (Option Open)) (s : Store) → (returned_from c h s slots).published ≡ s.published
+from_published c h [] s = refl
+from_published c h (o ∷ os) s = from_published c (h + 1) os (returned_all c h s (outstanding_on o)) ∙ returned_published c h (outstanding_on o) s
+
+-- what is outstanding on a channel is put back
+pub channel_is_freed : AreNamed → (kept : Kept) (c h : ℕ) (new : Store) → IsWhole kept.store → IsAgreed (broker_of kept) → AreWithin (topology_of kept) (outstanding_on (channel_of kept.links c h))
+    → new ≡ returned_all c h kept.store (outstanding_on (channel_of kept.links c h)) → IsFreed (by_channel c h) kept.store new
+channel_is_freed are kept c h new whole agreed within made =
+    let os = outstanding_on (channel_of kept.links c h) in
+    record {
+      topology = ap (λ (s : Store). s.topology) made ∙ returned_topology c h os kept.store;
+      published = ap (λ (s : Store). s.published) made ∙ returned_published c h os kept.store;
+      queues = λ q. ap (λ (s : Store). queue_of s q) made
+          ∙ channel_freed c h (map (outstanding_in (names_of kept)) os) (queue_of kept.store) (queue_of (returned_all c h kept.store os)) (found_on_channel kept c h agreed) (returned_by_names are c h os kept.store whole within) q;
+    }
+
+-- where no connection of a number is there, nothing is held by it
+pub none_held : (kept : Kept) (c : ℕ) → link_in kept.links c ≡ None → IsAgreed (broker_of kept) → IsFreed (by_connection c) kept.store kept.store
+none_held kept c none agreed = record {
+  topology = refl;
+  published = refl;
+  queues = λ q. sym (all_stay (by_connection c) (queue_of kept.store q) (λ e holder i is. not_true (by_connection c holder) (λ own. (found_on_link kept c None none agreed q e holder i is own).there)));
+}
+
+-- what is outstanding on the channels of a connection is put back
+pub connection_is_freed : AreNamed → (kept : Kept) (c : ℕ) (l : Option Linked) (new : Store) → IsWhole kept.store → IsAgreed (broker_of kept) → link_in kept.links c ≡ l
+    → ((h : ℕ) → AreWithin (topology_of kept) (outstanding_on (channel_at l h))) → new ≡ returned_at c kept.store l → IsFreed (by_connection c) kept.store new
+connection_is_freed are kept c None new whole agreed at within made = subst (IsFreed (by_connection c) kept.store) (sym made) (none_held kept c at agreed)
+connection_is_freed are kept c (Some l) new whole agreed at within made = record {
+  topology = ap (λ (s : Store). s.topology) made ∙ from_topology c 0 l.channels kept.store;
+  published = ap (λ (s : Store). s.published) made ∙ from_published c 0 l.channels kept.store;
+  queues = λ q. ap (λ (s : Store). queue_of s q) made
+      ∙ connection_freed are c 0 (names_of kept) l.channels kept.store refl whole within
+      (λ r e holder i is own. record { place = holder.channel; number = omega arith; among = found_on_link kept c (Some l) at agreed r e holder i is own }) q;
+}
+
+-- a search of all queues finds the same
+pub requeued_is : (mine : Holder → Bool) (old new : Store) → new ≡ with_requeued old mine → IsFreed mine old new
+requeued_is mine old new made = record {
+  topology = ap (λ (s : Store). s.topology) made;
+  published = ap (λ (s : Store). s.published) made;
+  queues = λ q. ap (λ (s : Store). queue_of s q) made ∙ listed_requeued mine (queue_names old.topology.queues) old.queues q;
+}
+
+pub absent : (o : Option Linked) → is_some o ≡ false → o ≡ None
+absent None e = refl
+absent (Some l) e = absurd (false≢true (sym e))
+
+-- ---- a loop over the channels of a connection
+
+pub put_back_next : (c p : ℕ) (channels : List (Option Open)) (s new all : Store) → p < length channels → new ≡ returned_all c p s (outstanding_on (get_or channels p None))
+    → returned_from c p s (drop p channels) ≡ all → returned_from c (p + 1) new (drop (p + 1) channels) ≡ all
+put_back_next c p channels s new all lt made done =
+    ap (λ (z : Store). returned_from c (p + 1) z (drop (p + 1) channels)) made
+    ∙ sym (at_drop_more (returned_from c p s) channels p None lt)
+    ∙ done
+
+pub put_back_end : (c p : ℕ) (channels : List (Option Open)) (s all : Store) → length channels ≤ p → returned_from c p s (drop p channels) ≡ all → s ≡ all
+put_back_end c p channels s all past done = sym (at_drop_all (returned_from c p s) channels p past) ∙ done
