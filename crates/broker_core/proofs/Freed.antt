@@ -1,24 +1,24 @@
 -- What is outstanding on a channel or on the channels of a connection, put back one by one, is all that was held there.
-use Rattle.std.proofs.Common.{◌≡◌, ◌∙◌, ◌+◌, ◌<◌, ◌≤◌, ◌&&◌, ◌==◌, ℕ, zero, suc, List, [], ◌∷◌, length, get_or, drop, map, Bool, true, false, cond, Option, Some, None, inl, inr, refl, sym, ap, subst, arith}
+use Rattle.std.proofs.Common.{◌≡◌, ◌∙◌, ◌+◌, ◌<◌, ◌==◌, ℕ, zero, suc, List, [], ◌∷◌, length, get_or, drop, map, Bool, true, false, cond, Option, Some, None, inl, inr, refl, sym, ap, subst, arith}
 use Rattle.std.specs.Prelude.{count_by, is_some, option_map}
 use Rattle.std.proofs.lemmas.Bool.{and_from, and_parts, eqb-true, eq-eqb, false≢true}
-use Rattle.std.proofs.lemmas.List.{at_drop_more, at_drop_all, length-set}
+use Rattle.std.proofs.lemmas.List.{at_drop_more, length-set}
 use Rattle.model.specs.Words.{Text}
 use Rattle.model.specs.Topology.{Topology, IsIn, queue_names}
 use Rattle.model.specs.Broker as seen
 use Rattle.model.specs.Agreement.{IsAgreed}
-use Rattle.model.specs.Entries.{by_channel, by_connection, is_held_as, is_held_by, is_under, freed, freed_now}
+use Rattle.model.specs.Entries.{by_channel, by_connection, is_held_as, is_under, freed, freed_now}
 use Rattle.model.specs.Deliveries.{holder_of, with_returned, AreReturned}
 use Rattle.model.specs.declared.messages.Entry.{Entry}
 use Rattle.model.specs.declared.messages.Holder.{Holder}
 use Rattle.model.specs.declared.messages.Mark.{Mark}
 use Rattle.model.specs.declared.messages.Mark.TheVariants.{Ready, Held}
 use Rattle.laws.proofs.Leaving.{at_queue}
-use Rattle.laws.proofs.Agreement.{IsClear, Shrinks, counted_in, in_freed, returned_clear, returned_shrinks}
+use Rattle.laws.proofs.Agreement.{IsClear, counted_in, in_freed, returned_clear, returned_shrinks}
 use Rattle.channel.specs.Open.{Open, open_in, outstanding_in}
 use Rattle.channel.specs.declared.pending.Outstanding.{Outstanding}
-use Rattle.depot.specs.Store.{Store, queue_of, queue_at, with_queue, with_requeued, IsWhole}
-use Rattle.links.specs.Links.{Linked, channel_at, channel_in, channel_of, link_in, outstanding_on}
+use Rattle.depot.specs.Store.{Store, queue_of, queue_at, with_requeued, IsWhole}
+use Rattle.links.specs.Links.{Linked, channel_at, channel_of, link_in, outstanding_on}
 use Rattle.links.specs.Placed.{AreWithin, IsPlaced}
 use Rattle.settling.specs.Settled as settled
 use Rattle.settling.specs.Settled.{returned_one, returned_all}
@@ -198,12 +198,15 @@ found_on_link kept c l at agreed q e holder i is own =
     subst (λ (x : Option Linked). IsAmong holder.tag q (map (outstanding_in (names_of kept)) (outstanding_on (channel_at x holder.channel)))) at
     (subst (λ (d : ℕ). IsAmong holder.tag q (map (outstanding_in (names_of kept)) (outstanding_on (channel_of kept.links d holder.channel)))) (eqb-true holder.connection c own) (found_at kept agreed q e holder i is))
 
-pub within_on : (t : Topology) (o : Option Open) → ((ch : Open) → o ≡ Some ch → IsPlaced t ch) → AreWithin t (outstanding_on o)
+within_on : (t : Topology) (o : Option Open) → ((ch : Open) → o ≡ Some ch → IsPlaced t ch) → AreWithin t (outstanding_on o)
 within_on t None placed = none_within t [] refl
 within_on t (Some ch) placed = (placed ch refl).outstanding
 
 pub within_at : (kept : Kept) (c : ℕ) (l : Option Linked) → l ≡ link_in kept.links c → ArePlaced kept → (h : ℕ) → AreWithin (topology_of kept) (outstanding_on (channel_at l h))
 within_at kept c l at placed h = subst (λ (x : Option Linked). AreWithin (topology_of kept) (outstanding_on (channel_at x h))) (sym at) (within_on (topology_of kept) (channel_of kept.links c h) (placed c h))
+
+pub held_within : (kept : Kept) (c h : ℕ) (os : List Outstanding) → ArePlaced kept → os ≡ outstanding_on (channel_of kept.links c h) → AreWithin (topology_of kept) os
+held_within kept c h os placed held = subst (AreWithin (topology_of kept)) (sym held) (within_on (topology_of kept) (channel_of kept.links c h) (placed c h))
 
 from_topology : (c h : ℕ) (slots : List (Option Open)) (s : Store) → (returned_from c h s slots).topology ≡ s.topology
 from_topology c h [] s = refl
@@ -214,15 +217,17 @@ from_published c h [] s = refl
 from_published c h (o ∷ os) s = from_published c (h + 1) os (returned_all c h s (outstanding_on o)) ∙ returned_published c h (outstanding_on o) s
 
 -- what is outstanding on a channel is put back
-pub channel_is_freed : AreNamed → (kept : Kept) (c h : ℕ) (new : Store) → IsWhole kept.store → IsAgreed (broker_of kept) → AreWithin (topology_of kept) (outstanding_on (channel_of kept.links c h))
-    → new ≡ returned_all c h kept.store (outstanding_on (channel_of kept.links c h)) → IsFreed (by_channel c h) kept.store new
-channel_is_freed are kept c h new whole agreed within made =
-    let os = outstanding_on (channel_of kept.links c h) in
+pub channel_is_freed : AreNamed → (old kept : Kept) (c h : ℕ) (os : List Outstanding) (new : Store) → old ≡ kept → IsWhole old.store → ArePlaced old → IsAgreed (broker_of kept) → os ≡ outstanding_on (channel_of old.links c h)
+    → new ≡ returned_all c h old.store os → IsFreed (by_channel c h) old.store new
+channel_is_freed are old kept c h os new e whole placed agreed held made =
+    let agrees : IsAgreed (broker_of old) = subst (λ (k : Kept). IsAgreed (broker_of k)) (sym e) agreed in
+    let found : AreFound c h (map (outstanding_in (names_of old)) os) (queue_of old.store) = subst (λ (ds : List Outstanding). AreFound c h (map (outstanding_in (names_of old)) ds) (queue_of old.store)) (sym held) (found_on_channel old c h agrees) in
+    let within = held_within old c h os placed held in
     record {
-      topology = ap (λ (s : Store). s.topology) made ∙ returned_topology c h os kept.store;
-      published = ap (λ (s : Store). s.published) made ∙ returned_published c h os kept.store;
+      topology = ap (λ (s : Store). s.topology) made ∙ returned_topology c h os old.store;
+      published = ap (λ (s : Store). s.published) made ∙ returned_published c h os old.store;
       queues = λ q. ap (λ (s : Store). queue_of s q) made
-          ∙ channel_freed c h (map (outstanding_in (names_of kept)) os) (queue_of kept.store) (queue_of (returned_all c h kept.store os)) (found_on_channel kept c h agreed) (returned_by_names are c h os kept.store whole within) q;
+          ∙ channel_freed c h (map (outstanding_in (names_of old)) os) (queue_of old.store) (queue_of (returned_all c h old.store os)) found (returned_by_names are c h os old.store whole within) q;
     }
 
 -- where no connection of a number is there, nothing is held by it
@@ -234,16 +239,20 @@ none_held kept c none agreed = record {
 }
 
 -- what is outstanding on the channels of a connection is put back
-pub connection_is_freed : AreNamed → (kept : Kept) (c : ℕ) (l : Option Linked) (new : Store) → IsWhole kept.store → IsAgreed (broker_of kept) → link_in kept.links c ≡ l
-    → ((h : ℕ) → AreWithin (topology_of kept) (outstanding_on (channel_at l h))) → new ≡ returned_at c kept.store l → IsFreed (by_connection c) kept.store new
-connection_is_freed are kept c None new whole agreed at within made = subst (IsFreed (by_connection c) kept.store) (sym made) (none_held kept c at agreed)
-connection_is_freed are kept c (Some l) new whole agreed at within made = record {
+link_is_freed : AreNamed → (kept : Kept) (c : ℕ) (l : Option Linked) (new : Store) → IsWhole kept.store → ArePlaced kept → IsAgreed (broker_of kept) → l ≡ link_in kept.links c → new ≡ returned_at c kept.store l
+    → IsFreed (by_connection c) kept.store new
+link_is_freed are kept c None new whole placed agreed at made = subst (IsFreed (by_connection c) kept.store) (sym made) (none_held kept c (sym at) agreed)
+link_is_freed are kept c (Some l) new whole placed agreed at made = record {
   topology = ap (λ (s : Store). s.topology) made ∙ from_topology c 0 l.channels kept.store;
   published = ap (λ (s : Store). s.published) made ∙ from_published c 0 l.channels kept.store;
   queues = λ q. ap (λ (s : Store). queue_of s q) made
-      ∙ connection_freed are c 0 (names_of kept) l.channels kept.store refl whole within
-      (λ r e holder i is own. record { place = holder.channel; number = omega arith; among = found_on_link kept c (Some l) at agreed r e holder i is own }) q;
+      ∙ connection_freed are c 0 (names_of kept) l.channels kept.store refl whole (within_at kept c (Some l) at placed)
+      (λ r e holder i is own. record { place = holder.channel; number = omega arith; among = found_on_link kept c (Some l) (sym at) agreed r e holder i is own }) q;
 }
+
+pub connection_is_freed : AreNamed → (old kept : Kept) (c : ℕ) (l : Option Linked) (new : Store) → old ≡ kept → IsWhole old.store → ArePlaced old → IsAgreed (broker_of kept) → l ≡ link_in old.links c → new ≡ returned_at c old.store l
+    → IsFreed (by_connection c) old.store new
+connection_is_freed are old kept c l new e whole placed agreed = link_is_freed are old c l new whole placed (subst (λ (k : Kept). IsAgreed (broker_of k)) (sym e) agreed)
 
 -- a search of all queues finds the same
 pub requeued_is : (mine : Holder → Bool) (old new : Store) → new ≡ with_requeued old mine → IsFreed mine old new
@@ -265,6 +274,3 @@ put_back_next c p channels s new all lt made done =
     ap (λ (z : Store). returned_from c (p + 1) z (drop (p + 1) channels)) made
     ∙ sym (at_drop_more (returned_from c p s) channels p None lt)
     ∙ done
-
-pub put_back_end : (c p : ℕ) (channels : List (Option Open)) (s all : Store) → length channels ≤ p → returned_from c p s (drop p channels) ≡ all → s ≡ all
-put_back_end c p channels s all past done = sym (at_drop_all (returned_from c p s) channels p past) ∙ done

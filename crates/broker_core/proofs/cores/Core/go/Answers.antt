@@ -1,8 +1,7 @@
-use Rattle.std.proofs.Common.{◌≡◌, ◌∙◌, ap, sym, subst}
+use Rattle.std.proofs.Common.{◌≡◌, ◌∙◌, ap}
 use Rattle.std.specs.Option.{option_copied}
-use Rattle.model.specs.Agreement.{IsAgreed}
 use Rattle.model.specs.Entries.{by_connection}
-use Rattle.broker_core.specs.State.{Kept, broker_of, topology_of}
+use Rattle.broker_core.specs.State.{Kept, topology_of}
 use Rattle.broker_core.proofs.Freed.{connection_is_freed, within_at}
 use Rattle.broker_core.proofs.Placing.{placed_gone}
 use Rattle.broker_core.proofs.Stepping.{IsFreed, gone_is}
@@ -14,23 +13,22 @@ put_back_all-requires c = within_at (record { store = c.self.inside.depot; links
 pub returns-clause-gone : goal.returns-clause-gone
 returns-clause-gone c =
     let old : Kept = record { store = c.self.inside.depot; links = c.self.inside.links } in
-    let agreed : IsAgreed (broker_of old) = subst (λ (k : Kept). IsAgreed (broker_of k)) (sym c.self.view_is) c.requires in
-    let freed : IsFreed (by_connection c.args.connection) old.store c.put_back_all.new.depot =
-    connection_is_freed c.places_are_named.ensures old c.args.connection (option_copied c.get.result) c.put_back_all.new.depot c.is_whole.ensures agreed (sym c.get.ensures) (within_at old c.args.connection (option_copied c.get.result) c.get.ensures c.self.invariant) c.put_back_all.ensures in
-    rw (← c.self.view_is) (gone_is old (record { store = c.put_back_all.new.depot; links = c.remove.new.self }) c.args.connection freed c.remove.ensures)
+    let new : Kept = record { store = c.put_back_all.new.depot; links = c.remove.new.self } in
+    let freed : IsFreed (by_connection c.args.connection) old.store new.store =
+    connection_is_freed c.places_are_named.ensures old c.args.self.now c.args.connection (option_copied c.get.result) new.store c.self.view_is c.is_whole.ensures c.self.invariant c.requires c.get.ensures c.put_back_all.ensures in
+    rw (← c.self.view_is) (gone_is old new c.args.connection freed c.remove.ensures)
 
 pub invariant_of-self : goal.invariant_of-self
 invariant_of-self c =
     let old : Kept = record { store = c.self.inside.depot; links = c.self.inside.links } in
-    let agreed : IsAgreed (broker_of old) = subst (λ (k : Kept). IsAgreed (broker_of k)) (sym c.self.view_is) c.requires in
-    let freed : IsFreed (by_connection c.args.connection) old.store c.put_back_all.new.depot =
-    connection_is_freed c.places_are_named.ensures old c.args.connection (option_copied c.get.result) c.put_back_all.new.depot c.is_whole.ensures agreed (sym c.get.ensures) (within_at old c.args.connection (option_copied c.get.result) c.get.ensures c.self.invariant) c.put_back_all.ensures in
-    placed_gone old (record { store = c.put_back_all.new.depot; links = c.remove.new.self }) c.args.connection freed.topology c.remove.ensures.channels_are c.self.invariant
+    let new : Kept = record { store = c.put_back_all.new.depot; links = c.remove.new.self } in
+    let freed : IsFreed (by_connection c.args.connection) old.store new.store =
+    connection_is_freed c.places_are_named.ensures old c.args.self.now c.args.connection (option_copied c.get.result) new.store c.self.view_is c.is_whole.ensures c.self.invariant c.requires c.get.ensures c.put_back_all.ensures in
+    placed_gone old new c.args.connection freed.topology c.remove.ensures.channels_are c.self.invariant
 
 pub returns-clause-topology : goal.returns-clause-topology
 returns-clause-topology c =
     let old : Kept = record { store = c.self.inside.depot; links = c.self.inside.links } in
-    let agreed : IsAgreed (broker_of old) = subst (λ (k : Kept). IsAgreed (broker_of k)) (sym c.self.view_is) c.requires in
     let freed : IsFreed (by_connection c.args.connection) old.store c.put_back_all.new.depot =
-    connection_is_freed c.places_are_named.ensures old c.args.connection (option_copied c.get.result) c.put_back_all.new.depot c.is_whole.ensures agreed (sym c.get.ensures) (within_at old c.args.connection (option_copied c.get.result) c.get.ensures c.self.invariant) c.put_back_all.ensures in
+    connection_is_freed c.places_are_named.ensures old c.args.self.now c.args.connection (option_copied c.get.result) c.put_back_all.new.depot c.self.view_is c.is_whole.ensures c.self.invariant c.requires c.get.ensures c.put_back_all.ensures in
     freed.topology ∙ ap topology_of c.self.view_is
