@@ -1,4 +1,5 @@
 mod Among
+mod Ending
 mod Outcomes
 mod Seated
 mod Sleeping

@@ -2,7 +2,7 @@
 use Rattle.std.proofs.Common.{◌≡◌, ◌∙◌, ◌<◌, ℕ, List, [], ◌∷◌, ◌++◌, Bool, true, false, cond, Option, Some, None, length, map, find, not, inl, inr, ◌⊎◌, refl, sym, ap, subst, if◌then◌else◌}
 use Rattle.std.specs.Prelude.{option_map, is_some, nat_lt, ◌==◌, ◌&&◌, ◌||◌, IfSome}
 use Rattle.std.specs.Str.{bytes_eq}
-use Rattle.std.proofs.lemmas.Bool.{eq-eqb, false≢true}
+use Rattle.std.proofs.lemmas.Bool.{eqb-true, eq-eqb, false≢true}
 use Rattle.std.proofs.lemmas.Option.{same_Some}
 use Rattle.model.specs.Words.{Text}
 use Rattle.model.specs.Topology.{Topology, IsIn}
@@ -27,7 +27,7 @@ use Rattle.links.specs.Links.{Linked, link_in, channel_in, channel_at, channel_o
 use Rattle.exchange_graph.specs.Marks.{queue_name}
 use Rattle.broker_core.specs.State.{Kept, broker_of, topology_of, names_of}
 use Rattle.judging.specs.Judged.{IsIgnored, IsRequeued, WantsNoMemory}
-use Rattle.broker.specs.Roster.{Rings, ring_at, wakes, HasConsumer, AllHaveSeats, IsServing, Seats, Listing, IsListed, IsSeated, IsThere, IsUp, IsAwake, IsSeatedIn, KeepsSeats, AllDrowse, AllWaken}
+use Rattle.broker.specs.Roster.{Rings, ring_at, wakes, HasConsumer, AllHaveSeats, IsServing, AllRun, HasNoList, MakesNoList, Seats, Listing, IsListed, IsSeated, IsThere, IsUp, IsAwake, IsSeatedIn, KeepsSeats, AllDrowse, AllWaken}
 use Rattle.links.specs.Consumers.{has_number, next_number}
 use Rattle.broker_core.specs.Seats.{has_consumer, is_consume, next_seat, seat_of, consumed, IsConsumed}
 use Rattle.broker_core.specs.declared.picks.Pick.{Pick}
@@ -241,9 +241,34 @@ seated_next law t kept new e sends notes rings acts woken seated next = seated_a
 
 -- ---- what every broker keeps
 
+-- What it keeps but for what is listed.
+pub record Holds (kept : Kept) (r : Rings) : Type 0 where
+  pub agreed : IsAgreed (broker_of kept)
+  pub rings_for : length r.rings ≡ length (topology_of kept).queues
+  pub seated : AllHaveSeats (topology_of kept) (broker_of kept) r
+
+pub holds : (kept : Kept) (r : Rings) → IsServing kept r → Holds kept r
+holds kept r serving = record { agreed = serving.agreed; rings_for = serving.rings_for; seated = serving.seated }
+
+pub serves : (kept : Kept) (r : Rings) → Holds kept r → AllRun (broker_of kept) r.lists → IsServing kept r
+serves kept r held running = record { agreed = held.agreed; rings_for = held.rings_for; seated = held.seated; running = running }
+
+-- where no connection ends, and lists stay as they are, what is listed is of connections that run
+pub running_still : (old new : Broker) (before after : List (ℕ × List Listing)) → ((d : ℕ) → new.connection d ≡ None → old.connection d ≡ None) → after ≡ before → AllRun old before → AllRun new after
+running_still old new before after runs same running d none = subst (λ (ls : List (ℕ × List Listing)). HasNoList ls d) (sym same) (running d (runs d none))
+
+-- where no other connection than this ends, nothing is listed of this if it runs no more, and no list is made
+pub running_but : (old new : Broker) (before after : List (ℕ × List Listing)) (c : ℕ) → ((d : ℕ) → (d == c) ≡ false → new.connection d ≡ None → old.connection d ≡ None) → (new.connection c ≡ None → HasNoList after c) → MakesNoList before after
+    → AllRun old before → AllRun new after
+running_but old new before after c others gone makes running d none = go (d == c) refl
+  where
+    go : (v : Bool) → (d == c) ≡ v → HasNoList after d
+    go true at = let one = eqb-true d c at in subst (HasNoList after) (sym one) (gone (ap new.connection (sym one) ∙ none))
+    go false apart = makes d (running d (others d apart none))
+
 -- each event that is no command leaves it so
 pub serves_still : StayAgreed → ConsumersAreMade → (t : Topology) (old new : Kept) (e : Event) (sends : List Send) (notes : List Note) (rings : Rings)
-    → Acts t (broker_of old) e sends notes (broker_of new) → AreWoken e rings → is_command e ≡ false → topology_of old ≡ t → topology_of new ≡ t → IsServing old rings → IsServing new rings
+    → Acts t (broker_of old) e sends notes (broker_of new) → AreWoken e rings → is_command e ≡ false → topology_of old ≡ t → topology_of new ≡ t → Holds old rings → Holds new rings
 serves_still agrees law t old new e sends notes rings acts woken none was is serving = record {
   agreed = agrees t (broker_of old) (broker_of new) e sends notes serving.agreed acts;
   rings_for = serving.rings_for ∙ ap (λ (x : Topology). length x.queues) (was ∙ sym is);
@@ -253,14 +278,14 @@ serves_still agrees law t old new e sends notes rings acts woken none was is ser
 
 -- and one that wakes no seat
 pub serves_asleep : StayAgreed → ConsumersAreMade → (t : Topology) (old new : Kept) (e : Event) (sends : List Send) (notes : List Note) (rings : Rings)
-    → Acts t (broker_of old) e sends notes (broker_of new) → ((p : Pick) → wakes e p ≡ false) → is_command e ≡ false → topology_of old ≡ t → topology_of new ≡ t → IsServing old rings → IsServing new rings
+    → Acts t (broker_of old) e sends notes (broker_of new) → ((p : Pick) → wakes e p ≡ false) → is_command e ≡ false → topology_of old ≡ t → topology_of new ≡ t → Holds old rings → Holds new rings
 serves_asleep agrees law t old new e sends notes rings acts asleep none was is serving =
     serves_still agrees law t old new e sends notes rings acts (λ place p woken there. absurd (false≢true (sym (asleep p) ∙ woken))) none was is serving
 
 -- so does one whose seat is there
 pub serves_next : StayAgreed → ConsumersAreMade → (old new : Kept) (e : Event) (sends : List Send) (notes : List Note) (rings : Rings)
     → Acts (topology_of old) (broker_of old) e sends notes (broker_of new) → AreWoken e rings → topology_of new ≡ topology_of old
-    → IfSome (seat_of old e) (λ p. (place : ℕ) → IsConsumed (topology_of old) e place → IsUp rings place p) → IsServing old rings → IsServing new rings
+    → IfSome (seat_of old e) (λ p. (place : ℕ) → IsConsumed (topology_of old) e place → IsUp rings place p) → Holds old rings → Holds new rings
 serves_next agrees law old new e sends notes rings acts woken is next serving = record {
   agreed = agrees (topology_of old) (broker_of old) (broker_of new) e sends notes serving.agreed acts;
   rings_for = serving.rings_for ∙ ap (λ (x : Topology). length x.queues) (sym is);
@@ -269,7 +294,7 @@ serves_next agrees law old new e sends notes rings acts woken is next serving = 
 }
 
 -- where no seat of a consumer that is there is gone it is so still
-pub serves_kept : (kept : Kept) (before rings : Rings) → KeepsSeats kept before rings → length rings.rings ≡ length before.rings → IsServing kept before → IsServing kept rings
+pub serves_kept : (kept : Kept) (before rings : Rings) → KeepsSeats kept before rings → length rings.rings ≡ length before.rings → Holds kept before → Holds kept rings
 serves_kept kept before rings keeps len serving = record { agreed = serving.agreed; rings_for = len ∙ serving.rings_for; seated = seats_kept kept before rings keeps serving.seated }
 
 -- where seats are woken, or fall asleep whose consumers may take nothing, each is there still
@@ -297,7 +322,7 @@ woken_there old new place p w same is = record {
 }
 
 -- with no consumer none wants a seat
-pub serves_none : (kept : Kept) (rings : Rings) → IsAgreed (broker_of kept) → length rings.rings ≡ length (topology_of kept).queues → ((c h : ℕ) → (broker_of kept).channel c h ≡ None) → IsServing kept rings
+pub serves_none : (kept : Kept) (rings : Rings) → IsAgreed (broker_of kept) → length rings.rings ≡ length (topology_of kept).queues → ((c h : ℕ) → (broker_of kept).channel c h ≡ None) → Holds kept rings
 serves_none kept rings agreed len none = record {
   agreed = agreed;
   rings_for = len;

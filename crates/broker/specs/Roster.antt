@@ -95,11 +95,21 @@ pub record HasConsumer (t : Topology) (b : Broker) (place : ℕ) (p : Pick) : Ty
 abbrev pub AllHaveSeats : Topology → Broker → Rings → Type 0
 AllHaveSeats t b r = (place : ℕ) (p : Pick) → HasConsumer t b place p → IsSeated b r place p
 
--- What every broker keeps.
+-- nothing is listed of this connection: not even an empty list is kept for it
+abbrev pub HasNoList : List (ℕ × List Listing) → ℕ → Type 0
+HasNoList lists c = lookup (nat_eq c) lists ≡ None
+
+-- what is listed is of connections that run
+abbrev pub AllRun : Broker → List (ℕ × List Listing) → Type 0
+AllRun b lists = (c : ℕ) → b.connection c ≡ None → HasNoList lists c
+
+-- What every broker keeps:
 pub record IsServing (kept : Kept) (r : Rings) : Type 0 where
   pub agreed : IsAgreed (broker_of kept)
   pub rings_for : length r.rings ≡ length (topology_of kept).queues
   pub seated : AllHaveSeats (topology_of kept) (broker_of kept) r
+  -- of a connection that runs no more nothing is listed
+  pub running : AllRun (broker_of kept) r.lists
 
 -- from none of the queues at these places can a delivery be made to one who has a seat there
 abbrev pub NoneBetween : Kept → List Seats → ℕ → ℕ → Type 0
@@ -118,6 +128,14 @@ KeepRings kept old new = (place : ℕ) → KeepsRing kept (ring_at old place) (r
 -- nor is its listing
 abbrev pub KeepLists : Kept → List (ℕ × List Listing) → List (ℕ × List Listing) → Type 0
 KeepLists kept old new = (l : Listing) → IsListed old l → has_consumer kept l.seat ≡ true → IsListed new l
+
+-- no list is made for a connection that had none
+abbrev pub MakesNoList : List (ℕ × List Listing) → List (ℕ × List Listing) → Type 0
+MakesNoList old new = (c : ℕ) → HasNoList old c → HasNoList new c
+
+-- nor for one that doesn't run
+abbrev pub ListsRunning : Broker → List (ℕ × List Listing) → List (ℕ × List Listing) → Type 0
+ListsRunning b old new = (c : ℕ) → b.connection c ≡ None → HasNoList old c → HasNoList new c
 
 -- each consumer that is there has its seat as before
 abbrev pub KeepsSeats : Kept → Rings → Rings → Type 0

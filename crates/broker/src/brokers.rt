@@ -72,7 +72,9 @@ impl Broker {
         consumers_are_made();
         self.roster.seat_next(alloc, &self.core, event)?;
         self.roster.wake_for(event);
-        self.core.step(alloc, event)
+        let step = self.core.step(alloc, event)?;
+        self.roster.forget_ended(&self.core, event);
+        Ok(step)
     }
 
     /// A delivery that can be made, if there is any. Queues that have something ready are gone round, from the one behind that

@@ -12,7 +12,8 @@ ghost use Rattle.std.specs.Prelude.{◌≡◌, ◌<◌, ◌≤◌, ℕ, None, If
 ghost use Rattle.model.specs.Topology.{IsIn};
 ghost use Rattle.broker_core.specs.State.{broker_of, topology_of};
 ghost use Rattle.broker_core.specs.Picked.{IsPickFrom};
-ghost use Rattle.broker.specs.Roster.{ring_at, is_of, wakes_on, Listing, IsAwake, IsSeatedIn, IsListed, KeepRings, KeepLists, AllDrowse, AllWaken, NoneBetween};
+ghost use Rattle.replies.specs.Sent.{connection_of_event};
+ghost use Rattle.broker.specs.Roster.{ring_at, is_of, wakes_on, Listing, IsAwake, IsSeatedIn, IsListed, HasNoList, MakesNoList, KeepRings, KeepLists, AllDrowse, AllWaken, NoneBetween};
 ghost use Rattle.broker_core.specs.declared.picks.Pick.{Pick as Seat};
 
 use crate::roster::desk::{Desk, Listed};
@@ -108,6 +109,7 @@ fn list_seat(
 ) -> Result<(), AllocError>
     ensures listed { OnOk result (IsListed desks.new.entries one) }
     ensures kept { KeepLists core.now desks.old.entries desks.new.entries }
+    ensures others { (c : ℕ) → (c ≡ one.seat.connection → ⊥) → HasNoList desks.old.entries c → HasNoList desks.new.entries c }
 {
     let connection = one.connection();
     match desks.get_mut(&connection) {
@@ -141,7 +143,9 @@ fn wake_desk(
 
 /// What is listed of this connection is gone if it runs no more.
 fn forget_desk(desks: &mut HashMap<u64, Desk>, core: &Core, connection: u64)
-    ensures { KeepLists core.now desks.old.entries desks.new.entries }
+    ensures kept { KeepLists core.now desks.old.entries desks.new.entries }
+    ensures gone { (broker_of core.now).connection connection ≡ None → HasNoList desks.new.entries connection }
+    ensures none { MakesNoList desks.old.entries desks.new.entries }
 {
     if !core.runs(connection) {
         desks.remove(&connection);
@@ -153,6 +157,24 @@ fn wakes_on(method: &Method) -> bool
     ensures { result ≡ wakes_on method.now }
 {
     !matches!(method, Method::BasicPublish(_) | Method::BasicGet(_))
+}
+
+/// The connection that an event is of.
+fn connection_of(event: &Event) -> u64
+    ensures { result ≡ connection_of_event event.now }
+{
+    match event {
+        Event::Open { connection }
+        | Event::First { connection, .. }
+        | Event::Running { connection, .. }
+        | Event::Command { connection, .. }
+        | Event::TooLarge { connection, .. }
+        | Event::Fault { connection, .. }
+        | Event::Lose { connection }
+        | Event::Pause { connection }
+        | Event::Resume { connection }
+        | Event::Deliver { connection } => *connection,
+    }
 }
 
 /// The rings of all queues, in the order of the file, and the desks of the connections.
@@ -183,16 +205,18 @@ impl Model for Roster {
 }
 
 impl Roster {
-    ghost use Rattle.std.specs.Prelude.{◌≡◌, ℕ, true, None, Option, IfSome, IfOk, IsOk, OnOk, length};
+    ghost use Rattle.std.specs.Prelude.{◌≡◌, [], ℕ, true, None, Option, IfSome, IfOk, IsOk, OnOk, length};
+    ghost use Rattle.replies.specs.Sent.{connection_of_event};
     ghost use Rattle.broker_core.specs.declared.picks.Pick.{Pick as Seat};
     ghost use Rattle.broker_core.specs.State.{broker_of, topology_of};
     ghost use Rattle.broker_core.specs.Picked.{IsPickFrom};
     ghost use Rattle.broker_core.specs.Seats.{seat_of, IsConsumed};
-    ghost use Rattle.broker.specs.Roster.{ring_at, is_of, wakes, IsUp, IsAwake, IsThere, IsSeatedIn, KeepsSeats, AllDrowse, AllWaken};
+    ghost use Rattle.broker.specs.Roster.{ring_at, is_of, wakes, IsUp, IsAwake, IsThere, IsSeatedIn, HasNoList, MakesNoList, ListsRunning, KeepsSeats, AllDrowse, AllWaken};
 
     /// No seat, for so many queues.
     pub fn new(alloc: Global, queues: usize) -> Result<Roster, AllocError>
-        ensures { IfOk result (λ r. length r.rings ≡ queues) }
+        ensures rings { IfOk result (λ r. length r.rings ≡ queues) }
+        ensures lists { IfOk result (λ r. r.lists ≡ []) }
     {
         Ok(Roster {
             rings: empty_rings(alloc, queues)?,
@@ -207,6 +231,7 @@ impl Roster {
         requires { length self.old.rings ≡ length (topology_of core.now).queues }
         ensures seated { OnOk result (IfSome (seat_of core.now event.now) (λ p. (place : ℕ) → IsConsumed (topology_of core.now) event.now place → IsUp self.new place p)) }
         ensures kept { KeepsSeats core.now self.old self.new }
+        ensures running { ListsRunning (broker_of core.now) self.old.lists self.new.lists }
         ensures len { length self.new.rings ≡ length self.old.rings }
         ensures quiet { seat_of core.now event.now ≡ None → IsOk result }
     {
@@ -262,9 +287,21 @@ impl Roster {
     /// What is known of this connection's seats is gone if it runs no more. It takes no memory.
     pub fn forget(&mut self, core: &Core, connection: u64)
         ensures kept { KeepsSeats core.now self.old self.new }
+        ensures gone { (broker_of core.now).connection connection ≡ None → HasNoList self.new.lists connection }
+        ensures none { MakesNoList self.old.lists self.new.lists }
         ensures len { length self.new.rings ≡ length self.old.rings }
     {
         forget_desk(&mut self.desks, core, connection);
+    }
+
+    /// What is known of the seats of this event's connection is gone if it runs no more. It takes no memory.
+    pub fn forget_ended(&mut self, core: &Core, event: &Event)
+        ensures kept { KeepsSeats core.now self.old self.new }
+        ensures gone { (broker_of core.now).connection (connection_of_event event.now) ≡ None → HasNoList self.new.lists (connection_of_event event.now) }
+        ensures none { MakesNoList self.old.lists self.new.lists }
+        ensures len { length self.new.rings ≡ length self.old.rings }
+    {
+        self.forget(core, connection_of(event));
     }
 
     /// The first delivery that can be made, from the queue behind that from which was picked last, and then from the front.

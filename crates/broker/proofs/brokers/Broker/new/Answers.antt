@@ -1,4 +1,4 @@
-use Rattle.std.proofs.Common.{◌≡◌, ◌∙◌, ◌≤◌, ℕ, List, Some, length, sym, ap, subst, arith}
+use Rattle.std.proofs.Common.{◌≡◌, ◌∙◌, ◌≤◌, ℕ, List, Some, length, refl, sym, ap, subst, arith}
 use Rattle.std.specs.Prelude.{is_some, count_by}
 use Rattle.std.proofs.lemmas.Bool.{false≢true}
 use Rattle.model.specs.Topology.{Topology, IsIn}
@@ -8,8 +8,8 @@ use Rattle.model.specs.Entries.{is_held_as}
 use Rattle.model.specs.Step.{Is}
 use Rattle.model.specs.declared.messages.Entry.{Entry}
 use Rattle.broker_core.specs.State.{Kept, broker_of, topology_of, nothing}
-use Rattle.broker.specs.Roster.{Rings}
-use Rattle.broker.proofs.Seated.{serves_none}
+use Rattle.broker.specs.Roster.{Rings, Listing, HasNoList}
+use Rattle.broker.proofs.Seated.{serves, serves_none}
 use Rattle.broker.proofs.brokers.Broker.new.Goals as goal
 
 no_channel : (b : Broker) → Is nothing b → (c h : ℕ) (ch : Channel) → b.channel c h ≡ Some ch → ⊥
@@ -30,5 +30,6 @@ pub invariant_of-result : goal.invariant_of-result
 invariant_of-result c =
     let core : Kept = c.in_ok-core.core in
     let rings : Rings = c.in_ok-roster.roster in
-    let long : length rings.rings ≡ length (topology_of core).queues = c.in_ok-roster.ensures ∙ ap length c.queues.ensures ∙ ap (λ (t : Topology). length t.queues) (sym c.in_ok-core.ensures.topology) in
-    serves_none core rings (nothing_agreed (broker_of core) c.in_ok-core.ensures.empty) long (λ d h. c.in_ok-core.ensures.empty.channels d h)
+    let long : length rings.rings ≡ length (topology_of core).queues = c.in_ok-roster.ensures.rings ∙ ap length c.queues.ensures ∙ ap (λ (t : Topology). length t.queues) (sym c.in_ok-core.ensures.topology) in
+    serves core rings (serves_none core rings (nothing_agreed (broker_of core) c.in_ok-core.ensures.empty) long (λ d h. c.in_ok-core.ensures.empty.channels d h))
+    (λ d none. subst (λ (ls : List (ℕ × List Listing)). HasNoList ls d) (sym c.in_ok-roster.ensures.lists) refl)

@@ -1,12 +1,12 @@
 use Rattle.std.proofs.Common.{ℕ, refl, sym, subst}
 use Rattle.model.specs.Consuming.{CanDeliver}
-use Rattle.broker.specs.Roster.{HasConsumer}
+use Rattle.broker.specs.Roster.{Rings, HasConsumer}
 use Rattle.broker_core.specs.State.{Kept, broker_of, topology_of}
 use Rattle.broker_core.specs.declared.picks.Pick.{Pick}
 use Rattle.broker_core.specs.Picked.{IsPick, IsPickFrom}
 use Rattle.broker_core.proofs.Picking.{pick_from}
 use Rattle.broker.proofs.Outcomes.{if_some}
-use Rattle.broker.proofs.Seated.{serves_kept, keeps_drowsy}
+use Rattle.broker.proofs.Seated.{holds, serves, serves_kept, keeps_drowsy, running_still}
 use Rattle.broker.proofs.brokers.Broker.pick.Goals as goal
 
 pub pick-requires : goal.pick-requires
@@ -26,4 +26,9 @@ returns-clause-some c =
 
 pub invariant_of-self : goal.invariant_of-self
 invariant_of-self c =
-    serves_kept c.self.inside.core c.self.inside.roster c.pick.new.self (keeps_drowsy c.self.inside.core c.self.inside.roster c.pick.new.self c.pick.ensures.drowse c.pick.ensures.lists) c.pick.ensures.len c.self.invariant
+    let kept : Kept = c.self.inside.core in
+    let before : Rings = c.self.inside.roster in
+    let after : Rings = c.pick.new.self in
+    serves kept after
+    (serves_kept kept before after (keeps_drowsy kept before after c.pick.ensures.drowse c.pick.ensures.lists) c.pick.ensures.len (holds kept before c.self.invariant))
+    (running_still (broker_of kept) (broker_of kept) before.lists after.lists (λ d none. none) c.pick.ensures.lists c.self.invariant.running)

@@ -1,10 +1,11 @@
 use Rattle.std.proofs.Common.{refl, sym, subst}
 use Rattle.model.specs.declared.events.Event.TheVariants.{Deliver}
 use Rattle.broker_core.specs.Picked.{IsPick}
-use Rattle.broker.specs.Roster.{IsServing}
+use Rattle.broker.specs.Roster.{Rings, IsServing}
 use Rattle.broker_core.specs.State.{Kept, broker_of, topology_of}
+use Rattle.broker.proofs.Ending.{delivery_runs}
 use Rattle.broker.proofs.Outcomes.{either_if}
-use Rattle.broker.proofs.Seated.{serves_asleep}
+use Rattle.broker.proofs.Seated.{holds, serves, serves_asleep, running_still}
 use Rattle.broker.proofs.brokers.Broker.pump.Goals as goal
 
 pub deliver-requires-clause-picked : goal.deliver-requires-clause-picked
@@ -13,9 +14,13 @@ deliver-requires-clause-picked c = subst (λ (k : Kept). IsPick (broker_of k) c.
 pub invariant_of-self : goal.invariant_of-self
 invariant_of-self c =
     let old : Kept = c.self.inside.core in
+    let new : Kept = c.deliver.new.self in
+    let rings : Rings = c.self.inside.roster in
     either_if c.deliver.result _ c.deliver.ensures.ok c.deliver.ensures.err
-    (λ s acts. serves_asleep c.brokers_stay_agreed.ensures.acts c.consumers_are_made.ensures (topology_of old) old c.deliver.new.self (Deliver c.args.pick.connection) s.sends.items s.notes.items c.self.inside.roster acts (λ p. refl) refl refl c.deliver.ensures.topology c.self.invariant)
-    (λ same. subst (λ (k : Kept). IsServing k c.self.inside.roster) (sym same) c.self.invariant)
+    (λ s acts. serves new rings
+    (serves_asleep c.brokers_stay_agreed.ensures.acts c.consumers_are_made.ensures (topology_of old) old new (Deliver c.args.pick.connection) s.sends.items s.notes.items rings acts (λ p. refl) refl refl c.deliver.ensures.topology (holds old rings c.self.invariant))
+    (running_still (broker_of old) (broker_of new) rings.lists rings.lists (delivery_runs (topology_of old) (broker_of old) (broker_of new) s.sends.items s.notes.items c.args.pick.connection acts) refl c.self.invariant.running))
+    (λ same. subst (λ (k : Kept). IsServing k rings) (sym same) c.self.invariant)
 
 pub returns-clause-own : goal.returns-clause-own
 returns-clause-own c = rw (← c.self.view_is) c.deliver.ensures.own
