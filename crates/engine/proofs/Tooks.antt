@@ -1,6 +1,6 @@
 -- From the connection at a place to the world.
 use Rattle.std.proofs.Common.{◌≡◌, ◌⊎◌, inl, inr, ◌<◌, ◌+◌, ℕ, List, [], Bool, true, false, cond, Option, Some, None, Result, Ok, Err, get_or, set, remove, length, refl, sym, ap, subst, ◌∙◌, arith}
-use Rattle.std.specs.Prelude.{IsOk, IfOk, OnOk, OnErr, MatchBool, ◌==◌}
+use Rattle.std.specs.Prelude.{IsOk, IfOk, OnOk, OnErr, MatchBool, ◌==◌, ◌&&◌, not}
 use Rattle.std.proofs.lemmas.Bool.{false≢true}
 use Rattle.model.specs.Broker.{Broker}
 use Rattle.model.specs.Topology.{Topology}
@@ -8,7 +8,7 @@ use Rattle.engine.specs.Performing.{Rules, rules_of}
 use Rattle.model.specs.Step.{Acts}
 use Rattle.model.specs.Run.{Happening}
 use Rattle.model.specs.Headline.{IsSound}
-use Rattle.model.specs.Arrivals.{Same, Waits, is_ended, is_over, is_gone, is_past_bound, Takes_off, Loses, with_heard}
+use Rattle.model.specs.Arrivals.{Same, Waits, is_ended, is_over, is_paused, is_awake, is_gone, is_past_bound, Takes_off, Loses, with_heard}
 use Rattle.model.specs.declared.events.Event.{Event}
 use Rattle.model.specs.declared.events.Event.TheVariants as event
 use Rattle.model.specs.declared.notes.Note.{Note}
@@ -98,9 +98,19 @@ pub record Outcome {E : Type 0} (old new : Parts) (c : ℕ) (what : Result Turn 
   pub ok : IfOk what (λ t. Turned (world_of old) c t (world_of new))
   pub fewer : IfOk what (λ t. OnDid t (left_in new.links < left_in old.links))
   pub err : OnErr what (Waits (world_of old) c (world_of new))
+  pub awake : OnErr what (is_awake (world_of old) c ≡ true)
 
 over_is : (p : Parts) (l : Link) → link_in p.links l.number ≡ Some l → is_over (world_of p) l.number ≡ is_ended l.session.phase
 over_is p l found = ap (λ (o : Option Link). is_ended (session_of o).phase) found
+
+paused_is : (p : Parts) (l : Link) → link_in p.links l.number ≡ Some l → is_paused (world_of p) l.number ≡ is_past_bound l.output.bytes
+paused_is p l found = ap is_past_bound (ap (λ (o : Option Link). (wire_of o).output) found ∙ Rattle.engine.proofs.Standing.output_in (is_ended l.session.phase) l)
+
+-- a connection that is neither over nor paused is awake
+awake_is : (over paused : Bool) → over ≡ false → paused ≡ false → (not over && not paused) ≡ true
+awake_is true paused e f = absurd (false≢true (sym e))
+awake_is false true e f = absurd (false≢true (sym f))
+awake_is false false e f = refl
 
 outcome : {E : Type 0} (old new : Parts) (i : ℕ) (l l' : Link) (what : Result Turn E) → IsEngine old → Stays old new → Changes old.links i l l' new.links
     → LinkTookOr (rules_of (topology_of old.broker) old.users) (broker_of old.broker) l what (broker_of new.broker) l' → Outcome old new l.number what
@@ -112,23 +122,24 @@ outcome old new i l l' (Ok (turn.Did notes)) e st ch t =
       ok = record { happenings = done.0; noted = done.1; turns = done.2; promises = turn_keeps (world_of old) (world_of new) l.number done.0 (sound old e) e.consistent done.2 };
       fewer = left_change old.links i l l' new.links ch (did_less (rules_of (topology_of old.broker) old.users) (broker_of old.broker) (broker_of new.broker) l l' notes.items t.0 t.2);
       err = tt;
+      awake = tt;
     }
 outcome old new i l l' (Ok turn.Idle) e st ch t =
     let b = becomes old new i l l' st e.links.rising ch in
     let found = link_in-place 0 old.links i l e.links.rising ch.within ch.here in
-    record { ok = (over_is old l found ∙ t.0, idle old l found t.1.none_kept t.1.ends t.0, waited old new l l' b found t.1.waits); fewer = tt; err = tt }
+    record { ok = (over_is old l found ∙ t.0, idle old l found t.1.none_kept t.1.ends t.0, waited old new l l' b found t.1.waits); fewer = tt; err = tt; awake = tt }
 outcome old new i l l' (Ok turn.Paused) e st ch t =
     let b = becomes old new i l l' st e.links.rising ch in
     let found = link_in-place 0 old.links i l e.links.rising ch.within ch.here in
-    record { ok = (over_is old l found ∙ t.0, ap is_past_bound (ap (λ (o : Option Link). (wire_of o).output) found ∙ Rattle.engine.proofs.Standing.output_in (is_ended l.session.phase) l) ∙ t.1, waited old new l l' b found (same_waits (broker_of old.broker) (broker_of new.broker) l l' t.2)); fewer = tt; err = tt }
+    record { ok = (over_is old l found ∙ t.0, paused_is old l found ∙ t.1, waited old new l l' b found (same_waits (broker_of old.broker) (broker_of new.broker) l l' t.2)); fewer = tt; err = tt; awake = tt }
 outcome old new i l l' (Ok turn.Over) e st ch t =
     let b = becomes old new i l l' st e.links.rising ch in
     let found = link_in-place 0 old.links i l e.links.rising ch.within ch.here in
-    record { ok = (over_is old l found ∙ t.0, waited old new l l' b found (same_waits (broker_of old.broker) (broker_of new.broker) l l' t.1)); fewer = tt; err = tt }
+    record { ok = (over_is old l found ∙ t.0, waited old new l l' b found (same_waits (broker_of old.broker) (broker_of new.broker) l l' t.1)); fewer = tt; err = tt; awake = tt }
 outcome old new i l l' (Err x) e st ch t =
     let b = becomes old new i l l' st e.links.rising ch in
     let found = link_in-place 0 old.links i l e.links.rising ch.within ch.here in
-    record { ok = tt; fewer = tt; err = waited old new l l' b found t }
+    record { ok = tt; fewer = tt; err = waited old new l l' b found t.waits; awake = awake_is (is_over (world_of old) l.number) (is_paused (world_of old) l.number) (over_is old l found ∙ t.open_still) (paused_is old l found ∙ t.below) }
 
 number_is : (ls : List Link) (c i : ℕ) (l : Link) → IsPlaceOf ls c (Some i) → get_or ls i l ≡ l → l.number ≡ c
 number_is ls c i l place here = sym (ap (λ (z : Link). z.number) here) ∙ place.1 l

@@ -30,10 +30,16 @@ abbrev pub left_in : List Link → ℕ
 left_in [] = 0
 left_in (l ∷ ls) = left_of l + left_in ls
 
+-- Memory was wanting for a connection that is neither over nor paused, and nothing was performed.
+pub record LinkWants (b : Broker) (old : Link) (new_b : Broker) (new : Link) : Type 0 where
+  pub open_still : is_ended old.session.phase ≡ false
+  pub below : is_past_bound old.output.bytes ≡ false
+  pub waits : LinkWaits b old new_b new
+
 -- The turn of one connection is right, or memory was wanting and nothing was performed.
 abbrev pub LinkTookOr : {E : Type 0} → Rules → Broker → Link → Result Turn E → Broker → Link → Type 0
 LinkTookOr r b old (Ok what) new_b new = LinkTook r b old what new_b new
-LinkTookOr r b old (Err e) new_b new = LinkWaits b old new_b new
+LinkTookOr r b old (Err e) new_b new = LinkWants b old new_b new
 
 -- So many bytes of the output were taken, and the resumption that this brings is known.
 pub record LinkSent (t : Topology) (b : Broker) (old : Link) (n : ℕ) (new_b : Broker) (new : Link) : Type 0 where

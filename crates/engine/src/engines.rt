@@ -1,7 +1,8 @@
 //! The engine.
 
-ghost use Rattle.std.specs.Prelude.{◌≡◌, ◌<◌, true, IfOk, IsOk, OnErr, OnOk, MatchOption, vec_len, vec_capacity};
-ghost use Rattle.model.specs.Arrivals.{Same, Waits, new_world, is_over};
+ghost use Rattle.std.specs.Prelude.{◌≡◌, ◌<◌, ℕ, true, IfOk, IsOk, OnErr, OnOk, MatchOption, vec_len, vec_capacity};
+ghost use Rattle.model.specs.Arrivals.{Same, Waits, new_world, is_over, is_awake};
+ghost use Rattle.model.specs.Consuming.{CanDeliver};
 ghost use Rattle.model.specs.Headline.{IsSound};
 ghost use Rattle.runs.specs.Opened.{Hears, Idles, Takes, IsLost};
 ghost use Rattle.engine.specs.World.{world_of};
@@ -146,11 +147,13 @@ impl Engine {
     /// Performs the next command of the connection `c`, or the fault of its bytes: at most one.
     ///
     /// `Idle` where no whole command and no fault is left, `Paused` where the output holds 1,048,576 bytes or more, `Over`
-    /// where the connection is over or gone. Where memory is refused nothing is performed, and the same is still to come.
+    /// where the connection is over or gone. Where memory is refused nothing is performed, and the same is still to come;
+    /// of a connection that is over, gone or paused none is wanted.
     pub fn turn(&mut self, alloc: Global, c: u64) -> Result<Turn, AllocError>
         ensures ok { IfOk result (λ t. Turned (world_of self.old) c t (world_of self.new)) }
         ensures fewer { IfOk result (λ t. OnDid t (left_in self.new.links < left_in self.old.links)) }
         ensures err { OnErr result (Waits (world_of self.old) c (world_of self.new)) }
+        ensures awake { OnErr result (is_awake (world_of self.old) c ≡ true) }
     {
         match place_of(&self.links, c) {
             Some(place) => turn_at(
@@ -168,10 +171,11 @@ impl Engine {
 
     /// Makes one delivery to a consumer, of whatever connection, and gives its notes: none where no delivery can be made.
     ///
-    /// Where memory is refused nothing is delivered.
+    /// Where memory is refused nothing is delivered; it is wanted only where a delivery can be made.
     pub fn pump(&mut self, alloc: Global) -> Result<Option<Vec<Note>>, AllocError>
         ensures ok { IfOk result (λ did. MatchOption did (Idles (world_of self.old) (world_of self.new)) (λ notes. IsPump (world_of self.old) notes.items (world_of self.new))) }
         ensures err { OnErr result (Same (world_of self.old) (world_of self.new)) }
+        ensures wanted { OnErr result ((c : ℕ) × CanDeliver (world_of self.old).state.broker c) }
     {
         match self.broker.pick() {
             Some(pick) => {

@@ -2,6 +2,7 @@
 
 ghost use Rattle.std.specs.Prelude.{◌≡◌, ℕ, [], true, false, IfOk, OnErr, OnOk};
 ghost use Rattle.model.specs.Step.{Is};
+ghost use Rattle.model.specs.Phases.{is_running};
 ghost use Rattle.model.specs.State.{after_move};
 ghost use Rattle.model.specs.Arrivals.{IsSaid};
 ghost use Rattle.model.specs.Sending.{AreCarried, AreOwn};
@@ -13,9 +14,9 @@ use model::{Event, Phase, Send, User};
 use session::Session;
 use std::alloc::{AllocError, Global};
 
-/// Learns in `session` what the broker sent at this event.
+/// Learns in `session`, which ran, what the broker sent at this event.
 fn learn(session: &mut Session, event: &Event, sends: &[Send])
-    ensures { session.new ≡ session_after session.old event.now sends.now }
+    ensures { is_running session.old.phase ≡ true → session.new ≡ session_after session.old event.now sends.now }
 {
     match event {
         Event::Fault { .. } => session.end(),
@@ -34,6 +35,7 @@ fn by_broker(
     requires asked { IsAsked c event.now }
     requires said { IsSaid event.now }
     requires carried { AreCarried (broker_of broker.old) }
+    requires runs { is_running session.old.phase ≡ true }
     ensures ok { IfOk result (λ d. ByBroker (topology_of broker.old) (broker_of broker.old) session.old event.now d.sends.items d.notes.items (broker_of broker.new) session.new) }
     ensures own { IfOk result (λ d. AreOwn c d.sends.items) }
     ensures broker_kept { OnErr result (broker.new ≡ broker.old) }

@@ -65,8 +65,8 @@ fn phase_after(sends: &[Send]) -> Phase
 }
 
 impl Session {
-    ghost use Rattle.std.specs.Prelude.{◌≡◌, ◌≤◌, [], ◌∷◌, IfOk, IsOk, OnErr, OnOk, IsTrue};
-    ghost use Rattle.model.specs.Phases.{Move, running_session, no_session, while_closing, faulted, after_sends, to_phase};
+    ghost use Rattle.std.specs.Prelude.{◌≡◌, ◌≤◌, [], ◌∷◌, true, false, IfOk, IsOk, OnErr, OnOk, IsTrue};
+    ghost use Rattle.model.specs.Phases.{Move, running_session, no_session, while_closing, faulted, after_sends, to_phase, is_running};
     ghost use Rattle.model.specs.Opening.{new_session, first_move, Opens, IsAnswered};
     ghost use Rattle.model.specs.Arrivals.{is_ended};
     ghost use Rattle.model.specs.Step.{empty_publish};
@@ -147,11 +147,14 @@ impl Session {
     }
 
     /// Learns what the broker sent to the connection while it ran: a close awaits close-ok from now on, and after a
-    /// close-ok the connection is over.
+    /// close-ok the connection is over. A connection that doesn't run stands where it stood.
     pub fn after(&mut self, sends: &[Send])
-        ensures { self.new ≡ to_phase self.old (after_sends sends.now) }
+        ensures running { is_running self.old.phase ≡ true → self.new ≡ to_phase self.old (after_sends sends.now) }
+        ensures others { is_running self.old.phase ≡ false → self.new ≡ self.old }
     {
-        self.move_to(phase_after(sends));
+        if matches!(self.phase, Phase::Running) {
+            self.move_to(phase_after(sends));
+        }
     }
 
     /// Stands in this phase from now on; of a connection that is over no limits are kept.

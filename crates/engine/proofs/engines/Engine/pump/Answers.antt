@@ -1,4 +1,5 @@
-use Rattle.std.proofs.Common.{refl, sym, subst}
+use Rattle.std.proofs.Common.{ℕ, refl, sym, subst}
+use Rattle.model.specs.Consuming.{CanDeliver}
 use Rattle.model.specs.Naming.{AreNamed}
 use Rattle.model.specs.Arrivals.{Same}
 use Rattle.broker_core.specs.State.{Kept, topology_of, broker_of}
@@ -38,6 +39,12 @@ returns-in_err-notes-in-Some-clause-err c =
     on_err c.from_residual.result _ (subst (λ (p : Parts). Same (world_of p) (world_of new)) c.self.view_is
     (picked_not old new c.pick.new.self c.in-Some.pick.connection c.self.invariant c.in-Some.ensures.same (record { topology = c.pump_among.ensures.topology; guarantees = refl; users = refl; given = refl })
     c.in-Some.ensures.some.0 c.in_err-notes-in-Some.ensures.err))
+
+pub returns-in_err-notes-in-Some-clause-wanted : goal.returns-in_err-notes-in-Some-clause-wanted
+returns-in_err-notes-in-Some-clause-wanted c =
+    let i = c.self.inside in
+    let old : Parts = record { broker = i.broker; guarantees = i.guarantees.items; users = i.users.items; given = i.given; links = i.links.items } in
+    on_err c.from_residual.result _ (subst (λ (p : Parts). (d : ℕ) × CanDeliver (world_of p).state.broker d) c.self.view_is (c.in-Some.pick.connection, c.in-Some.ensures.some.0))
 
 pub returns-in_ok-notes-in-Some-clause-ok : goal.returns-in_ok-notes-in-Some-clause-ok
 returns-in_ok-notes-in-Some-clause-ok c =
