@@ -4,9 +4,9 @@ use Rattle.std.specs.Prelude.{IfOk, OnErr}
 use Rattle.engine.specs.Performing.{Rules}
 use Rattle.model.specs.Broker.{Broker}
 use Rattle.engine.specs.Reading.{IsKept}
-use Rattle.engine.specs.Turning.{LinkTook}
+use Rattle.engine.specs.Turning.{LinkTook, LinkWaits, IsAwake}
 use Rattle.engine.specs.World.{is_link_gone}
-use Rattle.engine.specs.Engines.{Changes, IsSwept, LinkWants, LinkTookOr}
+use Rattle.engine.specs.Engines.{Changes, IsSwept, LinkTookOr}
 use Rattle.engine.specs.declared.link.Link.{Link}
 use Rattle.engine.specs.declared.turning.Turn.{Turn}
 
@@ -33,6 +33,6 @@ changes_swept ls i old new new_ls lt here number kept swept =
       over = s.over;
     }
 
-pub took_or : {E : Type 0} (r : Result Turn E) (t : Rules) (b : Broker) (old : Link) (new_b : Broker) (new : Link) → IfOk r (λ x. LinkTook t b old x new_b new) → OnErr r (LinkWants b old new_b new) → LinkTookOr t b old r new_b new
-took_or (Ok x) t b old new_b new ok err = ok
-took_or (Err e) t b old new_b new ok err = err
+pub took_or : {E : Type 0} (r : Result Turn E) (t : Rules) (b : Broker) (old : Link) (new_b : Broker) (new : Link) → IfOk r (λ x. LinkTook t b old x new_b new) → OnErr r (LinkWaits b old new_b new) → OnErr r (IsAwake old) → LinkTookOr t b old r new_b new
+took_or (Ok x) t b old new_b new ok err awake = ok
+took_or (Err e) t b old new_b new ok err awake = record { awake = awake; waits = err }

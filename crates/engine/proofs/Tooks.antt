@@ -139,7 +139,7 @@ outcome old new i l l' (Ok turn.Over) e st ch t =
 outcome old new i l l' (Err x) e st ch t =
     let b = becomes old new i l l' st e.links.rising ch in
     let found = link_in-place 0 old.links i l e.links.rising ch.within ch.here in
-    record { ok = tt; fewer = tt; err = waited old new l l' b found t.waits; awake = awake_is (is_over (world_of old) l.number) (is_paused (world_of old) l.number) (over_is old l found ∙ t.open_still) (paused_is old l found ∙ t.below) }
+    record { ok = tt; fewer = tt; err = waited old new l l' b found t.waits; awake = awake_is (is_over (world_of old) l.number) (is_paused (world_of old) l.number) (over_is old l found ∙ t.awake.0) (paused_is old l found ∙ t.awake.1) }
 
 number_is : (ls : List Link) (c i : ℕ) (l : Link) → IsPlaceOf ls c (Some i) → get_or ls i l ≡ l → l.number ≡ c
 number_is ls c i l place here = sym (ap (λ (z : Link). z.number) here) ∙ place.1 l

@@ -13,7 +13,7 @@ use Rattle.assembly.specs.Held.{stream_of}
 use Rattle.broker_core.specs.State.{topology_of}
 use Rattle.engine.specs.Reading.{IsKept, kept_of, to_read}
 use Rattle.engine.specs.Performing.{Rules, PausesOr}
-use Rattle.engine.specs.Turning.{LinkTook, LinkWaits}
+use Rattle.engine.specs.Turning.{LinkTook, LinkWaits, IsAwake}
 use Rattle.engine.specs.World.{Parts, link_in, session_of, wire_of, is_link_gone}
 use Rattle.engine.specs.declared.link.Link.{Link}
 use Rattle.engine.specs.declared.turning.Turn.{Turn}
@@ -32,8 +32,7 @@ left_in (l ∷ ls) = left_of l + left_in ls
 
 -- Memory was wanting for a connection that is neither over nor paused, and nothing was performed.
 pub record LinkWants (b : Broker) (old : Link) (new_b : Broker) (new : Link) : Type 0 where
-  pub open_still : is_ended old.session.phase ≡ false
-  pub below : is_past_bound old.output.bytes ≡ false
+  pub awake : IsAwake old
   pub waits : LinkWaits b old new_b new
 
 -- The turn of one connection is right, or memory was wanting and nothing was performed.

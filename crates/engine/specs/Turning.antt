@@ -41,6 +41,10 @@ DidEvent r b old event turn.Idle new_b new = ⊥
 DidEvent r b old event turn.Paused new_b new = ⊥
 DidEvent r b old event turn.Over new_b new = ⊥
 
+-- the connection is neither over nor paused
+abbrev pub IsAwake : Link → Type 0
+IsAwake l = (is_ended l.session.phase ≡ false) × (is_past_bound l.output.bytes ≡ false)
+
 -- Nothing was performed, and the same is still to come.
 pub record LinkWaits (b : Broker) (old : Link) (new_b : Broker) (new : Link) : Type 0 where
   pub broker : new_b ≡ b

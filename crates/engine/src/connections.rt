@@ -21,11 +21,10 @@ ghost use Rattle.broker_core.specs.State.{topology_of, broker_of};
 ghost use Rattle.engine.specs.Reading.{IsKept};
 ghost use Rattle.outputs.specs.Waiting.{HoldsNone};
 ghost use Rattle.engine.specs.Performing.{rules_of};
-ghost use Rattle.engine.specs.Turning.{LinkTook, OnIdle};
+ghost use Rattle.engine.specs.Turning.{LinkTook, LinkWaits, IsAwake, OnIdle};
 ghost use Rattle.engine.specs.World.{AreRising};
 ghost use Rattle.engine.specs.Engines.{
   IsPlaceOf,
-  LinkWants,
   LinksTook,
   LinkSent,
   LinksSent,
@@ -97,7 +96,8 @@ fn turn_link(
     requires kept { IsKept link.old.number link.old.kept }
     requires carried { AreCarried (broker_of broker.old) }
     ensures ok { IfOk result (λ t. LinkTook (rules_of (topology_of broker.old) users.now) (broker_of broker.old) link.old t (broker_of broker.new) link.new) }
-    ensures err { OnErr result (LinkWants (broker_of broker.old) link.old (broker_of broker.new) link.new) }
+    ensures err { OnErr result (LinkWaits (broker_of broker.old) link.old (broker_of broker.new) link.new) }
+    ensures awake { OnErr result (IsAwake link.old) }
     ensures idle { IfOk result (λ t. OnIdle t (HoldsNone link.new.output)) }
     ensures kept { IsKept link.new.number link.new.kept }
     ensures number { link.new.number ≡ link.old.number }

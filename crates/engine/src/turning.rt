@@ -10,7 +10,7 @@ ghost use Rattle.model.specs.declared.events.Event.TheVariants as happens;
 ghost use Rattle.broker_core.specs.State.{topology_of, broker_of};
 ghost use Rattle.engine.specs.Reading.{IsKept, IsMade};
 ghost use Rattle.engine.specs.Performing.{IsAsked, PausesOr, rules_of};
-ghost use Rattle.engine.specs.Turning.{Performed, DidEvent, LinkTook, LinkWaits, OnIdle};
+ghost use Rattle.engine.specs.Turning.{Performed, DidEvent, LinkTook, LinkWaits, IsAwake, OnIdle};
 ghost use Rattle.outputs.specs.Waiting.{HoldsNone};
 
 use crate::link::Link;
@@ -179,6 +179,7 @@ pub(crate) fn turn_awake(
     requires below { is_past_bound link.old.output.bytes ≡ false }
     ensures ok { IfOk result (λ t. LinkTook (rules_of (topology_of broker.old) users.now) (broker_of broker.old) link.old t (broker_of broker.new) link.new) }
     ensures err { OnErr result (LinkWaits (broker_of broker.old) link.old (broker_of broker.new) link.new) }
+    ensures awake { OnErr result (IsAwake link.old) }
     ensures idle { IfOk result (λ t. OnIdle t (HoldsNone link.new.output)) }
     ensures kept { IsKept link.new.number link.new.kept }
     ensures number { link.new.number ≡ link.old.number }

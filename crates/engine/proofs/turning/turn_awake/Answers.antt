@@ -21,7 +21,7 @@ returns-in_ok-make_room-in-Command c =
     let has = comes_command old.number old.kept mid.kept (stream_of old.stream) (stream_of mid.stream) c.in_ok-read_next.field-0 c.in-Command.is c.in_ok-read_next.ensures.ok in
     let whole = after_kept c.do_kept.result (rules_of (topology_of c.args.broker.now) c.args.users.now) (broker_of c.args.broker.now) (broker_of c.do_kept.new.broker) old mid c.do_kept.new.link c.requires.open c.requires.below
     (record { number = refl; session = refl; output = c.make_room.ensures.bytes }) has c.do_kept.ensures.ok (on_err_map c.do_kept.result _ _ (λ e. ap broker_of e) c.do_kept.ensures.broker_kept) c.do_kept.ensures.link_kept in
-    record { ok = whole.ok; err = whole.err; idle = whole.idle; kept = whole.kept; number = whole.number; topology = c.do_kept.ensures.topology }
+    record { ok = whole.ok; err = whole.err; idle = whole.idle; kept = whole.kept; number = whole.number; awake = on_err c.do_kept.result _ (c.requires.open, c.requires.below); topology = c.do_kept.ensures.topology }
 
 pub returns-in_err-make_room-in-Fault-clause-err : goal.returns-in_err-make_room-in-Fault-clause-err
 returns-in_err-make_room-in-Fault-clause-err c =
@@ -38,7 +38,7 @@ returns-in_ok-make_room-in-Fault c =
     let h = comes_fault old.number c.in-Fault.code old.kept mid.kept (stream_of old.stream) (stream_of mid.stream) c.in_ok-read_next.field-0 c.in-Fault.is c.in_ok-read_next.ensures.ok in
     let whole = after_fault c.do_fault.result (rules_of (topology_of c.args.broker.now) c.args.users.now) (broker_of c.args.broker.now) (broker_of c.do_fault.new.broker) old mid c.do_fault.new.link c.in-Fault.code c.requires.open c.requires.below
     (record { number = refl; session = refl; output = c.make_room-in-Fault.ensures.bytes }) h c.do_fault.ensures.ok (on_err_map c.do_fault.result _ _ (λ e. ap broker_of e) c.do_fault.ensures.broker_kept) c.do_fault.ensures.link_kept in
-    record { ok = whole.ok; err = whole.err; idle = whole.idle; kept = whole.kept; number = whole.number; topology = c.do_fault.ensures.topology }
+    record { ok = whole.ok; err = whole.err; idle = whole.idle; kept = whole.kept; number = whole.number; awake = on_err c.do_fault.result _ (c.requires.open, c.requires.below); topology = c.do_fault.ensures.topology }
 
 pub returns-in-Nothing : goal.returns-in-Nothing
 returns-in-Nothing c =
@@ -48,6 +48,7 @@ returns-in-Nothing c =
     record {
       ok = after_nothing (rules_of (topology_of c.args.broker.now) c.args.users.now) (broker_of c.args.broker.now) old mid c.requires.open (record { number = refl; session = refl; output = c.take_back.ensures.bytes }) h;
       err = tt;
+      awake = tt;
       idle = c.take_back.ensures.none;
       kept = c.read_next.ensures.kept;
       number = refl;
