@@ -37,7 +37,7 @@ impl<M: Machine> Model for Server<M> {
 
     ghost view = { λ s. record { machine = s.machine; peers = s.peers.slots } };
 
-    ghost invariant = { λ s. IsKept (M.world s.machine) s.peers.slots s.quiet };
+    ghost invariant = { λ s. IsKept (M.world s.machine) s.peers.slots s.quiet s.buffer.items };
 }
 
 impl<M: Machine> Server<M> {

@@ -46,7 +46,7 @@ pub trait Wire {
 
     /// Bytes that came at a socket.
     fn read(&mut self, socket: u64, buffer: &mut [u8]) -> Read
-        ensures told { told self.new ≡ after (told self.old) (read_call socket result buffer.new ∷ []) }
+        ensures told { told self.new ≡ after (told self.old) (read_call socket (length buffer.old) result buffer.new ∷ []) }
         ensures within { (n : ℕ) → result ≡ read.Got n → n ≤ length buffer.new };
 
     /// Hands bytes to a socket, which takes some of them.
