@@ -95,7 +95,7 @@ fn let_down<M: Machine, W: Wire>(
     wire.close(peer.socket);
 }
 
-/// Reads once from a socket, and does what came.
+/// Reads once from a socket, into the whole buffer, and does what came.
 fn read_one<M: Machine, W: Wire>(
     alloc: Global,
     machine: &mut M,
@@ -132,7 +132,7 @@ fn read_one<M: Machine, W: Wire>(
     }
 }
 
-/// Writes once to a socket, and does what waited for that.
+/// Hands a socket all output of its connection once, and does what waited for what it took.
 fn write_one<M: Machine, W: Wire>(
     alloc: Global,
     machine: &mut M,
