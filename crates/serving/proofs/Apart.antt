@@ -12,7 +12,7 @@ use Rattle.model.specs.declared.events.Arrival.TheVariants as arrival
 use Rattle.model.specs.declared.events.Event.TheVariants as event
 use Rattle.serving.specs.Wire.{Ask, To_read, To_write}
 use Rattle.serving.specs.Coming.{FallsShort}
-use Rattle.serving.specs.Story.{At}
+use Rattle.serving.specs.Story.{At, read_room}
 use Rattle.serving.specs.Fit.{ApartFrom, IsFit}
 use Rattle.serving.specs.Rounds.{read_of, write_of}
 use Rattle.serving.specs.declared.peers.Peer.{Peer}
@@ -123,14 +123,14 @@ pub reads_as : (c : ℕ) (a b : World) → ApartFrom c a b → (ps : List (Optio
 reads_as c a b p [] absent = refl
 reads_as c a b p (None ∷ ps) absent = reads_as c a b p ps (λ i q at. absent (suc i) q at)
 reads_as c a b p (Some q ∷ ps) absent =
-    ap (λ (x : Bool). (if x then To_read q.socket ∷ [] else []) ++ flat_map (read_of b) ps) (awake_stays a b q.connection (others_stay c a b p q.connection (absent 0 q refl)))
+    ap (λ (x : Bool). (if x then To_read q.socket read_room ∷ [] else []) ++ flat_map (read_of b) ps) (awake_stays a b q.connection (others_stay c a b p q.connection (absent 0 q refl)))
     ∙ ap (λ (xs : List Ask). read_of a (Some q) ++ xs) (reads_as c a b p ps (λ i r at. absent (suc i) r at))
 
 pub writes_as : (c : ℕ) (a b : World) → ApartFrom c a b → (ps : List (Option Peer)) → IsAbsent c ps → flat_map (write_of b) ps ≡ flat_map (write_of a) ps
 writes_as c a b p [] absent = refl
 writes_as c a b p (None ∷ ps) absent = writes_as c a b p ps (λ i q at. absent (suc i) q at)
 writes_as c a b p (Some q ∷ ps) absent =
-    ap (λ (x : Bool). (if x then To_write q.socket ∷ [] else []) ++ flat_map (write_of b) ps) (output_stays a b q.connection (others_stay c a b p q.connection (absent 0 q refl)))
+    ap (λ (w : Wire). (if nat_lt 0 (length w.output) then To_write q.socket w.output ∷ [] else []) ++ flat_map (write_of b) ps) (others_stay c a b p q.connection (absent 0 q refl)).wire
     ∙ ap (λ (xs : List Ask). write_of a (Some q) ++ xs) (writes_as c a b p ps (λ i r at. absent (suc i) r at))
 
 -- ---- slot by slot

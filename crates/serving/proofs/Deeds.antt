@@ -6,7 +6,7 @@ use Rattle.model.specs.Arrivals.{World, Same, can_open, is_gone, Answers, Delive
 use Rattle.model.specs.declared.events.Arrival.TheVariants as arrival
 use Rattle.serving.specs.Wire.{Accepted, Not_accepted, Accept_failed, Got, Nothing_got, Read_ended, Read_failed, Took, Nothing_taken, Write_failed, Closed, Rested, To_accept, To_read, To_write, Told, after, IsFresh}
 use Rattle.serving.specs.Coming.{Attempt, whole, short, Brings, FallsShort}
-use Rattle.serving.specs.Story.{Served, served, At, TakesIn, Met, Turned_away, Met_no_one, Heard, Heard_partly, Heard_nothing, Heard_end, Gave, Gave_partly, Gave_nothing, Gave_up, Pumped, Pumped_nothing, Pump_refused, Let_go, Paused, Serves, PumpsOnce}
+use Rattle.serving.specs.Story.{Served, served, At, TakesIn, read_room, Met, Turned_away, Met_no_one, Heard, Heard_partly, Heard_nothing, Heard_end, Gave, Gave_partly, Gave_nothing, Gave_up, Pumped, Pumped_nothing, Pump_refused, Let_go, Paused, Serves, PumpsOnce}
 use Rattle.serving.specs.declared.peers.Peer.{Peer}
 use Rattle.serving.proofs.Turning.{match_false}
 use Rattle.serving.proofs.Onward.{after_none, after_two, serves_one, attempt_one, attempt_two}
@@ -32,15 +32,15 @@ met_failure a ps told now e = serves_one (served a ps told) (served a ps now) _ 
 
 -- ---- reads
 
-pub heard : (a b : World) (ps : List (Option Peer)) (i : ℕ) (p : Peer) (bytes : List ℕ) (told now : Told) → At ps i p → (hs : List Happening) × Answers a (arrival.In p.connection bytes) hs b → now ≡ after told (Got p.socket bytes ∷ [])
-    → Serves (served a ps told) (To_read p.socket ∷ []) true (served b ps now)
+pub heard : (a b : World) (ps : List (Option Peer)) (i : ℕ) (p : Peer) (bytes : List ℕ) (told now : Told) → At ps i p → (hs : List Happening) × Answers a (arrival.In p.connection bytes) hs b → now ≡ after told (Got p.socket read_room bytes ∷ [])
+    → Serves (served a ps told) (To_read p.socket read_room ∷ []) true (served b ps now)
 heard a b ps i p bytes told now at ans e =
     serves_one (served a ps told) (served b ps now) _ _ (Heard i p bytes) ans.0
     (record { table = (at, refl); brings = attempt_one a b (whole (arrival.In p.connection bytes)) ans.0 ans.1; told = e }) refl refl refl
 
 pub heard_partly : (a m b : World) (ps : List (Option Peer)) (i : ℕ) (p : Peer) (bytes : List ℕ) (told mid now : Told) → At ps i p → (hs : List Happening) × FallsShort a (arrival.In p.connection bytes) hs m
-    → (hs : List Happening) × Answers m (arrival.Lose p.connection) hs b → mid ≡ after told (Got p.socket bytes ∷ []) → now ≡ after mid (Closed p.socket ∷ [])
-    → Serves (served a ps told) (To_read p.socket ∷ []) true (served b (slice_set ps i None) now)
+    → (hs : List Happening) × Answers m (arrival.Lose p.connection) hs b → mid ≡ after told (Got p.socket read_room bytes ∷ []) → now ≡ after mid (Closed p.socket ∷ [])
+    → Serves (served a ps told) (To_read p.socket read_room ∷ []) true (served b (slice_set ps i None) now)
 heard_partly a m b ps i p bytes told mid now at falls lost e f =
     serves_one (served a ps told) (served b (slice_set ps i None) now) _ _ (Heard_partly i p bytes) (falls.0 ++ lost.0)
     (record {
@@ -49,17 +49,17 @@ heard_partly a m b ps i p bytes told mid now at falls lost e f =
       told = after_two told mid now _ _ e f;
     }) refl refl refl
 
-pub heard_nothing : (a : World) (ps : List (Option Peer)) (i : ℕ) (p : Peer) (told now : Told) → At ps i p → now ≡ after told (Nothing_got p.socket ∷ []) → Serves (served a ps told) (To_read p.socket ∷ []) false (served a ps now)
+pub heard_nothing : (a : World) (ps : List (Option Peer)) (i : ℕ) (p : Peer) (told now : Told) → At ps i p → now ≡ after told (Nothing_got p.socket read_room ∷ []) → Serves (served a ps told) (To_read p.socket read_room ∷ []) false (served a ps now)
 heard_nothing a ps i p told now at e = serves_one (served a ps told) (served a ps now) _ _ (Heard_nothing i p) [] (record { table = (at, refl); brings = (refl, refl); told = e }) refl refl refl
 
 pub heard_end : (a b : World) (ps : List (Option Peer)) (i : ℕ) (p : Peer) (told mid now : Told) → At ps i p → (hs : List Happening) × Answers a (arrival.Lose p.connection) hs b
-    → mid ≡ after told (Read_ended p.socket ∷ []) → now ≡ after mid (Closed p.socket ∷ []) → Serves (served a ps told) (To_read p.socket ∷ []) true (served b (slice_set ps i None) now)
+    → mid ≡ after told (Read_ended p.socket read_room ∷ []) → now ≡ after mid (Closed p.socket ∷ []) → Serves (served a ps told) (To_read p.socket read_room ∷ []) true (served b (slice_set ps i None) now)
 heard_end a b ps i p told mid now at lost e f =
     serves_one (served a ps told) (served b (slice_set ps i None) now) _ _ (Heard_end i p false) lost.0
     (record { table = (at, refl); brings = attempt_one a b (whole (arrival.Lose p.connection)) lost.0 lost.1; told = after_two told mid now _ _ e f }) refl refl refl
 
 pub heard_failure : (a b : World) (ps : List (Option Peer)) (i : ℕ) (p : Peer) (told mid now : Told) → At ps i p → (hs : List Happening) × Answers a (arrival.Lose p.connection) hs b
-    → mid ≡ after told (Read_failed p.socket ∷ []) → now ≡ after mid (Closed p.socket ∷ []) → Serves (served a ps told) (To_read p.socket ∷ []) true (served b (slice_set ps i None) now)
+    → mid ≡ after told (Read_failed p.socket read_room ∷ []) → now ≡ after mid (Closed p.socket ∷ []) → Serves (served a ps told) (To_read p.socket read_room ∷ []) true (served b (slice_set ps i None) now)
 heard_failure a b ps i p told mid now at lost e f =
     serves_one (served a ps told) (served b (slice_set ps i None) now) _ _ (Heard_end i p true) lost.0
     (record { table = (at, refl); brings = attempt_one a b (whole (arrival.Lose p.connection)) lost.0 lost.1; told = after_two told mid now _ _ e f }) refl refl refl
@@ -67,36 +67,36 @@ heard_failure a b ps i p told mid now at lost e f =
 -- ---- writes
 
 pub gave : (a b : World) (ps : List (Option Peer)) (i : ℕ) (p : Peer) (n : ℕ) (told now : Told) → At ps i p → n ≤ length (a.wire p.connection).output → (hs : List Happening) × Answers a (arrival.Sent p.connection n) hs b
-    → now ≡ after told (Took p.socket (take n (a.wire p.connection).output) ∷ []) → Serves (served a ps told) (To_write p.socket ∷ []) true (served b ps now)
+    → now ≡ after told (Took p.socket (a.wire p.connection).output (take n (a.wire p.connection).output) ∷ []) → Serves (served a ps told) (To_write p.socket (a.wire p.connection).output ∷ []) true (served b ps now)
 gave a b ps i p n told now at le ans e =
     let out = (a.wire p.connection).output in
     let is : length (take n out) ≡ n = length-take-le n out le in
     let brings : Answers a (arrival.Sent p.connection (length (take n out))) ans.0 b = subst (λ (k : ℕ). Answers a (arrival.Sent p.connection k) ans.0 b) (sym is) ans.1 in
-    serves_one (served a ps told) (served b ps now) _ _ (Gave i p (take n out)) ans.0
-    (record { table = ((n, le, refl), (at, refl)); brings = attempt_one a b (whole (arrival.Sent p.connection (length (take n out)))) ans.0 brings; told = e }) refl refl refl
+    serves_one (served a ps told) (served b ps now) _ _ (Gave i p out (take n out)) ans.0
+    (record { table = (refl, (n, le, refl), (at, refl)); brings = attempt_one a b (whole (arrival.Sent p.connection (length (take n out)))) ans.0 brings; told = e }) refl refl refl
 
 pub gave_partly : (a m b : World) (ps : List (Option Peer)) (i : ℕ) (p : Peer) (n : ℕ) (told mid now : Told) → At ps i p → n ≤ length (a.wire p.connection).output → (hs : List Happening) × FallsShort a (arrival.Sent p.connection n) hs m
-    → (hs : List Happening) × Answers m (arrival.Lose p.connection) hs b → mid ≡ after told (Took p.socket (take n (a.wire p.connection).output) ∷ []) → now ≡ after mid (Closed p.socket ∷ [])
-    → Serves (served a ps told) (To_write p.socket ∷ []) true (served b (slice_set ps i None) now)
+    → (hs : List Happening) × Answers m (arrival.Lose p.connection) hs b → mid ≡ after told (Took p.socket (a.wire p.connection).output (take n (a.wire p.connection).output) ∷ []) → now ≡ after mid (Closed p.socket ∷ [])
+    → Serves (served a ps told) (To_write p.socket (a.wire p.connection).output ∷ []) true (served b (slice_set ps i None) now)
 gave_partly a m b ps i p n told mid now at le falls lost e f =
     let out = (a.wire p.connection).output in
     let is : length (take n out) ≡ n = length-take-le n out le in
     let brings : FallsShort a (arrival.Sent p.connection (length (take n out))) falls.0 m = subst (λ (k : ℕ). FallsShort a (arrival.Sent p.connection k) falls.0 m) (sym is) falls.1 in
-    serves_one (served a ps told) (served b (slice_set ps i None) now) _ _ (Gave_partly i p (take n out)) (falls.0 ++ lost.0)
+    serves_one (served a ps told) (served b (slice_set ps i None) now) _ _ (Gave_partly i p out (take n out)) (falls.0 ++ lost.0)
     (record {
-      table = ((n, le, refl), (at, refl));
+      table = (refl, (n, le, refl), (at, refl));
       brings = attempt_two a m b (short (arrival.Sent p.connection (length (take n out)))) (whole (arrival.Lose p.connection)) falls.0 lost.0 brings lost.1;
       told = after_two told mid now _ _ e f;
     }) refl refl refl
 
-pub gave_nothing : (a : World) (ps : List (Option Peer)) (i : ℕ) (p : Peer) (told now : Told) → At ps i p → now ≡ after told (Nothing_taken p.socket ∷ []) → Serves (served a ps told) (To_write p.socket ∷ []) false (served a ps now)
-gave_nothing a ps i p told now at e = serves_one (served a ps told) (served a ps now) _ _ (Gave_nothing i p) [] (record { table = (at, refl); brings = (refl, refl); told = e }) refl refl refl
+pub gave_nothing : (a : World) (ps : List (Option Peer)) (i : ℕ) (p : Peer) (told now : Told) → At ps i p → now ≡ after told (Nothing_taken p.socket (a.wire p.connection).output ∷ []) → Serves (served a ps told) (To_write p.socket (a.wire p.connection).output ∷ []) false (served a ps now)
+gave_nothing a ps i p told now at e = serves_one (served a ps told) (served a ps now) _ _ (Gave_nothing i p (a.wire p.connection).output) [] (record { table = (refl, (at, refl)); brings = (refl, refl); told = e }) refl refl refl
 
 pub gave_up : (a b : World) (ps : List (Option Peer)) (i : ℕ) (p : Peer) (told mid now : Told) → At ps i p → (hs : List Happening) × Answers a (arrival.Lose p.connection) hs b
-    → mid ≡ after told (Write_failed p.socket ∷ []) → now ≡ after mid (Closed p.socket ∷ []) → Serves (served a ps told) (To_write p.socket ∷ []) true (served b (slice_set ps i None) now)
+    → mid ≡ after told (Write_failed p.socket (a.wire p.connection).output ∷ []) → now ≡ after mid (Closed p.socket ∷ []) → Serves (served a ps told) (To_write p.socket (a.wire p.connection).output ∷ []) true (served b (slice_set ps i None) now)
 gave_up a b ps i p told mid now at lost e f =
-    serves_one (served a ps told) (served b (slice_set ps i None) now) _ _ (Gave_up i p) lost.0
-    (record { table = (at, refl); brings = attempt_one a b (whole (arrival.Lose p.connection)) lost.0 lost.1; told = after_two told mid now _ _ e f }) refl refl refl
+    serves_one (served a ps told) (served b (slice_set ps i None) now) _ _ (Gave_up i p (a.wire p.connection).output) lost.0
+    (record { table = (refl, (at, refl)); brings = attempt_one a b (whole (arrival.Lose p.connection)) lost.0 lost.1; told = after_two told mid now _ _ e f }) refl refl refl
 
 -- ---- pumps
 

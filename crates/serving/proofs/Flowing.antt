@@ -337,12 +337,12 @@ flows_deed p v w (Heard_partly i q bytes) hs k does pair = flows_lost p.connecti
 flows_deed p v w (Heard_nothing i q) hs k does pair = flows_nothing p.connection v.world w.world hs does.brings
 flows_deed p v w (Heard_end i q true) hs k does pair = flows_one p.connection v.world w.world (whole (arrival.Lose q.connection)) hs k does.brings
 flows_deed p v w (Heard_end i q false) hs k does pair = flows_one p.connection v.world w.world (whole (arrival.Lose q.connection)) hs k does.brings
-flows_deed p v w (Gave i q bytes) hs k does pair =
-    subst (λ (z : List ℕ). Flows p.connection v.world z hs w.world) (taken_written p q v.world bytes does.table.0 pair) (flows_one p.connection v.world w.world (whole (arrival.Sent q.connection (length bytes))) hs k does.brings)
-flows_deed p v w (Gave_partly i q bytes) hs k does pair =
-    subst (λ (z : List ℕ). Flows p.connection v.world z hs w.world) (taken_written p q v.world bytes does.table.0 pair) (flows_lost p.connection v.world w.world (short (arrival.Sent q.connection (length bytes))) q.connection hs k does.brings)
-flows_deed p v w (Gave_nothing i q) hs k does pair = flows_nothing p.connection v.world w.world hs does.brings
-flows_deed p v w (Gave_up i q) hs k does pair = flows_one p.connection v.world w.world (whole (arrival.Lose q.connection)) hs k does.brings
+flows_deed p v w (Gave i q offered taken) hs k does pair =
+    subst (λ (z : List ℕ). Flows p.connection v.world z hs w.world) (taken_written p q v.world taken does.table.1 pair) (flows_one p.connection v.world w.world (whole (arrival.Sent q.connection (length taken))) hs k does.brings)
+flows_deed p v w (Gave_partly i q offered taken) hs k does pair =
+    subst (λ (z : List ℕ). Flows p.connection v.world z hs w.world) (taken_written p q v.world taken does.table.1 pair) (flows_lost p.connection v.world w.world (short (arrival.Sent q.connection (length taken))) q.connection hs k does.brings)
+flows_deed p v w (Gave_nothing i q offered) hs k does pair = flows_nothing p.connection v.world w.world hs does.brings
+flows_deed p v w (Gave_up i q offered) hs k does pair = flows_one p.connection v.world w.world (whole (arrival.Lose q.connection)) hs k does.brings
 flows_deed p v w Pumped hs k does pair = flows_one p.connection v.world w.world (whole arrival.Pump) hs k does.brings
 flows_deed p v w Pumped_nothing hs k does pair = flows_one p.connection v.world w.world (whole arrival.Pump) hs k does.brings
 flows_deed p v w Pump_refused hs k does pair = flows_one p.connection v.world w.world (short arrival.Pump) hs k does.brings

@@ -70,10 +70,10 @@ joined_one p v w (Heard_partly i q bytes) hs does pair = record { pieces = same_
 joined_one p v w (Heard_nothing i q) hs does pair = record { pieces = refl; amounts = refl; losses = refl }
 joined_one p v w (Heard_end i q true) hs does pair = record { pieces = refl; amounts = refl; losses = same_end (q.connection == p.connection) (q.socket == p.socket) pair }
 joined_one p v w (Heard_end i q false) hs does pair = record { pieces = refl; amounts = refl; losses = same_end (q.connection == p.connection) (q.socket == p.socket) pair }
-joined_one p v w (Gave i q bytes) hs does pair = record { pieces = refl; amounts = same_amount (q.connection == p.connection) (q.socket == p.socket) (length bytes) pair; losses = refl }
-joined_one p v w (Gave_partly i q bytes) hs does pair = record { pieces = refl; amounts = same_amount (q.connection == p.connection) (q.socket == p.socket) (length bytes) pair; losses = short_loss (q.connection == p.connection) }
-joined_one p v w (Gave_nothing i q) hs does pair = record { pieces = refl; amounts = refl; losses = refl }
-joined_one p v w (Gave_up i q) hs does pair = record { pieces = refl; amounts = refl; losses = same_end (q.connection == p.connection) (q.socket == p.socket) pair }
+joined_one p v w (Gave i q offered taken) hs does pair = record { pieces = refl; amounts = same_amount (q.connection == p.connection) (q.socket == p.socket) (length taken) pair; losses = refl }
+joined_one p v w (Gave_partly i q offered taken) hs does pair = record { pieces = refl; amounts = same_amount (q.connection == p.connection) (q.socket == p.socket) (length taken) pair; losses = short_loss (q.connection == p.connection) }
+joined_one p v w (Gave_nothing i q offered) hs does pair = record { pieces = refl; amounts = refl; losses = refl }
+joined_one p v w (Gave_up i q offered) hs does pair = record { pieces = refl; amounts = refl; losses = same_end (q.connection == p.connection) (q.socket == p.socket) pair }
 joined_one p v w Pumped hs does pair = record { pieces = refl; amounts = refl; losses = refl }
 joined_one p v w Pumped_nothing hs does pair = record { pieces = refl; amounts = refl; losses = refl }
 joined_one p v w Pump_refused hs does pair = record { pieces = refl; amounts = refl; losses = refl }

@@ -29,10 +29,10 @@ peer_of (Heard i p bytes) = Some p
 peer_of (Heard_partly i p bytes) = Some p
 peer_of (Heard_nothing i p) = Some p
 peer_of (Heard_end i p x) = Some p
-peer_of (Gave i p bytes) = Some p
-peer_of (Gave_partly i p bytes) = Some p
-peer_of (Gave_nothing i p) = Some p
-peer_of (Gave_up i p) = Some p
+peer_of (Gave i p offered taken) = Some p
+peer_of (Gave_partly i p offered taken) = Some p
+peer_of (Gave_nothing i p offered) = Some p
+peer_of (Gave_up i p offered) = Some p
 peer_of Pumped = None
 peer_of Pumped_nothing = None
 peer_of Pump_refused = None
@@ -137,10 +137,10 @@ goes known v w d hs does k = go d does.table (attempts_le (attempts d) v.world w
     go (Heard_partly i p bytes) t le does = record { knows = knows_freed known v w i _ t.1 le does.told k; mine = k.slots i p t.0 }
     go (Heard_nothing i p) t le does = record { knows = knows_same known v w _ t.1 le does.told k; mine = k.slots i p t.0 }
     go (Heard_end i p x) t le does = record { knows = knows_freed known v w i _ t.1 le does.told k; mine = k.slots i p t.0 }
-    go (Gave i p bytes) t le does = record { knows = knows_same known v w _ t.1.1 le does.told k; mine = k.slots i p t.1.0 }
-    go (Gave_partly i p bytes) t le does = record { knows = knows_freed known v w i _ t.1.1 le does.told k; mine = k.slots i p t.1.0 }
-    go (Gave_nothing i p) t le does = record { knows = knows_same known v w _ t.1 le does.told k; mine = k.slots i p t.0 }
-    go (Gave_up i p) t le does = record { knows = knows_freed known v w i _ t.1 le does.told k; mine = k.slots i p t.0 }
+    go (Gave i p offered taken) t le does = record { knows = knows_same known v w _ t.2.1 le does.told k; mine = k.slots i p t.2.0 }
+    go (Gave_partly i p offered taken) t le does = record { knows = knows_freed known v w i _ t.2.1 le does.told k; mine = k.slots i p t.2.0 }
+    go (Gave_nothing i p offered) t le does = record { knows = knows_same known v w _ t.1.1 le does.told k; mine = k.slots i p t.1.0 }
+    go (Gave_up i p offered) t le does = record { knows = knows_freed known v w i _ t.1.1 le does.told k; mine = k.slots i p t.1.0 }
     go Pumped t le does = record { knows = knows_same known v w _ t.1 le does.told k; mine = tt }
     go Pumped_nothing t le does = record { knows = knows_same known v w _ t.1 le does.told k; mine = tt }
     go Pump_refused t le does = record { knows = knows_same known v w _ t le does.told k; mine = tt }

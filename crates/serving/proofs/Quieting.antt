@@ -142,11 +142,11 @@ marked_silent w ps i ms quiet m = go (slice_index_or ps i None) (λ p at. (quiet
   where
     go : (o : Option Peer) → ((p : Peer) → o ≡ Some p → has_output w p.connection ≡ false) → write_of w o ≡ []
     go None f = refl
-    go (Some p) f = ap (λ (x : Bool). if x then To_write p.socket ∷ [] else []) (f p refl)
+    go (Some p) f = ap (λ (x : Bool). if x then To_write p.socket (w.wire p.connection).output ∷ [] else []) (f p refl)
 
 -- one write is due of a slot whose connection has output
-pub output_due : (w : World) (ps : List (Option Peer)) (i : ℕ) (p : Peer) → At ps i p → has_output w p.connection ≡ true → write_of w (slice_index_or ps i None) ≡ To_write p.socket ∷ []
-output_due w ps i p at e = ap (write_of w) at ∙ ap (λ (x : Bool). if x then To_write p.socket ∷ [] else []) e
+pub output_due : (w : World) (ps : List (Option Peer)) (i : ℕ) (p : Peer) → At ps i p → has_output w p.connection ≡ true → write_of w (slice_index_or ps i None) ≡ To_write p.socket (w.wire p.connection).output ∷ []
+output_due w ps i p at e = ap (write_of w) at ∙ ap (λ (x : Bool). if x then To_write p.socket (w.wire p.connection).output ∷ [] else []) e
 
 -- a slot that had ended has ended, where something happened for another
 pub ended_apart : (a b : World) (ps qs : List (Option Peer)) (i : ℕ) (p : Peer) → IsFit a ps → At ps i p → ApartFrom p.connection a b → StaysOrFrees ps i qs → (j : ℕ) → j ≢ i → HasEnded a ps j → HasEnded b qs j

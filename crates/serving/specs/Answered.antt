@@ -14,15 +14,15 @@ accept_call (accept.Socket s) = Accepted s
 accept_call accept.Nothing = Not_accepted
 accept_call accept.Failed = Accept_failed
 
--- what a read left at the front of the buffer
-abbrev pub read_call : ℕ → Read → List ℕ → Call
-read_call s (read.Got n) buffer = Got s (take n buffer)
-read_call s read.Wait buffer = Nothing_got s
-read_call s read.End buffer = Read_ended s
-read_call s read.Failed buffer = Read_failed s
+-- what a read left at the front of the buffer, which had so much room
+abbrev pub read_call : ℕ → ℕ → Read → List ℕ → Call
+read_call s room (read.Got n) buffer = Got s room (take n buffer)
+read_call s room read.Wait buffer = Nothing_got s room
+read_call s room read.End buffer = Read_ended s room
+read_call s room read.Failed buffer = Read_failed s room
 
--- what a write took of the front of these bytes
+-- what a write took of the front of the bytes that it was offered
 abbrev pub write_call : ℕ → Write → List ℕ → Call
-write_call s (write.Took n) bytes = Took s (take n bytes)
-write_call s write.Wait bytes = Nothing_taken s
-write_call s write.Failed bytes = Write_failed s
+write_call s (write.Took n) offered = Took s offered (take n offered)
+write_call s write.Wait offered = Nothing_taken s offered
+write_call s write.Failed offered = Write_failed s offered

@@ -48,24 +48,24 @@ is_short_for c a = not a.is_whole && is_of a.arrival
 
 -- what a read of it gave
 abbrev pub got_of : ℕ → Call → Option (List ℕ)
-got_of s (Got t bytes) = if t == s then Some bytes else None
+got_of s (Got t room bytes) = if t == s then Some bytes else None
 got_of s call = None
 
 -- the bytes that a write to it took
 abbrev pub written_to : ℕ → Call → List ℕ
-written_to s (Took t bytes) = if t == s then bytes else []
+written_to s (Took t offered taken) = if t == s then taken else []
 written_to s call = []
 
 -- how many bytes a write to it took
 abbrev pub count_of : ℕ → Call → Option ℕ
-count_of s (Took t bytes) = if t == s then Some (length bytes) else None
+count_of s (Took t offered taken) = if t == s then Some (length taken) else None
 count_of s call = None
 
 -- its input ended, or a read of it or a write to it failed
 abbrev pub is_end_of : ℕ → Call → Bool
-is_end_of s (Read_ended t) = t == s
-is_end_of s (Read_failed t) = t == s
-is_end_of s (Write_failed t) = t == s
+is_end_of s (Read_ended t room) = t == s
+is_end_of s (Read_failed t room) = t == s
+is_end_of s (Write_failed t offered) = t == s
 is_end_of s call = false
 
 -- ---- whose socket is which

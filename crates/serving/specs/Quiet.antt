@@ -1,7 +1,7 @@
 -- Which slots there is nothing to do for until something comes for them (own).
-use Rattle.std.specs.Prelude.{◌≡◌, ℕ, List, Bool, true, false, Option, slice_index_or}
+use Rattle.std.specs.Prelude.{◌≡◌, ℕ, List, length, Bool, true, false, Option, slice_index_or}
 use Rattle.model.specs.Arrivals.{World, is_awake, has_output}
-use Rattle.serving.specs.Story.{At}
+use Rattle.serving.specs.Story.{At, read_room}
 use Rattle.serving.specs.Fit.{IsFit}
 use Rattle.serving.specs.declared.peers.Peer.{Peer}
 
@@ -18,7 +18,8 @@ IsMarked marks i = slice_index_or marks i false ≡ true
 abbrev pub AreQuiet : World → List (Option Peer) → List Bool → Type 0
 AreQuiet w ps marks = (i : ℕ) (p : Peer) → At ps i p → IsMarked marks i → IsQuiet w p.connection
 
--- What a server keeps: each slot has a connection of its own, and each that is marked is quiet.
-pub record IsKept (w : World) (ps : List (Option Peer)) (marks : List Bool) : Type 0 where
+-- What a server keeps: each slot has a connection of its own, each that is marked is quiet, and the buffer has its room.
+pub record IsKept (w : World) (ps : List (Option Peer)) (marks : List Bool) (buffer : List ℕ) : Type 0 where
   pub fit : IsFit w ps
   pub quiet : AreQuiet w ps marks
+  pub room : length buffer ≡ read_room

@@ -1,19 +1,19 @@
--- Rounds: one accept, a read of each connection that is awake, pumps, a write of each with output, and a rest where nothing was done (own).
+-- Rounds: one accept, a read of each connection that is awake, into the whole buffer, pumps, a write of each with output, of all of it, and a rest where nothing was done (own).
 use Rattle.std.specs.Prelude.{◌≡◌, ℕ, zero, suc, List, [], ◌∷◌, flat_map, Bool, false, ◌||◌, Option, Some, None, if◌then◌else◌}
 use Rattle.model.specs.Arrivals.{World, is_awake, is_gone, has_output}
 use Rattle.serving.specs.Wire.{Ask, To_accept, To_read, To_write, Rested, after}
-use Rattle.serving.specs.Story.{Served, At, Serves, PumpsUp}
+use Rattle.serving.specs.Story.{Served, At, Serves, PumpsUp, read_room}
 use Rattle.serving.specs.declared.peers.Peer.{Peer}
 
--- a read, where the connection is awake
+-- a read into the whole buffer, where the connection is awake
 abbrev pub read_of : World → Option Peer → List Ask
 read_of w None = []
-read_of w (Some p) = if is_awake w p.connection then To_read p.socket ∷ [] else []
+read_of w (Some p) = if is_awake w p.connection then To_read p.socket read_room ∷ [] else []
 
--- a write, where it has output
+-- a write of all of its output, where it has any
 abbrev pub write_of : World → Option Peer → List Ask
 write_of w None = []
-write_of w (Some p) = if has_output w p.connection then To_write p.socket ∷ [] else []
+write_of w (Some p) = if has_output w p.connection then To_write p.socket (w.wire p.connection).output ∷ [] else []
 
 -- one of each connection that is neither paused nor over, by slot
 abbrev pub reads_due : Served → List Ask

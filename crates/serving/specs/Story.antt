@@ -19,6 +19,10 @@ pub record Served : Type 0 where
 abbrev pub served : World → List (Option Peer) → Told → Served
 served w ps t = record { world = w; peers = ps; told = t }
 
+-- the room that a server offers to a read: its whole buffer, of 65,536 bytes
+abbrev pub read_room : ℕ
+read_room = 65536
+
 -- One thing that a server does: what it makes of one answer of its wire, a pump, or a pause of the wire.
 pub data Deed : Type 0 where
   -- a socket came, and a connection was opened for it in this slot
@@ -32,12 +36,12 @@ pub data Deed : Type 0 where
   Heard_nothing : (slot : ℕ) → (peer : Peer) → Deed
   -- the input of a socket ended, or its read failed
   Heard_end : (slot : ℕ) → (peer : Peer) → (is_failure : Bool) → Deed
-  Gave : (slot : ℕ) → (peer : Peer) → (bytes : List ℕ) → Deed
+  Gave : (slot : ℕ) → (peer : Peer) → (offered taken : List ℕ) → Deed
   -- memory was refused for what waited
-  Gave_partly : (slot : ℕ) → (peer : Peer) → (bytes : List ℕ) → Deed
-  Gave_nothing : (slot : ℕ) → (peer : Peer) → Deed
+  Gave_partly : (slot : ℕ) → (peer : Peer) → (offered taken : List ℕ) → Deed
+  Gave_nothing : (slot : ℕ) → (peer : Peer) → (offered : List ℕ) → Deed
   -- the write failed
-  Gave_up : (slot : ℕ) → (peer : Peer) → Deed
+  Gave_up : (slot : ℕ) → (peer : Peer) → (offered : List ℕ) → Deed
   -- a pump by which a message was delivered
   Pumped : Deed
   -- a pump for which no delivery could be made
@@ -53,14 +57,14 @@ abbrev pub calls : Deed → List Call
 calls (Met i p) = Accepted p.socket ∷ []
 calls (Turned_away s o) = Accepted s ∷ Closed s ∷ []
 calls (Met_no_one failed) = (if failed then Accept_failed else Not_accepted) ∷ []
-calls (Heard i p bytes) = Got p.socket bytes ∷ []
-calls (Heard_partly i p bytes) = Got p.socket bytes ∷ Closed p.socket ∷ []
-calls (Heard_nothing i p) = Nothing_got p.socket ∷ []
-calls (Heard_end i p failed) = (if failed then Read_failed p.socket else Read_ended p.socket) ∷ Closed p.socket ∷ []
-calls (Gave i p bytes) = Took p.socket bytes ∷ []
-calls (Gave_partly i p bytes) = Took p.socket bytes ∷ Closed p.socket ∷ []
-calls (Gave_nothing i p) = Nothing_taken p.socket ∷ []
-calls (Gave_up i p) = Write_failed p.socket ∷ Closed p.socket ∷ []
+calls (Heard i p bytes) = Got p.socket read_room bytes ∷ []
+calls (Heard_partly i p bytes) = Got p.socket read_room bytes ∷ Closed p.socket ∷ []
+calls (Heard_nothing i p) = Nothing_got p.socket read_room ∷ []
+calls (Heard_end i p failed) = (if failed then Read_failed p.socket read_room else Read_ended p.socket read_room) ∷ Closed p.socket ∷ []
+calls (Gave i p offered taken) = Took p.socket offered taken ∷ []
+calls (Gave_partly i p offered taken) = Took p.socket offered taken ∷ Closed p.socket ∷ []
+calls (Gave_nothing i p offered) = Nothing_taken p.socket offered ∷ []
+calls (Gave_up i p offered) = Write_failed p.socket offered ∷ Closed p.socket ∷ []
 calls Pumped = []
 calls Pumped_nothing = []
 calls Pump_refused = []
@@ -76,10 +80,10 @@ attempts (Heard i p bytes) = whole (arrival.In p.connection bytes) ∷ []
 attempts (Heard_partly i p bytes) = short (arrival.In p.connection bytes) ∷ whole (arrival.Lose p.connection) ∷ []
 attempts (Heard_nothing i p) = []
 attempts (Heard_end i p failed) = whole (arrival.Lose p.connection) ∷ []
-attempts (Gave i p bytes) = whole (arrival.Sent p.connection (length bytes)) ∷ []
-attempts (Gave_partly i p bytes) = short (arrival.Sent p.connection (length bytes)) ∷ whole (arrival.Lose p.connection) ∷ []
-attempts (Gave_nothing i p) = []
-attempts (Gave_up i p) = whole (arrival.Lose p.connection) ∷ []
+attempts (Gave i p offered taken) = whole (arrival.Sent p.connection (length taken)) ∷ []
+attempts (Gave_partly i p offered taken) = short (arrival.Sent p.connection (length taken)) ∷ whole (arrival.Lose p.connection) ∷ []
+attempts (Gave_nothing i p offered) = []
+attempts (Gave_up i p offered) = whole (arrival.Lose p.connection) ∷ []
 attempts Pumped = whole arrival.Pump ∷ []
 attempts Pumped_nothing = whole arrival.Pump ∷ []
 attempts Pump_refused = short arrival.Pump ∷ []
@@ -90,7 +94,7 @@ attempts Paused = []
 abbrev pub is_done : Deed → Bool
 is_done (Met_no_one failed) = false
 is_done (Heard_nothing i p) = false
-is_done (Gave_nothing i p) = false
+is_done (Gave_nothing i p offered) = false
 is_done Pumped_nothing = false
 is_done Pump_refused = false
 is_done Paused = false
@@ -123,11 +127,15 @@ Freed old i p new = At old i p × (new ≡ slice_set old i None)
 abbrev pub Kept : List (Option Peer) → ℕ → Peer → List (Option Peer) → Type 0
 Kept old i p new = At old i p × (new ≡ old)
 
+-- these bytes are all of c's output
+abbrev pub IsOutput : World → ℕ → List ℕ → Type 0
+IsOutput w c bytes = bytes ≡ (w.wire c).output
+
 -- these bytes are the first of c's output
 abbrev pub IsFront : World → ℕ → List ℕ → Type 0
 IsFront w c bytes = (n : ℕ) × (n ≤ length (w.wire c).output) × (bytes ≡ take n (w.wire c).output)
 
--- what a deed is about stands so in the slots, what was written is the connection's own output, and a delivery could be made where one was
+-- what a deed is about stands so in the slots, what a write was offered is all of the connection's own output and what it took the first of that, and a delivery could be made where one was
 abbrev pub Table : Served → Deed → List (Option Peer) → Type 0
 Table v (Met i p) new = (can_open v.world ≡ true) × (p.connection ≡ v.world.given + 1) × IsFresh p.socket v.told × Filled v.peers i p new
 Table v (Turned_away s o) new = (o.arrival ≡ arrival.Open) × (new ≡ v.peers)
@@ -136,10 +144,10 @@ Table v (Heard i p bytes) new = Kept v.peers i p new
 Table v (Heard_partly i p bytes) new = Freed v.peers i p new
 Table v (Heard_nothing i p) new = Kept v.peers i p new
 Table v (Heard_end i p failed) new = Freed v.peers i p new
-Table v (Gave i p bytes) new = IsFront v.world p.connection bytes × Kept v.peers i p new
-Table v (Gave_partly i p bytes) new = IsFront v.world p.connection bytes × Freed v.peers i p new
-Table v (Gave_nothing i p) new = Kept v.peers i p new
-Table v (Gave_up i p) new = Freed v.peers i p new
+Table v (Gave i p offered taken) new = IsOutput v.world p.connection offered × IsFront v.world p.connection taken × Kept v.peers i p new
+Table v (Gave_partly i p offered taken) new = IsOutput v.world p.connection offered × IsFront v.world p.connection taken × Freed v.peers i p new
+Table v (Gave_nothing i p offered) new = IsOutput v.world p.connection offered × Kept v.peers i p new
+Table v (Gave_up i p offered) new = IsOutput v.world p.connection offered × Freed v.peers i p new
 Table v Pumped new = ((c : ℕ) × CanDeliver v.world.state.broker c) × (new ≡ v.peers)
 Table v Pumped_nothing new = NoneCanDeliver v.world × (new ≡ v.peers)
 Table v Pump_refused new = new ≡ v.peers

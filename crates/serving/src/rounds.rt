@@ -6,7 +6,7 @@ ghost use Rattle.model.specs.Arrivals.{Answers, Same, has_output, is_awake};
 ghost use Rattle.model.specs.declared.events.Arrival.TheVariants as arrival;
 ghost use Rattle.slab.specs.Slab.{HasRoomFor};
 ghost use Rattle.serving.specs.Wire.{Closed, To_accept, To_read, To_write, Told, after};
-ghost use Rattle.serving.specs.Story.{At, PumpsOnce, PumpsUp, Serves, TakesIn, served};
+ghost use Rattle.serving.specs.Story.{At, PumpsOnce, PumpsUp, Serves, TakesIn, read_room, served};
 ghost use Rattle.serving.specs.Fit.{ApartFrom, IsFit};
 ghost use Rattle.serving.specs.Quiet.{AreQuiet, IsMarked};
 ghost use Rattle.serving.specs.Rounds.{GoesRound, HasEnded, IsRound, most_pumps, read_of, reads_due, write_of, writes_due};
@@ -95,7 +95,7 @@ fn let_down<M: Machine, W: Wire>(
     wire.close(peer.socket);
 }
 
-/// Reads once from a socket, and does what came.
+/// Reads once from a socket, into the whole buffer, and does what came.
 fn read_one<M: Machine, W: Wire>(
     alloc: Global,
     machine: &mut M,
@@ -107,10 +107,11 @@ fn read_one<M: Machine, W: Wire>(
 ) -> bool
     requires at { At peers.old.slots slot peer }
     requires awake { is_awake (M.world machine.old) peer.connection ≡ true }
+    requires room { length buffer.old ≡ read_room }
     ensures others { ApartFrom peer.connection (M.world machine.old) (M.world machine.new) }
     ensures slots { (peers.new.slots ≡ peers.old.slots) ⊎ (peers.new.slots ≡ slice_set peers.old.slots slot None) }
     ensures idle { result ≡ false → Same (M.world machine.old) (M.world machine.new) }
-    ensures serves { Serves (served (M.world machine.old) peers.old.slots (W.told wire.old)) (To_read peer.socket ∷ []) result (served (M.world machine.new) peers.new.slots (W.told wire.new)) }
+    ensures serves { Serves (served (M.world machine.old) peers.old.slots (W.told wire.old)) (To_read peer.socket read_room ∷ []) result (served (M.world machine.new) peers.new.slots (W.told wire.new)) }
 {
     match wire.read(peer.socket, buffer) {
         Read::Got(n) => {
@@ -131,7 +132,7 @@ fn read_one<M: Machine, W: Wire>(
     }
 }
 
-/// Writes once to a socket, and does what waited for that.
+/// Hands a socket all output of its connection once, and does what waited for what it took.
 fn write_one<M: Machine, W: Wire>(
     alloc: Global,
     machine: &mut M,
@@ -144,7 +145,7 @@ fn write_one<M: Machine, W: Wire>(
     requires output { has_output (M.world machine.old) peer.connection ≡ true }
     ensures others { ApartFrom peer.connection (M.world machine.old) (M.world machine.new) }
     ensures slots { (peers.new.slots ≡ peers.old.slots) ⊎ (peers.new.slots ≡ slice_set peers.old.slots slot None) }
-    ensures serves { Serves (served (M.world machine.old) peers.old.slots (W.told wire.old)) (To_write peer.socket ∷ []) result (served (M.world machine.new) peers.new.slots (W.told wire.new)) }
+    ensures serves { Serves (served (M.world machine.old) peers.old.slots (W.told wire.old)) (To_write peer.socket ((M.world machine.old).wire peer.connection).output ∷ []) result (served (M.world machine.new) peers.new.slots (W.told wire.new)) }
 {
     match wire.write(peer.socket, machine.output(peer.connection)) {
         Write::Took(n) => {
@@ -181,6 +182,7 @@ fn read_slot<M: Machine, W: Wire>(
 ) -> bool
     requires fit { IsFit (M.world machine.old) peers.old.slots }
     requires quiet { AreQuiet (M.world machine.old) peers.old.slots quiet.old }
+    requires room { length buffer.old ≡ read_room }
     ensures quiet { AreQuiet (M.world machine.new) peers.new.slots quiet.new }
     ensures later { drop (slot + 1) peers.new.slots ≡ drop (slot + 1) peers.old.slots }
     ensures due { flat_map (read_of (M.world machine.new)) (drop (slot + 1) peers.old.slots) ≡ flat_map (read_of (M.world machine.old)) (drop (slot + 1) peers.old.slots) }
@@ -210,6 +212,7 @@ fn read_all<M: Machine, W: Wire>(
 ) -> bool
     requires fit { IsFit (M.world machine.old) peers.old.slots }
     requires quiet { AreQuiet (M.world machine.old) peers.old.slots quiet.old }
+    requires room { length buffer.old ≡ read_room }
     ensures quiet { AreQuiet (M.world machine.new) peers.new.slots quiet.new }
     ensures serves { Serves (served (M.world machine.old) peers.old.slots (W.told wire.old)) (reads_due (served (M.world machine.old) peers.old.slots (W.told wire.old))) result (served (M.world machine.new) peers.new.slots (W.told wire.new)) }
 {
@@ -373,6 +376,7 @@ fn go_round<M: Machine, W: Wire>(
 ) -> bool
     requires fit { IsFit (M.world machine.old) peers.old.slots }
     requires quiet { AreQuiet (M.world machine.old) peers.old.slots quiet.old }
+    requires room { length buffer.old ≡ read_room }
     ensures fit { IsFit (M.world machine.new) peers.new.slots }
     ensures quiet { AreQuiet (M.world machine.new) peers.new.slots quiet.new }
     ensures round { GoesRound (served (M.world machine.old) peers.old.slots (W.told wire.old)) result (served (M.world machine.new) peers.new.slots (W.told wire.new)) }
@@ -395,6 +399,7 @@ pub(crate) fn round<M: Machine, W: Wire>(
 )
     requires fit { IsFit (M.world machine.old) peers.old.slots }
     requires quiet { AreQuiet (M.world machine.old) peers.old.slots quiet.old }
+    requires room { length buffer.old ≡ read_room }
     ensures fit { IsFit (M.world machine.new) peers.new.slots }
     ensures quiet { AreQuiet (M.world machine.new) peers.new.slots quiet.new }
     ensures round { IsRound (served (M.world machine.old) peers.old.slots (W.told wire.old)) (served (M.world machine.new) peers.new.slots (W.told wire.new)) }

@@ -17,10 +17,10 @@ use slab::Slab;
 use std::alloc::{AllocError, Global};
 use std::marker::Model;
 
-/// The most bytes that one read takes.
-const READ_BOUND: usize = 65_536;
+/// The room that a read is offered, in bytes: it is the whole buffer.
+const READ_ROOM: usize = 65_536;
 
-/// A machine, whose socket is which, and which slots are quiet.
+/// A machine, whose socket is which, which slots are quiet, and the buffer that reads go into.
 #[derive(Drop)]
 pub struct Server<M: Machine> {
     machine: M,
@@ -37,7 +37,7 @@ impl<M: Machine> Model for Server<M> {
 
     ghost view = { λ s. record { machine = s.machine; peers = s.peers.slots } };
 
-    ghost invariant = { λ s. IsKept (M.world s.machine) s.peers.slots s.quiet };
+    ghost invariant = { λ s. IsKept (M.world s.machine) s.peers.slots s.quiet s.buffer.items };
 }
 
 impl<M: Machine> Server<M> {
@@ -47,7 +47,7 @@ impl<M: Machine> Server<M> {
         M: Drop,
         ensures { IfOk result (λ s. s ≡ record { machine = machine; peers = [] }) }
     {
-        let buffer = vec![in alloc; 0; READ_BOUND]?;
+        let buffer = vec![in alloc; 0; READ_ROOM]?;
         Ok(Server {
             machine,
             peers: Slab::new(alloc),
@@ -56,8 +56,9 @@ impl<M: Machine> Server<M> {
         })
     }
 
-    /// One round: an accept, a read of each connection that is neither paused nor over, at most 256 pumps, a write of each
-    /// with output, the end of those that are over with no output left, and a rest where nothing was done.
+    /// One round: an accept, a read into the whole buffer of each connection that is neither paused nor over, at most 256
+    /// pumps, a write of all that waits for each with output, the end of those that are over with no output left, and a rest
+    /// where nothing was done.
     pub fn round<W: Wire>(&mut self, alloc: Global, wire: &mut W)
         ensures { IsRound (served (M.world self.old.machine) self.old.peers (W.told wire.old)) (served (M.world self.new.machine) self.new.peers (W.told wire.new)) }
     {

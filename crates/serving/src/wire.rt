@@ -44,9 +44,9 @@ pub trait Wire {
         ensures told { told self.new ≡ after (told self.old) (accept_call result ∷ []) }
         ensures fresh { (s : ℕ) → result ≡ accept.Socket s → IsFresh s (told self.old) };
 
-    /// Bytes that came at a socket.
+    /// Bytes that came at a socket, as many as the buffer has room for at most.
     fn read(&mut self, socket: u64, buffer: &mut [u8]) -> Read
-        ensures told { told self.new ≡ after (told self.old) (read_call socket result buffer.new ∷ []) }
+        ensures told { told self.new ≡ after (told self.old) (read_call socket (length buffer.old) result buffer.new ∷ []) }
         ensures within { (n : ℕ) → result ≡ read.Got n → n ≤ length buffer.new };
 
     /// Hands bytes to a socket, which takes some of them.

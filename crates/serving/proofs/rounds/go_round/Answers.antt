@@ -11,7 +11,7 @@ read_all-has_heard-requires g c =
     let told = g.W.Wire.told in
     let old = served (world c.args.machine.now) c.args.peers.now.slots (told c.args.wire.now) in
     let met = served (world c.accept_one-has_met.new.machine) c.accept_one-has_met.new.peers.slots (told c.accept_one-has_met.new.wire) in
-    record { fit = serves_fit old met _ _ c.accept_one-has_met.ensures.serves c.requires.fit; quiet = c.accept_one-has_met.ensures.quiet }
+    record { fit = serves_fit old met _ _ c.accept_one-has_met.ensures.serves c.requires.fit; quiet = c.accept_one-has_met.ensures.quiet; room = c.requires.room }
 
 pub settle_all-has_settled-requires : goal.settle_all-has_settled-requires
 settle_all-has_settled-requires g c =

@@ -65,4 +65,4 @@ returns-clause-serves g c =
     let given = served (world c.write_one-has_given.new.machine) c.write_one-has_given.new.peers.slots (told c.write_one-has_given.new.wire) in
     let new = served (world c.write_one-has_given.new.machine) c.close_slot-has_closed.new.peers.slots (told c.close_slot-has_closed.new.wire) in
     subst (λ (asked : List Ask). Serves old asked (c.write_one-has_given.result || c.close_slot-has_closed.result) new) (sym (output_due (world c.args.machine.now) ps c.args.slot c.in-Some.peer at (sym c.has_output.ensures ∙ c.if-not-has_output.false)))
-    (serves_then old given new (To_write c.in-Some.peer.socket ∷ []) [] c.write_one-has_given.result c.close_slot-has_closed.result c.write_one-has_given.ensures.serves c.close_slot-has_closed.ensures.serves)
+    (serves_then old given new (To_write c.in-Some.peer.socket ((world c.args.machine.now).wire c.in-Some.peer.connection).output ∷ []) [] c.write_one-has_given.result c.close_slot-has_closed.result c.write_one-has_given.ensures.serves c.close_slot-has_closed.ensures.serves)
