@@ -87,7 +87,10 @@ fn measure_purge(rt: &HostRuntime, mut engine: Measured) -> io::Result<()> {
     engine.perform(connection, purge.as_slice());
     let took = processor_time(rt)?.saturating_sub(start);
     let left = left_of(&mut engine, rt.alloc(), PURGED);
-    println!(rt; "purge of {PURGED}: {} ns a message; {left} left", took / PURGED)
+    println!(rt;
+        "purge of {PURGED}: {} ns a message; {left} left",
+        took / PURGED
+    )
 }
 
 /// Measures both.
