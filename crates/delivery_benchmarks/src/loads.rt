@@ -74,8 +74,8 @@ pub fn load_at(place: u32) -> Option<Load> {
             ..one("255 idle consumers beside", 0, 0)
         },
         10 => Load {
-            full: 255,
-            ..one("255 consumers beside that hold what they may", 0, 0)
+            full: 200,
+            ..one("200 consumers beside that hold what they may", 0, 0)
         },
         _ => return None,
     };
