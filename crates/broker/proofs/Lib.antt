@@ -1,5 +1,6 @@
 mod Among
 mod Ending
+mod Marked
 mod Outcomes
 mod Seated
 mod Sleeping

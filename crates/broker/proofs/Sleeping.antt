@@ -25,7 +25,7 @@ cannot_pick kept queue p cannot from =
 -- ---- bits of a set of places
 
 -- another place than one
-apart : (i place : ℕ) → (i == place) ≡ false → i ≡ place → ⊥
+pub apart : (i place : ℕ) → (i == place) ≡ false → i ≡ place → ⊥
 apart i place e same = false≢true (sym e ∙ eq-eqb i place same)
 
 -- a place that was put in leaves the others in

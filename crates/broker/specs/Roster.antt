@@ -1,5 +1,5 @@
 -- The consumers of all channels by their numbers, over which deliveries go round, and which of them are passed over (own).
-use Rattle.std.specs.Prelude.{◌≡◌, ◌==◌, ◌&&◌, ◌<◌, ◌≤◌, ◌⊎◌, ℕ, List, [], Bool, true, false, Option, Some, None, length, slice_index_or, nat_eq}
+use Rattle.std.specs.Prelude.{◌≡◌, ◌==◌, ◌&&◌, ◌<◌, ◌≤◌, ◌*◌, ◌⊎◌, ℕ, List, [], Bool, true, false, Option, Some, None, length, slice_index_or, nat_eq}
 use Rattle.std.specs.Map.{lookup}
 use Rattle.model.specs.Topology.{Topology, IsIn}
 use Rattle.model.specs.Broker.{Consumer, Broker}
@@ -10,6 +10,7 @@ use Rattle.model.specs.declared.methods.Method.{Method}
 use Rattle.model.specs.declared.methods.Method.TheVariants.{BasicPublish, BasicGet}
 use Rattle.laws.specs.Consumers.{WasConsumer}
 use Rattle.marks.specs.Places.{bit_of}
+use Rattle.depot.specs.Store.{HasReady}
 use Rattle.exchange_graph.specs.Marks.{queue_name}
 use Rattle.broker_core.specs.State.{Kept, broker_of, topology_of}
 use Rattle.broker_core.specs.Picked.{IsPickFrom, CannotTake}
@@ -110,6 +111,30 @@ pub record IsServing (kept : Kept) (r : Rings) : Type 0 where
   pub seated : AllHaveSeats (topology_of kept) (broker_of kept) r
   -- of a connection that runs no more nothing is listed
   pub running : AllRun (broker_of kept) r.lists
+
+-- ---- which queues are gone over
+
+-- Each queue has a bit, and where a seat is awake in the ring of a queue, the queue's bit is 1.
+pub record AreMarked (rings : List Seats) (marks : List ℕ) : Type 0 where
+  pub room : length rings ≤ length marks * 64
+  pub awake : (place : ℕ) (p : Pick) → IsAwake (ring_at rings place) p → bit_of marks place ≡ 1
+
+-- from none of the queues at these places whose bit is 1 can a delivery be made
+abbrev pub NoneMarked : Kept → List ℕ → ℕ → ℕ → Type 0
+NoneMarked kept marks from to = (place : ℕ) (p : Pick) → from ≤ place → place < to → bit_of marks place ≡ 1 → IsPickFrom kept place p → ⊥
+
+-- The first place at or behind `from` whose queue has something ready and whose bit is 1.
+pub record IsFirstMarked (kept : Kept) (marks : List ℕ) (from place : ℕ) : Type 0 where
+  pub least : from ≤ place
+  pub within : place < length (topology_of kept).queues
+  pub ready : HasReady kept.store place
+  pub marked : bit_of marks place ≡ 1
+  pub before : NoneMarked kept marks from place
+
+-- It is told, or none, and then no delivery can be made from a queue at or behind `from` whose bit is 1.
+abbrev pub IsNextMarked : Kept → List ℕ → ℕ → Option ℕ → Type 0
+IsNextMarked kept marks from (Some place) = IsFirstMarked kept marks from place
+IsNextMarked kept marks from None = (place : ℕ) (p : Pick) → from ≤ place → bit_of marks place ≡ 1 → IsPickFrom kept place p → ⊥
 
 -- from none of the queues at these places can a delivery be made to one who has a seat there
 abbrev pub NoneBetween : Kept → List Seats → ℕ → ℕ → Type 0

@@ -1,103 +1,28 @@
 //! The consumers of all channels, over which deliveries go round.
 //!
-//! Each queue has the ring of its consumers' seats. What is picked is found by going round the queues that have something ready,
-//! from the one behind that from which was picked last, and in each round its ring. So a consumer of a queue that has nothing
-//! ready costs nothing, nor does such a queue. A seat that is found when its consumer may take nothing falls asleep, and costs
-//! nothing until an event of its own channel or connection wakes it; by what was listed of the connection its seats are found.
+//! Each queue has the ring of its consumers' seats. What is picked is found by going round the queues that have something ready
+//! and a seat awake, from the one behind that from which was picked last, and in each round its ring. So a consumer of a queue
+//! that has nothing ready costs nothing, nor does a queue of which nobody may take something. A seat that is found when its
+//! consumer may take nothing falls asleep, and costs nothing until an event of its own channel or connection wakes it; by what was
+//! listed of the connection its seats are found.
 
 mod desk;
 mod ring;
+mod seating;
 
-ghost use Rattle.std.specs.Prelude.{◌≡◌, ◌<◌, ◌≤◌, ℕ, None, IfSome, IfOk, OnOk, length, true};
+ghost use Rattle.std.specs.Prelude.{◌≡◌, ℕ, None, OnOk, length, true};
 ghost use Rattle.model.specs.Topology.{IsIn};
-ghost use Rattle.broker_core.specs.State.{broker_of, topology_of};
-ghost use Rattle.broker_core.specs.Picked.{IsPickFrom};
+ghost use Rattle.broker_core.specs.State.{broker_of};
 ghost use Rattle.replies.specs.Sent.{connection_of_event};
-ghost use Rattle.broker.specs.Roster.{ring_at, is_of, wakes_on, Listing, IsAwake, IsSeatedIn, IsListed, HasNoList, MakesNoList, KeepRings, KeepLists, AllDrowse, AllWaken, NoneBetween};
-ghost use Rattle.broker_core.specs.declared.picks.Pick.{Pick as Seat};
+ghost use Rattle.broker.specs.Roster.{ring_at, is_of, wakes_on, Listing, IsAwake, IsListed, HasNoList, MakesNoList, KeepLists, AllWaken};
 
 use crate::roster::desk::{Desk, Listed};
-use crate::roster::ring::Ring;
+use crate::roster::seating::Seating;
 use broker_core::{Core, Pick};
 use model::{Event, Method};
 use std::alloc::{AllocError, Global};
 use std::collections::HashMap;
 use std::marker::Model;
-
-/// A consumer to which a delivery can be made, from the queue at this place.
-#[derive(Clone, Copy, PartialEq, Eq, Debug, Drop)]
-struct Found {
-    queue: usize,
-    pick: Pick,
-}
-
-/// So many rings with no seat.
-fn empty_rings(alloc: Global, count: usize) -> Result<Vec<Ring>, AllocError>
-    ensures { IfOk result (λ rings. length rings.items ≡ count) }
-{
-    let mut rings = Vec::new(alloc);
-    for _ in 0..count {
-        rings.push(Ring::new(alloc))?;
-    }
-    Ok(rings)
-}
-
-/// This seat is in the ring of the queue at this place from now on, and awake. Where memory is wanting it may not be; no seat of
-/// a consumer that is there is gone. Tells its place.
-fn seat_at(rings: &mut [Ring], core: &Core, queue: usize, seat: Pick) -> Result<usize, AllocError>
-    requires { queue < length rings.old }
-    ensures seated { OnOk result (IsAwake (ring_at rings.new queue) seat) }
-    ensures kept { KeepRings core.now rings.old rings.new }
-{
-    rings[queue].seat(core, seat)
-}
-
-/// The first delivery that can be made from the queue at this place.
-fn pick_at(rings: &mut [Ring], core: &Core, queue: usize) -> Option<Pick>
-    requires { queue < length rings.old }
-    ensures len { length rings.new ≡ length rings.old }
-    ensures drowse { AllDrowse (broker_of core.now) rings.old rings.new }
-    ensures some { IfSome result (λ p. IsPickFrom core.now queue p) }
-    ensures none { result ≡ None → (p : Seat) → IsSeatedIn (broker_of core.now) (ring_at rings.old queue) p → IsPickFrom core.now queue p → ⊥ }
-{
-    rings[queue].pick(core, queue)
-}
-
-/// The first delivery that can be made from one of the queues from this place on, up to that one.
-fn first_between(rings: &mut [Ring], core: &Core, from: usize, to: usize) -> Option<Found>
-    requires { length rings.old ≡ length (topology_of core.now).queues }
-    ensures drowse { AllDrowse (broker_of core.now) rings.old rings.new }
-    ensures within { IfSome result (λ f. f.queue < length rings.new) }
-    ensures some { IfSome result (λ f. IsPickFrom core.now f.queue f.pick) }
-    ensures none { result ≡ None → NoneBetween core.now rings.old from to }
-{
-    let mut next = from;
-    'queues: while let Some(queue) = core.next_ready(next) {
-        if queue >= to {
-            return None;
-        }
-        if let Some(pick) = pick_at(rings, core, queue) {
-            return Some(Found { queue, pick });
-        }
-        next = queue + 1;
-    }
-    None
-}
-
-/// The first delivery that can be made from one of the queues, from this place on and then from the front.
-fn first_round(rings: &mut [Ring], core: &Core, next: usize) -> Option<Found>
-    requires { length rings.old ≡ length (topology_of core.now).queues }
-    ensures drowse { AllDrowse (broker_of core.now) rings.old rings.new }
-    ensures within { IfSome result (λ f. f.queue < length rings.new) }
-    ensures some { IfSome result (λ f. IsPickFrom core.now f.queue f.pick) }
-    ensures none { result ≡ None → NoneBetween core.now rings.old 0 (length rings.old) }
-{
-    let turn = next.min(rings.len());
-    match first_between(rings, core, turn, rings.len()) {
-        Some(found) => Some(found),
-        None => first_between(rings, core, 0, turn),
-    }
-}
 
 /// This seat is listed at its connection from now on. Where memory is wanting it may not be; none of a consumer that is there is
 /// gone.
@@ -128,16 +53,17 @@ fn list_seat(
 /// The seats of this connection's consumers are awake from now on that are of this channel, or all where none is named.
 fn wake_desk(
     desks: &mut HashMap<u64, Desk>,
-    rings: &mut [Ring],
+    seating: &mut Seating,
     connection: u64,
     channel: Option<u16>,
 )
     ensures same { desks.new.entries ≡ desks.old.entries }
-    ensures woken { (l : Listing) → l.seat.connection ≡ connection → IsListed desks.old.entries l → is_of channel l.seat ≡ true → IsIn l.seat (ring_at rings.old l.queue).seats → IsAwake (ring_at rings.new l.queue) l.seat }
-    ensures wakens { AllWaken rings.old rings.new }
+    ensures woken { (l : Listing) → l.seat.connection ≡ connection → IsListed desks.old.entries l → is_of channel l.seat ≡ true → IsIn l.seat (ring_at seating.old l.queue).seats → IsAwake (ring_at seating.new l.queue) l.seat }
+    ensures wakens { AllWaken seating.old seating.new }
+    ensures len { length seating.new ≡ length seating.old }
 {
     if let Some(desk) = desks.get_mut(&connection) {
-        desk.wake(rings, channel);
+        desk.wake(seating, channel);
     }
 }
 
@@ -179,19 +105,16 @@ fn connection_of(event: &Event) -> u64
 
 /// The rings of all queues, in the order of the file, and the desks of the connections.
 pub(crate) struct Roster {
-    rings: Vec<Ring>,
+    seating: Seating,
     desks: HashMap<u64, Desk>,
-    /// The place behind the queue from which was picked last.
-    next: usize,
 }
 
 /// Written out, so that a drop is one call.
 impl Drop for Roster {
     fn drop(self) {
         let Roster {
-            rings: _,
+            seating: _,
             desks: _,
-            next: _,
         } = self;
     }
 }
@@ -201,7 +124,7 @@ impl Model for Roster {
 
     ghost Value = { Rings };
 
-    ghost view = { λ r. record { rings = r.rings.items; lists = r.desks.entries } };
+    ghost view = { λ r. record { rings = r.seating; lists = r.desks.entries } };
 }
 
 impl Roster {
@@ -219,9 +142,8 @@ impl Roster {
         ensures lists { IfOk result (λ r. r.lists ≡ []) }
     {
         Ok(Roster {
-            rings: empty_rings(alloc, queues)?,
+            seating: Seating::new(alloc, queues)?,
             desks: HashMap::new(alloc),
-            next: 0,
         })
     }
 
@@ -241,7 +163,7 @@ impl Roster {
         let Some(queue) = core.queue_consumed(event) else {
             return Ok(());
         };
-        let place = seat_at(&mut self.rings, core, queue, seat)?;
+        let place = self.seating.seat(core, queue, seat)?;
         list_seat(
             &mut self.desks,
             alloc,
@@ -258,7 +180,7 @@ impl Roster {
         ensures lists { self.new.lists ≡ self.old.lists }
         ensures len { length self.new.rings ≡ length self.old.rings }
     {
-        wake_desk(&mut self.desks, &mut self.rings, connection, channel);
+        wake_desk(&mut self.desks, &mut self.seating, connection, channel);
     }
 
     /// The seats of consumers that may be able to take more after this event are awake from now on. It takes no memory.
@@ -313,8 +235,6 @@ impl Roster {
         ensures some { IfSome result (λ p. (place : ℕ) × IsPickFrom core.now place p) }
         ensures none { result ≡ None → (place : ℕ) (p : Seat) → IsSeatedIn (broker_of core.now) (ring_at self.old.rings place) p → IsPickFrom core.now place p → ⊥ }
     {
-        let found = first_round(&mut self.rings, core, self.next)?;
-        self.next = found.queue + 1;
-        Some(found.pick)
+        self.seating.pick(core)
     }
 }

@@ -1,12 +1,13 @@
 //! What seats the consumers of a connection have, so that they are found when they are to be woken.
 
-ghost use Rattle.std.specs.Prelude.{◌≡◌, ◌<◌, true, OnOk, filter, vec_len, vec_capacity};
+ghost use Rattle.std.specs.Prelude.{◌≡◌, ◌<◌, true, OnOk, length, filter, vec_len, vec_capacity};
 ghost use Rattle.std.specs.List.{list_any};
 ghost use Rattle.model.specs.Topology.{IsIn};
 ghost use Rattle.broker.specs.Roster.{ring_at, is_of, is_listing, has_its_consumer, Listing, IsAwake, AllWaken};
 ghost use Rattle.broker_core.specs.Seats.{has_consumer};
 
-use crate::roster::ring::{Ring, is_same};
+use crate::roster::ring::is_same;
+use crate::roster::seating::Seating;
 use broker_core::{Core, Pick};
 use std::alloc::{AllocError, Global};
 use std::marker::Model;
@@ -18,19 +19,6 @@ fn is_of(channel: Option<u16>, seat: Pick) -> bool
     match channel {
         None => true,
         Some(number) => seat.channel == number,
-    }
-}
-
-/// The seat is awake from now on in the ring of the queue at this place, where it is looked for at this place first. Tells where
-/// it stands.
-fn wake_at(rings: &mut [Ring], queue: usize, seat: Pick, guess: usize) -> usize
-    ensures woken { IsIn seat (ring_at rings.old queue).seats → IsAwake (ring_at rings.new queue) seat }
-    ensures wakens { AllWaken rings.old rings.new }
-{
-    if queue < rings.len() {
-        rings[queue].wake(seat, guess)
-    } else {
-        guess
     }
 }
 
@@ -52,7 +40,7 @@ impl Model for Listed {
 }
 
 impl Listed {
-    ghost use Rattle.std.specs.Prelude.{◌≡◌, true};
+    ghost use Rattle.std.specs.Prelude.{◌≡◌, true, length};
     ghost use Rattle.model.specs.Topology.{IsIn};
     ghost use Rattle.broker.specs.Roster.{ring_at, is_of, is_listing, has_its_consumer, IsAwake, AllWaken};
 
@@ -85,13 +73,14 @@ impl Listed {
     }
 
     /// Its seat is awake from now on, if it is of this channel, or none is named.
-    fn wake(&mut self, rings: &mut [Ring], channel: Option<u16>)
+    fn wake(&mut self, seating: &mut Seating, channel: Option<u16>)
         ensures same { self.new ≡ self.old }
-        ensures woken { is_of channel self.old.seat ≡ true → IsIn self.old.seat (ring_at rings.old self.old.queue).seats → IsAwake (ring_at rings.new self.old.queue) self.old.seat }
-        ensures wakens { AllWaken rings.old rings.new }
+        ensures woken { is_of channel self.old.seat ≡ true → IsIn self.old.seat (ring_at seating.old self.old.queue).seats → IsAwake (ring_at seating.new self.old.queue) self.old.seat }
+        ensures wakens { AllWaken seating.old seating.new }
+        ensures len { length seating.new ≡ length seating.old }
     {
         if is_of(channel, self.seat) {
-            self.place = wake_at(rings, self.queue, self.seat, self.place);
+            self.place = seating.wake(self.queue, self.seat, self.place);
         }
     }
 }
@@ -124,13 +113,14 @@ fn make_room(listed: &mut Vec<Listed>, core: &Core) -> Result<(), AllocError>
 }
 
 /// The seats of these are awake from now on that are of this channel, or all where none is named.
-fn wake_listed(listed: &mut [Listed], rings: &mut [Ring], channel: Option<u16>)
+fn wake_listed(listed: &mut [Listed], seating: &mut Seating, channel: Option<u16>)
     ensures same { listed.new ≡ listed.old }
-    ensures woken { (l : Listing) → IsIn l listed.old → is_of channel l.seat ≡ true → IsIn l.seat (ring_at rings.old l.queue).seats → IsAwake (ring_at rings.new l.queue) l.seat }
-    ensures wakens { AllWaken rings.old rings.new }
+    ensures woken { (l : Listing) → IsIn l listed.old → is_of channel l.seat ≡ true → IsIn l.seat (ring_at seating.old l.queue).seats → IsAwake (ring_at seating.new l.queue) l.seat }
+    ensures wakens { AllWaken seating.old seating.new }
+    ensures len { length seating.new ≡ length seating.old }
 {
     for place in 0..listed.len() {
-        listed[place].wake(rings, channel);
+        listed[place].wake(seating, channel);
     }
 }
 
@@ -150,7 +140,7 @@ impl Model for Desk {
 }
 
 impl Desk {
-    ghost use Rattle.std.specs.Prelude.{◌≡◌, [], true, OnOk};
+    ghost use Rattle.std.specs.Prelude.{◌≡◌, [], true, OnOk, length};
     ghost use Rattle.model.specs.Topology.{IsIn};
     ghost use Rattle.broker.specs.Roster.{ring_at, is_of, Listing, IsAwake, AllWaken};
     ghost use Rattle.broker_core.specs.Seats.{has_consumer};
@@ -178,11 +168,12 @@ impl Desk {
     }
 
     /// Its seats are awake from now on that are of this channel, or all where none is named. It takes no memory.
-    pub fn wake(&mut self, rings: &mut [Ring], channel: Option<u16>)
+    pub fn wake(&mut self, seating: &mut Seating, channel: Option<u16>)
         ensures same { self.new ≡ self.old }
-        ensures woken { (l : Listing) → IsIn l self.old → is_of channel l.seat ≡ true → IsIn l.seat (ring_at rings.old l.queue).seats → IsAwake (ring_at rings.new l.queue) l.seat }
-        ensures wakens { AllWaken rings.old rings.new }
+        ensures woken { (l : Listing) → IsIn l self.old → is_of channel l.seat ≡ true → IsIn l.seat (ring_at seating.old l.queue).seats → IsAwake (ring_at seating.new l.queue) l.seat }
+        ensures wakens { AllWaken seating.old seating.new }
+        ensures len { length seating.new ≡ length seating.old }
     {
-        wake_listed(&mut self.listed, rings, channel);
+        wake_listed(&mut self.listed, seating, channel);
     }
 }

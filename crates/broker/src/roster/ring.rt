@@ -4,7 +4,7 @@
 //! and is swept. What is picked is found by looking at one seat after another, from the one behind that which was picked last; a
 //! seat whose consumer may take nothing then falls asleep, and is passed over until it is woken.
 
-ghost use Rattle.std.specs.Prelude.{◌≡◌, ◌<◌, ◌≤◌, ◌+◌, ◌*◌, ◌⊎◌, ℕ, true, None, IfSome, OnOk, length, count_by, filter, slice_index_or, vec_len, vec_capacity};
+ghost use Rattle.std.specs.Prelude.{◌≡◌, ◌<◌, ◌≤◌, ◌+◌, ◌*◌, ◌⊎◌, ℕ, true, false, None, IfSome, OnOk, length, count_by, filter, slice_index_or, vec_len, vec_capacity};
 ghost use Rattle.std.specs.List.{position_from};
 ghost use Rattle.model.specs.Topology.{IsIn};
 ghost use Rattle.marks.specs.Places.{bit_of, Differs};
@@ -19,8 +19,8 @@ use marks::{Flat, Over, Places};
 use std::alloc::{AllocError, Global};
 use std::marker::Model;
 
-/// A bit for each seat, 1 where it is awake.
-type Marks = Over<Flat>;
+/// A set of places, by a bit for each.
+pub(crate) type Marks = Over<Flat>;
 
 /// Two seats are one.
 pub(crate) fn is_same(one: Pick, other: Pick) -> bool
@@ -108,6 +108,17 @@ fn make_room(
     seats.reserve(seats.len().max(1))
 }
 
+/// Whether one of the seats at places below this is awake.
+fn any_awake(awake: &Marks, count: usize) -> bool
+    ensures yes { result ≡ true → (i : ℕ) × (i < count) × (bit_of awake.now i ≡ 1) }
+    ensures no { result ≡ false → (i : ℕ) → i < count → bit_of awake.now i ≡ 0 }
+{
+    match awake.first() {
+        Some(place) => place < count,
+        None => false,
+    }
+}
+
 /// The seat at this place falls asleep if its consumer may take nothing now.
 fn rest(awake: &mut Marks, core: &Core, place: usize, seat: Pick)
     requires { place < length awake.old * 64 }
@@ -178,6 +189,7 @@ fn first_round(
 /// The seats of the consumers of one queue, in the order in which they were made; some may be of consumers that are gone.
 pub(crate) struct Ring {
     seats: Vec<Pick>,
+    /// A bit for each seat, 1 where it is awake.
     awake: Marks,
     /// The place behind the seat that was picked last.
     next: usize,
@@ -206,7 +218,7 @@ impl Model for Ring {
 }
 
 impl Ring {
-    ghost use Rattle.std.specs.Prelude.{◌≡◌, [], None, IfSome, OnOk};
+    ghost use Rattle.std.specs.Prelude.{◌≡◌, [], true, false, None, IfSome, OnOk};
     ghost use Rattle.model.specs.Topology.{IsIn};
     ghost use Rattle.broker_core.specs.declared.picks.Pick.{Pick as Seat};
     ghost use Rattle.broker_core.specs.State.{broker_of};
@@ -253,6 +265,14 @@ impl Ring {
             }
             None => guess,
         }
+    }
+
+    /// Whether some seat is awake.
+    pub fn has_awake(&self) -> bool
+        ensures yes { result ≡ true → (p : Seat) × IsAwake self.now p }
+        ensures no { result ≡ false → (p : Seat) → IsAwake self.now p → ⊥ }
+    {
+        any_awake(&self.awake, self.seats.len())
     }
 
     /// The first seat to whose consumer a delivery can be made from the queue at this place, from the one behind that which was

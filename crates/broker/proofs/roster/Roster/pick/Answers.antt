@@ -1,12 +1,11 @@
-use Rattle.std.proofs.Common.{◌∙◌, List, length, refl, sym, ap, subst, arith}
+use Rattle.std.proofs.Common.{length, sym, ap, subst, arith}
 use Rattle.broker_core.specs.State.{broker_of}
-use Rattle.broker.specs.Roster.{Seats, Rings, ring_at, IsSeatedIn}
+use Rattle.broker.specs.Roster.{Rings, ring_at, IsSeatedIn}
 use Rattle.broker.proofs.roster.Roster.pick.Goals as goal
 
-pub returns-in_err-found-clause-none : goal.returns-in_err-found-clause-none
-returns-in_err-found-clause-none c = λ e place p i pick.
-    let same = c.deref_mut.ensures.value ∙ ap (λ (r : Rings). r.rings) c.self.view_is in
-    let long = ap (λ (rings : List Seats). length rings) same in
+pub returns-clause-none : goal.returns-clause-none
+returns-clause-none c = λ e place p i pick.
+    let long = ap (λ (r : Rings). length r.rings) c.self.view_is in
     let lt = pick.within in
     let len = c.requires in
-    c.in_err-found.ensures.none refl place p (omega arith) (omega (arith, lt, len, long)) (subst (λ (rings : List Seats). IsSeatedIn (broker_of c.args.core.now) (ring_at rings place) p) (sym same) i) pick
+    c.pick.ensures.none e place p (omega arith) (omega (arith, lt, len, long)) (subst (λ (r : Rings). IsSeatedIn (broker_of c.args.core.now) (ring_at r.rings place) p) (sym c.self.view_is) i) pick

@@ -3,14 +3,17 @@ use Rattle.std.proofs.lemmas.Bool.Decides.{leb_tells}
 use Rattle.broker_core.specs.Picked.{IsPickFrom}
 use Rattle.broker_core.specs.State.{broker_of}
 use Rattle.broker.specs.Roster.{ring_at, IsSeatedIn}
-use Rattle.broker.proofs.roster.first_between.Goals as goal
+use Rattle.broker.proofs.Marked.{marked_by}
+use Rattle.broker.proofs.roster.seating.first_between.Goals as goal
 
 pub returns-then-queue-to-clause-none : goal.returns-then-queue-to-clause-none
 returns-then-queue-to-clause-none c = λ e place p from lt i pick.
     let past = c.if-queue-to.true in
     elim (leb_tells (place + 1) c.queues.next) [
       | inl a ↦ let le = a.1 in c.queues.invariant.none place p from (omega (arith, le)) i pick
-      | inr a ↦ let gt = a.1 in c.in-Some.ensures.before place p (omega (arith, gt)) (omega (arith, lt, past)) pick
+      | inr a ↦
+          let gt = a.1 in
+          c.in-Some.ensures.before place p (omega (arith, gt)) (omega (arith, lt, past)) (marked_by c.args.core.now c.queues.rings c.queues.awake place p c.queues.invariant.marked (c.queues.invariant.drowse place p i) pick) pick
     ]
 
 pub queues-preserved : goal.queues-preserved
@@ -20,13 +23,16 @@ queues-preserved c =
     record {
       drowse = λ place p i. c.pick_at.ensures.drowse place p (c.queues.invariant.drowse place p i);
       len = c.pick_at.ensures.len ∙ c.queues.invariant.len;
+      marked = c.pick_at.ensures.marked;
       least = omega (arith, least, next);
       none = λ place p from lt i pick. elim (leb_tells (place + 1) c.queues.next) [
         | inl a ↦ let le = a.1 in c.queues.invariant.none place p from (omega (arith, le)) i pick
         | inr a ↦
             let gt = a.1 in
             elim (leb_tells (place + 1) c.in-Some.queue) [
-              | inl b ↦ let before = b.1 in c.in-Some.ensures.before place p (omega (arith, gt)) (omega (arith, before)) pick
+              | inl b ↦
+                  let before = b.1 in
+                  c.in-Some.ensures.before place p (omega (arith, gt)) (omega (arith, before)) (marked_by c.args.core.now c.queues.rings c.queues.awake place p c.queues.invariant.marked (c.queues.invariant.drowse place p i) pick) pick
               | inr b ↦
                   let behind = b.1 in
                   let here : place ≡ c.in-Some.queue = omega (arith, lt, behind) in
@@ -44,5 +50,5 @@ pub returns-clause-none : goal.returns-clause-none
 returns-clause-none c = λ e place p from lt i pick.
     elim (leb_tells (place + 1) c.queues.next) [
       | inl a ↦ let le = a.1 in c.queues.invariant.none place p from (omega (arith, le)) i pick
-      | inr a ↦ let gt = a.1 in c.in_default.ensures place p (omega (arith, gt)) pick
+      | inr a ↦ let gt = a.1 in c.in_default.ensures place p (omega (arith, gt)) (marked_by c.args.core.now c.queues.rings c.queues.awake place p c.queues.invariant.marked (c.queues.invariant.drowse place p i) pick) pick
     ]

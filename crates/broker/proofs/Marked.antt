@@ -1,0 +1,90 @@
+-- Queues over which picks go: each in whose ring a seat is awake is marked.
+use Rattle.std.proofs.Common.{◌≡◌, ◌∙◌, ◌<◌, ◌≤◌, ◌+◌, ◌*◌, ℕ, zero, suc, List, [], ◌∷◌, ◌++◌, Bool, true, false, length, set, inl, inr, refl, sym, ap, subst, arith}
+use Rattle.std.specs.Prelude.{◌==◌}
+use Rattle.std.proofs.lemmas.Bool.{eqb-true}
+use Rattle.std.proofs.lemmas.Bool.Decides.{leb_tells}
+use Rattle.std.proofs.lemmas.List.{length-set, get_or-set_same, get_or-set_other}
+use Rattle.marks.specs.Places.{bit_of, Differs}
+use Rattle.broker_core.specs.State.{Kept, broker_of}
+use Rattle.broker_core.specs.Picked.{IsPickFrom}
+use Rattle.broker_core.specs.declared.picks.Pick.{Pick}
+use Rattle.broker.specs.Roster.{Seats, ring_at, IsAwake, IsSeatedIn, AreMarked, NoneMarked, KeepsRing, KeepRings}
+use Rattle.broker.proofs.Sleeping.{apart, set_more, cannot_pick}
+
+-- a queue from which a delivery can be made to one who has a seat there is marked
+pub marked_by : (kept : Kept) (rings : List Seats) (marks : List ℕ) (place : ℕ) (p : Pick) → AreMarked rings marks → IsSeatedIn (broker_of kept) (ring_at rings place) p → IsPickFrom kept place p → bit_of marks place ≡ 1
+marked_by kept rings marks place p m (inl up) pick = m.awake place p up
+marked_by kept rings marks place p m (inr f) pick = absurd (cannot_pick kept place p f.1 pick)
+
+-- up to a place with something ready, and on up to one that is marked
+pub none_passed : (kept : Kept) (marks : List ℕ) (from next ready to : ℕ) → NoneMarked kept marks from next → ((place : ℕ) (p : Pick) → next ≤ place → place < ready → IsPickFrom kept place p → ⊥)
+    → ((k : ℕ) → ready ≤ k → k < to → bit_of marks k ≡ 0) → NoneMarked kept marks from to
+none_passed kept marks from next ready to none unready zeros place p least lt up pick = elim (leb_tells (place + 1) next) [
+  | inl a ↦ let le = a.1 in none place p least (omega (arith, le)) up pick
+  | inr a ↦
+      let gt = a.1 in
+      elim (leb_tells (place + 1) ready) [
+        | inl b ↦ let before = b.1 in unready place p (omega (arith, gt)) (omega (arith, before)) pick
+        | inr b ↦
+            let behind = b.1 in
+            let one = sym (zeros place (omega (arith, behind)) lt) ∙ up in
+            omega (arith, one)
+      ]
+]
+
+-- one mark more
+pub marked_more : (rings : List Seats) (old new : List ℕ) (queue : ℕ) → length new * 64 ≡ length old * 64 → Differs (bit_of old) (bit_of new) queue 1 → AreMarked rings old → AreMarked rings new
+marked_more rings old new queue len d m = record {
+  room = let room = m.room in omega (arith, len, room);
+  awake = λ place p up. set_more (bit_of old) (bit_of new) queue place d (m.awake place p up);
+}
+
+-- one less, of a queue in whose ring no seat is awake
+pub marked_less : (rings : List Seats) (old new : List ℕ) (queue : ℕ) → length new * 64 ≡ length old * 64 → Differs (bit_of old) (bit_of new) queue 0 → ((p : Pick) → IsAwake (ring_at rings queue) p → ⊥) → AreMarked rings old → AreMarked rings new
+marked_less rings old new queue len d none m = record {
+  room = let room = m.room in omega (arith, len, room);
+  awake = λ place p up. go place p up (place == queue) refl;
+}
+  where
+    go : (place : ℕ) (p : Pick) → IsAwake (ring_at rings place) p → (v : Bool) → (place == queue) ≡ v → bit_of new place ≡ 1
+    go place p up true f = absurd (none p (subst (λ (n : ℕ). IsAwake (ring_at rings n) p) (eqb-true place queue f) up))
+    go place p up false f = d.others place (apart place queue f) ∙ m.awake place p up
+
+-- the ring of one queue changes that is marked
+pub marked_set : (rings : List Seats) (marks : List ℕ) (queue : ℕ) (r : Seats) → bit_of marks queue ≡ 1 → AreMarked rings marks → AreMarked (set rings queue r) marks
+marked_set rings marks queue r here m = record {
+  room = let room = m.room in let long = length-set rings queue r in omega (arith, room, long);
+  awake = λ place p up. go place p up (place == queue) refl;
+}
+  where
+    go : (place : ℕ) (p : Pick) → IsAwake (ring_at (set rings queue r) place) p → (v : Bool) → (place == queue) ≡ v → bit_of marks place ≡ 1
+    go place p up true f = ap (bit_of marks) (eqb-true place queue f) ∙ here
+    go place p up false f = m.awake place p (subst (λ (x : Seats). IsAwake x p) (get_or-set_other rings queue place r (record { seats = []; awake = [] }) (apart place queue f)) up)
+
+-- in the ring of one queue no seat of a consumer that is there is gone, and no other ring changes
+pub keep_set : (kept : Kept) (rings : List Seats) (queue : ℕ) (r : Seats) → queue < length rings → KeepsRing kept (ring_at rings queue) r → KeepRings kept rings (set rings queue r)
+keep_set kept rings queue r lt keeps place p i has = go (place == queue) refl
+  where
+    none : Seats
+    none = record { seats = []; awake = [] }
+
+    go : (v : Bool) → (place == queue) ≡ v → IsSeatedIn (broker_of kept) (ring_at (set rings queue r) place) p
+    go true f =
+        let same = eqb-true place queue f in
+        subst (λ (n : ℕ). IsSeatedIn (broker_of kept) (ring_at (set rings queue r) n) p) (sym same)
+        (subst (λ (x : Seats). IsSeatedIn (broker_of kept) x p) (sym (get_or-set_same rings queue r none lt)) (keeps p (subst (λ (n : ℕ). IsSeatedIn (broker_of kept) (ring_at rings n) p) same i) has))
+    go false f = subst (λ (x : Seats). IsSeatedIn (broker_of kept) x p) (sym (get_or-set_other rings queue place r none (apart place queue f))) i
+
+-- rings with no seat, and one more
+pub empty_more : (rings : List Seats) (r : Seats) → ((place : ℕ) → (ring_at rings place).seats ≡ []) → r.seats ≡ [] → (place : ℕ) → (ring_at (rings ++ r ∷ []) place).seats ≡ []
+empty_more [] r none e zero = e
+empty_more [] r none e (suc n) = refl
+empty_more (x ∷ xs) r none e zero = none zero
+empty_more (x ∷ xs) r none e (suc n) = empty_more xs r (λ place. none (suc place)) e n
+
+-- they want no mark
+pub marked_empty : (rings : List Seats) (marks : List ℕ) → length rings ≤ length marks * 64 → ((place : ℕ) → (ring_at rings place).seats ≡ []) → AreMarked rings marks
+marked_empty rings marks room none = record {
+  room = room;
+  awake = λ place p up. let lt = up.within in let long = ap length (none place) in absurd (omega (arith, lt, long));
+}

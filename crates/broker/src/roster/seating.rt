@@ -1,0 +1,263 @@
+//! The rings of all queues, over which picks go round.
+//!
+//! A bit for each queue is 1 where some seat of its ring is awake. What is picked is found by going round the queues that have
+//! something ready and whose bit is 1. A pick that finds none to whom it may deliver at a queue, and leaves no seat awake there,
+//! clears the bit, and the next seat that is woken or made there sets it. So a queue that lacks one of the two is passed over.
+
+ghost use Rattle.std.specs.Prelude.{◌≡◌, ◌<◌, ◌≤◌, ◌*◌, [], ℕ, None, IfSome, IfOk, OnOk, length};
+ghost use Rattle.model.specs.Topology.{IsIn};
+ghost use Rattle.marks.specs.Places.{bit_of};
+ghost use Rattle.broker_core.specs.State.{broker_of, topology_of};
+ghost use Rattle.broker_core.specs.Picked.{IsPickFrom};
+ghost use Rattle.broker.specs.Roster.{ring_at, IsAwake, IsSeatedIn, AreMarked, IsNextMarked, KeepRings, AllDrowse, AllWaken, NoneBetween};
+ghost use Rattle.broker_core.specs.declared.picks.Pick.{Pick as Seat};
+
+use crate::roster::ring::{Marks, Ring};
+use broker_core::{Core, Pick};
+use marks::{Flat, Over, Places};
+use std::alloc::{AllocError, Global};
+use std::marker::Model;
+
+/// A consumer to which a delivery can be made, from the queue at this place.
+#[derive(Clone, Copy, PartialEq, Eq, Debug, Drop)]
+struct Found {
+    queue: usize,
+    pick: Pick,
+}
+
+/// So many rings with no seat.
+fn empty_rings(alloc: Global, count: usize) -> Result<Vec<Ring>, AllocError>
+    ensures len { IfOk result (λ rings. length rings.items ≡ count) }
+    ensures empty { IfOk result (λ rings. (place : ℕ) → (ring_at rings.items place).seats ≡ []) }
+{
+    let mut rings = Vec::new(alloc);
+    for _ in 0..count {
+        rings.push(Ring::new(alloc))?;
+    }
+    Ok(rings)
+}
+
+/// A bit for each of so many queues, none of which is 1.
+fn empty_marks(alloc: Global, count: usize) -> Result<Marks, AllocError>
+    ensures { IfOk result (λ marks. count ≤ length marks * 64) }
+{
+    let mut marks = <Over<Flat>>::empty(alloc);
+    marks.grow(count)?;
+    Ok(marks)
+}
+
+/// This seat is in the ring of the queue at this place from now on, and awake. Where memory is wanting it may not be; no seat of
+/// a consumer that is there is gone. Tells its place.
+fn seat_at(
+    rings: &mut [Ring],
+    awake: &mut Marks,
+    core: &Core,
+    queue: usize,
+    seat: Pick,
+) -> Result<usize, AllocError>
+    requires within { queue < length rings.old }
+    requires marked { AreMarked rings.old awake.old }
+    ensures seated { OnOk result (IsAwake (ring_at rings.new queue) seat) }
+    ensures kept { KeepRings core.now rings.old rings.new }
+    ensures marked { AreMarked rings.new awake.new }
+{
+    awake.set(queue);
+    rings[queue].seat(core, seat)
+}
+
+/// The seat is awake from now on in the ring of the queue at this place, where it is looked for at this place first. Tells where
+/// it stands.
+fn wake_at(rings: &mut [Ring], awake: &mut Marks, queue: usize, seat: Pick, guess: usize) -> usize
+    requires within { queue < length rings.old }
+    requires marked { AreMarked rings.old awake.old }
+    ensures woken { IsIn seat (ring_at rings.old queue).seats → IsAwake (ring_at rings.new queue) seat }
+    ensures wakens { AllWaken rings.old rings.new }
+    ensures marked { AreMarked rings.new awake.new }
+{
+    awake.set(queue);
+    rings[queue].wake(seat, guess)
+}
+
+/// The first place at or behind this one whose queue has something ready and whose bit is 1. The two sets are gone over by
+/// turns, so that no queue is looked at that is in one of them alone.
+fn next_both(core: &Core, awake: &Marks, from: usize) -> Option<usize>
+    ensures { IsNextMarked core.now awake.now from result }
+{
+    let mut next = from;
+    'turns: while let Some(ready) = core.next_ready(next) {
+        let place = awake.next(ready)?;
+        if place == ready {
+            return Some(place);
+        }
+        next = place;
+    }
+    None
+}
+
+/// The bit of the queue at this place is 0 from now on if no seat of its ring is awake.
+fn settle(rings: &[Ring], awake: &mut Marks, queue: usize)
+    requires within { queue < length rings.now }
+    requires marked { AreMarked rings.now awake.old }
+    ensures { AreMarked rings.now awake.new }
+{
+    if !rings[queue].has_awake() {
+        awake.clear(queue);
+    }
+}
+
+/// The first delivery that can be made from the queue at this place, whose bit is 1.
+fn pick_at(rings: &mut [Ring], awake: &mut Marks, core: &Core, queue: usize) -> Option<Pick>
+    requires within { queue < length rings.old }
+    requires here { bit_of awake.old queue ≡ 1 }
+    requires marked { AreMarked rings.old awake.old }
+    ensures len { length rings.new ≡ length rings.old }
+    ensures drowse { AllDrowse (broker_of core.now) rings.old rings.new }
+    ensures marked { AreMarked rings.new awake.new }
+    ensures some { IfSome result (λ p. IsPickFrom core.now queue p) }
+    ensures none { result ≡ None → (p : Seat) → IsSeatedIn (broker_of core.now) (ring_at rings.old queue) p → IsPickFrom core.now queue p → ⊥ }
+{
+    match rings[queue].pick(core, queue) {
+        Some(pick) => Some(pick),
+        None => {
+            settle(rings, awake, queue);
+            None
+        }
+    }
+}
+
+/// The first delivery that can be made from one of the queues from this place on, up to that one.
+fn first_between(
+    rings: &mut [Ring],
+    awake: &mut Marks,
+    core: &Core,
+    from: usize,
+    to: usize,
+) -> Option<Found>
+    requires len { length rings.old ≡ length (topology_of core.now).queues }
+    requires marked { AreMarked rings.old awake.old }
+    ensures drowse { AllDrowse (broker_of core.now) rings.old rings.new }
+    ensures marked { AreMarked rings.new awake.new }
+    ensures within { IfSome result (λ f. f.queue < length rings.new) }
+    ensures some { IfSome result (λ f. IsPickFrom core.now f.queue f.pick) }
+    ensures none { result ≡ None → NoneBetween core.now rings.old from to }
+{
+    let mut next = from;
+    'queues: while let Some(queue) = next_both(core, awake, next) {
+        if queue >= to {
+            return None;
+        }
+        if let Some(pick) = pick_at(rings, awake, core, queue) {
+            return Some(Found { queue, pick });
+        }
+        next = queue + 1;
+    }
+    None
+}
+
+/// The first delivery that can be made from one of the queues, from this place on and then from the front.
+fn first_round(rings: &mut [Ring], awake: &mut Marks, core: &Core, next: usize) -> Option<Found>
+    requires len { length rings.old ≡ length (topology_of core.now).queues }
+    requires marked { AreMarked rings.old awake.old }
+    ensures drowse { AllDrowse (broker_of core.now) rings.old rings.new }
+    ensures marked { AreMarked rings.new awake.new }
+    ensures within { IfSome result (λ f. f.queue < length rings.new) }
+    ensures some { IfSome result (λ f. IsPickFrom core.now f.queue f.pick) }
+    ensures none { result ≡ None → NoneBetween core.now rings.old 0 (length rings.old) }
+{
+    let turn = next.min(rings.len());
+    match first_between(rings, awake, core, turn, rings.len()) {
+        Some(found) => Some(found),
+        None => first_between(rings, awake, core, 0, turn),
+    }
+}
+
+/// The rings of all queues, in the order of the file.
+pub(crate) struct Seating {
+    rings: Vec<Ring>,
+    /// A bit for each queue, 1 where some seat of its ring is awake.
+    awake: Marks,
+    /// The place behind the queue from which was picked last.
+    next: usize,
+}
+
+/// Written out, so that a drop is one call.
+impl Drop for Seating {
+    fn drop(self) {
+        let Seating {
+            rings: _,
+            awake: _,
+            next: _,
+        } = self;
+    }
+}
+
+impl Model for Seating {
+    ghost use Rattle.std.specs.Prelude.{List};
+    ghost use Rattle.broker.specs.Roster.{Seats, AreMarked};
+
+    ghost Value = { List Seats };
+
+    ghost view = { λ s. s.rings.items };
+
+    ghost invariant = { λ s. AreMarked s.rings.items s.awake };
+}
+
+impl Seating {
+    ghost use Rattle.std.specs.Prelude.{◌≡◌, ◌<◌, ℕ, None, IfSome, IfOk, OnOk, length};
+    ghost use Rattle.model.specs.Topology.{IsIn};
+    ghost use Rattle.broker_core.specs.declared.picks.Pick.{Pick as Seat};
+    ghost use Rattle.broker_core.specs.State.{broker_of, topology_of};
+    ghost use Rattle.broker_core.specs.Picked.{IsPickFrom};
+    ghost use Rattle.broker.specs.Roster.{ring_at, IsAwake, KeepRings, AllDrowse, AllWaken, NoneBetween};
+
+    /// So many rings with no seat.
+    pub fn new(alloc: Global, queues: usize) -> Result<Seating, AllocError>
+        ensures { IfOk result (λ s. length s ≡ queues) }
+    {
+        let rings = empty_rings(alloc, queues)?;
+        let awake = empty_marks(alloc, queues)?;
+        Ok(Seating {
+            rings,
+            awake,
+            next: 0,
+        })
+    }
+
+    /// This seat is in the ring of the queue at this place from now on, and awake. Where memory is wanting it may not be; no seat
+    /// of a consumer that is there is gone. Tells its place.
+    pub fn seat(&mut self, core: &Core, queue: usize, seat: Pick) -> Result<usize, AllocError>
+        requires { queue < length self.old }
+        ensures seated { OnOk result (IsAwake (ring_at self.new queue) seat) }
+        ensures kept { KeepRings core.now self.old self.new }
+        ensures len { length self.new ≡ length self.old }
+    {
+        seat_at(&mut self.rings, &mut self.awake, core, queue, seat)
+    }
+
+    /// The seat is awake from now on in the ring of the queue at this place, if it is there; it is looked for at this place first.
+    /// Tells where it stands. It takes no memory.
+    pub fn wake(&mut self, queue: usize, seat: Pick, guess: usize) -> usize
+        ensures woken { IsIn seat (ring_at self.old queue).seats → IsAwake (ring_at self.new queue) seat }
+        ensures wakens { AllWaken self.old self.new }
+        ensures len { length self.new ≡ length self.old }
+    {
+        if queue < self.rings.len() {
+            wake_at(&mut self.rings, &mut self.awake, queue, seat, guess)
+        } else {
+            guess
+        }
+    }
+
+    /// The first delivery that can be made, from the queue behind that from which was picked last, and then from the front.
+    pub fn pick(&mut self, core: &Core) -> Option<Pick>
+        requires { length self.old ≡ length (topology_of core.now).queues }
+        ensures drowse { AllDrowse (broker_of core.now) self.old self.new }
+        ensures len { length self.new ≡ length self.old }
+        ensures some { IfSome result (λ p. (place : ℕ) × IsPickFrom core.now place p) }
+        ensures none { result ≡ None → NoneBetween core.now self.old 0 (length self.old) }
+    {
+        let found = first_round(&mut self.rings, &mut self.awake, core, self.next)?;
+        self.next = found.queue + 1;
+        Some(found.pick)
+    }
+}
