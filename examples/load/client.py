@@ -37,6 +37,7 @@ class Client:
         self.socket = socket.create_connection(("127.0.0.1", port), PATIENCE)
         self.socket.setsockopt(socket.IPPROTO_TCP, socket.TCP_NODELAY, 1)
         self.unread = b""
+        self.acked = self.wanted = 0
         self.socket.sendall(b"AMQP\0\0\x09\x01")
         self.expect(10, 10)
         self.socket.sendall(method(0, 10, 11, START_OK))
@@ -88,12 +89,14 @@ class Client:
         self.ask(method(1, 50, 30, b"\0\0" + short_text(queue) + b"\0"), 50, 31)
 
     def await_acks(self, count):
-        """Waits until so many publishes are acked, each by an ack of its own."""
-        while count > 0:
-            for class_id, method_id, _ in self.methods():
+        """Waits until so many more publishes are acked, each by an ack of its own or all up to a number by one."""
+        self.wanted += count
+        while self.acked < self.wanted:
+            for class_id, method_id, arguments in self.methods():
                 if (class_id, method_id) != (60, 80):
                     raise ValueError(f"an ack was to come, and {class_id} {method_id} came")
-                count -= 1
+                number, is_multiple = struct.unpack(">Q?", arguments)
+                self.acked = number if is_multiple else self.acked + 1
 
     def acknowledge(self, count):
         """Waits until so many deliveries came, and acknowledges each by an ack of its own."""

@@ -1,9 +1,10 @@
 """Loads a server over sockets, and prints what each message costs the server's process.
 
-Takes the server's port and the number of its process. Each load is a fixed number of messages and ends early once it has
-taken its seconds, so the whole ends by itself.
+Takes the server's port and the number of its process, and `few` where only three loads are wanted. Each load is a fixed number
+of messages and ends early once it has taken its seconds, so the whole ends by itself.
 """
 
+import glob
 import os
 import sys
 import time
@@ -17,15 +18,19 @@ SMALL = b"x" * 12
 LARGE = b"x" * 1024
 
 
+def first_number(name):
+    with open(name) as file:
+        return int(file.read().split()[0])
+
+
 class Server:
     def __init__(self, port, process):
         self.port = port
         self.process = process
 
     def nanoseconds(self):
-        """Of processor time so far, in the system's calls too."""
-        with open(f"/proc/{self.process}/schedstat") as file:
-            return int(file.read().split()[0])
+        """Of processor time so far, of all threads, in the system's calls too."""
+        return sum(first_number(name) for name in glob.glob(f"/proc/{self.process}/task/*/schedstat"))
 
     def resident(self):
         """Bytes of memory that are there."""
@@ -136,9 +141,14 @@ def beside_idle(server, words, count):
     return rates
 
 
-def main(port, process):
-    server = Server(port, process)
-    small, large = publish("direct", "new", SMALL), publish("direct", "new", LARGE)
+def few(server, small, large):
+    """Three loads of one publisher."""
+    confirmed(server, "publish, 12 bytes, window 100, connections 1", small, 100, 1, 200000)
+    confirmed(server, "publish, 1,024 bytes, window 100, connections 1", large, 100, 1, 100000)
+    delivered(server, small, 100, 100000)
+
+
+def all_loads(server, small, large):
     # first, since later memory is taken that was given back
     beside = beside_idle(server, small, 1000)
     for count in (1, 64, 1000):
@@ -153,4 +163,10 @@ def main(port, process):
     confirmed(server, "publish, 12 bytes, fanout to three, window 100", fanout, 100, 1, 100000, ("one", "two", "three"))
 
 
-main(int(sys.argv[1]), int(sys.argv[2]))
+def main(port, process, words):
+    server = Server(port, process)
+    loads = few if words == ["few"] else all_loads
+    loads(server, publish("direct", "new", SMALL), publish("direct", "new", LARGE))
+
+
+main(int(sys.argv[1]), int(sys.argv[2]), sys.argv[3:])
