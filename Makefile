@@ -1,7 +1,7 @@
 # `make` alone lists the targets.
 SHELL := bash
 .SHELLFLAGS := -o pipefail -c
-.PHONY: help try run shop verdicts serve clients load cases same examples bench install test
+.PHONY: help try run shop verdicts serve clients libraries load cases same examples bench install test
 
 # where `make install` puts the program
 PREFIX ?= /usr/local
@@ -13,6 +13,7 @@ help:
 	@echo "make verdicts  checks the guarantees of examples/shop, and replays its script under them"
 	@echo "make serve     serves the shop under its guarantees at 127.0.0.1:5672"
 	@echo "make clients   serves the shop, and publishes to it, takes and consumes from it with pika"
+	@echo "make libraries serves the shop, and has six other client libraries publish to it and take from it"
 	@echo "make load      loads a server over sockets, and prints what a message costs it"
 	@echo "make cases     runs the cases of crates/cases, and tells of one that its list lacks"
 	@echo "make examples  replays the examples, and compares them with their outputs and with the cases"
@@ -49,6 +50,9 @@ serve:
 
 clients: run
 	@examples/clients/run crates/warren/out/warren
+
+libraries: run
+	@examples/clients/libraries/run crates/warren/out/warren
 
 load: run
 	@examples/load/run crates/warren/out/warren
