@@ -13,7 +13,7 @@ use Rattle.model.specs.declared.events.Command.TheVariants.{Plain}
 use Rattle.assembly.specs.declared.faults.Fault.{Fault}
 use Rattle.assembly.specs.declared.faults.Fault.TheVariants.{Broken, Memory}
 use Rattle.assembly.specs.Faults.{IsFault}
-use Rattle.assembly.specs.Taking.{Does}
+use Rattle.assembly.specs.Taking.{TakesEffect}
 use Rattle.assembly.proofs.Places.{match_true}
 
 -- what follows for each code follows for the fault
@@ -36,7 +36,7 @@ pub fits : {payload : List ℕ} {m : Method} → SaysMethod payload (Ok m) → I
 fits (said i s) = i
 
 -- what follows for each effect follows for what was done
-pub does_wider : (E F : Taken → Type 0) (old new : Commands.Pending) (r : Result (Option Command) Fault) → ((t : Taken) → E t → F t) → Does E old r new → Does F old r new
+pub does_wider : (E F : Taken → Type 0) (old new : Commands.Pending) (r : Result (Option Command) Fault) → ((t : Taken) → E t → F t) → TakesEffect E old r new → TakesEffect F old r new
 does_wider E F old new (Ok None) f d = f (Goes_on new) d
 does_wider E F old new (Ok (Some c)) f d = (f (Makes c) d.0, d.1, d.2)
 does_wider E F old new (Err e) f d = (map_fault _ _ e (λ code x. f (Breaks code) x) d.0, d.1)

@@ -11,7 +11,7 @@ use Rattle.assembly.specs.declared.faults.Fault.TheVariants.{Broken, Memory}
 use Rattle.assembly.specs.declared.reading.Step.{Step}
 use Rattle.assembly.specs.declared.reading.Step.TheVariants.{Ended, On, Made}
 use Rattle.assembly.specs.Taking.{DoesAt}
-use Rattle.assembly.specs.Onward.{Steps, Stops, Gives, Answers, step}
+use Rattle.assembly.specs.Onward.{AdvancesBy, Stops, Gives, YieldsNext, step}
 
 -- what is still to come, in parts
 abbrev pub of_parts : ℕ → (ℕ → Pending) → List ℕ → Stream
@@ -64,16 +64,16 @@ goes_same a b c g e = subst (λ (s : Stream). GoesOn a s) (sym e) g
 
 -- ---- one frame
 
-pub steps_ended : (max : ℕ) (pending : ℕ → Pending) (bytes unread : List ℕ) → bytes ≡ unread → IsUnfinished max bytes → Steps (of_parts max pending unread) (Ok Ended) (of_parts max pending unread)
+pub steps_ended : (max : ℕ) (pending : ℕ → Pending) (bytes unread : List ℕ) → bytes ≡ unread → IsUnfinished max bytes → AdvancesBy (of_parts max pending unread) (Ok Ended) (of_parts max pending unread)
 steps_ended max pending bytes unread e u = (ends_short (of_parts max pending unread) refl (subst (IsUnfinished max) e u), refl)
 
 pub steps_broken : (max : ℕ) (pending : ℕ → Pending) (bytes unread : List ℕ) (code : ℕ) → bytes ≡ unread → (code ≡ 501) × IsBroken max bytes
-    → Steps (of_parts max pending unread) (Err (Broken code)) (of_parts max pending unread)
+    → AdvancesBy (of_parts max pending unread) (Err (Broken code)) (of_parts max pending unread)
 steps_broken max pending bytes unread code e b = (ends_broken (of_parts max pending unread) code refl b.0 (subst (IsBroken max) e b.1), refl)
 
 -- a frame was taken
 stepped : (max : ℕ) (old new : ℕ → Pending) (unread rest : List ℕ) (f : Frame) (made : Option Command) → Begins max unread f rest
-    → DoesAt (TakesOn (old f.channel) f) f.channel old (Ok made) new → Steps (of_parts max old unread) (Ok (step made)) (of_parts max new rest)
+    → DoesAt (TakesOn (old f.channel) f) f.channel old (Ok made) new → AdvancesBy (of_parts max old unread) (Ok (step made)) (of_parts max new rest)
 stepped max old new unread rest f None b d =
     let fewer = shorter max unread rest f b in
     (d.0, takes max old new unread rest f (Goes_on d.0) b d.1 d.2, omega (arith, fewer))
@@ -81,15 +81,15 @@ stepped max old new unread rest f (Some c) b d = (takes max old new unread rest 
 
 pub steps_on : (max : ℕ) (old new : ℕ → Pending) (bytes unread rest : List ℕ) (f : Frame) (size : ℕ) (made : Option Command) (s : Step)
     → bytes ≡ unread → Begins max bytes f (drop size bytes) → rest ≡ drop size unread → s ≡ step made
-    → DoesAt (TakesOn (old f.channel) f) f.channel old (Ok made) new → Steps (of_parts max old unread) (Ok s) (of_parts max new rest)
+    → DoesAt (TakesOn (old f.channel) f) f.channel old (Ok made) new → AdvancesBy (of_parts max old unread) (Ok s) (of_parts max new rest)
 steps_on max old new bytes unread rest f size made s e b left is d =
     let front : Begins max unread f (drop size unread) = subst (λ (z : List ℕ). Begins max z f (drop size z)) e b in
     let front2 : Begins max unread f rest = subst (Begins max unread f) (sym left) front in
-    subst (λ (t : Step). Steps (of_parts max old unread) (Ok t) (of_parts max new rest)) (sym is) (stepped max old new unread rest f made front2 d)
+    subst (λ (t : Step). AdvancesBy (of_parts max old unread) (Ok t) (of_parts max new rest)) (sym is) (stepped max old new unread rest f made front2 d)
 
 -- a frame is a fault, or memory was refused
 pub steps_fault : (max : ℕ) (old new : ℕ → Pending) (bytes unread rest : List ℕ) (f : Frame) (e : Fault) → bytes ≡ unread → Begins max bytes f rest
-    → DoesAt (TakesOn (old f.channel) f) f.channel old (Err e) new → Steps (of_parts max old unread) (Err e) (of_parts max new unread)
+    → DoesAt (TakesOn (old f.channel) f) f.channel old (Err e) new → AdvancesBy (of_parts max old unread) (Err e) (of_parts max new unread)
 steps_fault max old new bytes unread rest f (Broken code) same b d =
     let front : Begins max unread f rest = subst (λ (z : List ℕ). Begins max z f rest) same b in
     (faulty (takes max old (with_one old f.channel Nothing) unread rest f (Breaks code) front d.0 refl), ap (λ (p : ℕ → Pending). of_parts max p unread) d.1)
@@ -98,24 +98,24 @@ steps_fault max old new bytes unread rest f Memory same b d = (tt, ap (λ (p : �
 -- ---- up to a command
 
 -- a frame that ends no command
-pub on : (old mid new : Stream) (s : Step) → s ≡ On → GoesOn old mid → length mid.unread ≤ length old.unread → Steps mid (Ok s) new → GoesOn old new × (length new.unread ≤ length old.unread)
+pub on : (old mid new : Stream) (s : Step) → s ≡ On → GoesOn old mid → length mid.unread ≤ length old.unread → AdvancesBy mid (Ok s) new → GoesOn old new × (length new.unread ≤ length old.unread)
 on old mid new s e g l d =
-    let there : Steps mid (Ok On) new = subst (λ (t : Step). Steps mid (Ok t) new) e d in
+    let there : AdvancesBy mid (Ok On) new = subst (λ (t : Step). AdvancesBy mid (Ok t) new) e d in
     let fewer = there.2 in
     (goes_then g there.1, omega (arith, fewer))
 
-pub answers_ended : (old mid new : Stream) (s : Step) → s ≡ Ended → GoesOn old mid → Steps mid (Ok s) new → Answers old (Ok None) new
+pub answers_ended : (old mid new : Stream) (s : Step) → s ≡ Ended → GoesOn old mid → AdvancesBy mid (Ok s) new → YieldsNext old (Ok None) new
 answers_ended old mid new s e g d =
-    let there : Steps mid (Ok Ended) new = subst (λ (t : Step). Steps mid (Ok t) new) e d in
+    let there : AdvancesBy mid (Ok Ended) new = subst (λ (t : Step). AdvancesBy mid (Ok t) new) e d in
     record { same = goes_same old mid new g there.1; ends = ends_then g there.0; still = subst (λ (t : Stream). Ends t None) (sym there.1) there.0 }
 
-pub answers_made : (old mid new : Stream) (s : Step) (c : Command) → s ≡ Made c → GoesOn old mid → length mid.unread ≤ length old.unread → Steps mid (Ok s) new → Answers old (Ok (Some c)) new
+pub answers_made : (old mid new : Stream) (s : Step) (c : Command) → s ≡ Made c → GoesOn old mid → length mid.unread ≤ length old.unread → AdvancesBy mid (Ok s) new → YieldsNext old (Ok (Some c)) new
 answers_made old mid new s c e g l d =
-    let there : Steps mid (Ok (Made c)) new = subst (λ (t : Step). Steps mid (Ok t) new) e d in
+    let there : AdvancesBy mid (Ok (Made c)) new = subst (λ (t : Step). AdvancesBy mid (Ok t) new) e d in
     let fewer = there.2 in
     record { next = yields_then g (now there.0); command = there.1; shorter = omega (arith, fewer) }
 
-pub answers_fault : (old mid new : Stream) (e : Fault) → GoesOn old mid → Steps mid (Err e) new → Answers old (Err e) new
+pub answers_fault : (old mid new : Stream) (e : Fault) → GoesOn old mid → AdvancesBy mid (Err e) new → YieldsNext old (Err e) new
 answers_fault old mid new (Broken code) g s = record { same = goes_same old mid new g s.1; ends = ends_then g s.0; still = subst (λ (t : Stream). Ends t (Some code)) (sym s.1) s.0 }
 answers_fault old mid new Memory g s = goes_same old mid new g s.1
 

@@ -13,8 +13,8 @@ use Rattle.assembly.specs.declared.contents.Pending.TheVariants.{Nothing}
 use Rattle.assembly.specs.declared.faults.Fault.{Fault}
 use Rattle.assembly.specs.declared.faults.Fault.TheVariants.{Broken, Memory}
 use Rattle.assembly.specs.Faults.{IsFault}
-use Rattle.assembly.specs.Pending.{pending_of, pending_at, content_at, AreSpelled, IsSpelled}
-use Rattle.assembly.specs.Taking.{Does, DoesAt}
+use Rattle.assembly.specs.Pending.{pending_of, pending_at, content_at, AreSpelled, IsSpelledSoFar}
+use Rattle.assembly.specs.Taking.{TakesEffect, DoesAt}
 
 -- a choice by a test of numbers, where the second is what the first says at equal ones
 choice : {A : Type 0} (a b : A) (m n : ℕ) (t : Bool) → (m == n) ≡ t → (t ≡ true → a ≡ b) → b ≡ (if t then a else b)
@@ -54,7 +54,7 @@ past (x ∷ xs) (suc h) = past xs h
 pub content_at-push : (xs : List Pending) → content_at (xs ++ Nothing ∷ []) ≡ content_at xs
 content_at-push xs = fun_ext (past xs)
 
-pub does_at : (E : Taken → Type 0) (h : ℕ) (old new : ℕ → Commands.Pending) (r : Result (Option Command) Fault) (p : Commands.Pending) → Does E (old h) r p → new ≡ with_one old h p → DoesAt E h old r new
+pub does_at : (E : Taken → Type 0) (h : ℕ) (old new : ℕ → Commands.Pending) (r : Result (Option Command) Fault) (p : Commands.Pending) → TakesEffect E (old h) r p → new ≡ with_one old h p → DoesAt E h old r new
 does_at E h old new (Ok None) p d e = (p, d, e)
 does_at E h old new (Ok (Some c)) p d e = (d.0, d.1, e ∙ ap (with_one old h) d.2)
 does_at E h old new (Err f) p d e = (d.0, e ∙ ap (with_one old h) d.1 ∙ sym (with_one_same old h))
@@ -64,30 +64,30 @@ pub pending_same : (xs ys : List Pending) → content_at xs ≡ content_at ys �
 pending_same xs ys e = ap (λ (f : ℕ → Pending). λ h. pending_of (f h)) e
 
 pub spelled_same : (xs ys : List Pending) → content_at xs ≡ content_at ys → AreSpelled ys → AreSpelled xs
-spelled_same xs ys e s = subst (λ (f : ℕ → Pending). (h : ℕ) → IsSpelled (f h)) (sym e) s
+spelled_same xs ys e s = subst (λ (f : ℕ → Pending). (h : ℕ) → IsSpelledSoFar (f h)) (sym e) s
 
-spelled_at : (xs : List Pending) (h m : ℕ) (p : Pending) → h < length xs → IsSpelled p → AreSpelled xs → (t : Bool) → (m == h) ≡ t → IsSpelled (content_at (set xs h p) m)
-spelled_at xs h m p lt s all true e = subst (λ k. IsSpelled (get_or (set xs h p) k Nothing)) (sym (eq_of m h e)) (subst IsSpelled (sym (get_or-set_same xs h p Nothing lt)) s)
-spelled_at xs h m p lt s all false e = subst IsSpelled (sym (get_or-set_other xs h m p Nothing (eqb-false m h e))) (all m)
+spelled_at : (xs : List Pending) (h m : ℕ) (p : Pending) → h < length xs → IsSpelledSoFar p → AreSpelled xs → (t : Bool) → (m == h) ≡ t → IsSpelledSoFar (content_at (set xs h p) m)
+spelled_at xs h m p lt s all true e = subst (λ k. IsSpelledSoFar (get_or (set xs h p) k Nothing)) (sym (eq_of m h e)) (subst IsSpelledSoFar (sym (get_or-set_same xs h p Nothing lt)) s)
+spelled_at xs h m p lt s all false e = subst IsSpelledSoFar (sym (get_or-set_other xs h m p Nothing (eqb-false m h e))) (all m)
 
-pub spelled_set : (xs : List Pending) (h : ℕ) (p : Pending) → h < length xs → IsSpelled p → AreSpelled xs → AreSpelled (set xs h p)
+pub spelled_set : (xs : List Pending) (h : ℕ) (p : Pending) → h < length xs → IsSpelledSoFar p → AreSpelled xs → AreSpelled (set xs h p)
 spelled_set xs h p lt s all m = spelled_at xs h m p lt s all (m == h) refl
 
-pub spelled_there : (xs : List Pending) (h : ℕ) (was x : Pending) → h < length xs → was ≡ x → x ≡ get_or xs h x → AreSpelled xs → IsSpelled was
-spelled_there xs h was x lt e f all = subst IsSpelled (sym (e ∙ f ∙ get_or_default xs h x Nothing lt)) (all h)
+pub spelled_there : (xs : List Pending) (h : ℕ) (was x : Pending) → h < length xs → was ≡ x → x ≡ get_or xs h x → AreSpelled xs → IsSpelledSoFar was
+spelled_there xs h was x lt e f all = subst IsSpelledSoFar (sym (e ∙ f ∙ get_or_default xs h x Nothing lt)) (all h)
 
-pub spelled_back : (xs : List Pending) (h : ℕ) (between now : Pending) → h < length xs → between ≡ Nothing → IsSpelled now → AreSpelled xs → AreSpelled (set (set xs h between) h now)
+pub spelled_back : (xs : List Pending) (h : ℕ) (between now : Pending) → h < length xs → between ≡ Nothing → IsSpelledSoFar now → AreSpelled xs → AreSpelled (set (set xs h between) h now)
 spelled_back xs h between now lt e s all =
-    spelled_set (set xs h between) h now (omega (arith, length-set xs h between)) s (spelled_set xs h between lt (subst IsSpelled (sym e) tt) all)
+    spelled_set (set xs h between) h now (omega (arith, length-set xs h between)) s (spelled_set xs h between lt (subst IsSpelledSoFar (sym e) tt) all)
 
 -- one content is taken out, a frame is taken for it, and what it has become is put back
 pub does_there : (E : Commands.Pending → Taken → Type 0) (xs : List Pending) (h : ℕ) (was x between now : Pending) (r : Result (Option Command) Fault)
-    → h < length xs → was ≡ x → x ≡ get_or xs h x → Does (E (pending_of was)) (pending_of was) r (pending_of now)
+    → h < length xs → was ≡ x → x ≡ get_or xs h x → TakesEffect (E (pending_of was)) (pending_of was) r (pending_of now)
     → DoesAt (E (pending_at xs h)) h (pending_at xs) r (pending_at (set (set xs h between) h now))
 does_there E xs h was x between now r lt e f d =
     let same : was ≡ content_at xs h = e ∙ f ∙ get_or_default xs h x Nothing lt in
     does_at (E (pending_at xs h)) h (pending_at xs) (pending_at (set (set xs h between) h now)) r (pending_of now)
-    (subst (λ (p : Pending). Does (E (pending_of p)) (pending_of p) r (pending_of now)) same d)
+    (subst (λ (p : Pending). TakesEffect (E (pending_of p)) (pending_of p) r (pending_of now)) same d)
     (pending_at-set_twice xs h between now lt)
 
 -- what follows for each effect follows for what was done

@@ -16,7 +16,7 @@ IsFault Why Memory = ⊤
 
 -- where the reader of methods refuses a payload so, it is this fault
 abbrev pub RefusesMethod : List ℕ → methods_refusal.Refusal → Fault → Type 0
-RefusesMethod payload refusal fault = methods.Refuses payload refusal → IsFault (λ code. SaysMethod payload (Err code)) fault
+RefusesMethod payload refusal fault = methods.MethodIsRefused payload refusal → IsFault (λ code. SaysMethod payload (Err code)) fault
 
 -- where the reader of a header's size refuses a payload so, it is this fault
 abbrev pub RefusesSize : List ℕ → headers_refusal.Refusal → Fault → Type 0
@@ -24,4 +24,4 @@ RefusesSize payload refusal fault = headers.TellsSize payload (Err refusal) → 
 
 -- where the reader of headers refuses a payload so, it is this fault
 abbrev pub RefusesHeader : List ℕ → headers_refusal.Refusal → Fault → Type 0
-RefusesHeader payload refusal fault = headers.Refuses payload refusal → IsFault (λ code. SaysHeader payload (Err code)) fault
+RefusesHeader payload refusal fault = headers.HeaderIsRefused payload refusal → IsFault (λ code. SaysHeader payload (Err code)) fault

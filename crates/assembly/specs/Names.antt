@@ -6,14 +6,14 @@ use Rattle.model.specs.declared.methods.Method.TheVariants.{BasicPublish}
 use Rattle.assembly.specs.declared.names.Known.{Known}
 
 -- a payload is this publish
-pub record IsPublish (payload : List ℕ) (publish : Publish) : Type 0 where
+pub record SpellsPublish (payload : List ℕ) (publish : Publish) : Type 0 where
   pub fits : IsMethod (BasicPublish publish)
   pub says : SaysMethod payload (Ok (BasicPublish publish))
 
 -- what is kept here, if anything, is a publish with its own payload
 abbrev pub IsRight : Option Known → Type 0
 IsRight None = ⊤
-IsRight (Some known) = IsPublish known.payload.items known.publish
+IsRight (Some known) = SpellsPublish known.payload.items known.publish
 
 -- the same of each place
 abbrev pub AreRight : List (Option Known) → Type 0

@@ -14,11 +14,11 @@ step None = On
 step (Some c) = Made c
 
 -- one frame was read, or none stands there
-abbrev pub Steps : Stream → Result Step Fault → Stream → Type 0
-Steps old (Ok Ended) new = Ends old None × (new ≡ old)
-Steps old (Ok On) new = (p : Pending) × Takes old (Goes_on p) new × (length new.unread < length old.unread)
-Steps old (Ok (Made c)) new = Takes old (Makes c) new × IsCommand c × (length new.unread + 8 ≤ length old.unread)
-Steps old (Err e) new = IsFault (λ code. Ends old (Some code)) e × (new ≡ old)
+abbrev pub AdvancesBy : Stream → Result Step Fault → Stream → Type 0
+AdvancesBy old (Ok Ended) new = Ends old None × (new ≡ old)
+AdvancesBy old (Ok On) new = (p : Pending) × Takes old (Goes_on p) new × (length new.unread < length old.unread)
+AdvancesBy old (Ok (Made c)) new = Takes old (Makes c) new × IsCommand c × (length new.unread + 8 ≤ length old.unread)
+AdvancesBy old (Err e) new = IsFault (λ code. Ends old (Some code)) e × (new ≡ old)
 
 -- no command comes: the stream ends so, then and now, and the same is still to come
 pub record Stops (old : Stream) (end : Option ℕ) (new : Stream) : Type 0 where
@@ -33,8 +33,8 @@ pub record Gives (old : Stream) (c : Command) (new : Stream) : Type 0 where
   pub shorter : length new.unread + 8 ≤ length old.unread
 
 -- the answer is right for this stream, and so is what is left
-abbrev pub Answers : Stream → Result (Option Command) Fault → Stream → Type 0
-Answers old (Ok (Some c)) new = Gives old c new
-Answers old (Ok None) new = Stops old None new
-Answers old (Err (Broken code)) new = Stops old (Some code) new
-Answers old (Err Memory) new = GoesOn old new
+abbrev pub YieldsNext : Stream → Result (Option Command) Fault → Stream → Type 0
+YieldsNext old (Ok (Some c)) new = Gives old c new
+YieldsNext old (Ok None) new = Stops old None new
+YieldsNext old (Err (Broken code)) new = Stops old (Some code) new
+YieldsNext old (Err Memory) new = GoesOn old new

@@ -25,11 +25,11 @@ pub record IsBegun (publish : Publish) (properties : Properties) (size : ℕ) : 
   pub header : length (header_bytes size properties) ≤ most_header
 
 -- its publish and its content, if there are any, can be sent again, and no more is dropped than was declared
-abbrev pub IsSpelled : Pending → Type 0
-IsSpelled Nothing = ⊤
-IsSpelled (WantsHeader publish) = IsMethod (BasicPublish publish)
-IsSpelled (WantsBody g) = IsBegun g.publish g.properties g.size
-IsSpelled (Drops d) = d.count ≤ d.size
+abbrev pub IsSpelledSoFar : Pending → Type 0
+IsSpelledSoFar Nothing = ⊤
+IsSpelledSoFar (WantsHeader publish) = IsMethod (BasicPublish publish)
+IsSpelledSoFar (WantsBody g) = IsBegun g.publish g.properties g.size
+IsSpelledSoFar (Drops d) = d.count ≤ d.size
 
 -- the element of a channel, in a list by channel number
 abbrev pub content_at : List Pending → ℕ → Pending
@@ -41,4 +41,4 @@ pending_at contents channel = pending_of (content_at contents channel)
 
 -- the same of each channel
 abbrev pub AreSpelled : List Pending → Type 0
-AreSpelled contents = (channel : ℕ) → IsSpelled (content_at contents channel)
+AreSpelled contents = (channel : ℕ) → IsSpelledSoFar (content_at contents channel)

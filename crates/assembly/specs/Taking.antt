@@ -8,10 +8,10 @@ use Rattle.assembly.specs.declared.faults.Fault.{Fault}
 use Rattle.assembly.specs.Faults.{IsFault}
 
 -- A frame with such effects was taken, on a channel that awaited `old` and awaits `new` now. A fault changes nothing, and want of memory neither.
-abbrev pub Does : (Taken → Type 0) → Commands.Pending → Result (Option Command) Fault → Commands.Pending → Type 0
-Does Effect old (Ok None) new = Effect (Goes_on new)
-Does Effect old (Ok (Some c)) new = Effect (Makes c) × IsCommand c × (new ≡ Commands.Nothing)
-Does Effect old (Err e) new = IsFault (λ code. Effect (Breaks code)) e × (new ≡ old)
+abbrev pub TakesEffect : (Taken → Type 0) → Commands.Pending → Result (Option Command) Fault → Commands.Pending → Type 0
+TakesEffect Effect old (Ok None) new = Effect (Goes_on new)
+TakesEffect Effect old (Ok (Some c)) new = Effect (Makes c) × IsCommand c × (new ≡ Commands.Nothing)
+TakesEffect Effect old (Err e) new = IsFault (λ code. Effect (Breaks code)) e × (new ≡ old)
 
 -- the same, by what all channels await
 abbrev pub DoesAt : (Taken → Type 0) → ℕ → (ℕ → Commands.Pending) → Result (Option Command) Fault → (ℕ → Commands.Pending) → Type 0

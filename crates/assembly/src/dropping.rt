@@ -4,9 +4,9 @@ ghost use Rattle.std.specs.Prelude.{◌≡◌, ◌+◌, ◌≤◌};
 ghost use Rattle.model.specs.Commands as said;
 ghost use Rattle.model.specs.Commands.{Wants_header, taken_dropped};
 ghost use Rattle.model.specs.declared.methods.Publish.{Publish};
-ghost use Rattle.assembly.specs.Pending.{pending_of, IsSpelled};
+ghost use Rattle.assembly.specs.Pending.{pending_of, IsSpelledSoFar};
 ghost use Rattle.assembly.specs.declared.contents.Pending.TheVariants.{Drops};
-ghost use Rattle.assembly.specs.Taking.{Does};
+ghost use Rattle.assembly.specs.Taking.{TakesEffect};
 
 use crate::contents::{Dropping, Pending};
 use crate::faults::Fault;
@@ -27,8 +27,8 @@ pub(crate) fn is_too_large(payload: &[u8], size: u64) -> bool
 
 /// The header of a content that is too large was read. A body of no bytes has come with it.
 pub(crate) fn begin_dropping(channel: u16, size: u64) -> Taking
-    ensures spelled { IsSpelled result.0 }
-    ensures does { (p : Publish) → Does (λ t. t ≡ taken_dropped channel size 0) (Wants_header p) result.1 (pending_of result.0) }
+    ensures spelled { IsSpelledSoFar result.0 }
+    ensures does { (p : Publish) → TakesEffect (λ t. t ≡ taken_dropped channel size 0) (Wants_header p) result.1 (pending_of result.0) }
 {
     if size == 0 {
         return (Pending::Nothing, Ok(Some(Command::TooLarge { channel })));
@@ -39,8 +39,8 @@ pub(crate) fn begin_dropping(channel: u16, size: u64) -> Taking
 /// A piece of so many bytes is dropped. Past the declared size it is a fault, and at it the publish has come.
 pub(crate) fn drop_piece(channel: u16, dropping: Dropping, length: usize) -> Taking
     requires { dropping.count ≤ dropping.size }
-    ensures spelled { IsSpelled result.0 }
-    ensures does { Does (λ t. t ≡ taken_dropped channel dropping.size (dropping.count + length)) (pending_of (Drops dropping)) result.1 (pending_of result.0) }
+    ensures spelled { IsSpelledSoFar result.0 }
+    ensures does { TakesEffect (λ t. t ≡ taken_dropped channel dropping.size (dropping.count + length)) (pending_of (Drops dropping)) result.1 (pending_of result.0) }
 {
     let Dropping { size, count } = dropping;
     let missing = size - count;

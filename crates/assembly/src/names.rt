@@ -3,7 +3,7 @@
 //! Nothing rests on what is kept here: what is given back is what the bytes say.
 
 ghost use Rattle.std.specs.Prelude.{◌≡◌, IfSome};
-ghost use Rattle.assembly.specs.Names.{IsPublish, IsRight, AreRight};
+ghost use Rattle.assembly.specs.Names.{SpellsPublish, IsRight, AreRight};
 
 use model::{Publish, Text};
 use std::alloc::Global;
@@ -44,7 +44,7 @@ impl Model for Names {
 
 impl Names {
     ghost use Rattle.std.specs.Prelude.{◌≡◌, IfSome};
-    ghost use Rattle.assembly.specs.Names.{IsPublish};
+    ghost use Rattle.assembly.specs.Names.{SpellsPublish};
 
     /// Nothing came before. It takes no memory.
     pub(crate) fn new(alloc: Global) -> Names {
@@ -56,14 +56,14 @@ impl Names {
 
     /// The publish that this payload spells, if it came before and is kept.
     pub(crate) fn publish_of(&self, payload: &[u8]) -> Option<Publish>
-        ensures { IfSome result (λ p. IsPublish payload.now p) }
+        ensures { IfSome result (λ p. SpellsPublish payload.now p) }
     {
         publish_in(&self.publishes, payload)
     }
 
     /// The same publish, which this payload spells. It is kept, and shares the names that came before.
     pub(crate) fn learn(&mut self, alloc: Global, payload: &[u8], publish: Publish) -> Publish
-        requires { IsPublish payload.now publish }
+        requires { SpellsPublish payload.now publish }
         ensures { result ≡ publish }
     {
         let publish = sharing(&mut self.names, publish);
@@ -75,7 +75,7 @@ impl Names {
 /// The publish that this payload spells, if it is kept.
 fn publish_in(slots: &[Option<Known>], payload: &[u8]) -> Option<Publish>
     requires { AreRight slots.now }
-    ensures { IfSome result (λ p. IsPublish payload.now p) }
+    ensures { IfSome result (λ p. SpellsPublish payload.now p) }
 {
     let place = place_of(payload) % MOST_PUBLISHES;
     if place < slots.len() {
@@ -88,7 +88,7 @@ fn publish_in(slots: &[Option<Known>], payload: &[u8]) -> Option<Publish>
 /// The publish that this payload spells, if it is the one that stands here.
 fn known_at(slot: &Option<Known>, payload: &[u8]) -> Option<Publish>
     requires { IsRight slot.now }
-    ensures { IfSome result (λ p. IsPublish payload.now p) }
+    ensures { IfSome result (λ p. SpellsPublish payload.now p) }
 {
     match slot {
         Some(known) => {
@@ -121,7 +121,7 @@ fn copy_of(publish: &Publish) -> Option<Publish>
 /// Keeps this publish, which the payload spells, unless memory is refused.
 fn keep_in(alloc: Global, slots: &mut Vec<Option<Known>>, payload: &[u8], publish: &Publish)
     requires kept { AreRight slots.old.items }
-    requires spelled { IsPublish payload.now publish.now }
+    requires spelled { SpellsPublish payload.now publish.now }
     ensures { AreRight slots.new.items }
 {
     if slots.is_empty() {
@@ -135,7 +135,7 @@ fn keep_in(alloc: Global, slots: &mut Vec<Option<Known>>, payload: &[u8], publis
 
 /// This publish and the payload that spells it. None where memory is refused.
 fn known_of(alloc: Global, payload: &[u8], publish: &Publish) -> Option<Known>
-    requires { IsPublish payload.now publish.now }
+    requires { SpellsPublish payload.now publish.now }
     ensures { IsRight result }
 {
     match (copy_of(publish), Vec::from_slice(alloc, payload)) {

@@ -3,7 +3,7 @@
 ghost use Rattle.std.specs.Prelude.{◌≡◌, ◌<◌, ◌≤◌, ◌++◌, false, length, MatchOption};
 ghost use Rattle.assembly.specs.Pending.{AreSpelled};
 ghost use Rattle.assembly.specs.Held.{stream};
-ghost use Rattle.assembly.specs.Onward.{Steps, Answers, step};
+ghost use Rattle.assembly.specs.Onward.{AdvancesBy, YieldsNext, step};
 
 use crate::buffers::Unread;
 use crate::contents::Pending;
@@ -36,7 +36,7 @@ fn read_one(
     requires max { 4096 ≤ max }
     requires spelled { AreSpelled contents.old.items }
     ensures spelled { AreSpelled contents.new.items }
-    ensures steps { Steps (stream false max contents.old.items unread.old) result (stream false max contents.new.items unread.new) }
+    ensures steps { AdvancesBy (stream false max contents.old.items unread.old) result (stream false max contents.new.items unread.new) }
 {
     match read_frame(unread.bytes(), max) {
         Read::More => Ok(Step::Ended),
@@ -72,7 +72,7 @@ pub(crate) fn next_command(
     requires max { 4096 ≤ max }
     requires spelled { AreSpelled contents.old.items }
     ensures spelled { AreSpelled contents.new.items }
-    ensures answers { Answers (stream false max contents.old.items unread.old) result (stream false max contents.new.items unread.new) }
+    ensures answers { YieldsNext (stream false max contents.old.items unread.old) result (stream false max contents.new.items unread.new) }
 {
     'frames: loop {
         match read_one(alloc, max, names, contents, unread) {

@@ -3,7 +3,7 @@
 ghost use Rattle.std.specs.Prelude.{◌≡◌, ◌≤◌, true, Ok, OnOk, OnErr, length};
 ghost use Rattle.model.specs.Commands.{new_stream, running_stream, heard, with_max};
 ghost use Rattle.assembly.specs.Held.{stream_of};
-ghost use Rattle.assembly.specs.Onward.{Answers};
+ghost use Rattle.assembly.specs.Onward.{YieldsNext};
 
 use crate::buffers::Unread;
 use crate::contents::Pending;
@@ -102,7 +102,7 @@ impl Stream {
     /// `None` where the bytes end before one does. A fault is [`Fault::Broken`], with its reply code, and stands there for
     /// good. Where memory is refused, the same is still to come.
     pub fn next(&mut self) -> Result<Option<Command>, Fault>
-        ensures { Answers (stream_of self.old) result (stream_of self.new) }
+        ensures { YieldsNext (stream_of self.old) result (stream_of self.new) }
     {
         if self.is_new {
             return Ok(self.first());
@@ -119,7 +119,7 @@ impl Stream {
     /// The first eight bytes, once they are there.
     fn first(&mut self) -> Option<Command>
         requires { self.old.is_new ≡ true }
-        ensures { Answers (stream_of self.old) (Ok result) (stream_of self.new) }
+        ensures { YieldsNext (stream_of self.old) (Ok result) (stream_of self.new) }
     {
         match take_eight(&mut self.unread) {
             Some(bytes) => {

@@ -8,10 +8,10 @@ ghost use Rattle.model.specs.Grammar.{IsMethod, SaysMethod};
 ghost use Rattle.model.specs.declared.events.Command.TheVariants as command;
 ghost use Rattle.model.specs.declared.methods.Method.TheVariants.{BasicPublish};
 ghost use Rattle.frame.specs.Reading.{seen};
-ghost use Rattle.assembly.specs.Pending.{pending_of, IsSpelled, IsBegun};
+ghost use Rattle.assembly.specs.Pending.{pending_of, IsSpelledSoFar, IsBegun};
 ghost use Rattle.assembly.specs.declared.contents.Pending.TheVariants.{WantsHeader, WantsBody};
-ghost use Rattle.assembly.specs.Names.{IsPublish};
-ghost use Rattle.assembly.specs.Taking.{Does};
+ghost use Rattle.assembly.specs.Names.{SpellsPublish};
+ghost use Rattle.assembly.specs.Taking.{TakesEffect};
 
 use crate::bodies::Body;
 use crate::contents::{Gathering, Pending};
@@ -34,9 +34,9 @@ pub(crate) fn take_awaited(
     was: Pending,
     frame: &Frame<'_>,
 ) -> Taking
-    requires { IsSpelled was }
-    ensures spelled { IsSpelled result.0 }
-    ensures does { Does (λ t. MatchBool (frame.now.kind == awaited (pending_of was)) (TakesPayload (pending_of was) (seen frame.now) t) (t ≡ Breaks 505)) (pending_of was) result.1 (pending_of result.0) }
+    requires { IsSpelledSoFar was }
+    ensures spelled { IsSpelledSoFar result.0 }
+    ensures does { TakesEffect (λ t. MatchBool (frame.now.kind == awaited (pending_of was)) (TakesPayload (pending_of was) (seen frame.now) t) (t ≡ Breaks 505)) (pending_of was) result.1 (pending_of result.0) }
 {
     if frame.kind != awaited_kind(&was) {
         return (was, Err(Fault::Broken(505)));
@@ -63,8 +63,8 @@ fn awaited_kind(was: &Pending) -> u8
 
 /// A method is a command, but a publish waits for its content.
 fn take_method(alloc: Global, names: &mut Names, frame: &Frame<'_>) -> Taking
-    ensures spelled { IsSpelled result.0 }
-    ensures does { Does (TakesPayload Commands.Nothing (seen frame.now)) Commands.Nothing result.1 (pending_of result.0) }
+    ensures spelled { IsSpelledSoFar result.0 }
+    ensures does { TakesEffect (TakesPayload Commands.Nothing (seen frame.now)) Commands.Nothing result.1 (pending_of result.0) }
 {
     if let Some(publish) = names.publish_of(frame.payload) {
         return (Pending::WantsHeader(publish), Ok(None));
@@ -78,8 +78,8 @@ fn take_method(alloc: Global, names: &mut Names, frame: &Frame<'_>) -> Taking
 /// A method that was read is a command, but a publish waits for its content.
 fn begin(alloc: Global, names: &mut Names, frame: &Frame<'_>, method: Method) -> Taking
     requires { SaysMethod frame.now.payload.now (Ok method) }
-    ensures spelled { IsSpelled result.0 }
-    ensures does { Does (λ t. t ≡ taken_method frame.now.channel (Ok method)) Commands.Nothing result.1 (pending_of result.0) }
+    ensures spelled { IsSpelledSoFar result.0 }
+    ensures does { TakesEffect (λ t. t ≡ taken_method frame.now.channel (Ok method)) Commands.Nothing result.1 (pending_of result.0) }
 {
     match method.into_publish() {
         Ok(publish) => begin_publish(alloc, names, frame.payload, publish),
@@ -95,7 +95,7 @@ fn begin(alloc: Global, names: &mut Names, frame: &Frame<'_>, method: Method) ->
 
 /// A publish that was read waits for its content.
 fn begin_publish(alloc: Global, names: &mut Names, payload: &[u8], publish: Publish) -> Taking
-    requires { IsPublish payload.now publish }
+    requires { SpellsPublish payload.now publish }
     ensures pending { result.0 ≡ WantsHeader publish }
     ensures answer { result.1 ≡ Ok None }
 {
@@ -106,8 +106,8 @@ fn begin_publish(alloc: Global, names: &mut Names, payload: &[u8], publish: Publ
 /// A header declares the body of the publish before it. Of a content that is too large nothing else is read.
 fn take_header(alloc: Global, publish: Publish, frame: &Frame<'_>) -> Taking
     requires { IsMethod (BasicPublish publish) }
-    ensures spelled { IsSpelled result.0 }
-    ensures does { Does (TakesPayload (Commands.Wants_header publish) (seen frame.now)) (Commands.Wants_header publish) result.1 (pending_of result.0) }
+    ensures spelled { IsSpelledSoFar result.0 }
+    ensures does { TakesEffect (TakesPayload (Commands.Wants_header publish) (seen frame.now)) (Commands.Wants_header publish) result.1 (pending_of result.0) }
 {
     match read_size(frame.payload) {
         Ok(size) => {
@@ -124,8 +124,8 @@ fn take_header(alloc: Global, publish: Publish, frame: &Frame<'_>) -> Taking
 fn begin_content(alloc: Global, publish: Publish, frame: &Frame<'_>) -> Taking
     requires spelled { IsMethod (BasicPublish publish) }
     requires small { exceeds frame.now.payload.now (size_at frame.now.payload.now) ≡ false }
-    ensures spelled { IsSpelled result.0 }
-    ensures does { Does (λ t. (r : Result Header ℕ) × SaysHeader frame.now.payload.now r × (t ≡ taken_header frame.now.channel publish r)) (Commands.Wants_header publish) result.1 (pending_of result.0) }
+    ensures spelled { IsSpelledSoFar result.0 }
+    ensures does { TakesEffect (λ t. (r : Result Header ℕ) × SaysHeader frame.now.payload.now r × (t ≡ taken_header frame.now.channel publish r)) (Commands.Wants_header publish) result.1 (pending_of result.0) }
 {
     match read_header(alloc, frame.payload) {
         Ok(header) => {
@@ -159,8 +159,8 @@ fn full(channel: u16, publish: Publish, properties: Properties, body: Text) -> C
 /// A piece of a body. Past the declared size it is a fault, and at it the publish is a command.
 fn take_body(gathering: Gathering, frame: &Frame<'_>) -> Taking
     requires { IsBegun gathering.publish gathering.properties gathering.size }
-    ensures spelled { IsSpelled result.0 }
-    ensures does { Does (λ t. t ≡ taken_body frame.now.channel gathering.publish gathering.properties gathering.size (gathering.body ++ frame.now.payload.now)) (pending_of (WantsBody gathering)) result.1 (pending_of result.0) }
+    ensures spelled { IsSpelledSoFar result.0 }
+    ensures does { TakesEffect (λ t. t ≡ taken_body frame.now.channel gathering.publish gathering.properties gathering.size (gathering.body ++ frame.now.payload.now)) (pending_of (WantsBody gathering)) result.1 (pending_of result.0) }
 {
     let length = gathering.body.len() as u64 + frame.payload.len() as u64;
     if gathering.size < length {
@@ -180,8 +180,8 @@ fn take_body(gathering: Gathering, frame: &Frame<'_>) -> Taking
 fn finish_body(gathering: Gathering, frame: &Frame<'_>) -> Taking
     requires begun { IsBegun gathering.publish gathering.properties gathering.size }
     requires last { length gathering.body + length frame.now.payload.now ≡ gathering.size }
-    ensures spelled { IsSpelled result.0 }
-    ensures does { Does (λ t. t ≡ taken_body frame.now.channel gathering.publish gathering.properties gathering.size (gathering.body ++ frame.now.payload.now)) (pending_of (WantsBody gathering)) result.1 (pending_of result.0) }
+    ensures spelled { IsSpelledSoFar result.0 }
+    ensures does { TakesEffect (λ t. t ≡ taken_body frame.now.channel gathering.publish gathering.properties gathering.size (gathering.body ++ frame.now.payload.now)) (pending_of (WantsBody gathering)) result.1 (pending_of result.0) }
 {
     let Gathering {
         publish,

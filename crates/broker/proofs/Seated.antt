@@ -28,7 +28,7 @@ use Rattle.exchange_graph.specs.Marks.{queue_name}
 use Rattle.broker_core.specs.State.{Kept, broker_of, topology_of, names_of}
 use Rattle.judging.specs.Judged.{IsIgnored, IsRequeued, WantsNoMemory}
 use Rattle.broker.specs.Roster.{Rings, ring_at, wakes, HasConsumer, AllHaveSeats, IsServing, AllRun, HasNoList, MakesNoList, Seats, Listing, IsListed, IsSeated, IsThere, IsUp, IsAwake, IsSeatedIn, KeepsSeats, AllDrowse, AllWaken}
-use Rattle.links.specs.Consumers.{has_number, next_number}
+use Rattle.links.specs.Consumers.{has_consumer_numbered, next_number}
 use Rattle.broker_core.specs.Seats.{has_consumer, is_consume, next_seat, seat_of, consumed, IsConsumed}
 use Rattle.broker_core.specs.declared.picks.Pick.{Pick}
 use Rattle.broker_core.proofs.Consuming.{seat_not_ignored}
@@ -55,7 +55,7 @@ has_kept : (kept : Kept) (place : ℕ) (p : Pick) → HasConsumer (topology_of k
 has_kept kept place p has =
     let ch = has.was.0 in
     let channel = seen_there (names_of kept) (channel_of kept.links p.connection p.channel) ch has.was.1 in
-    ap (λ (o : Option Open). has_number o p.number) channel.there
+    ap (λ (o : Option Open). has_consumer_numbered o p.number) channel.there
     ∙ found_by (names_of kept) channel.kept.given.consumers has.consumer p.number (subst (λ (x : Channel). IsIn has.consumer x.consumers) (sym channel.same) has.was.2) has.numbered
 
 -- where no seat of a consumer that is there is gone, each still has its seat

@@ -44,7 +44,7 @@ impl Broker {
     ghost use Rattle.broker_core.specs.State.{broker_of, topology_of, nothing};
     ghost use Rattle.judging.specs.Judged.{IsAsked, WantsNoMemory};
     ghost use Rattle.broker_core.specs.Picked.{IsPick};
-    ghost use Rattle.replies.specs.Sent.{AreOwn, connection_of_event};
+    ghost use Rattle.replies.specs.Sent.{AreAddressed, connection_of_event};
 
     /// The broker of this topology: its queues are empty, and no connection runs.
     pub fn new(alloc: Global, topology: Topology) -> Result<Broker, AllocError>
@@ -63,7 +63,7 @@ impl Broker {
     pub fn step(&mut self, alloc: Global, event: &Event) -> Result<Step, AllocError>
         requires asked { IsAsked event.now }
         ensures ok { IfOk result (λ s. Acts (topology_of self.old) (broker_of self.old) event.now s.sends.items s.notes.items (broker_of self.new)) }
-        ensures own { IfOk result (λ s. IsSaid event.now → AreCarried (broker_of self.old) → AreOwn (connection_of_event event.now) s.sends.items) }
+        ensures addressed { IfOk result (λ s. IsSaid event.now → AreCarried (broker_of self.old) → AreAddressed (connection_of_event event.now) s.sends.items) }
         ensures topology { topology_of self.new ≡ topology_of self.old }
         ensures err { OnErr result (self.new ≡ self.old) }
         ensures quiet { WantsNoMemory (topology_of self.old) (broker_of self.old) event.now → IsOk result }
@@ -93,7 +93,7 @@ impl Broker {
     pub fn pump(&mut self, alloc: Global, pick: Pick) -> Result<Step, AllocError>
         requires { IsPick (broker_of self.old) pick }
         ensures ok { IfOk result (λ s. Acts (topology_of self.old) (broker_of self.old) (event_is.Deliver pick.connection) s.sends.items s.notes.items (broker_of self.new)) }
-        ensures own { IfOk result (λ s. AreCarried (broker_of self.old) → AreNamed (topology_of self.old) (broker_of self.old) → AreOwn pick.connection s.sends.items) }
+        ensures addressed { IfOk result (λ s. AreCarried (broker_of self.old) → AreNamed (topology_of self.old) (broker_of self.old) → AreAddressed pick.connection s.sends.items) }
         ensures topology { topology_of self.new ≡ topology_of self.old }
         ensures err { OnErr result (self.new ≡ self.old) }
     {

@@ -17,8 +17,8 @@ use Rattle.channel.specs.Seats.{is_named}
 use Rattle.channel.specs.declared.consumers.Consumer.{Consumer}
 use Rattle.channel.specs.declared.consumers.Refusal as why
 use Rattle.channel.specs.declared.consumers.Refusal.TheVariants.{InUse, TooMany, Spent, Memory}
-use Rattle.links.specs.Links.{Puts}
-use Rattle.broker_core.specs.Consumed.{Makes}
+use Rattle.links.specs.Links.{PutsChannel}
+use Rattle.broker_core.specs.Consumed.{MakesConsumer}
 use Rattle.judging.specs.Judged.{IsPlaceOf, IsIgnored, JudgesOn, left_of}
 use Rattle.judging.specs.declared.refusals.Act.{Act}
 use Rattle.judging.specs.declared.refusals.Act.TheVariants as act
@@ -70,7 +70,7 @@ tag_short ch m free short = go m.consumer_tag (none_wanting (ch.next_number == g
 
 -- what the channel says of a consumer is what the broker makes of it
 pub makes_is : (old new : Kept) (c h place : ℕ) (ch made : Open) (m : Consume) (r : Result Text why.Refusal) → IsPlaceOf (topology_of old) m.queue place → Seats ch place m r made
-    → new.store ≡ old.store → Puts old.links c h (Some made) new.links → Makes (broker_of old) c h (open_in (names_of old) ch) m r (broker_of new)
+    → new.store ≡ old.store → PutsChannel old.links c h (Some made) new.links → MakesConsumer (broker_of old) c h (open_in (names_of old) ch) m r (broker_of new)
 makes_is old new c h place ch made m (Ok tag) at seated e put = record {
   free = seated.free (names_of old);
   named = seated.named (names_of old);
@@ -101,7 +101,7 @@ others names tag (k ∷ ks) = go (bytes_eq k.tag tag) (others names tag ks)
 pub cancelled_seen : (names : List Text) (ch : Open) (tag : Text) (seats : ℕ) → open_in names (without_named ch tag seats) ≡ without_consumer (open_in names ch) tag
 cancelled_seen names ch tag seats = ap (λ (ks : List seen.Consumer). record (open_in names ch) { consumers = ks }) (others names tag ch.given.consumers)
 
-pub cancelled_is : (old new : Kept) (c h : ℕ) (ch : Open) (tag : Text) (seats : ℕ) → new.store ≡ old.store → Puts old.links c h (Some (without_named ch tag seats)) new.links
+pub cancelled_is : (old new : Kept) (c h : ℕ) (ch : Open) (tag : Text) (seats : ℕ) → new.store ≡ old.store → PutsChannel old.links c h (Some (without_named ch tag seats)) new.links
     → Is (with_channel (broker_of old) c h (Some (without_consumer (open_in (names_of old) ch) tag))) (broker_of new)
 cancelled_is old new c h ch tag seats e put =
     subst (λ (x : Channel). Is (with_channel (broker_of old) c h (Some x)) (broker_of new)) (cancelled_seen (names_of old) ch tag seats) (put_is old new c h (Some (without_named ch tag seats)) e put)

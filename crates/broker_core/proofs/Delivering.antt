@@ -20,7 +20,7 @@ use Rattle.channel.specs.Open.{open_in, consumer_in}
 use Rattle.channel.specs.declared.consumers.Consumer.{Consumer}
 use Rattle.links.specs.Links.{Linked, link_in, limits_of, connection_at, channel_at}
 use Rattle.broker_core.specs.State.{ArePlaced}
-use Rattle.broker_core.specs.Picked.{IsPick, IsPickFrom, Takes, Tells, CannotTake}
+use Rattle.broker_core.specs.Picked.{IsPick, IsPickFrom, TakesAs, TellsConsumer, CannotTake}
 use Rattle.links.specs.Consumers.{TellsOn}
 use Rattle.broker_core.specs.State.{Kept, broker_of, topology_of, names_of}
 use Rattle.broker_core.specs.declared.picks.Pick.{Pick}
@@ -32,7 +32,7 @@ use Rattle.broker_core.proofs.Placing.{takes_within}
 -- ---- who may take a message
 
 -- who may take one on the connection that stands there may take one
-pub tells_is : (kept : Kept) (p : Pick) (l : Linked) (r : Option Consumer) → link_in kept.links p.connection ≡ Some l → ArePlaced kept → TellsOn l p.channel p.number r → Tells kept p r
+pub tells_is : (kept : Kept) (p : Pick) (l : Linked) (r : Option Consumer) → link_in kept.links p.connection ≡ Some l → ArePlaced kept → TellsOn l p.channel p.number r → TellsConsumer kept p r
 tells_is kept p l (Some k) e placed t = record {
   channel = open_in (names_of kept) t.channel;
   taker = record {
@@ -58,18 +58,18 @@ tells_is kept p l None e placed t = λ ch k taker numbered.
     false≢true (sym none ∙ ap (λ (x : Channel). may_take x k) channel.same ∙ taker.may)
 
 -- where none is told none may take
-pub none_told : {B : Type 0} (f : B → Consumer) (kept : Kept) (p : Pick) (r : Option B) → is_some r ≡ false → Tells kept p (option_map f r) → CannotTake (broker_of kept) p
+pub none_told : {B : Type 0} (f : B → Consumer) (kept : Kept) (p : Pick) (r : Option B) → is_some r ≡ false → TellsConsumer kept p (option_map f r) → CannotTake (broker_of kept) p
 none_told f kept p None e t = t
 none_told f kept p (Some k) e t = absurd (false≢true (sym e))
 
 -- ---- which delivery can be made
 
 -- the one that can be made to it where its queue has a message
-abbrev the_pick : (kept : Kept) (p : Pick) (k : Consumer) (e : Entry) → Takes kept p k → first_ready ((broker_of kept).queue (queue_name (topology_of kept) k.queue)) ≡ Some e → CanDeliver (broker_of kept) p.connection
+abbrev the_pick : (kept : Kept) (p : Pick) (k : Consumer) (e : Entry) → TakesAs kept p k → first_ready ((broker_of kept).queue (queue_name (topology_of kept) k.queue)) ≡ Some e → CanDeliver (broker_of kept) p.connection
 the_pick kept p k e t found = record { number = p.channel; channel = t.channel; consumer = consumer_in (names_of kept) k; taker = t.taker; entry = e; first = found }
 
 -- and it is made from its queue
-pub picked_from : (kept : Kept) (place : ℕ) (p : Pick) (k : Consumer) (e : Entry) → Takes kept p k → first_ready ((broker_of kept).queue (queue_name (topology_of kept) k.queue)) ≡ Some e → k.queue ≡ place → IsPickFrom kept place p
+pub picked_from : (kept : Kept) (place : ℕ) (p : Pick) (k : Consumer) (e : Entry) → TakesAs kept p k → first_ready ((broker_of kept).queue (queue_name (topology_of kept) k.queue)) ≡ Some e → k.queue ≡ place → IsPickFrom kept place p
 picked_from kept place p k e t found here = record {
   pick = (the_pick kept p k e t found, refl, t.numbered);
   within = subst (λ (n : ℕ). n < length (topology_of kept).queues) here t.within;
@@ -77,14 +77,14 @@ picked_from kept place p k e t found here = record {
 }
 
 -- and any that can be made to one of its numbers takes from its queue
-pub ready_for : (kept : Kept) (p : Pick) (k : Consumer) → Takes kept p k → (pick : IsPick (broker_of kept) p) → first_ready ((broker_of kept).queue (queue_name (topology_of kept) k.queue)) ≡ Some pick.0.entry
+pub ready_for : (kept : Kept) (p : Pick) (k : Consumer) → TakesAs kept p k → (pick : IsPick (broker_of kept) p) → first_ready ((broker_of kept).queue (queue_name (topology_of kept) k.queue)) ≡ Some pick.0.entry
 ready_for kept p k t (made, at, numbered) =
     let same : made.channel ≡ t.channel = same_Some made.channel t.channel (sym made.taker.there ∙ ap (λ (h : ℕ). (broker_of kept).channel p.connection h) at ∙ t.taker.there) in
     let one : made.consumer ≡ consumer_in (names_of kept) k = t.only made.consumer (subst (λ (x : Channel). IsIn made.consumer x.consumers) same made.taker.its) numbered in
     ap (λ (x : seen.Consumer). first_ready ((broker_of kept).queue x.queue)) (sym one) ∙ made.first
 
 -- it is a consumer of the queue from which it is made
-pub same_queue : (kept : Kept) (place : ℕ) (p : Pick) (k : Consumer) → AreApart (queue_names (topology_of kept).queues) → Takes kept p k → IsPickFrom kept place p → k.queue ≡ place
+pub same_queue : (kept : Kept) (place : ℕ) (p : Pick) (k : Consumer) → AreApart (queue_names (topology_of kept).queues) → TakesAs kept p k → IsPickFrom kept place p → k.queue ≡ place
 same_queue kept place p k apart t from =
     let made = from.pick.0 in
     let same : made.channel ≡ t.channel = same_Some made.channel t.channel (sym made.taker.there ∙ ap (λ (h : ℕ). (broker_of kept).channel p.connection h) from.pick.1 ∙ t.taker.there) in
@@ -92,13 +92,13 @@ same_queue kept place p k apart t from =
     same_place (topology_of kept) k.queue place apart t.within from.within (sym (from.named ∙ ap (λ (x : seen.Consumer). x.queue) one))
 
 -- none can be made where none may take a message
-pub none_picked : (kept : Kept) (p : Pick) → Tells kept p None → IsPick (broker_of kept) p → ⊥
+pub none_picked : (kept : Kept) (p : Pick) → TellsConsumer kept p None → IsPick (broker_of kept) p → ⊥
 none_picked kept p none (made, at, numbered) = none made.channel made.consumer (subst (λ (h : ℕ). MayTake (broker_of kept) p.connection h made.channel made.consumer) at made.taker) numbered
 
 -- ---- what a delivery leaves
 
 -- what was sent, noted and left is the delivery of this message to this consumer
-pub delivered : (kept : Kept) (new : Broker) (p : Pick) (k : Consumer) (e : Entry) (tag : ℕ) (name : Text) (sends : List Send) (notes : List Note) → Takes kept p k
+pub delivered : (kept : Kept) (new : Broker) (p : Pick) (k : Consumer) (e : Entry) (tag : ℕ) (name : Text) (sends : List Send) (notes : List Note) → TakesAs kept p k
     → first_ready ((broker_of kept).queue (queue_name (topology_of kept) k.queue)) ≡ Some e → tag ≡ (channel_or_new ((broker_of kept).channel p.connection p.channel)).next_tag → name ≡ queue_name (topology_of kept) k.queue
     → sends ≡ deliver p.connection p.channel tag k.tag e ∷ [] → notes ≡ delivery_notes k.no_ack e.message.number name
     → Is (after_delivery (broker_of kept) p.connection p.channel (channel_or_new ((broker_of kept).channel p.connection p.channel)) k.no_ack (queue_name (topology_of kept) k.queue) (taker.Consumer p.number)) new
@@ -118,5 +118,5 @@ delivered kept new p k e tag name sends notes t found tagged named sent noted le
     }
 
 -- its tag is short where consumers are named
-pub takes_short : (kept : Kept) (p : Pick) (k : Consumer) → Takes kept p k → AreNamed (topology_of kept) (broker_of kept) → length k.tag < 256
+pub takes_short : (kept : Kept) (p : Pick) (k : Consumer) → TakesAs kept p k → AreNamed (topology_of kept) (broker_of kept) → length k.tag < 256
 takes_short kept p k t named = all_in (λ (x : seen.Consumer). length x.tag < 256) (consumer_in (names_of kept) k) t.channel.consumers (named p.connection p.channel t.channel t.taker.there).spelled t.taker.its

@@ -122,7 +122,7 @@ AreOnChannels c n names slots queues = (q : Text) (e : Entry) (holder : Holder) 
 returned_whole : (c h : ℕ) (os : List Outstanding) (s : Store) → IsWhole s → IsWhole (returned_all c h s os)
 returned_whole c h [] s whole = whole
 returned_whole c h (o ∷ os) s whole =
-    returned_whole c h os (returned_one c h s o) (record { formed = whole.formed; len = length-set s.queues o.queue (map (freed (is_under (settled.holder_of c h o))) (queue_at s o.queue)) ∙ whole.len })
+    returned_whole c h os (returned_one c h s o) (record { formed = whole.formed; len = length-set s.queues o.queue (map (freed (is_under (settled.holder_of_outstanding c h o))) (queue_at s o.queue)) ∙ whole.len })
 
 -- those of the first channel are among its own
 first_found : (c n : ℕ) (names : List Text) (slot : Option Open) (slots : List (Option Open)) (queues : Text → List Entry) → AreOnChannels c n names (slot ∷ slots) queues

@@ -21,9 +21,9 @@ use Rattle.model.specs.declared.messages.Mark.{Mark}
 use Rattle.model.specs.declared.messages.Mark.TheVariants.{Ready, Held}
 use Rattle.model.specs.declared.messages.Taker.{Taker}
 use Rattle.exchange_graph.specs.Marks.{queue_name}
-use Rattle.depot.specs.Store.{Store, IsNamed, queue_of, queue_at, with_queue}
+use Rattle.depot.specs.Store.{Store, IsNamed, queue_of, queue_at, with_entries_at}
 use Rattle.channel.specs.Open.{Open, open_in, outstanding_in, given_on, settled_on}
-use Rattle.links.specs.Links.{Linked, CanGive, SetsRoom, Puts, channel_of}
+use Rattle.links.specs.Links.{Linked, CanGive, SetsRoom, PutsChannel, channel_of}
 use Rattle.broker_core.specs.State.{Kept, broker_of, topology_of, names_of}
 use Rattle.broker_core.proofs.Stepping.{seen_put}
 
@@ -33,8 +33,8 @@ can_give names o h k e = subst (λ (x : Option Open). has_tag_left (channel_or_n
 
 -- the first ready message of a queue left it, and needs no acknowledgement
 pub taken_is : (old new : Kept) (c h place : ℕ) (by : Taker) (ch : Open) → IsNamed old.store place
-    → new.store ≡ with_queue old.store place (without_first is_ready (queue_at old.store place))
-    → Puts old.links c h (Some (settled_on ch)) new.links
+    → new.store ≡ with_entries_at old.store place (without_first is_ready (queue_at old.store place))
+    → PutsChannel old.links c h (Some (settled_on ch)) new.links
     → Is (after_delivery (broker_of old) c h (open_in (names_of old) ch) true (queue_name (topology_of old) place) by) (broker_of new)
 taken_is old new c h place by ch named e put = record {
   counted = ap (λ (s : Store). s.published) e;
@@ -52,8 +52,8 @@ seen_given names ch place arrival by =
 
 -- the first ready message of a queue is held under the channel's next tag
 pub held_is : (old new : Kept) (c h place arrival : ℕ) (by : Taker) (ch : Open) → IsNamed old.store place
-    → new.store ≡ with_queue old.store place (change_first is_ready (held_as (record { connection = c; channel = h; tag = ch.given.next_tag; by = by })) (queue_at old.store place))
-    → Puts old.links c h (Some (given_on ch place arrival by)) new.links
+    → new.store ≡ with_entries_at old.store place (change_first is_ready (held_as (record { connection = c; channel = h; tag = ch.given.next_tag; by = by })) (queue_at old.store place))
+    → PutsChannel old.links c h (Some (given_on ch place arrival by)) new.links
     → Is (after_delivery (broker_of old) c h (open_in (names_of old) ch) false (queue_name (topology_of old) place) by) (broker_of new)
 held_is old new c h place arrival by ch named e put =
     let holder : Holder = record { connection = c; channel = h; tag = ch.given.next_tag; by = by } in
@@ -67,7 +67,7 @@ held_is old new c h place arrival by ch named e put =
     }
 
 -- what is put twice in one place is what was put last
-pub puts_twice : (old mid new : List (ℕ × Linked)) (c h : ℕ) (one two : Option Open) → Puts old c h one mid → Puts mid c h two new → Puts old c h two new
+pub puts_twice : (old mid new : List (ℕ × Linked)) (c h : ℕ) (one two : Option Open) → PutsChannel old c h one mid → PutsChannel mid c h two new → PutsChannel old c h two new
 puts_twice old mid new c h one two a b = record {
   connections = λ d. b.connections d ∙ a.connections d;
   channels = λ d k. b.channels d k ∙ go (d == c && k == h) d k (a.channels d k);
@@ -81,12 +81,12 @@ puts_twice old mid new c h one two a b = record {
 pub record Roomy (old mid : List (ℕ × Linked)) (c h : ℕ) (ch : Open) : Type 0 where
   pub channel : Open
   pub there : channel_of mid c h ≡ Some channel
-  pub puts : Puts old c h (Some channel) mid
+  pub puts : PutsChannel old c h (Some channel) mid
   pub outstanding : channel.given.outstanding ≡ ch.given.outstanding
   pub consumers : channel.given.consumers ≡ ch.given.consumers
   pub seen : (names : List Text) → open_in names channel ≡ open_in names ch
 
-pub roomy : (old mid : List (ℕ × Linked)) (c h : ℕ) (ch : Open) (o : Option Open) → SetsRoom ch o → Puts old c h o mid → Roomy old mid c h ch
+pub roomy : (old mid : List (ℕ × Linked)) (c h : ℕ) (ch : Open) (o : Option Open) → SetsRoom ch o → PutsChannel old c h o mid → Roomy old mid c h ch
 roomy old mid c h ch o set put =
     let channel : Open = record ch { given = record ch.given { room = set.room } } in
     record {
@@ -95,15 +95,15 @@ roomy old mid c h ch o set put =
           ∙ ap (λ (b : Bool). if b && (h == h) then o else channel_of old c h) (eq-eqb c c refl)
           ∙ ap (λ (b : Bool). if true && b then o else channel_of old c h) (eq-eqb h h refl)
           ∙ set.is;
-      puts = subst (λ (x : Option Open). Puts old c h x mid) set.is put;
+      puts = subst (λ (x : Option Open). PutsChannel old c h x mid) set.is put;
       outstanding = refl;
       consumers = refl;
       seen = λ names. refl;
     }
 
 -- a message is given out on a channel for which room was made
-pub given_puts : (old mid new : List (ℕ × Linked)) (c h : ℕ) (ch : Open) (place arrival : ℕ) (by : Taker) (room : Roomy old mid c h ch) → Puts mid c h (Some (given_on room.channel place arrival by)) new
-    → Puts old c h (Some (given_on room.channel place arrival by)) new
+pub given_puts : (old mid new : List (ℕ × Linked)) (c h : ℕ) (ch : Open) (place arrival : ℕ) (by : Taker) (room : Roomy old mid c h ch) → PutsChannel mid c h (Some (given_on room.channel place arrival by)) new
+    → PutsChannel old c h (Some (given_on room.channel place arrival by)) new
 given_puts old mid new c h ch place arrival by room put = puts_twice old mid new c h (Some room.channel) (Some (given_on room.channel place arrival by)) room.puts put
 
 -- ---- no message is held under the next tag

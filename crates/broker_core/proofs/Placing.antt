@@ -14,12 +14,12 @@ use Rattle.model.specs.declared.messages.Taker.{Taker}
 use Rattle.model.specs.declared.methods.Qos.{Qos}
 use Rattle.model.specs.declared.methods.Consume.{Consume}
 use Rattle.channel.specs.Seats.{is_named}
-use Rattle.channel.specs.Open.{Open, open_in, outstanding_in, consumer_in, limited, given_on, without_named, places_of, IsSeated, Seats}
+use Rattle.channel.specs.Open.{Open, open_in, outstanding_in, consumer_in, with_qos, given_on, without_named, places_of, IsSeated, Seats}
 use Rattle.channel.specs.Deliveries.{with_limit}
 use Rattle.channel.specs.declared.pending.Outstanding.{Outstanding}
 use Rattle.channel.specs.declared.consumers.Consumer.{Consumer}
 use Rattle.channel.specs.declared.consumers.Refusal.{Refusal}
-use Rattle.links.specs.Links.{channel_of, seen_in, Puts, Opens}
+use Rattle.links.specs.Links.{channel_of, seen_in, PutsChannel, OpensLink}
 use Rattle.links.specs.Placed.{AreWithin, TakeWithin, IsPlaced}
 use Rattle.broker_core.specs.State.{ArePlaced}
 use Rattle.broker_core.specs.State.{Kept, topology_of}
@@ -29,7 +29,7 @@ pub placed_same : (old new : Kept) → topology_of new ≡ topology_of old → (
 placed_same old new e same placed c h ch is = subst (λ (t : Topology). IsPlaced t ch) (sym e) (placed c h ch (sym (same c h) ∙ is))
 
 -- one channel is another
-pub placed_put : (old new : Kept) (c h : ℕ) (ch : Option Open) → topology_of new ≡ topology_of old → Puts old.links c h ch new.links
+pub placed_put : (old new : Kept) (c h : ℕ) (ch : Option Open) → topology_of new ≡ topology_of old → PutsChannel old.links c h ch new.links
     → ((k : Open) → ch ≡ Some k → IsPlaced (topology_of old) k) → ArePlaced old → ArePlaced new
 placed_put old new c h ch e put own placed d k x is = subst (λ (t : Topology). IsPlaced t x) (sym e) (go (d == c && k == h) (sym (put.channels d k) ∙ is))
   where
@@ -82,7 +82,7 @@ new_placed t ch true e =
 new_placed t ch false e = absurd (false≢true (sym (ap is_some e)))
 
 -- a connection runs, with new channels
-pub placed_opened : (old new : Kept) (c max k : ℕ) → topology_of new ≡ topology_of old → Opens old.links c max k new.links → ArePlaced old → ArePlaced new
+pub placed_opened : (old new : Kept) (c max k : ℕ) → topology_of new ≡ topology_of old → OpensLink old.links c max k new.links → ArePlaced old → ArePlaced new
 placed_opened old new c max k e l placed d h x is = go (d == c) refl
   where
     go : (b : Bool) → (d == c) ≡ b → IsPlaced (topology_of new) x
@@ -105,14 +105,14 @@ placed_given t ch mid place arrival by lt same_given same_consumers placed = rec
 }
 
 -- a qos leaves what is outstanding, and the consumers
-pub same_limited : (ch : Open) (m : Qos) → (limited ch m).given.outstanding ≡ ch.given.outstanding
+pub same_limited : (ch : Open) (m : Qos) → (with_qos ch m).given.outstanding ≡ ch.given.outstanding
 same_limited ch m = go m.global
   where
     go : (b : Bool) → (with_limit ch.given m.prefetch_count b).outstanding ≡ ch.given.outstanding
     go true = refl
     go false = refl
 
-pub same_consumers_limited : (ch : Open) (m : Qos) → (limited ch m).given.consumers ≡ ch.given.consumers
+pub same_consumers_limited : (ch : Open) (m : Qos) → (with_qos ch m).given.consumers ≡ ch.given.consumers
 same_consumers_limited ch m = go m.global
   where
     go : (b : Bool) → (with_limit ch.given m.prefetch_count b).consumers ≡ ch.given.consumers

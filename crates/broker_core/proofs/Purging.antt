@@ -14,7 +14,7 @@ use Rattle.model.specs.declared.notes.Cause.TheVariants.{Purged}
 use Rattle.model.specs.declared.notes.Note.{Note}
 use Rattle.model.specs.declared.notes.Note.TheVariants.{Left}
 use Rattle.exchange_graph.specs.Marks.{queue_name}
-use Rattle.depot.specs.Store.{Store, queue_of, queue_at, with_queue, IsNamed}
+use Rattle.depot.specs.Store.{Store, queue_of, queue_at, with_entries_at, IsNamed}
 use Rattle.links.specs.Links.{Linked, connection_of, seen_in}
 use Rattle.broker_core.specs.State.{Kept, broker_of, names_of}
 use Rattle.settling.specs.Purged.{purged}
@@ -44,7 +44,7 @@ noted_purge q gone names numbers e f =
 -- a purge by the place of its queue is one by its name
 pub purged_is : (old new : Kept) (c h place : ℕ) (m : Purge) (sends : List Send) (names : List Text) (numbers : List ℕ) (notes : List Note)
     → IsNamed old.store place → queue_name old.store.topology place ≡ m.queue
-    → new.store ≡ with_queue old.store place (filter (λ (e : Entry). not (is_ready e)) (queue_at old.store place)) → new.links ≡ old.links
+    → new.store ≡ with_entries_at old.store place (filter (λ (e : Entry). not (is_ready e)) (queue_at old.store place)) → new.links ≡ old.links
     → sends ≡ purge_sends c h m.no_wait (ready_in (queue_at old.store place))
     → names ≡ replicate (ready_in (queue_at old.store place)) m.queue → numbers ≡ map number_of (filter is_ready (queue_at old.store place)) → notes ≡ purged names numbers
     → Purges (broker_of old) c h m sends notes (broker_of new)

@@ -20,7 +20,7 @@ use Rattle.channel.specs.Outstanding.{tag_of}
 use Rattle.channel.specs.Open.{Open, open_in, outstanding_in, without_settled}
 use Rattle.channel.specs.declared.pending.Outstanding.{Outstanding}
 use Rattle.depot.specs.Store.{Store, queue_of, IsWhole}
-use Rattle.links.specs.Links.{channel_of, Puts, seen_in}
+use Rattle.links.specs.Links.{channel_of, PutsChannel, seen_in}
 use Rattle.broker_core.specs.State.{ArePlaced}
 use Rattle.settling.specs.Settled.{IsRejection, leaving_notes, without_one, without_all, returned_one, returned_all}
 use Rattle.broker_core.specs.State.{Kept, broker_of, topology_of, names_of}
@@ -64,7 +64,7 @@ rises_kept names os r i j d lt within =
     omega (arith, e, f, less)
 
 -- the channel without what was settled is seen so
-channels_are : (old new : Kept) (c h tag room : ℕ) (multiple : Bool) (ch : Open) → topology_of new ≡ topology_of old → Puts old.links c h (Some (without_settled ch tag multiple room)) new.links
+channels_are : (old new : Kept) (c h tag room : ℕ) (multiple : Bool) (ch : Open) → topology_of new ≡ topology_of old → PutsChannel old.links c h (Some (without_settled ch tag multiple room)) new.links
     → (d k : ℕ) → (broker_of new).channel d k ≡ with_pair (broker_of old).channel c h (Some (record (open_in (names_of old) ch) { outstanding = kept step.tag_of tag multiple (open_in (names_of old) ch).outstanding })) d k
 channels_are old new c h tag room multiple ch same put d k =
     seen_put (names_of old) (names_of new) old.links new.links c h (Some (without_settled ch tag multiple room)) (ap (λ (t : Topology). queue_names t.queues) same) put d k
@@ -72,7 +72,7 @@ channels_are old new c h tag room multiple ch same put d k =
 
 -- what stays outstanding was given out from queues that are there
 pub stays_placed : (old new : Kept) (c h tag room : ℕ) (multiple : Bool) (ch : Open) → topology_of new ≡ topology_of old → channel_of old.links c h ≡ Some ch
-    → Puts old.links c h (Some (without_settled ch tag multiple room)) new.links → ArePlaced old → ArePlaced new
+    → PutsChannel old.links c h (Some (without_settled ch tag multiple room)) new.links → ArePlaced old → ArePlaced new
 stays_placed old new c h tag room multiple ch same there put placed =
     placed_put old new c h (Some (without_settled ch tag multiple room)) same put
     (placed_some (topology_of old) (without_settled ch tag multiple room)
@@ -109,7 +109,7 @@ all_rise old c h tag multiple ch gone agreed there all =
 
 pub left_is : AreNamed → (cause : Cause) (old new : Kept) (c h tag room : ℕ) (multiple : Bool) (ch : Open) (gone : List Outstanding)
     → IsWhole old.store → IsAgreed (broker_of old) → ArePlaced old → channel_of old.links c h ≡ Some ch → settled tag_of tag multiple ch.given.outstanding ≡ Some gone
-    → new.store ≡ without_all c h old.store gone → Puts old.links c h (Some (without_settled ch tag multiple room)) new.links
+    → new.store ≡ without_all c h old.store gone → PutsChannel old.links c h (Some (without_settled ch tag multiple room)) new.links
     → Settles (topology_of old) (Leaves cause) (broker_of old) c h (open_in (names_of old) ch) tag multiple [] [] (leaving_notes cause c h old.store gone) (broker_of new)
 left_is are cause old new c h tag room multiple ch gone whole agreed placed there all made put =
     let names = names_of old in
@@ -126,7 +126,7 @@ left_is are cause old new c h tag room multiple ch gone whole agreed placed ther
 
 pub returned_is : AreNamed → (old new : Kept) (c h tag room : ℕ) (multiple : Bool) (ch : Open) (gone : List Outstanding) (sends : List Send)
     → IsWhole old.store → ArePlaced old → channel_of old.links c h ≡ Some ch → settled tag_of tag multiple ch.given.outstanding ≡ Some gone
-    → new.store ≡ returned_all c h old.store gone → Puts old.links c h (Some (without_settled ch tag multiple room)) new.links
+    → new.store ≡ returned_all c h old.store gone → PutsChannel old.links c h (Some (without_settled ch tag multiple room)) new.links
     → Settles (topology_of old) Returns (broker_of old) c h (open_in (names_of old) ch) tag multiple sends sends [] (broker_of new)
 returned_is are old new c h tag room multiple ch gone sends whole placed there all made put =
     let names = names_of old in
@@ -145,7 +145,7 @@ returned_is are old new c h tag room multiple ch gone sends whole placed there a
     }
 
 pub rejected_is : (old new : Kept) (c h tag room : ℕ) (multiple : Bool) (ch : Open) (gone : List Outstanding) (notes : List Note)
-    → settled tag_of tag multiple ch.given.outstanding ≡ Some gone → IsRejection old.store c h gone notes new.store → Puts old.links c h (Some (without_settled ch tag multiple room)) new.links
+    → settled tag_of tag multiple ch.given.outstanding ≡ Some gone → IsRejection old.store c h gone notes new.store → PutsChannel old.links c h (Some (without_settled ch tag multiple room)) new.links
     → Settles (topology_of old) Rejects (broker_of old) c h (open_in (names_of old) ch) tag multiple [] [] notes (broker_of new)
 rejected_is old new c h tag room multiple ch gone notes all is put =
     let names = names_of old in

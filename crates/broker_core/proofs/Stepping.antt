@@ -5,6 +5,7 @@ use Rattle.std.specs.Str.{bytes_eq}
 use Rattle.model.specs.Words.{Text}
 use Rattle.model.specs.Topology.{Topology, queue_names}
 use Rattle.model.specs.Broker.{Broker, Channel, Connection, listed, with_one, with_row, with_pair}
+use Rattle.model.specs.Sending.{IsAddressed}
 use Rattle.model.specs.Step as step
 use Rattle.model.specs.Step.{Performs, Decides, OnConnection, Refusal, Ignored, Of_connection, Is, channel_or_new, refusal_of_publish, refusal_to, refusal_of_count, or_else, is_spent, greatest, IsPublish, limited, with_gone, with_freed, with_channel, refusal, refusal_of_large, next_of, confirm_sends, confirm_notes, answer_of, return_of, returned_notes, entry_notes, is_none, is_some_full, channels_up_to}
 use Rattle.model.specs.Entries.{freed, by_channel, by_connection}
@@ -24,8 +25,8 @@ use Rattle.depot.specs.declared.depots.Routed.{Routed}
 use Rattle.channel.specs.Open as opened
 use Rattle.channel.specs.Open.{Open, open_in}
 use Rattle.channel.specs.Deliveries.{with_limit}
-use Rattle.links.specs.Links.{Linked, link_in, channel_seen, limits_of, connection_at, channel_at, connection_of, channel_of, seen_in, CanCount, AreLinks, Puts, Opens}
-use Rattle.replies.specs.Sent.{IsOwn, AreOwn, return_if, sent_back}
+use Rattle.links.specs.Links.{Linked, link_in, channel_seen, limits_of, connection_at, channel_at, connection_of, channel_of, seen_in, CanCount, AreLinks, PutsChannel, OpensLink}
+use Rattle.replies.specs.Sent.{AreAddressed, return_if, sent_back}
 use Rattle.broker_core.specs.State.{Kept, broker_of, topology_of, names_of}
 use Rattle.judging.specs.Judged.{seen, HasChannel, IsIgnored, IsLargeIgnored, IsRequeued, is_requeueing, requeues, Asks, Judges, JudgesOn, JudgesLarge}
 use Rattle.judging.specs.declared.refusals.Refusal as declared
@@ -63,7 +64,7 @@ seen_by : (names others : List Text) (o : Option Open) → others ≡ names → 
 seen_by names others o e = ap (λ (z : List Text). option_map (open_in z) o) e
 
 -- one channel is another
-pub seen_put : (names others : List Text) (old new : List (ℕ × Linked)) (c h : ℕ) (ch : Option Open) → others ≡ names → Puts old c h ch new
+pub seen_put : (names others : List Text) (old new : List (ℕ × Linked)) (c h : ℕ) (ch : Option Open) → others ≡ names → PutsChannel old c h ch new
     → (d k : ℕ) → seen_in others new d k ≡ with_pair (seen_in names old) c h (option_map (open_in names) ch) d k
 seen_put names others old new c h ch e l d k =
     seen_by names others (channel_of new d k) e ∙ ap (option_map (open_in names)) (l.channels d k) ∙ seen_if names (d == c && k == h) ch (channel_of old d k)
@@ -92,7 +93,7 @@ gone_is old new c f l = record {
 }
 
 -- a connection runs, and what one of its number held is requeued
-pub opened_is : (old new : Kept) (c max k : ℕ) → IsFreed (by_connection c) old.store new.store → Opens old.links c max k new.links → Is (step.opened (broker_of old) c max k) (broker_of new)
+pub opened_is : (old new : Kept) (c max k : ℕ) → IsFreed (by_connection c) old.store new.store → OpensLink old.links c max k new.links → Is (step.opened (broker_of old) c max k) (broker_of new)
 opened_is old new c max k f l = record {
   counted = f.published;
   queues = f.queues;
@@ -102,7 +103,7 @@ opened_is old new c max k f l = record {
 }
 
 -- a channel is another, and what it held is requeued
-pub cleared_is : (old new : Kept) (c h : ℕ) (ch : Option Open) → IsFreed (by_channel c h) old.store new.store → Puts old.links c h ch new.links
+pub cleared_is : (old new : Kept) (c h : ℕ) (ch : Option Open) → IsFreed (by_channel c h) old.store new.store → PutsChannel old.links c h ch new.links
     → Is (with_freed (with_channel (broker_of old) c h (option_map (open_in (names_of old)) ch)) (by_channel c h)) (broker_of new)
 cleared_is old new c h ch f l = record {
   counted = f.published;
@@ -112,7 +113,7 @@ cleared_is old new c h ch f l = record {
 }
 
 -- a channel is another, and nothing else changes
-pub put_is : (old new : Kept) (c h : ℕ) (ch : Option Open) → new.store ≡ old.store → Puts old.links c h ch new.links
+pub put_is : (old new : Kept) (c h : ℕ) (ch : Option Open) → new.store ≡ old.store → PutsChannel old.links c h ch new.links
     → Is (with_channel (broker_of old) c h (option_map (open_in (names_of old)) ch)) (broker_of new)
 put_is old new c h ch e l = record {
   counted = ap (λ (s : Store). s.published) e;
@@ -171,7 +172,7 @@ back_noted false false s = refl
 -- a publish of the depot, counted on the channel, sent back and confirmed, is one of the broker
 pub published_is : (old new : Kept) (c h : ℕ) (ch : Open) (p : Publish) (content : Content) (noted : List Note) (routed : Routed)
     → Publishes old.store c h p content (next_of ch.confirm) noted routed new.store
-    → Puts old.links c h (Some (record ch { confirm = next_of ch.confirm })) new.links
+    → PutsChannel old.links c h (Some (record ch { confirm = next_of ch.confirm })) new.links
     → IsPublish (topology_of old) (broker_of old) c h (open_in (names_of old) ch) p content
     (sent_back routed.is_none (return_if c h p content) ++ confirm_sends c h (next_of ch.confirm) (answer_of routed.is_some_full))
     ((noted ++ returned_notes (old.store.published + 1) (routed.is_none && is_some (return_if c h p content))) ++ confirm_notes (old.store.published + 1) (next_of ch.confirm) (answer_of routed.is_some_full)) (broker_of new)
@@ -201,7 +202,7 @@ published_is old new c h ch p content noted routed made put =
     }
 
 -- what goes back has an address where all of it has, and what follows it keeps its own
-pub back_own : (c : ℕ) (none : Bool) (back : Option Send) (more : List Send) → IfSome back (λ s. IsOwn c s) → AreOwn c more → AreOwn c (sent_back none back ++ more)
+pub back_own : (c : ℕ) (none : Bool) (back : Option Send) (more : List Send) → IfSome back (λ s. IsAddressed c s) → AreAddressed c more → AreAddressed c (sent_back none back ++ more)
 back_own c false back more own rest = rest
 back_own c true None more own rest = rest
 back_own c true (Some s) more own rest = (own, rest)
@@ -262,7 +263,7 @@ kept_one None h = absurd (let e : false ≡ true = h in cc)
 kept_one (Some ch) h = (ch, refl)
 
 -- a qos sets the same limit of what is kept and of what is seen of it
-pub limited_is : (names : List Text) (ch : Open) (m : Qos) → open_in names (opened.limited ch m) ≡ limited (open_in names ch) m
+pub limited_is : (names : List Text) (ch : Open) (m : Qos) → open_in names (opened.with_qos ch m) ≡ limited (open_in names ch) m
 limited_is names ch m = chosen m.global
   where
     chosen : (b : Bool) → open_in names (record ch { given = with_limit ch.given m.prefetch_count b }) ≡ (if b then record (open_in names ch) { limit = m.prefetch_count } else record (open_in names ch) { each_limit = m.prefetch_count })

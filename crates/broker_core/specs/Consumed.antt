@@ -27,6 +27,6 @@ pub record IsMade (old : Broker) (c h : ℕ) (ch : Channel) (m : Consume) (tag :
   pub left : Is (with_channel old c h (Some (with_consumer ch m))) new
 
 -- A consumer was made under this tag, or refused.
-abbrev pub Makes : Broker → ℕ → ℕ → Channel → Consume → Result Text Refusal → Broker → Type 0
-Makes old c h ch m (Ok tag) new = IsMade old c h ch m tag new
-Makes old c h ch m (Err why) new = StandsAgainst ch m (code_of why)
+abbrev pub MakesConsumer : Broker → ℕ → ℕ → Channel → Consume → Result Text Refusal → Broker → Type 0
+MakesConsumer old c h ch m (Ok tag) new = IsMade old c h ch m tag new
+MakesConsumer old c h ch m (Err why) new = StandsAgainst ch m (code_of why)

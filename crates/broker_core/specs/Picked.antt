@@ -38,7 +38,7 @@ abbrev pub CannotTake : Broker → Pick → Type 0
 CannotTake b p = (ch : seen.Channel) (k : seen.Consumer) → MayTake b p.connection p.channel ch k → k.number ≡ p.number → ⊥
 
 -- The consumer of these numbers may take a message now, from a queue that is there, and no other has its numbers.
-pub record Takes (kept : Kept) (p : Pick) (k : Consumer) : Type 0 where
+pub record TakesAs (kept : Kept) (p : Pick) (k : Consumer) : Type 0 where
   pub channel : seen.Channel
   pub taker : MayTake (broker_of kept) p.connection p.channel channel (consumer_in (names_of kept) k)
   pub numbered : k.number ≡ p.number
@@ -46,6 +46,6 @@ pub record Takes (kept : Kept) (p : Pick) (k : Consumer) : Type 0 where
   pub within : k.queue < length (topology_of kept).queues
 
 -- It is told, exactly where it may.
-abbrev pub Tells : Kept → Pick → Option Consumer → Type 0
-Tells kept p (Some k) = Takes kept p k
-Tells kept p None = CannotTake (broker_of kept) p
+abbrev pub TellsConsumer : Kept → Pick → Option Consumer → Type 0
+TellsConsumer kept p (Some k) = TakesAs kept p k
+TellsConsumer kept p None = CannotTake (broker_of kept) p

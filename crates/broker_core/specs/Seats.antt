@@ -8,13 +8,13 @@ use Rattle.model.specs.declared.events.Event.{Event}
 use Rattle.model.specs.declared.events.Event.TheVariants.{Command}
 use Rattle.exchange_graph.specs.Marks.{queue_name}
 use Rattle.links.specs.Links.{Linked, link_in, channel_in, channel_of}
-use Rattle.links.specs.Consumers.{has_number, next_number}
+use Rattle.links.specs.Consumers.{has_consumer_numbered, next_number}
 use Rattle.broker_core.specs.State.{Kept}
 use Rattle.broker_core.specs.declared.picks.Pick.{Pick}
 
 -- a consumer of these numbers is kept
 abbrev pub has_consumer : Kept → Pick → Bool
-has_consumer kept p = has_number (channel_of kept.links p.connection p.channel) p.number
+has_consumer kept p = has_consumer_numbered (channel_of kept.links p.connection p.channel) p.number
 
 -- ---- the seat of a consumer that is to be made
 

@@ -62,7 +62,7 @@ impl Core {
     ghost use Rattle.model.specs.declared.methods.Method.{Method as Seen};
     ghost use Rattle.broker_core.specs.State.{broker_of, topology_of, nothing};
     ghost use Rattle.judging.specs.Judged.{requeues, left_of, IsAsked, IsRequeued, IsIgnored, IsLargeIgnored, WantsNoMemory, JudgesOn, JudgesLarge, Asks, CanAct};
-    ghost use Rattle.replies.specs.Sent.{AreOwn, connection_of_event};
+    ghost use Rattle.replies.specs.Sent.{AreAddressed, connection_of_event};
 
     /// The broker of this topology: its queues are empty, and no connection runs.
     pub fn new(alloc: Global, topology: Topology) -> Result<Core, AllocError>
@@ -113,7 +113,7 @@ impl Core {
         requires runs { IsSome ((broker_of self.old).connection connection) }
         requires can { CanAct (topology_of self.old) (broker_of self.old) ((broker_of self.old).channel connection channel) act }
         ensures ok { IfOk result (λ s. (m : Seen) → Asks (topology_of self.old) (broker_of self.old) ((broker_of self.old).channel connection channel) m act.entry → Decides (topology_of self.old) (broker_of self.old) connection channel m content.now (left_of (channel_or_new ((broker_of self.old).channel connection channel)) act.entry) s.sends.items s.notes.items (broker_of self.new)) }
-        ensures own { IfOk result (λ s. (m : Seen) → Asks (topology_of self.old) (broker_of self.old) ((broker_of self.old).channel connection channel) m act.entry → IsMethod m → AreCarried (broker_of self.old) → AreOwn connection s.sends.items) }
+        ensures addressed { IfOk result (λ s. (m : Seen) → Asks (topology_of self.old) (broker_of self.old) ((broker_of self.old).channel connection channel) m act.entry → IsMethod m → AreCarried (broker_of self.old) → AreAddressed connection s.sends.items) }
         ensures topology { topology_of self.new ≡ topology_of self.old }
         ensures err { OnErr result (self.new ≡ self.old) }
         ensures quiet { requeues act.entry ≡ true → IsOk result }
@@ -186,7 +186,7 @@ impl Core {
         ensures ok { IfOk result (λ s. OnConnection (topology_of self.old) (broker_of self.old) connection channel method.now content.now s.sends.items s.notes.items (broker_of self.new) ((broker_of self.old).connection connection)) }
         ensures requeued { IsRequeued (topology_of self.old) (broker_of self.old) connection channel method.now ((broker_of self.old).connection connection) → IsOk result }
         ensures ignored { IsIgnored (topology_of self.old) (broker_of self.old) connection channel method.now ((broker_of self.old).connection connection) → IsOk result }
-        ensures own { IfOk result (λ s. IsMethod method.now → AreCarried (broker_of self.old) → AreOwn connection s.sends.items) }
+        ensures addressed { IfOk result (λ s. IsMethod method.now → AreCarried (broker_of self.old) → AreAddressed connection s.sends.items) }
         ensures topology { topology_of self.new ≡ topology_of self.old }
         ensures err { OnErr result (self.new ≡ self.old) }
     {
@@ -207,7 +207,7 @@ impl Core {
         requires { IsAgreed (broker_of self.old) }
         ensures ok { IfOk result (λ s. OnLarge (broker_of self.old) connection channel s.sends.items s.notes.items (broker_of self.new) ((broker_of self.old).connection connection)) }
         ensures ignored { IsLargeIgnored (broker_of self.old) connection channel ((broker_of self.old).connection connection) → IsOk result }
-        ensures own { IfOk result (λ s. AreOwn connection s.sends.items) }
+        ensures addressed { IfOk result (λ s. AreAddressed connection s.sends.items) }
         ensures topology { topology_of self.new ≡ topology_of self.old }
         ensures err { OnErr result (self.new ≡ self.old) }
     {
@@ -224,7 +224,7 @@ impl Core {
         requires agreed { IsAgreed (broker_of self.old) }
         requires asked { IsAsked event.now }
         ensures ok { IfOk result (λ s. Acts (topology_of self.old) (broker_of self.old) event.now s.sends.items s.notes.items (broker_of self.new)) }
-        ensures own { IfOk result (λ s. IsSaid event.now → AreCarried (broker_of self.old) → AreOwn (connection_of_event event.now) s.sends.items) }
+        ensures addressed { IfOk result (λ s. IsSaid event.now → AreCarried (broker_of self.old) → AreAddressed (connection_of_event event.now) s.sends.items) }
         ensures topology { topology_of self.new ≡ topology_of self.old }
         ensures err { OnErr result (self.new ≡ self.old) }
         ensures quiet { WantsNoMemory (topology_of self.old) (broker_of self.old) event.now → IsOk result }

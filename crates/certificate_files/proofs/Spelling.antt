@@ -8,7 +8,7 @@ use Rattle.serde_json.specs.Written.{compact_text, has_float, items_have_float}
 use Rattle.serde_json.proofs.OnLiterals.{serde_json_on_literals}
 use Rattle.json_file.specs.Members.{each, text_at}
 use Rattle.model.specs.Certificates.{Certificate}
-use Rattle.certificate_files.specs.Stated.{number_of, state_of, states_at, form_at, members_at, certificate_at, certificates_of}
+use Rattle.certificate_files.specs.Stated.{whole_number, state_of, states_at, form_at, members_at, certificate_at, certificates_of}
 use Rattle.certificate_files.specs.Spelled.{number_data, state_data, states_data, certificate_data, file_data}
 use Rattle.certificate_files.specs.Writes.{IsWritten}
 
@@ -20,7 +20,7 @@ each_back {A} f reads back (x ∷ xs) = ap (λ (o : Option A). option_and_then (
 
 state_back : (s : List ℕ) → state_of (state_data s) ≡ Some s
 unfolding state_of
-state_back s = each_back number_data number_of (λ n. refl) s
+state_back s = each_back number_data whole_number (λ n. refl) s
 
 states_back : (ss : List (List ℕ)) → each state_of (items_of (map state_data ss)) ≡ Some ss
 states_back ss = each_back state_data state_of state_back ss

@@ -8,9 +8,9 @@ use Rattle.json_file.specs.declared.faults.Fault.TheVariants as fault
 use Rattle.std.specs.Prelude.{Err}
 use Rattle.certificate_files.specs.Faults.{bad_of}
 use Rattle.certificate_files.specs.Stated.{certificates_of}
-use Rattle.certificate_files.specs.Reads.{Reads}
+use Rattle.certificate_files.specs.Reads.{ReadsCertificateFile}
 
-pub unread : (bytes : List ℕ) (d : Data) (e : Fault) → IsJson bytes d → Fails e (certificates_of d ≡ None) → Reads (Err (bad_of e)) bytes
+pub unread : (bytes : List ℕ) (d : Data) (e : Fault) → IsJson bytes d → Fails e (certificates_of d ≡ None) → ReadsCertificateFile (Err (bad_of e)) bytes
 unread bytes d fault.TooLong j h = absurd h
 unread bytes d fault.NotJson j h = absurd h
 unread bytes d fault.Malformed j h = record { value = d; json = j; states = h }

@@ -29,9 +29,9 @@ pub record IsOther (bytes : List ℕ) : Type 0 where
   pub states : certificates_of value ≡ None
 
 -- A file is too long, or no JSON, or states no certificates, or is read; want of memory owes nothing.
-abbrev pub Reads : Result (Vec Certificate Global) Bad → List ℕ → Type 0
-Reads (Ok cs) bytes = IsFile bytes cs.items
-Reads (Err NotJson) bytes = (length bytes ≤ 16777216) × ((d : Data) → IsJson bytes d → ⊥)
-Reads (Err Malformed) bytes = IsOther bytes
-Reads (Err TooLong) bytes = 16777216 < length bytes
-Reads (Err Memory) bytes = Unit {0}
+abbrev pub ReadsCertificateFile : Result (Vec Certificate Global) Bad → List ℕ → Type 0
+ReadsCertificateFile (Ok cs) bytes = IsFile bytes cs.items
+ReadsCertificateFile (Err NotJson) bytes = (length bytes ≤ 16777216) × ((d : Data) → IsJson bytes d → ⊥)
+ReadsCertificateFile (Err Malformed) bytes = IsOther bytes
+ReadsCertificateFile (Err TooLong) bytes = 16777216 < length bytes
+ReadsCertificateFile (Err Memory) bytes = Unit {0}

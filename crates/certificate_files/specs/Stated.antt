@@ -11,12 +11,12 @@ abbrev pub ◌>>=◌ : {A B : Type 0} → Option A → (A → Option B) → Opti
 o >>= f = option_and_then f o
 
 -- a whole number below 2^64
-abbrev pub number_of : Data → Option ℕ
-number_of d = option_and_then as_u64 (as_number d)
+abbrev pub whole_number : Data → Option ℕ
+whole_number d = option_and_then as_u64 (as_number d)
 
 -- a state: an array of numbers
 unfoldable pub state_of : Data → Option (List ℕ)
-state_of d = option_and_then (each number_of) (as_array d)
+state_of d = option_and_then (each whole_number) (as_array d)
 
 -- the states at the member `states`
 unfoldable pub states_at : Data → Option (List (List ℕ))
@@ -28,7 +28,7 @@ first_form n = if n == 1 then Some 1 else None
 
 -- the form at the member `form`
 unfoldable pub form_at : Data → Option ℕ
-form_at d = option_and_then first_form (option_and_then number_of (get (codes "form") d))
+form_at d = option_and_then first_form (option_and_then whole_number (get (codes "form") d))
 
 -- the certificate that the members of these names state
 unfoldable pub members_at : Data → Option Certificate

@@ -4,8 +4,8 @@ ghost use Rattle.std.specs.Prelude.{◌≡◌};
 ghost use Rattle.serde_json.specs.View.{items_view, view};
 ghost use Rattle.json_file.specs.Members.{each};
 ghost use Rattle.json_file.specs.Outcomes.{Gives, GivesItems};
-ghost use Rattle.certificate_files.specs.Stated.{certificate_at, certificates_of, form_at, members_at, number_of, state_of, states_at};
-ghost use Rattle.certificate_files.specs.Reads.{GivesStates, Reads};
+ghost use Rattle.certificate_files.specs.Stated.{certificate_at, certificates_of, form_at, members_at, whole_number, state_of, states_at};
+ghost use Rattle.certificate_files.specs.Reads.{GivesStates, ReadsCertificateFile};
 
 use crate::bad::Bad;
 use certificate_check::Certificate;
@@ -15,7 +15,7 @@ use std::alloc::Global;
 
 /// The number that a value is.
 fn number(value: &Value) -> Result<u64, Fault>
-    ensures { Gives result (number_of (view value.now)) }
+    ensures { Gives result (whole_number (view value.now)) }
 {
     match value.as_u64() {
         Some(number) => Ok(number),
@@ -25,7 +25,7 @@ fn number(value: &Value) -> Result<u64, Fault>
 
 /// The numbers that these values are.
 fn numbers(alloc: Global, values: &[Value]) -> Result<Vec<u64>, Fault>
-    ensures { GivesItems result (each number_of (items_view values.now)) }
+    ensures { GivesItems result (each whole_number (items_view values.now)) }
 {
     let mut found = Vec::new(alloc);
     for value in values {
@@ -132,7 +132,7 @@ fn stated(alloc: Global, value: &Value) -> Result<Vec<Certificate>, Fault>
 /// A file has at most 16,777,216 bytes and is an array of objects, each with exactly the members `exchange`, `form`,
 /// `mode`, `pattern`, `queue` and `states`. The form is 1.
 pub fn read_certificates(alloc: Global, bytes: &[u8]) -> Result<Vec<Certificate>, Bad>
-    ensures { Reads result bytes.now }
+    ensures { ReadsCertificateFile result bytes.now }
 {
     let value = parse(alloc, bytes)?;
     let found = stated(alloc, &value)?;

@@ -11,7 +11,7 @@ use Rattle.model.specs.Prefetch.{is_to, is_delivery, is_below, count_to, count_g
 use Rattle.model.specs.Consuming as said
 use Rattle.channel.specs.Outstanding.{taker_of}
 use Rattle.channel.specs.Seats.{consumers_of, is_of, AreNumbered}
-use Rattle.channel.specs.Deliveries.{Given, may_of, may_take, consumer_at, taker_at}
+use Rattle.channel.specs.Deliveries.{Given, may_of, may_be_given, consumer_at, taker_at}
 use Rattle.channel.specs.Open.{Open, outstanding_in, consumer_in, open_in, IsTaker, HasNoTaker, TellsTaker}
 use Rattle.channel.specs.declared.pending.Outstanding.{Outstanding}
 use Rattle.channel.specs.declared.consumers.Consumer.{Consumer}
@@ -149,10 +149,10 @@ may_in names ch k =
 
 -- ---- the taker
 
-may_at : (g : Given) (number : ℕ) (k : Consumer) → consumer_at g number ≡ Some k → may_take g number ≡ (has_tag_left g.next_tag && may_of g.limit g.outstanding (Some k))
+may_at : (g : Given) (number : ℕ) (k : Consumer) → consumer_at g number ≡ Some k → may_be_given g number ≡ (has_tag_left g.next_tag && may_of g.limit g.outstanding (Some k))
 may_at g number k e = ap (λ (o : Option Consumer). has_tag_left g.next_tag && may_of g.limit g.outstanding o) e
 
-is_taker : (ch : Open) (number : ℕ) (k : Consumer) → AreNumbered ch.given.next_number ch.given.consumers → consumer_at ch.given number ≡ Some k → may_take ch.given number ≡ true → IsTaker ch number k
+is_taker : (ch : Open) (number : ℕ) (k : Consumer) → AreNumbered ch.given.next_number ch.given.consumers → consumer_at ch.given number ≡ Some k → may_be_given ch.given number ≡ true → IsTaker ch number k
 is_taker ch number k rise e may = let one = found ch.given.next_number number ch.given.consumers k rise e in record {
   numbered = one.numbered;
   seat = one.seat;
@@ -162,7 +162,7 @@ is_taker ch number k rise e may = let one = found ch.given.next_number number ch
   may = λ names. may_in names ch k ∙ sym (may_at ch.given number k e) ∙ may;
 }
 
-cannot : (ch : Open) (number : ℕ) → AreNumbered ch.given.next_number ch.given.consumers → may_take ch.given number ≡ false → HasNoTaker ch number
+cannot : (ch : Open) (number : ℕ) → AreNumbered ch.given.next_number ch.given.consumers → may_be_given ch.given number ≡ false → HasNoTaker ch number
 cannot ch number rise may names x i m = go (consumer_at ch.given number) refl (of_names names x ch.given.consumers i)
   where
     go : (r : Option Consumer) → consumer_at ch.given number ≡ r → IsOf names x ch.given.consumers → said.may_take (open_in names ch) x ≡ false
@@ -173,9 +173,9 @@ cannot ch number rise may names x i m = go (consumer_at ch.given number) refl (o
     go None e o = absurd (none_found number ch.given.consumers o.consumer e o.seat (ap (λ (y : seen.Consumer). y.number) (sym o.same) ∙ m))
 
 pub tells : (ch : Open) (number : ℕ) (r : Option Consumer) → AreNumbered ch.given.next_number ch.given.consumers → r ≡ taker_at ch.given number → TellsTaker ch number r
-tells ch number r rise is = go (may_take ch.given number) refl r is
+tells ch number r rise is = go (may_be_given ch.given number) refl r is
   where
-    go : (b : Bool) → may_take ch.given number ≡ b → (r : Option Consumer) → r ≡ (if b then consumer_at ch.given number else None) → TellsTaker ch number r
+    go : (b : Bool) → may_be_given ch.given number ≡ b → (r : Option Consumer) → r ≡ (if b then consumer_at ch.given number else None) → TellsTaker ch number r
     go true e (Some k) f = is_taker ch number k rise (sym f) e
     go true e None f = λ names x i m. let o = of_names names x ch.given.consumers i in
         absurd (none_found number ch.given.consumers o.consumer (sym f) o.seat (ap (λ (y : seen.Consumer). y.number) (sym o.same) ∙ m))

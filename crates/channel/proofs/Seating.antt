@@ -13,7 +13,7 @@ use Rattle.model.specs.declared.methods.Consume.{Consume}
 use Rattle.laws.specs.Consumers.{NextTagsAreFound}
 use Rattle.channel.specs.Seats.{is_named}
 use Rattle.channel.specs.Names.{server_name, IsNextName, AreNamesSpent}
-use Rattle.channel.specs.Deliveries.{Given, with_consumer, Refuses, Consumes, RefusesUnnamed, ConsumesUnnamed, IsMadeUnder}
+use Rattle.channel.specs.Deliveries.{Given, with_consumer_added, RefusesConsumer, AddsConsumer, RefusesUnnamed, ConsumesUnnamed, IsMadeUnder}
 use Rattle.channel.specs.Open.{Open, consumer_in, open_in, places_of, IsSeated, IsUnseated, Seats}
 use Rattle.channel.specs.declared.consumers.Consumer.{Consumer}
 use Rattle.channel.specs.declared.consumers.Refusal.{Refusal}
@@ -80,7 +80,7 @@ or_left n b h e = ap (λ (x : Bool). x || b) (below n greatest h) ∙ e
 
 -- ---- the channel with one consumer more
 
-made_of : (old : Open) (given : Given) (queue : ℕ) (m : Consume) (tag : Text) (name seats : ℕ) → given ≡ record (with_consumer old.given tag queue m.no_ack seats) { next_name = name }
+made_of : (old : Open) (given : Given) (queue : ℕ) (m : Consume) (tag : Text) (name seats : ℕ) → given ≡ record (with_consumer_added old.given tag queue m.no_ack seats) { next_name = name }
     → (names : List Text) → tag ≡ tag_for (open_in names old) m.consumer_tag → name ≡ name_after (open_in names old) m.consumer_tag
     → slice_index_or names queue [] ≡ m.queue → open_in names (record old { given = given }) ≡ said.with_consumer (open_in names old) m
 made_of old given queue m tag name seats e names tagged after there =
@@ -118,7 +118,7 @@ given_wanting ch [] h = absurd (h refl)
 given_wanting ch (b ∷ bs) h = refl
 
 pub named_seated : (old : Open) (given : Given) (queue : ℕ) (m : Consume) (number : ℕ) → (length m.consumer_tag ≡ 0 → ⊥)
-    → Consumes old.given m.consumer_tag queue m.no_ack (Ok number) given → IsSeated old queue m m.consumer_tag (record old { given = given })
+    → AddsConsumer old.given m.consumer_tag queue m.no_ack (Ok number) given → IsSeated old queue m m.consumer_tag (record old { given = given })
 named_seated old given queue m number h (free, (few, (left, (is, (made, seats))))) = record {
   free = λ names. decides (open_in names old) m false false false
       (given_taken (open_in names old) m.consumer_tag h ∙ any_tagged names m.consumer_tag old.given.consumers ∙ free)
@@ -130,7 +130,7 @@ named_seated old given queue m number h (free, (few, (left, (is, (made, seats)))
   places = ap (λ (g : Given). places_of g.consumers) made ∙ places_more old.given.consumers _;
 }
 
-pub named_refused : (old : Open) (m : Consume) (r : Refusal) → (length m.consumer_tag ≡ 0 → ⊥) → Refuses old.given m.consumer_tag r → IsUnseated old m r
+pub named_refused : (old : Open) (m : Consume) (r : Refusal) → (length m.consumer_tag ≡ 0 → ⊥) → RefusesConsumer old.given m.consumer_tag r → IsUnseated old m r
 named_refused old m InUse h used = λ names.
     decides (open_in names old) m true _ _ (given_taken (open_in names old) m.consumer_tag h ∙ any_tagged names m.consumer_tag old.given.consumers ∙ used) refl refl
 named_refused old m TooMany h (free, many) = λ names.
@@ -175,7 +175,7 @@ unnamed_made laws old given queue m tag n none few left is = record {
       (or_left old.given.next_number (is_tag_wanting (open_in names old) m.consumer_tag) left
       (no_tag_wanting (open_in names old) m.consumer_tag none ∙ ap (nat_le greatest) (next_is laws names old n is.next) ∙ lt-leb greatest n is.next.left));
   named = λ names. tagged names;
-  made = λ names there. made_of old given queue m tag (n + 1) given.seats (is.made ∙ ap (λ (t : Text). record (with_consumer old.given t queue m.no_ack given.seats) { next_name = n + 1 }) (sym is.named)) names (tagged names)
+  made = λ names there. made_of old given queue m tag (n + 1) given.seats (is.made ∙ ap (λ (t : Text). record (with_consumer_added old.given t queue m.no_ack given.seats) { next_name = n + 1 }) (sym is.named)) names (tagged names)
       (sym (no_tag_name (open_in names old) m.consumer_tag none ∙ ap (λ (k : ℕ). k + 1) (next_is laws names old n is.next))) there;
   outstanding = ap (λ (g : Given). g.outstanding) is.made;
   places = ap (λ (g : Given). places_of g.consumers) is.made ∙ places_more old.given.consumers _;
@@ -209,5 +209,5 @@ unnamed_seats laws old given queue m (Ok tag) h is = unnamed_seated laws old giv
 unnamed_seats laws old given queue m (Err r) h (why, same) = (unnamed_refused laws old m r h why, ap (λ (g : Given). record old { given = g }) same)
 
 pub named_unseated : (old : Open) (given : Given) (m : Consume) (tag : Text) (r : Refusal) → (length m.consumer_tag ≡ 0 → ⊥) → tag ≡ m.consumer_tag
-    → Refuses old.given tag r → given ≡ old.given → IsUnseated old m r × (record old { given = given } ≡ old)
-named_unseated old given m tag r h e why same = (named_refused old m r h (subst (λ (t : Text). Refuses old.given t r) e why), ap (λ (g : Given). record old { given = g }) same)
+    → RefusesConsumer old.given tag r → given ≡ old.given → IsUnseated old m r × (record old { given = given } ≡ old)
+named_unseated old given m tag r h e why same = (named_refused old m r h (subst (λ (t : Text). RefusesConsumer old.given t r) e why), ap (λ (g : Given). record old { given = g }) same)

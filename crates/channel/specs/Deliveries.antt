@@ -43,8 +43,8 @@ may_of limit outstanding None = false
 may_of limit outstanding (Some c) = may_hold taker_of limit c.no_ack c.limit c.number outstanding
 
 -- a tag is left, and the consumer of this number is the channel's and may be given one message more
-abbrev pub may_take : Given → ℕ → Bool
-may_take g number = has_tag_left g.next_tag && may_of g.limit g.outstanding (find (λ (c : Consumer). c.number == number) g.consumers)
+abbrev pub may_be_given : Given → ℕ → Bool
+may_be_given g number = has_tag_left g.next_tag && may_of g.limit g.outstanding (find (λ (c : Consumer). c.number == number) g.consumers)
 
 -- the consumer of this number
 abbrev pub consumer_at : Given → ℕ → Option Consumer
@@ -52,23 +52,23 @@ consumer_at g number = find (λ (c : Consumer). c.number == number) g.consumers
 
 -- the consumer of this number, where it may be given one message more
 abbrev pub taker_at : Given → ℕ → Option Consumer
-taker_at g number = if may_take g number then consumer_at g number else None
+taker_at g number = if may_be_given g number then consumer_at g number else None
 
 -- one consumer more, under the next number and the limit set for each (AMQP 0-9-1, basic.consume)
-abbrev pub with_consumer : Given → Text → ℕ → Bool → ℕ → Given
-with_consumer g name queue no_ack seats = record g { seats = seats; next_number = g.next_number + 1; consumers = g.consumers ++ record { number = g.next_number; tag = name; queue = queue; no_ack = no_ack; limit = g.each_limit } ∷ [] }
+abbrev pub with_consumer_added : Given → Text → ℕ → Bool → ℕ → Given
+with_consumer_added g name queue no_ack seats = record g { seats = seats; next_number = g.next_number + 1; consumers = g.consumers ++ record { number = g.next_number; tag = name; queue = queue; no_ack = no_ack; limit = g.each_limit } ∷ [] }
 
 -- why a consumer was refused, in this order: its tag is in use on the channel; there are 256 (own); the numbers are spent; memory was wanting, where there was no room for one more
-abbrev pub Refuses : Given → Text → Refusal → Type 0
-Refuses g name InUse = list_any (is_named name) g.consumers ≡ true
-Refuses g name TooMany = (list_any (is_named name) g.consumers ≡ false) × (256 ≤ length g.consumers)
-Refuses g name Spent = (list_any (is_named name) g.consumers ≡ false) × ((length g.consumers < 256) × (g.next_number ≡ greatest))
-Refuses g name Memory = (list_any (is_named name) g.consumers ≡ false) × ((length g.consumers < 256) × ((g.next_number < greatest) × (g.seats ≡ 0)))
+abbrev pub RefusesConsumer : Given → Text → Refusal → Type 0
+RefusesConsumer g name InUse = list_any (is_named name) g.consumers ≡ true
+RefusesConsumer g name TooMany = (list_any (is_named name) g.consumers ≡ false) × (256 ≤ length g.consumers)
+RefusesConsumer g name Spent = (list_any (is_named name) g.consumers ≡ false) × ((length g.consumers < 256) × (g.next_number ≡ greatest))
+RefusesConsumer g name Memory = (list_any (is_named name) g.consumers ≡ false) × ((length g.consumers < 256) × ((g.next_number < greatest) × (g.seats ≡ 0)))
 
 -- A consumer was made, or refused: then nothing changed.
-abbrev pub Consumes : Given → Text → ℕ → Bool → Result ℕ Refusal → Given → Type 0
-Consumes old name queue no_ack (Ok number) new = (list_any (is_named name) old.consumers ≡ false) × ((length old.consumers < 256) × ((old.next_number < greatest) × ((number ≡ old.next_number) × ((new ≡ with_consumer old name queue no_ack new.seats) × (old.seats ≤ new.seats + 1)))))
-Consumes old name queue no_ack (Err refusal) new = Refuses old name refusal × (new ≡ old)
+abbrev pub AddsConsumer : Given → Text → ℕ → Bool → Result ℕ Refusal → Given → Type 0
+AddsConsumer old name queue no_ack (Ok number) new = (list_any (is_named name) old.consumers ≡ false) × ((length old.consumers < 256) × ((old.next_number < greatest) × ((number ≡ old.next_number) × ((new ≡ with_consumer_added old name queue no_ack new.seats) × (old.seats ≤ new.seats + 1)))))
+AddsConsumer old name queue no_ack (Err refusal) new = RefusesConsumer old name refusal × (new ≡ old)
 
 -- why a consumer without a tag of its own was refused, in this order: there are 256; the numbers or the names are spent; memory was wanting
 abbrev pub RefusesUnnamed : Given → Refusal → Type 0
@@ -81,7 +81,7 @@ RefusesUnnamed g Memory = (length g.consumers < 256) × (g.next_number < greates
 pub record IsMadeUnder (old : Given) (queue : ℕ) (no_ack : Bool) (tag : Text) (new : Given) (n : ℕ) : Type 0 where
   pub next : IsNextName old.consumers old.next_name n
   pub named : tag ≡ server_name n
-  pub made : new ≡ record (with_consumer old (server_name n) queue no_ack new.seats) { next_name = n + 1 }
+  pub made : new ≡ record (with_consumer_added old (server_name n) queue no_ack new.seats) { next_name = n + 1 }
 
 -- A consumer was made under the next name that is not in use, which is told, or refused: then nothing changed.
 abbrev pub ConsumesUnnamed : Given → ℕ → Bool → Result Text Refusal → Given → Type 0

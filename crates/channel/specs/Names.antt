@@ -26,7 +26,7 @@ pub record AreNamesSpent (consumers : List Consumer) (from : ℕ) : Type 0 where
   pub used : (k : ℕ) → from ≤ k → k < greatest → list_any (is_named (server_name k)) consumers ≡ true
 
 -- The next name was made, or none is left, or memory was wanting.
-abbrev pub Finds : List Consumer → ℕ → Result (Option Name) AllocError → Type 0
-Finds consumers from (Ok (Some name)) = IsNextName consumers from name.number × (name.tag ≡ server_name name.number)
-Finds consumers from (Ok None) = AreNamesSpent consumers from
-Finds consumers from (Err e) = Unit {0}
+abbrev pub FindsName : List Consumer → ℕ → Result (Option Name) AllocError → Type 0
+FindsName consumers from (Ok (Some name)) = IsNextName consumers from name.number × (name.tag ≡ server_name name.number)
+FindsName consumers from (Ok None) = AreNamesSpent consumers from
+FindsName consumers from (Err e) = Unit {0}

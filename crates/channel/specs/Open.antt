@@ -30,8 +30,8 @@ abbrev pub nothing_given : ℕ → ℕ → Given
 nothing_given room seats = record { next_tag = 1; next_number = 1; next_name = 1; each_limit = 0; limit = 0; consumers = []; outstanding = []; room = room; seats = seats }
 
 -- the channel with the limit that a qos sets (AMQP 0-9-1, basic.qos)
-abbrev pub limited : Open → Qos → Open
-limited ch m = record ch { given = with_limit ch.given m.prefetch_count m.global }
+abbrev pub with_qos : Open → Qos → Open
+with_qos ch m = record ch { given = with_limit ch.given m.prefetch_count m.global }
 
 -- the channel on which a message of the queue at this place was given out under the next tag, and waits to be settled (AMQP 0-9-1, basic.get-ok)
 abbrev pub given_on : Open → ℕ → ℕ → Taker → Open

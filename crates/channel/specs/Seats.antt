@@ -55,7 +55,7 @@ may_held limit given None = false
 may_held limit given (Some s) = s.consumer.no_ack || (is_below s.consumer.limit s.held && is_below limit given)
 
 -- The counts are those of what is outstanding.
-pub record AreCounted (s : Seated) (outstanding : List Outstanding) : Type 0 where
+pub record SeatsAreCounted (s : Seated) (outstanding : List Outstanding) : Type 0 where
   pub each : s.held ≡ map (λ (c : Consumer). count_to taker_of c.number outstanding) s.consumers
   pub all : s.given ≡ count_given taker_of outstanding
 

@@ -8,7 +8,7 @@ ghost use Rattle.model.specs.Step.{started, next_of, is_spent};
 ghost use Rattle.model.specs.Prefetch.{has_tag_left};
 ghost use Rattle.channel.specs.Outstanding.{tag_of};
 ghost use Rattle.channel.specs.Deliveries.{consumer_at};
-ghost use Rattle.channel.specs.Open.{nothing_given, limited, given_on, settled_on, without_settled, without_named, consumers_from, open_in, Seats, TellsTaker};
+ghost use Rattle.channel.specs.Open.{nothing_given, with_qos, given_on, settled_on, without_settled, without_named, consumers_from, open_in, Seats, TellsTaker};
 
 use crate::consumers::{Consumer, Refusal};
 use crate::deliveries::Deliveries;
@@ -105,7 +105,7 @@ impl Channel {
     /// Sets the limit that a qos sets: of all its consumers together, or of each that is made later. Source: AMQP 0-9-1,
     /// basic.qos; RabbitMQ, "Consumer Prefetch".
     pub fn limit(&mut self, qos: &Qos)
-        ensures { self.new ≡ limited self.old qos.now }
+        ensures { self.new ≡ with_qos self.old qos.now }
     {
         self.deliveries.limit(qos.prefetch_count, qos.global);
     }

@@ -22,14 +22,14 @@ pub struct Deliveries {
 
 impl Model for Deliveries {
     ghost use Rattle.channel.specs.Outstanding.{AreBefore};
-    ghost use Rattle.channel.specs.Seats.{AreCounted, AreNumbered};
+    ghost use Rattle.channel.specs.Seats.{SeatsAreCounted, AreNumbered};
     ghost use Rattle.channel.specs.Deliveries.{Given};
 
     ghost Value = { Given };
 
     ghost view = { λ d. record { next_tag = d.next_tag; next_number = d.next_number; next_name = d.next_name; each_limit = d.each_limit; limit = d.limit; consumers = d.seats.consumers; outstanding = d.pending.outstanding; room = d.pending.room; seats = d.seats.room } };
 
-    ghost invariant = { λ d. AreBefore d.next_tag d.pending.outstanding × AreCounted d.seats d.pending.outstanding × AreNumbered d.next_number d.seats.consumers };
+    ghost invariant = { λ d. AreBefore d.next_tag d.pending.outstanding × SeatsAreCounted d.seats d.pending.outstanding × AreNumbered d.next_number d.seats.consumers };
 }
 
 impl Deliveries {
@@ -38,7 +38,7 @@ impl Deliveries {
     ghost use Rattle.model.specs.Prefetch.{has_tag_left};
     ghost use Rattle.channel.specs.Outstanding.{tag_of};
     ghost use Rattle.channel.specs.Seats.{AreNumbered, consumers_of, is_named, takes_from};
-    ghost use Rattle.channel.specs.Deliveries.{with_given, with_limit, may_take, consumer_at, taker_at, Consumes, ConsumesUnnamed};
+    ghost use Rattle.channel.specs.Deliveries.{with_given, with_limit, may_be_given, consumer_at, taker_at, AddsConsumer, ConsumesUnnamed};
 
     /// Nothing was given out, there is no consumer and no limit. It takes no memory.
     pub fn new(alloc: Global) -> Deliveries
@@ -155,7 +155,7 @@ impl Deliveries {
     /// Whether the consumer of this number is the channel's, and may be given a message now: a tag is left, and neither its
     /// limit nor the channel's is reached.
     pub fn may_take(&self, number: u64) -> bool
-        ensures { result ≡ may_take self.now number }
+        ensures { result ≡ may_be_given self.now number }
     {
         self.has_tag_left() && self.seats.may_take(number, self.limit)
     }
@@ -190,7 +190,7 @@ impl Deliveries {
     /// (530), where the channel has 256 consumers (506), where the numbers are spent (541), and for want of memory, only where
     /// there was no room for one more. Then nothing changes.
     pub fn consume(&mut self, tag: Text, queue: usize, no_ack: bool) -> Result<u64, Refusal>
-        ensures { Consumes self.old tag queue no_ack result self.new }
+        ensures { AddsConsumer self.old tag queue no_ack result self.new }
     {
         if self.seats.has(tag.as_bytes()) {
             return Err(Refusal::InUse);

@@ -1,7 +1,7 @@
 //! Consumer tags that the server makes.
 
 ghost use Rattle.std.specs.Prelude.{◌≡◌, IfOk};
-ghost use Rattle.channel.specs.Names.{server_name, Finds};
+ghost use Rattle.channel.specs.Names.{server_name, FindsName};
 
 use crate::seats::Seats;
 use model::Text;
@@ -24,7 +24,7 @@ fn name_of(alloc: Global, number: u64) -> Result<Text, AllocError>
 
 /// The first name from this number on that no consumer has; none where they have all of them.
 pub(crate) fn next_name(alloc: Global, seats: &Seats, from: u64) -> Result<Option<Name>, AllocError>
-    ensures { Finds seats.now.consumers from result }
+    ensures { FindsName seats.now.consumers from result }
 {
     for number in from..u64::MAX {
         let tag = name_of(alloc, number)?;

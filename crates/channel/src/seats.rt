@@ -33,7 +33,7 @@ impl Seats {
     ghost use Rattle.std.specs.List.{list_any, All};
     ghost use Rattle.model.specs.Prefetch.{count_to};
     ghost use Rattle.channel.specs.Outstanding.{taker_of};
-    ghost use Rattle.channel.specs.Seats.{AreCounted, AreParts, consumers_of, is_named, takes_from};
+    ghost use Rattle.channel.specs.Seats.{SeatsAreCounted, AreParts, consumers_of, is_named, takes_from};
     ghost use Rattle.channel.specs.Deliveries.{may_of};
     ghost use Rattle.channel.specs.declared.consumers.Consumer.{Consumer as One};
     ghost use Rattle.channel.specs.declared.pending.Outstanding.{Outstanding as Given};
@@ -41,7 +41,7 @@ impl Seats {
     /// No consumer, and nothing counted. It takes no memory.
     pub(crate) fn new(alloc: Global) -> Seats
         ensures consumers { result.consumers ≡ [] }
-        ensures counted { AreCounted result [] }
+        ensures counted { SeatsAreCounted result [] }
     {
         Seats {
             seats: Vec::new(alloc),
@@ -86,7 +86,7 @@ impl Seats {
 
     /// Whether the consumer of this number is there and may be given one message more, under this limit of all.
     pub(crate) fn may_take(&self, number: u64, limit: u16) -> bool
-        ensures { (given : List Given) → AreCounted self.now given → result ≡ may_of limit given (find (λ (c : One). c.number == number) self.now.consumers) }
+        ensures { (given : List Given) → SeatsAreCounted self.now given → result ≡ may_of limit given (find (λ (c : One). c.number == number) self.now.consumers) }
     {
         may_one(&self.seats, number, limit, self.given)
     }
@@ -107,7 +107,7 @@ impl Seats {
         requires { 0 < self.old.room }
         ensures consumers { self.new.consumers ≡ self.old.consumers ++ consumer ∷ [] }
         ensures room { self.new.room + 1 ≡ self.old.room }
-        ensures counted { (given : List Given) → AreCounted self.old given → held ≡ count_to taker_of consumer.number given → AreCounted self.new given }
+        ensures counted { (given : List Given) → SeatsAreCounted self.old given → held ≡ count_to taker_of consumer.number given → SeatsAreCounted self.new given }
     {
         self.seats.push_reserved(Seat { consumer, held });
     }
@@ -116,7 +116,7 @@ impl Seats {
     pub(crate) fn take_out(&mut self, tag: &[u8])
         ensures consumers { self.new.consumers ≡ filter (λ c. not (is_named tag.now c)) self.old.consumers }
         ensures room { self.old.room ≤ self.new.room }
-        ensures counted { (given : List Given) → AreCounted self.old given → AreCounted self.new given }
+        ensures counted { (given : List Given) → SeatsAreCounted self.old given → SeatsAreCounted self.new given }
     {
         take_out(&mut self.seats, tag);
     }
@@ -127,7 +127,7 @@ impl Seats {
         requires all { self.old.given < 2 ^ 64 - 1 }
         ensures consumers { self.new.consumers ≡ self.old.consumers }
         ensures room { self.new.room ≡ self.old.room }
-        ensures counted { (given : List Given) (o : Given) → o.by ≡ by.now → AreCounted self.old given → AreCounted self.new (given ++ o ∷ []) }
+        ensures counted { (given : List Given) (o : Given) → o.by ≡ by.now → SeatsAreCounted self.old given → SeatsAreCounted self.new (given ++ o ∷ []) }
     {
         count_in(&mut self.seats, by);
         self.given += one_if_consumed(by);
@@ -137,7 +137,7 @@ impl Seats {
     pub(crate) fn count_out(&mut self, gone: &[Outstanding])
         ensures consumers { self.new.consumers ≡ self.old.consumers }
         ensures room { self.new.room ≡ self.old.room }
-        ensures counted { (given left : List Given) → AreParts given gone.now left → AreCounted self.old given → AreCounted self.new left }
+        ensures counted { (given left : List Given) → AreParts given gone.now left → SeatsAreCounted self.old given → SeatsAreCounted self.new left }
     {
         count_out(&mut self.seats, gone);
         self.given = self.given.saturating_sub(given_to_all(gone));

@@ -11,8 +11,8 @@ use Rattle.definitions.specs.Numbers.{number}
 use Rattle.definitions.specs.Faults.{bad_of}
 use Rattle.definitions.specs.File.{File, file_at}
 use Rattle.definitions.specs.Causes.{IsClear, IsLeast, IsTold}
-use Rattle.definitions.specs.Judged.{IsUnread, Settles}
-use Rattle.definitions.specs.Reads.{IsFile, IsFirst, IsFree, IsRefused, Reads, Stated}
+use Rattle.definitions.specs.Judged.{IsUnread, StatesOrTells}
+use Rattle.definitions.specs.Reads.{IsFile, IsFirst, IsFree, IsRefused, ReadsDefinitions, Stated}
 
 -- a file is one value, and states one list of each kind
 one_value : (bytes : List ℕ) (d e : Data) → IsJson bytes d → IsJson bytes e → d ≡ e
@@ -126,7 +126,7 @@ few OtherPermission = omega arith
 few OtherHash = omega arith
 few Memory = omega arith
 
-pub read_whole : (bytes : List ℕ) (f : File) (r : Result Stated Bad) → IsFile bytes f → Settles r f → Reads r bytes
+pub read_whole : (bytes : List ℕ) (f : File) (r : Result Stated Bad) → IsFile bytes f → StatesOrTells r f → ReadsDefinitions r bytes
 read_whole bytes f (Ok s) w h = record {
   free = λ bad. free_of bytes f bad w (h.clear bad (few bad));
   file = f;

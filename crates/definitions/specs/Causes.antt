@@ -96,12 +96,12 @@ HasOverflows f = All SaysOverflow f.queues
 -- ---- 9: names and keys
 
 -- a name has at most 255 bytes
-abbrev pub IsShort : Text → Type 0
-IsShort name = length name ≤ 255
+abbrev pub IsShortName : Text → Type 0
+IsShortName name = length name ≤ 255
 
 -- every name and key has its form
 pub record HasAllWorded (f : File) : Type 0 where
-  pub users : All (λ (u : UserEntry). IsShort u.name) f.users
+  pub users : All (λ (u : UserEntry). IsShortName u.name) f.users
   pub topology : AllWorded (topology_of f)
 
 -- ---- 10: limits of a file

@@ -26,9 +26,9 @@ IsUnread OtherHash bytes = ⊥
 IsUnread Memory bytes = Unit {0}
 
 -- what the bytes of a file give: its entries, or the cause for which it is refused before there are any
-abbrev pub Opens : Result Document Bad → List ℕ → Type 0
-Opens (Ok d) bytes = IsFile bytes (file_of d)
-Opens (Err bad) bytes = IsUnread bad bytes
+abbrev pub OpensDefinitions : Result Document Bad → List ℕ → Type 0
+OpensDefinitions (Ok d) bytes = IsFile bytes (file_of d)
+OpensDefinitions (Err bad) bytes = IsUnread bad bytes
 
 -- no cause below 13 stands in the entries, or the least is told
 abbrev pub Judges : Result ⊤ Bad → File → Type 0
@@ -42,6 +42,6 @@ pub record IsSettled (s : Stated) (f : File) : Type 0 where
   pub users : s.users ≡ users_of f
 
 -- .. or the least cause is told
-abbrev pub Settles : Result Stated Bad → File → Type 0
-Settles (Ok s) f = IsSettled s f
-Settles (Err bad) f = IsTold bad f
+abbrev pub StatesOrTells : Result Stated Bad → File → Type 0
+StatesOrTells (Ok s) f = IsSettled s f
+StatesOrTells (Err bad) f = IsTold bad f

@@ -87,6 +87,6 @@ pub record IsAccepted (s : Stated) (bytes : List ℕ) : Type 0 where
   pub users : s.users ≡ users_of file
 
 -- A file is read exactly where no cause stands in it, and is given as what it states; else it is refused by its first cause.
-abbrev pub Reads : Result Stated Bad → List ℕ → Type 0
-Reads (Ok s) bytes = IsAccepted s bytes
-Reads (Err bad) bytes = IsRefused bad bytes
+abbrev pub ReadsDefinitions : Result Stated Bad → List ℕ → Type 0
+ReadsDefinitions (Ok s) bytes = IsAccepted s bytes
+ReadsDefinitions (Err bad) bytes = IsRefused bad bytes

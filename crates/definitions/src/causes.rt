@@ -17,7 +17,7 @@ ghost use Rattle.definitions.specs.Causes.{
   IsPlainBinding,
   IsPlainExchange,
   IsPlainQueue,
-  IsShort,
+  IsShortName,
   IsSupported,
   IsWhole,
   SaysOverflow,
@@ -205,7 +205,7 @@ pub fn has_overflows(document: &Document) -> bool
 
 /// Whether a name has at most 255 bytes.
 fn is_short(name: &Text) -> bool
-    ensures { Decides result (IsShort name.now) }
+    ensures { Decides result (IsShortName name.now) }
 {
     name.len() <= 255
 }

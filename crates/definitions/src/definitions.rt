@@ -2,8 +2,8 @@
 
 ghost use Rattle.std.specs.Prelude.{◌≡◌};
 ghost use Rattle.definitions.specs.File.{file_of};
-ghost use Rattle.definitions.specs.Judged.{Opens, Settles};
-ghost use Rattle.definitions.specs.Reads.{Reads};
+ghost use Rattle.definitions.specs.Judged.{OpensDefinitions, StatesOrTells};
+ghost use Rattle.definitions.specs.Reads.{ReadsDefinitions};
 
 use crate::bad::Bad;
 use crate::document::Document;
@@ -67,7 +67,7 @@ impl Definitions {
 
 /// The entries of a file, or why it has none.
 fn open(alloc: Global, bytes: &[u8]) -> Result<Document, Bad>
-    ensures { Opens result bytes.now }
+    ensures { OpensDefinitions result bytes.now }
 {
     let value = parse(alloc, bytes)?;
     let document = document(alloc, &value)?;
@@ -76,7 +76,7 @@ fn open(alloc: Global, bytes: &[u8]) -> Result<Document, Bad>
 
 /// What the entries of a file set up, or the least cause that stands in them.
 fn settle(alloc: Global, document: &Document) -> Result<Definitions, Bad>
-    ensures { Settles result (file_of document.now) }
+    ensures { StatesOrTells result (file_of document.now) }
 {
     let parts = Parts::of(alloc, document)?;
     judge(alloc, document, &parts)?;
@@ -92,7 +92,7 @@ fn settle(alloc: Global, document: &Document) -> Result<Definitions, Bad>
 /// A file has at most 16,777,216 bytes. Source: RabbitMQ, "Definition Export and Import"; `docs/FORMATS.md` lists the
 /// members, the causes and the limits.
 pub fn read_definitions(alloc: Global, bytes: &[u8]) -> Result<Definitions, Bad>
-    ensures { Reads result bytes.now }
+    ensures { ReadsDefinitions result bytes.now }
 {
     let document = open(alloc, bytes)?;
     settle(alloc, &document)

@@ -7,7 +7,7 @@ use Rattle.model.specs.Topology.{Topology, queue_names, IsIn, AreApart}
 use Rattle.model.specs.Broker.{listed}
 use Rattle.model.specs.declared.messages.Entry.{Entry}
 use Rattle.exchange_graph.specs.Marks.{queue_name}
-use Rattle.depot.specs.Store.{Store, queue_of, queue_at, with_queue, IsWhole}
+use Rattle.depot.specs.Store.{Store, queue_of, queue_at, with_entries_at, IsWhole}
 use Rattle.depot.proofs.Naming.{names-length, is_in, other_name, listed_at}
 
 listed-put : (names : List Text) (lists : List (List Entry)) (i : ℕ) (x : List Entry) (q : Text) → AreApart names → length names ≡ length lists → i < length names
@@ -32,7 +32,7 @@ listed-put (n ∷ ns) (es ∷ ess) (suc i) x q apart len lt = go (bytes_eq n q) 
 
 -- one queue is changed, and every other is as it was
 pub queue_of-changed : (s : Store) (place : ℕ) (entries : List Entry) (q : Text) → IsWhole s → place < length s.topology.queues
-    → queue_of (with_queue s place entries) q ≡ (if bytes_eq (queue_name s.topology place) q then entries else queue_of s q)
+    → queue_of (with_entries_at s place entries) q ≡ (if bytes_eq (queue_name s.topology place) q then entries else queue_of s q)
 queue_of-changed s place entries q whole lt =
     let len = whole.len in
     let long = names-length s.topology.queues in

@@ -27,7 +27,7 @@ use Rattle.depot.specs.declared.turns.Turn.{Turn}
 use Rattle.depot.specs.declared.depots.Routed.{Routed}
 use Rattle.depot.specs.Store.{Store}
 use Rattle.depot.specs.Publishing.{Publishing}
-use Rattle.depot.specs.Turns.{Outcome, outcome_of, outcome, outcomes, turn_at, limits, is_full_at, places, notes_of, is_refusal, no_turns, arriving, entered_one, entered, IsPlan, Enters}
+use Rattle.depot.specs.Turns.{Outcome, outcome_of, outcome, outcomes, turn_at, limits, is_full_at, places, notes_of_outcomes, is_refusal, no_turns, arriving, entered_one, entered, IsPlan, Enters}
 
 -- ---- names
 
@@ -237,7 +237,7 @@ arrive t how lists m q (i ∷ is) apart len within =
     ∙ ap (λ (f : Bool). cond (bytes_eq name q && not f) (record { message = m; mark = Ready } ∷ later) later) (sym (full_at t lists i (length m.content.body) apart len (within 0 0 (omega arith))))
 
 note : (t : Topology) (how : Way) (lists : List (List Entry)) (m : Message) (size : ℕ) (targets : List ℕ) → AreApart (queue_names t.queues) → length lists ≡ length t.queues → All (λ (i : ℕ). i < length t.queues) targets
-    → notes_of (map (outcome_at how t.queues lists m) targets) ≡ entry_notes t (listed (queue_names t.queues) lists) size m.number how (names_at (queue_names t.queues) targets)
+    → notes_of_outcomes (map (outcome_at how t.queues lists m) targets) ≡ entry_notes t (listed (queue_names t.queues) lists) size m.number how (names_at (queue_names t.queues) targets)
 note t how lists m size [] apart len within = refl
 note t how lists m size (i ∷ is) apart len within =
     let names = queue_names t.queues in
@@ -268,8 +268,8 @@ nothing qs m (i ∷ is) = refl
 -- what is noted of a message that comes to its queues
 pub noted_by_names : (t : Topology) (how : Way) (lists : List (List Entry)) (exchange key : Text) (m : Message) (turns : List Turn) (plan : IsPlan t exchange key m turns) (size : ℕ)
     → AreApart (queue_names t.queues) → length lists ≡ length t.queues
-    → notes_of (outcomes how t.queues turns lists) ≡ entry_notes t (listed (queue_names t.queues) lists) size m.number how (names_at (queue_names t.queues) plan.targets)
-noted_by_names t how lists exchange key m turns plan size apart len = ap notes_of (turned t how lists exchange key m turns plan) ∙ note t how lists m size plan.targets apart len plan.routed.within
+    → notes_of_outcomes (outcomes how t.queues turns lists) ≡ entry_notes t (listed (queue_names t.queues) lists) size m.number how (names_at (queue_names t.queues) plan.targets)
+noted_by_names t how lists exchange key m turns plan size apart len = ap notes_of_outcomes (turned t how lists exchange key m turns plan) ∙ note t how lists m size plan.targets apart len plan.routed.within
 
 -- and what each queue has then
 pub entered_by_names : (t : Topology) (how : Way) (lists : List (List Entry)) (exchange key : Text) (m : Message) (turns : List Turn) (plan : IsPlan t exchange key m turns) (q : Text)
@@ -302,7 +302,7 @@ published old new c h p content confirm before after routed formed len counted s
     let within = e.plan.routed.within in
     let first = Published (old.published + 1) c h p.exchange p.routing_key confirm in
     record {
-      noted = first ∷ notes_of (outcomes way.Publish t.queues e.turns lists);
+      noted = first ∷ notes_of_outcomes (outcomes way.Publish t.queues e.turns lists);
       appended = e.notes;
       publishes = record {
         targets = names_at names targets;

@@ -14,7 +14,7 @@ use Rattle.depot.specs.declared.plans.Death.{Death}
 use Rattle.depot.specs.declared.turns.Turn.{Turn}
 use Rattle.depot.specs.Turns.{places, room_at, times, HasRoom}
 use Rattle.depot.specs.Rejecting.{AreWithin}
-use Rattle.depot.specs.Dying.{MayHaveLetters, LettersAt, IsDeathOf, Plans, given_at, ArePlanned, IsSound, times_in}
+use Rattle.depot.specs.Dying.{MayHaveLetters, LettersAt, IsDeathOf, Plans, given_at, ArePlanned, IsSoundDeath, times_in}
 use Rattle.depot.proofs.Turning.{times_rising, times_or}
 use Rattle.depot.proofs.Naming.{turned_within, turned_rising}
 
@@ -32,7 +32,7 @@ all_behind : (P : Death → Type 0) (d : Death) (ds : List Death) → P d → Al
 all_behind P d ds first others zero e lt = first
 all_behind P d ds first others (suc i) e lt = others i e (omega arith)
 
-sound_letters : (t : Topology) (q : DeclaredQueue) (m : Message) (d : Death) (n : ℕ) (x : Option Text) → d.place < n → n ≡ length t.queues → MayHaveLetters t q m d.turns.items x → IsSound n d
+sound_letters : (t : Topology) (q : DeclaredQueue) (m : Message) (d : Death) (n : ℕ) (x : Option Text) → d.place < n → n ≡ length t.queues → MayHaveLetters t q m d.turns.items x → IsSoundDeath n d
 sound_letters t q m d n None lt same none = record {
   place = lt;
   within = subst (λ (ts : List Turn). All (λ (i : ℕ). i < n) (places ts)) (sym none) (λ i e l. absurd (omega arith));
@@ -52,20 +52,20 @@ queue_there [] i lt = absurd (omega arith)
 queue_there (q ∷ qs) zero lt = (q, refl)
 queue_there (q ∷ qs) (suc i) lt = queue_there qs i (omega arith)
 
-pub sound_death : (t : Topology) (c h : ℕ) (g : Given) (e : Entry) (d : Death) (n : ℕ) → n ≡ length t.queues → g.place < n → IsDeathOf t c h g e d → IsSound n d
+pub sound_death : (t : Topology) (c h : ℕ) (g : Given) (e : Entry) (d : Death) (n : ℕ) → n ≡ length t.queues → g.place < n → IsDeathOf t c h g e d → IsSoundDeath n d
 sound_death t c h g e d n same lt is =
     let q = queue_there t.queues g.place (omega (arith, same, lt)) in
     let at = is.place in
     sound_letters t q.0 e.message d n q.0.dead_letter_exchange (omega (arith, at, lt)) same (is.letters q.0 q.1)
 
-sound_first : (t : Topology) (c h : ℕ) (g : Given) (o : Option Entry) (first rest all : List Death) (n : ℕ) → n ≡ length t.queues → g.place < n → Plans t c h g o first → all ≡ first ++ rest → All (IsSound n) rest → All (IsSound n) all
-sound_first t c h g None first rest all n same lt none e others = subst (All (IsSound n)) (sym (e ∙ ap (λ (xs : List Death). xs ++ rest) none)) others
+sound_first : (t : Topology) (c h : ℕ) (g : Given) (o : Option Entry) (first rest all : List Death) (n : ℕ) → n ≡ length t.queues → g.place < n → Plans t c h g o first → all ≡ first ++ rest → All (IsSoundDeath n) rest → All (IsSoundDeath n) all
+sound_first t c h g None first rest all n same lt none e others = subst (All (IsSoundDeath n)) (sym (e ∙ ap (λ (xs : List Death). xs ++ rest) none)) others
 sound_first t c h g (Some x) first rest all n same lt one e others =
     let d = one.0 in
-    subst (All (IsSound n)) (sym (e ∙ ap (λ (xs : List Death). xs ++ rest) one.1)) (all_behind (IsSound n) d rest (sound_death t c h g x d n same lt one.2) others)
+    subst (All (IsSoundDeath n)) (sym (e ∙ ap (λ (xs : List Death). xs ++ rest) one.1)) (all_behind (IsSoundDeath n) d rest (sound_death t c h g x d n same lt one.2) others)
 
-pub sound_all : (t : Topology) (c h : ℕ) (entries : List (List Entry)) (gs : List Given) (ds : List Death) (n : ℕ) → n ≡ length t.queues → AreWithin t gs → ArePlanned t c h entries gs ds → All (IsSound n) ds
-sound_all t c h entries [] ds n same within are = subst (All (IsSound n)) (sym are) (λ i d lt. absurd (omega arith))
+pub sound_all : (t : Topology) (c h : ℕ) (entries : List (List Entry)) (gs : List Given) (ds : List Death) (n : ℕ) → n ≡ length t.queues → AreWithin t gs → ArePlanned t c h entries gs ds → All (IsSoundDeath n) ds
+sound_all t c h entries [] ds n same within are = subst (All (IsSoundDeath n)) (sym are) (λ i d lt. absurd (omega arith))
 sound_all t c h entries (g ∷ gs) ds n same within are =
     let lt : g.place < length t.queues = within 0 g (omega arith) in
     sound_first t c h g (given_at c h entries g) are.0 are.1 ds n same (omega (arith, lt, same)) are.2 are.3
@@ -73,12 +73,12 @@ sound_all t c h entries (g ∷ gs) ds n same within are =
 
 -- ---- room
 
-rooms_or : (lines : List Line) (n m : ℕ) (ds : List Death) (k : ℕ) → ((j : ℕ) (d : Death) → j < length ds → HasRoom lines (places (get_or ds j d).turns.items) n) → All (IsSound m) ds
+rooms_or : (lines : List Line) (n m : ℕ) (ds : List Death) (k : ℕ) → ((j : ℕ) (d : Death) → j < length ds → HasRoom lines (places (get_or ds j d).turns.items) n) → All (IsSoundDeath m) ds
     → (times_in k ds ≤ length ds) × ((times_in k ds ≡ 0) ⊎ (n ≤ room_at lines k))
 rooms_or lines n m [] k room sound = (omega arith, inl refl)
 rooms_or lines n m (d ∷ ds) k room sound =
     let rest = rooms_or lines n m ds k (λ j e lt. room (suc j) e (omega (arith, lt))) (λ j e lt. sound (suc j) e (omega (arith, lt))) in
-    let here : IsSound m d = sound 0 d (omega arith) in
+    let here : IsSoundDeath m d = sound 0 d (omega arith) in
     let once = times_rising k (places d.turns.items) here.rising in
     let few = rest.0 in (
       omega (arith, once, few),
@@ -88,7 +88,7 @@ rooms_or lines n m (d ∷ ds) k room sound =
       ],
     )
 
-pub rooms : (lines : List Line) (m : ℕ) (ds : List Death) → ((j : ℕ) (d : Death) → j < length ds → HasRoom lines (places (get_or ds j d).turns.items) (length ds)) → All (IsSound m) ds → (k : ℕ) → times_in k ds ≤ room_at lines k
+pub rooms : (lines : List Line) (m : ℕ) (ds : List Death) → ((j : ℕ) (d : Death) → j < length ds → HasRoom lines (places (get_or ds j d).turns.items) (length ds)) → All (IsSoundDeath m) ds → (k : ℕ) → times_in k ds ≤ room_at lines k
 rooms lines m ds room sound k =
     let both = rooms_or lines (length ds) m ds k room sound in
     let most = both.0 in

@@ -35,8 +35,8 @@ use Rattle.depot.specs.declared.given.Given.{Given}
 use Rattle.depot.specs.declared.plans.Death.{Death}
 use Rattle.depot.specs.declared.turns.Turn.{Turn}
 use Rattle.depot.specs.Store.{Store, queue_of, IsWhole}
-use Rattle.depot.specs.Turns.{Outcome, outcomes, arriving, entered_one, entered, notes_of}
-use Rattle.depot.specs.Rejecting.{holder_of, outstanding_of, AreWithin, AreOrdered, IsApart, Rejecting}
+use Rattle.depot.specs.Turns.{Outcome, outcomes, arriving, entered_one, entered, notes_of_outcomes}
+use Rattle.depot.specs.Rejecting.{holder_of_given, outstanding_of, AreWithin, AreOrdered, IsApart, Rejecting}
 use Rattle.depot.specs.Dying.{MayHaveLetters, LettersAt, IsDeathOf, Plans, given_at, ArePlanned, without, outcomes_of, died, death_notes, died_all, all_notes, Rejects}
 use Rattle.depot.proofs.Firsts.{number, count-cons, one_passes, none_found, count-filter, find-filter, held_apart}
 use Rattle.depot.proofs.Naming.{names-length, same_name, other_name, later_name, noted_by_names, entered_by_names}
@@ -140,25 +140,25 @@ named_there (x ∷ xs) zero q apart lt is = rw (same_name x.name) (ap Some (sym 
 named_there (x ∷ xs) (suc i) q apart lt is = let long = names-length xs in rw (later_name x.name (queue_names xs) i apart (omega arith)) (named_there xs i q apart.1 (omega arith) is)
 
 -- the queues without the message that dies, by their names
-without_named : (s : Store) (c h : ℕ) (g : Given) (d : Death) (q : Text) → IsWhole s → AreApartBy s.queues → g.place < length s.topology.queues → d.place ≡ g.place → d.holder ≡ holder_of c h g
+without_named : (s : Store) (c h : ℕ) (g : Given) (d : Death) (q : Text) → IsWhole s → AreApartBy s.queues → g.place < length s.topology.queues → d.place ≡ g.place → d.holder ≡ holder_of_given c h g
     → queue_of (with_lists s (without d s.queues)) q ≡ given.without_given c h (queue_of s) (outstanding_of s.topology g) q
 without_named s c h g d q whole apart lt place holder =
-    let p = is_held_as (holder_of c h g) in
+    let p = is_held_as (holder_of_given c h g) in
     let name = queue_name s.topology g.place in
     let here = queue_of-place s g.place whole lt in
     let gone = filter (λ (e : Entry). not (p e)) (get_or s.queues g.place []) in
     ap (λ (i : ℕ). queue_of (with_lists s (set s.queues i (filter (λ (e : Entry). not (is_held_as d.holder e)) (get_or s.queues i [])))) q) place
     ∙ ap (λ (a : Holder). queue_of (with_lists s (set s.queues g.place (filter (λ (e : Entry). not (is_held_as a e)) (get_or s.queues g.place [])))) q) holder
     ∙ queue_of-changed s g.place gone q whole lt
-    ∙ ap (λ (es : List Entry). if bytes_eq name q then es else queue_of s q) (one_passes p (get_or s.queues g.place []) (apart g.place (holder_of c h g)) ∙ ap (without_first p) (sym here))
+    ∙ ap (λ (es : List Entry). if bytes_eq name q then es else queue_of s q) (one_passes p (get_or s.queues g.place []) (apart g.place (holder_of_given c h g)) ∙ ap (without_first p) (sym here))
 
 -- a message that dies, and its dead letter
 dies_by : (s : Store) (q : DeclaredQueue) (m : Message) (d : Death) (queues : Text → List Entry) (x : Option Text) → IsWhole s → ((r : Text) → queue_of (with_lists s (without d s.queues)) r ≡ queues r)
     → MayHaveLetters s.topology q m d.turns.items x
-    → DiesBy s.topology q queues m (notes_of (outcomes_of s.topology.queues d s.queues)) (queue_of (with_lists s (died s.topology.queues d s.queues))) x
+    → DiesBy s.topology q queues m (notes_of_outcomes (outcomes_of s.topology.queues d s.queues)) (queue_of (with_lists s (died s.topology.queues d s.queues))) x
 dies_by s q m d queues None whole same none =
     let w = without d s.queues in (
-      ap (λ (ts : List Turn). notes_of (outcomes way.Dead s.topology.queues ts w)) none,
+      ap (λ (ts : List Turn). notes_of_outcomes (outcomes way.Dead s.topology.queues ts w)) none,
       (λ r. ap (λ (ts : List Turn). queue_of (with_lists s (entered (outcomes way.Dead s.topology.queues ts w) w)) r) none ∙ same r),
     )
 dies_by s q m d queues (Some exchange) whole same letters =
@@ -194,7 +194,7 @@ may_die s c h g e d whole apart lt is =
     let t = s.topology in
     let q = queue_there t.queues g.place lt in
     let queues = given.without_given c h (queue_of s) (outstanding_of t g) in
-    let notes = notes_of (outcomes_of t.queues d s.queues) in
+    let notes = notes_of_outcomes (outcomes_of t.queues d s.queues) in
     let new = queue_of (with_lists s (died t.queues d s.queues)) in (
       notes,
       ap (λ (n : Note). n ∷ notes) is.note,
@@ -202,14 +202,14 @@ may_die s c h g e d whole apart lt is =
           (dies_by s q.0 e.message d queues q.0.dead_letter_exchange whole (λ r. without_named s c h g d r whole apart lt is.place is.holder) (is.letters q.0 q.1)),
     )
 
-not_there : (s : Store) (c h : ℕ) (g : Given) (r : Text) → find (is_held_as (holder_of c h g)) (queue_of s (queue_name s.topology g.place)) ≡ None → queue_of s r ≡ given.without_given c h (queue_of s) (outstanding_of s.topology g) r
+not_there : (s : Store) (c h : ℕ) (g : Given) (r : Text) → find (is_held_as (holder_of_given c h g)) (queue_of s (queue_name s.topology g.place)) ≡ None → queue_of s r ≡ given.without_given c h (queue_of s) (outstanding_of s.topology g) r
 not_there s c h g r none = go (bytes_eq name r) refl
   where
     name : Text
     name = queue_name s.topology g.place
 
     p : Entry → Bool
-    p = is_held_as (holder_of c h g)
+    p = is_held_as (holder_of_given c h g)
 
     go : (b : Bool) → bytes_eq name r ≡ b → queue_of s r ≡ (if b then without_first p (queue_of s name) else queue_of s r)
     go true is = ap (λ (n : Text). queue_of s n) (sym ((bytes_eq-Decides name r).0 is)) ∙ sym (none_found p (queue_of s name) none)
@@ -233,7 +233,7 @@ rejected_next : (s : Store) (c h : ℕ) (g : Given) (gs : List Given) (first res
 rejected_next s c h g gs first rest ds None there whole apart ordered lt none e planned later =
     let t = s.topology in
     let name = queue_name t g.place in
-    let p = is_held_as (holder_of c h g) in
+    let p = is_held_as (holder_of_given c h g) in
     let same : ds ≡ rest = e ∙ ap (λ (xs : List Death). xs ++ rest) none in
     let absent : find p (queue_of s name) ≡ None = ap (find p) (queue_of-place s g.place whole lt) ∙ there in
     subst (λ (xs : List Death). RejectedBy s c h (g ∷ gs) xs) (sym same) (
@@ -248,7 +248,7 @@ rejected_next s c h g gs first rest ds (Some x) there whole apart ordered lt one
     let t = s.topology in
     let d = one.0 in
     let name = queue_name t g.place in
-    let p = is_held_as (holder_of c h g) in
+    let p = is_held_as (holder_of_given c h g) in
     let same : ds ≡ d ∷ rest = e ∙ ap (λ (xs : List Death). xs ++ rest) one.1 in
     let present : find p (queue_of s name) ≡ Some x = ap (find p) (queue_of-place s g.place whole lt) ∙ there in
     let now = died t.queues d s.queues in
@@ -256,7 +256,7 @@ rejected_next s c h g gs first rest ds (Some x) there whole apart ordered lt one
     let still = planned_after t c h s.queues now gs rest
     (λ i y l.
     let after : g.tag < (get_or gs i y).tag = ordered 0 (suc i) y (omega arith) (omega (arith, l)) in
-    found_after t.queues d s.queues (holder_of c h (get_or gs i y)) (get_or gs i y).place (λ z. let at : (get_or gs i y).tag ≡ d.holder.tag = z in absurd (omega (arith, after, at, tag)))) planned in
+    found_after t.queues d s.queues (holder_of_given c h (get_or gs i y)) (get_or gs i y).place (λ z. let at : (get_or gs i y).tag ≡ d.holder.tag = z in absurd (omega (arith, after, at, tag)))) planned in
     subst (λ (xs : List Death). RejectedBy s c h (g ∷ gs) xs) (sym same) (
       queue_of (with_lists s now),
       death_notes t.queues d s.queues,

@@ -18,8 +18,8 @@ use Rattle.deaths.specs.Marked.{IsMarked}
 use Rattle.depot.specs.declared.given.Given.{Given}
 use Rattle.depot.specs.declared.plans.Death.{Death}
 use Rattle.depot.specs.declared.turns.Turn.{Turn}
-use Rattle.depot.specs.Rejecting.{holder_of}
-use Rattle.depot.specs.Turns.{Outcome, outcomes, entered, notes_of, places, times, IsPlan}
+use Rattle.depot.specs.Rejecting.{holder_of_given}
+use Rattle.depot.specs.Turns.{Outcome, outcomes, entered, notes_of_outcomes, places, times, IsPlan}
 
 -- ---- what is planned
 
@@ -41,7 +41,7 @@ LettersAt t place m turns = (q : DeclaredQueue) → q ≡ slice_index_or t.queue
 -- The death of a message that was given out.
 pub record IsDeathOf (t : Topology) (c h : ℕ) (g : Given) (e : Entry) (d : Death) : Type 0 where
   pub place : d.place ≡ g.place
-  pub holder : d.holder ≡ holder_of c h g
+  pub holder : d.holder ≡ holder_of_given c h g
   pub note : d.note ≡ Left e.message.number (queue_name t g.place) Rejected
   pub letters : LettersAt t g.place e.message d.turns.items
 
@@ -52,7 +52,7 @@ Plans t c h g (Some e) deaths = (d : Death) × (deaths ≡ d ∷ []) × IsDeathO
 
 -- the message that was given out so, where it stands in these queues
 abbrev pub given_at : ℕ → ℕ → List (List Entry) → Given → Option Entry
-given_at c h entries g = find (is_held_as (holder_of c h g)) (slice_index_or entries g.place [])
+given_at c h entries g = find (is_held_as (holder_of_given c h g)) (slice_index_or entries g.place [])
 
 -- the deaths of all that is there of these
 abbrev pub ArePlanned : Topology → ℕ → ℕ → List (List Entry) → List Given → List Death → Type 0
@@ -76,7 +76,7 @@ died queues d entries = entered (outcomes_of queues d entries) (without d entrie
 
 -- what is noted of it
 abbrev pub death_notes : List DeclaredQueue → Death → List (List Entry) → List Note
-death_notes queues d entries = d.note ∷ notes_of (outcomes_of queues d entries)
+death_notes queues d entries = d.note ∷ notes_of_outcomes (outcomes_of queues d entries)
 
 -- the queues after these deaths, one after another
 abbrev pub died_all : List DeclaredQueue → List Death → List (List Entry) → List (List Entry)
@@ -98,7 +98,7 @@ pub record Rejects (t : Topology) (c h : ℕ) (gone : List Given) (old new : Lis
 -- ---- room
 
 -- a death whose queues are there, among so many, and whose dead letter comes to each at most once
-pub record IsSound (count : ℕ) (d : Death) : Type 0 where
+pub record IsSoundDeath (count : ℕ) (d : Death) : Type 0 where
   pub place : d.place < count
   pub within : All (λ (i : ℕ). i < count) (places d.turns.items)
   pub rising : AllPairs (λ (i j : ℕ). i < j) (places d.turns.items)

@@ -12,8 +12,8 @@ use Rattle.depot.specs.declared.given.Given.{Given}
 use Rattle.depot.specs.Store.{Store, queue_of}
 
 -- who holds what was given out so on this channel
-abbrev pub holder_of : ℕ → ℕ → Given → Holder
-holder_of connection channel g = record { connection = connection; channel = channel; tag = g.tag; by = g.by }
+abbrev pub holder_of_given : ℕ → ℕ → Given → Holder
+holder_of_given connection channel g = record { connection = connection; channel = channel; tag = g.tag; by = g.by }
 
 -- what was given out, by the name of its queue
 abbrev pub outstanding_of : Topology → Given → seen.Outstanding

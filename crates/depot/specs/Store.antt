@@ -24,8 +24,8 @@ abbrev pub queue_at : Store → ℕ → List Entry
 queue_at s place = slice_index_or s.queues place []
 
 -- the queue at this place has these entries, and all else is as it was
-abbrev pub with_queue : Store → ℕ → List Entry → Store
-with_queue s place entries = record s { queues = slice_set s.queues place entries }
+abbrev pub with_entries_at : Store → ℕ → List Entry → Store
+with_entries_at s place entries = record s { queues = slice_set s.queues place entries }
 
 -- What every depot keeps: names apart, and a list for each queue of the topology.
 pub record IsWhole (s : Store) : Type 0 where
@@ -43,7 +43,7 @@ with_requeued s mine = record s { queues = map (requeued mine) s.queues }
 -- The queue at this place of the file is that of its name: it has those entries, and what it has instead that name has.
 pub record IsNamed (s : Store) (place : ℕ) : Type 0 where
   pub entries_are : queue_of s (queue_name s.topology place) ≡ queue_at s place
-  pub changed : (entries : List Entry) (q : Text) → queue_of (with_queue s place entries) q ≡ seen.with_queue (queue_of s) (queue_name s.topology place) entries q
+  pub changed : (entries : List Entry) (q : Text) → queue_of (with_entries_at s place entries) q ≡ seen.with_queue (queue_of s) (queue_name s.topology place) entries q
 
 -- the queue at this place has a message that can be given out
 abbrev pub HasReady : Store → ℕ → Type 0

@@ -73,8 +73,8 @@ outcomes how queues [] entries = []
 outcomes how queues (t ∷ ts) entries = outcome how queues entries t ∷ outcomes how queues ts (entered_one (outcome how queues entries t) entries)
 
 -- the note of each
-abbrev pub notes_of : List Outcome → List Note
-notes_of os = map (λ (o : Outcome). o.note) os
+abbrev pub notes_of_outcomes : List Outcome → List Note
+notes_of_outcomes os = map (λ (o : Outcome). o.note) os
 
 -- the queues after all of them
 abbrev pub entered : List Outcome → List (List Entry) → List (List Entry)
@@ -122,6 +122,6 @@ pub record Enters (t : Topology) (old new : List (List Entry)) (p : Publish) (m 
   pub turns : List Turn
   pub plan : IsPlan t p.exchange p.routing_key m turns
   pub entries : new ≡ entered (outcomes way.Publish t.queues turns old) old
-  pub notes : after ≡ before ++ first ∷ notes_of (outcomes way.Publish t.queues turns old)
+  pub notes : after ≡ before ++ first ∷ notes_of_outcomes (outcomes way.Publish t.queues turns old)
   pub none : routed.is_none ≡ no_turns turns
   pub full : routed.is_some_full ≡ list_any is_refusal (outcomes way.Publish t.queues turns old)

@@ -83,7 +83,7 @@ impl Depot {
     ghost use Rattle.model.specs.Step.{greatest};
     ghost use Rattle.model.specs.Entries.{by_channel, by_connection, is_under, is_held_as, held_as, change_first, without_first, number_of};
     ghost use Rattle.queue.specs.Line.{ready_count, requeued};
-    ghost use Rattle.depot.specs.Store.{queue_of, queue_at, with_queue, with_requeued, IsWhole, IsNamed, IsNextReady};
+    ghost use Rattle.depot.specs.Store.{queue_of, queue_at, with_entries_at, with_requeued, IsWhole, IsNamed, IsNextReady};
     ghost use Rattle.depot.specs.Publishing.{Publishing};
     ghost use Rattle.depot.specs.Rejecting.{AreWithin, AreOrdered, IsApart, Rejecting};
 
@@ -266,7 +266,7 @@ impl Depot {
         requires within { place < length self.old.topology.queues }
         requires unused { find (is_held_as holder) (queue_at self.old place) ≡ None }
         ensures told { is_some result ≡ is_some (find is_ready (queue_at self.old place)) }
-        ensures store { self.new ≡ with_queue self.old place (change_first is_ready (held_as holder) (queue_at self.old place)) }
+        ensures store { self.new ≡ with_entries_at self.old place (change_first is_ready (held_as holder) (queue_at self.old place)) }
     {
         self.queues.hold(place, holder)
     }
@@ -275,7 +275,7 @@ impl Depot {
     pub fn take_first(&mut self, place: usize) -> Option<Entry>
         requires { place < length self.old.topology.queues }
         ensures taken { result ≡ find is_ready (queue_at self.old place) }
-        ensures store { self.new ≡ with_queue self.old place (without_first is_ready (queue_at self.old place)) }
+        ensures store { self.new ≡ with_entries_at self.old place (without_first is_ready (queue_at self.old place)) }
     {
         self.queues.take_first(place)
     }
@@ -294,7 +294,7 @@ impl Depot {
     pub fn release(&mut self, place: usize, holder: &Holder, arrival: u64) -> bool
         requires { place < length self.old.topology.queues }
         ensures told { result ≡ is_some (find (is_held_as holder.now) (queue_at self.old place)) }
-        ensures store { self.new ≡ with_queue self.old place (requeued (is_under holder.now) (queue_at self.old place)) }
+        ensures store { self.new ≡ with_entries_at self.old place (requeued (is_under holder.now) (queue_at self.old place)) }
     {
         self.queues.release(place, holder, arrival)
     }
@@ -303,7 +303,7 @@ impl Depot {
     pub fn remove(&mut self, place: usize, holder: &Holder, arrival: u64) -> Option<Entry>
         requires { place < length self.old.topology.queues }
         ensures taken { result ≡ find (is_held_as holder.now) (queue_at self.old place) }
-        ensures store { self.new ≡ with_queue self.old place (filter (λ e. not (is_held_as holder.now e)) (queue_at self.old place)) }
+        ensures store { self.new ≡ with_entries_at self.old place (filter (λ e. not (is_held_as holder.now e)) (queue_at self.old place)) }
     {
         self.queues.remove(place, holder, arrival)
     }
@@ -315,7 +315,7 @@ impl Depot {
         requires room { vec_len numbers.old + ready_count (queue_at self.old place) ≤ vec_capacity numbers.old }
         ensures numbers { numbers.new.items ≡ numbers.old.items ++ map number_of (filter is_ready (queue_at self.old place)) }
         ensures capacity { vec_capacity numbers.new ≡ vec_capacity numbers.old }
-        ensures store { self.new ≡ with_queue self.old place (filter (λ e. not (is_ready e)) (queue_at self.old place)) }
+        ensures store { self.new ≡ with_entries_at self.old place (filter (λ e. not (is_ready e)) (queue_at self.old place)) }
     {
         self.queues.purge(place, numbers);
     }

@@ -27,7 +27,7 @@ ghost use Rattle.depot.specs.Turns.{
   places,
   outcome,
   outcomes,
-  notes_of,
+  notes_of_outcomes,
   is_full_at,
   is_refusal,
   entered_one,
@@ -160,7 +160,7 @@ pub(crate) fn enter_all(
     ensures entries { entries_of queues.new ≡ entered (outcomes way declared.now turns.items (entries_of queues.old)) (entries_of queues.old) }
     ensures spent { (place : ℕ) → room_at queues.old place ≤ room_at queues.new place + times place (places turns.items) }
     ensures len { length queues.new ≡ length queues.old }
-    ensures notes { notes.new.items ≡ notes.old.items ++ notes_of (outcomes way declared.now turns.items (entries_of queues.old)) }
+    ensures notes { notes.new.items ≡ notes.old.items ++ notes_of_outcomes (outcomes way declared.now turns.items (entries_of queues.old)) }
     ensures notes_len { vec_len notes.new ≡ vec_len notes.old + vec_len turns }
     ensures notes_capacity { vec_capacity notes.new ≡ vec_capacity notes.old }
 {

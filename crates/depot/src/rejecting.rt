@@ -5,8 +5,8 @@ ghost use Rattle.model.specs.Routing.{key_after};
 ghost use Rattle.depot.specs.declared.plans.Death.{Death as Planned};
 ghost use Rattle.depot.specs.Store.{entries_of};
 ghost use Rattle.depot.specs.Turns.{places, room_at, times, IsRoomy};
-ghost use Rattle.depot.specs.Rejecting.{holder_of, AreWithin};
-ghost use Rattle.depot.specs.Dying.{LettersAt, Plans, given_at, ArePlanned, died, death_notes, died_all, all_notes, IsSound, notes_in, times_in, Rejects};
+ghost use Rattle.depot.specs.Rejecting.{holder_of_given, AreWithin};
+ghost use Rattle.depot.specs.Dying.{LettersAt, Plans, given_at, ArePlanned, died, death_notes, died_all, all_notes, IsSoundDeath, notes_in, times_in, Rejects};
 
 use crate::entering::{enter_all, make_room, turns};
 use crate::given::Given;
@@ -125,7 +125,7 @@ fn plan(
 
 /// Makes room for every dead letter in each queue to which it may come.
 fn make_rooms(queues: &mut Queues, deaths: &[Death]) -> Result<(), AllocError>
-    requires { All (IsSound (length queues.old)) deaths.now }
+    requires { All (IsSoundDeath (length queues.old)) deaths.now }
     ensures same { entries_of queues.new ≡ entries_of queues.old }
     ensures len { length queues.new ≡ length queues.old }
     ensures room { OnOk result ((place : ℕ) → times_in place deaths.now ≤ room_at queues.new place) }
@@ -153,7 +153,7 @@ fn count_notes(deaths: &[Death]) -> Result<usize, AllocError>
 /// The message leaves its queue, and then its dead letter comes to each of its queues or is refused there.
 fn die(declared: &[DeclaredQueue], queues: &mut Queues, death: Death, notes: &mut Vec<Note>)
     requires len { length queues.old ≡ length declared.now }
-    requires sound { IsSound (length queues.old) death }
+    requires sound { IsSoundDeath (length queues.old) death }
     requires room { IsRoomy queues.old (places death.turns.items) }
     requires notes { vec_len notes.old + 1 + vec_len death.turns ≤ vec_capacity notes.old }
     ensures entries { entries_of queues.new ≡ died declared.now death (entries_of queues.old) }
@@ -183,7 +183,7 @@ fn perform(
     notes: &mut Vec<Note>,
 )
     requires len { length queues.old ≡ length declared.now }
-    requires sound { All (IsSound (length queues.old)) deaths.items }
+    requires sound { All (IsSoundDeath (length queues.old)) deaths.items }
     requires room { (place : ℕ) → times_in place deaths.items ≤ room_at queues.old place }
     requires notes { vec_len notes.old + notes_in deaths.items ≤ vec_capacity notes.old }
     ensures entries { entries_of queues.new ≡ died_all declared.now deaths.items (entries_of queues.old) }

@@ -11,10 +11,10 @@ use Rattle.model.specs.declared.events.Phase.TheVariants as phase
 use Rattle.model.specs.declared.events.Send.{Send}
 use Rattle.model.specs.declared.events.Event.{Event}
 use Rattle.model.specs.declared.notes.Note.{Note}
-use Rattle.engine.specs.Performing.{Rules, ByPhase, Decides}
+use Rattle.engine.specs.Performing.{Rules, ByPhase, DecidesByPhase}
 
 pub decides_elsewhere : (c : ℕ) (p : Phase) (r : Rules) (b : Broker) (s : Session) (e : Event) (sends : List Send) (notes : List Note) (new_b : Broker) (new_s : Session)
-    → p ≢ phase.Running → ByPhase r.users c p b s e sends notes new_b new_s → Decides c p r b s e sends notes new_b new_s
+    → p ≢ phase.Running → ByPhase r.users c p b s e sends notes new_b new_s → DecidesByPhase c p r b s e sends notes new_b new_s
 decides_elsewhere c phase.Header r b s e sends notes new_b new_s ne by = by
 decides_elsewhere c phase.Start r b s e sends notes new_b new_s ne by = by
 decides_elsewhere c phase.Tune r b s e sends notes new_b new_s ne by = by

@@ -17,7 +17,7 @@ use Rattle.model.specs.declared.notes.Note.{Note}
 use Rattle.laws.proofs.Whole.{pump_keeps}
 use Rattle.broker_core.specs.State.{Kept, topology_of, broker_of}
 use Rattle.runs.specs.Opened.{Idles}
-use Rattle.engine.specs.Reading.{IsKept}
+use Rattle.engine.specs.Reading.{IsKeptEvent}
 use Rattle.outputs.specs.Waiting.{Waiting}
 use Rattle.engine.specs.Pumping.{LinkPumped, OutputChanges, LinksPumped, LinksNotPumped, IsPump}
 use Rattle.engine.specs.World.{Parts, link_in, session_of, wire_in, wire_of, config_of, state_of, world_of, is_link_gone, AreRising, IsEngine}
@@ -64,7 +64,7 @@ output_changes ls new_ls c f awake =
       within = f.within;
       here = f.here;
       number = ap (λ (z : Link). z.number) f.rest;
-      kept = λ k. subst (λ (z : Link). IsKept z.number z.kept) (sym f.rest) k;
+      kept = λ k. subst (λ (z : Link). IsKeptEvent z.number z.kept) (sym f.rest) k;
       left = f.left ∙ sym (ap (λ (v : Bool). cond v (remove ls f.place) (set ls f.place f.new)) still);
       over = λ gone. absurd (false≢true (sym still ∙ gone));
     }

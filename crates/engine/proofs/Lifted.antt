@@ -26,7 +26,7 @@ use Rattle.model.specs.declared.events.Event.{Event}
 use Rattle.model.specs.declared.events.Event.TheVariants as event
 use Rattle.assembly.specs.Held.{stream_of}
 use Rattle.broker_core.specs.State.{topology_of, broker_of}
-use Rattle.engine.specs.Performing.{rules_of, Decides, ByBroker, ByPhase, session_after, PausesOr}
+use Rattle.engine.specs.Performing.{rules_of, DecidesByPhase, ByBroker, ByPhase, session_after, PausesOr}
 use Rattle.engine.specs.Reading.{kept_of}
 use Rattle.engine.specs.Turning.{LinkDid, LinkWaits}
 use Rattle.outputs.specs.Waiting.{Waiting}
@@ -49,7 +49,7 @@ stepped_by : (f : Config) (s : State) (c : ℕ) (sess sess' : Session) (e : Even
 stepped_by f s c sess sess' e sends notes mid after by is = record { acts = by.acts; session = λ k. ap (λ (z : Session). with_one s.session c z k) (by.session ∙ is) }
 
 of_command : (p : Phase) (f : Config) (s : State) (c h : ℕ) (m : Method) (content : Option Content) (sess sess' : Session) (sends : List Send) (notes : List Note) (mid : Broker)
-    → s.session c ≡ sess → sess.phase ≡ p → Decides c p (rules_of f.topology f.users) s.broker sess (event.Command c h m content) sends notes mid sess'
+    → s.session c ≡ sess → sess.phase ≡ p → DecidesByPhase c p (rules_of f.topology f.users) s.broker sess (event.Command c h m content) sends notes mid sess'
     → OfCommand f s p c h m content sends notes (record { broker = mid; session = with_one s.session c sess' })
 of_command phase.Running f s c h m content sess sess' sends notes mid eq at by = stepped_by f s c sess sess' _ sends notes mid _ by (ap (λ (z : Session). to_phase z (after_sends sends)) (sym eq))
 of_command phase.Header f s c h m content sess sess' sends notes mid eq at by = record { move = record { sends = sends; next = sess' }; answered = subst (λ (z : Session). IsAnswered f.users c z phase.Header h m (record { sends = sends; next = sess' })) (sym eq) by.answered; moves = moved f.users s c sess sess' _ phase.Header sends notes mid by }
@@ -60,7 +60,7 @@ of_command phase.Closing f s c h m content sess sess' sends notes mid eq at by =
 of_command phase.Over f s c h m content sess sess' sends notes mid eq at by = record { move = record { sends = sends; next = sess' }; answered = subst (λ (z : Session). IsAnswered f.users c z phase.Over h m (record { sends = sends; next = sess' })) (sym eq) by.answered; moves = moved f.users s c sess sess' _ phase.Over sends notes mid by }
 
 of_fault : (p : Phase) (f : Config) (s : State) (c code : ℕ) (sess sess' : Session) (sends : List Send) (notes : List Note) (mid : Broker)
-    → s.session c ≡ sess → sess.phase ≡ p → Decides c p (rules_of f.topology f.users) s.broker sess (event.Fault c code) sends notes mid sess'
+    → s.session c ≡ sess → sess.phase ≡ p → DecidesByPhase c p (rules_of f.topology f.users) s.broker sess (event.Fault c code) sends notes mid sess'
     → OfFault f s p c code sends notes (record { broker = mid; session = with_one s.session c sess' })
 of_fault phase.Running f s c code sess sess' sends notes mid eq at by = stepped_by f s c sess sess' _ sends notes mid _ by (ap (λ (z : Session). to_phase z phase.Over) (sym eq))
 of_fault phase.Header f s c code sess sess' sends notes mid eq at by = subst (λ (x : Move). Moves s c x sends notes (record { broker = mid; session = with_one s.session c sess' })) (by.answered ∙ ap (λ (z : Session). faulted c z phase.Header code) (sym eq)) (moved f.users s c sess sess' _ phase.Header sends notes mid by)
@@ -71,7 +71,7 @@ of_fault phase.Closing f s c code sess sess' sends notes mid eq at by = subst (�
 of_fault phase.Over f s c code sess sess' sends notes mid eq at by = subst (λ (x : Move). Moves s c x sends notes (record { broker = mid; session = with_one s.session c sess' })) (by.answered ∙ ap (λ (z : Session). faulted c z phase.Over code) (sym eq)) (moved f.users s c sess sess' _ phase.Over sends notes mid by)
 
 of_large : (p : Phase) (f : Config) (s : State) (c h : ℕ) (sess sess' : Session) (sends : List Send) (notes : List Note) (mid : Broker)
-    → s.session c ≡ sess → sess.phase ≡ p → Decides c p (rules_of f.topology f.users) s.broker sess (event.TooLarge c h) sends notes mid sess'
+    → s.session c ≡ sess → sess.phase ≡ p → DecidesByPhase c p (rules_of f.topology f.users) s.broker sess (event.TooLarge c h) sends notes mid sess'
     → OfLarge f s p c h sends notes (record { broker = mid; session = with_one s.session c sess' })
 of_large phase.Running f s c h sess sess' sends notes mid eq at by = stepped_by f s c sess sess' _ sends notes mid _ by (ap (λ (z : Session). to_phase z (after_sends sends)) (sym eq))
 of_large phase.Header f s c h sess sess' sends notes mid eq at by = record { move = record { sends = sends; next = sess' }; answered = subst (λ (z : Session). IsAnswered f.users c z phase.Header h empty_publish (record { sends = sends; next = sess' })) (sym eq) by.answered; moves = moved f.users s c sess sess' _ phase.Header sends notes mid by }
@@ -82,7 +82,7 @@ of_large phase.Closing f s c h sess sess' sends notes mid eq at by = record { mo
 of_large phase.Over f s c h sess sess' sends notes mid eq at by = record { move = record { sends = sends; next = sess' }; answered = subst (λ (z : Session). IsAnswered f.users c z phase.Over h empty_publish (record { sends = sends; next = sess' })) (sym eq) by.answered; moves = moved f.users s c sess sess' _ phase.Over sends notes mid by }
 
 of_first : (p : Phase) (f : Config) (s : State) (c : ℕ) (bytes : Text) (sess sess' : Session) (sends : List Send) (notes : List Note) (mid : Broker)
-    → s.session c ≡ sess → sess.phase ≡ p → Decides c p (rules_of f.topology f.users) s.broker sess (event.First c bytes) sends notes mid sess'
+    → s.session c ≡ sess → sess.phase ≡ p → DecidesByPhase c p (rules_of f.topology f.users) s.broker sess (event.First c bytes) sends notes mid sess'
     → OfFirst f s p c bytes sends notes (record { broker = mid; session = with_one s.session c sess' })
 of_first phase.Running f s c bytes sess sess' sends notes mid eq at by = stepped_by f s c sess sess' _ sends notes mid _ by (ap (λ (z : Session). to_phase z (after_sends sends)) (sym eq))
 of_first phase.Header f s c bytes sess sess' sends notes mid eq at by = subst (λ (x : Move). Moves s c x sends notes (record { broker = mid; session = with_one s.session c sess' })) (by.answered ∙ ap (λ (z : Session). first_move c z phase.Header bytes) (sym eq)) (moved f.users s c sess sess' _ phase.Header sends notes mid by)
@@ -93,7 +93,7 @@ of_first phase.Closing f s c bytes sess sess' sends notes mid eq at by = subst (
 of_first phase.Over f s c bytes sess sess' sends notes mid eq at by = subst (λ (x : Move). Moves s c x sends notes (record { broker = mid; session = with_one s.session c sess' })) (by.answered ∙ ap (λ (z : Session). first_move c z phase.Over bytes) (sym eq)) (moved f.users s c sess sess' _ phase.Over sends notes mid by)
 
 commanded : (m : Command) (f : Config) (s : State) (c : ℕ) (sess sess' : Session) (sends : List Send) (notes : List Note) (mid : Broker)
-    → s.session c ≡ sess → Decides c sess.phase (rules_of f.topology f.users) s.broker sess (event_of c m) sends notes mid sess'
+    → s.session c ≡ sess → DecidesByPhase c sess.phase (rules_of f.topology f.users) s.broker sess (event_of c m) sends notes mid sess'
     → Step f s (event_of c m) sends notes (record { broker = mid; session = with_one s.session c sess' })
 commanded (Head bytes) f s c sess sess' sends notes mid eq by =
     subst (λ (z : Session). OfFirst f s z.phase c bytes sends notes (record { broker = mid; session = with_one s.session c sess' })) (sym eq) (of_first sess.phase f s c bytes sess sess' sends notes mid eq refl by)
@@ -105,7 +105,7 @@ commanded (TooLarge h) f s c sess sess' sends notes mid eq by =
     subst (λ (z : Session). OfLarge f s z.phase c h sends notes (record { broker = mid; session = with_one s.session c sess' })) (sym eq) (of_large sess.phase f s c h sess sess' sends notes mid eq refl by)
 
 pub asked_steps : (c : ℕ) (k : Option Command) (st nx : Stream) (e : Event) (f : Config) (s : State) (sess sess' : Session) (sends : List Send) (notes : List Note) (mid : Broker)
-    → Reads c k st e nx → s.session c ≡ sess → Decides c sess.phase (rules_of f.topology f.users) s.broker sess e sends notes mid sess'
+    → Reads c k st e nx → s.session c ≡ sess → DecidesByPhase c sess.phase (rules_of f.topology f.users) s.broker sess e sends notes mid sess'
     → Step f s e sends notes (record { broker = mid; session = with_one s.session c sess' })
 asked_steps c k st nx e f s sess sess' sends notes mid (again {m = m}) eq by = commanded m f s c sess sess' sends notes mid eq by
 asked_steps c k st nx e f s sess sess' sends notes mid (fresh {m = m} y) eq by = commanded m f s c sess sess' sends notes mid eq by

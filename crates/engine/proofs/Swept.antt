@@ -3,7 +3,7 @@ use Rattle.std.proofs.Common.{◌≡◌, ◌<◌, ℕ, zero, suc, List, [], ◌�
 use Rattle.std.specs.Prelude.{IfOk, OnErr}
 use Rattle.engine.specs.Performing.{Rules}
 use Rattle.model.specs.Broker.{Broker}
-use Rattle.engine.specs.Reading.{IsKept}
+use Rattle.engine.specs.Reading.{IsKeptEvent}
 use Rattle.engine.specs.Turning.{LinkTook, LinkWaits, IsAwake}
 use Rattle.engine.specs.World.{is_link_gone}
 use Rattle.engine.specs.Engines.{Changes, IsSwept, LinkTookOr}
@@ -20,7 +20,7 @@ remove_set [] i x lt = absurd (omega (arith, lt))
 remove_set (y ∷ ys) zero x lt = refl
 remove_set (y ∷ ys) (suc i) x lt = ap (λ (z : List Link). y ∷ z) (remove_set ys i x (omega (arith, lt)))
 
-pub changes_swept : (ls : List Link) (i : ℕ) (old new : Link) (new_ls : List Link) → i < length ls → get_or ls i old ≡ old → new.number ≡ old.number → (IsKept old.number old.kept → IsKept new.number new.kept)
+pub changes_swept : (ls : List Link) (i : ℕ) (old new : Link) (new_ls : List Link) → i < length ls → get_or ls i old ≡ old → new.number ≡ old.number → (IsKeptEvent old.number old.kept → IsKeptEvent new.number new.kept)
     → ((l : Link) → get_or (set ls i new) i l ≡ l → IsSwept (set ls i new) i l new_ls) → Changes ls i old new new_ls
 changes_swept ls i old new new_ls lt here number kept swept =
     let s = swept new (at_set ls i new new lt) in

@@ -13,7 +13,7 @@ use Rattle.model.specs.declared.events.Event.{Event}
 use Rattle.model.specs.declared.events.Event.TheVariants as event
 use Rattle.model.specs.declared.notes.Note.{Note}
 use Rattle.laws.proofs.Whole.{turn_keeps}
-use Rattle.runs.specs.Opened.{Hears, Takes, IsLost}
+use Rattle.runs.specs.Opened.{Hears, TakesAway, IsLost}
 use Rattle.runs.proofs.Worlds.{waits_not}
 use Rattle.assembly.specs.Held.{stream_of}
 use Rattle.broker_core.specs.State.{topology_of, broker_of}
@@ -172,16 +172,16 @@ on_false A B false e b = b
 pub nothing_changes : (p : Parts) → Same (world_of p) (world_of p)
 nothing_changes p = record { config = refl; state = refl; given = refl; wires = λ d. refl }
 
-pub takes_none : (p : Parts) (c n : ℕ) → IsEngine p → link_in p.links c ≡ None → Takes (world_of p) c n (world_of p)
+pub takes_none : (p : Parts) (c n : ℕ) → IsEngine p → link_in p.links c ≡ None → TakesAway (world_of p) c n (world_of p)
 takes_none p c n e none = on_true (Same (world_of p) (world_of p)) ((hs : List Happening) × Takes_off (world_of p) c n hs (world_of p)) (is_gone (world_of p) c) (gone_none p c e.links none) (nothing_changes p)
 
 pub sends : (old new : Parts) (c i n : ℕ) → IsEngine old → Stays old new → IsPlaceOf old.links c (Some i)
-    → LinksSent (topology_of old.broker) (broker_of old.broker) old.links i n (broker_of new.broker) new.links → Takes (world_of old) c n (world_of new)
+    → LinksSent (topology_of old.broker) (broker_of old.broker) old.links i n (broker_of new.broker) new.links → TakesAway (world_of old) c n (world_of new)
 sends old new c i n e st place s =
     let found = link_in-place 0 old.links i s.old e.links.rising s.changes.within s.changes.here in
     let b = becomes old new i s.old s.new st e.links.rising s.changes in
     let gone : is_gone (world_of old) s.old.number ≡ false = gone_some old s.old.number s.old e.links found in
-    subst (λ (k : ℕ). Takes (world_of old) k n (world_of new)) (number_is old.links c i s.old place s.changes.here)
+    subst (λ (k : ℕ). TakesAway (world_of old) k n (world_of new)) (number_is old.links c i s.old place s.changes.here)
     (on_false (Same (world_of old) (world_of new)) ((hs : List Happening) × Takes_off (world_of old) s.old.number n hs (world_of new)) (is_gone (world_of old) s.old.number) gone (taken old new s.old s.new n b found s.sent))
 
 pub sends_engine : (old new : Parts) (i n : ℕ) → IsEngine old → Stays old new

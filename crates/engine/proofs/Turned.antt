@@ -15,8 +15,8 @@ use Rattle.model.specs.declared.events.Event.{Event}
 use Rattle.model.specs.declared.events.Event.TheVariants as event
 use Rattle.model.specs.declared.notes.Note.{Note}
 use Rattle.assembly.specs.Held.{stream_of}
-use Rattle.engine.specs.Reading.{kept_of, IsMade, IsKept, Has, Comes, to_read}
-use Rattle.engine.specs.Performing.{Rules, IsAsked, Decides}
+use Rattle.engine.specs.Reading.{kept_of, IsMade, IsKeptEvent, Has, ComesNext, to_read}
+use Rattle.engine.specs.Performing.{Rules, IsAsked, DecidesByPhase}
 use Rattle.engine.specs.Turning.{Performed, LinkPerformed, DidEvent, LinkTook, LinkWaits, OnIdle}
 use Rattle.outputs.specs.Waiting.{HoldsNone}
 use Rattle.engine.specs.declared.reading.Next.{Next}
@@ -55,7 +55,7 @@ kept_made : (c : ℕ) (e : Event) (is : IsMade c e) → kept_of (Some e) ≡ Som
 kept_made c e is = ap (λ (x : Event). kept_of (Some x)) is.made ∙ kept_is c is.command
 
 -- a command that is kept is the next
-pub kept_has : (c : ℕ) (k : Option Event) (s : Stream) → is_some k ≡ true → IsKept c k → Has c k s k s
+pub kept_has : (c : ℕ) (k : Option Event) (s : Stream) → is_some k ≡ true → IsKeptEvent c k → Has c k s k s
 kept_has c None s some is = absurd (false≢true some)
 kept_has c (Some e) s some is = record {
   event = e;
@@ -78,8 +78,8 @@ read_has c k left m s new none is y said short =
       fewer = omega (arith, short);
     }))
 
-pub kept_read : (c : ℕ) (left : Option Event) (m : Command) → left ≡ Some (event_of c m) → IsCommand m → IsKept c left
-kept_read c left m is said = subst (λ (o : Option Event). IsKept c o) (sym is) (record { command = m; made = refl; said = said })
+pub kept_read : (c : ℕ) (left : Option Event) (m : Command) → left ≡ Some (event_of c m) → IsCommand m → IsKeptEvent c left
+kept_read c left m is said = subst (λ (o : Option Event). IsKeptEvent c o) (sym is) (record { command = m; made = refl; said = said })
 
 pub waits_on : (k : Option Event) (s new : Stream) → k ≡ None → GoesOn s new → SameToCome (kept_of k) s (kept_of k) new
 waits_on k s new none on = subst (λ (o : Option Event). SameToCome (kept_of o) s (kept_of o) new) (sym none) (waits on)
@@ -91,7 +91,7 @@ not_some (Some x) e = absurd (false≢true (sym e))
 -- ---- after a fault a connection is over
 
 over_after : (p : Phase) (r : Rules) (b : Broker) (s : Session) (c code : ℕ) (sends : List Send) (notes : List Note) (new_b : Broker) (new_s : Session)
-    → s.phase ≡ p → Decides c p r b s (event.Fault c code) sends notes new_b new_s → is_ended new_s.phase ≡ true
+    → s.phase ≡ p → DecidesByPhase c p r b s (event.Fault c code) sends notes new_b new_s → is_ended new_s.phase ≡ true
 over_after phase.Header r b s c code sends notes new_b new_s at by = ap (λ (z : Move). is_ended z.next.phase) by.answered
 over_after phase.Start r b s c code sends notes new_b new_s at by = ap (λ (z : Move). is_ended z.next.phase) by.answered
 over_after phase.Tune r b s c code sends notes new_b new_s at by = ap (λ (z : Move). is_ended z.next.phase) by.answered
@@ -169,26 +169,26 @@ coming_on k left s new none gone on = subst (λ (o : Option Event). SameToCome (
 
 -- ---- by the answer
 
-pub comes_command : (c : ℕ) (k left : Option Event) (s new : Stream) (n : Next) → n ≡ next.Command → Comes c k s n left new → Has c k s left new
-comes_command c k left s new n e h = subst (λ (x : Next). Comes c k s x left new) e h
+pub comes_command : (c : ℕ) (k left : Option Event) (s new : Stream) (n : Next) → n ≡ next.Command → ComesNext c k s n left new → Has c k s left new
+comes_command c k left s new n e h = subst (λ (x : Next). ComesNext c k s x left new) e h
 
-pub comes_fault : (c code : ℕ) (k left : Option Event) (s new : Stream) (n : Next) → n ≡ next.Fault code → Comes c k s n left new → (left ≡ None) × (k ≡ None) × Ends s (Some code) × GoesOn s new
-comes_fault c code k left s new n e h = subst (λ (x : Next). Comes c k s x left new) e h
+pub comes_fault : (c code : ℕ) (k left : Option Event) (s new : Stream) (n : Next) → n ≡ next.Fault code → ComesNext c k s n left new → (left ≡ None) × (k ≡ None) × Ends s (Some code) × GoesOn s new
+comes_fault c code k left s new n e h = subst (λ (x : Next). ComesNext c k s x left new) e h
 
-pub comes_nothing : (c : ℕ) (k left : Option Event) (s new : Stream) (n : Next) → n ≡ next.Nothing → Comes c k s n left new → (left ≡ None) × (k ≡ None) × Ends s None × GoesOn s new
-comes_nothing c k left s new n e h = subst (λ (x : Next). Comes c k s x left new) e h
+pub comes_nothing : (c : ℕ) (k left : Option Event) (s new : Stream) (n : Next) → n ≡ next.Nothing → ComesNext c k s n left new → (left ≡ None) × (k ≡ None) × Ends s None × GoesOn s new
+comes_nothing c k left s new n e h = subst (λ (x : Next). ComesNext c k s x left new) e h
 
 -- one turn, whatever it answered
 pub record Whole {E : Type 0} (t : Rules) (b : Broker) (old : Link) (what : Result Turn E) (new_b : Broker) (new : Link) : Type 0 where
   pub ok : IfOk what (λ x. LinkTook t b old x new_b new)
   pub err : OnErr what (LinkWaits b old new_b new)
   pub idle : IfOk what (λ x. OnIdle x (HoldsNone new.output))
-  pub kept : IsKept new.number new.kept
+  pub kept : IsKeptEvent new.number new.kept
   pub number : new.number ≡ old.number
 
 -- nothing is kept after what was performed
-did_keeps : (t : Rules) (b new_b : Broker) (mid new : Link) (e : Event) (what : Turn) → DidEvent t b mid e what new_b new → IsKept new.number new.kept × (new.number ≡ mid.number)
-did_keeps t b new_b mid new e (turn.Did notes) did = (subst (λ (k : Option Event). IsKept new.number k) (sym did.none_kept) tt, did.number)
+did_keeps : (t : Rules) (b new_b : Broker) (mid new : Link) (e : Event) (what : Turn) → DidEvent t b mid e what new_b new → IsKeptEvent new.number new.kept × (new.number ≡ mid.number)
+did_keeps t b new_b mid new e (turn.Did notes) did = (subst (λ (k : Option Event). IsKeptEvent new.number k) (sym did.none_kept) tt, did.number)
 did_keeps t b new_b mid new e turn.Idle did = absurd did
 did_keeps t b new_b mid new e turn.Paused did = absurd did
 did_keeps t b new_b mid new e turn.Over did = absurd did
@@ -210,7 +210,7 @@ after_kept (Err x) t b new_b old mid new open_still below read h did broker link
   ok = tt;
   err = waits_kept b new_b old mid new read h.same broker link;
   idle = tt;
-  kept = subst (λ (z : Link). IsKept z.number z.kept) (sym link) (subst (λ (c : ℕ). IsKept c mid.kept) (sym read.number) (subst (λ (k : Option Event). IsKept old.number k) (sym h.is) h.made));
+  kept = subst (λ (z : Link). IsKeptEvent z.number z.kept) (sym link) (subst (λ (c : ℕ). IsKeptEvent c mid.kept) (sym read.number) (subst (λ (k : Option Event). IsKeptEvent old.number k) (sym h.is) h.made));
   number = ap (λ (z : Link). z.number) link ∙ read.number;
 }
 
@@ -224,7 +224,7 @@ after_fault (Err x) t b new_b old mid new code open_still below read h did broke
   ok = tt;
   err = waits_kept b new_b old mid new read (coming_on old.kept mid.kept (stream_of old.stream) (stream_of mid.stream) h.1 h.0 h.3) broker link;
   idle = tt;
-  kept = subst (λ (z : Link). IsKept z.number z.kept) (sym link) (subst (λ (k : Option Event). IsKept mid.number k) (sym h.0) tt);
+  kept = subst (λ (z : Link). IsKeptEvent z.number z.kept) (sym link) (subst (λ (k : Option Event). IsKeptEvent mid.number k) (sym h.0) tt);
   number = ap (λ (z : Link). z.number) link ∙ read.number;
 }
 

@@ -11,7 +11,7 @@ use Rattle.model.specs.Headline.{KeepsEvents}
 use Rattle.model.specs.declared.notes.Note.{Note}
 use Rattle.assembly.specs.Held.{stream_of}
 use Rattle.broker_core.specs.State.{topology_of}
-use Rattle.engine.specs.Reading.{IsKept, kept_of, to_read}
+use Rattle.engine.specs.Reading.{IsKeptEvent, kept_of, to_read}
 use Rattle.engine.specs.Performing.{Rules, PausesOr}
 use Rattle.engine.specs.Turning.{LinkTook, LinkWaits, IsAwake}
 use Rattle.engine.specs.World.{Parts, link_in, session_of, wire_of, is_link_gone}
@@ -80,7 +80,7 @@ pub record Changes (ls : List Link) (i : ℕ) (old new : Link) (new_ls : List Li
   pub within : i < length ls
   pub here : get_or ls i old ≡ old
   pub number : new.number ≡ old.number
-  pub kept : IsKept old.number old.kept → IsKept new.number new.kept
+  pub kept : IsKeptEvent old.number old.kept → IsKeptEvent new.number new.kept
   pub left : new_ls ≡ put_back ls i new
   pub over : is_link_gone new ≡ true → new.session ≡ no_session
 

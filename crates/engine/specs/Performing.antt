@@ -57,9 +57,9 @@ pub record ByPhase (users : List User) (c : ℕ) (p : Phase) (b : Broker) (s : S
   pub broker : Is (after_move b c new_s) new_b
 
 -- An event of connection c in this phase: in Running the broker performs it, in any other the phase answers.
-abbrev pub Decides : ℕ → Phase → Rules → Broker → Session → Event → List Send → List Note → Broker → Session → Type 0
-Decides c phase.Running r b s e sends notes new_b new_s = ByBroker r.topology b s e sends notes new_b new_s
-Decides c p r b s e sends notes new_b new_s = ByPhase r.users c p b s e sends notes new_b new_s
+abbrev pub DecidesByPhase : ℕ → Phase → Rules → Broker → Session → Event → List Send → List Note → Broker → Session → Type 0
+DecidesByPhase c phase.Running r b s e sends notes new_b new_s = ByBroker r.topology b s e sends notes new_b new_s
+DecidesByPhase c p r b s e sends notes new_b new_s = ByPhase r.users c p b s e sends notes new_b new_s
 
 -- the broker learns of a pause, and of its end
 pub record IsPause (t : Topology) (c : ℕ) (b new : Broker) : Type 0 where

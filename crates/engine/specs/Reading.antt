@@ -39,9 +39,9 @@ pub record IsMade (c : ℕ) (e : Event) : Type 0 where
   pub said : IsCommand command
 
 -- what is kept is a command of the connection c
-abbrev pub IsKept : ℕ → Option Event → Type 0
-IsKept c None = Unit {0}
-IsKept c (Some e) = IsMade c e
+abbrev pub IsKeptEvent : ℕ → Option Event → Type 0
+IsKeptEvent c None = Unit {0}
+IsKeptEvent c (Some e) = IsMade c e
 
 -- ---- what comes
 
@@ -60,7 +60,7 @@ pub record Has (c : ℕ) (kept : Option Event) (old : Stream) (left : Option Eve
   pub fewer : to_read None new < to_read (kept_of kept) old
 
 -- This is what comes next of the connection c.
-abbrev pub Comes : ℕ → Option Event → Stream → Next → Option Event → Stream → Type 0
-Comes c kept old next.Command left new = Has c kept old left new
-Comes c kept old (next.Fault code) left new = (left ≡ None) × (kept ≡ None) × Ends old (Some code) × GoesOn old new
-Comes c kept old next.Nothing left new = (left ≡ None) × (kept ≡ None) × Ends old None × GoesOn old new
+abbrev pub ComesNext : ℕ → Option Event → Stream → Next → Option Event → Stream → Type 0
+ComesNext c kept old next.Command left new = Has c kept old left new
+ComesNext c kept old (next.Fault code) left new = (left ≡ None) × (kept ≡ None) × Ends old (Some code) × GoesOn old new
+ComesNext c kept old next.Nothing left new = (left ≡ None) × (kept ≡ None) × Ends old None × GoesOn old new

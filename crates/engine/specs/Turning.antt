@@ -10,7 +10,7 @@ use Rattle.model.specs.declared.events.Send.{Send}
 use Rattle.model.specs.declared.events.Event.{Event}
 use Rattle.model.specs.declared.notes.Note.{Note}
 use Rattle.assembly.specs.Held.{stream_of}
-use Rattle.engine.specs.Performing.{Rules, Decides, PausesOr}
+use Rattle.engine.specs.Performing.{Rules, DecidesByPhase, PausesOr}
 use Rattle.engine.specs.Reading.{kept_of, to_read}
 use Rattle.engine.specs.declared.link.Link.{Link}
 use Rattle.engine.specs.declared.turning.Turn.{Turn}
@@ -20,7 +20,7 @@ use Rattle.engine.specs.declared.turning.Turn.TheVariants as turn
 pub record Performed (r : Rules) (b : Broker) (c : ℕ) (s : Session) (output : List ℕ) (event : Event) (notes : List Note) (new_b : Broker) (new_s : Session) (new_output : List ℕ) : Type 0 where
   pub sends : List Send
   pub mid : Broker
-  pub decides : Decides c s.phase r b s event sends notes mid new_s
+  pub decides : DecidesByPhase c s.phase r b s event sends notes mid new_s
   pub own : AllByRecursion (λ s. receiver s ≡ c) sends
   pub bounded : s.frame_max ≤ 131072
   pub spelled : AllByRecursion (IsSpelled s.frame_max) sends

@@ -13,7 +13,7 @@ use Rattle.model.specs.declared.messages.User.{User}
 use Rattle.assembly.specs.Held.{stream_of}
 use Rattle.broker_core.specs.State as broker
 use Rattle.broker_core.specs.State.{topology_of, broker_of}
-use Rattle.engine.specs.Reading.{IsKept, kept_of}
+use Rattle.engine.specs.Reading.{IsKeptEvent, kept_of}
 use Rattle.engine.specs.declared.link.Link.{Link}
 
 -- the broker, what is in force, how many numbers were given, and the connections that are not gone
@@ -72,7 +72,7 @@ is_link_gone l = is_ended l.session.phase && not (nat_lt 0 (length l.output.byte
 pub record IsLink (given : ℕ) (l : Link) : Type 0 where
   pub within : l.number ≤ given
   pub here : is_link_gone l ≡ false
-  pub kept : IsKept l.number l.kept
+  pub kept : IsKeptEvent l.number l.kept
 
 -- a connection as it is opened, in this session and with this stream
 pub record IsNew (l : Link) (number : ℕ) (session : Session) (stream : Stream) : Type 0 where

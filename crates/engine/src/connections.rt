@@ -18,7 +18,7 @@ ghost use Rattle.std.specs.Prelude.{
 ghost use Rattle.model.specs.Arrivals.{is_ended};
 ghost use Rattle.model.specs.Sending.{AreCarried};
 ghost use Rattle.broker_core.specs.State.{topology_of, broker_of};
-ghost use Rattle.engine.specs.Reading.{IsKept};
+ghost use Rattle.engine.specs.Reading.{IsKeptEvent};
 ghost use Rattle.outputs.specs.Waiting.{HoldsNone};
 ghost use Rattle.engine.specs.Performing.{rules_of};
 ghost use Rattle.engine.specs.Turning.{LinkTook, LinkWaits, IsAwake, OnIdle};
@@ -93,13 +93,13 @@ fn turn_link(
     spares: &mut Spares,
     link: &mut Link,
 ) -> Result<Turn, AllocError>
-    requires kept { IsKept link.old.number link.old.kept }
+    requires kept { IsKeptEvent link.old.number link.old.kept }
     requires carried { AreCarried (broker_of broker.old) }
     ensures ok { IfOk result (λ t. LinkTook (rules_of (topology_of broker.old) users.now) (broker_of broker.old) link.old t (broker_of broker.new) link.new) }
     ensures err { OnErr result (LinkWaits (broker_of broker.old) link.old (broker_of broker.new) link.new) }
     ensures awake { OnErr result (IsAwake link.old) }
     ensures idle { IfOk result (λ t. OnIdle t (HoldsNone link.new.output)) }
-    ensures kept { IsKept link.new.number link.new.kept }
+    ensures kept { IsKeptEvent link.new.number link.new.kept }
     ensures number { link.new.number ≡ link.old.number }
     ensures topology { topology_of broker.new ≡ topology_of broker.old }
 {
@@ -133,7 +133,7 @@ pub(crate) fn turn_at(
     place: usize,
 ) -> Result<Turn, AllocError>
     requires within { place < length links.old.items }
-    requires kept { (l : seen_link.Link) → get_or links.old.items place l ≡ l → IsKept l.number l.kept }
+    requires kept { (l : seen_link.Link) → get_or links.old.items place l ≡ l → IsKeptEvent l.number l.kept }
     requires carried { AreCarried (broker_of broker.old) }
     ensures took { LinksTook (rules_of (topology_of broker.old) users.now) (broker_of broker.old) links.old.items place result (broker_of broker.new) links.new.items }
     ensures topology { topology_of broker.new ≡ topology_of broker.old }

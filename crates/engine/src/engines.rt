@@ -4,7 +4,7 @@ ghost use Rattle.std.specs.Prelude.{◌≡◌, ◌<◌, ℕ, true, IfOk, IsOk, O
 ghost use Rattle.model.specs.Arrivals.{Same, Waits, new_world, is_over, is_awake};
 ghost use Rattle.model.specs.Consuming.{CanDeliver};
 ghost use Rattle.model.specs.Headline.{IsSound};
-ghost use Rattle.runs.specs.Opened.{Hears, Idles, Takes, IsLost};
+ghost use Rattle.runs.specs.Opened.{Hears, Idles, TakesAway, IsLost};
 ghost use Rattle.engine.specs.World.{world_of};
 ghost use Rattle.engine.specs.Engines.{Turned, OnDid, left_in};
 ghost use Rattle.engine.specs.Pumping.{IsPump};
@@ -195,7 +195,7 @@ impl Engine {
 
     /// Takes `n` bytes from the front of `c`'s output, at most what is there.
     pub fn sent(&mut self, c: u64, n: u64)
-        ensures { Takes (world_of self.old) c n (world_of self.new) }
+        ensures { TakesAway (world_of self.old) c n (world_of self.new) }
     {
         if let Some(place) = place_of(&self.links, c) {
             take_at(

@@ -7,7 +7,7 @@ ghost use Rattle.model.specs.State.{after_move};
 ghost use Rattle.model.specs.Arrivals.{IsSaid};
 ghost use Rattle.model.specs.Sending.{AreCarried, AreOwn};
 ghost use Rattle.broker_core.specs.State.{topology_of, broker_of};
-ghost use Rattle.engine.specs.Performing.{IsAsked, session_after, rules_of, IsAnswerTo, ByBroker, ByPhase, Decides, PausesOr};
+ghost use Rattle.engine.specs.Performing.{IsAsked, session_after, rules_of, IsAnswerTo, ByBroker, ByPhase, DecidesByPhase, PausesOr};
 
 use broker::{Broker, Step};
 use model::{Event, Phase, Send, User};
@@ -123,7 +123,7 @@ pub(crate) fn perform(
     requires asked { IsAsked c event.now }
     requires said { IsSaid event.now }
     requires carried { AreCarried (broker_of broker.old) }
-    ensures ok { IfOk result (λ d. Decides c session.old.phase (rules_of (topology_of broker.old) users.now) (broker_of broker.old) session.old event.now d.sends.items d.notes.items (broker_of broker.new) session.new) }
+    ensures ok { IfOk result (λ d. DecidesByPhase c session.old.phase (rules_of (topology_of broker.old) users.now) (broker_of broker.old) session.old event.now d.sends.items d.notes.items (broker_of broker.new) session.new) }
     ensures own { IfOk result (λ d. AreOwn c d.sends.items) }
     ensures broker_kept { OnErr result (broker.new ≡ broker.old) }
     ensures session_kept { OnErr result (session.new ≡ session.old) }

@@ -8,7 +8,7 @@ ghost use Rattle.model.specs.Spelling.{receiver, spelling, IsSpelled};
 ghost use Rattle.model.specs.declared.events.Event as event;
 ghost use Rattle.model.specs.declared.events.Event.TheVariants as happens;
 ghost use Rattle.broker_core.specs.State.{topology_of, broker_of};
-ghost use Rattle.engine.specs.Reading.{IsKept, IsMade};
+ghost use Rattle.engine.specs.Reading.{IsKeptEvent, IsMade};
 ghost use Rattle.engine.specs.Performing.{IsAsked, PausesOr, rules_of};
 ghost use Rattle.engine.specs.Turning.{Performed, DidEvent, LinkTook, LinkWaits, IsAwake, OnIdle};
 ghost use Rattle.outputs.specs.Waiting.{HoldsNone};
@@ -173,7 +173,7 @@ pub(crate) fn turn_awake(
     spares: &mut Spares,
     link: &mut Link,
 ) -> Result<Turn, AllocError>
-    requires kept { IsKept link.old.number link.old.kept }
+    requires kept { IsKeptEvent link.old.number link.old.kept }
     requires carried { AreCarried (broker_of broker.old) }
     requires open { is_ended link.old.session.phase ≡ false }
     requires below { is_past_bound link.old.output.bytes ≡ false }
@@ -181,7 +181,7 @@ pub(crate) fn turn_awake(
     ensures err { OnErr result (LinkWaits (broker_of broker.old) link.old (broker_of broker.new) link.new) }
     ensures awake { OnErr result (IsAwake link.old) }
     ensures idle { IfOk result (λ t. OnIdle t (HoldsNone link.new.output)) }
-    ensures kept { IsKept link.new.number link.new.kept }
+    ensures kept { IsKeptEvent link.new.number link.new.kept }
     ensures number { link.new.number ≡ link.old.number }
     ensures topology { topology_of broker.new ≡ topology_of broker.old }
 {

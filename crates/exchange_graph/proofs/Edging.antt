@@ -17,7 +17,7 @@ use Rattle.exchange_graph.specs.declared.ends.End.{End}
 use Rattle.exchange_graph.specs.declared.ends.End.TheVariants.{Onward, Into}
 use Rattle.exchange_graph.specs.Fans.{AreSteps, place_of, EndsWithin}
 use Rattle.exchange_graph.specs.Marks.{exchange_name, queue_name}
-use Rattle.exchange_graph.specs.Edges.{LeadsIn, LeadsOn, is_into, is_onward}
+use Rattle.exchange_graph.specs.Edges.{LeadsToQueue, LeadsOn, is_into, is_onward}
 use Rattle.topology_drafts.proofs.Members.{in_contains, in_map}
 use Rattle.exchange_graph.proofs.Naming.{apart_same, one_at}
 
@@ -74,10 +74,10 @@ no_source t key name other absent = (λ h. absurd (cc), λ s. absurd (absent (on
 pub no_target : (t : Topology) (key name other : Text) → IsWellFormed t → (IsIn other (exchange_names t.exchanges) → ⊥) → Decides false (LeadsOn t key name other)
 no_target t key name other w absent = (λ h. absurd (cc), λ s. absurd (absent (end_there w s)))
 
-pub no_queue : (t : Topology) (key name queue : Text) → IsWellFormed t → (IsIn queue (queue_names t.queues) → ⊥) → Decides false (LeadsIn t key name queue)
+pub no_queue : (t : Topology) (key name queue : Text) → IsWellFormed t → (IsIn queue (queue_names t.queues) → ⊥) → Decides false (LeadsToQueue t key name queue)
 no_queue t key name queue w absent = (λ h. absurd (cc), λ s. absurd (absent (end_there w s)))
 
-pub no_fan : (t : Topology) (key name queue : Text) → (name ≡ [] → ⊥) → (IsIn name (exchange_names t.exchanges) → ⊥) → Decides false (LeadsIn t key name queue)
+pub no_fan : (t : Topology) (key name queue : Text) → (name ≡ [] → ⊥) → (IsIn name (exchange_names t.exchanges) → ⊥) → Decides false (LeadsToQueue t key name queue)
 no_fan t key name queue some absent = (λ h. absurd (cc), λ s. absurd (absent (in_from_there s some)))
 
 -- the end of a step on to an exchange stands at the place of its name
@@ -108,9 +108,9 @@ steps_on t key name other at ends w a h q = (
 )
 
 pub steps_in : (t : Topology) (key name queue : Text) (at : ℕ) (ends : List End) → IsWellFormed t → AreSteps t key name ends → at < length t.queues → queue_name t at ≡ queue
-    → Decides (list_any (λ (e : End). is_into at e) ends) (LeadsIn t key name queue)
+    → Decides (list_any (λ (e : End). is_into at e) ends) (LeadsToQueue t key name queue)
 steps_in t key name queue at ends w a h q = (
-  λ yes'. subst (λ (z : Text). LeadsIn t key name z) q (a.only (Into at) ((any_end (λ (e : End). is_into at e) (Into at) (into_same at) (same_into at) ends).0 yes')),
+  λ yes'. subst (λ (z : Text). LeadsToQueue t key name z) q (a.only (Into at) ((any_end (λ (e : End). is_into at e) (Into at) (into_same at) (same_into at) ends).0 yes')),
   λ s. (
       let m = a.all (place.Queue queue) s in
       let e : m.0 ≡ Into at = into_end t at queue m.0 w h q (a.within m.0 m.1) m.2 in
@@ -121,12 +121,12 @@ steps_in t key name queue at ends w a h q = (
 
 -- into a queue that is there, the key names it
 pub by_name : (t : Topology) (key name queue : Text) (at : ℕ) → IsWellFormed t → name ≡ [] → at < length t.queues → queue_name t at ≡ queue
-    → Decides (bytes_eq queue key) (LeadsIn t key name queue)
+    → Decides (bytes_eq queue key) (LeadsToQueue t key name queue)
 by_name t key name queue at w z h q = (
   λ yes'. (
       let m = one_at (λ (y : DeclaredQueue). y.name) t.queues at h in
       let e : queue ≡ key = (bytes_eq-Decides queue key).0 yes' in
-      subst (λ (n : Text). LeadsIn t key n queue) (sym z) (default m.0 m.1.is_one (m.1.named ∙ q) e)),
+      subst (λ (n : Text). LeadsToQueue t key n queue) (sym z) (default m.0 m.1.is_one (m.1.named ∙ q) e)),
   λ s. (bytes_eq-Decides queue key).1 (named_by_key w s refl z),
 )
   where

@@ -11,7 +11,7 @@ use Rattle.exchange_graph.specs.declared.ends.End.{End}
 use Rattle.exchange_graph.specs.declared.ends.Way.{Way}
 use Rattle.exchange_graph.specs.Fans.{ends_by_key}
 use Rattle.exchange_graph.specs.declared.ends.KeyedEnds.{KeyedEnds}
-use Rattle.exchange_graph.specs.Keyed.{ends_beside, IsEven, Puts}
+use Rattle.exchange_graph.specs.Keyed.{ends_beside, IsEven, PutsUnder}
 use Rattle.exchange_graph.proofs.Indices.{place_if_some, place_if_none}
 
 -- the first place of a key, or how many keys there are
@@ -96,7 +96,7 @@ put_some key other e ks lists new i l h p q =
     ap (λ (ls : List (List End)). ends_beside other ks ls) q ∙ subst P (sym s) (put_there key other e ks lists l (subst (λ (j : ℕ). j < length ks) s h))
 
 pub puts_old : (key : Text) (e : End) (old new : KeyedEnds) (i : ℕ) → IsEven old → i < length old.keys → position (λ (k : Text). bytes_eq key k) old.keys ≡ Some i → new.keys ≡ old.keys
-    → new.lists.items ≡ set old.lists.items i (get_or old.lists.items i [] ++ e ∷ []) → Puts key e old new
+    → new.lists.items ≡ set old.lists.items i (get_or old.lists.items i [] ++ e ∷ []) → PutsUnder key e old new
 puts_old key e old new i l h p q r = record {
   even = ap (λ (ks : List Text). length ks) q ∙ l ∙ sym (ap (λ (ls : List (List End)). length ls) r ∙ length-set old.lists.items i (get_or old.lists.items i [] ++ e ∷ []));
   told = λ other. ap (λ (ks : List Text). ends_beside other ks new.lists.items) q ∙ put_some key other e old.keys old.lists.items new.lists.items i l h p r;
@@ -156,7 +156,7 @@ put_none : (key other : Text) (e : End) (ks ks' : List Text) (lists new : List (
 put_none key other e ks ks' lists new l p q r = rw (q, r) (put_last key other e ks lists l (not_there key ks p))
 
 pub puts_new : (key : Text) (e : End) (old new : KeyedEnds) → IsEven old → (IsIn key old.keys → ⊥) → new.keys ≡ old.keys ++ key ∷ [] → new.lists.items ≡ old.lists.items ++ (e ∷ []) ∷ []
-    → Puts key e old new
+    → PutsUnder key e old new
 puts_new key e old new l p q r = record {
   even =
       ap (λ (ks : List Text). length ks) q ∙ length-append old.keys (key ∷ []) ∙ ap (λ (n : ℕ). n + 1) l

@@ -12,8 +12,8 @@ abbrev pub LeadsOn : Topology → Text → Text → Text → Type 0
 LeadsOn t key exchange other = Edge t (of_key key) exchange (place.Exchange other)
 
 -- one step leads a message with this key from the exchange of this name into that queue
-abbrev pub LeadsIn : Topology → Text → Text → Text → Type 0
-LeadsIn t key exchange queue = Edge t (of_key key) exchange (place.Queue queue)
+abbrev pub LeadsToQueue : Topology → Text → Text → Text → Type 0
+LeadsToQueue t key exchange queue = Edge t (of_key key) exchange (place.Queue queue)
 
 -- the end is the exchange at this place
 abbrev pub is_onward : ℕ → End → Bool

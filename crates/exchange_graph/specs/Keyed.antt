@@ -27,7 +27,7 @@ pub record AreKeyed (ways : List Way) (keyed : KeyedEnds) : Type 0 where
   pub told : (key : Text) → ends_under key keyed ≡ ends_by_key key ways
 
 -- An end was put behind those that stood under its key.
-pub record Puts (key : Text) (end : End) (old new : KeyedEnds) : Type 0 where
+pub record PutsUnder (key : Text) (end : End) (old new : KeyedEnds) : Type 0 where
   pub even : IsEven new
   pub told : (other : Text) → ends_under other new ≡ ends_under other old ++ (if bytes_eq key other then end ∷ [] else [])
 

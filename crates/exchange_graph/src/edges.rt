@@ -4,7 +4,7 @@ ghost use Rattle.std.specs.Prelude.{◌≡◌, Decides, IfOk};
 ghost use Rattle.std.specs.List.{list_any};
 ghost use Rattle.model.specs.Topology.{IsIn};
 ghost use Rattle.exchange_graph.specs.declared.ends.End.TheVariants.{Onward, Into};
-ghost use Rattle.exchange_graph.specs.Edges.{LeadsIn, LeadsOn, is_into, is_onward};
+ghost use Rattle.exchange_graph.specs.Edges.{LeadsToQueue, LeadsOn, is_into, is_onward};
 
 use crate::ends::End;
 use crate::topologies::Topology;
@@ -62,7 +62,7 @@ impl Topology {
         key: &[u8],
         queue: &[u8],
     ) -> Result<bool, AllocError>
-        ensures { IfOk result (λ yes. Decides yes (LeadsIn self.now key.now exchange.now queue.now)) }
+        ensures { IfOk result (λ yes. Decides yes (LeadsToQueue self.now key.now exchange.now queue.now)) }
     {
         self.is_well_formed();
         let Some(to) = self.queue_at(queue) else {

@@ -2,7 +2,7 @@
 
 ghost use Rattle.std.specs.Prelude.{◌≡◌, ◌<◌, ◌∷◌, ◌++◌, [], length, IfOk, OnOk, slice_index_or, slice_set};
 ghost use Rattle.model.specs.Topology.{IsIn};
-ghost use Rattle.exchange_graph.specs.Keyed.{AreKeyed, IsEven, Puts, ends_under};
+ghost use Rattle.exchange_graph.specs.Keyed.{AreKeyed, IsEven, PutsUnder, ends_under};
 
 use crate::ends::{End, Ends, KeyedEnds, Way};
 use std::alloc::{AllocError, Global};
@@ -20,7 +20,7 @@ fn push_at(lists: &mut Vec<Ends>, place: usize, end: End) -> Result<(), AllocErr
 fn put_new(keyed: &mut KeyedEnds, alloc: Global, key: &[u8], end: End) -> Result<(), AllocError>
     requires even { IsEven keyed.old }
     requires is_new { IsIn key.now keyed.old.keys → ⊥ }
-    ensures { OnOk result (Puts key.now end keyed.old keyed.new) }
+    ensures { OnOk result (PutsUnder key.now end keyed.old keyed.new) }
 {
     let ends = Ends::of(alloc, end)?;
     keyed.lists.push(ends)?;
@@ -31,7 +31,7 @@ fn put_new(keyed: &mut KeyedEnds, alloc: Global, key: &[u8], end: End) -> Result
 /// Puts an end behind those that stand under its key.
 fn put(keyed: &mut KeyedEnds, alloc: Global, key: &[u8], end: End) -> Result<(), AllocError>
     requires { IsEven keyed.old }
-    ensures { OnOk result (Puts key.now end keyed.old keyed.new) }
+    ensures { OnOk result (PutsUnder key.now end keyed.old keyed.new) }
 {
     let Some(place) = keyed.keys.place(key) else {
         return put_new(keyed, alloc, key, end);

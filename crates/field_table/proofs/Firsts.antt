@@ -7,7 +7,7 @@ use Rattle.model.specs.Tables.{Value, Values, Pairs, Truth, Byte, Short, Long, L
 use Rattle.field_table.specs.Arguments.{a_short_text, argument_at}
 use Rattle.field_table.specs.Leaves.{Unread, unread, seen, read_leaf}
 use Rattle.field_table.specs.Values.{unread_of}
-use Rattle.field_table.specs.Reading.{IsFirst, HasNone, IsFirstPair, HasNoPair, SpellsValues, SpellsPairs, HasValues, HasPairs, Holds, Means}
+use Rattle.field_table.specs.Reading.{IsFirst, HasNone, IsFirstPair, HasNoPair, SpellsValues, SpellsPairs, HasValues, HasPairs, HoldsValues, Means}
 use Rattle.field_table.specs.declared.leaves.Leaf.{Leaf}
 use Rattle.field_table.specs.declared.leaves.Leaf.TheVariants as leaves
 use Rattle.field_table.proofs.Exactly.{IsBytes, argument_takes, argument_again}
@@ -35,7 +35,7 @@ first_is depth bytes rest leaf v are e m =
     let b = leaf_takes bytes (unread_of v, rest) are mine in
     record { fits = m.fits b.fits; parts = b.parts ∙ ap (λ (z : List ℕ). z ++ rest) (sym (value_spelled v)) }
 
-pub means_some : (depth : ℕ) (leaf : Leaf) → Holds depth leaf → (v : Value) × Means depth leaf v
+pub means_some : (depth : ℕ) (leaf : Leaf) → HoldsValues depth leaf → (v : Value) × Means depth leaf v
 means_some depth (leaves.Truth b) h = (Truth b, record { read = refl; fits = λ f. tt })
 means_some depth (leaves.Byte n) h = (Byte n, record { read = refl; fits = λ f. f.0 })
 means_some depth (leaves.Short n) h = (Short n, record { read = refl; fits = λ f. f.0 })
@@ -55,7 +55,7 @@ means_some depth (leaves.Table body) h =
 means_some depth (leaves.Bytes t) h = (Byte_array t.now, record { read = refl; fits = λ f. f.0 })
 means_some depth leaves.Void h = (Void, record { read = refl; fits = λ f. tt })
 
-pub held : (depth : ℕ) (leaf : Leaf) (v : Value) → IsValue depth v → seen leaf ≡ unread_of v → Holds depth leaf
+pub held : (depth : ℕ) (leaf : Leaf) (v : Value) → IsValue depth v → seen leaf ≡ unread_of v → HoldsValues depth leaf
 held depth (leaves.Array body) v fits e =
     let found = array_of v (ap (λ (u : Unread). u.letter) e) in
     let its : IsValue depth (Field_array found.0) = subst (IsValue depth) (sym found.1) fits in
@@ -68,7 +68,7 @@ held depth (leaves.Table body) v fits e =
     (its.0, (found.0, record { fits = its.2; parts = same_body body.now (pairs_bytes found.0) 70 70 bodies }))
 held depth _ v fits e = tt
 
-pub unsound : (depth : ℕ) (bytes rest : List ℕ) (leaf : Leaf) → read_leaf bytes ≡ Some (seen leaf, rest) → (Holds depth leaf → ⊥) → HasNone depth bytes
+pub unsound : (depth : ℕ) (bytes rest : List ℕ) (leaf : Leaf) → read_leaf bytes ≡ Some (seen leaf, rest) → (HoldsValues depth leaf → ⊥) → HasNone depth bytes
 unsound depth bytes rest leaf e never v after f =
     let pairs : Unread × List ℕ = (seen leaf, rest) in
     let theirs : Unread × List ℕ = (unread_of v, after) in

@@ -5,7 +5,7 @@ use Rattle.model.specs.Tables.{Value, Values, Pairs, value, pair, letter, conten
 use Rattle.field_table.specs.Arguments.{a_long_text, argument_at}
 use Rattle.field_table.specs.Reading.{IsFirst, IsFirstPair, SpellsValues, SpellsPairs, HasPairs}
 use Rattle.field_table.specs.View.{Named, field_view, entry_view, table_view, fields_view, entries_view, values_then, pairs_then}
-use Rattle.field_table.specs.Answers.{Refused, Answers, Spells, IsOr}
+use Rattle.field_table.specs.Answers.{Refused, AnswersOr, SpellsTable, IsOr}
 use Rattle.field_table.specs.declared.fields.Field.{Field}
 use Rattle.field_table.specs.declared.fields.Entry.{Entry}
 use Rattle.field_table.specs.declared.fields.Table.{Table}
@@ -39,7 +39,7 @@ pub refused_so : (e : Refusal) (P Q : Type 0) → (P → Q) → Refused e P → 
 refused_so SyntaxError P Q f p = f p
 refused_so Memory P Q f p = tt
 
-pub answers_so : {X : Type 0} (r : Result X Refusal) (F G : X → Type 0) (P Q : Type 0) → ((x : X) → F x → G x) → (P → Q) → Answers r F P → Answers r G Q
+pub answers_so : {X : Type 0} (r : Result X Refusal) (F G : X → Type 0) (P Q : Type 0) → ((x : X) → F x → G x) → (P → Q) → AnswersOr r F P → AnswersOr r G Q
 answers_so (Ok x) F G P Q f g a = f x a
 answers_so (Err e) F G P Q f g a = refused_so e P Q g a
 
@@ -56,14 +56,14 @@ text_in (Long_text t) = t
 text_in _ = []
 
 -- the pairs behind the length are those of the table
-its_pairs : (bytes pairs rest : List ℕ) (ps : Pairs) → argument_at a_long_text bytes ≡ Some (Long_text pairs, rest) → Spells bytes ps → pairs ≡ pairs_bytes ps
+its_pairs : (bytes pairs rest : List ℕ) (ps : Pairs) → argument_at a_long_text bytes ≡ Some (Long_text pairs, rest) → SpellsTable bytes ps → pairs ≡ pairs_bytes ps
 unfolding text_in
 its_pairs bytes pairs rest ps e s =
     let again : argument_at a_long_text bytes ≡ Some (sized_front (pairs_bytes ps) []) = ap (argument_at a_long_text) (s.parts ∙ sym (append-nil (table_bytes ps))) ∙ argument_again (Long_text (pairs_bytes ps)) [] s.fits.size in
     let same : sized_front pairs rest ≡ sized_front (pairs_bytes ps) [] = same_some (argument_at a_long_text bytes) (sized_front pairs rest) (sized_front (pairs_bytes ps) []) e again in
     ap (λ (x : Argument × List ℕ). text_in x.0) same
 
-spells : (bytes pairs : List ℕ) (ps : Pairs) → IsBytes bytes → argument_at a_long_text bytes ≡ Some (Long_text pairs, []) → SpellsPairs 15 pairs ps → Spells bytes ps
+spells : (bytes pairs : List ℕ) (ps : Pairs) → IsBytes bytes → argument_at a_long_text bytes ≡ Some (Long_text pairs, []) → SpellsPairs 15 pairs ps → SpellsTable bytes ps
 spells bytes pairs ps are e s =
     let t = argument_takes a_long_text bytes (Long_text pairs, []) tt are e in
     record {
@@ -72,20 +72,20 @@ spells bytes pairs ps are e s =
     }
 
 pub table_read : (bytes pairs rest : List ℕ) (r : Result Table Refusal) → IsBytes bytes → argument_at a_long_text bytes ≡ Some (Long_text pairs, rest) → rest ≡ []
-    → Answers r (λ t. SpellsPairs 15 pairs (table_view t)) (HasPairs 15 pairs → ⊥)
-    → Answers r (λ t. Spells bytes (table_view t)) ((ps : Pairs) → Spells bytes ps → ⊥)
+    → AnswersOr r (λ t. SpellsPairs 15 pairs (table_view t)) (HasPairs 15 pairs → ⊥)
+    → AnswersOr r (λ t. SpellsTable bytes (table_view t)) ((ps : Pairs) → SpellsTable bytes ps → ⊥)
 table_read bytes pairs rest r are e nil a =
     let whole : argument_at a_long_text bytes ≡ Some (Long_text pairs, []) = e ∙ ap (λ (z : List ℕ). Some (sized_front pairs z)) nil in
     answers_so r _ _ _ _ (λ t s. spells bytes pairs (table_view t) are whole s)
     (λ none ps s. none (ps, record { fits = s.fits.fits; parts = its_pairs bytes pairs rest ps e s })) a
 
-same_spelling : (bytes : List ℕ) (ps qs : Pairs) → Spells bytes ps → Spells bytes qs → ps ≡ qs
+same_spelling : (bytes : List ℕ) (ps qs : Pairs) → SpellsTable bytes ps → SpellsTable bytes qs → ps ≡ qs
 same_spelling bytes ps qs s r =
     let e : argument_at a_long_text bytes ≡ Some (Long_text (pairs_bytes ps), []) = ap (argument_at a_long_text) (s.parts ∙ sym (append-nil (table_bytes ps))) ∙ argument_again (Long_text (pairs_bytes ps)) [] s.fits.size in
     one_pairs ps 15 15 qs s.fits.fits r.fits.fits (its_pairs bytes (pairs_bytes ps) [] qs e r)
 
-pub only_table : (bytes : List ℕ) (r : Result Table Refusal) → Answers r (λ t. Spells bytes (table_view t)) ((ps : Pairs) → Spells bytes ps → ⊥)
-    → (ps : Pairs) → Spells bytes ps → IsOr r (λ t. table_view t ≡ ps)
+pub only_table : (bytes : List ℕ) (r : Result Table Refusal) → AnswersOr r (λ t. SpellsTable bytes (table_view t)) ((ps : Pairs) → SpellsTable bytes ps → ⊥)
+    → (ps : Pairs) → SpellsTable bytes ps → IsOr r (λ t. table_view t ≡ ps)
 only_table bytes (Ok t) a ps s = same_spelling bytes (table_view t) ps a s
 only_table bytes (Err SyntaxError) a ps s = a ps s
 only_table bytes (Err Memory) a ps s = tt

@@ -10,12 +10,12 @@ Refused SyntaxError why = why
 Refused Memory why = Unit {0}
 
 -- Found holds of what was read; or it was refused, and this is why
-abbrev pub Answers : {X : Type 0} → Result X Refusal → (X → Type 0) → Type 0 → Type 0
-Answers (Ok x) Found why = Found x
-Answers (Err e) Found why = Refused e why
+abbrev pub AnswersOr : {X : Type 0} → Result X Refusal → (X → Type 0) → Type 0 → Type 0
+AnswersOr (Ok x) Found why = Found x
+AnswersOr (Err e) Found why = Refused e why
 
 -- the bytes are the length and the pairs of this table
-pub record Spells (bytes : List ℕ) (ps : Pairs) : Type 0 where
+pub record SpellsTable (bytes : List ℕ) (ps : Pairs) : Type 0 where
   pub fits : HasSpelling ps
   pub parts : bytes ≡ table_bytes ps
 

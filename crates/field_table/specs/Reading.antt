@@ -47,10 +47,10 @@ abbrev pub HasPairs : ℕ → List ℕ → Type 0
 HasPairs depth bytes = (ps : Pairs) × SpellsPairs depth bytes ps
 
 -- what an array or a table holds is values, or pairs, one level deeper
-abbrev pub Holds : ℕ → Leaf → Type 0
-Holds depth (leaves.Array body) = (1 ≤ depth) × HasValues (depth - 1) body.now
-Holds depth (leaves.Table body) = (1 ≤ depth) × HasPairs (depth - 1) body.now
-Holds depth _ = Unit {0}
+abbrev pub HoldsValues : ℕ → Leaf → Type 0
+HoldsValues depth (leaves.Array body) = (1 ≤ depth) × HasValues (depth - 1) body.now
+HoldsValues depth (leaves.Table body) = (1 ≤ depth) × HasPairs (depth - 1) body.now
+HoldsValues depth _ = Unit {0}
 
 -- what is read of the value is the leaf, and it fits where its numbers do
 pub record Means (depth : ℕ) (leaf : Leaf) (v : Value) : Type 0 where

@@ -2,7 +2,7 @@
 
 ghost use Rattle.std.specs.Prelude.{MatchBool, MatchOption};
 ghost use Rattle.model.specs.Tables.{Value, IsTable};
-ghost use Rattle.field_table.specs.Reading.{IsFirst, HasNone, IsFirstPair, HasNoPair, HasValues, HasPairs, Holds};
+ghost use Rattle.field_table.specs.Reading.{IsFirst, HasNone, IsFirstPair, HasNoPair, HasValues, HasPairs, HoldsValues};
 
 use crate::leaves::{Leaf, leaf_at};
 use crate::takes::short_text_at;
@@ -82,7 +82,7 @@ fn value_end(bytes: &[u8], depth: usize) -> Option<&[u8]>
 /// What an array or a table holds is right.
 #[cycle(check)]
 fn is_sound(leaf: Leaf<'_>, depth: usize) -> bool
-    ensures { MatchBool result (Holds depth leaf.entry) (Holds depth leaf.entry → ⊥) }
+    ensures { MatchBool result (HoldsValues depth leaf.entry) (HoldsValues depth leaf.entry → ⊥) }
 {
     match leaf {
         Leaf::Array(values) => {

@@ -3,8 +3,8 @@
 ghost use Rattle.std.specs.Prelude.{◌≡◌, ◌+◌};
 ghost use Rattle.model.specs.Tables.{Pairs, no_values};
 ghost use Rattle.field_table.specs.View.{table_view, fields_view, field_view, values_then};
-ghost use Rattle.field_table.specs.Reading.{IsFirst, HasNone, IsFirstPair, HasNoPair, SpellsValues, SpellsPairs, HasValues, HasPairs, Holds, Means};
-ghost use Rattle.field_table.specs.Answers.{Answers, Spells, IsOr};
+ghost use Rattle.field_table.specs.Reading.{IsFirst, HasNone, IsFirstPair, HasNoPair, SpellsValues, SpellsPairs, HasValues, HasPairs, HoldsValues, Means};
+ghost use Rattle.field_table.specs.Answers.{AnswersOr, SpellsTable, IsOr};
 
 use crate::checking::DEPTH;
 use crate::fields::{Entry, Field, Table};
@@ -19,9 +19,9 @@ use std::alloc::Global;
 /// Bytes that are left over, a length that is not filled exactly, a letter or a truth octet that no value has, and
 /// tables and arrays inside one another more than 16 levels deep are `SyntaxError`.
 pub fn read_table(alloc: Global, bytes: &[u8]) -> Result<Table, Refusal>
-    ensures tells { Answers result (λ t. Spells bytes.now (table_view t)) ((ps : Pairs) → Spells bytes.now ps → ⊥) }
+    ensures tells { AnswersOr result (λ t. SpellsTable bytes.now (table_view t)) ((ps : Pairs) → SpellsTable bytes.now ps → ⊥) }
     // A table that is spelled so is read, unless memory was refused.
-    ensures only { (ps : Pairs) → Spells bytes.now ps → IsOr result (λ t. table_view t ≡ ps) }
+    ensures only { (ps : Pairs) → SpellsTable bytes.now ps → IsOr result (λ t. table_view t ≡ ps) }
 {
     let (pairs, rest) = long_text_at(bytes).ok_or(Refusal::SyntaxError)?;
     if !rest.is_empty() {
@@ -33,7 +33,7 @@ pub fn read_table(alloc: Global, bytes: &[u8]) -> Result<Table, Refusal>
 /// The table of these pairs, in which arrays and tables may stand `depth` levels deep.
 #[cycle(read)]
 fn table_in(alloc: Global, bytes: &[u8], depth: usize) -> Result<Table, Refusal>
-    ensures { Answers result (λ t. SpellsPairs depth bytes.now (table_view t)) (HasPairs depth bytes.now → ⊥) }
+    ensures { AnswersOr result (λ t. SpellsPairs depth bytes.now (table_view t)) (HasPairs depth bytes.now → ⊥) }
 {
     let mut entries = Vec::new(alloc);
     let mut rest = bytes;
@@ -48,7 +48,7 @@ fn table_in(alloc: Global, bytes: &[u8], depth: usize) -> Result<Table, Refusal>
 /// The name and the value at the front, and what follows them.
 #[cycle(read)]
 fn entry_at(alloc: Global, bytes: &[u8], depth: usize) -> Result<(Entry, &[u8]), Refusal>
-    ensures { Answers result (λ x. IsFirstPair depth bytes.now x.0.name (field_view x.0.value) x.1.now) (HasNoPair depth bytes.now) }
+    ensures { AnswersOr result (λ x. IsFirstPair depth bytes.now x.0.name (field_view x.0.value) x.1.now) (HasNoPair depth bytes.now) }
 {
     let Some((name, rest)) = short_text_at(bytes) else {
         return Err(Refusal::SyntaxError);
@@ -63,7 +63,7 @@ fn entry_at(alloc: Global, bytes: &[u8], depth: usize) -> Result<(Entry, &[u8]),
 /// The values of an array, in which arrays and tables may stand `depth` levels deep.
 #[cycle(read)]
 fn values_in(alloc: Global, bytes: &[u8], depth: usize) -> Result<Vec<Field>, Refusal>
-    ensures { Answers result (λ v. SpellsValues depth bytes.now (values_then (fields_view v.items) no_values)) (HasValues depth bytes.now → ⊥) }
+    ensures { AnswersOr result (λ v. SpellsValues depth bytes.now (values_then (fields_view v.items) no_values)) (HasValues depth bytes.now → ⊥) }
 {
     let mut values = Vec::new(alloc);
     let mut rest = bytes;
@@ -78,7 +78,7 @@ fn values_in(alloc: Global, bytes: &[u8], depth: usize) -> Result<Vec<Field>, Re
 /// The value at the front, and what follows it.
 #[cycle(read)]
 fn field_at(alloc: Global, bytes: &[u8], depth: usize) -> Result<(Field, &[u8]), Refusal>
-    ensures { Answers result (λ x. IsFirst depth bytes.now (field_view x.0) x.1.now) (HasNone depth bytes.now) }
+    ensures { AnswersOr result (λ x. IsFirst depth bytes.now (field_view x.0) x.1.now) (HasNone depth bytes.now) }
 {
     let Some((leaf, rest)) = leaf_at(bytes) else {
         return Err(Refusal::SyntaxError);
@@ -92,7 +92,7 @@ fn field_at(alloc: Global, bytes: &[u8], depth: usize) -> Result<(Field, &[u8]),
 /// The value itself, with what its array or table holds.
 #[cycle(read)]
 fn field_of(alloc: Global, leaf: Leaf<'_>, depth: usize) -> Result<Field, Refusal>
-    ensures { Answers result (λ f. Means depth leaf.entry (field_view f)) (Holds depth leaf.entry → ⊥) }
+    ensures { AnswersOr result (λ f. Means depth leaf.entry (field_view f)) (HoldsValues depth leaf.entry → ⊥) }
 {
     match leaf {
         Leaf::Truth(truth) => Ok(Field::Truth(truth)),
@@ -114,7 +114,7 @@ fn field_of(alloc: Global, leaf: Leaf<'_>, depth: usize) -> Result<Field, Refusa
 
 /// One level less, where there is one.
 fn less(depth: usize) -> Result<usize, Refusal>
-    ensures { Answers result (λ n. n + 1 ≡ depth) (depth ≡ 0) }
+    ensures { AnswersOr result (λ n. n + 1 ≡ depth) (depth ≡ 0) }
 {
     if depth == 0 {
         return Err(Refusal::SyntaxError);

@@ -15,7 +15,7 @@ abbrev pub IsKind : ℕ → Type 0
 IsKind kind = (kind ≡ 1) ⊎ (kind ≡ 2) ⊎ (kind ≡ 3) ⊎ (kind ≡ 8)
 
 -- some bytes after these make a frame stand at the front
-pub record GoesOn (max : ℕ) (bytes : List ℕ) : Type 0 where
+pub record MayGoOn (max : ℕ) (bytes : List ℕ) : Type 0 where
   pub more : List ℕ
   pub are_bytes : (i : ℕ) → slice_index more i < 256
   pub rest : List ℕ
@@ -25,7 +25,7 @@ pub record GoesOn (max : ℕ) (bytes : List ℕ) : Type 0 where
 -- no whole frame stands at the front, and one still may
 pub record IsUnfinished (max : ℕ) (bytes : List ℕ) : Type 0 where
   pub none : (rest : List ℕ) (f : Frames.Frame) → Begins max bytes f rest → ⊥
-  pub open_still : (length bytes < 7) ⊎ GoesOn max bytes
+  pub open_still : (length bytes < 7) ⊎ MayGoOn max bytes
   pub unbroken : IsBroken max bytes → ⊥
 
 -- this frame of so many bytes stands at the front
@@ -34,10 +34,10 @@ pub record IsFront (max : ℕ) (bytes : List ℕ) (f : Frame) (size : ℕ) : Typ
   pub whole : size ≡ length (frame_bytes (seen f))
 
 -- the answer is right for these bytes
-abbrev pub Tells : ℕ → List ℕ → Read → Type 0
-Tells max bytes (Whole f len) = IsFront max bytes f len
-Tells max bytes More = IsUnfinished max bytes
-Tells max bytes (Fault code) = (code ≡ 501) × IsBroken max bytes
+abbrev pub TellsFrame : ℕ → List ℕ → Read → Type 0
+TellsFrame max bytes (Whole f len) = IsFront max bytes f len
+TellsFrame max bytes More = IsUnfinished max bytes
+TellsFrame max bytes (Fault code) = (code ≡ 501) × IsBroken max bytes
 
 -- the answer is this frame, and these bytes stand after it
 abbrev pub IsWhole : List ℕ → Read → Frames.Frame → List ℕ → Type 0

@@ -4,7 +4,7 @@ ghost use Rattle.std.specs.Prelude.{◌≡◌, ◌≤◌, ◌⊎◌, ℕ, List, 
 ghost use Rattle.std.specs.Int.{w16, w32, from_be_bytes};
 ghost use Rattle.model.specs.Frames;
 ghost use Rattle.model.specs.Frames.{Begins};
-ghost use Rattle.frame.specs.Reading.{Tells, IsWhole, IsKind};
+ghost use Rattle.frame.specs.Reading.{TellsFrame, IsWhole, IsKind};
 
 use crate::frames::{Frame, Read};
 use byteorder::{BigEndian, ByteOrder};
@@ -14,7 +14,7 @@ use byteorder::{BigEndian, ByteOrder};
 /// `More` where no whole frame stands there but one may still come, `Fault(501)` where none can.
 pub fn read_frame(input: &[u8], max: u32) -> Read<'_>
     requires { 4096 ≤ max }
-    ensures tells { Tells max input.now result }
+    ensures tells { TellsFrame max input.now result }
     // A frame that stands there is read.
     ensures only { (f : Frames.Frame) (rest : List ℕ) → Begins max input.now f rest → IsWhole input.now result f rest }
 {
@@ -23,7 +23,7 @@ pub fn read_frame(input: &[u8], max: u32) -> Read<'_>
 
 fn front_of(input: &[u8], max: u32) -> Read<'_>
     requires { 4096 ≤ max }
-    ensures { Tells max input.now result }
+    ensures { TellsFrame max input.now result }
 {
     if input.len() < 7 {
         return Read::More;

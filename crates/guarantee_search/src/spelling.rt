@@ -6,7 +6,7 @@ ghost use Rattle.std.specs.Fmt.{decimal};
 ghost use Rattle.std.specs.Str.{bytes_eq};
 ghost use Rattle.model.specs.Topology.{IsIn};
 ghost use Rattle.model.specs.Positions.{named_words};
-ghost use Rattle.guarantee_search.specs.Spellings.{Spells, after, key_of};
+ghost use Rattle.guarantee_search.specs.Spellings.{SpellsLetters, after, key_of};
 ghost use Rattle.model.specs.Searches.{IsWord};
 
 use model::Text;
@@ -89,7 +89,7 @@ fn copy_words(alloc: Global, words: &[Text]) -> Result<Vec<Text>, AllocError>
 /// A word for each letter: its own, and for the letter of all others one that is not named.
 pub fn spellings(alloc: Global, letters: &Letters) -> Result<Vec<Text>, AllocError>
     requires { AllByRecursion IsWord (named_words letters.now) }
-    ensures { IfOk result (λ words. Spells letters.now words.items) }
+    ensures { IfOk result (λ words. SpellsLetters letters.now words.items) }
 {
     let mut words = copy_words(alloc, letters.names())?;
     words.push(other_word(alloc, letters.names())?)?;

@@ -13,7 +13,7 @@ abbrev pub IsExchange : Topology → Text → Type 0
 IsExchange t name = (name ≡ []) ⊎ IsIn name (exchange_names t.exchanges)
 
 -- 5: a guarantee's exchange and queue are there
-pub record IsThere (t : Topology) (g : Guarantee) : Type 0 where
+pub record NamesAreThere (t : Topology) (g : Guarantee) : Type 0 where
   pub exchange : IsExchange t g.exchange
   pub queue : IsIn g.queue (queue_names t.queues)
 
@@ -28,7 +28,7 @@ pub record IsWorded (g : Guarantee) : Type 0 where
 abbrev pub IsClear : Bad → Topology → List Guarantee → Type 0
 IsClear NotJson t gs = Unit {0}
 IsClear Malformed t gs = Unit {0}
-IsClear Absent t gs = All (IsThere t) gs
+IsClear Absent t gs = All (NamesAreThere t) gs
 IsClear Worded t gs = All IsWorded gs
 IsClear TooMany t gs = length gs ≤ 64
 IsClear Memory t gs = Unit {0}

@@ -67,9 +67,9 @@ IsUnread TooMany bytes = (t : Topology) → IsFirst TooMany t bytes
 IsUnread Memory bytes = Unit {0}
 
 -- what the bytes of a file give: its guarantees, or the cause for which it is refused before there are any
-abbrev pub Opens : Result (Vec Guarantee Global) Bad → List ℕ → Type 0
-Opens (Ok gs) bytes = IsFile bytes gs.items
-Opens (Err bad) bytes = IsUnread bad bytes
+abbrev pub OpensGuarantees : Result (Vec Guarantee Global) Bad → List ℕ → Type 0
+OpensGuarantees (Ok gs) bytes = IsFile bytes gs.items
+OpensGuarantees (Err bad) bytes = IsUnread bad bytes
 
 -- No cause stands in the file, and these are its guarantees.
 pub record IsAccepted (gs : List Guarantee) (t : Topology) (bytes : List ℕ) : Type 0 where
@@ -77,6 +77,6 @@ pub record IsAccepted (gs : List Guarantee) (t : Topology) (bytes : List ℕ) : 
   pub is_file : IsFile bytes gs
 
 -- A file is read exactly where no cause stands in it, and its guarantees are given; else it is refused by its first cause.
-abbrev pub Reads : Result (Vec Guarantee Global) Bad → Topology → List ℕ → Type 0
-Reads (Ok gs) t bytes = IsAccepted gs.items t bytes
-Reads (Err bad) t bytes = IsRefused bad t bytes
+abbrev pub ReadsGuarantees : Result (Vec Guarantee Global) Bad → Topology → List ℕ → Type 0
+ReadsGuarantees (Ok gs) t bytes = IsAccepted gs.items t bytes
+ReadsGuarantees (Err bad) t bytes = IsRefused bad t bytes

@@ -5,8 +5,8 @@ ghost use Rattle.model.specs.Topology.{IsIn, exchange_names, queue_names};
 ghost use Rattle.serde_json.specs.View.{view};
 ghost use Rattle.json_file.specs.Outcomes.{Gives};
 ghost use Rattle.guarantees.specs.Stated.{mode_at};
-ghost use Rattle.guarantees.specs.Causes.{IsExchange, IsThere, IsWorded, Judges};
-ghost use Rattle.guarantees.specs.Reads.{Opens, Reads};
+ghost use Rattle.guarantees.specs.Causes.{IsExchange, NamesAreThere, IsWorded, Judges};
+ghost use Rattle.guarantees.specs.Reads.{OpensGuarantees, ReadsGuarantees};
 
 use crate::bad::Bad;
 use crate::promises::Guarantee;
@@ -73,7 +73,7 @@ fn is_queue(topology: &Topology, name: &[u8]) -> bool
 
 /// Whether what a guarantee names is there.
 fn is_there(topology: &Topology, guarantee: &Guarantee) -> bool
-    ensures { Decides result (IsThere topology.now guarantee.now) }
+    ensures { Decides result (NamesAreThere topology.now guarantee.now) }
 {
     let exchange = is_exchange(topology, guarantee.exchange().as_bytes());
     let queue = is_queue(topology, guarantee.queue().as_bytes());
@@ -82,7 +82,7 @@ fn is_there(topology: &Topology, guarantee: &Guarantee) -> bool
 
 /// Whether what the guarantees name is there.
 fn all_there(topology: &Topology, guarantees: &[Guarantee]) -> bool
-    ensures { Decides result (All (IsThere topology.now) guarantees.now) }
+    ensures { Decides result (All (NamesAreThere topology.now) guarantees.now) }
 {
     guarantees
         .iter()
@@ -124,7 +124,7 @@ fn judge(topology: &Topology, guarantees: &[Guarantee]) -> Result<(), Bad>
 
 /// The guarantees of a file, or why it has none.
 fn open(alloc: Global, bytes: &[u8]) -> Result<Vec<Guarantee>, Bad>
-    ensures { Opens result bytes.now }
+    ensures { OpensGuarantees result bytes.now }
 {
     let value = parse(alloc, bytes)?;
     let guarantees = entries::<Guarantee>(alloc, &value, "guarantees")?;
@@ -140,7 +140,7 @@ pub fn read_guarantees(
     bytes: &[u8],
     topology: &Topology,
 ) -> Result<Vec<Guarantee>, Bad>
-    ensures { Reads result topology.now bytes.now }
+    ensures { ReadsGuarantees result topology.now bytes.now }
 {
     let guarantees = open(alloc, bytes)?;
     judge(topology, guarantees.as_slice())?;

@@ -10,7 +10,7 @@ use Rattle.field_table.proofs.Exactly.{IsBytes}
 use Rattle.headers.specs.Properties.{properties_at}
 use Rattle.headers.specs.Unread.{AreWhole, headers_in, Gives}
 use Rattle.headers.specs.Laws.{OneHeader}
-use Rattle.headers.specs.Reading.{Fields, Tells, Refuses, IsHeaderOr}
+use Rattle.headers.specs.Reading.{Fields, TellsHeader, HeaderIsRefused, IsHeaderOr}
 use Rattle.headers.specs.declared.contents.Header.{Header}
 use Rattle.headers.specs.declared.contents.Refusal.{Refusal}
 use Rattle.headers.specs.declared.contents.Refusal.TheVariants.{FrameError, SyntaxError, Memory}
@@ -41,7 +41,7 @@ its_read payload rest size f h fields fits e =
 whole_headers : (p : Properties) → AreProperties p → AreWhole (headers_in (properties_of p))
 whole_headers p fits = subst AreWhole (sym (its_headers p)) (its_table p fits)
 
-pub header_refused : (payload rest : List ℕ) (size f : ℕ) (e : Refusal) → Fields payload size f rest → Gives (Err e) (properties_at f rest) → Refuses payload e
+pub header_refused : (payload rest : List ℕ) (size f : ℕ) (e : Refusal) → Fields payload size f rest → Gives (Err e) (properties_at f rest) → HeaderIsRefused payload e
 header_refused payload rest size f FrameError fields g = absurd g
 header_refused payload rest size f SyntaxError fields g =
     bad_properties fields.long fields.class_is fields.weight_is

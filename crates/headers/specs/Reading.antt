@@ -28,15 +28,15 @@ TellsSize payload (Err SyntaxError) = ⊥
 TellsSize payload (Err Memory) = ⊥
 
 -- the payload is refused for this reason, or memory was
-abbrev pub Refuses : List ℕ → Refusal → Type 0
-Refuses payload FrameError = SaysHeader payload (Err 501)
-Refuses payload SyntaxError = SaysHeader payload (Err 502)
-Refuses payload Memory = ⊤
+abbrev pub HeaderIsRefused : List ℕ → Refusal → Type 0
+HeaderIsRefused payload FrameError = SaysHeader payload (Err 501)
+HeaderIsRefused payload SyntaxError = SaysHeader payload (Err 502)
+HeaderIsRefused payload Memory = ⊤
 
 -- the answer is right for this payload
-abbrev pub Tells : List ℕ → Result Header Refusal → Type 0
-Tells payload (Ok h) = SaysHeader payload (Ok (seen h))
-Tells payload (Err e) = Refuses payload e
+abbrev pub TellsHeader : List ℕ → Result Header Refusal → Type 0
+TellsHeader payload (Ok h) = SaysHeader payload (Ok (seen h))
+TellsHeader payload (Err e) = HeaderIsRefused payload e
 
 -- the answer is this header, or memory was refused
 abbrev pub IsHeaderOr : Headers.Header → Result Header Refusal → Type 0

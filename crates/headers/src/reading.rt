@@ -3,7 +3,7 @@
 ghost use Rattle.std.specs.Prelude.{◌≡◌, ◌<◌, ◌^◌};
 ghost use Rattle.model.specs.Headers;
 ghost use Rattle.model.specs.Headers.{header_bytes, AreProperties};
-ghost use Rattle.headers.specs.Reading.{TellsSize, Tells, IsHeaderOr};
+ghost use Rattle.headers.specs.Reading.{TellsSize, TellsHeader, IsHeaderOr};
 
 use crate::contents::{Header, Refusal};
 use crate::fields::fields_at;
@@ -22,7 +22,7 @@ pub fn read_size(payload: &[u8]) -> Result<u64, Refusal>
 
 /// The header that the payload of a header frame spells.
 pub fn read_header(alloc: Global, payload: &[u8]) -> Result<Header, Refusal>
-    ensures tells { Tells payload.now result }
+    ensures tells { TellsHeader payload.now result }
     // A header that is spelled so is read, unless memory was refused.
     ensures only { (h : Headers.Header) → h.size < 2 ^ 64 → AreProperties h.properties → payload.now ≡ header_bytes h.size h.properties → IsHeaderOr h result }
 {

@@ -24,5 +24,5 @@ PutsAt (Some why) piece old new = new ≡ old
 PutsAt None piece old new = (new ≡ record old { text = old.text ++ piece }) ⊎ (new ≡ record old { lack = Some Memory })
 
 -- this piece was appended, so far as nothing was lacking before
-abbrev pub Puts : Text → Answering → Answering → Type 0
-Puts piece old new = PutsAt old.lack piece old new
+abbrev pub PutsPiece : Text → Answering → Answering → Type 0
+PutsPiece piece old new = PutsAt old.lack piece old new

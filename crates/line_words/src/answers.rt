@@ -2,7 +2,7 @@
 
 ghost use Rattle.std.specs.Prelude.{◌≡◌, [], length, codes, decimal, Some, None, string_bytes, if◌then◌else◌};
 ghost use Rattle.hex.specs.Hex.{encode_lower};
-ghost use Rattle.line_words.specs.Answers.{Puts, failed};
+ghost use Rattle.line_words.specs.Answers.{PutsPiece, failed};
 
 use model::Text;
 use std::alloc::Global;
@@ -87,7 +87,7 @@ impl Answer {
 
     /// Appends a text.
     pub fn put(&mut self, text: &str)
-        ensures { Puts text.now self.old self.new }
+        ensures { PutsPiece text.now self.old self.new }
     {
         if self.lack.is_none() && self.text.push_str(text).is_err() {
             self.lack = Some(Unanswered::Memory);
@@ -96,7 +96,7 @@ impl Answer {
 
     /// Appends a number.
     pub fn put_number(&mut self, number: u64)
-        ensures { Puts (decimal number) self.old self.new }
+        ensures { PutsPiece (decimal number) self.old self.new }
     {
         match format!(in self.alloc; "{number}") {
             Ok(digits) => self.put(digits.as_str()),
@@ -106,7 +106,7 @@ impl Answer {
 
     /// Appends bytes in hex.
     pub fn put_hex(&mut self, bytes: &[u8])
-        ensures { Puts (encode_lower bytes.now) self.old self.new }
+        ensures { PutsPiece (encode_lower bytes.now) self.old self.new }
     {
         match hex::encode(self.alloc, bytes) {
             Ok(digits) => self.put(digits.as_str()),
@@ -144,7 +144,7 @@ impl Answer {
 
     /// Appends `yes` or `no`.
     pub fn put_yes_or_no(&mut self, is: bool)
-        ensures { Puts (if is then codes "yes" else codes "no") self.old self.new }
+        ensures { PutsPiece (if is then codes "yes" else codes "no") self.old self.new }
     {
         self.put(if is { "yes" } else { "no" });
     }

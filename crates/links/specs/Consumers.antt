@@ -6,9 +6,9 @@ use Rattle.channel.specs.declared.consumers.Consumer.{Consumer}
 use Rattle.links.specs.Links.{Linked, channel_in}
 
 -- a channel that is there has a consumer of this number
-abbrev pub has_number : Option Open → ℕ → Bool
-has_number None number = false
-has_number (Some ch) number = is_some (consumer_at ch.given number)
+abbrev pub has_consumer_numbered : Option Open → ℕ → Bool
+has_consumer_numbered None number = false
+has_consumer_numbered (Some ch) number = is_some (consumer_at ch.given number)
 
 -- the number of the next consumer on this channel, 1 where it is not open; none where close-ok is awaited, for then a consume does nothing
 abbrev pub next_number : Option Open → Option ℕ
@@ -16,7 +16,7 @@ next_number None = Some 1
 next_number (Some ch) = if ch.is_closing then None else Some ch.given.next_number
 
 -- The consumer of this number on the channel h of a connection may take a message now.
-pub record TakesOn (l : Linked) (h number : ℕ) (k : Consumer) : Type 0 where
+pub record MayTakeOn (l : Linked) (h number : ℕ) (k : Consumer) : Type 0 where
   pub awake : l.is_paused ≡ false
   pub channel : Open
   pub there : channel_in l h ≡ Some channel
@@ -25,5 +25,5 @@ pub record TakesOn (l : Linked) (h number : ℕ) (k : Consumer) : Type 0 where
 
 -- It is told, exactly where it may.
 abbrev pub TellsOn : Linked → ℕ → ℕ → Option Consumer → Type 0
-TellsOn l h number (Some k) = TakesOn l h number k
+TellsOn l h number (Some k) = MayTakeOn l h number k
 TellsOn l h number None = (ch : Open) → l.is_paused ≡ false → channel_in l h ≡ Some ch → ch.is_closing ≡ false → HasNoTaker ch number

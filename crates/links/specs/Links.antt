@@ -96,7 +96,7 @@ seats_in None = 0
 seats_in (Some ch) = ch.given.seats
 
 -- This stands at the channel h of the connection c now, and everything else stays.
-pub record Puts (old : List (ℕ × Linked)) (c h : ℕ) (ch : Option Open) (new : List (ℕ × Linked)) : Type 0 where
+pub record PutsChannel (old : List (ℕ × Linked)) (c h : ℕ) (ch : Option Open) (new : List (ℕ × Linked)) : Type 0 where
   pub connections : (d : ℕ) → connection_of new d ≡ connection_of old d
   pub channels : (d k : ℕ) → channel_of new d k ≡ with_pair (channel_of old) c h ch d k
 
@@ -106,7 +106,7 @@ pub record AreLinks (new : List (ℕ × Linked)) (connections : ℕ → Option C
   pub channels_are : (d k : ℕ) → channel_of new d k ≡ channels d k
 
 -- The connection c runs now, with this channel-max, and its channels 1 to k are open and new.
-pub record Opens (old : List (ℕ × Linked)) (c max k : ℕ) (new : List (ℕ × Linked)) : Type 0 where
+pub record OpensLink (old : List (ℕ × Linked)) (c max k : ℕ) (new : List (ℕ × Linked)) : Type 0 where
   pub connections_are : (d : ℕ) → connection_of new d ≡ with_one (connection_of old) c (Some (record { channel_max = max; is_paused = false })) d
   pub channels_are : (names : List Text) (d h : ℕ) → seen_in names new d h ≡ with_row (seen_in names old) c (channels_up_to k) d h
   pub others_stay : (d h : ℕ) → (d == c) ≡ false → channel_of new d h ≡ channel_of old d h

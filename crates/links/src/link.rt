@@ -37,7 +37,7 @@ impl Link {
     ghost use Rattle.model.specs.declared.methods.Qos.{Qos as Limit};
     ghost use Rattle.model.specs.Settling.{settled};
     ghost use Rattle.channel.specs.Outstanding.{tag_of};
-    ghost use Rattle.channel.specs.Open.{Open, open_in, limited, given_on, settled_on, without_settled, without_named, Seats};
+    ghost use Rattle.channel.specs.Open.{Open, open_in, with_qos, given_on, settled_on, without_settled, without_named, Seats};
     ghost use Rattle.links.specs.Consumers.{TellsOn};
     ghost use Rattle.links.specs.Consumers.{next_number};
     ghost use Rattle.links.specs.Counting.{consumers_of};
@@ -160,7 +160,7 @@ impl Link {
 
     /// The limit that a qos sets is this channel's.
     pub(crate) fn limit(&mut self, number: u16, qos: &Qos)
-        ensures { (ch : Open) → channel_in self.old number ≡ Some ch → PutsIn self.old number (Some (limited ch qos.now)) self.new }
+        ensures { (ch : Open) → channel_in self.old number ≡ Some ch → PutsIn self.old number (Some (with_qos ch qos.now)) self.new }
     {
         limit_at(&mut self.channels, number, qos);
     }

@@ -50,9 +50,9 @@ impl Links {
     ghost use Rattle.model.specs.declared.methods.Qos.{Qos as Limit};
     ghost use Rattle.model.specs.Settling.{settled};
     ghost use Rattle.channel.specs.Outstanding.{tag_of};
-    ghost use Rattle.channel.specs.Open.{Open, limited, given_on, settled_on, without_settled, without_named, Seats};
+    ghost use Rattle.channel.specs.Open.{Open, with_qos, given_on, settled_on, without_settled, without_named, Seats};
     ghost use Rattle.links.specs.Counting.{CountsConsumers};
-    ghost use Rattle.links.specs.Links.{link_in, connection_of, channel_of, outstanding_on, room_in, seats_in, CanCount, CanGive, HasRoom, SetsRoom, Puts, Opens, AreLinks};
+    ghost use Rattle.links.specs.Links.{link_in, connection_of, channel_of, outstanding_on, room_in, seats_in, CanCount, CanGive, HasRoom, SetsRoom, PutsChannel, OpensLink, AreLinks};
 
     /// No connection runs. It takes no memory.
     pub fn new(alloc: Global) -> Links
@@ -106,7 +106,7 @@ impl Links {
         channel_max: u16,
         channels: u16,
     ) -> Result<(), AllocError>
-        ensures ok { OnOk result (Opens self.old connection channel_max channels self.new) }
+        ensures ok { OnOk result (OpensLink self.old connection channel_max channels self.new) }
         ensures err { OnErr result (self.new ≡ self.old) }
     {
         let link = Link::new(alloc, channel_max, channels)?;
@@ -156,7 +156,7 @@ impl Links {
     /// Publishes on this channel are confirmed from now on.
     pub fn select(&mut self, connection: u64, channel: u16)
         requires { IsSome (channel_of self.old connection channel) }
-        ensures { (ch : Open) → channel_of self.old connection channel ≡ Some ch → Puts self.old connection channel (Some (record ch { confirm = started ch.confirm })) self.new }
+        ensures { (ch : Open) → channel_of self.old connection channel ≡ Some ch → PutsChannel self.old connection channel (Some (record ch { confirm = started ch.confirm })) self.new }
     {
         if let Some(link) = self.links.get_mut(&connection) {
             link.select(channel);
@@ -167,7 +167,7 @@ impl Links {
     pub fn count_publish(&mut self, connection: u64, channel: u16)
         requires there { IsSome (channel_of self.old connection channel) }
         requires room { CanCount (channel_of self.old connection channel) }
-        ensures { (ch : Open) → channel_of self.old connection channel ≡ Some ch → Puts self.old connection channel (Some (record ch { confirm = next_of ch.confirm })) self.new }
+        ensures { (ch : Open) → channel_of self.old connection channel ≡ Some ch → PutsChannel self.old connection channel (Some (record ch { confirm = next_of ch.confirm })) self.new }
     {
         if let Some(link) = self.links.get_mut(&connection) {
             link.count_publish(channel);
@@ -177,7 +177,7 @@ impl Links {
     /// The limit that a qos sets is this channel's.
     pub fn limit(&mut self, connection: u64, channel: u16, qos: &Qos)
         requires { IsSome (channel_of self.old connection channel) }
-        ensures { (ch : Open) → channel_of self.old connection channel ≡ Some ch → Puts self.old connection channel (Some (limited ch qos.now)) self.new }
+        ensures { (ch : Open) → channel_of self.old connection channel ≡ Some ch → PutsChannel self.old connection channel (Some (with_qos ch qos.now)) self.new }
     {
         if let Some(link) = self.links.get_mut(&connection) {
             link.limit(channel, qos);
@@ -194,7 +194,7 @@ impl Links {
         consume: &Consume,
     ) -> Result<Text, Refusal>
         requires { IsSome (channel_of self.old connection channel) }
-        ensures seats { (ch : Open) → channel_of self.old connection channel ≡ Some ch → (new : Open) × Seats ch queue consume.now result new × Puts self.old connection channel (Some new) self.new }
+        ensures seats { (ch : Open) → channel_of self.old connection channel ≡ Some ch → (new : Open) × Seats ch queue consume.now result new × PutsChannel self.old connection channel (Some new) self.new }
         ensures err { OnErr result (self.new ≡ self.old) }
     {
         match self.links.get_mut(&connection) {
@@ -206,7 +206,7 @@ impl Links {
     /// The consumer of this tag is this channel's no more. It takes no memory.
     pub fn cancel(&mut self, connection: u64, channel: u16, tag: &[u8])
         requires { IsSome (channel_of self.old connection channel) }
-        ensures { (ch : Open) → channel_of self.old connection channel ≡ Some ch → Puts self.old connection channel (Some (without_named ch tag.now (seats_in (channel_of self.new connection channel)))) self.new }
+        ensures { (ch : Open) → channel_of self.old connection channel ≡ Some ch → PutsChannel self.old connection channel (Some (without_named ch tag.now (seats_in (channel_of self.new connection channel)))) self.new }
     {
         if let Some(link) = self.links.get_mut(&connection) {
             link.cancel(channel, tag);
@@ -216,7 +216,7 @@ impl Links {
     /// Room is made for one message more that is given out on this channel.
     pub fn reserve(&mut self, connection: u64, channel: u16) -> Result<(), AllocError>
         requires { IsSome (channel_of self.old connection channel) }
-        ensures ok { OnOk result ((ch : Open) → channel_of self.old connection channel ≡ Some ch → (new : Option Open) × SetsRoom ch new × Puts self.old connection channel new self.new) }
+        ensures ok { OnOk result ((ch : Open) → channel_of self.old connection channel ≡ Some ch → (new : Option Open) × SetsRoom ch new × PutsChannel self.old connection channel new self.new) }
         ensures err { OnErr result (self.new ≡ self.old) }
     {
         match self.links.get_mut(&connection) {
@@ -230,7 +230,7 @@ impl Links {
         requires there { IsSome (channel_of self.old connection channel) }
         requires tag { CanGive (channel_of self.old connection channel) }
         requires room { HasRoom (channel_of self.old connection channel) }
-        ensures { (ch : Open) → channel_of self.old connection channel ≡ Some ch → Puts self.old connection channel (Some (given_on ch queue arrival by)) self.new }
+        ensures { (ch : Open) → channel_of self.old connection channel ≡ Some ch → PutsChannel self.old connection channel (Some (given_on ch queue arrival by)) self.new }
     {
         if let Some(link) = self.links.get_mut(&connection) {
             link.give(channel, queue, arrival, by);
@@ -241,7 +241,7 @@ impl Links {
     pub fn give_settled(&mut self, connection: u64, channel: u16)
         requires there { IsSome (channel_of self.old connection channel) }
         requires tag { CanGive (channel_of self.old connection channel) }
-        ensures { (ch : Open) → channel_of self.old connection channel ≡ Some ch → Puts self.old connection channel (Some (settled_on ch)) self.new }
+        ensures { (ch : Open) → channel_of self.old connection channel ≡ Some ch → PutsChannel self.old connection channel (Some (settled_on ch)) self.new }
     {
         if let Some(link) = self.links.get_mut(&connection) {
             link.give_settled(channel);
@@ -267,7 +267,7 @@ impl Links {
     /// What this tag settles is no longer outstanding on this channel. It takes no memory.
     pub fn forget(&mut self, connection: u64, channel: u16, tag: u64, multiple: bool)
         requires { IsSome (channel_of self.old connection channel) }
-        ensures { (ch : Open) → channel_of self.old connection channel ≡ Some ch → Puts self.old connection channel (Some (without_settled ch tag multiple (room_in (channel_of self.new connection channel)))) self.new }
+        ensures { (ch : Open) → channel_of self.old connection channel ≡ Some ch → PutsChannel self.old connection channel (Some (without_settled ch tag multiple (room_in (channel_of self.new connection channel)))) self.new }
     {
         if let Some(link) = self.links.get_mut(&connection) {
             link.forget(channel, tag, multiple);
@@ -283,7 +283,7 @@ impl Links {
         channel: Channel,
     ) -> Result<(), AllocError>
         requires { IsSome (link_in self.old connection) }
-        ensures ok { OnOk result (Puts self.old connection number (Some channel) self.new) }
+        ensures ok { OnOk result (PutsChannel self.old connection number (Some channel) self.new) }
         ensures err { OnErr result (self.new ≡ self.old) }
     {
         match self.links.get_mut(&connection) {
@@ -295,7 +295,7 @@ impl Links {
     /// This stands at this channel from now on.
     pub fn put(&mut self, connection: u64, number: u16, channel: Option<Channel>)
         requires { IsSome (channel_of self.old connection number) }
-        ensures { Puts self.old connection number channel self.new }
+        ensures { PutsChannel self.old connection number channel self.new }
     {
         if let Some(link) = self.links.get_mut(&connection) {
             link.put(number, channel);

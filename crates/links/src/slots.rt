@@ -29,7 +29,7 @@ ghost use Rattle.model.specs.Words.{Text as Name};
 ghost use Rattle.model.specs.Broker.{new_channel};
 ghost use Rattle.model.specs.Step.{started, next_of, greatest};
 ghost use Rattle.model.specs.declared.methods.Qos.{Qos as Limit};
-ghost use Rattle.channel.specs.Open.{Open, open_in, limited, given_on, settled_on, without_settled, without_named, Seats, IsTaker, HasNoTaker};
+ghost use Rattle.channel.specs.Open.{Open, open_in, with_qos, given_on, settled_on, without_settled, without_named, Seats, IsTaker, HasNoTaker};
 ghost use Rattle.links.specs.Links.{CanCount, CanGive, HasRoom, IsSet, SetsRoom, room_in, seats_in};
 ghost use Rattle.links.specs.Consumers.{next_number};
 ghost use Rattle.links.specs.Counting.{consumers_at};
@@ -72,7 +72,7 @@ fn count_in(slot: &mut Option<Channel>)
 
 /// The limit that a qos sets is this channel's.
 fn limit_in(slot: &mut Option<Channel>, qos: &Qos)
-    ensures { (ch : Open) → slot.old ≡ Some ch → slot.new ≡ Some (limited ch qos.now) }
+    ensures { (ch : Open) → slot.old ≡ Some ch → slot.new ≡ Some (with_qos ch qos.now) }
 {
     if let Some(channel) = slot {
         channel.limit(qos);
@@ -169,7 +169,7 @@ pub(crate) fn count_at(channels: &mut [Option<Channel>], number: u16)
 
 /// The same of the channel of this number.
 pub(crate) fn limit_at(channels: &mut [Option<Channel>], number: u16, qos: &Qos)
-    ensures { (ch : Open) → slice_index_or channels.old number None ≡ Some ch → IsSet channels.old number (Some (limited ch qos.now)) channels.new }
+    ensures { (ch : Open) → slice_index_or channels.old number None ≡ Some ch → IsSet channels.old number (Some (with_qos ch qos.now)) channels.new }
 {
     let at = number as usize;
     if at < channels.len() {

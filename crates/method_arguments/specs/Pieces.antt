@@ -62,8 +62,8 @@ kind_in (pieces.FourBits a b c d) = Some (arguments.some_bits 4)
 kind_in (pieces.FiveBits a b c d e) = Some (arguments.some_bits 5)
 
 -- an argument of this kind
-abbrev pub IsOf : arguments.Kind → Piece → Type 0
-IsOf k p = kind_in p ≡ Some k
+abbrev pub IsOfKind : arguments.Kind → Piece → Type 0
+IsOfKind k p = kind_in p ≡ Some k
 
 -- the first kind, if there is one
 abbrev pub first_of : List Kind → Option arguments.Kind

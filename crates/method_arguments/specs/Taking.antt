@@ -20,9 +20,9 @@ pub record IsTaken (ks : List Kind) (bytes : List ℕ) (p : Piece) (others : Lis
   pub read : arguments_at (kinds_in ks) bytes ≡ option_map (onto (seen p)) (arguments_at (kinds_in others) rest)
 
 -- a piece was taken off the front, or there are no arguments of these kinds
-abbrev pub Takes : List Kind → List ℕ → Option (Piece × Bor (List Kind) × Bor (List ℕ)) → Type 0
-Takes ks bytes None = arguments_at (kinds_in ks) bytes ≡ None
-Takes ks bytes (Some x) = IsTaken ks bytes x.0 x.1.now x.2.now
+abbrev pub TakesArgument : List Kind → List ℕ → Option (Piece × Bor (List Kind) × Bor (List ℕ)) → Type 0
+TakesArgument ks bytes None = arguments_at (kinds_in ks) bytes ≡ None
+TakesArgument ks bytes (Some x) = IsTaken ks bytes x.0 x.1.now x.2.now
 
 -- what was read is these pieces, of these kinds
 pub record AreRead (ks : List Kind) (p : Pieces) (read : Option (List Argument)) : Type 0 where

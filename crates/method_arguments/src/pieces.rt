@@ -60,10 +60,10 @@ pub const NOTHING: Pieces<'static> = Pieces {
 };
 
 impl<'a> Piece<'a> {
-    ghost use Rattle.method_arguments.specs.Pieces.{seen, IsOf};
+    ghost use Rattle.method_arguments.specs.Pieces.{seen, IsOfKind};
 
     pub fn octet(&self) -> u8
-        requires { IsOf an_octet self.now }
+        requires { IsOfKind an_octet self.now }
         ensures { seen self.now ≡ Some (said.Octet result) }
     {
         match self {
@@ -73,7 +73,7 @@ impl<'a> Piece<'a> {
     }
 
     pub fn short(&self) -> u16
-        requires { IsOf a_short self.now }
+        requires { IsOfKind a_short self.now }
         ensures { seen self.now ≡ Some (said.Short result) }
     {
         match self {
@@ -83,7 +83,7 @@ impl<'a> Piece<'a> {
     }
 
     pub fn long(&self) -> u32
-        requires { IsOf a_long self.now }
+        requires { IsOfKind a_long self.now }
         ensures { seen self.now ≡ Some (said.Long result) }
     {
         match self {
@@ -93,7 +93,7 @@ impl<'a> Piece<'a> {
     }
 
     pub fn long_long(&self) -> u64
-        requires { IsOf a_long_long self.now }
+        requires { IsOfKind a_long_long self.now }
         ensures { seen self.now ≡ Some (said.Long_long result) }
     {
         match self {
@@ -103,7 +103,7 @@ impl<'a> Piece<'a> {
     }
 
     pub fn short_text(&self, alloc: Global) -> Result<Text, AllocError>
-        requires { IsOf a_short_text self.now }
+        requires { IsOfKind a_short_text self.now }
         ensures { IfOk result (λ text. seen self.now ≡ Some (said.Short_text text)) }
     {
         match self {
@@ -113,7 +113,7 @@ impl<'a> Piece<'a> {
     }
 
     pub fn long_text(&self, alloc: Global) -> Result<Text, AllocError>
-        requires { IsOf a_long_text self.now }
+        requires { IsOfKind a_long_text self.now }
         ensures { IfOk result (λ text. seen self.now ≡ Some (said.Long_text text)) }
     {
         match self {
@@ -124,7 +124,7 @@ impl<'a> Piece<'a> {
 
     /// The bytes of a table's pairs, which need not be pairs.
     pub fn pairs(&self) -> &'a [u8]
-        requires { IsOf a_field_table self.now }
+        requires { IsOfKind a_field_table self.now }
         ensures { seen self.now ≡ Some (said.Field_table result.now) }
     {
         match self {
@@ -134,7 +134,7 @@ impl<'a> Piece<'a> {
     }
 
     pub fn bit(&self) -> bool
-        requires { IsOf (some_bits 1) self.now }
+        requires { IsOfKind (some_bits 1) self.now }
         ensures { seen self.now ≡ Some (said.Bits (result ∷ [])) }
     {
         match self {
@@ -144,7 +144,7 @@ impl<'a> Piece<'a> {
     }
 
     pub fn two_bits(&self) -> (bool, bool)
-        requires { IsOf (some_bits 2) self.now }
+        requires { IsOfKind (some_bits 2) self.now }
         ensures { seen self.now ≡ Some (said.Bits (result.0 ∷ result.1 ∷ [])) }
     {
         match self {
@@ -154,7 +154,7 @@ impl<'a> Piece<'a> {
     }
 
     pub fn four_bits(&self) -> (bool, bool, bool, bool)
-        requires { IsOf (some_bits 4) self.now }
+        requires { IsOfKind (some_bits 4) self.now }
         ensures { seen self.now ≡ Some (said.Bits (result.0 ∷ result.1 ∷ result.2 ∷ result.3 ∷ [])) }
     {
         match self {
@@ -164,7 +164,7 @@ impl<'a> Piece<'a> {
     }
 
     pub fn five_bits(&self) -> (bool, bool, bool, bool, bool)
-        requires { IsOf (some_bits 5) self.now }
+        requires { IsOfKind (some_bits 5) self.now }
         ensures { seen self.now ≡ Some (said.Bits (result.0 ∷ result.1 ∷ result.2 ∷ result.3 ∷ result.4 ∷ [])) }
     {
         match self {

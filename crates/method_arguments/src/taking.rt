@@ -3,7 +3,7 @@
 ghost use Rattle.std.specs.Prelude.{◌≡◌, ◌≤◌, length, option_map, None, Some, IfSome, MatchOption};
 ghost use Rattle.field_table.specs.Arguments.{argument_at, arguments_at, an_octet, a_short, a_long, a_long_long, a_short_text, a_long_text, a_field_table, some_bits};
 ghost use Rattle.method_arguments.specs.Pieces.{kind as as_kind, kind_in, kinds_in, seen};
-ghost use Rattle.method_arguments.specs.Taking.{Takes, AreRead, found};
+ghost use Rattle.method_arguments.specs.Taking.{TakesArgument, AreRead, found};
 
 use crate::pieces::{Kind, Piece, Pieces};
 use field_table::{
@@ -45,7 +45,7 @@ pub fn pieces_at<'a>(kinds: &[Kind], bytes: &'a [u8]) -> Option<Pieces<'a>>
 
 /// The first argument, the kinds of the others, and the bytes after it.
 fn take<'k, 'a>(kinds: &'k [Kind], bytes: &'a [u8]) -> Option<(Piece<'a>, &'k [Kind], &'a [u8])>
-    ensures { Takes kinds.now bytes.now result }
+    ensures { TakesArgument kinds.now bytes.now result }
 {
     match kinds.split_first() {
         None => Some((Piece::Nothing, kinds, bytes)),

@@ -14,7 +14,7 @@ use Rattle.field_table.proofs.Exactly.{IsBytes, IsBytes-drop, IsKind, arguments_
 use Rattle.methods.specs.declared.refusals.Refusal.{Refusal}
 use Rattle.methods.specs.declared.refusals.Refusal.TheVariants.{FrameError, SyntaxError, CommandInvalid, NotImplemented, Memory}
 use Rattle.methods.specs.Kinds.{close_kinds, declare_exchange_kinds, tag_kinds, connection_kinds, channel_kinds, exchange_kinds, queue_class_kinds, basic_kinds, confirm_kinds, kinds_of}
-use Rattle.methods.specs.Reading.{Refuses, Tells, IsMethodOr, Starts, IsRead, Fails, Reads}
+use Rattle.methods.specs.Reading.{MethodIsRefused, TellsMethod, IsMethodOr, Starts, IsRead, Fails, ReadsArguments}
 use Rattle.methods.proofs.Rebuilt.{same_method}
 
 -- ---- the table
@@ -159,7 +159,7 @@ found payload rest c m x starts fits (any_rest tail u e) =
 at_ids : (payload rest : List ℕ) (c m : ℕ) (F : ℕ → ℕ → Bool) (b : Bool) → Starts payload c m rest → F c m ≡ b → F (class_at payload) (method_at payload) ≡ b
 at_ids payload rest c m F b starts e = ap (λ (i : ℕ). F i (method_at payload)) starts.class_is ∙ ap (λ (i : ℕ). F c i) starts.method_is ∙ e
 
-refuses : (payload rest : List ℕ) (c m : ℕ) (r : Refusal) → Starts payload c m rest → Fails c m rest r → Refuses payload r
+refuses : (payload rest : List ℕ) (c m : ℕ) (r : Refusal) → Starts payload c m rest → Fails c m rest r → MethodIsRefused payload r
 refuses payload rest c m FrameError starts f = absurd f
 refuses payload rest c m SyntaxError starts f =
     bad_arguments starts.long (at_ids payload rest c m is_known true starts f.known)
@@ -192,7 +192,7 @@ said_read payload rest c m x true u are starts reads =
     let ends : method_bytes x ≡ head = ap (λ (z : List Argument). to_be_bytes w16 (ids_of x).class ++ to_be_bytes w16 (ids_of x).method ++ flat_map argument z) none ∙ append-nil head in
     said {m = x} fits (any_rest rest mine (its_front payload rest c m x starts reads.ids_are ∙ ap (λ (z : List ℕ). z ++ rest) (sym ends)))
 
-pub tells : (payload rest : List ℕ) (c m : ℕ) (r : Result Method Refusal) → IsBytes payload → Starts payload c m rest → Reads c m rest r → Tells payload r
+pub tells : (payload rest : List ℕ) (c m : ℕ) (r : Result Method Refusal) → IsBytes payload → Starts payload c m rest → ReadsArguments c m rest r → TellsMethod payload r
 tells payload rest c m (Err e) are starts reads = refuses payload rest c m e starts reads
 tells payload rest c m (Ok x) are starts reads = said_read payload rest c m x (is_unread c m) refl are starts reads
 
@@ -211,13 +211,13 @@ same_found rest c m n x true u g f =
 same_read : (rest : List ℕ) (c m : ℕ) (n x : Method) → IsRead c m rest n → Found x c m rest → n ≡ x
 same_read rest c m n x reads f = same_found rest c m n x (is_unread c m) refl (record { ids_are = reads.ids_are; read = λ u. (reads.given u).0 }) f
 
-pub only : (payload rest : List ℕ) (c m : ℕ) (r : Result Method Refusal) (x : Method) → Starts payload c m rest → Reads c m rest r → IsMethod x → Spells payload x → IsMethodOr x r
+pub only : (payload rest : List ℕ) (c m : ℕ) (r : Result Method Refusal) (x : Method) → Starts payload c m rest → ReadsArguments c m rest r → IsMethod x → Spells payload x → IsMethodOr x r
 only payload rest c m r x starts reads fits s = go r reads
   where
     f : Found x c m rest
     f = found payload rest c m x starts fits s
 
-    go : (r : Result Method Refusal) → Reads c m rest r → IsMethodOr x r
+    go : (r : Result Method Refusal) → ReadsArguments c m rest r → IsMethodOr x r
     go (Ok n) reads = same_read rest c m n x reads f
     go (Err FrameError) reads = reads
     go (Err SyntaxError) reads = reads.lacks (arguments x) (f.read reads.read) (all_whole (arguments x) fits)

@@ -13,17 +13,17 @@ use Rattle.methods.specs.Kinds.{kinds_of}
 -- ---- the answer
 
 -- the payload is refused for this reason, or memory was
-abbrev pub Refuses : List ℕ → Refusal → Type 0
-Refuses payload FrameError = SaysMethod payload (Err 501)
-Refuses payload SyntaxError = SaysMethod payload (Err 502)
-Refuses payload CommandInvalid = SaysMethod payload (Err 503)
-Refuses payload NotImplemented = SaysMethod payload (Err 540)
-Refuses payload Memory = ⊤
+abbrev pub MethodIsRefused : List ℕ → Refusal → Type 0
+MethodIsRefused payload FrameError = SaysMethod payload (Err 501)
+MethodIsRefused payload SyntaxError = SaysMethod payload (Err 502)
+MethodIsRefused payload CommandInvalid = SaysMethod payload (Err 503)
+MethodIsRefused payload NotImplemented = SaysMethod payload (Err 540)
+MethodIsRefused payload Memory = ⊤
 
 -- the answer is right for this payload
-abbrev pub Tells : List ℕ → Result Method Refusal → Type 0
-Tells payload (Ok m) = SaysMethod payload (Ok m)
-Tells payload (Err e) = Refuses payload e
+abbrev pub TellsMethod : List ℕ → Result Method Refusal → Type 0
+TellsMethod payload (Ok m) = SaysMethod payload (Ok m)
+TellsMethod payload (Err e) = MethodIsRefused payload e
 
 -- the answer is this method, or memory was refused
 abbrev pub IsMethodOr : Method → Result Method Refusal → Type 0
@@ -103,6 +103,6 @@ Fails c m bytes NotImplemented = is_left_out c m ≡ true
 Fails c m bytes Memory = ⊤
 
 -- what was read behind these ids: the method, or why there is none
-abbrev pub Reads : ℕ → ℕ → List ℕ → Result Method Refusal → Type 0
-Reads c m bytes (Ok x) = IsRead c m bytes x
-Reads c m bytes (Err e) = Fails c m bytes e
+abbrev pub ReadsArguments : ℕ → ℕ → List ℕ → Result Method Refusal → Type 0
+ReadsArguments c m bytes (Ok x) = IsRead c m bytes x
+ReadsArguments c m bytes (Err e) = Fails c m bytes e

@@ -2,7 +2,7 @@
 
 ghost use Rattle.std.specs.Prelude.{◌≡◌, ◌<◌, ◌≤◌, false};
 ghost use Rattle.model.specs.Grammar.{is_left_out};
-ghost use Rattle.methods.specs.Reading.{Reads};
+ghost use Rattle.methods.specs.Reading.{ReadsArguments};
 
 use crate::fields::*;
 use crate::refusals::Refusal;
@@ -10,7 +10,7 @@ use model::Method;
 use std::alloc::Global;
 
 pub(crate) fn connection(alloc: Global, method: u16, arguments: &[u8]) -> Result<Method, Refusal>
-    ensures { Reads 10 method arguments.now result }
+    ensures { ReadsArguments 10 method arguments.now result }
 {
     match method {
         10 => Ok(Method::ConnectionStart(start_in(alloc, arguments)?)),
@@ -32,7 +32,7 @@ pub(crate) fn connection(alloc: Global, method: u16, arguments: &[u8]) -> Result
 }
 
 pub(crate) fn channel(alloc: Global, method: u16, arguments: &[u8]) -> Result<Method, Refusal>
-    ensures { Reads 20 method arguments.now result }
+    ensures { ReadsArguments 20 method arguments.now result }
 {
     match method {
         10 => {
@@ -61,7 +61,7 @@ pub(crate) fn channel(alloc: Global, method: u16, arguments: &[u8]) -> Result<Me
 }
 
 pub(crate) fn exchange(alloc: Global, method: u16, arguments: &[u8]) -> Result<Method, Refusal>
-    ensures { Reads 40 method arguments.now result }
+    ensures { ReadsArguments 40 method arguments.now result }
 {
     match method {
         10 => Ok(Method::ExchangeDeclare(exchange_declare_in(alloc, arguments)?)),
@@ -77,7 +77,7 @@ pub(crate) fn exchange(alloc: Global, method: u16, arguments: &[u8]) -> Result<M
 }
 
 pub(crate) fn queue(alloc: Global, method: u16, arguments: &[u8]) -> Result<Method, Refusal>
-    ensures { Reads 50 method arguments.now result }
+    ensures { ReadsArguments 50 method arguments.now result }
 {
     match method {
         10 => Ok(Method::QueueDeclare(queue_declare_in(alloc, arguments)?)),
@@ -96,7 +96,7 @@ pub(crate) fn queue(alloc: Global, method: u16, arguments: &[u8]) -> Result<Meth
 
 pub(crate) fn basic(alloc: Global, method: u16, arguments: &[u8]) -> Result<Method, Refusal>
     requires { is_left_out 60 method ≡ false }
-    ensures { Reads 60 method arguments.now result }
+    ensures { ReadsArguments 60 method arguments.now result }
 {
     match method {
         0..40 => basic_consuming(alloc, method, arguments),
@@ -107,7 +107,7 @@ pub(crate) fn basic(alloc: Global, method: u16, arguments: &[u8]) -> Result<Meth
 
 fn basic_consuming(alloc: Global, method: u16, arguments: &[u8]) -> Result<Method, Refusal>
     requires { method < 40 }
-    ensures { Reads 60 method arguments.now result }
+    ensures { ReadsArguments 60 method arguments.now result }
 {
     match method {
         10 => Ok(Method::BasicQos(qos_in(arguments)?)),
@@ -132,7 +132,7 @@ fn basic_consuming(alloc: Global, method: u16, arguments: &[u8]) -> Result<Metho
 fn basic_contents(alloc: Global, method: u16, arguments: &[u8]) -> Result<Method, Refusal>
     requires before { 40 ≤ method }
     requires behind { method < 80 }
-    ensures { Reads 60 method arguments.now result }
+    ensures { ReadsArguments 60 method arguments.now result }
 {
     match method {
         40 => Ok(Method::BasicPublish(publish_in(alloc, arguments)?)),
@@ -151,7 +151,7 @@ fn basic_contents(alloc: Global, method: u16, arguments: &[u8]) -> Result<Method
 fn basic_settling(method: u16, arguments: &[u8]) -> Result<Method, Refusal>
     requires high { 80 ≤ method }
     requires not_left_out { is_left_out 60 method ≡ false }
-    ensures { Reads 60 method arguments.now result }
+    ensures { ReadsArguments 60 method arguments.now result }
 {
     match method {
         80 => Ok(Method::BasicAck(ack_in(arguments)?)),
@@ -170,7 +170,7 @@ fn basic_settling(method: u16, arguments: &[u8]) -> Result<Method, Refusal>
 }
 
 pub(crate) fn confirm(method: u16, arguments: &[u8]) -> Result<Method, Refusal>
-    ensures { Reads 85 method arguments.now result }
+    ensures { ReadsArguments 85 method arguments.now result }
 {
     match method {
         10 => {

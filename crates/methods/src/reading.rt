@@ -3,7 +3,7 @@
 ghost use Rattle.std.specs.Prelude.{◌≡◌, ◌<◌, ℕ, List, false, length, MatchOption};
 ghost use Rattle.model.specs.Grammar;
 ghost use Rattle.model.specs.Grammar.{IsMethod, Spells};
-ghost use Rattle.methods.specs.Reading.{Fails, Tells, IsMethodOr, Starts, Reads};
+ghost use Rattle.methods.specs.Reading.{Fails, TellsMethod, IsMethodOr, Starts, ReadsArguments};
 
 use crate::classes::{basic, channel, confirm, connection, exchange, queue};
 use crate::refusals::Refusal;
@@ -13,7 +13,7 @@ use std::alloc::Global;
 
 /// The method that the payload of a method frame spells.
 pub fn read_method(alloc: Global, payload: &[u8]) -> Result<Method, Refusal>
-    ensures tells { Tells payload.now result }
+    ensures tells { TellsMethod payload.now result }
     // A method that is spelled so is read, unless memory was refused.
     ensures only { (m : Method) → IsMethod m → Spells payload.now m → IsMethodOr m result }
 {
@@ -37,7 +37,7 @@ fn ids_at(payload: &[u8]) -> Option<(u16, u16, &[u8])>
 }
 
 fn with_ids(alloc: Global, class: u16, method: u16, arguments: &[u8]) -> Result<Method, Refusal>
-    ensures { Reads class method arguments.now result }
+    ensures { ReadsArguments class method arguments.now result }
 {
     if is_left_out(class, method) {
         return Err(Refusal::NotImplemented);
@@ -54,7 +54,7 @@ fn is_left_out(class: u16, method: u16) -> bool
 
 fn of_class(alloc: Global, class: u16, method: u16, arguments: &[u8]) -> Result<Method, Refusal>
     requires { Grammar.is_left_out class method ≡ false }
-    ensures { Reads class method arguments.now result }
+    ensures { ReadsArguments class method arguments.now result }
 {
     match class {
         10 => connection(alloc, method, arguments),

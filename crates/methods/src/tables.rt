@@ -1,7 +1,7 @@
 //! Tables among the arguments.
 
 ghost use Rattle.field_table.specs.Arguments.{a_field_table};
-ghost use Rattle.method_arguments.specs.Pieces.{seen, IsOf};
+ghost use Rattle.method_arguments.specs.Pieces.{seen, IsOfKind};
 ghost use Rattle.methods.specs.Reading.{IsTableOr, MakesTable};
 
 use crate::refusals::Refusal;
@@ -22,7 +22,7 @@ fn table_of(alloc: Global, pairs: &[u8]) -> Result<Table, Refusal>
 
 /// The table of an argument, if its pairs are pairs.
 pub(crate) fn table_in(alloc: Global, piece: &Piece<'_>) -> Result<Table, Refusal>
-    requires { IsOf a_field_table piece.now }
+    requires { IsOfKind a_field_table piece.now }
     ensures { IsTableOr (seen piece.now) result }
 {
     table_of(alloc, piece.pairs())

@@ -8,13 +8,13 @@ use Rattle.model.specs.declared.topologies.ExchangeKind.TheVariants.{Direct}
 use Rattle.model.specs.declared.topologies.Place.TheVariants as place
 use Rattle.definitions.specs.declared.bad.Bad.{Bad}
 use Rattle.definitions.specs.Numbers.{number}
-use Rattle.definitions.specs.Reads.{Stated, Reads, IsFirst}
+use Rattle.definitions.specs.Reads.{Stated, ReadsDefinitions, IsFirst}
 use Rattle.guarantees.specs.declared.bad.Bad.{Bad as GuaranteeBad}
 use Rattle.guarantees.specs.Numbers.{number as guarantee_number}
 use Rattle.guarantees.specs.Reads.{IsAccepted, IsFirst as IsFirstOfGuarantees}
 use Rattle.certificate_files.specs.declared.bad.Bad.{Bad as CertificateBad}
 use Rattle.certificate_files.specs.Numbers.{number as certificate_number}
-use Rattle.certificate_files.specs.Reads.{IsFile, Reads as ReadsCertificates}
+use Rattle.certificate_files.specs.Reads.{IsFile, ReadsCertificateFile as ReadsCertificates}
 use Rattle.named_files.specs.declared.refusals.Refusal.{Refusal}
 use Rattle.named_files.specs.declared.refusals.Refusal.TheVariants.{Refused, TooLong, Unread, Memory}
 use Rattle.named_files.specs.Files.{Known, HasText, IsTooLong, IsClosed}
@@ -31,7 +31,7 @@ built_in = record {
 
 -- the file has definitions in which no cause stands, and this is what they state
 abbrev pub States : Known → Stated → Type 0
-States known stated = (text : Text) × HasText known text × Reads (Ok stated) text
+States known stated = (text : Text) × HasText known text × ReadsDefinitions (Ok stated) text
 
 -- what the definitions of a file state, or where no file is named the built-in topology, and nobody who may log in
 abbrev pub StatesAt : (Text → Known) → Option Text → Stated → Type 0
@@ -70,12 +70,12 @@ IsWhyNot Stands Unread known = IsClosed known
 IsWhyNot Stands Memory known = ⊤
 
 -- the cause of this number stands in the definitions, and none of a smaller number
-abbrev pub HasCause : ℕ → Text → Type 0
-HasCause n text = (cause : Bad) × (n ≡ number cause) × IsFirst cause text
+abbrev pub NamesCause : ℕ → Text → Type 0
+NamesCause n text = (cause : Bad) × (n ≡ number cause) × IsFirst cause text
 
 -- why definitions are refused
 abbrev pub IsWhyUnstated : Refusal → Known → Type 0
-IsWhyUnstated why known = IsWhyNot HasCause why known
+IsWhyUnstated why known = IsWhyNot NamesCause why known
 
 -- the cause of this number stands in the guarantees of this topology, and none of a smaller number
 abbrev pub HasGuaranteeCause : Topology → ℕ → Text → Type 0

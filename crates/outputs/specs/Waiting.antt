@@ -9,7 +9,7 @@ pub record Waiting : Type 0 where
   pub room : ℕ
 
 -- These bytes were put in, and no more room is gone than they take.
-pub record Puts (old : Waiting) (more : List ℕ) (new : Waiting) : Type 0 where
+pub record PutsBytes (old : Waiting) (more : List ℕ) (new : Waiting) : Type 0 where
   pub bytes : new.bytes ≡ old.bytes ++ more
   pub room : old.room ≤ new.room + length more
 

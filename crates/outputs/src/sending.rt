@@ -6,7 +6,7 @@ ghost use Rattle.model.specs.Frames.{frame_bytes};
 ghost use Rattle.model.specs.Grammar.{IsMethod, method_bytes};
 ghost use Rattle.model.specs.Spelling.{method_frame, content_frames, send_bytes, spelling, receiver, IsSpelled};
 ghost use Rattle.model.specs.Sending.{IsStored, HasStored, IsOwn, AreOwn, most_sent};
-ghost use Rattle.outputs.specs.Waiting.{Puts};
+ghost use Rattle.outputs.specs.Waiting.{PutsBytes};
 ghost use Rattle.outputs.specs.Sending.{header_frame, body_bytes};
 
 use crate::output::Output;
@@ -22,7 +22,7 @@ fn put_method_frame(output: &mut Output, scratch: &mut Scratch, channel: u16, me
     requires fits { IsMethod method.now }
     requires size { length (method_bytes method.now) ≤ 4088 }
     requires room { length (frame_bytes (method_frame channel method.now)) ≤ output.old.room }
-    ensures { Puts output.old (frame_bytes (method_frame channel method.now)) output.new }
+    ensures { PutsBytes output.old (frame_bytes (method_frame channel method.now)) output.new }
 {
     scratch.spell(method);
     output.put_frame(&Frame {
@@ -36,7 +36,7 @@ fn put_method_frame(output: &mut Output, scratch: &mut Scratch, channel: u16, me
 fn put_header_frame(output: &mut Output, scratch: &mut Scratch, channel: u16, content: &Content)
     requires stored { IsStored content.now }
     requires room { length (frame_bytes (header_frame channel content.now)) ≤ output.old.room }
-    ensures { Puts output.old (frame_bytes (header_frame channel content.now)) output.new }
+    ensures { PutsBytes output.old (frame_bytes (header_frame channel content.now)) output.new }
 {
     scratch.spell_header(content);
     output.put_frame(&Frame {
@@ -61,7 +61,7 @@ fn cut(body: &[u8], size: usize) -> (&[u8], &[u8])
 fn put_body(output: &mut Output, max: u32, channel: u16, body: &[u8])
     requires max { 4096 ≤ max }
     requires room { length (body_bytes max channel body.now) ≤ output.old.room }
-    ensures { Puts output.old (body_bytes max channel body.now) output.new }
+    ensures { PutsBytes output.old (body_bytes max channel body.now) output.new }
 {
     let size = max as usize - 8;
     let mut rest = body;
@@ -87,7 +87,7 @@ fn put_content(
     requires max { 4096 ≤ max }
     requires stored { HasStored content.now }
     requires room { length (flat_map frame_bytes (content_frames max channel content.now)) ≤ output.old.room }
-    ensures { Puts output.old (flat_map frame_bytes (content_frames max channel content.now)) output.new }
+    ensures { PutsBytes output.old (flat_map frame_bytes (content_frames max channel content.now)) output.new }
 {
     match content {
         None => {}
@@ -103,7 +103,7 @@ fn put_send(c: u64, output: &mut Output, scratch: &mut Scratch, max: u32, send: 
     requires own { IsOwn c send.now }
     requires max { 4096 ≤ max }
     requires room { length (send_bytes max send.now) ≤ output.old.room }
-    ensures { Puts output.old (send_bytes max send.now) output.new }
+    ensures { PutsBytes output.old (send_bytes max send.now) output.new }
 {
     match send {
         Send::Command {

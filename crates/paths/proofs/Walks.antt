@@ -11,7 +11,7 @@ use Rattle.model.specs.declared.topologies.Place.{Place}
 use Rattle.model.specs.declared.topologies.Place.TheVariants as place
 use Rattle.paths.specs.declared.stands.Stand.{Stand}
 use Rattle.paths.specs.declared.stands.Stand.TheVariants.{Exchange, Queue}
-use Rattle.paths.specs.Stands.{GoesOn, SomeGoesOn, Next, on, into, dies as dead, AreNext, is_queue}
+use Rattle.paths.specs.Stands.{WalksOn, SomeGoesOn, Next, on, into, dies as dead, AreNext, is_queue}
 
 -- ---- a walk goes by the key alone
 
@@ -36,7 +36,7 @@ same_key (Some c) k = refl
 
 -- ---- one step
 
-pub step_on : (t : Topology) (q name next : Text) (rest : List Text) (s s' : Stand) → Next t name next s s' → GoesOn t q next rest s' → GoesOn t q name (next ∷ rest) s
+pub step_on : (t : Topology) (q name next : Text) (rest : List Text) (s s' : Stand) → Next t name next s s' → WalksOn t q next rest s' → WalksOn t q name (next ∷ rest) s
 step_on t q name next rest s s' (on l) w = edge (place.Exchange next) l w next refl
 step_on t q name next rest s s' (into l) w = edge (place.Queue next) l w next refl
 step_on t q name next rest s s' (dead {key} last d) w = dies last d (by_key (key_after last.dead_letter_key key) key (fixed_after last.dead_letter_key None) (sym (same_key last.dead_letter_key key)) w)
@@ -45,7 +45,7 @@ step_on t q name next rest s s' (dead {key} last d) w = dies last d (by_key (key
 pub record Goes (t : Topology) (q name next : Text) (rest : List Text) (s : Stand) : Type 0 where
   pub to : Stand
   pub is_next : Next t name next s to
-  pub goes : GoesOn t q next rest to
+  pub goes : WalksOn t q next rest to
 
 from_exchange : (t : Topology) (q name next key : Text) (rest : List Text) (to : Place) → next ≡ name_of to → Edge t (of_key key) name to → Walk t (of_key key) q None to rest → Goes t q name next rest (Exchange key)
 from_exchange t q name next key rest (place.Exchange y) n s w =
@@ -53,7 +53,7 @@ from_exchange t q name next key rest (place.Exchange y) n s w =
 from_exchange t q name next key rest (place.Queue y) n s w =
     record { to = Queue key; is_next = into (subst (λ (z : Text). Edge t (of_key key) name (place.Queue z)) (sym n) s); goes = subst (λ (z : Text). Walk t (of_key key) q None (place.Queue z) rest) (sym n) w }
 
-pub first_step : (t : Topology) (q name next : Text) (rest : List Text) (s : Stand) → GoesOn t q name (next ∷ rest) s → Goes t q name next rest s
+pub first_step : (t : Topology) (q name next : Text) (rest : List Text) (s : Stand) → WalksOn t q name (next ∷ rest) s → Goes t q name next rest s
 first_step t q name next rest (Exchange key) (edge to s w n e) = from_exchange t q name next key rest to e s w
 first_step t q name next rest (Queue key) (dies last d w) = record {
   to = Exchange (key_after last.dead_letter_key key);
@@ -77,11 +77,11 @@ last_place (edge to s w name n) e = absurd (cc)
 last_place (dies last d w) e = absurd (cc)
 
 -- one that is in the queue of that name
-pub ends_here : (t : Topology) (q name : Text) (s : Stand) → GoesOn t q name [] s → (name ≡ q) × (is_queue s ≡ true)
+pub ends_here : (t : Topology) (q name : Text) (s : Stand) → WalksOn t q name [] s → (name ≡ q) × (is_queue s ≡ true)
 ends_here t q name (Exchange key) w = absurd (let e = last_place w refl in cc)
 ends_here t q name (Queue key) w = let e = last_place w refl in (cc, refl)
 
-pub here_ends : (t : Topology) (q name : Text) (s : Stand) → name ≡ q → is_queue s ≡ true → GoesOn t q name [] s
+pub here_ends : (t : Topology) (q name : Text) (s : Stand) → name ≡ q → is_queue s ≡ true → WalksOn t q name [] s
 here_ends t q name (Exchange key) e h = absurd (cc)
 here_ends t q name (Queue key) e h = subst (λ (z : Text). Walk t (of_key key) q None (place.Queue z) []) (sym e) ends
 

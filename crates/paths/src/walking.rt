@@ -3,7 +3,7 @@
 ghost use Rattle.std.specs.Prelude.{Decides, IfOk, OnOk, ◌≡◌};
 ghost use Rattle.std.specs.List.{list_any};
 ghost use Rattle.model.specs.Routing.{key_after};
-ghost use Rattle.paths.specs.Stands.{AddsAll, AreNext, GoesOn, IsPath, LeadsDead, Next, is_queue};
+ghost use Rattle.paths.specs.Stands.{AddsAll, AreNext, WalksOn, IsPath, LeadsDead, Next, is_queue};
 ghost use Rattle.paths.specs.declared.stands.Stand.TheVariants.{Exchange, Queue};
 
 use crate::stands::{Stand, add_if};
@@ -123,7 +123,7 @@ fn goes_on(
     queue: &[u8],
     rest: &[Text],
 ) -> Result<bool, AllocError>
-    ensures { IfOk result (λ yes. Decides yes (GoesOn topology.now queue.now exchange.now rest.now (Exchange key.now))) }
+    ensures { IfOk result (λ yes. Decides yes (WalksOn topology.now queue.now exchange.now rest.now (Exchange key.now))) }
 {
     let mut stands = Vec::new(alloc);
     stands.push(Stand::Exchange(key.clone()?))?;

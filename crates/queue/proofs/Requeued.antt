@@ -8,7 +8,7 @@ use Rattle.model.specs.Entries.{freed, is_held_by, is_held_as, freed_now}
 use Rattle.model.specs.declared.messages.Entry.{Entry}
 use Rattle.model.specs.declared.messages.Holder.{Holder}
 use Rattle.marks.specs.Places.{IsNext, bit_of}
-use Rattle.queue.specs.Slots.{somes, has, changed, num, tally, is_held, Bits, AreSigned, Shows}
+use Rattle.queue.specs.Slots.{somes, has, changed, num, tally, is_held, Bits, AreSigned, BitsShow}
 use Rattle.queue.proofs.Places.{num-some, num-none, within, count-set}
 use Rattle.queue.proofs.Slotted.{freed_there, freed_same, slot_same, unheld, held_not_ready, now_free}
 
@@ -133,8 +133,8 @@ held_fewer : (h : Holder) (mine : Holder → Bool) (es : List Entry) → tally (
 held_fewer h mine [] = omega arith
 held_fewer h mine (e ∷ es) = let a = held_less h mine e in let b = held_fewer h mine es in omega arith
 
-pub requeue_shows : (mine : Holder → Bool) (slots now : List (Option Entry)) (bits bits' : Bits) (ready ready' live more : ℕ) → Shows slots bits ready live
-    → now ≡ map (changed (freed mine)) slots → tally is_ready (somes now) ≡ tally is_ready (somes slots) + more → ready' ≡ ready + more → AreSigned now bits' → Shows now bits' ready' live
+pub requeue_shows : (mine : Holder → Bool) (slots now : List (Option Entry)) (bits bits' : Bits) (ready ready' live more : ℕ) → BitsShow slots bits ready live
+    → now ≡ map (changed (freed mine)) slots → tally is_ready (somes now) ≡ tally is_ready (somes slots) + more → ready' ≡ ready + more → AreSigned now bits' → BitsShow now bits' ready' live
 requeue_shows mine slots now bits bits' ready ready' live more s e t r signed =
     let m : somes now ≡ map (freed mine) (somes slots) = ap somes e ∙ somes-changed (freed mine) slots in record {
       signed = signed;

@@ -15,7 +15,7 @@ use Rattle.model.specs.declared.messages.Mark.TheVariants.{Ready, Held}
 use Rattle.marks.specs.Places.{IsNext, Differs, bit_of}
 use Rattle.queue.specs.Line.{ready_count}
 use Rattle.queue.specs.declared.slots.Slot.{Slot}
-use Rattle.queue.specs.Slots.{somes, has, changed, num, tally, is_held, Bits, Turned, AreMarked, AreSigned, Shows, HasPlaces, contents}
+use Rattle.queue.specs.Slots.{somes, has, changed, num, tally, is_held, Bits, Turned, SlotsAreMarked, AreSigned, BitsShow, HasPlaces, contents}
 use Rattle.queue.proofs.Places.{num-some, num-none, within, FirstAt, NonePasses, counted, tally-most, somes-most, count-set, length-set, count-fewer, OnlyAt}
 
 -- ---- one entry
@@ -135,14 +135,14 @@ not_found p (x ∷ xs) e = go (p x) refl (not_found p xs) e
 
 -- ---- the marks
 
-pub first_by_marks : (p : Entry → Bool) (slots : List (Option Entry)) (bit : ℕ → ℕ) (i : ℕ) → AreMarked p slots bit → IsNext bit 0 i → FirstAt p slots i
+pub first_by_marks : (p : Entry → Bool) (slots : List (Option Entry)) (bit : ℕ → ℕ) (i : ℕ) → SlotsAreMarked p slots bit → IsNext bit 0 i → FirstAt p slots i
 first_by_marks p slots bit i m n = record { there = num-some _ (sym (m i) ∙ n.there); before = λ k lt. num-none _ (sym (m k) ∙ n.before k (omega arith) lt) }
 
-pub none_by_marks : (p : Entry → Bool) (slots : List (Option Entry)) (bit : ℕ → ℕ) → AreMarked p slots bit → ((k : ℕ) → bit k ≡ 0) → NonePasses p slots
+pub none_by_marks : (p : Entry → Bool) (slots : List (Option Entry)) (bit : ℕ → ℕ) → SlotsAreMarked p slots bit → ((k : ℕ) → bit k ≡ 0) → NonePasses p slots
 none_by_marks p slots bit m z = record { no = λ k. num-none _ (sym (m k) ∙ z k) }
 
-marked_set : (p : Entry → Bool) (slots : List (Option Entry)) (v : Option Entry) (bit bit' : ℕ → ℕ) (i : ℕ) → i < length slots → AreMarked p slots bit
-    → Differs bit bit' i (num (has p v)) → AreMarked p (set slots i v) bit'
+marked_set : (p : Entry → Bool) (slots : List (Option Entry)) (v : Option Entry) (bit bit' : ℕ → ℕ) (i : ℕ) → i < length slots → SlotsAreMarked p slots bit
+    → Differs bit bit' i (num (has p v)) → SlotsAreMarked p (set slots i v) bit'
 marked_set p slots v bit bit' i lt m d j = elim (eqb_tells j i) [
   | inl q ↦ ap bit' q.1 ∙ d.there ∙ ap (λ (o : Option Entry). num (has p o)) (sym (get_or-set_same slots i v None lt) ∙ ap (λ (k : ℕ). get_or (set slots i v) k None) (sym q.1))
   | inr q ↦ d.others j q.1 ∙ m j ∙ ap (λ (o : Option Entry). num (has p o)) (sym (get_or-set_other slots i j v None q.1))
@@ -162,8 +162,8 @@ not_end [] v (suc j) h = refl
 not_end (x ∷ xs) v zero h = refl
 not_end (x ∷ xs) v (suc j) h = not_end xs v j (λ e. h (ap suc e))
 
-marked_push : (p : Entry → Bool) (slots : List (Option Entry)) (v : Option Entry) (bit bit' : ℕ → ℕ) → AreMarked p slots bit
-    → Differs bit bit' (length slots) (num (has p v)) → AreMarked p (slots ++ v ∷ []) bit'
+marked_push : (p : Entry → Bool) (slots : List (Option Entry)) (v : Option Entry) (bit bit' : ℕ → ℕ) → SlotsAreMarked p slots bit
+    → Differs bit bit' (length slots) (num (has p v)) → SlotsAreMarked p (slots ++ v ∷ []) bit'
 marked_push p slots v bit bit' m d j = elim (eqb_tells j (length slots)) [
   | inl q ↦ ap bit' q.1 ∙ d.there ∙ ap (λ (o : Option Entry). num (has p o)) (sym (at_end slots v) ∙ ap (λ (k : ℕ). get_or (slots ++ v ∷ []) k None) (sym q.1))
   | inr q ↦ d.others j q.1 ∙ m j ∙ ap (λ (o : Option Entry). num (has p o)) (sym (not_end slots v j q.1))
@@ -179,8 +179,8 @@ record Written (slots : List (Option Entry)) (v : Option Entry) (bits bits' : Bi
   live_count : live' + num (is_some (get_or slots i None)) ≡ live + num (is_some v)
   apart : (h : Holder) → tally (is_held_as h) (somes (set slots i v)) ≤ 1
 
-shows_set : (slots : List (Option Entry)) (v : Option Entry) (bits bits' : Bits) (ready ready' live live' i : ℕ) → Shows slots bits ready live
-    → Written slots v bits bits' ready ready' live live' i → Shows (set slots i v) bits' ready' live'
+shows_set : (slots : List (Option Entry)) (v : Option Entry) (bits bits' : Bits) (ready ready' live live' i : ℕ) → BitsShow slots bits ready live
+    → Written slots v bits bits' ready ready' live live' i → BitsShow (set slots i v) bits' ready' live'
 shows_set slots v bits bits' ready ready' live live' i s w = record {
   signed = signed_set slots v bits bits' i w.there s.signed w.turned;
   ready_count = (let a = s.ready_count in let b = w.ready_count in let c = count-set is_ready slots i v w.there in omega arith);
@@ -211,15 +211,15 @@ pub freed_turned : (o : Option Entry) (bits bits' : Bits) (i : ℕ) → has is_r
     → Turned bits bits' i (num (has is_ready (changed freed_now o))) (num (has is_held (changed freed_now o)))
 freed_turned o bits bits' i f t = subst (λ (b : Bool). Turned bits bits' i (num b) (num (has is_held (changed freed_now o)))) (sym f) (subst (λ (b : Bool). Turned bits bits' i 1 (num b)) (sym (freed_not_held o)) t)
 
-pub hold_shows : (slots now : List (Option Entry)) (bits bits' : Bits) (ready ready' live i : ℕ) (holder : Holder) → Shows slots bits ready live → IsNext (bit_of bits.ready) 0 i
+pub hold_shows : (slots now : List (Option Entry)) (bits bits' : Bits) (ready ready' live i : ℕ) (holder : Holder) → BitsShow slots bits ready live → IsNext (bit_of bits.ready) 0 i
     → Turned bits bits' i 0 1 → now ≡ set slots i (changed (held_as holder) (get_or slots i None)) → find (is_held_as holder) (somes slots) ≡ None → ready' + 1 ≡ ready
-    → Shows now bits' ready' live
+    → BitsShow now bits' ready' live
 hold_shows slots now bits bits' ready ready' live i holder s n t e f r =
     let o : Option Entry = get_or slots i None in
     let v : Option Entry = changed (held_as holder) o in
     let p : FirstAt is_ready slots i = first_by_marks is_ready slots (bit_of bits.ready) i s.signed.ready n in
     let lt : i < length slots = within is_ready slots i p.there in
-    subst (λ (xs : List (Option Entry)). Shows xs bits' ready' live) (sym e) (shows_set slots v bits bits' ready ready' live live i s (record {
+    subst (λ (xs : List (Option Entry)). BitsShow xs bits' ready' live) (sym e) (shows_set slots v bits bits' ready ready' live live i s (record {
       there = lt;
       turned = subst (λ (b : Bool). Turned bits bits' i (num b) (num (has is_held v))) (sym (held_not_free holder o)) (subst (λ (b : Bool). Turned bits bits' i 0 (num b)) (sym (now_held holder o p.there)) t);
       ready_count = (let a = ap num p.there in let b = ap num (held_not_free holder o) in omega arith);
@@ -227,12 +227,12 @@ hold_shows slots now bits bits' ready ready' live i holder s n t e f r =
       apart = λ h. apart_held slots i holder h (is_under h holder) refl lt p.there f (s.apart h);
     }))
 
-pub take_shows : (slots now : List (Option Entry)) (bits bits' : Bits) (ready ready' live live' i : ℕ) → Shows slots bits ready live → IsNext (bit_of bits.ready) 0 i
-    → Turned bits bits' i 0 0 → now ≡ set slots i None → ready' + 1 ≡ ready → live' + 1 ≡ live → Shows now bits' ready' live'
+pub take_shows : (slots now : List (Option Entry)) (bits bits' : Bits) (ready ready' live live' i : ℕ) → BitsShow slots bits ready live → IsNext (bit_of bits.ready) 0 i
+    → Turned bits bits' i 0 0 → now ≡ set slots i None → ready' + 1 ≡ ready → live' + 1 ≡ live → BitsShow now bits' ready' live'
 take_shows slots now bits bits' ready ready' live live' i s n t e r l =
     let p : FirstAt is_ready slots i = first_by_marks is_ready slots (bit_of bits.ready) i s.signed.ready n in
     let lt : i < length slots = within is_ready slots i p.there in
-    subst (λ (xs : List (Option Entry)). Shows xs bits' ready' live') (sym e) (shows_set slots None bits bits' ready ready' live live' i s (record {
+    subst (λ (xs : List (Option Entry)). BitsShow xs bits' ready' live') (sym e) (shows_set slots None bits bits' ready ready' live live' i s (record {
       there = lt;
       turned = t;
       ready_count = (let a = ap num p.there in omega arith);
@@ -240,15 +240,15 @@ take_shows slots now bits bits' ready ready' live live' i s n t e r l =
       apart = λ h. apart_less slots None i h lt (s.apart h) refl;
     }))
 
-pub release_shows : (slots now : List (Option Entry)) (bits bits' : Bits) (ready ready' live i : ℕ) (holder : Holder) → Shows slots bits ready live
+pub release_shows : (slots now : List (Option Entry)) (bits bits' : Bits) (ready ready' live i : ℕ) (holder : Holder) → BitsShow slots bits ready live
     → has (is_held_as holder) (get_or slots i None) ≡ true → Turned bits bits' i 1 0 → now ≡ set slots i (changed freed_now (get_or slots i None)) → ready' ≡ ready + 1
-    → Shows now bits' ready' live
+    → BitsShow now bits' ready' live
 release_shows slots now bits bits' ready ready' live i holder s h t e r =
     let o : Option Entry = get_or slots i None in
     let v : Option Entry = changed freed_now o in
     let lt : i < length slots = within (is_held_as holder) slots i h in
     let f : has is_ready v ≡ true = now_free (is_held_as holder) o h in
-    subst (λ (xs : List (Option Entry)). Shows xs bits' ready' live) (sym e) (shows_set slots v bits bits' ready ready' live live i s (record {
+    subst (λ (xs : List (Option Entry)). BitsShow xs bits' ready' live) (sym e) (shows_set slots v bits bits' ready ready' live live i s (record {
       there = lt;
       turned = freed_turned o bits bits' i f t;
       ready_count = (let a = ap num (held_not_ready (is_under holder) o h) in let b = ap num f in omega arith);
@@ -256,11 +256,11 @@ release_shows slots now bits bits' ready ready' live i holder s h t e r =
       apart = λ g. apart_less slots v i g lt (s.apart g) (ready_not_held (is_under g) v f);
     }))
 
-pub remove_shows : (slots now : List (Option Entry)) (bits bits' : Bits) (ready live live' i : ℕ) (holder : Holder) → Shows slots bits ready live
-    → has (is_held_as holder) (get_or slots i None) ≡ true → Turned bits bits' i 0 0 → now ≡ set slots i None → live' + 1 ≡ live → Shows now bits' ready live'
+pub remove_shows : (slots now : List (Option Entry)) (bits bits' : Bits) (ready live live' i : ℕ) (holder : Holder) → BitsShow slots bits ready live
+    → has (is_held_as holder) (get_or slots i None) ≡ true → Turned bits bits' i 0 0 → now ≡ set slots i None → live' + 1 ≡ live → BitsShow now bits' ready live'
 remove_shows slots now bits bits' ready live live' i holder s h t e l =
     let lt : i < length slots = within (is_held_as holder) slots i h in
-    subst (λ (xs : List (Option Entry)). Shows xs bits' ready live') (sym e) (shows_set slots None bits bits' ready ready live live' i s (record {
+    subst (λ (xs : List (Option Entry)). BitsShow xs bits' ready live') (sym e) (shows_set slots None bits bits' ready ready live live' i s (record {
       there = lt;
       turned = t;
       ready_count = (let a = ap num (held_not_ready (is_under holder) (get_or slots i None) h) in omega arith);
@@ -268,11 +268,11 @@ remove_shows slots now bits bits' ready live live' i holder s h t e l =
       apart = λ g. apart_less slots None i g lt (s.apart g) refl;
     }))
 
-pub push_shows : (slots now : List (Option Entry)) (bits bits' : Bits) (ready ready' live live' : ℕ) (m : Message) → Shows slots bits ready live
-    → Turned bits bits' (length slots) 1 0 → now ≡ slots ++ Some (record { message = m; mark = Ready }) ∷ [] → ready' ≡ ready + 1 → live' ≡ live + 1 → Shows now bits' ready' live'
+pub push_shows : (slots now : List (Option Entry)) (bits bits' : Bits) (ready ready' live live' : ℕ) (m : Message) → BitsShow slots bits ready live
+    → Turned bits bits' (length slots) 1 0 → now ≡ slots ++ Some (record { message = m; mark = Ready }) ∷ [] → ready' ≡ ready + 1 → live' ≡ live + 1 → BitsShow now bits' ready' live'
 push_shows slots now bits bits' ready ready' live live' m s t e r l =
     let v : Entry = record { message = m; mark = Ready } in
-    subst (λ (xs : List (Option Entry)). Shows xs bits' ready' live') (sym e) (record {
+    subst (λ (xs : List (Option Entry)). BitsShow xs bits' ready' live') (sym e) (record {
       signed = record { ready = marked_push is_ready slots (Some v) _ _ s.signed.ready t.ready_bit; held = marked_push is_held slots (Some v) _ _ s.signed.held t.held_bit };
       ready_count = (let a = s.ready_count in let b = counted_end is_ready slots v in omega arith);
       live_count = (let a = s.live_count in let b = length_end slots v in omega arith);
@@ -290,7 +290,7 @@ push_shows slots now bits bits' ready ready' live live' m s t e r l =
     length_end (Some y ∷ xs) x = let r = length_end xs x in omega arith
 
 -- the counts have room for a step
-pub ready_least : (slots : List (Option Entry)) (bits : Bits) (ready live i : ℕ) → Shows slots bits ready live → IsNext (bit_of bits.ready) 0 i → (1 ≤ ready) × (1 ≤ live)
+pub ready_least : (slots : List (Option Entry)) (bits : Bits) (ready live i : ℕ) → BitsShow slots bits ready live → IsNext (bit_of bits.ready) 0 i → (1 ≤ ready) × (1 ≤ live)
 ready_least slots bits ready live i s n =
     let p : FirstAt is_ready slots i = first_by_marks is_ready slots (bit_of bits.ready) i s.signed.ready n in
     let c = counted is_ready slots i p.there in
@@ -298,7 +298,7 @@ ready_least slots bits ready live i s n =
     let a = s.ready_count in let b = s.live_count in
     (omega arith, omega arith)
 
-pub held_least : (slots : List (Option Entry)) (bits : Bits) (ready live i : ℕ) (holder : Holder) → Shows slots bits ready live
+pub held_least : (slots : List (Option Entry)) (bits : Bits) (ready live i : ℕ) (holder : Holder) → BitsShow slots bits ready live
     → has (is_held_as holder) (get_or slots i None) ≡ true → (1 ≤ live) × (ready < length slots)
 held_least slots bits ready live i holder s t =
     let c = counted (is_held_as holder) slots i t in
@@ -308,12 +308,12 @@ held_least slots bits ready live i holder s t =
     (omega arith, omega arith)
 
 -- what is held under a tag is the only such entry
-pub only_held : (slots : List (Option Entry)) (bits : Bits) (ready live i : ℕ) (holder : Holder) → Shows slots bits ready live
+pub only_held : (slots : List (Option Entry)) (bits : Bits) (ready live i : ℕ) (holder : Holder) → BitsShow slots bits ready live
     → has (is_held_as holder) (get_or slots i None) ≡ true → OnlyAt (is_held_as holder) slots i
 only_held slots bits ready live i holder s t = record { there = t; only = s.apart holder }
 
 -- the counts are at most what there is
-pub counts_most : (slots : List (Option Entry)) (bits : Bits) (ready live : ℕ) → Shows slots bits ready live → (ready ≤ live) × (live ≤ length slots)
+pub counts_most : (slots : List (Option Entry)) (bits : Bits) (ready live : ℕ) → BitsShow slots bits ready live → (ready ≤ live) × (live ≤ length slots)
 counts_most slots bits ready live s =
     let m = tally-most is_ready (somes slots) in let n = somes-most slots in
     let a = s.ready_count in let b = s.live_count in
@@ -387,7 +387,7 @@ marked_more p slots bit bit' place places lt m d = record {
   above = λ k ge. d.others k (λ e. absurd (omega arith)) ∙ m.above k ge;
 }
 
-marked_done : (p : Entry → Bool) (slots : List Slot) (bit : ℕ → ℕ) (place places : ℕ) → places ≤ place → length slots ≤ places → MarkedBelow p (contents slots) bit place places → AreMarked p (contents slots) bit
+marked_done : (p : Entry → Bool) (slots : List Slot) (bit : ℕ → ℕ) (place places : ℕ) → places ≤ place → length slots ≤ places → MarkedBelow p (contents slots) bit place places → SlotsAreMarked p (contents slots) bit
 marked_done p slots bit place places le len m k = elim (leb_tells places k) [
   | inl q ↦ m.above k q.1 ∙ sym (ap num (contents-past p slots k (let h = q.1 in omega arith)))
   | inr q ↦ let h = q.1 in m.below k (omega arith)

@@ -58,16 +58,16 @@ pub record Turned (old new : Bits) (place ready held : ℕ) : Type 0 where
   pub places : new.places ≡ old.places
 
 -- the bit of each slot says whether an entry stands in it that passes
-abbrev pub AreMarked : (Entry → Bool) → List (Option Entry) → (ℕ → ℕ) → Type 0
-AreMarked p slots bit = (i : ℕ) → bit i ≡ num (has p (get_or slots i None))
+abbrev pub SlotsAreMarked : (Entry → Bool) → List (Option Entry) → (ℕ → ℕ) → Type 0
+SlotsAreMarked p slots bit = (i : ℕ) → bit i ≡ num (has p (get_or slots i None))
 
 -- The bits say of each slot what stands in it.
 pub record AreSigned (slots : List (Option Entry)) (bits : Bits) : Type 0 where
-  pub ready : AreMarked is_ready slots (bit_of bits.ready)
-  pub held : AreMarked is_held slots (bit_of bits.held)
+  pub ready : SlotsAreMarked is_ready slots (bit_of bits.ready)
+  pub held : SlotsAreMarked is_held slots (bit_of bits.held)
 
 -- What is kept beside the slots is true of them, and no two messages are held under one tag.
-pub record Shows (slots : List (Option Entry)) (bits : Bits) (ready live : ℕ) : Type 0 where
+pub record BitsShow (slots : List (Option Entry)) (bits : Bits) (ready live : ℕ) : Type 0 where
   pub signed : AreSigned slots bits
   pub ready_count : ready ≡ tally is_ready (somes slots)
   pub live_count : live ≡ length (somes slots)

@@ -31,13 +31,13 @@ pub struct Indexed {
 impl Model for Indexed {
     ghost use Rattle.std.specs.Prelude.{◌-◌, vec_len, vec_capacity};
     ghost use Rattle.queue.specs.Line.{Line};
-    ghost use Rattle.queue.specs.Slots.{contents, somes, Shows, HasPlaces};
+    ghost use Rattle.queue.specs.Slots.{contents, somes, BitsShow, HasPlaces};
 
     ghost Value = { Line };
 
     ghost view = { λ q. record { entries = somes (contents q.slots.items); room = q.signs.places - vec_len q.slots } };
 
-    ghost invariant = { λ q. Shows (contents q.slots.items) q.signs q.ready_count q.live × HasPlaces (vec_len q.slots) (vec_capacity q.slots) q.signs.places };
+    ghost invariant = { λ q. BitsShow (contents q.slots.items) q.signs q.ready_count q.live × HasPlaces (vec_len q.slots) (vec_capacity q.slots) q.signs.places };
 }
 
 impl Indexed {

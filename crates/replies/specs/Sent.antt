@@ -9,13 +9,9 @@ use Rattle.model.specs.declared.events.Send.{Send}
 use Rattle.model.specs.declared.events.Event.{Event}
 use Rattle.model.specs.declared.events.Event.TheVariants.{Open, First, Running, Command, TooLarge, Fault, Lose, Pause, Resume, Deliver}
 
--- it goes to this connection, and its method has a spelling
-abbrev pub IsOwn : ℕ → Send → Type 0
-IsOwn c s = IsAddressed c s
-
--- each of them goes to this connection, and its method has a spelling
-abbrev pub AreOwn : ℕ → List Send → Type 0
-AreOwn c sends = AllByRecursion (IsAddressed c) sends
+-- each of them goes to this connection, on a channel that a frame can name, and its method has a spelling; of its size nothing is said
+abbrev pub AreAddressed : ℕ → List Send → Type 0
+AreAddressed c sends = AllByRecursion (IsAddressed c) sends
 
 -- what goes back of a publish that is routed nowhere: all of it where it is mandatory, else nothing (AMQP 0-9-1, basic.publish, "mandatory")
 abbrev pub return_if : ℕ → ℕ → Publish → Content → Option Send

@@ -5,7 +5,7 @@ ghost use Rattle.model.specs.Deliveries.{delivery_notes};
 ghost use Rattle.model.specs.Sending.{IsCarried};
 ghost use Rattle.model.specs.Step as said;
 ghost use Rattle.model.specs.Step.{select_sends, purge_sends, declare_sends, queue_declared, consume_sends, cancel_sends};
-ghost use Rattle.replies.specs.Sent.{AreOwn};
+ghost use Rattle.replies.specs.Sent.{AreAddressed};
 
 use crate::answers::{cancel_ok, consume_ok, purge_ok, queue_ok, select_ok};
 use crate::contents::get_ok;
@@ -22,7 +22,7 @@ pub fn answer_select(
 ) -> Result<Step, AllocError>
     ensures sends { IfOk result (λ s. s.sends.items ≡ select_sends connection channel no_wait) }
     ensures notes { IfOk result (λ s. s.notes.items ≡ []) }
-    ensures own { IfOk result (λ s. AreOwn connection s.sends.items) }
+    ensures addressed { IfOk result (λ s. AreAddressed connection s.sends.items) }
 {
     if no_wait {
         Ok(Step::nothing(alloc))
@@ -41,7 +41,7 @@ pub fn answer_purge(
 ) -> Result<Step, AllocError>
     ensures sends { IfOk result (λ s. s.sends.items ≡ purge_sends connection channel no_wait count) }
     ensures notes { IfOk result (λ s. s.notes.items ≡ []) }
-    ensures own { IfOk result (λ s. AreOwn connection s.sends.items) }
+    ensures addressed { IfOk result (λ s. AreAddressed connection s.sends.items) }
 {
     if no_wait {
         Ok(Step::nothing(alloc))
@@ -61,7 +61,7 @@ pub fn answer_queue_declare(
 ) -> Result<Step, AllocError>
     ensures sends { IfOk result (λ s. s.sends.items ≡ declare_sends connection channel declare.now.no_wait (queue_declared declare.now.queue ready consumers)) }
     ensures notes { IfOk result (λ s. s.notes.items ≡ []) }
-    ensures own { IfOk result (λ s. length declare.now.queue < 256 → AreOwn connection s.sends.items) }
+    ensures addressed { IfOk result (λ s. length declare.now.queue < 256 → AreAddressed connection s.sends.items) }
 {
     if declare.no_wait {
         Ok(Step::nothing(alloc))
@@ -80,7 +80,7 @@ pub fn answer_consume(step: &mut Step, connection: u64, channel: u16, no_wait: b
     requires room { vec_len step.old.sends < vec_capacity step.old.sends }
     ensures sends { step.new.sends.items ≡ consume_sends connection channel no_wait tag }
     ensures notes { step.new.notes.items ≡ step.old.notes.items }
-    ensures own { length tag < 256 → AreOwn connection step.new.sends.items }
+    ensures addressed { length tag < 256 → AreAddressed connection step.new.sends.items }
 {
     if !no_wait {
         step.sends
@@ -97,7 +97,7 @@ pub fn answer_cancel(
 ) -> Result<Step, AllocError>
     ensures sends { IfOk result (λ s. s.sends.items ≡ cancel_sends connection channel cancel.now.no_wait cancel.now.consumer_tag) }
     ensures notes { IfOk result (λ s. s.notes.items ≡ []) }
-    ensures own { IfOk result (λ s. length cancel.now.consumer_tag < 256 → AreOwn connection s.sends.items) }
+    ensures addressed { IfOk result (λ s. length cancel.now.consumer_tag < 256 → AreAddressed connection s.sends.items) }
 {
     if cancel.no_wait {
         Ok(Step::nothing(alloc))
@@ -145,7 +145,7 @@ pub fn answer_get(
 ) -> Result<Step, AllocError>
     ensures sends { IfOk result (λ s. s.sends.items ≡ said.get_ok connection channel tag entry.now remaining ∷ []) }
     ensures notes { IfOk result (λ s. s.notes.items ≡ delivery_notes get.now.no_ack entry.now.message.number get.now.queue) }
-    ensures own { IfOk result (λ s. IsCarried entry.now.message → AreOwn connection s.sends.items) }
+    ensures addressed { IfOk result (λ s. IsCarried entry.now.message → AreAddressed connection s.sends.items) }
 {
     let send = get_ok(connection, channel, tag, entry, remaining)?;
     giving(alloc, send, get.no_ack, entry, &get.queue)

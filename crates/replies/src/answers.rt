@@ -2,9 +2,9 @@
 
 ghost use Rattle.std.specs.Prelude.{◌≡◌, ◌<◌, [], true, length};
 ghost use Rattle.model.specs.Deliveries.{written_count};
+ghost use Rattle.model.specs.Sending.{IsAddressed};
 ghost use Rattle.model.specs.Step as said;
 ghost use Rattle.model.specs.declared.methods.Method.TheVariants as seen;
-ghost use Rattle.replies.specs.Sent.{IsOwn};
 
 use crate::closes::reply;
 use model::{Ack, Answer, Method, Nack, QueueDeclared, Send, Text};
@@ -23,7 +23,7 @@ pub(crate) fn written(count: usize) -> u32
 /// channel.open-ok.
 pub fn open_ok(connection: u64, channel: u16) -> Send
     ensures send { result ≡ said.reply connection channel (seen.ChannelOpenOk []) }
-    ensures own { IsOwn connection result }
+    ensures addressed { IsAddressed connection result }
 {
     reply(
         connection,
@@ -37,7 +37,7 @@ pub fn open_ok(connection: u64, channel: u16) -> Send
 /// channel.flow-ok, of a flow that goes on.
 pub fn flow_ok(connection: u64, channel: u16) -> Send
     ensures send { result ≡ said.reply connection channel (seen.ChannelFlowOk true) }
-    ensures own { IsOwn connection result }
+    ensures addressed { IsAddressed connection result }
 {
     reply(connection, channel, Method::ChannelFlowOk { active: true })
 }
@@ -45,7 +45,7 @@ pub fn flow_ok(connection: u64, channel: u16) -> Send
 /// exchange.declare-ok.
 pub fn exchange_ok(connection: u64, channel: u16) -> Send
     ensures send { result ≡ said.reply connection channel seen.ExchangeDeclareOk }
-    ensures own { IsOwn connection result }
+    ensures addressed { IsAddressed connection result }
 {
     reply(connection, channel, Method::ExchangeDeclareOk)
 }
@@ -53,7 +53,7 @@ pub fn exchange_ok(connection: u64, channel: u16) -> Send
 /// confirm.select-ok.
 pub(crate) fn select_ok(connection: u64, channel: u16) -> Send
     ensures send { result ≡ said.reply connection channel seen.ConfirmSelectOk }
-    ensures own { IsOwn connection result }
+    ensures addressed { IsAddressed connection result }
 {
     reply(connection, channel, Method::ConfirmSelectOk)
 }
@@ -61,7 +61,7 @@ pub(crate) fn select_ok(connection: u64, channel: u16) -> Send
 /// queue.purge-ok, with the number of messages that were taken out, which is at most the greatest of four octets.
 pub(crate) fn purge_ok(connection: u64, channel: u16, count: usize) -> Send
     ensures send { result ≡ said.reply connection channel (seen.QueuePurgeOk (written_count count)) }
-    ensures own { IsOwn connection result }
+    ensures addressed { IsAddressed connection result }
 {
     let message_count = written(count);
     reply(connection, channel, Method::QueuePurgeOk { message_count })
@@ -77,7 +77,7 @@ pub(crate) fn queue_ok(
     consumers: usize,
 ) -> Send
     ensures send { result ≡ said.reply connection channel (said.queue_declared queue ready consumers) }
-    ensures own { length queue < 256 → IsOwn connection result }
+    ensures addressed { length queue < 256 → IsAddressed connection result }
 {
     let declared = QueueDeclared {
         queue,
@@ -90,7 +90,7 @@ pub(crate) fn queue_ok(
 /// basic.consume-ok of the consumer of this tag.
 pub(crate) fn consume_ok(connection: u64, channel: u16, consumer_tag: Text) -> Send
     ensures send { result ≡ said.reply connection channel (seen.BasicConsumeOk consumer_tag) }
-    ensures own { length consumer_tag < 256 → IsOwn connection result }
+    ensures addressed { length consumer_tag < 256 → IsAddressed connection result }
 {
     reply(connection, channel, Method::BasicConsumeOk { consumer_tag })
 }
@@ -98,7 +98,7 @@ pub(crate) fn consume_ok(connection: u64, channel: u16, consumer_tag: Text) -> S
 /// basic.cancel-ok of this tag.
 pub(crate) fn cancel_ok(connection: u64, channel: u16, consumer_tag: Text) -> Send
     ensures send { result ≡ said.reply connection channel (seen.BasicCancelOk consumer_tag) }
-    ensures own { length consumer_tag < 256 → IsOwn connection result }
+    ensures addressed { length consumer_tag < 256 → IsAddressed connection result }
 {
     reply(connection, channel, Method::BasicCancelOk { consumer_tag })
 }
@@ -106,7 +106,7 @@ pub(crate) fn cancel_ok(connection: u64, channel: u16, consumer_tag: Text) -> Se
 /// basic.qos-ok.
 pub fn qos_ok(connection: u64, channel: u16) -> Send
     ensures send { result ≡ said.reply connection channel seen.BasicQosOk }
-    ensures own { IsOwn connection result }
+    ensures addressed { IsAddressed connection result }
 {
     reply(connection, channel, Method::BasicQosOk)
 }
@@ -114,7 +114,7 @@ pub fn qos_ok(connection: u64, channel: u16) -> Send
 /// basic.recover-ok.
 pub fn recover_ok(connection: u64, channel: u16) -> Send
     ensures send { result ≡ said.reply connection channel seen.BasicRecoverOk }
-    ensures own { IsOwn connection result }
+    ensures addressed { IsAddressed connection result }
 {
     reply(connection, channel, Method::BasicRecoverOk)
 }
@@ -133,7 +133,7 @@ pub(crate) fn answer_of(is_some_full: bool) -> Answer
 /// basic.ack or basic.nack of the publish with this confirm number, and of no other.
 pub(crate) fn confirm(connection: u64, channel: u16, answer: Answer, number: u64) -> Send
     ensures send { result ≡ said.reply connection channel (said.confirm_method answer number) }
-    ensures own { IsOwn connection result }
+    ensures addressed { IsAddressed connection result }
 {
     let method = match answer {
         Answer::Ack => Method::BasicAck(Ack {
@@ -152,7 +152,7 @@ pub(crate) fn confirm(connection: u64, channel: u16, answer: Answer, number: u64
 /// basic.get-empty.
 pub fn get_empty(connection: u64, channel: u16) -> Send
     ensures send { result ≡ said.reply connection channel (seen.BasicGetEmpty []) }
-    ensures own { IsOwn connection result }
+    ensures addressed { IsAddressed connection result }
 {
     reply(
         connection,

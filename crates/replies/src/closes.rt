@@ -3,9 +3,9 @@
 ghost use Rattle.std.specs.Prelude.{◌≡◌, ◌<◌, None, length};
 ghost use Rattle.model.specs.Codes.{code_text};
 ghost use Rattle.model.specs.Grammar.{ids};
+ghost use Rattle.model.specs.Sending.{IsAddressed};
 ghost use Rattle.model.specs.Step as said;
 ghost use Rattle.model.specs.declared.methods.Method.TheVariants as seen;
-ghost use Rattle.replies.specs.Sent.{IsOwn};
 
 use model::{Close, Ids, Method, Send, reply_text};
 
@@ -37,7 +37,7 @@ fn close(code: u16, cause: Ids) -> Close
 /// channel.close, with this reply code, for this method.
 pub fn channel_close(connection: u64, channel: u16, code: u16, cause: Ids) -> Send
     ensures send { result ≡ said.channel_close connection channel code (ids cause.class cause.method) }
-    ensures own { IsOwn connection result }
+    ensures addressed { IsAddressed connection result }
 {
     reply(
         connection,
@@ -49,7 +49,7 @@ pub fn channel_close(connection: u64, channel: u16, code: u16, cause: Ids) -> Se
 /// connection.close, with this reply code, for this method.
 pub fn connection_close(connection: u64, code: u16, cause: Ids) -> Send
     ensures send { result ≡ said.connection_close connection code (ids cause.class cause.method) }
-    ensures own { IsOwn connection result }
+    ensures addressed { IsAddressed connection result }
 {
     reply(connection, 0, Method::ConnectionClose(close(code, cause)))
 }
@@ -57,7 +57,7 @@ pub fn connection_close(connection: u64, code: u16, cause: Ids) -> Send
 /// channel.close-ok.
 pub fn channel_close_ok(connection: u64, channel: u16) -> Send
     ensures send { result ≡ said.reply connection channel seen.ChannelCloseOk }
-    ensures own { IsOwn connection result }
+    ensures addressed { IsAddressed connection result }
 {
     reply(connection, channel, Method::ChannelCloseOk)
 }
@@ -65,7 +65,7 @@ pub fn channel_close_ok(connection: u64, channel: u16) -> Send
 /// connection.close-ok.
 pub fn connection_close_ok(connection: u64) -> Send
     ensures send { result ≡ said.reply connection 0 seen.ConnectionCloseOk }
-    ensures own { IsOwn connection result }
+    ensures addressed { IsAddressed connection result }
 {
     reply(connection, 0, Method::ConnectionCloseOk)
 }

@@ -2,11 +2,10 @@
 
 ghost use Rattle.std.specs.Prelude.{◌≡◌, ◌<◌, length, IfOk, IfSome};
 ghost use Rattle.model.specs.Grammar.{IsMethod};
-ghost use Rattle.model.specs.Sending.{IsCarried};
+ghost use Rattle.model.specs.Sending.{IsAddressed, IsCarried};
 ghost use Rattle.model.specs.Step as said;
 ghost use Rattle.model.specs.declared.methods.Method.TheVariants as seen;
 ghost use Rattle.replies.specs.Sent as sent;
-ghost use Rattle.replies.specs.Sent.{IsOwn};
 
 use crate::answers::written;
 use model::{Content, Deliver, Entry, GetOk, Method, Publish, Return, Send, Text, reply_text};
@@ -23,7 +22,7 @@ fn return_of(
     content: &Content,
 ) -> Result<Send, AllocError>
     ensures send { IfOk result (λ s. s ≡ said.return_of connection channel publish.now content.now) }
-    ensures own { IfOk result (λ s. IsMethod (seen.BasicPublish publish.now) → IsOwn connection s) }
+    ensures addressed { IfOk result (λ s. IsMethod (seen.BasicPublish publish.now) → IsAddressed connection s) }
 {
     Ok(Send::Command {
         connection,
@@ -46,7 +45,7 @@ pub fn return_if(
     content: &Content,
 ) -> Result<Option<Send>, AllocError>
     ensures send { IfOk result (λ r. r ≡ sent.return_if connection channel publish.now content.now) }
-    ensures own { IfOk result (λ r. IsMethod (seen.BasicPublish publish.now) → IfSome r (λ s. IsOwn connection s)) }
+    ensures addressed { IfOk result (λ r. IsMethod (seen.BasicPublish publish.now) → IfSome r (λ s. IsAddressed connection s)) }
 {
     if publish.mandatory {
         Ok(Some(return_of(connection, channel, publish, content)?))
@@ -65,7 +64,7 @@ pub(crate) fn get_ok(
     remaining: usize,
 ) -> Result<Send, AllocError>
     ensures send { IfOk result (λ s. s ≡ said.get_ok connection channel tag entry.now remaining) }
-    ensures own { IfOk result (λ s. IsCarried entry.now.message → IsOwn connection s) }
+    ensures addressed { IfOk result (λ s. IsCarried entry.now.message → IsAddressed connection s) }
 {
     let message = &entry.message;
     Ok(Send::Command {
@@ -92,7 +91,7 @@ pub fn deliver(
     entry: &Entry,
 ) -> Result<Send, AllocError>
     ensures send { IfOk result (λ s. s ≡ said.deliver connection channel tag consumer_tag.now entry.now) }
-    ensures own { IfOk result (λ s. length consumer_tag.now < 256 → IsCarried entry.now.message → IsOwn connection s) }
+    ensures addressed { IfOk result (λ s. length consumer_tag.now < 256 → IsCarried entry.now.message → IsAddressed connection s) }
 {
     let message = &entry.message;
     Ok(Send::Command {

@@ -3,7 +3,7 @@
 ghost use Rattle.std.specs.Prelude.{◌≡◌, ◌<◌, ◌≤◌, ◌+◌, ◌∷◌, ◌++◌, ◌&&◌, [], None, IfOk, is_some, cond, vec_len, vec_capacity};
 ghost use Rattle.model.specs.Step as said;
 ghost use Rattle.model.specs.Step.{confirm_sends, confirm_notes, returned_notes};
-ghost use Rattle.replies.specs.Sent.{AreOwn, sent_back};
+ghost use Rattle.replies.specs.Sent.{AreAddressed, sent_back};
 
 use crate::answers::{answer_of, confirm};
 use model::{Note, Send};
@@ -88,7 +88,7 @@ impl Step {
         requires notes { vec_len self.old.notes < vec_capacity self.old.notes }
         ensures sends { self.new.sends.items ≡ self.old.sends.items ++ confirm_sends connection channel confirm_number (said.answer_of is_some_full) }
         ensures notes { self.new.notes.items ≡ self.old.notes.items ++ confirm_notes number confirm_number (said.answer_of is_some_full) }
-        ensures own { AreOwn connection (confirm_sends connection channel confirm_number (said.answer_of is_some_full)) }
+        ensures addressed { AreAddressed connection (confirm_sends connection channel confirm_number (said.answer_of is_some_full)) }
     {
         if let Some(confirm_number) = confirm_number {
             let answer = answer_of(is_some_full);

@@ -9,7 +9,7 @@ use Rattle.model.specs.declared.events.Arrival.{Arrival}
 use Rattle.laws.proofs.Consistency.{new_is_consistent}
 use Rattle.laws.proofs.Plays.{told_plays}
 use Rattle.laws.proofs.Whole.{headline_holds}
-use Rattle.runs.specs.Told.{taken_at, AreFinished, Records, Tells}
+use Rattle.runs.specs.Told.{taken_at, AreFinished, Records, TellsEvents}
 use Rattle.runs.specs.Runs.{PlaysAndTells, IsRunOf}
 use Rattle.runs.proofs.InOrder.{gives_in_order}
 
@@ -36,8 +36,8 @@ pub is_run : (start last : World) (arrivals : List Arrival) (none s t : Seen) 鈫
 is_run start last arrivals none s t sound fresh empty played f n =
     let hs = played.0 in
     let plays : Plays (new_world start.config) arrivals hs last = subst (位 (z : World). Plays z arrivals hs last) fresh played.1 in
-    let tells : Tells (new_world start.config) (record { connections = []; notes = [] }) hs last s =
-    subst (位 (z : Seen). Tells (new_world start.config) z hs last s) empty (subst (位 (z : World). Tells z none hs last s) fresh played.2) in
+    let tells : TellsEvents (new_world start.config) (record { connections = []; notes = [] }) hs last s =
+    subst (位 (z : Seen). TellsEvents (new_world start.config) z hs last s) empty (subst (位 (z : World). TellsEvents z none hs last s) fresh played.2) in
     let shows : Shows hs last t = shows_at_end hs last s t (tells.keeps [] (no_records start.config sound.wf)) f n in
     record {
       happenings = hs;

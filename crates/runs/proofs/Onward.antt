@@ -10,8 +10,8 @@ use Rattle.model.specs.declared.notes.Note.{Note}
 use Rattle.model.specs.declared.events.Arrival.{Arrival}
 use Rattle.model.specs.declared.events.Arrival.TheVariants as arrival
 use Rattle.laws.proofs.Consistency.{opens_consistent, awaits_consistent}
-use Rattle.runs.specs.Told.{Tells, gathered, with_opened}
-use Rattle.runs.specs.Opened.{OpensNew, OpensReady, Hears, Did, DidNothing, Idles, Pumped, Takes, IsLost}
+use Rattle.runs.specs.Told.{TellsEvents, gathered, with_opened}
+use Rattle.runs.specs.Opened.{OpensNew, OpensReady, Hears, Did, DidNothing, Idles, Pumped, TakesAway, IsLost}
 use Rattle.runs.specs.Runs.{WorksAndTells, AnswersAndTells, PlaysAndTells}
 use Rattle.runs.proofs.Steps.{tells_then, tells_not, tells_same, tells_turns, tells_delivers, tells_waits, tells_heard, tells_takes, tells_loses, tells_opens}
 
@@ -42,7 +42,7 @@ works_one c a b d hs ks w t = works_then c a b d hs ks w (one_more t none_more (
 
 -- what was performed and written down so far
 abbrev pub SoFar : World → ℕ → Seen → World → Seen → Type 0
-SoFar old c seen new after = (hs : List Happening) × Works c old hs new × Tells old seen hs new after
+SoFar old c seen new after = (hs : List Happening) × Works c old hs new × TellsEvents old seen hs new after
 
 pub so_far_not : (w : World) (c : ℕ) (s : Seen) → SoFar w c s w s
 so_far_not w c s = ([], none_more, tells_not w s)
@@ -51,14 +51,14 @@ pub so_far_more : (a b d : World) (c : ℕ) (s t u : Seen) (notes : List Note) �
 so_far_more a b d c s t u notes f did e = (
   f.0 ++ did.0,
   works_one c a b d f.0 did.0 f.1 did.2,
-  tells_then a b d s t u f.0 did.0 f.2 (subst (λ (z : Seen). Tells b t did.0 d z) (sym e) (tells_turns b d c did.0 t notes did.1 did.2)),
+  tells_then a b d s t u f.0 did.0 f.2 (subst (λ (z : Seen). TellsEvents b t did.0 d z) (sym e) (tells_turns b d c did.0 t notes did.1 did.2)),
 )
 
 pub so_far_ends : (a b d : World) (c : ℕ) (s t : Seen) → SoFar a c s b t → DidNothing b c d → WorksAndTells a c s d t
 so_far_ends a b d c s t f nothing = (
   f.0,
   record { mid = b; works = f.1; rests = nothing.0; waits = nothing.1 },
-  subst (λ (z : List Happening). Tells a s z d t) (append-nil f.0) (tells_then a b d s t t f.0 [] f.2 (tells_waits b d c t nothing.1)),
+  subst (λ (z : List Happening). TellsEvents a s z d t) (append-nil f.0) (tells_then a b d s t t f.0 [] f.2 (tells_waits b d c t nothing.1)),
 )
 
 -- ---- arrivals
@@ -67,7 +67,7 @@ so_far_ends a b d c s t f nothing = (
 pub opens_new : (a b : World) (n : ℕ) (s t : Seen) → OpensNew a (Some n) b → t ≡ record s { connections = with_opened s.connections } → AnswersAndTells a arrival.Open s b t
 opens_new a b n s t o e =
     let by = o.2.1 in
-    (o.2.0, match_true (can_open a) _ _ o.0 by, subst (λ (z : Seen). Tells a s o.2.0 b z) (sym e) (tells_opens a b _ _ new_session o.2.0 s by by.happens.stepped.steps.acts.noted (λ k. awaits_consistent a b _ o.2.0 k by) by.happens.stepped.steps.session))
+    (o.2.0, match_true (can_open a) _ _ o.0 by, subst (λ (z : Seen). TellsEvents a s o.2.0 b z) (sym e) (tells_opens a b _ _ new_session o.2.0 s by by.happens.stepped.steps.acts.noted (λ k. awaits_consistent a b _ o.2.0 k by) by.happens.stepped.steps.session))
 
 pub opens_new_not : (a b : World) (s : Seen) → OpensNew a None b → AnswersAndTells a arrival.Open s b s
 opens_new_not a b s o = ([], match_false (can_open a) _ _ o.0 (refl, o.1), tells_same a b s o.1)
@@ -75,7 +75,7 @@ opens_new_not a b s o = ([], match_false (can_open a) _ _ o.0 (refl, o.1), tells
 pub opens_ready : (a b : World) (k n : ℕ) (s t : Seen) → OpensReady a k (Some n) b → t ≡ record s { connections = with_opened s.connections } → AnswersAndTells a (arrival.Ready k) s b t
 opens_ready a b k n s t o e =
     let by = o.2.1 in
-    (o.2.0, match_true (can_open a) _ _ o.0 by, subst (λ (z : Seen). Tells a s o.2.0 b z) (sym e) (tells_opens a b _ _ running_session o.2.0 s by by.happens.stepped.acts.noted (λ is. opens_consistent a b k _ o.2.0 is by) by.happens.stepped.session))
+    (o.2.0, match_true (can_open a) _ _ o.0 by, subst (λ (z : Seen). TellsEvents a s o.2.0 b z) (sym e) (tells_opens a b _ _ running_session o.2.0 s by by.happens.stepped.acts.noted (λ is. opens_consistent a b k _ o.2.0 is by) by.happens.stepped.session))
 
 pub opens_ready_not : (a b : World) (k : ℕ) (s : Seen) → OpensReady a k None b → AnswersAndTells a (arrival.Ready k) s b s
 opens_ready_not a b k s o = ([], match_false (can_open a) _ _ o.0 (refl, o.1), tells_same a b s o.1)
@@ -86,23 +86,23 @@ hears a m b c bytes s t e heard w =
     let works : WorksAndTells (with_heard a c bytes) c s b t = subst (λ (z : World). WorksAndTells z c s b t) is w in
     (works.0, match_false (is_over a c) _ _ e works.1, tells_then a (with_heard a c bytes) b s s t [] works.0 (tells_heard a c bytes s) works.2)
 
-pub takes : (a m b : World) (c n : ℕ) (s t u : Seen) → is_gone a c ≡ false → t ≡ record s { connections = gathered s.connections c (take n (a.wire c).output) } → Takes a c n m → WorksAndTells m c t b u
+pub takes : (a m b : World) (c n : ℕ) (s t u : Seen) → is_gone a c ≡ false → t ≡ record s { connections = gathered s.connections c (take n (a.wire c).output) } → TakesAway a c n m → WorksAndTells m c t b u
     → AnswersAndTells a (arrival.Sent c n) s b u
 takes a m b c n s t u e gathers took w =
     let off : (hs : List Happening) × Takes_off a c n hs m = of_false (is_gone a c) (Same a m) _ e took in (
       off.0 ++ w.0,
       match_false (is_gone a c) _ _ e (record { first = off.0; rest = w.0; all = refl; mid = m; takes = off.1; works = w.1 }),
-      tells_then a m b s t u off.0 w.0 (subst (λ (z : Seen). Tells a s off.0 m z) (sym gathers) (tells_takes a m c n off.0 s off.1)) w.2,
+      tells_then a m b s t u off.0 w.0 (subst (λ (z : Seen). TellsEvents a s off.0 m z) (sym gathers) (tells_takes a m c n off.0 s off.1)) w.2,
     )
 
 pub loses : (a b : World) (c : ℕ) (s t : Seen) → is_gone a c ≡ false → t ≡ record s { connections = gathered s.connections c (a.wire c).output } → IsLost a c b → AnswersAndTells a (arrival.Lose c) s b t
 loses a b c s t e gathers lost =
     let loss : (hs : List Happening) × Loses a c hs b = of_false (is_gone a c) (Same a b) _ e lost in
-    (loss.0, match_false (is_gone a c) _ _ e loss.1, subst (λ (z : Seen). Tells a s loss.0 b z) (sym gathers) (tells_loses a b c loss.0 s loss.1))
+    (loss.0, match_false (is_gone a c) _ _ e loss.1, subst (λ (z : Seen). TellsEvents a s loss.0 b z) (sym gathers) (tells_loses a b c loss.0 s loss.1))
 
 -- a delivery was made, and what was noted is told
 pub pumps : (a b : World) (s t : Seen) (notes : List Note) → Pumped a notes b → t ≡ record s { notes = s.notes ++ notes } → AnswersAndTells a arrival.Pump s b t
-pumps a b s t notes (c, hs, noted, made) e = (hs, delivers made, subst (λ (z : Seen). Tells a s hs b z) (sym e) (tells_delivers a b c hs s notes noted made))
+pumps a b s t notes (c, hs, noted, made) e = (hs, delivers made, subst (λ (z : Seen). TellsEvents a s hs b z) (sym e) (tells_delivers a b c hs s notes noted made))
 
 pub pumps_not : (a b : World) (s : Seen) → Idles a b → AnswersAndTells a arrival.Pump s b s
 pumps_not a b s i = ([], idles i.0 (refl, i.1), tells_same a b s i.1)
@@ -112,7 +112,7 @@ pumps_not a b s i = ([], idles i.0 (refl, i.1), tells_same a b s i.1)
 -- what was played so far, if what is left is played from here
 pub record Played (start : World) (s0 : Seen) (arrivals : List Arrival) (now : World) (seen : Seen) (left : List Arrival) : Type 0 where
   pub done : List Happening
-  pub tells : Tells start s0 done now seen
+  pub tells : TellsEvents start s0 done now seen
   pub goes_on : (rest : List Happening) (w : World) → Plays now left rest w → Plays start arrivals (done ++ rest) w
 
 pub played_not : (w : World) (s : Seen) (arrivals : List Arrival) → Played w s arrivals w s arrivals

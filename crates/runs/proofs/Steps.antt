@@ -19,7 +19,7 @@ use Rattle.model.specs.declared.events.Phase.TheVariants as phase
 use Rattle.model.specs.declared.events.Send.{Send}
 use Rattle.model.specs.declared.events.Event.{Event}
 use Rattle.model.specs.declared.events.Event.TheVariants as event
-use Rattle.runs.specs.Told.{taken_at, gathered, with_opened, AreUnopened, Records, Tells}
+use Rattle.runs.specs.Told.{taken_at, gathered, with_opened, AreUnopened, Records, TellsEvents}
 use Rattle.runs.proofs.Worlds.{world_same}
 use Rattle.runs.proofs.Places.{with_here, with_other, length-gathered, taken_here, taken_other, taken_opened, take_nothing, drop_nothing, take_and_drop}
 
@@ -31,15 +31,15 @@ put_out-append c hs ks = flat_map-append (λ (h : Happening). spelling h.frame_m
 
 -- ---- Tells
 
-pub tells_then : (a b d : World) (s t u : Seen) (hs ks : List Happening) → Tells a s hs b t → Tells b t ks d u → Tells a s (hs ++ ks) d u
+pub tells_then : (a b d : World) (s t u : Seen) (hs ks : List Happening) → TellsEvents a s hs b t → TellsEvents b t ks d u → TellsEvents a s (hs ++ ks) d u
 tells_then a b d s t u hs ks p q = record {
   keeps = λ done r. subst (λ (z : List Happening). Records z d u) (append_assoc done hs ks) (q.keeps (done ++ hs) (p.keeps done r));
 }
 
-pub tells_at : (a b : World) (s t : Seen) (hs ks : List Happening) → hs ≡ ks → Tells a s ks b t → Tells a s hs b t
-tells_at a b s t hs ks e p = subst (λ (z : List Happening). Tells a s z b t) (sym e) p
+pub tells_at : (a b : World) (s t : Seen) (hs ks : List Happening) → hs ≡ ks → TellsEvents a s ks b t → TellsEvents a s hs b t
+tells_at a b s t hs ks e p = subst (λ (z : List Happening). TellsEvents a s z b t) (sym e) p
 
-pub tells_not : (a : World) (s : Seen) → Tells a s [] a s
+pub tells_not : (a : World) (s : Seen) → TellsEvents a s [] a s
 tells_not a s = record { keeps = λ done r. subst (λ (z : List Happening). Records z a s) (sym (append-nil done)) r }
 
 tells_by : (old new : World) (seen after : Seen) (hs : List Happening)
@@ -49,7 +49,7 @@ tells_by : (old new : World) (seen after : Seen) (hs : List Happening)
     → (IsConsistent old → AreUnopened old → AreUnopened new)
     → ((i : ℕ) → length seen.connections ≡ old.given → AreUnopened old
     → taken_at after.connections i ++ (new.wire (i + 1)).output ≡ (taken_at seen.connections i ++ (old.wire (i + 1)).output) ++ put_out (i + 1) hs)
-    → Tells old seen hs new after
+    → TellsEvents old seen hs new after
 tells_by old new seen after hs noted counted consistent unopened local = record {
   keeps = λ done r. record {
     noted = noted ∙ ap (λ (z : List Note). z ++ notes_of hs) r.noted ∙ sym (notes-append done hs);
@@ -60,8 +60,8 @@ tells_by old new seen after hs noted counted consistent unopened local = record 
   };
 }
 
-pub tells_same : (a b : World) (s : Seen) → Same a b → Tells a s [] b s
-tells_same a b s same = subst (λ (w : World). Tells a s [] w s) (sym (world_same a b same)) (tells_not a s)
+pub tells_same : (a b : World) (s : Seen) → Same a b → TellsEvents a s [] b s
+tells_same a b s same = subst (λ (w : World). TellsEvents a s [] w s) (sym (world_same a b same)) (tells_not a s)
 
 -- ---- what puts nothing out
 
@@ -139,7 +139,7 @@ awake_apart false paused e o = false≢true o
 pub turns_apart : (a b : World) (c : ℕ) (hs : List Happening) (d : ℕ) → Turns a c hs b → is_over a d ≡ true → d ≢ c
 turns_apart a b c hs d t over e = awake_apart (is_over a c) (is_paused a c) t.awake (ap (is_over a) (sym e) ∙ over)
 
-pub tells_turns : (a b : World) (c : ℕ) (hs : List Happening) (s : Seen) (notes : List Note) → notes ≡ notes_of hs → Turns a c hs b → Tells a s hs b (record s { notes = s.notes ++ notes })
+pub tells_turns : (a b : World) (c : ℕ) (hs : List Happening) (s : Seen) (notes : List Note) → notes ≡ notes_of hs → Turns a c hs b → TellsEvents a s hs b (record s { notes = s.notes ++ notes })
 tells_turns a b c hs s notes noted t =
     tells_by a b s (record s { notes = s.notes ++ notes }) hs
     (ap (λ (z : List Note). s.notes ++ z) noted)
@@ -167,7 +167,7 @@ runs_apart b phase.Over is e over = false≢true (sym is ∙ e)
 pub delivers_apart : (a b : World) (c : ℕ) (hs : List Happening) (d : ℕ) → IsConsistent a → Delivers a c hs b → is_over a d ≡ true → d ≢ c
 delivers_apart a b c hs d k v over e = runs_apart _ (a.state.session c).phase (k.running c) (ap is_some v.puts.happens.stepped.acts.made.taker.runs) (ap (is_over a) (sym e) ∙ over)
 
-pub tells_delivers : (a b : World) (c : ℕ) (hs : List Happening) (s : Seen) (notes : List Note) → notes ≡ notes_of hs → Delivers a c hs b → Tells a s hs b (record s { notes = s.notes ++ notes })
+pub tells_delivers : (a b : World) (c : ℕ) (hs : List Happening) (s : Seen) (notes : List Note) → notes ≡ notes_of hs → Delivers a c hs b → TellsEvents a s hs b (record s { notes = s.notes ++ notes })
 tells_delivers a b c hs s notes noted v =
     tells_by a b s (record s { notes = s.notes ++ notes }) hs
     (ap (λ (z : List Note). s.notes ++ z) noted)
@@ -181,7 +181,7 @@ tells_delivers a b c hs s notes noted v =
 
 -- ---- nothing happens, and no output changes
 
-tells_idle : (a b : World) (s : Seen) → b.given ≡ a.given → b.config ≡ a.config → b.state ≡ a.state → ((d : ℕ) → (b.wire d).output ≡ (a.wire d).output) → Tells a s [] b s
+tells_idle : (a b : World) (s : Seen) → b.given ≡ a.given → b.config ≡ a.config → b.state ≡ a.state → ((d : ℕ) → (b.wire d).output ≡ (a.wire d).output) → TellsEvents a s [] b s
 tells_idle a b s given config state outputs =
     tells_by a b s s []
     (sym (append-nil s.notes))
@@ -190,14 +190,14 @@ tells_idle a b s given config state outputs =
     (λ k none i le. let was = none i (subst (λ (n : ℕ). n ≤ i) given le) in (outputs (i + 1) ∙ was.0, ap (λ (z : State). is_ended (z.session (i + 1)).phase) state ∙ was.1))
     (λ i n none. ap (λ (z : List ℕ). taken_at s.connections i ++ z) (outputs (i + 1)) ∙ sym (append-nil (taken_at s.connections i ++ (a.wire (i + 1)).output)))
 
-pub tells_waits : (a b : World) (c : ℕ) (s : Seen) → Waits a c b → Tells a s [] b s
+pub tells_waits : (a b : World) (c : ℕ) (s : Seen) → Waits a c b → TellsEvents a s [] b s
 tells_waits a b c s v = tells_idle a b s v.given v.config v.state (λ d. go d (eqb d c) refl)
   where
     go : (d : ℕ) (x : Bool) → eqb d c ≡ x → (b.wire d).output ≡ (a.wire d).output
     go d true q = subst (λ (n : ℕ). (b.wire n).output ≡ (a.wire n).output) (sym (eqb-true d c q)) v.output
     go d false q = ap (λ (w : Wire). w.output) (v.others d (eqb-false d c q))
 
-pub tells_heard : (a : World) (c : ℕ) (bytes : List ℕ) (s : Seen) → Tells a s [] (with_heard a c bytes) s
+pub tells_heard : (a : World) (c : ℕ) (bytes : List ℕ) (s : Seen) → TellsEvents a s [] (with_heard a c bytes) s
 tells_heard a c bytes s = tells_idle a (with_heard a c bytes) s refl refl refl (λ d. go d (eqb d c) refl)
   where
     go : (d : ℕ) (x : Bool) → eqb d c ≡ x → ((with_heard a c bytes).wire d).output ≡ (a.wire d).output
@@ -244,7 +244,7 @@ unopened_still a b c given here over there others none i le = go (eqb (i + 1) c)
         (ap (λ (n : ℕ). (b.wire n).output) e ∙ here (ap (λ (n : ℕ). (a.wire n).output) (sym e) ∙ was.0), ap (is_over b) e ∙ over (ap (is_over a) (sym e) ∙ was.1))
     go false q = let ne : i + 1 ≢ c = eqb-false (i + 1) c q in (there (i + 1) ne ∙ was.0, others (i + 1) ne ∙ was.1)
 
-pub tells_takes : (a b : World) (c n : ℕ) (hs : List Happening) (s : Seen) → Takes_off a c n hs b → Tells a s hs b (record s { connections = gathered s.connections c (take n (a.wire c).output) })
+pub tells_takes : (a b : World) (c n : ℕ) (hs : List Happening) (s : Seen) → Takes_off a c n hs b → TellsEvents a s hs b (record s { connections = gathered s.connections c (take n (a.wire c).output) })
 tells_takes a b c n hs s t =
     let out = (a.wire c).output in
     let after = settled a.config a.state b.state c _ _ hs t.pauses in
@@ -258,7 +258,7 @@ tells_takes a b c n hs s t =
     (λ k. unopened_still a b c t.given (λ e. here ∙ drop_nothing n out e) (λ e. over c ∙ e) there (λ d ne. over d))
     (gathered_each a b c (take n out) (drop n out) s.connections hs after.quiet (take_and_drop n out) (take_nothing n out) here there)
 
-pub tells_loses : (a b : World) (c : ℕ) (hs : List Happening) (s : Seen) → Loses a c hs b → Tells a s hs b (record s { connections = gathered s.connections c (a.wire c).output })
+pub tells_loses : (a b : World) (c : ℕ) (hs : List Happening) (s : Seen) → Loses a c hs b → TellsEvents a s hs b (record s { connections = gathered s.connections c (a.wire c).output })
 tells_loses a b c hs s l =
     let out = (a.wire c).output in
     let quiet : IsQuiet hs = quiet_one l.h hs l.all l.happens.stepped.acts.noted l.silent in
@@ -275,7 +275,7 @@ tells_loses a b c hs s l =
 
 -- an opening by an event that notes nothing, after which the new connection is in this session
 pub tells_opens : (a b : World) (e : Event) (st : Stream) (after : Session) (hs : List Happening) (s : Seen) (o : Opens a e st hs b) → o.h.notes ≡ [] → (IsConsistent a → IsConsistent b) → ((d : ℕ) → b.state.session d ≡ with_one a.state.session (a.given + 1) after d)
-    → Tells a s hs b (record s { connections = with_opened s.connections })
+    → TellsEvents a s hs b (record s { connections = with_opened s.connections })
 tells_opens a b e st after hs s o noted consistent sessions =
     let quiet : IsQuiet hs = quiet_one o.h hs o.all noted o.silent in
     let here : (b.wire (a.given + 1)).output ≡ [] = ap (λ (w : Wire). w.output) (o.wires (a.given + 1) ∙ with_here a.wire (a.given + 1) (a.given + 1) _ refl) in

@@ -41,8 +41,8 @@ abbrev pub Idles : World → World → Type 0
 Idles old new = NoneCanDeliver old × Same old new
 
 -- so many bytes of the output are taken, unless the connection is gone
-abbrev pub Takes : World → ℕ → ℕ → World → Type 0
-Takes old c n new = MatchBool (is_gone old c) (Same old new) ((hs : List Happening) × Takes_off old c n hs new)
+abbrev pub TakesAway : World → ℕ → ℕ → World → Type 0
+TakesAway old c n new = MatchBool (is_gone old c) (Same old new) ((hs : List Happening) × Takes_off old c n hs new)
 
 -- the connection is lost, unless it is gone
 abbrev pub IsLost : World → ℕ → World → Type 0

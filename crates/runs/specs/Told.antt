@@ -49,7 +49,7 @@ pub record Records (hs : List Happening) (w : World) (seen : Seen) : Type 0 wher
   pub consistent : IsConsistent w
 
 -- What happened is written down behind what was written down before.
-pub record Tells (old : World) (seen : Seen) (hs : List Happening) (new : World) (after : Seen) : Type 0 where
+pub record TellsEvents (old : World) (seen : Seen) (hs : List Happening) (new : World) (after : Seen) : Type 0 where
   pub keeps : (done : List Happening) → Records done old seen → Records (done ++ hs) new after
 
 -- ---- the end

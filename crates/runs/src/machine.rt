@@ -8,7 +8,7 @@ pub trait Machine {
     ghost use Rattle.std.specs.Prelude.{◌≡◌, ◌<◌, ℕ, IfOk, OnOk, OnErr, OnSome, MatchOption, MatchBool};
     ghost use Rattle.model.specs.Arrivals.{World, Same, Waits, is_over};
     ghost use Rattle.model.specs.Headline.{IsSound};
-    ghost use Rattle.runs.specs.Opened.{OpensNew, OpensReady, Hears, Did, DidNothing, Idles, Pumped, Takes, IsLost};
+    ghost use Rattle.runs.specs.Opened.{OpensNew, OpensReady, Hears, Did, DidNothing, Idles, Pumped, TakesAway, IsLost};
 
     // what it stands for
     ghost world: { Self → World };
@@ -44,7 +44,7 @@ pub trait Machine {
 
     /// Takes `n` bytes from the front of `c`'s output, at most what is there.
     fn sent(&mut self, c: u64, n: u64)
-        ensures { Takes (world self.old) c n (world self.new) };
+        ensures { TakesAway (world self.old) c n (world self.new) };
 
     /// Loses the connection `c`.
     fn lose(&mut self, c: u64)

@@ -12,14 +12,14 @@ Refused Malformed why = why
 Refused Memory why = Unit {0}
 
 -- what was read is what stands there
-abbrev pub Tells : {X : Type 0} → Result X Bad → Option X → Type 0
-Tells (Ok x) said = said ≡ Some x
-Tells (Err e) said = Refused e (said ≡ None)
+abbrev pub TellsIfThere : {X : Type 0} → Result X Bad → Option X → Type 0
+TellsIfThere (Ok x) said = said ≡ Some x
+TellsIfThere (Err e) said = Refused e (said ≡ None)
 
 -- a line's arrival was appended, and so many are opened after it
-abbrev pub Takes : Result ℕ Bad → List Arrival → List Arrival → ℕ → Option (Option Arrival) → Type 0
-Takes (Ok after) old new opened said = (a : Option Arrival) × (said ≡ Some a) × (new ≡ old ++ option_to_list a) × (after ≡ opened_after opened said)
-Takes (Err e) old new opened said = Refused e (said ≡ None)
+abbrev pub TakesLine : Result ℕ Bad → List Arrival → List Arrival → ℕ → Option (Option Arrival) → Type 0
+TakesLine (Ok after) old new opened said = (a : Option Arrival) × (said ≡ Some a) × (new ≡ old ++ option_to_list a) × (after ≡ opened_after opened said)
+TakesLine (Err e) old new opened said = Refused e (said ≡ None)
 
 -- the lines that are left of a text, if it has not ended
 abbrev pub lines_left : Option Text → List Text

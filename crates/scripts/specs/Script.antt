@@ -129,6 +129,6 @@ script text = arrivals_from 1 0 (lines text)
 -- ---- what a reader answers
 
 -- why nothing was read; want of memory says nothing
-abbrev pub Refuses : Fault → Result (List Arrival) ℕ → Type 0
-Refuses (Line n) said = said ≡ Err n
-Refuses Memory said = Unit {0}
+abbrev pub RefusesScript : Fault → Result (List Arrival) ℕ → Type 0
+RefusesScript (Line n) said = said ≡ Err n
+RefusesScript Memory said = Unit {0}

@@ -3,7 +3,7 @@
 ghost use Rattle.std.specs.Prelude.{◌≡◌, ◌∷◌, ◌<◌, ◌≤◌, ◌==◌, length, IfSome, option_copied, option_map, position};
 ghost use Rattle.std.specs.List.{position_from};
 ghost use Rattle.scripts.specs.Script.{lines, cut, with_digit, digits_after, number, piece, opening, ready, connection, bytes_in, sent, lost, by_word, arrival_of, line_of};
-ghost use Rattle.scripts.specs.Lines.{Tells, lines_left};
+ghost use Rattle.scripts.specs.Lines.{TellsIfThere, lines_left};
 
 use hex::FromHexError;
 use model::{Arrival, Text};
@@ -98,7 +98,7 @@ fn number(text: &[u8]) -> Option<u64>
 
 /// The bytes of hex text, at least one.
 fn piece(alloc: Global, text: &[u8]) -> Result<Text, Bad>
-    ensures { Tells result (piece text.now) }
+    ensures { TellsIfThere result (piece text.now) }
 {
     if text.is_empty() {
         return Err(Bad::Malformed);
@@ -144,7 +144,7 @@ fn connection(opened: u64, field: &[u8]) -> Option<u64>
 
 /// The fields of `in C HEX` behind the word.
 fn bytes_in(alloc: Global, opened: u64, c: &[u8], hex: &[u8]) -> Result<Arrival, Bad>
-    ensures { Tells result (bytes_in opened (c.now, hex.now)) }
+    ensures { TellsIfThere result (bytes_in opened (c.now, hex.now)) }
 {
     match connection(opened, c) {
         Some(c) => Ok(Arrival::In(c, piece(alloc, hex)?)),
@@ -171,7 +171,7 @@ fn lost(opened: u64, c: &[u8]) -> Option<Arrival>
 
 /// A line of more than one field, by its first.
 fn by_word(alloc: Global, opened: u64, word: &[u8], rest: &[u8]) -> Result<Arrival, Bad>
-    ensures { Tells result (by_word opened (word.now, rest.now)) }
+    ensures { TellsIfThere result (by_word opened (word.now, rest.now)) }
 {
     if word == b"ready".as_slice() {
         return ready(opened, rest).ok_or(Bad::Malformed);
@@ -196,7 +196,7 @@ fn by_word(alloc: Global, opened: u64, word: &[u8], rest: &[u8]) -> Result<Arriv
 
 /// The arrival of a line that is not skipped.
 fn arrival_of(alloc: Global, opened: u64, line: &[u8]) -> Result<Arrival, Bad>
-    ensures { Tells result (arrival_of opened line.now) }
+    ensures { TellsIfThere result (arrival_of opened line.now) }
 {
     if line == b"open".as_slice() {
         return opening(opened).ok_or(Bad::Malformed);
@@ -213,7 +213,7 @@ fn arrival_of(alloc: Global, opened: u64, line: &[u8]) -> Result<Arrival, Bad>
 /// The arrival of a line, where `opened` connections were opened before it. An empty line and one that begins with
 /// `#` have none.
 pub fn line_of(alloc: Global, opened: u64, line: &[u8]) -> Result<Option<Arrival>, Bad>
-    ensures { Tells result (line_of opened line.now) }
+    ensures { TellsIfThere result (line_of opened line.now) }
 {
     match line.first() {
         None => return Ok(None),

@@ -1,8 +1,8 @@
 //! Replay scripts.
 
 ghost use Rattle.std.specs.Prelude.{◌≡◌, ◌≤◌, MatchResult, Some};
-ghost use Rattle.scripts.specs.Script.{script, line_of, opened_after, Refuses};
-ghost use Rattle.scripts.specs.Lines.{Takes};
+ghost use Rattle.scripts.specs.Script.{script, line_of, opened_after, RefusesScript};
+ghost use Rattle.scripts.specs.Lines.{TakesLine};
 
 use crate::lines::{Bad, first_line, line_of};
 use model::Arrival;
@@ -30,7 +30,7 @@ fn openings(line: &Option<Arrival>) -> u64
 /// Appends the arrival of a line, if it has one, and gives how many were opened after it.
 fn take_line(alloc: Global, found: &mut Vec<Arrival>, opened: u64, line: &[u8]) -> Result<u64, Bad>
     requires { opened ≤ 1024 }
-    ensures { Takes result found.old.items found.new.items opened (line_of opened line.now) }
+    ensures { TakesLine result found.old.items found.new.items opened (line_of opened line.now) }
 {
     let arrival = line_of(alloc, opened, line)?;
     let after = opened + openings(&arrival);
@@ -47,7 +47,7 @@ fn take_line(alloc: Global, found: &mut Vec<Arrival>, opened: u64, line: &[u8]) 
 /// open, `in C HEX` is a piece of bytes from connection C, `sent C N` takes N bytes of C's output, `pump` delivers a message
 /// where one can be, and `lose C` loses C. The first line at fault is told by its number, counted from 1.
 pub fn read_script(alloc: Global, text: &[u8]) -> Result<Vec<Arrival>, Fault>
-    ensures { MatchResult result (λ found. script text.now ≡ Ok found.items) (λ fault. Refuses fault (script text.now)) }
+    ensures { MatchResult result (λ found. script text.now ≡ Ok found.items) (λ fault. RefusesScript fault (script text.now)) }
 {
     let mut found = Vec::new(alloc);
     let mut opened = 0;

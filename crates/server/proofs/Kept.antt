@@ -18,12 +18,12 @@ use Rattle.named_files.proofs.Kept.{kept_then, kept_but_then, why_kept}
 use Rattle.verdicts.specs.Verdicts.{AreFound, status_of_verdicts}
 use Rattle.named_files.specs.declared.refusals.Refusal.{Refusal as FileRefusal}
 use Rattle.server.specs.Refusals.{of_refused, IsOfFile}
-use Rattle.server.specs.Program.{Fails, RunsOver, replays, serves, unset, uncertified, unwritten, wanting, IsNotAnswered, AreLeft, IsUnfiled, IsFiled, WritesOut, unnamed, doubtful, filed}
+use Rattle.server.specs.Program.{Fails, RunsOver, replays, serves, unset, uncertified, unwritten, wanting, IsNotAnswered, FilesAreLeft, IsUnfiled, IsFiled, WritesOut, unnamed, doubtful, filed}
 
 -- ---- files
 
 -- where all files are kept, they are left so for any reason
-pub left_of_kept : (before after : Text → Known) (file : Text) (why : Refusal) → AreKept before after → AreLeft before after file why
+pub left_of_kept : (before after : Text → Known) (file : Text) (why : Refusal) → AreKept before after → FilesAreLeft before after file why
 left_of_kept before after file (Line n) h = h
 left_of_kept before after file (Refused n) h = h
 left_of_kept before after file TooLong h = h

@@ -6,9 +6,9 @@ use Rattle.clap.specs.declared.error.Error.{Error}
 use Rattle.command_line.specs.CommandLine.{Wanted, AsksFor, IsRefused}
 use Rattle.model.specs.Words.{Text}
 use Rattle.named_files.specs.Files.{Known, AreKept}
-use Rattle.server.specs.Streams.{Stream, GetsNothing, Tries, tried}
+use Rattle.server.specs.Streams.{OutputStream, GetsNothing, Tries, tried}
 use Rattle.server.specs.declared.refusals.Refusal.{Refusal}
-use Rattle.server.specs.Program.{Does, printed, told_of, untold, unasked, unread, IsAnswered, IsNotAnswered, Refuses, Shows, status_of}
+use Rattle.server.specs.Program.{RunsAs, printed, told_of, untold, unasked, unread, IsCommandAnswered, IsNotAnswered, RefusesWith, ShowsError, status_of}
 
 -- ---- streams
 
@@ -47,28 +47,28 @@ nothing_put a b c text rest h p = record { front = h.front; whole = h.whole; get
 
 -- ---- the program
 
-at_status : (words : List Text) (before after : Text → Known) (out err : Stream) (m n : ℕ) → n ≡ m → Does words before after out err m → Does words before after out err n
-at_status words before after out err m n e d = subst (λ (k : ℕ). Does words before after out err k) (sym e) d
+at_status : (words : List Text) (before after : Text → Known) (out err : OutputStream) (m n : ℕ) → n ≡ m → RunsAs words before after out err m → RunsAs words before after out err n
+at_status words before after out err m n e d = subst (λ (k : ℕ). RunsAs words before after out err k) (sym e) d
 
 four : (done : Bool) → tried done 4 ≡ 4
 four true = refl
 four false = refl
 
-pub prints : (words : List Text) (before after : Text → Known) (out err : Stream) (wanted : Wanted) (text : Text) (status n : ℕ)
-    → AsksFor words wanted → IsAnswered before after wanted text status → GetsNothing err → Tries out text status n → Does words before after out err n
+pub prints : (words : List Text) (before after : Text → Known) (out err : OutputStream) (wanted : Wanted) (text : Text) (status n : ℕ)
+    → AsksFor words wanted → IsCommandAnswered before after wanted text status → GetsNothing err → Tries out text status n → RunsAs words before after out err n
 prints words before after out err wanted text status n asks is quiet put =
     at_status words before after out err (tried put.0 status) n put.2 (printed wanted text status put.0 asks is put.1 quiet)
 
-pub tells : (words : List Text) (before after : Text → Known) (out err : Stream) (wanted : Wanted) (file : Text) (why : Refusal) (n : ℕ)
-    → AsksFor words wanted → IsNotAnswered before after wanted file why → GetsNothing out → Refuses err file why n → Does words before after out err n
+pub tells : (words : List Text) (before after : Text → Known) (out err : OutputStream) (wanted : Wanted) (file : Text) (why : Refusal) (n : ℕ)
+    → AsksFor words wanted → IsNotAnswered before after wanted file why → GetsNothing out → RefusesWith err file why n → RunsAs words before after out err n
 tells words before after out err wanted file why n asks fails quiet put =
     elim put [
       | inl told ↦ at_status words before after out err (tried told.0 (status_of why)) n told.2 (told_of why told.0 asks fails quiet told.1)
       | inr told ↦ at_status words before after out err 4 n (told.2 ∙ four told.0) (untold why told.0 asks fails quiet told.1)
     ]
 
-pub shows : (words : List Text) (before after : Text → Known) (out err : Stream) (e : Error) (n : ℕ)
-    → IsRefused words e → GetsNothing out → AreKept before after → Shows (kind_of e) err n → Does words before after out err n
+pub shows : (words : List Text) (before after : Text → Known) (out err : OutputStream) (e : Error) (n : ℕ)
+    → IsRefused words e → GetsNothing out → AreKept before after → ShowsError (kind_of e) err n → RunsAs words before after out err n
 shows words before after out err e n is quiet kept shown =
     elim shown [
       | inl (kind, told) ↦ at_status words before after out err 4 n (told.2 ∙ four told.0) (unread told.0 quiet told.1 kept)

@@ -23,7 +23,7 @@ use Rattle.scripts.specs.Script.{script}
 use Rattle.scripts.specs.Transcript.{transcript_text}
 use Rattle.server.specs.Routes.{Lists}
 use Rattle.named_files.specs.Files.{Known, HasText, IsTooLong, IsClosed, AreKept, AreKeptBut, most_bytes}
-use Rattle.server.specs.Streams.{Stream, GetsNothing, Puts, Tries, tried}
+use Rattle.server.specs.Streams.{OutputStream, GetsNothing, PutsOut, Tries, tried}
 use Rattle.named_files.specs.Stated.{States, Certifies, CertifiesAt, SetsUp, FailsToSetUp, FailsToCertify}
 use Rattle.verdicts.specs.Verdicts.{AreFound, Judges, certificates_in, status_of_verdicts}
 use Rattle.verdicts.specs.Outcomes.{Verifies, fault_number}
@@ -82,16 +82,16 @@ pub record IsFiled (before after : Text → Known) (file : Text) (cs : List Show
   pub others : AreKeptBut file before after
 
 -- a command that prints nothing leaves all files as they are, but one that it could not write
-abbrev pub AreLeft : (Text → Known) → (Text → Known) → Text → Refusal → Type 0
-AreLeft before after file (Line n) = AreKept before after
-AreLeft before after file (Refused n) = AreKept before after
-AreLeft before after file TooLong = AreKept before after
-AreLeft before after file Unread = AreKept before after
-AreLeft before after file Unwritten = AreKeptBut file before after
-AreLeft before after file NoExchange = AreKept before after
-AreLeft before after file (Certificate n fault) = AreKept before after
-AreLeft before after file NotListening = AreKept before after
-AreLeft before after file Memory = AreKept before after
+abbrev pub FilesAreLeft : (Text → Known) → (Text → Known) → Text → Refusal → Type 0
+FilesAreLeft before after file (Line n) = AreKept before after
+FilesAreLeft before after file (Refused n) = AreKept before after
+FilesAreLeft before after file TooLong = AreKept before after
+FilesAreLeft before after file Unread = AreKept before after
+FilesAreLeft before after file Unwritten = AreKeptBut file before after
+FilesAreLeft before after file NoExchange = AreKept before after
+FilesAreLeft before after file (Certificate n fault) = AreKept before after
+FilesAreLeft before after file NotListening = AreKept before after
+FilesAreLeft before after file Memory = AreKept before after
 
 -- why certificates are not written: the write failed, their file would be too long, or memory was wanting
 abbrev pub IsUnwritten : Refusal → Type 0
@@ -107,7 +107,7 @@ IsUnwritten Memory = ⊤
 
 -- .. and then no file is known to have changed but the one that could not be written
 abbrev pub IsUnfiled : (Text → Known) → (Text → Known) → Text → Refusal → Type 0
-IsUnfiled before after file why = IsUnwritten why × AreLeft before after file why
+IsUnfiled before after file why = IsUnwritten why × FilesAreLeft before after file why
 
 -- What `check` leaves of the files: where one is named and all guarantees hold, it has their certificates; else all are as they were.
 pub data WritesOut (before after : Text → Known) : Option Text → List Verdict → Type 0 where
@@ -137,16 +137,16 @@ abbrev pub not_listening : Text
 not_listening = codes "warren: cannot listen\n"
 
 -- what tells of a refusal
-abbrev pub message : Text → Refusal → Text
-message file (Line n) = told file (codes "line " ++ decimal n)
-message file (Refused n) = told file (codes "refused " ++ decimal n)
-message file TooLong = told file (codes "refused 10")
-message file Unread = told file (codes "cannot read")
-message file Unwritten = told file (codes "cannot write")
-message file NoExchange = no_exchange
-message file (Certificate n fault) = codes "warren: certificate " ++ (decimal n ++ (codes ": fault " ++ (decimal fault ++ 10 ∷ [])))
-message file NotListening = not_listening
-message file Memory = out_of_memory
+abbrev pub refusal_line : Text → Refusal → Text
+refusal_line file (Line n) = told file (codes "line " ++ decimal n)
+refusal_line file (Refused n) = told file (codes "refused " ++ decimal n)
+refusal_line file TooLong = told file (codes "refused 10")
+refusal_line file Unread = told file (codes "cannot read")
+refusal_line file Unwritten = told file (codes "cannot write")
+refusal_line file NoExchange = no_exchange
+refusal_line file (Certificate n fault) = codes "warren: certificate " ++ (decimal n ++ (codes ": fault " ++ (decimal fault ++ 10 ∷ [])))
+refusal_line file NotListening = not_listening
+refusal_line file Memory = out_of_memory
 
 -- the exit status: 3 for a file or a certificate that is refused, or an exchange that is not there, 4 for memory, input or output, sockets among them
 abbrev pub status_of : Refusal → ℕ
@@ -173,10 +173,10 @@ IsWhy NotListening known = ⊥
 IsWhy Memory known = ⊤
 
 -- the same of a script that was read
-abbrev pub IsOf : Refusal → Text → Type 0
-IsOf (Line n) text = script text ≡ Err n
-IsOf Memory text = ⊤
-IsOf other text = ⊥
+abbrev pub IsRefusalOf : Refusal → Text → Type 0
+IsRefusalOf (Line n) text = script text ≡ Err n
+IsRefusalOf Memory text = ⊤
+IsRefusalOf other text = ⊥
 
 -- Why the guarantees are not admitted: the certificate of the least number at fault, counted from 1, has this fault first.
 abbrev pub IsWhyUnadmitted : Topology → List Guarantee → List Shown → Refusal → Type 0
@@ -223,12 +223,12 @@ pub record IsRouted (holds : Text → Known) (definitions exchange key text : Te
   pub good : status ≡ 0
 
 -- What a command prints, the status that it leaves, and the files before and after it. One that serves prints nothing here.
-abbrev pub IsAnswered : (Text → Known) → (Text → Known) → Wanted → Text → ℕ → Type 0
-IsAnswered before after (Check definitions guarantees out) text status = IsJudged before after definitions guarantees out text status
-IsAnswered before after (Verify definitions guarantees certificates) text status = IsVerified before definitions guarantees certificates text status × AreKept before after
-IsAnswered before after (Replay script definitions guarantees certificates) text status = IsReplayed before script definitions guarantees certificates text status × AreKept before after
-IsAnswered before after (Serve definitions guarantees certificates listen turns) text status = ⊥
-IsAnswered before after (Route definitions exchange key) text status = IsRouted before definitions exchange key text status × AreKept before after
+abbrev pub IsCommandAnswered : (Text → Known) → (Text → Known) → Wanted → Text → ℕ → Type 0
+IsCommandAnswered before after (Check definitions guarantees out) text status = IsJudged before after definitions guarantees out text status
+IsCommandAnswered before after (Verify definitions guarantees certificates) text status = IsVerified before definitions guarantees certificates text status × AreKept before after
+IsCommandAnswered before after (Replay script definitions guarantees certificates) text status = IsReplayed before script definitions guarantees certificates text status × AreKept before after
+IsCommandAnswered before after (Serve definitions guarantees certificates listen turns) text status = ⊥
+IsCommandAnswered before after (Route definitions exchange key) text status = IsRouted before definitions exchange key text status × AreKept before after
 
 -- the definitions file that a command names
 abbrev pub definitions_of : Wanted → Option Text
@@ -287,31 +287,31 @@ pub data Fails (holds : Text → Known) : Wanted → Text → Refusal → Type 0
 
 -- it prints nothing for this reason, and leaves the files so
 abbrev pub IsNotAnswered : (Text → Known) → (Text → Known) → Wanted → Text → Refusal → Type 0
-IsNotAnswered before after wanted file why = Fails before wanted file why × AreLeft before after file why
+IsNotAnswered before after wanted file why = Fails before wanted file why × FilesAreLeft before after file why
 
 -- ---- the program
 
 -- this refusal of the file was told, or want of memory for telling it
-abbrev pub Refuses : Stream → Text → Refusal → ℕ → Type 0
-Refuses err file why status = Tries err (message file why) (status_of why) status ⊎ Tries err out_of_memory 4 status
+abbrev pub RefusesWith : OutputStream → Text → Refusal → ℕ → Type 0
+RefusesWith err file why status = Tries err (refusal_line file why) (status_of why) status ⊎ Tries err out_of_memory 4 status
 
 -- a command line that was refused for this was shown: want of memory by our own line, any other by clap's text
-abbrev pub Shows : ErrorKind → Stream → ℕ → Type 0
-Shows kind err status = ((kind ≡ OutOfMemory) × Tries err out_of_memory 4 status) ⊎ ((kind ≡ OutOfMemory → ⊥) × ((done : Bool) × (status ≡ tried done 3)))
+abbrev pub ShowsError : ErrorKind → OutputStream → ℕ → Type 0
+ShowsError kind err status = ((kind ≡ OutOfMemory) × Tries err out_of_memory 4 status) ⊎ ((kind ≡ OutOfMemory → ⊥) × ((done : Bool) × (status ≡ tried done 3)))
 
 -- What a call comes to, by its words, the files as they are known before it and after it, what standard output and
 -- standard error got, and the status. Where a stream took no more, `done` is false and the status 4.
-pub data Does (words : List Text) (before after : Text → Known) (out err : Stream) : ℕ → Type 0 where
+pub data RunsAs (words : List Text) (before after : Text → Known) (out err : OutputStream) : ℕ → Type 0 where
   -- what the command answers was put out
-  printed : (wanted : Wanted) (text : Text) (status : ℕ) (done : Bool) → AsksFor words wanted → IsAnswered before after wanted text status → Puts out text done → GetsNothing err
-      → Does words before after out err (tried done status)
+  printed : (wanted : Wanted) (text : Text) (status : ℕ) (done : Bool) → AsksFor words wanted → IsCommandAnswered before after wanted text status → PutsOut out text done → GetsNothing err
+      → RunsAs words before after out err (tried done status)
   -- why it prints nothing was told
-  told_of : {wanted : Wanted} {file : Text} (why : Refusal) (done : Bool) → AsksFor words wanted → IsNotAnswered before after wanted file why → GetsNothing out → Puts err (message file why) done
-      → Does words before after out err (tried done (status_of why))
+  told_of : {wanted : Wanted} {file : Text} (why : Refusal) (done : Bool) → AsksFor words wanted → IsNotAnswered before after wanted file why → GetsNothing out → PutsOut err (refusal_line file why) done
+      → RunsAs words before after out err (tried done (status_of why))
   -- .. or that there was no memory to tell it
-  untold : {wanted : Wanted} {file : Text} (why : Refusal) (done : Bool) → AsksFor words wanted → IsNotAnswered before after wanted file why → GetsNothing out → Puts err out_of_memory done
-      → Does words before after out err 4
+  untold : {wanted : Wanted} {file : Text} (why : Refusal) (done : Bool) → AsksFor words wanted → IsNotAnswered before after wanted file why → GetsNothing out → PutsOut err out_of_memory done
+      → RunsAs words before after out err 4
   -- the words ask for nothing, and clap's own text was shown
-  unasked : (done : Bool) → AsksNothing words → GetsNothing out → AreKept before after → Does words before after out err (tried done 3)
+  unasked : (done : Bool) → AsksNothing words → GetsNothing out → AreKept before after → RunsAs words before after out err (tried done 3)
   -- memory was wanting before the words were read
-  unread : (done : Bool) → GetsNothing out → Puts err out_of_memory done → AreKept before after → Does words before after out err 4
+  unread : (done : Bool) → GetsNothing out → PutsOut err out_of_memory done → AreKept before after → RunsAs words before after out err 4

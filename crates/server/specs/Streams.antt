@@ -4,39 +4,39 @@ use Rattle.std.specs.Io.KnownBytes.{Appends, Keeps}
 use Rattle.model.specs.Words.{Text}
 
 -- a stream before and after a call, where its bytes are known
-pub record Stream : Type 0 where
+pub record OutputStream : Type 0 where
   pub before : Option Text
   pub after : Option Text
 
 -- a stream that held the first, and holds the second
-abbrev pub change : Option Text → Option Text → Stream
+abbrev pub change : Option Text → Option Text → OutputStream
 change before after = record { before = before; after = after }
 
 -- it holds what it held
-abbrev pub GetsNothing : Stream → Type 0
+abbrev pub GetsNothing : OutputStream → Type 0
 GetsNothing s = Keeps s.before s.after
 
 -- this text stands behind what it held
-abbrev pub Gets : Stream → Text → Type 0
-Gets s text = Appends s.before s.after text
+abbrev pub GetsText : OutputStream → Text → Type 0
+GetsText s text = Appends s.before s.after text
 
 -- a beginning of this text does, and something of it is left
-pub record GetsBeginning (s : Stream) (text : Text) : Type 0 where
+pub record GetsBeginning (s : OutputStream) (text : Text) : Type 0 where
   pub front : Text
   pub rest : Text
   pub whole : text ≡ front ++ rest
   pub left : 0 < length rest
-  pub gets : Gets s front
+  pub gets : GetsText s front
 
 -- the stream took all of the text, or a beginning and then no more
-abbrev pub Puts : Stream → Text → Bool → Type 0
-Puts s text true = Gets s text
-Puts s text false = GetsBeginning s text
+abbrev pub PutsOut : OutputStream → Text → Bool → Type 0
+PutsOut s text true = GetsText s text
+PutsOut s text false = GetsBeginning s text
 
 -- the exit status: 4 where a stream took no more
 abbrev pub tried : Bool → ℕ → ℕ
 tried done status = if done then status else 4
 
 -- the text was put on the stream, with this status if all of it was taken
-abbrev pub Tries : Stream → Text → ℕ → ℕ → Type 0
-Tries s text wanted status = (done : Bool) × Puts s text done × (status ≡ tried done wanted)
+abbrev pub Tries : OutputStream → Text → ℕ → ℕ → Type 0
+Tries s text wanted status = (done : Bool) × PutsOut s text done × (status ≡ tried done wanted)

@@ -7,15 +7,15 @@ ghost use Rattle.named_files.specs.Files.{AreKept};
 ghost use Rattle.named_files.specs.Stated.{FailsToState};
 ghost use Rattle.server.specs.Streams.{change};
 ghost use Rattle.server.specs.Program.{
-  Does,
+  RunsAs,
   Fails,
-  IsAnswered,
+  IsCommandAnswered,
   IsJudged,
   IsNotAnswered,
   IsRouted,
   IsVerified,
   ListsFile,
-  Shows,
+  ShowsError,
 };
 
 use crate::filing::write_out;
@@ -140,7 +140,7 @@ pub fn answer<'a, F: Files>(
     asked: Asked<'a>,
     files: &mut F,
 ) -> Result<Output, Told<'a>>
-    ensures { MatchResult result (λ o. IsAnswered (F.holds files.old) (F.holds files.new) (wanted_of asked.entry) o.text.items o.status) (λ told. IsNotAnswered (F.holds files.old) (F.holds files.new) (wanted_of asked.entry) told.file.now told.why) }
+    ensures { MatchResult result (λ o. IsCommandAnswered (F.holds files.old) (F.holds files.new) (wanted_of asked.entry) o.text.items o.status) (λ told. IsNotAnswered (F.holds files.old) (F.holds files.new) (wanted_of asked.entry) told.file.now told.why) }
 {
     match asked {
         Asked::Check {
@@ -182,7 +182,7 @@ pub fn answer<'a, F: Files>(
 
 /// Shows why a command line was refused, and gives the status.
 fn refuse_words<E: Write>(err: &mut E, error: &Error) -> u8
-    ensures { Shows (kind_of error.now) (change (E.contents err.old) (E.contents err.new)) result }
+    ensures { ShowsError (kind_of error.now) (change (E.contents err.old) (E.contents err.new)) result }
 {
     match error.kind() {
         ErrorKind::OutOfMemory => refuse_memory(err),
@@ -203,7 +203,7 @@ pub fn program<S: AsStr, F: Files, O: Write, E: Write>(
     out: &mut O,
     err: &mut E,
 ) -> u8
-    ensures { Does (map S.text words.now) (F.holds files.old) (F.holds files.new) (change (O.contents out.old) (O.contents out.new)) (change (E.contents err.old) (E.contents err.new)) result }
+    ensures { RunsAs (map S.text words.now) (F.holds files.old) (F.holds files.new) (change (O.contents out.old) (O.contents out.new)) (change (E.contents err.old) (E.contents err.new)) result }
 {
     let asked = match command(alloc, words) {
         Ok(asked) => asked,

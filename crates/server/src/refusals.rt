@@ -2,7 +2,7 @@
 
 ghost use Rattle.std.specs.Prelude.{◌≡◌, ◌++◌, ◌∷◌, [], codes, decimal, IfOk, string_bytes};
 ghost use Rattle.server.specs.Refusals.{of_refused};
-ghost use Rattle.server.specs.Program.{message, out_of_memory, status_of, told, Refuses};
+ghost use Rattle.server.specs.Program.{refusal_line, out_of_memory, status_of, told, RefusesWith};
 ghost use Rattle.server.specs.Streams.{Tries, change};
 
 use crate::streams::{put, tried};
@@ -141,7 +141,7 @@ fn certificate_message(alloc: Global, number: u64, fault: u8) -> Result<String, 
 
 /// What is wrong with a file, as it is told.
 fn message(alloc: Global, file: &str, refusal: Refusal) -> Result<String, AllocError>
-    ensures { IfOk result (λ text. string_bytes text ≡ message file.now refusal) }
+    ensures { IfOk result (λ text. string_bytes text ≡ refusal_line file.now refusal) }
 {
     match refusal {
         Refusal::Line(n) => numbered_message(alloc, file, "line", n),
@@ -182,7 +182,7 @@ pub fn refuse_memory<E: Write>(err: &mut E) -> u8
 
 /// Tells why a command prints nothing, and gives the status.
 pub fn tell<E: Write>(alloc: Global, err: &mut E, told: Told<'_>) -> u8
-    ensures { Refuses (change (E.contents err.old) (E.contents err.new)) told.entry.file.now told.entry.why result }
+    ensures { RefusesWith (change (E.contents err.old) (E.contents err.new)) told.entry.file.now told.entry.why result }
 {
     match message(alloc, told.file, told.why) {
         Ok(text) => tried(put(err, text.as_bytes()), status_of(told.why)),

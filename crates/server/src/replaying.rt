@@ -9,7 +9,7 @@ ghost use Rattle.verdicts.specs.Outcomes.{fault_number};
 ghost use Rattle.server.specs.Program.{
   Fails,
   IsInForce,
-  IsOf,
+  IsRefusalOf,
   IsReplayed,
   IsWhy,
   IsWhyUnadmitted,
@@ -36,7 +36,7 @@ pub fn replayed(
     users: Vec<User>,
     text: &[u8],
 ) -> Result<Vec<u8>, Refusal>
-    ensures { MatchResult result (λ printed. Prints (in_force checked users.items) text.now printed.items) (λ refusal. IsOf refusal text.now) }
+    ensures { MatchResult result (λ printed. Prints (in_force checked users.items) text.now printed.items) (λ refusal. IsRefusalOf refusal text.now) }
 {
     let arrivals = match read_script(alloc, text) {
         Ok(arrivals) => arrivals,

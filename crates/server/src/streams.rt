@@ -1,14 +1,14 @@
 //! Texts that are put on a stream.
 
 ghost use Rattle.std.specs.Prelude.{◌≡◌, is_ok};
-ghost use Rattle.server.specs.Streams.{Puts, change, tried};
+ghost use Rattle.server.specs.Streams.{PutsOut, change, tried};
 
 use std::io;
 use std::io::{ErrorKind, Write};
 
 /// Puts a text behind what the stream holds. Where a write fails, the stream took a beginning of it, and not all.
 pub fn put<W: Write>(stream: &mut W, text: &[u8]) -> io::Result<()>
-    ensures { Puts (change (W.contents stream.old) (W.contents stream.new)) text.now (is_ok result) }
+    ensures { PutsOut (change (W.contents stream.old) (W.contents stream.new)) text.now (is_ok result) }
 {
     let mut rest = text;
     'pieces: for _ in 0..u64::MAX {

@@ -9,7 +9,7 @@ use Rattle.model.specs.declared.events.Arrival.{Arrival}
 use Rattle.model.specs.declared.events.Arrival.TheVariants as arrival
 use Rattle.serving.specs.Wire.{Ask}
 use Rattle.serving.specs.Coming.{Attempt, whole, FallsShort, Attempts}
-use Rattle.serving.specs.Story.{Served, At, Filled, Deed, Met, Turned_away, Met_no_one, Heard, Heard_partly, Heard_nothing, Heard_end, Gave, Gave_partly, Gave_nothing, Gave_up, Pumped, Pumped_nothing, Pump_refused, Let_go, Paused, attempts, Table, Does, Story, Serves, PumpsUp}
+use Rattle.serving.specs.Story.{Served, At, Filled, Deed, Met, Turned_away, Met_no_one, Heard, Heard_partly, Heard_nothing, Heard_end, Gave, Gave_partly, Gave_nothing, Gave_up, Pumped, Pumped_nothing, Pump_refused, Let_go, Paused, attempts, Table, DoesDeed, Story, Serves, PumpsUp}
 use Rattle.serving.specs.Fit.{IsFit}
 use Rattle.serving.specs.declared.peers.Peer.{Peer}
 
@@ -120,7 +120,7 @@ fit_filled a b ps qs i p is more filled f = record {
     given j q (inl x) = let n = ap (λ (z : Peer). z.connection) x.1 in omega (arith, n, is, more)
     given j q (inr x) = let g = f.given j q x in omega (arith, g, more)
 
-fit_does : (a b : Served) (d : Deed) (hs : List Happening) → Does a d hs b → IsFit a.world a.peers → IsFit b.world b.peers
+fit_does : (a b : Served) (d : Deed) (hs : List Happening) → DoesDeed a d hs b → IsFit a.world a.peers → IsFit b.world b.peers
 fit_does a b d hs does f = go d does.table (attempts_le (attempts d) a.world b.world hs does.brings) does.brings
   where
     go : (d : Deed) → Table a d b.peers → a.world.given ≤ b.world.given → Attempts a.world (attempts d) hs b.world → IsFit b.world b.peers

@@ -23,7 +23,7 @@ use Rattle.runs.proofs.Steps.{settled, puts_each, turns_apart, delivers_apart}
 use Rattle.runs.proofs.Places.{with_here, with_other, take_nothing, drop_nothing, take_and_drop}
 use Rattle.serving.specs.Wire.{Call, Told}
 use Rattle.serving.specs.Coming.{Attempt, whole, short, FallsShort, Attempts}
-use Rattle.serving.specs.Story.{Served, served, Deed, Met, Turned_away, Met_no_one, Heard, Heard_partly, Heard_nothing, Heard_end, Gave, Gave_partly, Gave_nothing, Gave_up, Pumped, Pumped_nothing, Pump_refused, Let_go, Paused, calls, attempts, IsFront, Does, Story}
+use Rattle.serving.specs.Story.{Served, served, Deed, Met, Turned_away, Met_no_one, Heard, Heard_partly, Heard_nothing, Heard_end, Gave, Gave_partly, Gave_nothing, Gave_up, Pumped, Pumped_nothing, Pump_refused, Let_go, Paused, calls, attempts, IsFront, DoesDeed, Story}
 use Rattle.serving.specs.Joined.{written_to, AreBeginnings}
 use Rattle.serving.specs.declared.peers.Peer.{Peer}
 use Rattle.laws.proofs.Consistency.{new_is_consistent}
@@ -327,7 +327,7 @@ taken_written p q w bytes front pair =
     ∙ ap (λ (x : Bool). if x then bytes else []) pair
     ∙ sym (append-nil (if q.socket == p.socket then bytes else []))
 
-flows_deed : (p : Peer) (v w : Served) (d : Deed) (hs : List Happening) → IsConsistent v.world → Does v d hs w → PairsWith p (peer_of d) → Flows p.connection v.world (flat_map (written_to p.socket) (calls d)) hs w.world
+flows_deed : (p : Peer) (v w : Served) (d : Deed) (hs : List Happening) → IsConsistent v.world → DoesDeed v d hs w → PairsWith p (peer_of d) → Flows p.connection v.world (flat_map (written_to p.socket) (calls d)) hs w.world
 flows_deed p v w (Met i q) hs k does pair = flows_one p.connection v.world w.world (whole arrival.Open) hs k does.brings
 flows_deed p v w (Turned_away s o) hs k does pair = subst (λ (t : Arrival). Flows p.connection v.world (taken_by p.connection v.world t) hs w.world) does.table.0 (flows_one p.connection v.world w.world o hs k does.brings)
 flows_deed p v w (Met_no_one true) hs k does pair = flows_nothing p.connection v.world w.world hs does.brings

@@ -7,7 +7,7 @@ use Rattle.std.specs.List.{AllByRecursion}
 use Rattle.model.specs.Run.{Happening}
 use Rattle.serving.specs.Wire.{Call}
 use Rattle.serving.specs.Coming.{Attempt}
-use Rattle.serving.specs.Story.{Served, Deed, Met, Turned_away, Met_no_one, Heard, Heard_partly, Heard_nothing, Heard_end, Gave, Gave_partly, Gave_nothing, Gave_up, Pumped, Pumped_nothing, Pump_refused, Let_go, Paused, calls, attempts, Does, Story}
+use Rattle.serving.specs.Story.{Served, Deed, Met, Turned_away, Met_no_one, Heard, Heard_partly, Heard_nothing, Heard_end, Gave, Gave_partly, Gave_nothing, Gave_up, Pumped, Pumped_nothing, Pump_refused, Let_go, Paused, calls, attempts, DoesDeed, Story}
 use Rattle.serving.specs.Joined.{piece_for, amount_for, is_loss_of, is_short_for, got_of, count_of, is_end_of, IsJoined, AreJoined}
 use Rattle.model.specs.declared.events.Arrival.{Arrival}
 use Rattle.model.specs.declared.events.Arrival.TheVariants as arrival
@@ -60,7 +60,7 @@ end_loss false = refl
 same_end : (x y : Bool) → x ≡ y → count_by (λ (b : Bool). b) (x ∷ []) ≡ count_by (λ (b : Bool). b) (y ∷ false ∷ []) + count_by (λ (b : Bool). b) (false ∷ [])
 same_end x y e = ap (λ (b : Bool). count_by (λ (b : Bool). b) (b ∷ [])) e ∙ end_loss y
 
-joined_one : (p : Peer) (v w : Served) (d : Deed) (hs : List Happening) → Does v d hs w → PairsWith p (peer_of d) → IsJoined p (calls d) (attempts d)
+joined_one : (p : Peer) (v w : Served) (d : Deed) (hs : List Happening) → DoesDeed v d hs w → PairsWith p (peer_of d) → IsJoined p (calls d) (attempts d)
 joined_one p v w (Met i q) hs does pair = record { pieces = refl; amounts = refl; losses = refl }
 joined_one p v w (Turned_away s o) hs does pair = opening_joined p o _ does.table.0 (record { pieces = refl; amounts = refl; losses = refl })
 joined_one p v w (Met_no_one true) hs does pair = record { pieces = refl; amounts = refl; losses = refl }

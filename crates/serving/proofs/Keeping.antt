@@ -17,7 +17,7 @@ use Rattle.runs.proofs.InOrder.{gives_in_order}
 use Rattle.serving.specs.Wire.{Ask, Rested, Told, after}
 use Rattle.serving.specs.Coming.{Attempt, WorksPartly, FallsShort, Attempts, IsWhole}
 use Rattle.serving.specs.Story.{Served, served, Deed, calls, attempts, Story, Serves, PumpsUp}
-use Rattle.serving.specs.Rounds.{Rests, IsRound, Rounds}
+use Rattle.serving.specs.Rounds.{RestsUnless, IsRound, Rounds}
 use Rattle.serving.specs.Whole.{arrived, arrivals_of, seen_after, seen_of, IsServed}
 use Rattle.serving.specs.declared.peers.Peer.{Peer}
 use Rattle.serving.proofs.Onward.{after_none, after_then, story-append, serves_not}
@@ -132,7 +132,7 @@ went a b xs p s = (s.deeds, s.happenings, s.story)
 went_pumps : (n : ℕ) (a b : Served) (p : Bool) → PumpsUp n a p b → Went a b
 went_pumps n a b p s = (s.deeds, s.happenings, s.story)
 
-went_rests : (v w : Served) (acted : Bool) → Rests v acted w → Went v w
+went_rests : (v w : Served) (acted : Bool) → RestsUnless v acted w → Went v w
 went_rests v w true e = subst (λ (z : Served). Went v z) (sym e) (went v v [] false (serves_not v))
 went_rests v w false e = subst (λ (z : Served). Went v z) (sym e) (went v (record v { told = after v.told (Rested ∷ []) }) [] false (paused v))
 

@@ -10,8 +10,8 @@ use Rattle.model.specs.Run.{Happening}
 use Rattle.model.specs.Arrivals.{World}
 use Rattle.serving.specs.Wire.{Call, Rested, Ask, ask, asks, Told, after, and_these, is_failed}
 use Rattle.serving.specs.Coming.{Attempt, Brings, Attempts}
-use Rattle.serving.specs.Story.{Served, served, Deed, calls, is_done, is_pump, Does, Story, Serves}
-use Rattle.serving.specs.Rounds.{Rests}
+use Rattle.serving.specs.Story.{Served, served, Deed, calls, is_done, is_pump, DoesDeed, Story, Serves}
+use Rattle.serving.specs.Rounds.{RestsUnless}
 
 -- ---- what a wire tells
 
@@ -66,7 +66,7 @@ pub or_false : (p : Bool) → (p || false) ≡ p
 or_false true = refl
 or_false false = refl
 
-pub serves_one : (a b : Served) (xs : List Ask) (p : Bool) (d : Deed) (hs : List Happening) → Does a d hs b → asks (calls d) ≡ xs → is_pump d ≡ false → is_done d ≡ p → Serves a xs p b
+pub serves_one : (a b : Served) (xs : List Ask) (p : Bool) (d : Deed) (hs : List Happening) → DoesDeed a d hs b → asks (calls d) ≡ xs → is_pump d ≡ false → is_done d ≡ p → Serves a xs p b
 serves_one a b xs p d hs does asked pump done = record {
   deeds = d ∷ [];
   happenings = hs;
@@ -84,9 +84,9 @@ attempt_two a b c t u hs ks br cr = (b, hs, ks, refl, br, attempt_one b c u ks c
 
 -- ---- rests
 
-pub rests_once : (v : Served) (acted : Bool) (now : Told) → acted ≡ false → now ≡ after v.told (Rested ∷ []) → Rests v acted (served v.world v.peers now)
+pub rests_once : (v : Served) (acted : Bool) (now : Told) → acted ≡ false → now ≡ after v.told (Rested ∷ []) → RestsUnless v acted (served v.world v.peers now)
 rests_once v acted now quiet e =
     ap (λ (t : Told). served v.world v.peers t) e ∙ ap (λ (x : Bool). if x then v else record v { told = after v.told (Rested ∷ []) }) (sym quiet)
 
-pub rests_not : (v : Served) (acted : Bool) → acted ≡ true → Rests v acted v
+pub rests_not : (v : Served) (acted : Bool) → acted ≡ true → RestsUnless v acted v
 rests_not v acted busy = ap (λ (x : Bool). if x then v else record v { told = after v.told (Rested ∷ []) }) (sym busy)

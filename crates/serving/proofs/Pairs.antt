@@ -6,7 +6,7 @@ use Rattle.std.specs.List.{AllByRecursion}
 use Rattle.model.specs.Topology.{IsIn}
 use Rattle.model.specs.Run.{Happening}
 use Rattle.serving.specs.Wire.{Call, Accepted, Told, after, and_these, IsFresh}
-use Rattle.serving.specs.Story.{Served, At, Filled, Deed, Met, Turned_away, Met_no_one, Heard, Heard_partly, Heard_nothing, Heard_end, Gave, Gave_partly, Gave_nothing, Gave_up, Pumped, Pumped_nothing, Pump_refused, Let_go, Paused, attempts, Table, Does, Story}
+use Rattle.serving.specs.Story.{Served, At, Filled, Deed, Met, Turned_away, Met_no_one, Heard, Heard_partly, Heard_nothing, Heard_end, Gave, Gave_partly, Gave_nothing, Gave_up, Pumped, Pumped_nothing, Pump_refused, Let_go, Paused, attempts, Table, DoesDeed, Story}
 use Rattle.serving.specs.Joined.{met_by, all_met}
 use Rattle.serving.specs.declared.peers.Peer.{Peer}
 use Rattle.serving.proofs.Fits.{freed_at, filled_at, attempts_le, met_given}
@@ -126,10 +126,10 @@ record Goes (known : List Peer) (d : Deed) (w : Served) : Type 0 where
   knows : Knows (met_by d ++ known) w
   mine : IsKnownIn (met_by d ++ known) (peer_of d)
 
-goes : (known : List Peer) (v w : Served) (d : Deed) (hs : List Happening) → Does v d hs w → Knows known v → Goes known d w
+goes : (known : List Peer) (v w : Served) (d : Deed) (hs : List Happening) → DoesDeed v d hs w → Knows known v → Goes known d w
 goes known v w d hs does k = go d does.table (attempts_le (attempts d) v.world w.world hs does.brings) does
   where
-    go : (d : Deed) → Table v d w.peers → v.world.given ≤ w.world.given → Does v d hs w → Goes known d w
+    go : (d : Deed) → Table v d w.peers → v.world.given ≤ w.world.given → DoesDeed v d hs w → Goes known d w
     go (Met i p) t le does = record { knows = knows_met known v w i p t.1 (met_given v.world w.world hs t.0 does.brings) t.2 t.3 does.told k; mine = inl refl }
     go (Turned_away s o) t le does = record { knows = knows_same known v w _ t.1 le does.told k; mine = tt }
     go (Met_no_one x) t le does = record { knows = knows_same known v w _ t le does.told k; mine = tt }

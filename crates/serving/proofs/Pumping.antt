@@ -4,7 +4,7 @@ use Rattle.std.specs.Prelude.{◌||◌, MatchBool}
 use Rattle.std.specs.List.{list_any}
 use Rattle.std.proofs.lemmas.List.Folds.{list_any-append}
 use Rattle.model.specs.Run.{Happening}
-use Rattle.serving.specs.Story.{Served, Deed, is_done, is_pump, Does, Story, PumpsOnce, ArePumps, PumpsUp}
+use Rattle.serving.specs.Story.{Served, Deed, is_done, is_pump, DoesDeed, Story, PumpsOnce, ArePumps, PumpsUp}
 use Rattle.serving.proofs.Onward.{story-append}
 
 -- i pumps were made, each of which delivered, and whatever pumps may follow so many others may follow these
@@ -24,7 +24,7 @@ pumped_not most v = record {
   done = refl;
 }
 
-story_more : (ds : List Deed) (d : Deed) (a b c : Served) (hs ks : List Happening) → Story a ds hs b → Does b d ks c → Story a (ds ++ d ∷ []) (hs ++ ks) c
+story_more : (ds : List Deed) (d : Deed) (a b c : Served) (hs ks : List Happening) → Story a ds hs b → DoesDeed b d ks c → Story a (ds ++ d ∷ []) (hs ++ ks) c
 story_more ds d a b c hs ks s does = story-append ds (d ∷ []) a b c hs ks s (c, ks, [], sym (append-nil ks), does, (refl, refl))
 
 or_true : (p : Bool) → (p || true) ≡ true

@@ -5,7 +5,7 @@ use Rattle.std.proofs.lemmas.Bool.{false≢true}
 use Rattle.model.specs.Run.{Happening}
 use Rattle.model.specs.Arrivals.{World, Turns, Works, none_more, one_more, Same, WorksOff, Answers, Takes_off, Loses, with_heard, is_over, is_paused, is_awake, is_gone, has_output}
 use Rattle.model.specs.declared.events.Arrival.TheVariants as arrival
-use Rattle.runs.specs.Opened.{Hears, Takes, IsLost}
+use Rattle.runs.specs.Opened.{Hears, TakesAway, IsLost}
 use Rattle.serving.specs.Coming.{WorksPartly, FallsShort}
 
 -- ---- tests
@@ -74,13 +74,13 @@ hears_part a m b c bytes e heard w =
     let is : m ≡ with_heard a c bytes = of_false (is_over a c) (Same a m) _ e heard in
     (w.0, inr (subst (λ (z : World). WorksPartly z c w.0 b) is w.1))
 
-pub takes_all : (a m b : World) (c n : ℕ) → has_output a c ≡ true → Takes a c n m → (hs : List Happening) × WorksOff m c hs b → (hs : List Happening) × Answers a (arrival.Sent c n) hs b
+pub takes_all : (a m b : World) (c n : ℕ) → has_output a c ≡ true → TakesAway a c n m → (hs : List Happening) × WorksOff m c hs b → (hs : List Happening) × Answers a (arrival.Sent c n) hs b
 takes_all a m b c n e took w =
     let stands = output_stands a c e in
     let off : (hs : List Happening) × Takes_off a c n hs m = of_false (is_gone a c) (Same a m) _ stands took in
     (off.0 ++ w.0, match_false (is_gone a c) _ _ stands (record { first = off.0; rest = w.0; all = refl; mid = m; takes = off.1; works = w.1 }))
 
-pub takes_part : (a m b : World) (c n : ℕ) → has_output a c ≡ true → Takes a c n m → (hs : List Happening) × WorksPartly m c hs b → (hs : List Happening) × FallsShort a (arrival.Sent c n) hs b
+pub takes_part : (a m b : World) (c n : ℕ) → has_output a c ≡ true → TakesAway a c n m → (hs : List Happening) × WorksPartly m c hs b → (hs : List Happening) × FallsShort a (arrival.Sent c n) hs b
 takes_part a m b c n e took w =
     let off : (hs : List Happening) × Takes_off a c n hs m = of_false (is_gone a c) (Same a m) _ (output_stands a c e) took in
     (off.0 ++ w.0, record { first = off.0; rest = w.0; all = refl; mid = m; takes = off.1; works = w.1 })

@@ -19,7 +19,7 @@ abbrev pub AreQuiet : World → List (Option Peer) → List Bool → Type 0
 AreQuiet w ps marks = (i : ℕ) (p : Peer) → At ps i p → IsMarked marks i → IsQuiet w p.connection
 
 -- What a server keeps: each slot has a connection of its own, each that is marked is quiet, and the buffer has its room.
-pub record IsKept (w : World) (ps : List (Option Peer)) (marks : List Bool) (buffer : List ℕ) : Type 0 where
+pub record IsServerKept (w : World) (ps : List (Option Peer)) (marks : List Bool) (buffer : List ℕ) : Type 0 where
   pub fit : IsFit w ps
   pub quiet : AreQuiet w ps marks
   pub room : length buffer ≡ read_room

@@ -52,15 +52,15 @@ pub record GoesRound (old : Served) (acted : Bool) (new : Served) : Type 0 where
   pub acts : acted ≡ ((((has_met || has_heard) || has_pumped) || has_given) || has_closed)
 
 -- one rest where nothing was done, and else none
-abbrev pub Rests : Served → Bool → Served → Type 0
-Rests old acted new = new ≡ (if acted then old else record old { told = after old.told (Rested ∷ []) })
+abbrev pub RestsUnless : Served → Bool → Served → Type 0
+RestsUnless old acted new = new ≡ (if acted then old else record old { told = after old.told (Rested ∷ []) })
 
 -- One round.
 pub record IsRound (old new : Served) : Type 0 where
   pub acted : Bool
   pub gone_round : Served
   pub goes : GoesRound old acted gone_round
-  pub rests : Rests gone_round acted new
+  pub rests : RestsUnless gone_round acted new
 
 -- that many rounds, one after the other
 abbrev pub Rounds : ℕ → Served → Served → Type 0

@@ -160,7 +160,7 @@ TakesIn old ps s true new now = (can_open old ≡ true) × ((hs : List Happening
 TakesIn old ps s false new now = ((o : Attempt) × (o.arrival ≡ arrival.Open) × Brings old o [] new) × (now ≡ ps)
 
 -- One deed.
-pub record Does (old : Served) (d : Deed) (hs : List Happening) (new : Served) : Type 0 where
+pub record DoesDeed (old : Served) (d : Deed) (hs : List Happening) (new : Served) : Type 0 where
   pub table : Table old d new.peers
   pub brings : Attempts old.world (attempts d) hs new.world
   pub told : new.told ≡ after old.told (calls d)
@@ -168,7 +168,7 @@ pub record Does (old : Served) (d : Deed) (hs : List Happening) (new : Served) :
 -- These deeds, one after another.
 abbrev pub Story : Served → List Deed → List Happening → Served → Type 0
 Story old [] hs new = (hs ≡ []) × (new ≡ old)
-Story old (d ∷ ds) hs new = (mid : Served) × (first : List Happening) × (rest : List Happening) × (hs ≡ first ++ rest) × Does old d first mid × Story mid ds rest new
+Story old (d ∷ ds) hs new = (mid : Served) × (first : List Happening) × (rest : List Happening) × (hs ≡ first ++ rest) × DoesDeed old d first mid × Story mid ds rest new
 
 -- A server goes on so: it asks this of its wire, makes no pump, and does something or not.
 pub record Serves (old : Served) (asked : List Ask) (acted : Bool) (new : Served) : Type 0 where
@@ -183,7 +183,7 @@ pub record Serves (old : Served) (asked : List Ask) (acted : Bool) (new : Served
 pub record PumpsOnce (old : Served) (acted : Bool) (new : Served) : Type 0 where
   pub deed : Deed
   pub happenings : List Happening
-  pub does : Does old deed happenings new
+  pub does : DoesDeed old deed happenings new
   pub pump : is_pump deed ≡ true
   pub done : is_done deed ≡ acted
 

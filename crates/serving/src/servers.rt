@@ -31,13 +31,13 @@ pub struct Server<M: Machine> {
 
 impl<M: Machine> Model for Server<M> {
     ghost use Rattle.serving.specs.Serving.{Serving};
-    ghost use Rattle.serving.specs.Quiet.{IsKept};
+    ghost use Rattle.serving.specs.Quiet.{IsServerKept};
 
     ghost Value = { Serving M };
 
     ghost view = { λ s. record { machine = s.machine; peers = s.peers.slots } };
 
-    ghost invariant = { λ s. IsKept (M.world s.machine) s.peers.slots s.quiet s.buffer.items };
+    ghost invariant = { λ s. IsServerKept (M.world s.machine) s.peers.slots s.quiet s.buffer.items };
 }
 
 impl<M: Machine> Server<M> {

@@ -27,10 +27,10 @@ use Rattle.exchange_graph.specs.Marks.{queue_name}
 use Rattle.channel.specs.Outstanding.{tag_of}
 use Rattle.channel.specs.Open.{outstanding_in}
 use Rattle.channel.specs.declared.pending.Outstanding.{Outstanding}
-use Rattle.depot.specs.Store.{Store, queue_of, queue_at, with_queue, IsWhole, IsNamed}
+use Rattle.depot.specs.Store.{Store, queue_of, queue_at, with_entries_at, IsWhole, IsNamed}
 use Rattle.depot.proofs.Firsts.{one_passes, count-filter, find-filter, held_apart}
 use Rattle.links.specs.Placed.{AreWithin}
-use Rattle.settling.specs.Settled.{holder_of, leaving_note, leaving_notes, without_one, without_all, returned_one, returned_all}
+use Rattle.settling.specs.Settled.{holder_of_outstanding, leaving_note, leaving_notes, without_one, without_all, returned_one, returned_all}
 
 -- ---- loops over what is settled
 
@@ -141,17 +141,17 @@ AreNamed = (s : Store) (place : ℕ) → IsWhole s → place < length s.topology
 abbrev pub IsApart : Store → Type 0
 IsApart s = (q : Text) (holder : Holder) → count_by (is_held_as holder) (queue_of s q) ≤ 1
 
-whole_with : (s : Store) (place : ℕ) (es : List Entry) → IsWhole s → IsWhole (with_queue s place es)
+whole_with : (s : Store) (place : ℕ) (es : List Entry) → IsWhole s → IsWhole (with_entries_at s place es)
 whole_with s place es whole = record { formed = whole.formed; len = length-set s.queues place es ∙ whole.len }
 
-apart_with : (s : Store) (place : ℕ) (q : Entry → Bool) → IsNamed s place → IsApart s → IsApart (with_queue s place (filter q (queue_at s place)))
+apart_with : (s : Store) (place : ℕ) (q : Entry → Bool) → IsNamed s place → IsApart s → IsApart (with_entries_at s place (filter q (queue_at s place)))
 apart_with s place q named apart name holder = go (bytes_eq (queue_name s.topology place) name) (named.changed (filter q (queue_at s place)) name)
   where
     p : Entry → Bool
     p = is_held_as holder
 
     new : Store
-    new = with_queue s place (filter q (queue_at s place))
+    new = with_entries_at s place (filter q (queue_at s place))
 
     go : (v : Bool) → queue_of new name ≡ (if v then filter q (queue_at s place) else queue_of s name) → count_by p (queue_of new name) ≤ 1
     go true e =
@@ -168,8 +168,8 @@ notes_without : (cause : Cause) (c h : ℕ) (s : Store) (o : Outstanding) (os : 
 notes_without cause c h s o [] later = refl
 notes_without cause c h s o (x ∷ xs) later =
     let lt : o.tag < x.tag = later zero x (omega arith) in
-    let found = find-set (is_held_as (holder_of c h x)) s.queues o.queue x.queue (filter (λ (e : Entry). not (is_held_as (holder_of c h o) e)) (queue_at s o.queue))
-    (find-filter (is_held_as (holder_of c h x)) (is_held_as (holder_of c h o)) (held_apart (holder_of c h x) (holder_of c h o) (λ e. let same : x.tag ≡ o.tag = e in omega (arith, lt, same))) (queue_at s o.queue)) in
+    let found = find-set (is_held_as (holder_of_outstanding c h x)) s.queues o.queue x.queue (filter (λ (e : Entry). not (is_held_as (holder_of_outstanding c h o) e)) (queue_at s o.queue))
+    (find-filter (is_held_as (holder_of_outstanding c h x)) (is_held_as (holder_of_outstanding c h o)) (held_apart (holder_of_outstanding c h x) (holder_of_outstanding c h o) (λ e. let same : x.tag ≡ o.tag = e in omega (arith, lt, same))) (queue_at s o.queue)) in
     ap (λ (f : Option Entry). left_note cause (queue_name s.topology x.queue) f ++ leaving_notes cause c h s xs) (sym found)
     ∙ ap (λ (ns : List Note). leaving_note cause c h (without_one c h s o) x ++ ns) (notes_without cause c h s o xs (λ k d lt. later (suc k) d (omega (arith, lt))))
 
@@ -181,10 +181,10 @@ left_by_names are cause c h (o ∷ os) s whole apart rises within =
     let lt : o.queue < length s.topology.queues = within zero o (omega arith) in
     let named = are s o.queue whole lt in
     let name = queue_name s.topology o.queue in
-    let p = is_held_as (holder_of c h o) in
+    let p = is_held_as (holder_of_outstanding c h o) in
     let mid = without_one c h s o in
     let gone = filter (λ (e : Entry). not (p e)) (queue_at s o.queue) in
-    let one : count_by p (queue_at s o.queue) ≤ 1 = let here = ap (count_by p) named.entries_are in let n = apart name (holder_of c h o) in omega (arith, here, n) in
+    let one : count_by p (queue_at s o.queue) ≤ 1 = let here = ap (count_by p) named.entries_are in let n = apart name (holder_of_outstanding c h o) in omega (arith, here, n) in
     let first : gone ≡ without_first p (queue_of s name) = one_passes p (queue_at s o.queue) one ∙ ap (without_first p) (sym named.entries_are) in
     let rest = leaving_notes cause c h mid os in (
       queue_of mid,
@@ -203,7 +203,7 @@ returned_by_names are c h (o ∷ os) s whole within =
     let lt : o.queue < length s.topology.queues = within zero o (omega arith) in
     let named = are s o.queue whole lt in
     let name = queue_name s.topology o.queue in
-    let free = map (freed (is_under (holder_of c h o))) in
+    let free = map (freed (is_under (holder_of_outstanding c h o))) in
     let mid = returned_one c h s o in (
       queue_of mid,
       (λ q. named.changed (free (queue_at s o.queue)) q ∙ ap (λ (es : List Entry). given.with_queue (queue_of s) name (free es) q) (sym named.entries_are)),

@@ -10,16 +10,16 @@ use Rattle.model.specs.declared.notes.Note.{Note}
 use Rattle.exchange_graph.specs.Marks.{queue_name}
 use Rattle.channel.specs.Open.{outstanding_in}
 use Rattle.channel.specs.declared.pending.Outstanding.{Outstanding}
-use Rattle.depot.specs.Store.{Store, queue_of, queue_at, with_queue}
+use Rattle.depot.specs.Store.{Store, queue_of, queue_at, with_entries_at}
 use Rattle.depot.specs.declared.given.Given.{Given}
 
 -- who holds what is outstanding there
-abbrev pub holder_of : ℕ → ℕ → Outstanding → Holder
-holder_of c h o = record { connection = c; channel = h; tag = o.tag; by = o.by }
+abbrev pub holder_of_outstanding : ℕ → ℕ → Outstanding → Holder
+holder_of_outstanding c h o = record { connection = c; channel = h; tag = o.tag; by = o.by }
 
 -- it is noted of this message, if it is there, that it leaves its queue for this cause
 abbrev pub leaving_note : Cause → ℕ → ℕ → Store → Outstanding → List Note
-leaving_note cause c h s o = left_note cause (queue_name s.topology o.queue) (find (is_held_as (holder_of c h o)) (queue_at s o.queue))
+leaving_note cause c h s o = left_note cause (queue_name s.topology o.queue) (find (is_held_as (holder_of_outstanding c h o)) (queue_at s o.queue))
 
 -- the same of each of these
 abbrev pub leaving_notes : Cause → ℕ → ℕ → Store → List Outstanding → List Note
@@ -27,7 +27,7 @@ leaving_notes cause c h s given = flat_map (leaving_note cause c h s) given
 
 -- the queues without this message
 abbrev pub without_one : ℕ → ℕ → Store → Outstanding → Store
-without_one c h s o = with_queue s o.queue (filter (λ (e : Entry). not (is_held_as (holder_of c h o) e)) (queue_at s o.queue))
+without_one c h s o = with_entries_at s o.queue (filter (λ (e : Entry). not (is_held_as (holder_of_outstanding c h o) e)) (queue_at s o.queue))
 
 -- without any of these
 abbrev pub without_all : ℕ → ℕ → Store → List Outstanding → Store
@@ -36,7 +36,7 @@ without_all c h s (o ∷ os) = without_all c h (without_one c h s o) os
 
 -- the queues with this message ready again, in its place
 abbrev pub returned_one : ℕ → ℕ → Store → Outstanding → Store
-returned_one c h s o = with_queue s o.queue (map (freed (is_under (holder_of c h o))) (queue_at s o.queue))
+returned_one c h s o = with_entries_at s o.queue (map (freed (is_under (holder_of_outstanding c h o))) (queue_at s o.queue))
 
 -- with each of these ready again
 abbrev pub returned_all : ℕ → ℕ → Store → List Outstanding → Store

@@ -12,7 +12,7 @@ use std::alloc::{AllocError, Global};
 
 /// Who holds what was given out so, on a channel of this connection.
 fn holder_of(connection: u64, channel: u16, given: &Outstanding) -> Holder
-    ensures { result ≡ settled.holder_of connection channel given.now }
+    ensures { result ≡ settled.holder_of_outstanding connection channel given.now }
 {
     Holder {
         connection,

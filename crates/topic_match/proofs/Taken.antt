@@ -6,28 +6,28 @@ use Rattle.std.proofs.lemmas.Slice.Eq.{bytes_eq-Decides}
 use Rattle.model.specs.Words.{Text, Matches, none, word, one, any_none, any_more}
 use Rattle.model.specs.declared.texts.Token.{Token}
 use Rattle.model.specs.declared.texts.Token.TheVariants.{Word, One, Any}
-use Rattle.topic_match.specs.Taking.{Advances, still, taken, takes, IsTaken, IsStuck, IsWithoutAny}
+use Rattle.topic_match.specs.Taking.{Advances, still, taken, token_takes, IsTaken, IsStuck, IsWithoutAny}
 use Rattle.topic_match.specs.Attempts.{IsLeft}
 
 -- ---- the first token and the first word
 
-takes_at : (t : Token) (w : Text) (ts us : List Token) (ws vs : List Text) → Matches us vs → us ≡ t ∷ ts → vs ≡ w ∷ ws → (t ≡ Any → ⊥) → (takes t w ≡ true) × Matches ts ws
+takes_at : (t : Token) (w : Text) (ts us : List Token) (ws vs : List Text) → Matches us vs → us ≡ t ∷ ts → vs ≡ w ∷ ws → (t ≡ Any → ⊥) → (token_takes t w ≡ true) × Matches ts ws
 takes_at t w ts us ws vs none e f n = absurd (cc)
 takes_at t w ts us ws vs (word {w = u} {ts = ts'} {ws = ws'} m) e f n =
     let a : Word u ≡ t = cc in
     let b : ts' ≡ ts = cc in
     let c : u ≡ w = cc in
     let d : ws' ≡ ws = cc in
-    (subst (λ (z : Token). takes z w ≡ true) a ((bytes_eq-Decides w u).1 (sym c)), subst (λ (z : List Text). Matches ts z) d (subst (λ (z : List Token). Matches z ws') b m))
+    (subst (λ (z : Token). token_takes z w ≡ true) a ((bytes_eq-Decides w u).1 (sym c)), subst (λ (z : List Text). Matches ts z) d (subst (λ (z : List Token). Matches z ws') b m))
 takes_at t w ts us ws vs (one {w = u} {ts = ts'} {ws = ws'} m) e f n =
     let a : One ≡ t = cc in
     let b : ts' ≡ ts = cc in
     let d : ws' ≡ ws = cc in
-    (subst (λ (z : Token). takes z w ≡ true) a refl, subst (λ (z : List Text). Matches ts z) d (subst (λ (z : List Token). Matches z ws') b m))
+    (subst (λ (z : Token). token_takes z w ≡ true) a refl, subst (λ (z : List Text). Matches ts z) d (subst (λ (z : List Token). Matches z ws') b m))
 takes_at t w ts us ws vs (any_none m) e f n = absurd (n (let a : t ≡ Any = cc in a))
 takes_at t w ts us ws vs (any_more m) e f n = absurd (n (let a : t ≡ Any = cc in a))
 
-takes_back : (t : Token) (w : Text) (ts : List Token) (ws : List Text) → takes t w ≡ true → Matches ts ws → Matches (t ∷ ts) (w ∷ ws)
+takes_back : (t : Token) (w : Text) (ts : List Token) (ws : List Text) → token_takes t w ≡ true → Matches ts ws → Matches (t ∷ ts) (w ∷ ws)
 takes_back (Word v) w ts ws e m = subst (λ (z : Text). Matches (Word z ∷ ts) (w ∷ ws)) ((bytes_eq-Decides w v).0 e) (word m)
 takes_back One w ts ws e m = one m
 takes_back Any w ts ws e m = absurd (cc)
@@ -54,8 +54,8 @@ any_at ts us vs (any_none {ts = ts'} m) e = inl (subst (λ (z : List Token). Mat
 any_at ts us vs (any_more {w = w} {ts = ts'} {ws = ws'} m) e = inr (w, ws', refl, subst (λ (z : List Token). Matches (Any ∷ z) ws') (let b : ts' ≡ ts = cc in b) m)
 
 -- a token that takes a word is not `#`
-not_any : (t : Token) (w : Text) → takes t w ≡ true → t ≡ Any → ⊥
-not_any t w e f = let g : takes Any w ≡ true = subst (λ (z : Token). takes z w ≡ true) f e in cc
+not_any : (t : Token) (w : Text) → token_takes t w ≡ true → t ≡ Any → ⊥
+not_any t w e f = let g : token_takes Any w ≡ true = subst (λ (z : Token). token_takes z w ≡ true) f e in cc
 
 -- ---- `#` before them
 

@@ -13,10 +13,10 @@ pub record IsPattern (text : Text) : Type 0 where
   pub filled : IsIn [] (words text) → ⊥
 
 -- A pattern is read as the tokens of its words, where memory is there, and another text refused.
-abbrev pub Reads : Result (List Token) Bad → Text → Type 0
-Reads (Ok pattern) text = IsPattern text × (pattern ≡ tokens (words text))
-Reads (Err Malformed) text = IsPattern text → ⊥
-Reads (Err Memory) text = IsPattern text
+abbrev pub ReadsPattern : Result (List Token) Bad → Text → Type 0
+ReadsPattern (Ok pattern) text = IsPattern text × (pattern ≡ tokens (words text))
+ReadsPattern (Err Malformed) text = IsPattern text → ⊥
+ReadsPattern (Err Memory) text = IsPattern text
 
 -- the pieces of what is left of a text, if anything is
 abbrev pub pieces_left : Option Text → List Text

@@ -3,7 +3,7 @@
 ghost use Rattle.std.specs.Prelude.{Decides, IfOk, MatchOption, ◌≡◌, ◌∷◌};
 ghost use Rattle.model.specs.Words.{Matches, tokens, words};
 ghost use Rattle.model.specs.declared.texts.Token.TheVariants.{Any};
-ghost use Rattle.topic_match.specs.Taking.{Advances, IsStuck, IsTaken, IsWithoutAny, takes};
+ghost use Rattle.topic_match.specs.Taking.{Advances, IsStuck, IsTaken, IsWithoutAny, token_takes};
 ghost use Rattle.topic_match.specs.Attempts.{Tries};
 
 use crate::attempts::Attempt;
@@ -14,7 +14,7 @@ use std::alloc::{AllocError, Global};
 
 /// Whether a token other than `#` takes this word.
 fn takes(token: &Token, word: &Text) -> bool
-    ensures { result ≡ takes token.now word.now }
+    ensures { result ≡ token_takes token.now word.now }
 {
     match token {
         Token::Word(other) => word.as_bytes() == other.as_bytes(),

@@ -13,15 +13,15 @@ use Rattle.certificate.specs.Certified.{IsCertified, AreCertifiedBelow, AreCerti
 use Rattle.certificate.proofs.Certifying.{certified_all, certified_hold}
 use Rattle.certificate_check.specs.declared.faults.CertFault.TheVariants.{Form}
 use Rattle.topology_drafts.proofs.Members.{contains_in}
-use Rattle.guarantee_search.specs.Verdicts.{Finds}
+use Rattle.guarantee_search.specs.Verdicts.{FindsVerdict}
 use Rattle.guarantee_search.specs.declared.verdicts.Verdict.{Verdict}
 use Rattle.guarantee_search.specs.declared.verdicts.Verdict.TheVariants.{Yes, No, Undecided}
 use Rattle.verdicts.specs.Verdicts.{EachWith, AreFound, IsMeant, is_no, is_undecided, status_of_verdicts}
-use Rattle.verdicts.specs.Outcomes.{Outcome, Tells, AreOutcomes, of_too_many, is_fault, status_of_outcomes}
+use Rattle.verdicts.specs.Outcomes.{Outcome, TellsOutcome, AreOutcomes, of_too_many, is_fault, status_of_outcomes}
 
 -- ---- verdicts
 
-all_yes : (t : Topology) (n : ℕ) (gs : List Guarantee) (vs : List Verdict) → EachWith (λ (place : ℕ) (g : Guarantee) (v : Verdict). Finds t g v) n gs vs
+all_yes : (t : Topology) (n : ℕ) (gs : List Guarantee) (vs : List Verdict) → EachWith (λ (place : ℕ) (g : Guarantee) (v : Verdict). FindsVerdict t g v) n gs vs
     → list_any is_no vs ≡ false → list_any is_undecided vs ≡ false → (g : Guarantee) → IsIn g gs → Holds t g
 all_yes t n [] vs f a b g i = absurd i
 all_yes t n (h ∷ gs) [] f a b g i = absurd f
@@ -30,7 +30,7 @@ all_yes t n (h ∷ gs) (Yes c ∷ vs) f a b g (inr i) = all_yes t (n + 1) gs vs 
 all_yes t n (h ∷ gs) (No r ∷ vs) f a b g i = absurd (cc)
 all_yes t n (h ∷ gs) (Undecided why ∷ vs) f a b g i = absurd (cc)
 
-some_no : (t : Topology) (n : ℕ) (gs : List Guarantee) (vs : List Verdict) → EachWith (λ (place : ℕ) (g : Guarantee) (v : Verdict). Finds t g v) n gs vs
+some_no : (t : Topology) (n : ℕ) (gs : List Guarantee) (vs : List Verdict) → EachWith (λ (place : ℕ) (g : Guarantee) (v : Verdict). FindsVerdict t g v) n gs vs
     → list_any is_no vs ≡ true → (g : Guarantee) × IsIn g gs × (Holds t g → ⊥)
 some_no t n [] [] f a = absurd (cc)
 some_no t n [] (v ∷ vs) f a = absurd f
@@ -78,7 +78,7 @@ fewer gs cs false q h = let k = ltb-false (length gs) (length cs) q in omega (ar
 none_too_many : (gs : List Guarantee) (cs : List Certificate) → list_any is_fault (of_too_many gs cs) ≡ false → length cs ≤ length gs
 none_too_many gs cs e = fewer gs cs (ltb (length gs) (length cs)) refl e
 
-all_accepted : (t : Topology) (cs : List Certificate) (n : ℕ) (gs : List Guarantee) (os : List Outcome) → EachWith (Tells t cs) n gs os → list_any is_fault os ≡ false
+all_accepted : (t : Topology) (cs : List Certificate) (n : ℕ) (gs : List Guarantee) (os : List Outcome) → EachWith (TellsOutcome t cs) n gs os → list_any is_fault os ≡ false
     → (i : ℕ) (g : Guarantee) → slice_get gs i ≡ Some g → IsCertified t g cs (n + i)
 all_accepted t cs n [] os f a i g s = let z : None ≡ Some g = s in absurd (cc)
 all_accepted t cs n (h ∷ gs) [] f a i g s = absurd f

@@ -37,8 +37,8 @@ IsTold (Err Form) = Unit {0}
 IsTold (Err Memory) = ⊥
 
 -- the certificate at this place is accepted for the guarantee, or this is its first fault; where there is none, that is fault 5
-abbrev pub Tells : Topology → List Certificate → ℕ → Guarantee → Outcome → Type 0
-Tells t cs place g o = ChecksAt t g cs place o × IsTold o
+abbrev pub TellsOutcome : Topology → List Certificate → ℕ → Guarantee → Outcome → Type 0
+TellsOutcome t cs place g o = ChecksAt t g cs place o × IsTold o
 
 -- fault 5 once more where a certificate has no guarantee
 abbrev pub of_too_many : List Guarantee → List Certificate → List Outcome
@@ -47,7 +47,7 @@ of_too_many gs cs = if nat_lt (length gs) (length cs) then Err Form ∷ [] else 
 -- an outcome for each guarantee, and one for the first certificate too many
 pub record AreOutcomes (t : Topology) (gs : List Guarantee) (cs : List Certificate) (outcomes : List Outcome) : Type 0 where
   pub own : List Outcome
-  pub told : EachWith (Tells t cs) 0 gs own
+  pub told : EachWith (TellsOutcome t cs) 0 gs own
   pub all : outcomes ≡ own ++ of_too_many gs cs
 
 -- it is not accepted

@@ -5,7 +5,7 @@ use Rattle.model.specs.Words.{Text}
 use Rattle.model.specs.Topology.{Topology}
 use Rattle.model.specs.Guarantee.{Guarantee, Holds, AllHold}
 use Rattle.model.specs.Certificates.{Certificate}
-use Rattle.guarantee_search.specs.Verdicts.{Finds}
+use Rattle.guarantee_search.specs.Verdicts.{FindsVerdict}
 use Rattle.guarantee_search.specs.declared.verdicts.Cause.{Cause}
 use Rattle.guarantee_search.specs.declared.verdicts.Cause.TheVariants.{TooManyStates, KeyTooLong, Unfit}
 use Rattle.guarantee_search.specs.declared.verdicts.Verdict.{Verdict}
@@ -23,7 +23,7 @@ EachWith P n (x ∷ xs) (y ∷ ys) = P n x y × EachWith P (n + 1) xs ys
 
 -- a verdict on each guarantee: a certificate that is accepted, a key that breaks it, or why there is neither
 abbrev pub AreFound : Topology → List Guarantee → List Verdict → Type 0
-AreFound t gs vs = EachWith (λ place g v. Finds t g v) 0 gs vs
+AreFound t gs vs = EachWith (λ place g v. FindsVerdict t g v) 0 gs vs
 
 -- it is broken
 abbrev pub is_no : Verdict → Bool

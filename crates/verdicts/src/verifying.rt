@@ -10,7 +10,7 @@ ghost use Rattle.verdicts.specs.Outcomes.{
   outcome_line,
   outcome_lines,
   status_of_outcomes,
-  Tells,
+  TellsOutcome,
   Verifies,
 };
 ghost use Rattle.verdicts.specs.Verdicts.{EachWith};
@@ -34,7 +34,7 @@ fn outcome_at(
     certificates: &[Certificate],
     place: usize,
 ) -> Result<Outcome, AllocError>
-    ensures { IfOk result (Tells topology.now certificates.now place guarantee.now) }
+    ensures { IfOk result (TellsOutcome topology.now certificates.now place guarantee.now) }
 {
     if place >= certificates.len() {
         return Ok(Err(CertFault::Form));
@@ -52,7 +52,7 @@ fn own_outcomes(
     guarantees: &[Guarantee],
     certificates: &[Certificate],
 ) -> Result<Vec<Outcome>, AllocError>
-    ensures { IfOk result (λ outcomes. EachWith (Tells topology.now certificates.now) 0 guarantees.now outcomes.items) }
+    ensures { IfOk result (λ outcomes. EachWith (TellsOutcome topology.now certificates.now) 0 guarantees.now outcomes.items) }
 {
     let mut outcomes = Vec::new(alloc);
     for place in 0..guarantees.len() {

@@ -13,6 +13,7 @@ impl Core {
     ghost use Rattle.std.specs.Prelude.{◌≡◌, ◌∷◌, [], None, Some, IsSome, IfOk, IsOk, OnErr, option_map};
     ghost use Rattle.model.specs.Agreement.{IsAgreed};
     ghost use Rattle.model.specs.Grammar.{ids};
+    ghost use Rattle.model.specs.Sending.{IsAddressed};
     ghost use Rattle.model.specs.Step as said;
     ghost use Rattle.model.specs.Entries.{by_channel};
     ghost use Rattle.model.specs.Step.{Does, Is, Refuses, with_gone, with_closing, with_channel, after_close, reply, channel_or_new};
@@ -20,7 +21,7 @@ impl Core {
     ghost use Rattle.broker_core.specs.State.{broker_of, topology_of, names_of};
     ghost use Rattle.channel.specs.Open.{Open, open_in};
     ghost use Rattle.judging.specs.Judged.{seen as said_of, HasChannel};
-    ghost use Rattle.replies.specs.Sent.{IsOwn, AreOwn};
+    ghost use Rattle.replies.specs.Sent.{AreAddressed};
 
     /// This close, or answer to a close, is sent, and the connection runs no more.
     pub(crate) fn close_connection(
@@ -30,9 +31,9 @@ impl Core {
         send: Send,
     ) -> Result<Step, AllocError>
         requires agreed { IsAgreed (broker_of self.old) }
-        requires own { IsOwn connection send }
+        requires addressed { IsAddressed connection send }
         ensures ok { IfOk result (λ s. Does s.sends.items s.notes.items (broker_of self.new) (send ∷ []) (with_gone (broker_of self.old) connection)) }
-        ensures own { IfOk result (λ s. AreOwn connection s.sends.items) }
+        ensures addressed { IfOk result (λ s. AreAddressed connection s.sends.items) }
         ensures topology { topology_of self.new ≡ topology_of self.old }
         ensures err { OnErr result (self.new ≡ self.old) }
     {
@@ -67,9 +68,9 @@ impl Core {
     ) -> Result<Step, AllocError>
         requires agreed { IsAgreed (broker_of self.old) }
         requires there { IsSome ((broker_of self.old).channel connection channel) }
-        requires own { IsOwn connection send }
+        requires addressed { IsAddressed connection send }
         ensures ok { IfOk result (λ s. Does s.sends.items s.notes.items (broker_of self.new) (send ∷ []) (with_closing (broker_of self.old) connection channel)) }
-        ensures own { IfOk result (λ s. AreOwn connection s.sends.items) }
+        ensures addressed { IfOk result (λ s. AreAddressed connection s.sends.items) }
         ensures topology { topology_of self.new ≡ topology_of self.old }
         ensures err { OnErr result (self.new ≡ self.old) }
     {
@@ -90,7 +91,7 @@ impl Core {
         requires there { IsSome ((broker_of self.old).channel connection channel) }
         requires closing { (channel_or_new ((broker_of self.old).channel connection channel)).is_closing ≡ is_closing }
         ensures ok { IfOk result (λ s. Does s.sends.items s.notes.items (broker_of self.new) (reply connection channel ChannelCloseOk ∷ []) (after_close (broker_of self.old) connection channel (channel_or_new ((broker_of self.old).channel connection channel)))) }
-        ensures own { IfOk result (λ s. AreOwn connection s.sends.items) }
+        ensures addressed { IfOk result (λ s. AreAddressed connection s.sends.items) }
         ensures topology { topology_of self.new ≡ topology_of self.old }
         ensures err { OnErr result (self.new ≡ self.old) }
     {
@@ -125,7 +126,7 @@ impl Core {
         requires there { HasChannel refusal ((broker_of self.old).channel connection channel) }
         ensures ok { IfOk result (λ s. Refuses (broker_of self.old) connection channel (ids cause.class cause.method) (said_of refusal) s.sends.items s.notes.items (broker_of self.new)) }
         ensures ignored { said_of refusal ≡ said.Ignored → IsOk result }
-        ensures own { IfOk result (λ s. AreOwn connection s.sends.items) }
+        ensures addressed { IfOk result (λ s. AreAddressed connection s.sends.items) }
         ensures topology { topology_of self.new ≡ topology_of self.old }
         ensures err { OnErr result (self.new ≡ self.old) }
     {

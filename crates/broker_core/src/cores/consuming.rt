@@ -1,7 +1,7 @@
 //! Consumers that are made and cancelled. Source: AMQP 0-9-1, basic.consume and basic.cancel.
 
 ghost use Rattle.std.specs.Prelude.{◌≡◌};
-ghost use Rattle.replies.specs.Sent.{AreOwn};
+ghost use Rattle.replies.specs.Sent.{AreAddressed};
 ghost use Rattle.broker_core.specs.Consumed as consumed;
 
 use crate::cores::Core;
@@ -38,7 +38,7 @@ impl Core {
     ghost use Rattle.model.specs.declared.methods.Method.TheVariants.{BasicConsume, BasicCancel};
     ghost use Rattle.broker_core.specs.State.{broker_of, topology_of};
     ghost use Rattle.judging.specs.Judged.{IsPlaceOf};
-    ghost use Rattle.broker_core.specs.Consumed.{Makes};
+    ghost use Rattle.broker_core.specs.Consumed.{MakesConsumer};
 
     /// A consumer of the queue at this place is made on the channel, or refused: then nothing changes. Tells its tag.
     fn make_consumer(
@@ -51,7 +51,7 @@ impl Core {
     ) -> Result<Text, Unmade>
         requires at { IsPlaceOf (topology_of self.old) consume.now.queue place }
         requires there { IsSome ((broker_of self.old).channel connection channel) }
-        ensures makes { Makes (broker_of self.old) connection channel (channel_or_new ((broker_of self.old).channel connection channel)) consume.now result (broker_of self.new) }
+        ensures makes { MakesConsumer (broker_of self.old) connection channel (channel_or_new ((broker_of self.old).channel connection channel)) consume.now result (broker_of self.new) }
         ensures topology { topology_of self.new ≡ topology_of self.old }
         ensures err { OnErr result (self.new ≡ self.old) }
     {
@@ -74,7 +74,7 @@ impl Core {
         requires at { IsPlaceOf (topology_of self.old) consume.now.queue place }
         requires there { IsSome ((broker_of self.old).channel connection channel) }
         ensures ok { IfOk result (λ s. (content : Option Content) → Decides (topology_of self.old) (broker_of self.old) connection channel (BasicConsume consume.now) content (refusal_of_seat (channel_or_new ((broker_of self.old).channel connection channel)) consume.now) s.sends.items s.notes.items (broker_of self.new)) }
-        ensures own { IfOk result (λ s. IsMethod (BasicConsume consume.now) → AreOwn connection s.sends.items) }
+        ensures addressed { IfOk result (λ s. IsMethod (BasicConsume consume.now) → AreAddressed connection s.sends.items) }
         ensures topology { topology_of self.new ≡ topology_of self.old }
         ensures err { OnErr result (self.new ≡ self.old) }
     {
@@ -109,7 +109,7 @@ impl Core {
     ) -> Result<Step, AllocError>
         requires { IsSome ((broker_of self.old).channel connection channel) }
         ensures ok { IfOk result (λ s. Cancels (broker_of self.old) connection channel (channel_or_new ((broker_of self.old).channel connection channel)) cancel.now s.sends.items s.notes.items (broker_of self.new)) }
-        ensures own { IfOk result (λ s. IsMethod (BasicCancel cancel.now) → AreOwn connection s.sends.items) }
+        ensures addressed { IfOk result (λ s. IsMethod (BasicCancel cancel.now) → AreAddressed connection s.sends.items) }
         ensures topology { topology_of self.new ≡ topology_of self.old }
         ensures err { OnErr result (self.new ≡ self.old) }
     {

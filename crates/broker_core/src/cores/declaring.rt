@@ -12,7 +12,7 @@ impl Core {
     ghost use Rattle.model.specs.Grammar.{IsMethod};
     ghost use Rattle.broker_core.specs.State.{broker_of, topology_of};
     ghost use Rattle.judging.specs.Judged.{IsPlaceOf};
-    ghost use Rattle.replies.specs.Sent.{AreOwn};
+    ghost use Rattle.replies.specs.Sent.{AreAddressed};
 
     /// The exchange is there, and that is answered where an answer is wanted.
     pub(crate) fn find_exchange(
@@ -23,7 +23,7 @@ impl Core {
         no_wait: bool,
     ) -> Result<Step, AllocError>
         ensures ok { IfOk result (λ s. Does s.sends.items s.notes.items (broker_of self.now) (declare_sends connection channel no_wait ExchangeDeclareOk) (broker_of self.now)) }
-        ensures own { IfOk result (λ s. AreOwn connection s.sends.items) }
+        ensures addressed { IfOk result (λ s. AreAddressed connection s.sends.items) }
     {
         if no_wait {
             Ok(Step::nothing(alloc))
@@ -44,7 +44,7 @@ impl Core {
     ) -> Result<Step, AllocError>
         requires { IsPlaceOf (topology_of self.now) declare.now.queue place }
         ensures ok { IfOk result (λ s. Finds (broker_of self.now) connection channel declare.now s.sends.items s.notes.items (broker_of self.now)) }
-        ensures own { IfOk result (λ s. IsMethod (DeclaresQueue declare.now) → AreOwn connection s.sends.items) }
+        ensures addressed { IfOk result (λ s. IsMethod (DeclaresQueue declare.now) → AreAddressed connection s.sends.items) }
     {
         self.depot.is_whole();
         self.depot.is_named(place);

@@ -5,7 +5,7 @@ ghost use Rattle.model.specs.Deliveries.{delivery_notes};
 ghost use Rattle.model.specs.Sending.{IsCarried};
 ghost use Rattle.model.specs.Step as said;
 ghost use Rattle.exchange_graph.specs.Marks.{queue_name};
-ghost use Rattle.replies.specs.Sent.{AreOwn};
+ghost use Rattle.replies.specs.Sent.{AreAddressed};
 
 use crate::cores::Core;
 use crate::picks::Pick;
@@ -34,7 +34,7 @@ fn delivery(
 ) -> Result<Step, AllocError>
     ensures sends { IfOk result (λ s. s.sends.items ≡ said.deliver pick.connection pick.channel tag consumer.now.tag entry.now ∷ []) }
     ensures notes { IfOk result (λ s. s.notes.items ≡ delivery_notes consumer.now.no_ack entry.now.message.number queue.now) }
-    ensures own { IfOk result (λ s. length consumer.now.tag < 256 → IsCarried entry.now.message → AreOwn pick.connection s.sends.items) }
+    ensures addressed { IfOk result (λ s. length consumer.now.tag < 256 → IsCarried entry.now.message → AreAddressed pick.connection s.sends.items) }
 {
     let send = deliver(pick.connection, pick.channel, tag, &consumer.tag, entry)?;
     giving(alloc, send, consumer.no_ack, entry, queue)
@@ -47,12 +47,12 @@ impl Core {
     ghost use Rattle.model.specs.Sending.{AreCarried};
     ghost use Rattle.model.specs.Step.{IsDelivery};
     ghost use Rattle.broker_core.specs.State.{broker_of, topology_of};
-    ghost use Rattle.broker_core.specs.Picked.{IsPick, IsPickFrom, IsNext, Takes, Tells, CannotTake};
+    ghost use Rattle.broker_core.specs.Picked.{IsPick, IsPickFrom, IsNext, TakesAs, TellsConsumer, CannotTake};
     ghost use Rattle.channel.specs.declared.consumers.Consumer.{Consumer as One};
 
     /// The consumer of these numbers, exactly where it may take a message now.
     fn taker(&self, pick: Pick) -> Option<&Consumer>
-        ensures { Tells self.now pick (option_map (λ k. k.now) result) }
+        ensures { TellsConsumer self.now pick (option_map (λ k. k.now) result) }
     {
         match self.links.get(pick.connection) {
             Some(link) => link.taker(pick.channel, pick.number),
@@ -87,7 +87,7 @@ impl Core {
 
     /// Whether the consumer of these numbers may take a message now, from whatever queue.
     pub fn may_take(&self, pick: Pick) -> bool
-        ensures yes { result ≡ true → (k : One) × Takes self.now pick k }
+        ensures yes { result ≡ true → (k : One) × TakesAs self.now pick k }
         ensures no { result ≡ false → CannotTake (broker_of self.now) pick }
     {
         self.taker(pick).is_some()
@@ -99,7 +99,7 @@ impl Core {
         requires agreed { IsAgreed (broker_of self.old) }
         requires picked { IsPick (broker_of self.old) pick }
         ensures ok { IfOk result (λ s. IsDelivery (broker_of self.old) pick.connection s.sends.items s.notes.items (broker_of self.new)) }
-        ensures own { IfOk result (λ s. AreCarried (broker_of self.old) → AreNamed (topology_of self.old) (broker_of self.old) → AreOwn pick.connection s.sends.items) }
+        ensures addressed { IfOk result (λ s. AreCarried (broker_of self.old) → AreNamed (topology_of self.old) (broker_of self.old) → AreAddressed pick.connection s.sends.items) }
         ensures topology { topology_of self.new ≡ topology_of self.old }
         ensures err { OnErr result (self.new ≡ self.old) }
     {

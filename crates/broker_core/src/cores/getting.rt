@@ -1,6 +1,6 @@
 //! Messages that are taken one by one. Source: AMQP 0-9-1, basic.get.
 
-ghost use Rattle.replies.specs.Sent.{AreOwn};
+ghost use Rattle.replies.specs.Sent.{AreAddressed};
 
 use crate::cores::Core;
 use model::{Get, Taker};
@@ -31,7 +31,7 @@ impl Core {
         requires there { IsSome ((broker_of self.old).channel connection channel) }
         requires accepted { refusal_of_get (topology_of self.old) (broker_of self.old) (channel_or_new ((broker_of self.old).channel connection channel)) get.now ≡ None }
         ensures ok { IfOk result (λ s. Gets (broker_of self.old) connection channel (channel_or_new ((broker_of self.old).channel connection channel)) get.now (first_ready ((broker_of self.old).queue get.now.queue)) s.sends.items s.notes.items (broker_of self.new)) }
-        ensures own { IfOk result (λ s. AreCarried (broker_of self.old) → AreOwn connection s.sends.items) }
+        ensures addressed { IfOk result (λ s. AreCarried (broker_of self.old) → AreAddressed connection s.sends.items) }
         ensures topology { topology_of self.new ≡ topology_of self.old }
         ensures err { OnErr result (self.new ≡ self.old) }
     {

@@ -11,7 +11,7 @@ impl Core {
     ghost use Rattle.model.specs.Step.{Does, with_channel, reply};
     ghost use Rattle.model.specs.declared.methods.Method.TheVariants.{ChannelOpenOk, ChannelFlowOk};
     ghost use Rattle.broker_core.specs.State.{broker_of, topology_of};
-    ghost use Rattle.replies.specs.Sent.{AreOwn};
+    ghost use Rattle.replies.specs.Sent.{AreAddressed};
 
     /// The channel is open and new from now on, and that is answered. Where memory is wanting, nothing has changed.
     pub(crate) fn open_channel(
@@ -22,7 +22,7 @@ impl Core {
     ) -> Result<Step, AllocError>
         requires { IsSome ((broker_of self.old).connection connection) }
         ensures ok { IfOk result (λ s. Does s.sends.items s.notes.items (broker_of self.new) (reply connection channel (ChannelOpenOk []) ∷ []) (with_channel (broker_of self.old) connection channel (Some new_channel))) }
-        ensures own { IfOk result (λ s. AreOwn connection s.sends.items) }
+        ensures addressed { IfOk result (λ s. AreAddressed connection s.sends.items) }
         ensures topology { topology_of self.new ≡ topology_of self.old }
         ensures err { OnErr result (self.new ≡ self.old) }
     {
@@ -40,7 +40,7 @@ impl Core {
         channel: u16,
     ) -> Result<Step, AllocError>
         ensures ok { IfOk result (λ s. Does s.sends.items s.notes.items (broker_of self.now) (reply connection channel (ChannelFlowOk true) ∷ []) (broker_of self.now)) }
-        ensures own { IfOk result (λ s. AreOwn connection s.sends.items) }
+        ensures addressed { IfOk result (λ s. AreAddressed connection s.sends.items) }
     {
         Step::sending(alloc, flow_ok(connection, channel))
     }

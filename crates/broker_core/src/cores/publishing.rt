@@ -2,7 +2,7 @@
 
 ghost use Rattle.std.specs.Prelude.{◌≡◌, ◌+◌, is_some, cond};
 ghost use Rattle.model.specs.Step.{select_sends};
-ghost use Rattle.replies.specs.Sent.{AreOwn};
+ghost use Rattle.replies.specs.Sent.{AreAddressed};
 
 use crate::cores::Core;
 use model::{Content, Properties, Publish, Send, Text};
@@ -27,7 +27,7 @@ impl Core {
     ) -> Result<Step, AllocError>
         requires { IsSome ((broker_of self.old).channel connection channel) }
         ensures ok { IfOk result (λ s. (ch : seen.Channel) → (broker_of self.old).channel connection channel ≡ Some ch → Does s.sends.items s.notes.items (broker_of self.new) (select_sends connection channel no_wait) (with_channel (broker_of self.old) connection channel (Some (record ch { confirm = started ch.confirm })))) }
-        ensures own { IfOk result (λ s. AreOwn connection s.sends.items) }
+        ensures addressed { IfOk result (λ s. AreAddressed connection s.sends.items) }
         ensures topology { topology_of self.new ≡ topology_of self.old }
         ensures err { OnErr result (self.new ≡ self.old) }
     {
@@ -49,7 +49,7 @@ impl Core {
         requires there { IsSome ((broker_of self.old).channel connection channel) }
         requires accepted { refusal_of_publish (topology_of self.old) (broker_of self.old) (channel_or_new ((broker_of self.old).channel connection channel)) publish.now ≡ None }
         ensures ok { IfOk result (λ s. IsPublish (topology_of self.old) (broker_of self.old) connection channel (channel_or_new ((broker_of self.old).channel connection channel)) publish.now content.now s.sends.items s.notes.items (broker_of self.new)) }
-        ensures own { IfOk result (λ s. IsMethod (BasicPublish publish.now) → AreOwn connection s.sends.items) }
+        ensures addressed { IfOk result (λ s. IsMethod (BasicPublish publish.now) → AreAddressed connection s.sends.items) }
         ensures topology { topology_of self.new ≡ topology_of self.old }
         ensures err { OnErr result (self.new ≡ self.old) }
     {
@@ -85,7 +85,7 @@ impl Core {
         requires there { IsSome ((broker_of self.old).channel connection channel) }
         requires accepted { refusal_of_publish (topology_of self.old) (broker_of self.old) (channel_or_new ((broker_of self.old).channel connection channel)) publish.now ≡ None }
         ensures ok { IfOk result (λ s. IsPublish (topology_of self.old) (broker_of self.old) connection channel (channel_or_new ((broker_of self.old).channel connection channel)) publish.now (content_or_none content.now) s.sends.items s.notes.items (broker_of self.new)) }
-        ensures own { IfOk result (λ s. IsMethod (BasicPublish publish.now) → AreOwn connection s.sends.items) }
+        ensures addressed { IfOk result (λ s. IsMethod (BasicPublish publish.now) → AreAddressed connection s.sends.items) }
         ensures topology { topology_of self.new ≡ topology_of self.old }
         ensures err { OnErr result (self.new ≡ self.old) }
     {

@@ -1,6 +1,6 @@
 //! Limits of a channel, and purges of a queue.
 
-ghost use Rattle.replies.specs.Sent.{AreOwn};
+ghost use Rattle.replies.specs.Sent.{AreAddressed};
 
 use crate::cores::Core;
 use model::{Purge, Qos};
@@ -25,7 +25,7 @@ impl Core {
     ) -> Result<Step, AllocError>
         requires { IsSome ((broker_of self.old).channel connection channel) }
         ensures ok { IfOk result (λ s. Does s.sends.items s.notes.items (broker_of self.new) (reply connection channel BasicQosOk ∷ []) (with_channel (broker_of self.old) connection channel (Some (limited (channel_or_new ((broker_of self.old).channel connection channel)) qos.now)))) }
-        ensures own { IfOk result (λ s. AreOwn connection s.sends.items) }
+        ensures addressed { IfOk result (λ s. AreAddressed connection s.sends.items) }
         ensures topology { topology_of self.new ≡ topology_of self.old }
         ensures err { OnErr result (self.new ≡ self.old) }
     {
@@ -46,7 +46,7 @@ impl Core {
     ) -> Result<Step, AllocError>
         requires { IsPlaceOf (topology_of self.old) purge.now.queue place }
         ensures ok { IfOk result (λ s. Purges (broker_of self.old) connection channel purge.now s.sends.items s.notes.items (broker_of self.new)) }
-        ensures own { IfOk result (λ s. AreOwn connection s.sends.items) }
+        ensures addressed { IfOk result (λ s. AreAddressed connection s.sends.items) }
         ensures topology { topology_of self.new ≡ topology_of self.old }
         ensures err { OnErr result (self.new ≡ self.old) }
     {

@@ -3,7 +3,7 @@
 
 ghost use Rattle.std.specs.Prelude.{◌≡◌, List};
 ghost use Rattle.model.specs.declared.events.Send.{Send as Sent};
-ghost use Rattle.replies.specs.Sent.{AreOwn};
+ghost use Rattle.replies.specs.Sent.{AreAddressed};
 
 use crate::cores::Core;
 use depot::places_are_named;
@@ -35,7 +35,7 @@ impl Core {
         requires there { IsSome ((broker_of self.old).channel connection channel) }
         requires accepted { refusal_of_settling (channel_or_new ((broker_of self.old).channel connection channel)) tag multiple ≡ None }
         ensures ok { IfOk result (λ s. Settles (topology_of self.old) (Leaves cause) (broker_of self.old) connection channel (channel_or_new ((broker_of self.old).channel connection channel)) tag multiple [] s.sends.items s.notes.items (broker_of self.new)) }
-        ensures own { IfOk result (λ s. AreOwn connection s.sends.items) }
+        ensures addressed { IfOk result (λ s. AreAddressed connection s.sends.items) }
         ensures topology { topology_of self.new ≡ topology_of self.old }
         ensures err { OnErr result (self.new ≡ self.old) }
     {
@@ -80,7 +80,7 @@ impl Core {
         requires there { IsSome ((broker_of self.old).channel connection channel) }
         requires accepted { refusal_of_settling (channel_or_new ((broker_of self.old).channel connection channel)) tag multiple ≡ None }
         ensures ok { IfOk result (λ s. Settles (topology_of self.old) Rejects (broker_of self.old) connection channel (channel_or_new ((broker_of self.old).channel connection channel)) tag multiple [] s.sends.items s.notes.items (broker_of self.new)) }
-        ensures own { IfOk result (λ s. AreOwn connection s.sends.items) }
+        ensures addressed { IfOk result (λ s. AreAddressed connection s.sends.items) }
         ensures topology { topology_of self.new ≡ topology_of self.old }
         ensures err { OnErr result (self.new ≡ self.old) }
     {
@@ -106,7 +106,7 @@ impl Core {
         requires there { IsSome ((broker_of self.old).channel connection channel) }
         requires accepted { refusal_of_settling (channel_or_new ((broker_of self.old).channel connection channel)) tag multiple ≡ None }
         ensures ok { IfOk result (λ s. Settles (topology_of self.old) (of_rejected requeue) (broker_of self.old) connection channel (channel_or_new ((broker_of self.old).channel connection channel)) tag multiple [] s.sends.items s.notes.items (broker_of self.new)) }
-        ensures own { IfOk result (λ s. AreOwn connection s.sends.items) }
+        ensures addressed { IfOk result (λ s. AreAddressed connection s.sends.items) }
         ensures topology { topology_of self.new ≡ topology_of self.old }
         ensures err { OnErr result (self.new ≡ self.old) }
         ensures quiet { requeue ≡ true → IsOk result }
@@ -128,7 +128,7 @@ impl Core {
     ) -> Result<Step, AllocError>
         requires there { IsSome ((broker_of self.old).channel connection channel) }
         ensures ok { IfOk result (λ s. Settles (topology_of self.old) Returns (broker_of self.old) connection channel (channel_or_new ((broker_of self.old).channel connection channel)) 0 true (reply connection channel BasicRecoverOk ∷ []) s.sends.items s.notes.items (broker_of self.new)) }
-        ensures own { IfOk result (λ s. AreOwn connection s.sends.items) }
+        ensures addressed { IfOk result (λ s. AreAddressed connection s.sends.items) }
         ensures topology { topology_of self.new ≡ topology_of self.old }
         ensures err { OnErr result (self.new ≡ self.old) }
     {

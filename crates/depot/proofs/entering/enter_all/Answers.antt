@@ -5,7 +5,7 @@ use Rattle.model.specs.declared.notes.Note.{Note}
 use Rattle.model.specs.declared.messages.Entry.{Entry}
 use Rattle.depot.specs.declared.turns.Turn.{Turn}
 use Rattle.depot.specs.Store.{entries_of}
-use Rattle.depot.specs.Turns.{places, outcome, outcomes, notes_of, is_refusal, entered, times, IsRoomy}
+use Rattle.depot.specs.Turns.{places, outcome, outcomes, notes_of_outcomes, is_refusal, entered, times, IsRoomy}
 use Rattle.depot.proofs.Turning.{within_rest, or_assoc, here_once}
 use Rattle.depot.proofs.entering.enter_all.Goals as goal
 
@@ -68,10 +68,10 @@ loop-turn-preserved c =
           ∙ ap (λ (ts : List Turn). entered (outcomes way declared ts es) es) (sym next)
           ∙ inv.entries;
       notes =
-          ap (λ (xs : List (List Entry)). c.enter-is_some_refused.new.notes.items ++ notes_of (outcomes way declared rest xs)) moved
-          ∙ ap (λ (ns : List Note). ns ++ notes_of (outcomes way declared rest (entered (outcome way declared es t ∷ []) es))) c.enter-is_some_refused.ensures.notes
-          ∙ append_assoc c.loop-turn.notes.items ((outcome way declared es t).note ∷ []) (notes_of (outcomes way declared rest (entered (outcome way declared es t ∷ []) es)))
-          ∙ ap (λ (ts : List Turn). c.loop-turn.notes.items ++ notes_of (outcomes way declared ts es)) (sym next)
+          ap (λ (xs : List (List Entry)). c.enter-is_some_refused.new.notes.items ++ notes_of_outcomes (outcomes way declared rest xs)) moved
+          ∙ ap (λ (ns : List Note). ns ++ notes_of_outcomes (outcomes way declared rest (entered (outcome way declared es t ∷ []) es))) c.enter-is_some_refused.ensures.notes
+          ∙ append_assoc c.loop-turn.notes.items ((outcome way declared es t).note ∷ []) (notes_of_outcomes (outcomes way declared rest (entered (outcome way declared es t ∷ []) es)))
+          ∙ ap (λ (ts : List Turn). c.loop-turn.notes.items ++ notes_of_outcomes (outcomes way declared ts es)) (sym next)
           ∙ inv.notes;
       notes_len = omega arith;
       notes_capacity = c.enter-is_some_refused.ensures.notes_capacity ∙ inv.notes_capacity;

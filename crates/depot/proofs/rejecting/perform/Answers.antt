@@ -4,13 +4,13 @@ use Rattle.model.specs.declared.messages.Entry.{Entry}
 use Rattle.depot.specs.declared.plans.Death.{Death}
 use Rattle.depot.specs.Store.{entries_of}
 use Rattle.depot.specs.Turns.{places, room_at, times, IsRoomy}
-use Rattle.depot.specs.Dying.{died, death_notes, died_all, all_notes, IsSound, notes_in, times_in}
+use Rattle.depot.specs.Dying.{died, death_notes, died_all, all_notes, IsSoundDeath, notes_in, times_in}
 use Rattle.depot.proofs.rejecting.perform.Goals as goal
 
 pub die-requires-clause-sound : goal.die-requires-clause-sound
 die-requires-clause-sound c =
-    let sound : All (IsSound (length c.loop-death.queues)) (c.in-Some.death ∷ c.next.new.self.rest.items)
-    = subst (λ (ds : List Death). All (IsSound (length c.loop-death.queues)) ds) c.in-Some.ensures.steps.0 c.loop-death.invariant.sound in
+    let sound : All (IsSoundDeath (length c.loop-death.queues)) (c.in-Some.death ∷ c.next.new.self.rest.items)
+    = subst (λ (ds : List Death). All (IsSoundDeath (length c.loop-death.queues)) ds) c.in-Some.ensures.steps.0 c.loop-death.invariant.sound in
     sound 0 c.in-Some.death (omega arith)
 
 pub die-requires-clause-room : goal.die-requires-clause-room
@@ -34,11 +34,11 @@ loop-death-preserved c =
     let declared = c.args.declared.now in
     let es = entries_of c.loop-death.queues in
     let same = c.die.ensures.len in
-    let sound : All (IsSound (length c.loop-death.queues)) (d ∷ rest) = subst (λ (ds : List Death). All (IsSound (length c.loop-death.queues)) ds) next inv.sound in
+    let sound : All (IsSoundDeath (length c.loop-death.queues)) (d ∷ rest) = subst (λ (ds : List Death). All (IsSoundDeath (length c.loop-death.queues)) ds) next inv.sound in
     let moved : entries_of c.die.new.queues ≡ died declared d es = c.die.ensures.entries in
     record {
       len = same ∙ inv.len;
-      sound = subst (λ (n : ℕ). All (IsSound n) rest) (sym same) (λ i e lt. sound (suc i) e (omega (arith, lt)));
+      sound = subst (λ (n : ℕ). All (IsSoundDeath n) rest) (sym same) (λ i e lt. sound (suc i) e (omega (arith, lt)));
       room = λ k.
           let had = inv.room k in
           let step = ap (λ (ds : List Death). times_in k ds) next in

@@ -1,14 +1,14 @@
 use Rattle.std.proofs.Common.{◌≡◌, ◌≤◌, ◌+◌, ℕ, ◌++◌, length, vec_len, vec_capacity, All}
 use Rattle.depot.specs.Store.{entries_of}
 use Rattle.depot.specs.Turns.{room_at}
-use Rattle.depot.specs.Dying.{died_all, all_notes, IsSound, notes_in, times_in}
+use Rattle.depot.specs.Dying.{died_all, all_notes, IsSoundDeath, notes_in, times_in}
 use Rattle.depot.proofs.rejecting.perform.Given as goal
 
 -- what was done and what the other deaths will do is the whole, and there is room for it
 abbrev pub invariant-loop-death : goal.invariant-loop-death
 invariant-loop-death l = record {
   len : length l.queues ≡ length l.fn.queues;
-  sound : All (IsSound (length l.queues)) l.death-iterator.rest.items;
+  sound : All (IsSoundDeath (length l.queues)) l.death-iterator.rest.items;
   room : (k : ℕ) → times_in k l.death-iterator.rest.items ≤ room_at l.queues k;
   entries : died_all l.declared l.death-iterator.rest.items (entries_of l.queues) ≡ died_all l.declared l.fn.deaths.items (entries_of l.fn.queues);
   notes : l.notes.items ++ all_notes l.declared l.death-iterator.rest.items (entries_of l.queues) ≡ l.fn.notes.items ++ all_notes l.declared l.fn.deaths.items (entries_of l.fn.queues);

@@ -9,7 +9,7 @@ use Rattle.exchange_graph.specs.Marks.{queue_name}
 use Rattle.queue.specs.Line.{Line}
 use Rattle.depot.specs.declared.plans.Death.{Death}
 use Rattle.depot.specs.Store.{entries_of}
-use Rattle.depot.specs.Rejecting.{holder_of}
+use Rattle.depot.specs.Rejecting.{holder_of_given}
 use Rattle.depot.specs.Dying.{Plans, given_at}
 use Rattle.depot.proofs.Changes.{entries_of-at}
 use Rattle.depot.proofs.Planned.{name_there}
@@ -19,7 +19,7 @@ pub returns-clause-planned : goal.returns-clause-planned
 returns-clause-planned c =
     let g = c.args.given.now in
     let t = c.args.router.now in
-    let p = is_held_as (holder_of c.args.connection c.args.channel g) in
+    let p = is_held_as (holder_of_given c.args.connection c.args.channel g) in
     let line = c.index-queues-place.result in
     let len = c.requires.len in
     let lt = c.requires.within in

@@ -1,6 +1,6 @@
 use Rattle.std.proofs.Common.{sym, subst, Option, ℕ}
 use Rattle.model.specs.declared.events.Event.{Event}
-use Rattle.engine.specs.Reading.{IsKept}
+use Rattle.engine.specs.Reading.{IsKeptEvent}
 use Rattle.engine.proofs.Swept.{changes_swept}
 use Rattle.engine.proofs.connections.take_at.Goals as goal
 
@@ -14,7 +14,7 @@ returns c =
         old = old;
         new = new;
         changes = changes_swept c.args.links.now.items c.args.place old new c.sweep.new.links.items c.requires (sym c.index_mut.ensures.value) sent.number
-            (λ k. subst (λ (n : ℕ). IsKept n new.kept) (sym sent.number) (subst (λ (o : Option Event). IsKept old.number o) (sym sent.kept) k)) c.sweep.ensures;
+            (λ k. subst (λ (n : ℕ). IsKeptEvent n new.kept) (sym sent.number) (subst (λ (o : Option Event). IsKeptEvent old.number o) (sym sent.kept) k)) c.sweep.ensures;
         sent = sent;
       };
       topology = c.take_from.ensures.topology;

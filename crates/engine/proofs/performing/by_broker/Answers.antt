@@ -6,7 +6,7 @@ pub returns : goal.returns
 returns c = record {
   ok = record { acts = c.in_ok-step.ensures.ok; session = rw (← c.deref.ensures.value) (c.learn.ensures c.requires.runs) };
   own = broker_sends (topology_of c.args.broker.now) (broker_of c.args.broker.now) (broker_of c.step.new.self) c.args.c c.args.event.now c.in_ok-step.step.sends.items c.in_ok-step.step.notes.items
-      c.requires.asked c.requires.said c.requires.carried c.in_ok-step.ensures.ok (c.in_ok-step.ensures.own c.requires.said c.requires.carried);
+      c.requires.asked c.requires.said c.requires.carried c.in_ok-step.ensures.ok (c.in_ok-step.ensures.addressed c.requires.said c.requires.carried);
   broker_kept = tt;
   session_kept = tt;
   topology = c.step.ensures.topology;

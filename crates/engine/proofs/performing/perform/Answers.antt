@@ -1,6 +1,6 @@
 use Rattle.std.proofs.Common.{◌∙◌}
 use Rattle.broker_core.specs.State.{topology_of, broker_of}
-use Rattle.engine.specs.Performing.{Decides, rules_of}
+use Rattle.engine.specs.Performing.{DecidesByPhase, rules_of}
 use Rattle.engine.proofs.Asked.{decides_elsewhere, ok_map}
 use Rattle.engine.proofs.performing.perform.Goals as goal
 
@@ -13,7 +13,7 @@ returns-in_default c =
     let new_b = broker_of c.by_phase.new.broker in
     let new_s = c.by_phase.new.session in
     record {
-      ok = ok_map c.by_phase.result _ (λ d. Decides c.args.c s.phase r b s e d.sends.items d.notes.items new_b new_s)
+      ok = ok_map c.by_phase.result _ (λ d. DecidesByPhase c.args.c s.phase r b s e d.sends.items d.notes.items new_b new_s)
           (λ d by. decides_elsewhere c.args.c s.phase r b s e d.sends.items d.notes.items new_b new_s (λ is. c.in_default.not-Running (c.phase.ensures ∙ is)) by) c.by_phase.ensures.ok;
       own = c.by_phase.ensures.own;
       broker_kept = c.by_phase.ensures.broker_kept;

@@ -6,7 +6,7 @@ use Rattle.std.proofs.lemmas.Slice.Eq.{bytes_eq-Decides}
 use Rattle.model.specs.Words.{Text}
 use Rattle.paths.specs.declared.stands.Stand.{Stand}
 use Rattle.paths.specs.declared.stands.Stand.TheVariants.{Exchange}
-use Rattle.paths.specs.Stands.{AreNext, GoesOn, SomeGoesOn, is_queue}
+use Rattle.paths.specs.Stands.{AreNext, WalksOn, SomeGoesOn, is_queue}
 use Rattle.paths.proofs.Walks.{goes_more, goes_to_end}
 use Rattle.paths.proofs.walking.goes_on.Goals.{then-eq, else-eq}
 use Rattle.paths.proofs.walking.goes_on.Goals as goal
@@ -19,7 +19,7 @@ loop-next-preserved c =
     (subst (λ (z : Text). AreNext t c.loop-next.name.now z c.as_slice.result.now c.in_ok-stands.stands.items) c.as_bytes.ensures c.in_ok-stands.ensures) in
     rw c.as_bytes-name.ensures
     (goes_more t c.args.queue.now c.loop-next.name.now c.args.rest.now c.loop-next.next-index c.next-item.result c.loop-next.stands.items c.in_ok-stands.stands.items
-    (GoesOn t c.args.queue.now c.args.exchange.now c.args.rest.now (Exchange c.args.key.now)) (omega arith) c.next-item.is n c.loop-next.invariant)
+    (WalksOn t c.args.queue.now c.args.exchange.now c.args.rest.now (Exchange c.args.key.now)) (omega arith) c.next-item.is n c.loop-next.invariant)
 
 else_and : (v w : Bool) → v ≡ false → v ≡ (v && w)
 else_and v w e = e ∙ ap (λ (b : Bool). b && w) (sym e)
@@ -27,7 +27,7 @@ else_and v w e = e ∙ ap (λ (b : Bool). b && w) (sym e)
 pub returns : goal.returns
 returns c =
     let t = c.args.topology.now in
-    let G : Type 0 = GoesOn t c.args.queue.now c.args.exchange.now c.args.rest.now (Exchange c.args.key.now) in
+    let G : Type 0 = WalksOn t c.args.queue.now c.args.exchange.now c.args.rest.now (Exchange c.args.key.now) in
     let ss : List Stand = c.loop-next.stands.items in
     let d : Decides c.eq.result (c.loop-next.name.now ≡ c.args.queue.now) = subst (λ (b : Bool). Decides b (c.loop-next.name.now ≡ c.args.queue.now)) (sym c.eq.ensures) (bytes_eq-Decides c.loop-next.name.now c.args.queue.now) in
     let inv : SomeGoesOn t c.args.queue.now c.loop-next.name.now [] ss ↔ G =

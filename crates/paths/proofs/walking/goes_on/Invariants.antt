@@ -1,8 +1,8 @@
 use Rattle.std.proofs.Common.{drop}
 use Rattle.std.specs.Prelude.{◌↔◌}
 use Rattle.paths.specs.declared.stands.Stand.TheVariants.{Exchange}
-use Rattle.paths.specs.Stands.{GoesOn, SomeGoesOn}
+use Rattle.paths.specs.Stands.{WalksOn, SomeGoesOn}
 use Rattle.paths.proofs.walking.goes_on.Given as goal
 
 abbrev pub invariant-loop-next : goal.invariant-loop-next
-invariant-loop-next l = SomeGoesOn l.topology l.queue l.name (drop l.next-index l.rest) l.stands.items ↔ GoesOn l.topology l.queue l.exchange l.rest (Exchange l.key)
+invariant-loop-next l = SomeGoesOn l.topology l.queue l.name (drop l.next-index l.rest) l.stands.items ↔ WalksOn l.topology l.queue l.exchange l.rest (Exchange l.key)

@@ -22,5 +22,5 @@ invariant_of-self c =
     (running_still (broker_of old) (broker_of new) rings.lists rings.lists (delivery_runs (topology_of old) (broker_of old) (broker_of new) s.sends.items s.notes.items c.args.pick.connection acts) refl c.self.invariant.running))
     (λ same. subst (λ (k : Kept). IsServing k rings) (sym same) c.self.invariant)
 
-pub returns-clause-own : goal.returns-clause-own
-returns-clause-own c = rw (← c.self.view_is) c.deliver.ensures.own
+pub returns-clause-addressed : goal.returns-clause-addressed
+returns-clause-addressed c = rw (← c.self.view_is) c.deliver.ensures.addressed

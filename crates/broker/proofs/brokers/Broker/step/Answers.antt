@@ -9,8 +9,8 @@ use Rattle.broker.proofs.Outcomes.{if_some}
 use Rattle.broker.proofs.Seated.{Holds, holds, serves, serves_kept, serves_next, keeps_drowsy, woken_drowse, woken_there, up_woken, running_still, running_but}
 use Rattle.broker.proofs.brokers.Broker.step.Goals as goal
 
-pub returns-clause-own : goal.returns-clause-own
-returns-clause-own c = rw (← c.self.view_is) c.in_ok-step.ensures.own
+pub returns-clause-addressed : goal.returns-clause-addressed
+returns-clause-addressed c = rw (← c.self.view_is) c.in_ok-step.ensures.addressed
 
 -- where memory is wanting for the seat
 pub invariant_of-self : goal.invariant_of-self

@@ -61,12 +61,12 @@ returns-clause-ok c =
     delivered now (broker_of c.give_out.new.self) c.args.pick c.in-Some.consumer.now e c.next_tag-tag.result c.name_at-queue.result.now c.in_ok-step.step.sends.items c.in_ok-step.step.notes.items
     c.in-Some.ensures found own named c.in_ok-step.ensures.sends c.in_ok-step.ensures.notes c.in_ok-give_out.ensures.left
 
-pub returns-clause-own : goal.returns-clause-own
-returns-clause-own c = λ carried named.
+pub returns-clause-addressed : goal.returns-clause-addressed
+returns-clause-addressed c = λ carried named.
     let now : Kept = c.args.self.now in
     let place = c.in-Some.consumer.now.queue in
     let e : Entry = c.in-Some-first_ready.entry.now in
     let found : first_ready ((broker_of now).queue (queue_name (topology_of now) place)) ≡ Some e =
     subst (λ (k : Kept). first_ready ((broker_of k).queue (queue_name (topology_of k) place)) ≡ Some e) c.self.view_is
     (ap first_ready c.is_named.ensures.entries_are ∙ sym c.first_ready.ensures ∙ ap (option_map (λ e. e.now)) c.in-Some-first_ready.is) in
-    c.in_ok-step.ensures.own (takes_short now c.args.pick c.in-Some.consumer.now c.in-Some.ensures named) (first_carried (broker_of now) (queue_name (topology_of now) place) e carried found)
+    c.in_ok-step.ensures.addressed (takes_short now c.args.pick c.in-Some.consumer.now c.in-Some.ensures named) (first_carried (broker_of now) (queue_name (topology_of now) place) e carried found)

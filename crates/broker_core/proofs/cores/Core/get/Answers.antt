@@ -76,10 +76,10 @@ returns-clause-ok c =
     (gotten (broker_of old) (broker_of new) connection number (channel_or_new ((broker_of old).channel connection number)) asked q e c.next_tag-tag.result c.saturating_sub-remaining.result
     c.in_ok-step-in-Some.step.sends.items c.in_ok-step-in-Some.step.notes.items named found tagged count c.in_ok-step-in-Some.ensures.sends c.in_ok-step-in-Some.ensures.notes left)
 
-pub returns-clause-own : goal.returns-clause-own
-returns-clause-own c = λ carried.
+pub returns-clause-addressed : goal.returns-clause-addressed
+returns-clause-addressed c = λ carried.
     let old : Kept = record { store = c.self.inside.depot; links = c.self.inside.links } in
     let e : Entry = c.in-Some.entry.now in
     let found : first_ready ((broker_of old).queue (queue_name (topology_of old) c.args.place)) ≡ Some e = ap first_ready c.is_named.ensures.entries_are ∙ sym c.first_ready.ensures ∙ ap (option_map (λ e. e.now)) c.in-Some.is in
-    c.in_ok-step-in-Some.ensures.own (first_carried (broker_of c.args.self.now) _ e carried
+    c.in_ok-step-in-Some.ensures.addressed (first_carried (broker_of c.args.self.now) _ e carried
     (subst (λ (k : Kept). first_ready ((broker_of k).queue (queue_name (topology_of k) c.args.place)) ≡ Some e) c.self.view_is found))

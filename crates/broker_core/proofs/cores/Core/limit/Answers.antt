@@ -22,14 +22,14 @@ returns-clause-ok c =
     let new : Kept = record { store = c.self.inside.depot; links = c.limit.new.self } in
     let there = kept_one (channel_of old.links connection number) (kept_there old c.args.self.now connection number c.self.view_is c.requires) in
     let seen : open_in (names_of old) there.0 ≡ channel_or_new ((broker_of old).channel connection number) = ap (λ (o : Option Open). channel_or_new (option_map (open_in (names_of old)) o)) (sym there.1) in
-    let changed : open_in (names_of old) (opened.limited there.0 c.args.qos.now) ≡ limited (channel_or_new ((broker_of old).channel connection number)) c.args.qos.now =
+    let changed : open_in (names_of old) (opened.with_qos there.0 c.args.qos.now) ≡ limited (channel_or_new ((broker_of old).channel connection number)) c.args.qos.now =
     limited_is (names_of old) there.0 c.args.qos.now ∙ ap (λ (ch : Channel). limited ch c.args.qos.now) seen in
     rw (← c.self.view_is)
     (record {
       sent = c.in_ok-step.ensures.sends ∙ ap (λ (s : Send). s ∷ []) c.qos_ok.ensures.send;
       noted = c.in_ok-step.ensures.notes;
       left = subst (λ (ch : Channel). Is (with_channel (broker_of old) connection number (Some ch)) (broker_of new)) changed
-          (put_is old new connection number (Some (opened.limited there.0 c.args.qos.now)) refl (c.limit.ensures there.0 there.1));
+          (put_is old new connection number (Some (opened.with_qos there.0 c.args.qos.now)) refl (c.limit.ensures there.0 there.1));
     })
 
 pub invariant_of-self : goal.invariant_of-self
@@ -37,5 +37,5 @@ invariant_of-self c =
     let old : Kept = record { store = c.self.inside.depot; links = c.self.inside.links } in
     let new : Kept = record { store = c.self.inside.depot; links = c.limit.new.self } in
     let there = kept_one (channel_of old.links c.args.connection c.args.channel) (kept_there old c.args.self.now c.args.connection c.args.channel c.self.view_is c.requires) in
-    placed_put old new c.args.connection c.args.channel (Some (opened.limited there.0 c.args.qos.now)) refl (c.limit.ensures there.0 there.1)
-    (placed_at old c.args.connection c.args.channel there.0 (opened.limited there.0 c.args.qos.now) c.self.invariant there.1 (same_limited there.0 c.args.qos.now) (same_consumers_limited there.0 c.args.qos.now)) c.self.invariant
+    placed_put old new c.args.connection c.args.channel (Some (opened.with_qos there.0 c.args.qos.now)) refl (c.limit.ensures there.0 there.1)
+    (placed_at old c.args.connection c.args.channel there.0 (opened.with_qos there.0 c.args.qos.now) c.self.invariant there.1 (same_limited there.0 c.args.qos.now) (same_consumers_limited there.0 c.args.qos.now)) c.self.invariant

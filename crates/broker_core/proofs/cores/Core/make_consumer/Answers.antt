@@ -3,7 +3,7 @@ use Rattle.std.specs.Prelude.{option_map}
 use Rattle.model.specs.Broker.{Channel}
 use Rattle.model.specs.Step.{channel_or_new}
 use Rattle.channel.specs.Open.{Open, open_in}
-use Rattle.broker_core.specs.Consumed.{Makes}
+use Rattle.broker_core.specs.Consumed.{MakesConsumer}
 use Rattle.judging.specs.Judged.{IsPlaceOf}
 use Rattle.links.specs.Links.{channel_of}
 use Rattle.broker_core.specs.State.{Kept, broker_of, topology_of, names_of}
@@ -36,6 +36,6 @@ returns-clause-makes c =
     let at : IsPlaceOf (topology_of old) c.args.consume.now.queue c.args.place = subst (λ (k : Kept). IsPlaceOf (topology_of k) c.args.consume.now.queue c.args.place) (sym c.self.view_is) c.requires.at in
     let made = c.consume.ensures.seats there.0 there.1 in
     let seen : open_in (names_of old) there.0 ≡ channel_or_new ((broker_of old).channel connection number) = ap (λ (o : Option Open). channel_or_new (option_map (open_in (names_of old)) o)) (sym there.1) in
-    subst (λ (k : Kept). Makes (broker_of k) connection number (channel_or_new ((broker_of k).channel connection number)) c.args.consume.now c.consume.result (broker_of new)) c.self.view_is
-    (subst (λ (ch : Channel). Makes (broker_of old) connection number ch c.args.consume.now c.consume.result (broker_of new)) seen
+    subst (λ (k : Kept). MakesConsumer (broker_of k) connection number (channel_or_new ((broker_of k).channel connection number)) c.args.consume.now c.consume.result (broker_of new)) c.self.view_is
+    (subst (λ (ch : Channel). MakesConsumer (broker_of old) connection number ch c.args.consume.now c.consume.result (broker_of new)) seen
     (makes_is old new connection number c.args.place there.0 made.0 c.args.consume.now c.consume.result at made.1 refl made.2))

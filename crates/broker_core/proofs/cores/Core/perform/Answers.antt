@@ -35,15 +35,15 @@ returns-in-Some-Ok-clause-ok c =
     (λ s does. decides_on t b c.args.connection c.args.channel c.args.method.now c.args.content.now (left_of (channel_or_new ch) c.in-Some-Ok.act) s.sends.items s.notes.items (broker_of c.act.new.self) judged.0 judged.1 judges.0 (does c.args.method.now judges.1))
     c.act.ensures.ok
 
-pub returns-in-Some-Ok-clause-own : goal.returns-in-Some-Ok-clause-own
-returns-in-Some-Ok-clause-own c =
+pub returns-in-Some-Ok-clause-addressed : goal.returns-in-Some-Ok-clause-addressed
+returns-in-Some-Ok-clause-addressed c =
     let t = topology_of c.args.self.now in
     let b = broker_of c.args.self.now in
     let ch = b.channel c.args.connection c.args.channel in
     let judged = c.in-Some-Ok.ensures in
     let judges : Judges t b ch c.args.method.now (refusal t b judged.0 c.args.channel c.args.method.now ch) (Ok c.in-Some-Ok.act) =
     subst (λ (r : Result Act Refusal). Judges t b ch c.args.method.now (refusal t b judged.0 c.args.channel c.args.method.now ch) r) c.in-Some-Ok.field-0-is judged.2 in
-    IfOk-weaker c.act.result _ _ (λ s own said carried. own c.args.method.now judges.1 said carried) c.act.ensures.own
+    IfOk-weaker c.act.result _ _ (λ s own said carried. own c.args.method.now judges.1 said carried) c.act.ensures.addressed
 
 pub returns-in-Some-Ok-clause-ignored : goal.returns-in-Some-Ok-clause-ignored
 returns-in-Some-Ok-clause-ignored c = λ is.

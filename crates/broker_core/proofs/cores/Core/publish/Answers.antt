@@ -8,7 +8,7 @@ use Rattle.depot.specs.Store.{Store}
 use Rattle.depot.specs.Publishing.{Publishes}
 use Rattle.channel.specs.Open.{Open, open_in}
 use Rattle.links.specs.Links.{channel_of}
-use Rattle.replies.specs.Sent.{AreOwn, return_if, sent_back}
+use Rattle.replies.specs.Sent.{AreAddressed, return_if, sent_back}
 use Rattle.broker_core.specs.State.{Kept, broker_of, topology_of, names_of}
 use Rattle.broker_core.proofs.Stepping.{published_is, open_there, back_own}
 use Rattle.std.proofs.Common.{refl}
@@ -52,12 +52,12 @@ returns-clause-ok c =
     (subst (λ (x : Channel). IsPublish (topology_of old) (broker_of old) connection number x c.args.publish.now c.args.content.now c.confirm.new.self.sends.items c.confirm.new.self.notes.items (broker_of new)) same
     (rw (sends, notes) (published_is old new connection number ch c.args.publish.now c.args.content.now done.noted c.in_ok-routed.routed made (c.count_publish.ensures ch is))))
 
-pub returns-clause-own : goal.returns-clause-own
-returns-clause-own c = λ said.
+pub returns-clause-addressed : goal.returns-clause-addressed
+returns-clause-addressed c = λ said.
     let sends : c.send_back.new.self.sends.items ≡ sent_back c.in_ok-routed.routed.is_none c.in_ok-returned.returned =
     c.send_back.ensures.sends ∙ ap (λ (z : List Send). z ++ sent_back c.in_ok-routed.routed.is_none c.in_ok-returned.returned) (c.in_ok-reserve_exact.ensures.items ∙ c.nothing-step.ensures.sends) in
-    subst (AreOwn c.args.connection) (sym (c.confirm.ensures.sends ∙ ap (λ (z : List Send). z ++ confirm_sends c.args.connection c.args.channel c.next_confirm-confirm.result (answer_of c.in_ok-routed.routed.is_some_full)) sends))
-    (back_own c.args.connection c.in_ok-routed.routed.is_none c.in_ok-returned.returned (confirm_sends c.args.connection c.args.channel c.next_confirm-confirm.result (answer_of c.in_ok-routed.routed.is_some_full)) (c.in_ok-returned.ensures.own said) c.confirm.ensures.own)
+    subst (AreAddressed c.args.connection) (sym (c.confirm.ensures.sends ∙ ap (λ (z : List Send). z ++ confirm_sends c.args.connection c.args.channel c.next_confirm-confirm.result (answer_of c.in_ok-routed.routed.is_some_full)) sends))
+    (back_own c.args.connection c.in_ok-routed.routed.is_none c.in_ok-returned.returned (confirm_sends c.args.connection c.args.channel c.next_confirm-confirm.result (answer_of c.in_ok-routed.routed.is_some_full)) (c.in_ok-returned.ensures.addressed said) c.confirm.ensures.addressed)
 
 pub invariant_of-self-2 : goal.invariant_of-self-2
 invariant_of-self-2 c =

@@ -1,5 +1,5 @@
 use Rattle.std.proofs.lemmas.Result.{IfOk-weaker}
 use Rattle.broker_core.proofs.cores.Core.step.Goals as goal
 
-pub returns-in-Command-clause-own : goal.returns-in-Command-clause-own
-returns-in-Command-clause-own c = rw c.in-Command.is (IfOk-weaker c.perform.result _ _ (λ s own said carried. own said.0 carried) c.perform.ensures.own)
+pub returns-in-Command-clause-addressed : goal.returns-in-Command-clause-addressed
+returns-in-Command-clause-addressed c = rw c.in-Command.is (IfOk-weaker c.perform.result _ _ (λ s own said carried. own said.0 carried) c.perform.ensures.addressed)

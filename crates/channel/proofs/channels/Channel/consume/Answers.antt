@@ -1,7 +1,7 @@
 use Rattle.std.proofs.Common.{◌∙◌, sym, subst, Ok}
 use Rattle.std.proofs.lemmas.Result.{err_from_is_err_and}
 use Rattle.model.specs.Words.{Text}
-use Rattle.channel.specs.Deliveries.{Consumes}
+use Rattle.channel.specs.Deliveries.{AddsConsumer}
 use Rattle.channel.specs.Open.{Open, IsSeated}
 use Rattle.channel.proofs.Seating.{named_seated, named_unseated, unnamed_seats}
 use Rattle.channel.proofs.channels.Channel.consume.Goals as goal
@@ -22,8 +22,8 @@ returns-in_err-consume c =
 pub returns : goal.returns
 returns c =
     let old : Open = record { confirm = c.self.inside.confirm; is_closing = c.self.inside.is_closing; given = c.self.inside.deliveries } in
-    let made : Consumes old.given c.args.consume.now.consumer_tag c.args.queue c.args.consume.now.no_ack (Ok c.in_ok-consume.field-0) c.consume.new.self
-    = subst (λ (t : Text). Consumes old.given t c.args.queue c.args.consume.now.no_ack (Ok c.in_ok-consume.field-0) c.consume.new.self) c.in_ok-clone.ensures c.in_ok-consume.ensures in
+    let made : AddsConsumer old.given c.args.consume.now.consumer_tag c.args.queue c.args.consume.now.no_ack (Ok c.in_ok-consume.field-0) c.consume.new.self
+    = subst (λ (t : Text). AddsConsumer old.given t c.args.queue c.args.consume.now.no_ack (Ok c.in_ok-consume.field-0) c.consume.new.self) c.in_ok-clone.ensures c.in_ok-consume.ensures in
     rw (← c.self.view_is)
     (subst (λ (t : Text). IsSeated old c.args.queue c.args.consume.now t (record old { given = c.consume.new.self })) (sym c.in_ok-tag.ensures)
     (named_seated old c.consume.new.self c.args.queue c.args.consume.now c.in_ok-consume.field-0 (λ z. c.if-len-eq0.false (c.len.ensures ∙ z)) made))

@@ -3,7 +3,7 @@ use Rattle.std.specs.List.{All}
 use Rattle.model.specs.Prefetch.{is_delivery, count_to, count_given}
 use Rattle.model.specs.declared.messages.Taker.{Taker}
 use Rattle.channel.specs.Outstanding.{taker_of}
-use Rattle.channel.specs.Seats.{Seated, AreCounted, consumers_of, counts_of, counted_in}
+use Rattle.channel.specs.Seats.{Seated, SeatsAreCounted, consumers_of, counts_of, counted_in}
 use Rattle.channel.specs.declared.consumers.Consumer.{Consumer}
 use Rattle.channel.proofs.Counting.{same_consumers, new_counts, in_consumer, step_in, one_more, held_small}
 use Rattle.channel.proofs.seats.Seats.count_in.Goals as goal
@@ -17,7 +17,7 @@ returns-clause-consumers c = subst (λ (s : Seated). consumers_of c.count_in.new
 
 pub returns-clause-counted : goal.returns-clause-counted
 returns-clause-counted c given o e k =
-    let was : AreCounted (record { consumers = consumers_of c.self.inside.seats.items; held = counts_of c.self.inside.seats.items; given = c.self.inside.given; room = _ }) given = subst (λ (s : Seated). AreCounted s given) (sym c.self.view_is) k in
+    let was : SeatsAreCounted (record { consumers = consumers_of c.self.inside.seats.items; held = counts_of c.self.inside.seats.items; given = c.self.inside.given; room = _ }) given = subst (λ (s : Seated). SeatsAreCounted s given) (sym c.self.view_is) k in
     let same = ap consumers_of c.count_in.ensures.seats ∙ same_consumers (counted_in c.args.by.now) (in_consumer c.args.by.now) c.self.inside.seats.items in
     let one : c.one_if_consumed.result ≡ cond (is_delivery o.by) 1 0 = c.one_if_consumed.ensures ∙ ap (λ (t : Taker). cond (is_delivery t) 1 0) (sym e) in
     record {

@@ -1,7 +1,7 @@
 use Rattle.std.proofs.Common.{◌≡◌, refl, ◌∙◌, sym, ap, subst, arith, List, ◌+◌, map}
 use Rattle.model.specs.Prefetch.{is_delivery, count_to, count_given}
 use Rattle.channel.specs.Outstanding.{taker_of}
-use Rattle.channel.specs.Seats.{Seated, AreCounted, consumers_of, counts_of, counted_out}
+use Rattle.channel.specs.Seats.{Seated, SeatsAreCounted, consumers_of, counts_of, counted_out}
 use Rattle.channel.specs.declared.consumers.Consumer.{Consumer}
 use Rattle.channel.proofs.Counting.{same_consumers, new_counts, step_out}
 use Rattle.channel.proofs.seats.Seats.count_out.Goals as goal
@@ -12,7 +12,7 @@ returns-clause-consumers c = subst (λ (s : Seated). consumers_of c.count_out.ne
 
 pub returns-clause-counted : goal.returns-clause-counted
 returns-clause-counted c given left parts k =
-    let was : AreCounted (record { consumers = consumers_of c.self.inside.seats.items; held = counts_of c.self.inside.seats.items; given = c.self.inside.given; room = _ }) given = subst (λ (s : Seated). AreCounted s given) (sym c.self.view_is) k in
+    let was : SeatsAreCounted (record { consumers = consumers_of c.self.inside.seats.items; held = counts_of c.self.inside.seats.items; given = c.self.inside.given; room = _ }) given = subst (λ (s : Seated). SeatsAreCounted s given) (sym c.self.view_is) k in
     let same = ap consumers_of c.count_out.ensures.seats ∙ same_consumers (counted_out c.args.gone.now) (λ s. refl) c.self.inside.seats.items in
     let all = was.all in
     let p : count_given taker_of given ≡ count_given taker_of c.args.gone.now + count_given taker_of left = parts (λ x. is_delivery (taker_of x)) in

@@ -1,7 +1,7 @@
 use Rattle.std.proofs.Common.{◌≡◌, ◌∙◌, sym, ap, subst, List, map, filter, not}
 use Rattle.model.specs.Prefetch.{count_to}
 use Rattle.channel.specs.Outstanding.{taker_of}
-use Rattle.channel.specs.Seats.{Seated, AreCounted, consumers_of, counts_of, is_named, has_name}
+use Rattle.channel.specs.Seats.{Seated, SeatsAreCounted, consumers_of, counts_of, is_named, has_name}
 use Rattle.channel.specs.declared.consumers.Consumer.{Consumer}
 use Rattle.channel.specs.declared.consumers.Seat.{Seat}
 use Rattle.channel.proofs.Counting.{seats_filtered, counts_filtered}
@@ -13,7 +13,7 @@ returns-clause-consumers c = subst (λ (s : Seated). consumers_of c.take_out.new
 
 pub returns-clause-counted : goal.returns-clause-counted
 returns-clause-counted c given k =
-    let was : AreCounted (record { consumers = consumers_of c.self.inside.seats.items; held = counts_of c.self.inside.seats.items; given = c.self.inside.given; room = _ }) given = subst (λ (s : Seated). AreCounted s given) (sym c.self.view_is) k in
+    let was : SeatsAreCounted (record { consumers = consumers_of c.self.inside.seats.items; held = counts_of c.self.inside.seats.items; given = c.self.inside.given; room = _ }) given = subst (λ (s : Seated). SeatsAreCounted s given) (sym c.self.view_is) k in
     record {
       each = subst (λ (ss : List Seat). counts_of ss ≡ map (λ (x : Consumer). count_to taker_of x.number given) (consumers_of ss)) (sym c.take_out.ensures.seats) (counts_filtered (λ s. not (has_name c.args.tag.now s)) c.self.inside.seats.items given was.each);
       all = was.all;
