@@ -1,5 +1,4 @@
 pub mod Onces
-pub mod Keys
 pub mod Bits
 pub mod Readings
 pub mod Trackings

@@ -81,7 +81,7 @@ impl Depot {
     ghost use Rattle.std.specs.Str.{bytes_eq};
     ghost use Rattle.model.specs.Broker.{is_ready, queue_named};
     ghost use Rattle.model.specs.Step.{greatest};
-    ghost use Rattle.model.specs.Entries.{by_channel, by_connection, is_under, is_held_as, held_as, change_first, without_first, number_of};
+    ghost use Rattle.model.specs.Entries.{by_connection, is_under, is_held_as, held_as, change_first, without_first, number_of};
     ghost use Rattle.queue.specs.Line.{ready_count, requeued};
     ghost use Rattle.depot.specs.Store.{queue_of, queue_at, with_entries_at, with_requeued, IsWhole, IsNamed, IsNextReady};
     ghost use Rattle.depot.specs.Publishing.{Publishing};
@@ -175,15 +175,8 @@ impl Depot {
         )
     }
 
-    /// What the channel of this connection held is ready again, each message in its place and marked redelivered. It
+    /// What this connection held, on whatever channel, is ready again, each message in its place and marked redelivered. It
     /// takes no memory.
-    pub fn requeue_channel(&mut self, connection: u64, channel: u16)
-        ensures { self.new ≡ with_requeued self.old (by_channel connection channel) }
-    {
-        self.queues.requeue_channel(connection, channel);
-    }
-
-    /// What this connection held, on whatever channel, is ready again as with `requeue_channel`.
     pub fn requeue_connection(&mut self, connection: u64)
         ensures { self.new ≡ with_requeued self.old (by_connection connection) }
     {

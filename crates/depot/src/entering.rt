@@ -41,7 +41,7 @@ ghost use Rattle.depot.specs.Turns.{
 use crate::queues::Queues;
 use crate::turns::Turn;
 use model::{DeclaredQueue, Message, Note, Way};
-use queue::Indexed;
+use queue::Queue;
 use std::alloc::{AllocError, Global};
 
 /// The turns of a message at the queues at these places.
@@ -89,7 +89,7 @@ pub(crate) fn make_room(queues: &mut Queues, turns: &[Turn], more: usize) -> Res
 }
 
 /// Whether the queue at this place is full.
-fn is_full(declared: &[DeclaredQueue], queues: &[Indexed], place: usize, size: usize) -> bool
+fn is_full(declared: &[DeclaredQueue], queues: &[Queue], place: usize, size: usize) -> bool
     requires within { place < length declared.now }
     requires len { length queues.now ≡ length declared.now }
     ensures { result ≡ is_full_at declared.now (entries_of queues.now) place }

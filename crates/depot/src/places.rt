@@ -4,16 +4,16 @@ ghost use Rattle.std.specs.Prelude.{◌≡◌, ◌==◌, ◌+◌, ◌<◌, ◌�
 ghost use Rattle.model.specs.Broker.{is_ready};
 ghost use Rattle.queue.specs.Line.{ready_count, requeued};
 ghost use Rattle.model.specs.declared.messages.Mark.TheVariants.{Ready};
-ghost use Rattle.model.specs.Entries.{by_channel, by_connection, is_under, is_held_as, held_as, change_first, without_first, number_of};
+ghost use Rattle.model.specs.Entries.{by_connection, is_under, is_held_as, held_as, change_first, without_first, number_of};
 ghost use Rattle.depot.specs.Store.{entries_of};
 ghost use Rattle.depot.specs.Turns.{room_at};
 
 use model::{Entry, Holder, Message};
-use queue::Indexed;
+use queue::Queue;
 use std::alloc::AllocError;
 
 /// The queue at this place.
-pub(crate) fn queue_at(queues: &[Indexed], place: usize) -> &Indexed
+pub(crate) fn queue_at(queues: &[Queue], place: usize) -> &Queue
     requires { place < length queues.now }
     ensures { result.now.entries ≡ slice_index_or (entries_of queues.now) place [] }
 {
@@ -21,11 +21,7 @@ pub(crate) fn queue_at(queues: &[Indexed], place: usize) -> &Indexed
 }
 
 /// Makes room for so many messages.
-pub(crate) fn reserve_at(
-    queues: &mut [Indexed],
-    place: usize,
-    more: usize,
-) -> Result<(), AllocError>
+pub(crate) fn reserve_at(queues: &mut [Queue], place: usize, more: usize) -> Result<(), AllocError>
     requires { place < length queues.old }
     ensures same { entries_of queues.new ≡ entries_of queues.old }
     ensures kept { (k : ℕ) → room_at queues.old k ≤ room_at queues.new k }
@@ -35,7 +31,7 @@ pub(crate) fn reserve_at(
 }
 
 /// The message comes to the end. There is room for it.
-pub(crate) fn push_at(queues: &mut [Indexed], place: usize, message: Message)
+pub(crate) fn push_at(queues: &mut [Queue], place: usize, message: Message)
     requires within { place < length queues.old }
     requires room { 0 < room_at queues.old place }
     ensures entries { entries_of queues.new ≡ slice_set (entries_of queues.old) place (slice_index_or (entries_of queues.old) place [] ++ record { message = message; mark = Ready } ∷ []) }
@@ -45,7 +41,7 @@ pub(crate) fn push_at(queues: &mut [Indexed], place: usize, message: Message)
 }
 
 /// Gives the first ready message out, if there is one. Tells the number of its arrival. Nothing is held under this tag yet.
-pub(crate) fn hold_at(queues: &mut [Indexed], place: usize, holder: Holder) -> Option<u64>
+pub(crate) fn hold_at(queues: &mut [Queue], place: usize, holder: Holder) -> Option<u64>
     requires within { place < length queues.old }
     requires unused { find (is_held_as holder) (slice_index_or (entries_of queues.old) place []) ≡ None }
     ensures told { is_some result ≡ is_some (find is_ready (slice_index_or (entries_of queues.old) place [])) }
@@ -55,7 +51,7 @@ pub(crate) fn hold_at(queues: &mut [Indexed], place: usize, holder: Holder) -> O
 }
 
 /// Takes the first ready message out, if there is one.
-pub(crate) fn take_first_at(queues: &mut [Indexed], place: usize) -> Option<Entry>
+pub(crate) fn take_first_at(queues: &mut [Queue], place: usize) -> Option<Entry>
     requires { place < length queues.old }
     ensures taken { result ≡ find is_ready (slice_index_or (entries_of queues.old) place []) }
     ensures entries { entries_of queues.new ≡ slice_set (entries_of queues.old) place (without_first is_ready (slice_index_or (entries_of queues.old) place [])) }
@@ -64,12 +60,7 @@ pub(crate) fn take_first_at(queues: &mut [Indexed], place: usize) -> Option<Entr
 }
 
 /// Makes the message ready again that is held under this tag. Tells whether there is one.
-pub(crate) fn release_at(
-    queues: &mut [Indexed],
-    place: usize,
-    holder: &Holder,
-    arrival: u64,
-) -> bool
+pub(crate) fn release_at(queues: &mut [Queue], place: usize, holder: &Holder, arrival: u64) -> bool
     requires { place < length queues.old }
     ensures told { result ≡ is_some (find (is_held_as holder.now) (slice_index_or (entries_of queues.old) place [])) }
     ensures entries { entries_of queues.new ≡ slice_set (entries_of queues.old) place (requeued (is_under holder.now) (slice_index_or (entries_of queues.old) place [])) }
@@ -79,7 +70,7 @@ pub(crate) fn release_at(
 
 /// Takes the message out that is held under this tag, if there is one.
 pub(crate) fn remove_at(
-    queues: &mut [Indexed],
+    queues: &mut [Queue],
     place: usize,
     holder: &Holder,
     arrival: u64,
@@ -93,7 +84,7 @@ pub(crate) fn remove_at(
 }
 
 /// Takes the ready messages out, and appends their publish numbers. There is room for them.
-pub(crate) fn purge_at(queues: &mut [Indexed], place: usize, numbers: &mut Vec<u64>)
+pub(crate) fn purge_at(queues: &mut [Queue], place: usize, numbers: &mut Vec<u64>)
     requires within { place < length queues.old }
     requires room { vec_len numbers.old + ready_count (slice_index_or (entries_of queues.old) place []) ≤ vec_capacity numbers.old }
     ensures numbers { numbers.new.items ≡ numbers.old.items ++ map number_of (filter is_ready (slice_index_or (entries_of queues.old) place [])) }
@@ -103,21 +94,8 @@ pub(crate) fn purge_at(queues: &mut [Indexed], place: usize, numbers: &mut Vec<u
     queues[place].purge(numbers);
 }
 
-/// What the channel of this connection held is ready again.
-pub(crate) fn requeue_channel_at(
-    queues: &mut [Indexed],
-    place: usize,
-    connection: u64,
-    channel: u16,
-)
-    requires { place < length queues.old }
-    ensures { entries_of queues.new ≡ slice_set (entries_of queues.old) place (requeued (by_channel connection channel) (slice_index_or (entries_of queues.old) place [])) }
-{
-    queues[place].requeue_channel(connection, channel);
-}
-
 /// What this connection held is ready again.
-pub(crate) fn requeue_connection_at(queues: &mut [Indexed], place: usize, connection: u64)
+pub(crate) fn requeue_connection_at(queues: &mut [Queue], place: usize, connection: u64)
     requires { place < length queues.old }
     ensures { entries_of queues.new ≡ slice_set (entries_of queues.old) place (requeued (by_connection connection) (slice_index_or (entries_of queues.old) place [])) }
 {

@@ -4,10 +4,10 @@ ghost use Rattle.std.specs.Prelude.{◌≡◌, [], replicate, IfOk};
 ghost use Rattle.depot.specs.Store.{entries_of};
 
 use crate::places::{hold_at, purge_at, push_at, release_at, remove_at, reserve_at, take_first_at};
-use crate::requeueing::{requeue_channel_in, requeue_connection_in};
+use crate::requeueing::requeue_connection_in;
 use crate::signs::Signs;
 use model::{Entry, Holder, Message};
-use queue::Indexed;
+use queue::Queue;
 use std::alloc::{AllocError, Global};
 use std::marker::Model;
 
@@ -15,7 +15,7 @@ use std::marker::Model;
 /// whether one is held, so that the next such queue is found without a scan.
 #[derive(Drop)]
 pub(crate) struct Queues {
-    queues: Vec<Indexed>,
+    queues: Vec<Queue>,
     signs: Signs,
 }
 
@@ -33,12 +33,12 @@ impl Model for Queues {
 }
 
 /// So many queues with no message.
-fn empty_queues(alloc: Global, count: usize) -> Result<Vec<Indexed>, AllocError>
+fn empty_queues(alloc: Global, count: usize) -> Result<Vec<Queue>, AllocError>
     ensures { IfOk result (λ queues. entries_of queues.items ≡ replicate count []) }
 {
     let mut queues = Vec::new(alloc);
     for _ in 0..count {
-        queues.push(Indexed::new(alloc))?;
+        queues.push(Queue::new(alloc))?;
     }
     Ok(queues)
 }
@@ -75,7 +75,7 @@ impl Queues {
     };
     ghost use Rattle.model.specs.Broker.{is_ready};
     ghost use Rattle.model.specs.declared.messages.Mark.TheVariants.{Ready};
-    ghost use Rattle.model.specs.Entries.{by_channel, by_connection, is_under, is_held_as, held_as, change_first, without_first, number_of};
+    ghost use Rattle.model.specs.Entries.{by_connection, is_under, is_held_as, held_as, change_first, without_first, number_of};
     ghost use Rattle.marks.specs.Places.{IsNext};
     ghost use Rattle.queue.specs.Line.{ready_count, requeued};
     ghost use Rattle.depot.specs.Store.{entries_of};
@@ -92,7 +92,7 @@ impl Queues {
     }
 
     /// The queues themselves.
-    pub(crate) fn as_slice(&self) -> &[Indexed]
+    pub(crate) fn as_slice(&self) -> &[Queue]
         ensures { result.now ≡ self.now }
     {
         &self.queues
@@ -191,14 +191,6 @@ impl Queues {
     {
         purge_at(&mut self.queues, place, numbers);
         self.signs.sign(&self.queues, place);
-    }
-
-    /// What the channel of this connection held is ready again, in each queue.
-    pub(crate) fn requeue_channel(&mut self, connection: u64, channel: u16)
-        ensures entries { entries_of self.new ≡ map (requeued (by_channel connection channel)) (entries_of self.old) }
-        ensures len { length self.new ≡ length self.old }
-    {
-        requeue_channel_in(&mut self.queues, &mut self.signs, connection, channel);
     }
 
     /// What this connection held is ready again, in each queue.

@@ -16,7 +16,7 @@ use crate::turns::Turn;
 use deaths::marked;
 use kept_routes::Router;
 use model::{Cause, DeclaredQueue, Holder, Message, Note, Text, Way};
-use queue::Indexed;
+use queue::Queue;
 use std::alloc::{AllocError, Global};
 
 /// The key under which a message of this key dies, where its queue may fix one.
@@ -57,7 +57,7 @@ fn letters(
 fn plan_one(
     alloc: Global,
     router: &mut Router,
-    queues: &[Indexed],
+    queues: &[Queue],
     connection: u64,
     channel: u16,
     given: &Given,
@@ -98,7 +98,7 @@ fn plan_one(
 fn plan(
     alloc: Global,
     router: &mut Router,
-    queues: &[Indexed],
+    queues: &[Queue],
     connection: u64,
     channel: u16,
     gone: &[Given],

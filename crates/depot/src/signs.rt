@@ -5,7 +5,7 @@ ghost use Rattle.marks.specs.Places.{bit_of, Differs};
 ghost use Rattle.depot.specs.Signs.{ready_bit, held_bit};
 
 use marks::{Flat, Over, Places};
-use queue::Indexed;
+use queue::Queue;
 use std::alloc::{AllocError, Global};
 use std::marker::Model;
 
@@ -28,14 +28,14 @@ impl Model for Signs {
 }
 
 /// Whether a message of the queue can be given out.
-fn has_ready(queue: &Indexed) -> bool
+fn has_ready(queue: &Queue) -> bool
     ensures { cond result 1 0 ≡ ready_bit queue.now.entries }
 {
     queue.ready() != 0
 }
 
 /// Whether a message of the queue is held.
-fn has_held(queue: &Indexed) -> bool
+fn has_held(queue: &Queue) -> bool
     ensures { cond result 1 0 ≡ held_bit queue.now.entries }
 {
     queue.ready() != queue.len()
@@ -81,7 +81,7 @@ impl Signs {
     }
 
     /// Sets the bits of this place as its queue is now, which alone has changed. It takes no memory.
-    pub(crate) fn sign(&mut self, queues: &[Indexed], place: usize)
+    pub(crate) fn sign(&mut self, queues: &[Queue], place: usize)
         requires within { place < length queues.now }
         requires ready { length queues.now ≤ length self.old.ready * 64 }
         requires held { length queues.now ≤ length self.old.held * 64 }

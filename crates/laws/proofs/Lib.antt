@@ -37,3 +37,4 @@ pub mod Whole
 pub mod Rows
 pub mod Disagreeing
 pub mod Deaths
+pub mod Forms

@@ -12,3 +12,4 @@ pub mod Carrying
 pub mod Tracing
 pub mod Consumers
 pub mod Order
+pub mod Forms

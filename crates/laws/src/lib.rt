@@ -13,6 +13,7 @@ ghost use Rattle.laws.specs.Consistency.{PlaysStayConsistent, WorldsStayConsiste
 ghost use Rattle.laws.specs.Deaths.{DeathsRefuse, WorkedDeaths};
 ghost use Rattle.laws.specs.Delivery.{OneReading, HeadlineHolds, PumpsKeep, TurnsKeep};
 ghost use Rattle.laws.specs.OneStep.{EveryRunBalances, EveryRunCounts, EveryRunStays};
+ghost use Rattle.laws.specs.Forms.{BodiesAreCut, FirstTells, MessagesCome};
 ghost use Rattle.laws.specs.Openings.{OpeningsReadByPhase};
 ghost use Rattle.laws.specs.Order.{GivenAfterThoseAhead, GivenInOrder, HeldAreGiven};
 ghost use Rattle.laws.specs.Promises.{AckedEnterOnce, AcksAreAcked, CausesAreShown, ForbiddenAreNotEntered, ForbiddenAreNotEnteredAtEvents, OriginsAreShown, RunsKeepEvents};
@@ -179,6 +180,21 @@ pub fn messages_are_given_in_order()
     ensures in_order { GivenInOrder }
     ensures ahead { GivenAfterThoseAhead }
     ensures held { HeldAreGiven }
+{}
+
+/// To a queue comes a message, ready, as often as the queue is among those that it goes to, and not at all where it is full.
+pub fn messages_come_as_routed()
+    ensures { MessagesCome }
+{}
+
+/// The pieces of a body are its bytes; each has a byte, and each but the last is as long as a frame allows.
+pub fn bodies_are_cut()
+    ensures { BodiesAreCut }
+{}
+
+/// The first close or close-ok that was sent tells the phase of its connection, and without one it runs.
+pub fn first_close_tells()
+    ensures { FirstTells }
 {}
 
 /// A client reads an output in one way.

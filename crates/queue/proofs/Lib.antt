@@ -1,4 +1,3 @@
-pub mod Freed
 pub mod Places
 pub mod Slotted
 pub mod Requeued

@@ -1,7 +1,7 @@
 -- A queue as a list of entries in arrival order.
 use Rattle.std.specs.Prelude.{ℕ, List, [], ◌∷◌, length, filter, map, Bool, true, false, ◌==◌, ◌&&◌, if◌then◌else◌, Option, Some, None}
 use Rattle.model.specs.Broker.{is_ready}
-use Rattle.model.specs.Entries.{freed, by_channel, by_connection}
+use Rattle.model.specs.Entries.{freed}
 use Rattle.model.specs.declared.messages.Entry.{Entry}
 use Rattle.model.specs.declared.messages.Holder.{Holder}
 use Rattle.model.specs.declared.messages.Mark.TheVariants.{Ready, Held}
@@ -14,11 +14,6 @@ pub record Line : Type 0 where
 -- how many of these entries are ready
 abbrev pub ready_count : List Entry → ℕ
 ready_count entries = length (filter is_ready entries)
-
--- given out on this channel, or without one anywhere on this connection
-abbrev pub held_on : ℕ → Option ℕ → Holder → Bool
-held_on c None = by_connection c
-held_on c (Some h) = by_channel c h
 
 -- the entries with all that these held ready again in its place (AMQP 0-9-1, channel.close; own: exactly its place)
 abbrev pub requeued : (Holder → Bool) → List Entry → List Entry

@@ -2,9 +2,8 @@
 
 ghost use Rattle.std.specs.Prelude.{◌≡◌, ◌+◌, ◌<◌, ◌≤◌, ◌++◌, ◌∷◌, [], ℕ, false, true, length, map, get_or, vec_len, vec_capacity, slice_set, option_map, IfSome, IfNone, Some, None};
 ghost use Rattle.model.specs.Broker.{is_ready};
-ghost use Rattle.model.specs.Entries.{freed, is_held_as, is_held_by, held_as, freed_now};
+ghost use Rattle.model.specs.Entries.{by_connection, freed, is_held_as, is_held_by, held_as, freed_now};
 ghost use Rattle.marks.specs.Places.{bit_of};
-ghost use Rattle.queue.specs.Line.{held_on};
 ghost use Rattle.queue.specs.Slots.{contents, somes, has, changed, num, tally, is_held, AreSigned, Turned};
 
 use crate::entries::{free, is_free, is_held_on, is_held_under};
@@ -56,12 +55,12 @@ fn is_held_at(slots: &[Slot], place: usize, holder: &Holder) -> bool
     }
 }
 
-/// Whether an entry stands at this place that is held on this channel, or without one on this connection.
-fn is_on_at(slots: &[Slot], place: usize, connection: u64, channel: Option<u16>) -> bool
-    ensures { result ≡ has (is_held_by (held_on connection channel)) (get_or (contents slots.now) place None) }
+/// Whether an entry stands at this place that is held on this connection.
+fn is_on_at(slots: &[Slot], place: usize, connection: u64) -> bool
+    ensures { result ≡ has (is_held_by (by_connection connection)) (get_or (contents slots.now) place None) }
 {
     match entry_at(slots, place) {
-        Some(entry) => is_held_on(entry, connection, channel),
+        Some(entry) => is_held_on(entry, connection),
         None => false,
     }
 }
@@ -217,23 +216,17 @@ pub(crate) fn close_gaps(slots: &mut Vec<Slot>, signs: &mut Signs, live: usize)
 }
 
 /// Makes what stands at this place ready again, if it is held there. Tells whether it is.
-fn free_on(
-    slots: &mut Vec<Slot>,
-    signs: &mut Signs,
-    place: usize,
-    connection: u64,
-    channel: Option<u16>,
-) -> bool
+fn free_on(slots: &mut Vec<Slot>, signs: &mut Signs, place: usize, connection: u64) -> bool
     requires within { vec_len slots.old ≤ signs.old.places }
     requires signed { AreSigned (contents slots.old.items) signs.old }
-    ensures contents { contents slots.new.items ≡ slice_set (contents slots.old.items) place (changed (freed (held_on connection channel)) (get_or (contents slots.old.items) place None)) }
+    ensures contents { contents slots.new.items ≡ slice_set (contents slots.old.items) place (changed (freed (by_connection connection)) (get_or (contents slots.old.items) place None)) }
     ensures ready { tally is_ready (somes (contents slots.new.items)) ≡ tally is_ready (somes (contents slots.old.items)) + num result }
     ensures signed { AreSigned (contents slots.new.items) signs.new }
     ensures places { signs.new.places ≡ signs.old.places }
     ensures len { vec_len slots.new ≡ vec_len slots.old }
     ensures capacity { vec_capacity slots.new ≡ vec_capacity slots.old }
 {
-    if !is_on_at(slots, place, connection, channel) {
+    if !is_on_at(slots, place, connection) {
         return false;
     }
     free_at(slots, place);
@@ -241,17 +234,12 @@ fn free_on(
     true
 }
 
-/// Makes all ready again that is held on this channel, or without one on this connection. Tells how many there are. It
+/// Makes all ready again that is held on this connection. Tells how many there are. It
 /// takes time for each entry that is held by anyone, and none for those that are ready.
-pub(crate) fn requeue_in(
-    slots: &mut Vec<Slot>,
-    signs: &mut Signs,
-    connection: u64,
-    channel: Option<u16>,
-) -> usize
+pub(crate) fn requeue_in(slots: &mut Vec<Slot>, signs: &mut Signs, connection: u64) -> usize
     requires within { vec_len slots.old ≤ signs.old.places }
     requires signed { AreSigned (contents slots.old.items) signs.old }
-    ensures contents { contents slots.new.items ≡ map (changed (freed (held_on connection channel))) (contents slots.old.items) }
+    ensures contents { contents slots.new.items ≡ map (changed (freed (by_connection connection))) (contents slots.old.items) }
     ensures ready { tally is_ready (somes (contents slots.new.items)) ≡ tally is_ready (somes (contents slots.old.items)) + result }
     ensures signed { AreSigned (contents slots.new.items) signs.new }
     ensures places { signs.new.places ≡ signs.old.places }
@@ -261,7 +249,7 @@ pub(crate) fn requeue_in(
     let mut count = 0;
     let mut from = 0;
     while let Some(place) = signs.next_held(from) {
-        if free_on(slots, signs, place, connection, channel) {
+        if free_on(slots, signs, place, connection) {
             count += 1;
         }
         from = place + 1;

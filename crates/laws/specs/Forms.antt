@@ -1,0 +1,71 @@
+-- Functions that the definitions give step by step, said of the whole.
+use Rattle.std.specs.Prelude.{◌≡◌, ◌<◌, ◌≤◌, ◌+◌, ℕ, List, Bool, true, false, Option, Some, None, length, map, filter, find, flat_map, not, ◌&&◌, slice_get}
+use Rattle.std.specs.Str.{bytes_eq}
+use Rattle.model.specs.Words.{Text}
+use Rattle.model.specs.Topology.{Topology}
+use Rattle.model.specs.Broker.{is_full}
+use Rattle.model.specs.Entering.{comes_to}
+use Rattle.model.specs.Message.{Message}
+use Rattle.model.specs.Phases.{after_sends}
+use Rattle.model.specs.Spelling.{pieces_of}
+use Rattle.model.specs.declared.messages.Entry.{Entry}
+use Rattle.model.specs.declared.messages.Mark.TheVariants.{Ready}
+use Rattle.model.specs.declared.events.Phase.{Phase}
+use Rattle.model.specs.declared.events.Phase.TheVariants as phase
+use Rattle.model.specs.declared.events.Send.{Send}
+use Rattle.model.specs.declared.events.Send.TheVariants.{Greeting, Command}
+use Rattle.model.specs.declared.methods.Method.{Method}
+use Rattle.model.specs.declared.methods.Method.TheVariants.{ConnectionClose, ConnectionCloseOk}
+
+-- ---- what comes to a queue
+
+-- the queue r is q, and takes a body of this size
+abbrev pub takes_there : Topology → (Text → List Entry) → ℕ → Text → Text → Bool
+takes_there t entries size q r = bytes_eq r q && not (is_full t entries r size)
+
+-- To a queue comes the message, ready, as often as the queue is among those it goes to, and not at all where the queue is full.
+abbrev pub MessagesCome : Type 0
+MessagesCome = (t : Topology) (entries : Text → List Entry) (m : Message) (q : Text) (targets : List Text)
+    → comes_to t entries m q targets ≡ map (λ r. record { message = m; mark = Ready }) (filter (takes_there t entries (length m.content.body) q) targets)
+
+-- ---- the pieces of a body
+
+-- The pieces are the bytes, one piece after another; each has a byte and at most `size`, and each before the last has `size`.
+pub record ArePieces (size : ℕ) (bytes : List ℕ) (pieces : List (List ℕ)) : Type 0 where
+  pub whole : flat_map (λ p. p) pieces ≡ bytes
+  pub some : (i : ℕ) (p : List ℕ) → slice_get pieces i ≡ Some p → 1 ≤ length p
+  pub most : (i : ℕ) (p : List ℕ) → slice_get pieces i ≡ Some p → length p ≤ size
+  pub full : (i : ℕ) (p : List ℕ) → slice_get pieces i ≡ Some p → i + 1 < length pieces → length p ≡ size
+
+-- A body is cut into such pieces.
+abbrev pub BodiesAreCut : Type 0
+BodiesAreCut = (size : ℕ) (bytes : List ℕ) → 1 ≤ size → ArePieces size bytes (pieces_of size (length bytes) bytes)
+
+-- ---- the phase after what was sent
+
+-- a method after which the phase is another
+abbrev pub is_telling : Method → Bool
+is_telling (ConnectionClose m) = true
+is_telling ConnectionCloseOk = true
+is_telling m = false
+
+-- it carries one
+abbrev pub tells_phase : Send → Bool
+tells_phase (Greeting c) = false
+tells_phase (Command c h m content) = is_telling m
+
+-- the phase that a method tells: a close awaits close-ok, a close-ok ends the connection
+abbrev pub told_by : Method → Phase
+told_by (ConnectionClose m) = phase.Closing
+told_by ConnectionCloseOk = phase.Over
+told_by m = phase.Running
+
+-- the phase that the first such send tells, and Running where there is none
+abbrev pub phase_told : Option Send → Phase
+phase_told (Some (Command c h m content)) = told_by m
+phase_told (Some (Greeting c)) = phase.Running
+phase_told None = phase.Running
+
+-- The first close or close-ok among what was sent tells the phase, and without one it is Running.
+abbrev pub FirstTells : Type 0
+FirstTells = (sends : List Send) → after_sends sends ≡ phase_told (find tells_phase sends)

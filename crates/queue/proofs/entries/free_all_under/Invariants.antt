@@ -1,7 +1,0 @@
-use Rattle.std.proofs.Common.{◌≡◌, ◌++◌, map, take, drop}
-use Rattle.model.specs.Entries.{freed, is_under}
-use Rattle.queue.proofs.entries.free_all_under.Given as goal
-
--- those before the index are done
-abbrev pub invariant-loop-entry : goal.invariant-loop-entry
-invariant-loop-entry l = l.entries ≡ map (freed (is_under l.holder)) (take l.entry-index l.fn.entries) ++ drop l.entry-index l.fn.entries
