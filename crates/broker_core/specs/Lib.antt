@@ -3,3 +3,4 @@ pub mod Consumed
 pub mod Picked
 pub mod Seats
 pub mod Freed
+pub mod Steps

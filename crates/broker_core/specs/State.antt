@@ -2,7 +2,8 @@
 use Rattle.std.specs.Prelude.{◌≡◌, ℕ, List, [], None, Some}
 use Rattle.model.specs.Words.{Text}
 use Rattle.model.specs.Topology.{Topology, queue_names}
-use Rattle.model.specs.Broker.{Broker, listed}
+use Rattle.model.specs.Broker.{Broker, Channel, listed}
+use Rattle.model.specs.Step.{channel_or_new}
 use Rattle.depot.specs.Store.{Store}
 use Rattle.channel.specs.Open.{Open}
 use Rattle.links.specs.Links.{Linked, connection_of, channel_of, seen_in}
@@ -29,6 +30,10 @@ broker_of kept = record {
   connection = connection_of kept.links;
   channel = seen_in (names_of kept) kept.links;
 }
+
+-- the channel of these numbers, as a command finds it
+abbrev pub channel_on : Kept → ℕ → ℕ → Channel
+channel_on kept c h = channel_or_new ((broker_of kept).channel c h)
 
 -- the state of a broker that nothing was asked of yet
 abbrev pub nothing : Broker

@@ -58,9 +58,10 @@ impl Core {
     ghost use Rattle.model.specs.Arrivals.{IsSaid};
     ghost use Rattle.model.specs.Sending.{AreCarried};
     ghost use Rattle.model.specs.Grammar.{IsMethod};
-    ghost use Rattle.model.specs.Step.{Acts, Is, OnConnection, OnLarge, Decides, channel_or_new};
+    ghost use Rattle.model.specs.Step.{Acts, Is, OnConnection, OnLarge};
     ghost use Rattle.model.specs.declared.methods.Method.{Method as Seen};
-    ghost use Rattle.broker_core.specs.State.{broker_of, topology_of, nothing};
+    ghost use Rattle.broker_core.specs.State.{broker_of, channel_on, topology_of, nothing};
+    ghost use Rattle.broker_core.specs.Steps.{DecidesOn};
     ghost use Rattle.judging.specs.Judged.{requeues, left_of, IsAsked, IsRequeued, IsIgnored, IsLargeIgnored, WantsNoMemory, JudgesOn, JudgesLarge, Asks, CanAct};
     ghost use Rattle.replies.specs.Sent.{AreAddressed, connection_of_event};
 
@@ -112,7 +113,7 @@ impl Core {
         requires agreed { IsAgreed (broker_of self.old) }
         requires runs { IsSome ((broker_of self.old).connection connection) }
         requires can { CanAct (topology_of self.old) (broker_of self.old) ((broker_of self.old).channel connection channel) act }
-        ensures ok { IfOk result (λ s. (m : Seen) → Asks (topology_of self.old) (broker_of self.old) ((broker_of self.old).channel connection channel) m act.entry → Decides (topology_of self.old) (broker_of self.old) connection channel m content.now (left_of (channel_or_new ((broker_of self.old).channel connection channel)) act.entry) s.sends.items s.notes.items (broker_of self.new)) }
+        ensures ok { IfOk result (λ s. (m : Seen) → Asks (topology_of self.old) (broker_of self.old) ((broker_of self.old).channel connection channel) m act.entry → DecidesOn self.old connection channel m content.now (left_of (channel_on self.old connection channel) act.entry) s.sends.items s.notes.items self.new) }
         ensures addressed { IfOk result (λ s. (m : Seen) → Asks (topology_of self.old) (broker_of self.old) ((broker_of self.old).channel connection channel) m act.entry → IsMethod m → AreCarried (broker_of self.old) → AreAddressed connection s.sends.items) }
         ensures topology { topology_of self.new ≡ topology_of self.old }
         ensures err { OnErr result (self.new ≡ self.old) }

@@ -5,22 +5,9 @@ use Rattle.std.specs.List.{list_any}
 use Rattle.std.proofs.lemmas.Bool.{false≢true}
 use Rattle.model.specs.Topology.{IsIn}
 use Rattle.model.specs.Tracking.{once_more, each_once}
+use Rattle.laws.proofs.Counts.{in_front, in_back, in-append}
 
 -- ---- members of lists
-
-pub in_front : {A : Type 0} (x : A) (xs ys : List A) → IsIn x xs → IsIn x (xs ++ ys)
-in_front x [] ys i = absurd i
-in_front x (z ∷ xs) ys (inl e) = inl e
-in_front x (z ∷ xs) ys (inr i) = inr (in_front x xs ys i)
-
-pub in_back : {A : Type 0} (x : A) (xs ys : List A) → IsIn x ys → IsIn x (xs ++ ys)
-in_back x [] ys i = i
-in_back x (z ∷ xs) ys i = inr (in_back x xs ys i)
-
-pub in_either : {A : Type 0} (x : A) (xs ys : List A) → IsIn x (xs ++ ys) → IsIn x xs ⊎ IsIn x ys
-in_either x [] ys i = inr i
-in_either x (z ∷ xs) ys (inl e) = inl (inl e)
-in_either x (z ∷ xs) ys (inr i) = elim (in_either x xs ys i) [ inl j ↦ inl (inr j) | inr j ↦ inr j ]
 
 pub in_flat_map : {A B : Type 0} (f : A → List B) (y : B) (x : A) (xs : List A) → IsIn x xs → IsIn y (f x) → IsIn y (flat_map f xs)
 in_flat_map f y x [] i j = absurd i
@@ -63,7 +50,7 @@ module _ {A : Type 0} (same : A → A → Bool) (tells : (x y : A) → Decides (
   more_from : (xs : List A) (x y : A) → IsIn y (once_more same xs x) → IsIn y xs ⊎ (y ≡ x)
   more_from xs x y = elim (list_any (same x) xs) as (λ b. IsIn y (cond b xs (xs ++ x ∷ [])) → IsIn y xs ⊎ (y ≡ x)) [
     | true ↦ λ i. inl i
-    | false ↦ λ i. elim (in_either y xs (x ∷ []) i) [ inl j ↦ inl j | inr j ↦ elim j [ inl e ↦ inr e | inr n ↦ absurd n ] ]
+    | false ↦ λ i. elim (in-append y xs (x ∷ []) i) [ inl j ↦ inl j | inr j ↦ elim j [ inl e ↦ inr e | inr n ↦ absurd n ] ]
   ]
 
   kept_on : (xs acc : List A) (y : A) → IsIn y acc → IsIn y (fold (once_more same) acc xs)
@@ -95,7 +82,7 @@ module _ {A : Type 0} (same : A → A → Bool) (tells : (x y : A) → Decides (
 
   apart_push : (xs : List A) (x : A) → Apart xs → (IsIn x xs → ⊥) → Apart (xs ++ x ∷ [])
   apart_push [] x a n = (λ i. i, tt)
-  apart_push (y ∷ ys) x a n = (λ i. elim (in_either y ys (x ∷ []) i) [ inl j ↦ a.0 j | inr j ↦ elim j [ inl e ↦ n (inl (sym e)) | inr k ↦ k ] ], apart_push ys x a.1 (λ i. n (inr i)))
+  apart_push (y ∷ ys) x a n = (λ i. elim (in-append y ys (x ∷ []) i) [ inl j ↦ a.0 j | inr j ↦ elim j [ inl e ↦ n (inl (sym e)) | inr k ↦ k ] ], apart_push ys x a.1 (λ i. n (inr i)))
 
   more_apart : (xs : List A) (x : A) → Apart xs → Apart (once_more same xs x)
   more_apart xs x a = go (list_any (same x) xs) (in_any same tells x xs)

@@ -33,10 +33,10 @@ use Rattle.model.specs.declared.methods.Method.{Method}
 use Rattle.model.specs.declared.methods.Method.TheVariants.{ConnectionClose, ChannelOpen, ChannelFlow, ChannelClose, ChannelCloseOk, ExchangeDeclare, QueueDeclare, QueuePurge, BasicQos, BasicPublish, BasicGet, BasicAck, BasicReject, BasicNack, BasicRecover, ConfirmSelect, BasicConsume, BasicCancel}
 use Rattle.model.specs.declared.notes.Note.{Note}
 use Rattle.laws.specs.Agreeing.{BrokersStayAgreed}
-use Rattle.laws.proofs.Counts.{count-append, count-cons, in-append, all_in, all-append, all_each}
+use Rattle.laws.proofs.Counts.{count-append, count-cons, in-append, in_front, all_in, all-append, all_each}
 use Rattle.model.specs.declared.messages.Mark.{Mark}
 use Rattle.laws.proofs.Agreement.{Passes, number, HeldIn, Shrinks, shrinks_same, shrinks_freed, shrinks_without, shrinks_filter, left_shrinks, returned_shrinks, left_clear, returned_clear, in_freed, held_here, counted_in, find_counted, ready_not_held, same_holder, shrinks_on, AreApart, IsClear, clear_on, apart_on, count_own, at_own}
-use Rattle.laws.proofs.Given.{Keeps, Any, IsOther, keeps_same, keeps_on, keeps_arrivals, keeps_freed, keeps_purged, keeps_given, left_keeps, rejected_keeps, returned_keeps, first_is_held, in_front, in_passing}
+use Rattle.laws.proofs.Given.{Keeps, Any, IsOther, keeps_same, keeps_on, keeps_arrivals, keeps_freed, keeps_purged, keeps_given, left_keeps, rejected_keeps, returned_keeps, first_is_held, in_passing}
 use Rattle.laws.proofs.Dying.{Goes, not_found, left_only, died, goes_by}
 use Rattle.laws.proofs.Leaving.{at_queue}
 

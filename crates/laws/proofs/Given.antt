@@ -14,7 +14,7 @@ use Rattle.model.specs.declared.messages.Mark.{Mark}
 use Rattle.model.specs.declared.messages.Mark.TheVariants.{Ready, Held}
 use Rattle.model.specs.declared.notes.Cause.{Cause}
 use Rattle.model.specs.declared.notes.Note.{Note}
-use Rattle.laws.proofs.Counts.{in-map}
+use Rattle.laws.proofs.Counts.{in-map, in_front}
 use Rattle.laws.proofs.Leaving.{at_queue}
 use Rattle.laws.proofs.Dying.{Goes, not_found, left_only, died, goes_by}
 use Rattle.laws.proofs.Agreement.{HeldIn, same_holder}
@@ -39,11 +39,6 @@ freed_other mine e holder = go e.message e.mark
         ap (λ (v : Bool). if v then record { message = record m { redelivered = true }; mark = Ready } else record { message = m; mark = Held g }) no
 
 -- ---- single lists
-
-pub in_front : {A : Type 0} (x : A) (xs ys : List A) → IsIn x xs → IsIn x (xs ++ ys)
-in_front x [] ys i = absurd i
-in_front x (y ∷ xs) ys (inl e) = inl e
-in_front x (y ∷ xs) ys (inr i) = inr (in_front x xs ys i)
 
 pub in_passing : {A : Type 0} (p : A → Bool) (x : A) (xs : List A) → IsIn x xs → p x ≡ true → IsIn x (filter p xs)
 in_passing p x [] i e = i

@@ -1,5 +1,6 @@
 -- What the files that a command names state, and why one of them is refused (own).
-use Rattle.std.specs.Prelude.{◌≡◌, ◌⊎◌, ℕ, List, [], ◌∷◌, Option, Some, None, false, Ok, Err, codes, ⊤}
+use Rattle.std.specs.Prelude.{◌≡◌, ◌⊎◌, ℕ, List, [], ◌∷◌, Option, Some, None, false, Ok, Err, codes, ⊤, option_map}
+use Rattle.std.specs.Borrow.{Bor}
 use Rattle.model.specs.Words.{Text}
 use Rattle.model.specs.Topology.{Topology}
 use Rattle.model.specs.Guarantee.{Guarantee}
@@ -14,10 +15,14 @@ use Rattle.guarantees.specs.Numbers.{number as guarantee_number}
 use Rattle.guarantees.specs.Reads.{IsAccepted, IsFirst as IsFirstOfGuarantees}
 use Rattle.certificate_files.specs.declared.bad.Bad.{Bad as CertificateBad}
 use Rattle.certificate_files.specs.Numbers.{number as certificate_number}
-use Rattle.certificate_files.specs.Reads.{IsFile, ReadsCertificateFile as ReadsCertificates}
+use Rattle.certificate_files.specs.Reads.{IsFile, ReadsCertificateFile}
 use Rattle.named_files.specs.declared.refusals.Refusal.{Refusal}
 use Rattle.named_files.specs.declared.refusals.Refusal.TheVariants.{Refused, TooLong, Unread, Memory}
 use Rattle.named_files.specs.Files.{Known, HasText, IsTooLong, IsClosed}
+
+-- the name of a file that is given, where one is
+abbrev pub file_named : Option (Bor Text) → Option Text
+file_named file = option_map (λ f. f.now) file
 
 -- ---- definitions
 
@@ -87,7 +92,7 @@ IsWhyUnpromised t why known = IsWhyNot (HasGuaranteeCause t) why known
 
 -- the one cause that stands in the certificates file has this number
 abbrev pub HasCertificateCause : ℕ → Text → Type 0
-HasCertificateCause n text = (cause : CertificateBad) × (n ≡ certificate_number cause) × ReadsCertificates (Err cause) text
+HasCertificateCause n text = (cause : CertificateBad) × (n ≡ certificate_number cause) × ReadsCertificateFile (Err cause) text
 
 -- why a certificates file is refused
 abbrev pub IsWhyUncertified : Refusal → Known → Type 0

@@ -1,6 +1,6 @@
 //! What the files that a command names state.
 
-ghost use Rattle.std.specs.Prelude.{◌≡◌, MatchResult, option_map};
+ghost use Rattle.std.specs.Prelude.{◌≡◌, MatchResult};
 ghost use Rattle.named_files.specs.Files.{AreKept};
 ghost use Rattle.named_files.specs.Stated.{
   Certifies,
@@ -17,6 +17,7 @@ ghost use Rattle.named_files.specs.Stated.{
   SetsUp,
   States,
   StatesAt,
+  file_named,
 };
 
 use crate::builtin::builtin;
@@ -90,7 +91,7 @@ fn guarantees_of<'a, F: Files>(
     topology: &Topology,
     files: &mut F,
 ) -> Result<Vec<Guarantee>, RefusedFile<'a>>
-    ensures states { MatchResult result (λ gs. PromisesAt (F.holds files.old) (option_map (λ f. f.now) file.entry) topology.now gs.items) (λ refused. FailsToPromise (F.holds files.old) (option_map (λ f. f.now) file.entry) topology.now refused.file.now refused.why) }
+    ensures states { MatchResult result (λ gs. PromisesAt (F.holds files.old) (file_named file.entry) topology.now gs.items) (λ refused. FailsToPromise (F.holds files.old) (file_named file.entry) topology.now refused.file.now refused.why) }
     ensures files { AreKept (F.holds files.old) (F.holds files.new) }
 {
     let file = match file {
@@ -109,7 +110,7 @@ fn topology_of<'a, F: Files>(
     file: Option<&'a str>,
     files: &mut F,
 ) -> Result<(Topology, Vec<User>), RefusedFile<'a>>
-    ensures states { MatchResult result (λ stated. StatesAt (F.holds files.old) (option_map (λ f. f.now) file.entry) (record { topology = stated.0; users = stated.1.items })) (λ refused. FailsToState (F.holds files.old) (option_map (λ f. f.now) file.entry) refused.file.now refused.why) }
+    ensures states { MatchResult result (λ stated. StatesAt (F.holds files.old) (file_named file.entry) (record { topology = stated.0; users = stated.1.items })) (λ refused. FailsToState (F.holds files.old) (file_named file.entry) refused.file.now refused.why) }
     ensures files { AreKept (F.holds files.old) (F.holds files.new) }
 {
     match file {
@@ -129,7 +130,7 @@ pub fn set_up<'a, F: Files>(
     guarantees: Option<&'a str>,
     files: &mut F,
 ) -> Result<Setup, RefusedFile<'a>>
-    ensures states { MatchResult result (λ s. SetsUp (F.holds files.old) (option_map (λ f. f.now) definitions.entry) (option_map (λ f. f.now) guarantees.entry) (record { topology = s.topology; users = s.users.items }) s.guarantees.items) (λ refused. FailsToSetUp (F.holds files.old) (option_map (λ f. f.now) definitions.entry) (option_map (λ f. f.now) guarantees.entry) refused.file.now refused.why) }
+    ensures states { MatchResult result (λ s. SetsUp (F.holds files.old) (file_named definitions.entry) (file_named guarantees.entry) (record { topology = s.topology; users = s.users.items }) s.guarantees.items) (λ refused. FailsToSetUp (F.holds files.old) (file_named definitions.entry) (file_named guarantees.entry) refused.file.now refused.why) }
     ensures files { AreKept (F.holds files.old) (F.holds files.new) }
 {
     let (topology, users) = match topology_of(alloc, definitions, files) {
@@ -165,7 +166,7 @@ pub fn certificates_of<'a, F: Files>(
     file: Option<&'a str>,
     files: &mut F,
 ) -> Result<Vec<Certificate>, RefusedFile<'a>>
-    ensures states { MatchResult result (λ cs. CertifiesAt (F.holds files.old) (option_map (λ f. f.now) file.entry) cs.items) (λ refused. FailsToCertify (F.holds files.old) (option_map (λ f. f.now) file.entry) refused.file.now refused.why) }
+    ensures states { MatchResult result (λ cs. CertifiesAt (F.holds files.old) (file_named file.entry) cs.items) (λ refused. FailsToCertify (F.holds files.old) (file_named file.entry) refused.file.now refused.why) }
     ensures files { AreKept (F.holds files.old) (F.holds files.new) }
 {
     let file = match file {

@@ -1,8 +1,7 @@
 -- The first of a list that passes, taken out.
-use Rattle.std.proofs.Common.{◌≡◌, ℕ, suc, ◌+◌, ◌<◌, List, [], ◌∷◌, ◌++◌, length, get_or, set, take, drop, find, filter, refl, sym, ap, subst, arith, Bool, true, false, cond, Option, Some, None}
+use Rattle.std.proofs.Common.{◌≡◌, List, [], ◌∷◌, filter, refl, ap, Bool, true, false, cond}
 use Rattle.std.specs.Prelude.{not}
-use Rattle.std.specs.List.{position_from}
-use Rattle.model.specs.Entries.{change_first, without_first}
+use Rattle.model.specs.Entries.{without_first}
 
 -- without it, those that don't pass are the same
 pub rest_filtered : {X : Type 0} (p : X → Bool) (xs : List X) → filter (λ x. not (p x)) (without_first p xs) ≡ filter (λ x. not (p x)) xs

@@ -2,7 +2,7 @@
 use Rattle.std.proofs.Common.{◌≡◌, ℕ, zero, suc, ◌+◌, ◌<◌, ◌≤◌, List, [], ◌∷◌, length, get_or, map, refl, sym, ap, ◌∙◌, subst, arith, Bool, true, false, Option, Some, None, inl, inr}
 use Rattle.std.proofs.lemmas.Bool.Decides.{eqb_tells, leb_tells}
 use Rattle.std.proofs.Math.ListN.{set}
-use Rattle.std.proofs.lemmas.List.{get_or-set_same, get_or-set_other}
+use Rattle.std.proofs.lemmas.List.{get_or-set_same, get_or-set_other, length-map}
 use Rattle.model.specs.Broker.{is_ready}
 use Rattle.model.specs.Entries.{freed, is_held_by, is_held_as, freed_now}
 use Rattle.model.specs.declared.messages.Entry.{Entry}
@@ -117,10 +117,6 @@ somes-changed f [] = refl
 somes-changed f (None ∷ xs) = somes-changed f xs
 somes-changed f (Some x ∷ xs) = ap (λ (ys : List _). f x ∷ ys) (somes-changed f xs)
 
-length-mapped : {X : Type 0} (f : X → X) (xs : List X) → length (map f xs) ≡ length xs
-length-mapped f [] = refl
-length-mapped f (x ∷ xs) = ap suc (length-mapped f xs)
-
 -- no more are held so than before
 held_less : (h : Holder) (mine : Holder → Bool) (e : Entry) → num (is_held_as h (freed mine e)) ≤ num (is_held_as h e)
 held_less h mine e = go (is_held_by mine e) refl
@@ -139,6 +135,6 @@ requeue_shows mine slots now bits bits' ready ready' live more s e t r signed =
     let m : somes now ≡ map (freed mine) (somes slots) = ap somes e ∙ somes-changed (freed mine) slots in record {
       signed = signed;
       ready_count = (let a = s.ready_count in omega arith);
-      live_count = s.live_count ∙ sym (ap length m ∙ length-mapped (freed mine) (somes slots));
+      live_count = s.live_count ∙ sym (ap length m ∙ length-map (somes slots) (freed mine));
       apart = λ h. let a = s.apart h in let b = ap (tally (is_held_as h)) m in let c = held_fewer h mine (somes slots) in omega arith;
     }

@@ -1,10 +1,9 @@
 -- A queue as a list of entries in arrival order.
-use Rattle.std.specs.Prelude.{ℕ, List, [], ◌∷◌, length, filter, map, Bool, true, false, ◌==◌, ◌&&◌, if◌then◌else◌, Option, Some, None}
+use Rattle.std.specs.Prelude.{ℕ, List, length, filter, map, Bool}
 use Rattle.model.specs.Broker.{is_ready}
 use Rattle.model.specs.Entries.{freed}
 use Rattle.model.specs.declared.messages.Entry.{Entry}
 use Rattle.model.specs.declared.messages.Holder.{Holder}
-use Rattle.model.specs.declared.messages.Mark.TheVariants.{Ready, Held}
 
 -- the entries in arrival order, and how many pushes need no memory
 pub record Line : Type 0 where

@@ -4,7 +4,7 @@ ghost use Rattle.std.specs.Prelude.{◌≡◌, Some, map, option_map, MatchResul
 ghost use Rattle.clap.specs.Words.{kind_of};
 ghost use Rattle.command_line.specs.CommandLine.{Check, Route, Verify, wanted_of};
 ghost use Rattle.named_files.specs.Files.{AreKept};
-ghost use Rattle.named_files.specs.Stated.{FailsToState};
+ghost use Rattle.named_files.specs.Stated.{FailsToState, file_named};
 ghost use Rattle.server.specs.Streams.{change};
 ghost use Rattle.server.specs.Program.{
   RunsAs,
@@ -41,7 +41,7 @@ fn check<'a, F: Files>(
     out: Option<&'a str>,
     files: &mut F,
 ) -> Result<Output, Told<'a>>
-    ensures { MatchResult result (λ o. IsJudged (F.holds files.old) (F.holds files.new) definitions.now guarantees.now (option_map (λ f. f.now) out.entry) o.text.items o.status) (λ told. IsNotAnswered (F.holds files.old) (F.holds files.new) (Check definitions.now guarantees.now (option_map (λ f. f.now) out.entry)) told.file.now told.why) }
+    ensures { MatchResult result (λ o. IsJudged (F.holds files.old) (F.holds files.new) definitions.now guarantees.now (file_named out.entry) o.text.items o.status) (λ told. IsNotAnswered (F.holds files.old) (F.holds files.new) (Check definitions.now guarantees.now (file_named out.entry)) told.file.now told.why) }
 {
     let setup = match set_up(alloc, Some(definitions), Some(guarantees), files) {
         Ok(setup) => setup,

@@ -1,6 +1,7 @@
 //! Certificates that `check` writes to a file.
 
-ghost use Rattle.std.specs.Prelude.{◌≡◌, MatchResult, option_map, Some};
+ghost use Rattle.std.specs.Prelude.{◌≡◌, MatchResult, Some};
+ghost use Rattle.named_files.specs.Stated.{file_named};
 ghost use Rattle.server.specs.Program.{IsFiled, WritesOut, IsUnwritten, IsUnfiled, ReadsBack};
 ghost use Rattle.verdicts.specs.Verdicts.{certificates_in, status_of_verdicts};
 
@@ -70,7 +71,7 @@ pub fn write_out<'a, F: Files>(
     files: &mut F,
 ) -> Result<(), Told<'a>>
     requires { status ≡ status_of_verdicts verdicts.items }
-    ensures { MatchResult result (λ _. WritesOut (F.holds files.old) (F.holds files.new) (option_map (λ f. f.now) out.entry) verdicts.items) (λ told. (option_map (λ f. f.now) out.entry ≡ Some told.file.now) × (status_of_verdicts verdicts.items ≡ 0) × IsUnfiled (F.holds files.old) (F.holds files.new) told.file.now told.why) }
+    ensures { MatchResult result (λ _. WritesOut (F.holds files.old) (F.holds files.new) (file_named out.entry) verdicts.items) (λ told. (file_named out.entry ≡ Some told.file.now) × (status_of_verdicts verdicts.items ≡ 0) × IsUnfiled (F.holds files.old) (F.holds files.new) told.file.now told.why) }
 {
     let file = match out {
         Some(file) => file,

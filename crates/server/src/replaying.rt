@@ -1,10 +1,11 @@
 //! What `replay` prints.
 
-ghost use Rattle.std.specs.Prelude.{◌≡◌, ◌≤◌, length, MatchResult, option_map};
+ghost use Rattle.std.specs.Prelude.{◌≡◌, ◌≤◌, length, MatchResult};
 ghost use Rattle.certificate.specs.Certified.{AreCertified};
 ghost use Rattle.command_line.specs.CommandLine.{Replay, Wanted};
 ghost use Rattle.engine.specs.Certified.{in_force};
 ghost use Rattle.named_files.specs.Files.{AreKept};
+ghost use Rattle.named_files.specs.Stated.{file_named};
 ghost use Rattle.verdicts.specs.Outcomes.{fault_number};
 ghost use Rattle.server.specs.Program.{
   Fails,
@@ -110,7 +111,7 @@ pub(crate) fn in_force<'a, F: Files>(
     named: Named<'a>,
     files: &mut F,
 ) -> Result<(Checked, Vec<User>), Told<'a>>
-    ensures force { (wanted : Wanted) → RunsOver wanted (option_map (λ f. f.now) named.entry.definitions) (option_map (λ f. f.now) named.entry.guarantees) (option_map (λ f. f.now) named.entry.certificates) → MatchResult result (λ force. IsInForce (F.holds files.old) (option_map (λ f. f.now) named.entry.definitions) (option_map (λ f. f.now) named.entry.guarantees) (option_map (λ f. f.now) named.entry.certificates) (in_force force.0 force.1.items)) (λ told. Fails (F.holds files.old) wanted told.file.now told.why) }
+    ensures force { (wanted : Wanted) → RunsOver wanted (file_named named.entry.definitions) (file_named named.entry.guarantees) (file_named named.entry.certificates) → MatchResult result (λ force. IsInForce (F.holds files.old) (file_named named.entry.definitions) (file_named named.entry.guarantees) (file_named named.entry.certificates) (in_force force.0 force.1.items)) (λ told. Fails (F.holds files.old) wanted told.file.now told.why) }
     ensures files { AreKept (F.holds files.old) (F.holds files.new) }
 {
     let Setup {
@@ -138,7 +139,7 @@ pub fn replay<'a, F: Files>(
     named: Named<'a>,
     files: &mut F,
 ) -> Result<Output, Told<'a>>
-    ensures answers { MatchResult result (λ o. IsReplayed (F.holds files.old) script.now (option_map (λ f. f.now) named.entry.definitions) (option_map (λ f. f.now) named.entry.guarantees) (option_map (λ f. f.now) named.entry.certificates) o.text.items o.status) (λ told. Fails (F.holds files.old) (Replay script.now (option_map (λ f. f.now) named.entry.definitions) (option_map (λ f. f.now) named.entry.guarantees) (option_map (λ f. f.now) named.entry.certificates)) told.file.now told.why) }
+    ensures answers { MatchResult result (λ o. IsReplayed (F.holds files.old) script.now (file_named named.entry.definitions) (file_named named.entry.guarantees) (file_named named.entry.certificates) o.text.items o.status) (λ told. Fails (F.holds files.old) (Replay script.now (file_named named.entry.definitions) (file_named named.entry.guarantees) (file_named named.entry.certificates)) told.file.now told.why) }
     ensures files { AreKept (F.holds files.old) (F.holds files.new) }
 {
     let (checked, users) = match in_force(alloc, named, files) {

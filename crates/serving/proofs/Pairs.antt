@@ -5,20 +5,12 @@ use Rattle.std.specs.Prelude.{◌==◌}
 use Rattle.std.specs.List.{AllByRecursion}
 use Rattle.model.specs.Topology.{IsIn}
 use Rattle.model.specs.Run.{Happening}
+use Rattle.laws.proofs.Counts.{in_front, in_back}
 use Rattle.serving.specs.Wire.{Call, Accepted, Told, after, and_these, IsFresh}
 use Rattle.serving.specs.Story.{Served, At, Filled, Deed, Met, Turned_away, Met_no_one, Heard, Heard_partly, Heard_nothing, Heard_end, Gave, Gave_partly, Gave_nothing, Gave_up, Pumped, Pumped_nothing, Pump_refused, Let_go, Paused, attempts, Table, DoesDeed, Story}
 use Rattle.serving.specs.Joined.{met_by, all_met}
 use Rattle.serving.specs.declared.peers.Peer.{Peer}
 use Rattle.serving.proofs.Fits.{freed_at, filled_at, attempts_le, met_given}
-
-in_front : {A : Type 0} (x : A) (xs ys : List A) → IsIn x xs → IsIn x (xs ++ ys)
-in_front x [] ys i = absurd i
-in_front x (y ∷ xs) ys (inl e) = inl e
-in_front x (y ∷ xs) ys (inr i) = inr (in_front x xs ys i)
-
-in_back : {A : Type 0} (x : A) (xs ys : List A) → IsIn x ys → IsIn x (xs ++ ys)
-in_back x [] ys i = i
-in_back x (y ∷ xs) ys i = inr (in_back x xs ys i)
 
 -- whose deed it is
 abbrev pub peer_of : Deed → Option Peer

@@ -16,9 +16,9 @@ impl Core {
     ghost use Rattle.model.specs.Sending.{IsAddressed};
     ghost use Rattle.model.specs.Step as said;
     ghost use Rattle.model.specs.Entries.{by_channel};
-    ghost use Rattle.model.specs.Step.{Does, Is, Refuses, with_gone, with_closing, with_channel, after_close, reply, channel_or_new};
+    ghost use Rattle.model.specs.Step.{Does, Is, Refuses, with_gone, with_closing, with_channel, after_close, reply};
     ghost use Rattle.model.specs.declared.methods.Method.TheVariants.{ChannelCloseOk};
-    ghost use Rattle.broker_core.specs.State.{broker_of, topology_of, names_of};
+    ghost use Rattle.broker_core.specs.State.{broker_of, channel_on, topology_of, names_of};
     ghost use Rattle.channel.specs.Open.{Open, open_in};
     ghost use Rattle.judging.specs.Judged.{seen as said_of, HasChannel};
     ghost use Rattle.replies.specs.Sent.{AreAddressed};
@@ -89,8 +89,8 @@ impl Core {
     ) -> Result<Step, AllocError>
         requires agreed { IsAgreed (broker_of self.old) }
         requires there { IsSome ((broker_of self.old).channel connection channel) }
-        requires closing { (channel_or_new ((broker_of self.old).channel connection channel)).is_closing ≡ is_closing }
-        ensures ok { IfOk result (λ s. Does s.sends.items s.notes.items (broker_of self.new) (reply connection channel ChannelCloseOk ∷ []) (after_close (broker_of self.old) connection channel (channel_or_new ((broker_of self.old).channel connection channel)))) }
+        requires closing { (channel_on self.old connection channel).is_closing ≡ is_closing }
+        ensures ok { IfOk result (λ s. Does s.sends.items s.notes.items (broker_of self.new) (reply connection channel ChannelCloseOk ∷ []) (after_close (broker_of self.old) connection channel (channel_on self.old connection channel))) }
         ensures addressed { IfOk result (λ s. AreAddressed connection s.sends.items) }
         ensures topology { topology_of self.new ≡ topology_of self.old }
         ensures err { OnErr result (self.new ≡ self.old) }

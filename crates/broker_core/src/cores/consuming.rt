@@ -33,10 +33,11 @@ impl Core {
     ghost use Rattle.std.specs.Prelude.{◌≡◌, ◌<◌, Option, IsSome, IfOk, OnErr};
     ghost use Rattle.model.specs.Agreement.{IsAgreed};
     ghost use Rattle.model.specs.Grammar.{IsMethod};
-    ghost use Rattle.model.specs.Step.{Cancels, Decides, channel_or_new, refusal_of_seat};
+    ghost use Rattle.model.specs.Step.{Cancels, refusal_of_seat};
     ghost use Rattle.model.specs.declared.contents.Content.{Content};
     ghost use Rattle.model.specs.declared.methods.Method.TheVariants.{BasicConsume, BasicCancel};
-    ghost use Rattle.broker_core.specs.State.{broker_of, topology_of};
+    ghost use Rattle.broker_core.specs.State.{broker_of, channel_on, topology_of};
+    ghost use Rattle.broker_core.specs.Steps.{DecidesOn};
     ghost use Rattle.judging.specs.Judged.{IsPlaceOf};
     ghost use Rattle.broker_core.specs.Consumed.{MakesConsumer};
 
@@ -51,7 +52,7 @@ impl Core {
     ) -> Result<Text, Unmade>
         requires at { IsPlaceOf (topology_of self.old) consume.now.queue place }
         requires there { IsSome ((broker_of self.old).channel connection channel) }
-        ensures makes { MakesConsumer (broker_of self.old) connection channel (channel_or_new ((broker_of self.old).channel connection channel)) consume.now result (broker_of self.new) }
+        ensures makes { MakesConsumer (broker_of self.old) connection channel (channel_on self.old connection channel) consume.now result (broker_of self.new) }
         ensures topology { topology_of self.new ≡ topology_of self.old }
         ensures err { OnErr result (self.new ≡ self.old) }
     {
@@ -73,7 +74,7 @@ impl Core {
         requires agreed { IsAgreed (broker_of self.old) }
         requires at { IsPlaceOf (topology_of self.old) consume.now.queue place }
         requires there { IsSome ((broker_of self.old).channel connection channel) }
-        ensures ok { IfOk result (λ s. (content : Option Content) → Decides (topology_of self.old) (broker_of self.old) connection channel (BasicConsume consume.now) content (refusal_of_seat (channel_or_new ((broker_of self.old).channel connection channel)) consume.now) s.sends.items s.notes.items (broker_of self.new)) }
+        ensures ok { IfOk result (λ s. (content : Option Content) → DecidesOn self.old connection channel (BasicConsume consume.now) content (refusal_of_seat (channel_on self.old connection channel) consume.now) s.sends.items s.notes.items self.new) }
         ensures addressed { IfOk result (λ s. IsMethod (BasicConsume consume.now) → AreAddressed connection s.sends.items) }
         ensures topology { topology_of self.new ≡ topology_of self.old }
         ensures err { OnErr result (self.new ≡ self.old) }
@@ -108,7 +109,7 @@ impl Core {
         cancel: &Cancel,
     ) -> Result<Step, AllocError>
         requires { IsSome ((broker_of self.old).channel connection channel) }
-        ensures ok { IfOk result (λ s. Cancels (broker_of self.old) connection channel (channel_or_new ((broker_of self.old).channel connection channel)) cancel.now s.sends.items s.notes.items (broker_of self.new)) }
+        ensures ok { IfOk result (λ s. Cancels (broker_of self.old) connection channel (channel_on self.old connection channel) cancel.now s.sends.items s.notes.items (broker_of self.new)) }
         ensures addressed { IfOk result (λ s. IsMethod (BasicCancel cancel.now) → AreAddressed connection s.sends.items) }
         ensures topology { topology_of self.new ≡ topology_of self.old }
         ensures err { OnErr result (self.new ≡ self.old) }

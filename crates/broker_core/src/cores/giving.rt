@@ -10,16 +10,16 @@ impl Core {
     ghost use Rattle.model.specs.Entries.{is_held_as};
     ghost use Rattle.model.specs.Prefetch.{has_tag_left};
     ghost use Rattle.model.specs.Deliveries.{after_delivery, first_ready};
-    ghost use Rattle.model.specs.Step.{Is, channel_or_new};
+    ghost use Rattle.model.specs.Step.{Is};
     ghost use Rattle.exchange_graph.specs.Marks.{queue_name};
-    ghost use Rattle.broker_core.specs.State.{broker_of, topology_of};
+    ghost use Rattle.broker_core.specs.State.{broker_of, channel_on, topology_of};
 
     /// The first ready message of the queue at this place leaves it, under the channel's next delivery tag.
     fn take_out(&mut self, connection: u64, channel: u16, place: usize, by: Taker)
         requires within { place < length (topology_of self.old).queues }
         requires there { IsSome ((broker_of self.old).channel connection channel) }
-        requires tag { has_tag_left (channel_or_new ((broker_of self.old).channel connection channel)).next_tag ≡ true }
-        ensures left { Is (after_delivery (broker_of self.old) connection channel (channel_or_new ((broker_of self.old).channel connection channel)) true (queue_name (topology_of self.old) place) by) (broker_of self.new) }
+        requires tag { has_tag_left (channel_on self.old connection channel).next_tag ≡ true }
+        ensures left { Is (after_delivery (broker_of self.old) connection channel (channel_on self.old connection channel) true (queue_name (topology_of self.old) place) by) (broker_of self.new) }
         ensures topology { topology_of self.new ≡ topology_of self.old }
     {
         self.depot.is_named(place);
@@ -39,11 +39,11 @@ impl Core {
     ) -> Result<(), AllocError>
         requires within { place < length (topology_of self.old).queues }
         requires there { IsSome ((broker_of self.old).channel connection channel) }
-        requires left { has_tag_left (channel_or_new ((broker_of self.old).channel connection channel)).next_tag ≡ true }
-        requires tag { (channel_or_new ((broker_of self.old).channel connection channel)).next_tag ≡ tag }
+        requires left { has_tag_left (channel_on self.old connection channel).next_tag ≡ true }
+        requires tag { (channel_on self.old connection channel).next_tag ≡ tag }
         requires free { (q : Name) → find (is_held_as (record { connection = connection; channel = channel; tag = tag; by = by })) ((broker_of self.old).queue q) ≡ None }
         requires ready { IsSome (first_ready ((broker_of self.old).queue (queue_name (topology_of self.old) place))) }
-        ensures left { OnOk result (Is (after_delivery (broker_of self.old) connection channel (channel_or_new ((broker_of self.old).channel connection channel)) false (queue_name (topology_of self.old) place) by) (broker_of self.new)) }
+        ensures left { OnOk result (Is (after_delivery (broker_of self.old) connection channel (channel_on self.old connection channel) false (queue_name (topology_of self.old) place) by) (broker_of self.new)) }
         ensures topology { topology_of self.new ≡ topology_of self.old }
         ensures err { OnErr result (self.new ≡ self.old) }
     {
@@ -77,11 +77,11 @@ impl Core {
     ) -> Result<(), AllocError>
         requires within { place < length (topology_of self.old).queues }
         requires there { IsSome ((broker_of self.old).channel connection channel) }
-        requires left { has_tag_left (channel_or_new ((broker_of self.old).channel connection channel)).next_tag ≡ true }
-        requires tag { (channel_or_new ((broker_of self.old).channel connection channel)).next_tag ≡ tag }
+        requires left { has_tag_left (channel_on self.old connection channel).next_tag ≡ true }
+        requires tag { (channel_on self.old connection channel).next_tag ≡ tag }
         requires free { (q : Name) → find (is_held_as (record { connection = connection; channel = channel; tag = tag; by = by })) ((broker_of self.old).queue q) ≡ None }
         requires ready { IsSome (first_ready ((broker_of self.old).queue (queue_name (topology_of self.old) place))) }
-        ensures left { OnOk result (Is (after_delivery (broker_of self.old) connection channel (channel_or_new ((broker_of self.old).channel connection channel)) no_ack (queue_name (topology_of self.old) place) by) (broker_of self.new)) }
+        ensures left { OnOk result (Is (after_delivery (broker_of self.old) connection channel (channel_on self.old connection channel) no_ack (queue_name (topology_of self.old) place) by) (broker_of self.new)) }
         ensures topology { topology_of self.new ≡ topology_of self.old }
         ensures err { OnErr result (self.new ≡ self.old) }
     {

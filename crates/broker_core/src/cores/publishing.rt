@@ -14,8 +14,8 @@ impl Core {
     ghost use Rattle.model.specs.Broker as seen;
     ghost use Rattle.model.specs.Grammar.{IsMethod};
     ghost use Rattle.model.specs.declared.methods.Method.TheVariants.{BasicPublish};
-    ghost use Rattle.model.specs.Step.{Does, IsPublish, with_channel, content_or_none, started, channel_or_new, refusal_of_publish};
-    ghost use Rattle.broker_core.specs.State.{broker_of, topology_of};
+    ghost use Rattle.model.specs.Step.{Does, IsPublish, with_channel, content_or_none, started, refusal_of_publish};
+    ghost use Rattle.broker_core.specs.State.{broker_of, channel_on, topology_of};
 
     /// Publishes on the channel are confirmed from now on. That is answered where an answer is wanted.
     pub(crate) fn select(
@@ -47,8 +47,8 @@ impl Core {
         content: &Content,
     ) -> Result<Step, AllocError>
         requires there { IsSome ((broker_of self.old).channel connection channel) }
-        requires accepted { refusal_of_publish (topology_of self.old) (broker_of self.old) (channel_or_new ((broker_of self.old).channel connection channel)) publish.now ≡ None }
-        ensures ok { IfOk result (λ s. IsPublish (topology_of self.old) (broker_of self.old) connection channel (channel_or_new ((broker_of self.old).channel connection channel)) publish.now content.now s.sends.items s.notes.items (broker_of self.new)) }
+        requires accepted { refusal_of_publish (topology_of self.old) (broker_of self.old) (channel_on self.old connection channel) publish.now ≡ None }
+        ensures ok { IfOk result (λ s. IsPublish (topology_of self.old) (broker_of self.old) connection channel (channel_on self.old connection channel) publish.now content.now s.sends.items s.notes.items (broker_of self.new)) }
         ensures addressed { IfOk result (λ s. IsMethod (BasicPublish publish.now) → AreAddressed connection s.sends.items) }
         ensures topology { topology_of self.new ≡ topology_of self.old }
         ensures err { OnErr result (self.new ≡ self.old) }
@@ -83,8 +83,8 @@ impl Core {
         content: &Option<Content>,
     ) -> Result<Step, AllocError>
         requires there { IsSome ((broker_of self.old).channel connection channel) }
-        requires accepted { refusal_of_publish (topology_of self.old) (broker_of self.old) (channel_or_new ((broker_of self.old).channel connection channel)) publish.now ≡ None }
-        ensures ok { IfOk result (λ s. IsPublish (topology_of self.old) (broker_of self.old) connection channel (channel_or_new ((broker_of self.old).channel connection channel)) publish.now (content_or_none content.now) s.sends.items s.notes.items (broker_of self.new)) }
+        requires accepted { refusal_of_publish (topology_of self.old) (broker_of self.old) (channel_on self.old connection channel) publish.now ≡ None }
+        ensures ok { IfOk result (λ s. IsPublish (topology_of self.old) (broker_of self.old) connection channel (channel_on self.old connection channel) publish.now (content_or_none content.now) s.sends.items s.notes.items (broker_of self.new)) }
         ensures addressed { IfOk result (λ s. IsMethod (BasicPublish publish.now) → AreAddressed connection s.sends.items) }
         ensures topology { topology_of self.new ≡ topology_of self.old }
         ensures err { OnErr result (self.new ≡ self.old) }

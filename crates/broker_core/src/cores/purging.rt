@@ -10,9 +10,9 @@ use std::alloc::{AllocError, Global};
 
 impl Core {
     ghost use Rattle.std.specs.Prelude.{◌≡◌, ◌∷◌, [], Some, IsSome, IfOk, OnErr};
-    ghost use Rattle.model.specs.Step.{Does, Purges, with_channel, channel_or_new, limited, reply};
+    ghost use Rattle.model.specs.Step.{Does, Purges, with_channel, limited, reply};
     ghost use Rattle.model.specs.declared.methods.Method.TheVariants.{BasicQosOk};
-    ghost use Rattle.broker_core.specs.State.{broker_of, topology_of};
+    ghost use Rattle.broker_core.specs.State.{broker_of, channel_on, topology_of};
     ghost use Rattle.judging.specs.Judged.{IsPlaceOf};
 
     /// The limit that a qos sets is the channel's from now on, and that is answered.
@@ -24,7 +24,7 @@ impl Core {
         qos: &Qos,
     ) -> Result<Step, AllocError>
         requires { IsSome ((broker_of self.old).channel connection channel) }
-        ensures ok { IfOk result (λ s. Does s.sends.items s.notes.items (broker_of self.new) (reply connection channel BasicQosOk ∷ []) (with_channel (broker_of self.old) connection channel (Some (limited (channel_or_new ((broker_of self.old).channel connection channel)) qos.now)))) }
+        ensures ok { IfOk result (λ s. Does s.sends.items s.notes.items (broker_of self.new) (reply connection channel BasicQosOk ∷ []) (with_channel (broker_of self.old) connection channel (Some (limited (channel_on self.old connection channel) qos.now)))) }
         ensures addressed { IfOk result (λ s. AreAddressed connection s.sends.items) }
         ensures topology { topology_of self.new ≡ topology_of self.old }
         ensures err { OnErr result (self.new ≡ self.old) }

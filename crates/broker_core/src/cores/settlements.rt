@@ -16,9 +16,10 @@ impl Core {
     ghost use Rattle.std.specs.Prelude.{◌≡◌, ◌∷◌, [], None, true, IsSome, IfOk, IsOk, OnErr};
     ghost use Rattle.model.specs.Agreement.{IsAgreed};
     ghost use Rattle.model.specs.Deliveries.{Leaves, Rejects, Returns, of_rejected};
-    ghost use Rattle.model.specs.Step.{Settles, channel_or_new, refusal_of_settling, reply};
+    ghost use Rattle.model.specs.Step.{refusal_of_settling, reply};
     ghost use Rattle.model.specs.declared.methods.Method.TheVariants.{BasicRecoverOk};
     ghost use Rattle.broker_core.specs.State.{broker_of, topology_of};
+    ghost use Rattle.broker_core.specs.Steps.{SettlesOn};
 
     /// What this tag settles leaves its queues for this cause, and is no longer outstanding. All that takes memory is made
     /// before the first change.
@@ -33,8 +34,8 @@ impl Core {
     ) -> Result<Step, AllocError>
         requires agreed { IsAgreed (broker_of self.old) }
         requires there { IsSome ((broker_of self.old).channel connection channel) }
-        requires accepted { refusal_of_settling (channel_or_new ((broker_of self.old).channel connection channel)) tag multiple ≡ None }
-        ensures ok { IfOk result (λ s. Settles (topology_of self.old) (Leaves cause) (broker_of self.old) connection channel (channel_or_new ((broker_of self.old).channel connection channel)) tag multiple [] s.sends.items s.notes.items (broker_of self.new)) }
+        requires accepted { refusal_of_settling (channel_on self.old connection channel) tag multiple ≡ None }
+        ensures ok { IfOk result (λ s. SettlesOn self.old (Leaves cause) connection channel tag multiple [] s.sends.items s.notes.items self.new) }
         ensures addressed { IfOk result (λ s. AreAddressed connection s.sends.items) }
         ensures topology { topology_of self.new ≡ topology_of self.old }
         ensures err { OnErr result (self.new ≡ self.old) }
@@ -53,8 +54,8 @@ impl Core {
     /// What this tag settles is ready again, each message in its place, and is no longer outstanding. It takes no memory.
     pub(crate) fn requeue(&mut self, connection: u64, channel: u16, tag: u64, multiple: bool)
         requires there { IsSome ((broker_of self.old).channel connection channel) }
-        requires accepted { refusal_of_settling (channel_or_new ((broker_of self.old).channel connection channel)) tag multiple ≡ None }
-        ensures settles { (sends : List Sent) → Settles (topology_of self.old) Returns (broker_of self.old) connection channel (channel_or_new ((broker_of self.old).channel connection channel)) tag multiple sends sends [] (broker_of self.new) }
+        requires accepted { refusal_of_settling (channel_on self.old connection channel) tag multiple ≡ None }
+        ensures settles { (sends : List Sent) → SettlesOn self.old Returns connection channel tag multiple sends sends [] self.new }
         ensures topology { topology_of self.new ≡ topology_of self.old }
     {
         let Some(gone) = self.links.settle(connection, channel, tag, multiple) else {
@@ -78,8 +79,8 @@ impl Core {
     ) -> Result<Step, AllocError>
         requires agreed { IsAgreed (broker_of self.old) }
         requires there { IsSome ((broker_of self.old).channel connection channel) }
-        requires accepted { refusal_of_settling (channel_or_new ((broker_of self.old).channel connection channel)) tag multiple ≡ None }
-        ensures ok { IfOk result (λ s. Settles (topology_of self.old) Rejects (broker_of self.old) connection channel (channel_or_new ((broker_of self.old).channel connection channel)) tag multiple [] s.sends.items s.notes.items (broker_of self.new)) }
+        requires accepted { refusal_of_settling (channel_on self.old connection channel) tag multiple ≡ None }
+        ensures ok { IfOk result (λ s. SettlesOn self.old Rejects connection channel tag multiple [] s.sends.items s.notes.items self.new) }
         ensures addressed { IfOk result (λ s. AreAddressed connection s.sends.items) }
         ensures topology { topology_of self.new ≡ topology_of self.old }
         ensures err { OnErr result (self.new ≡ self.old) }
@@ -104,8 +105,8 @@ impl Core {
     ) -> Result<Step, AllocError>
         requires agreed { IsAgreed (broker_of self.old) }
         requires there { IsSome ((broker_of self.old).channel connection channel) }
-        requires accepted { refusal_of_settling (channel_or_new ((broker_of self.old).channel connection channel)) tag multiple ≡ None }
-        ensures ok { IfOk result (λ s. Settles (topology_of self.old) (of_rejected requeue) (broker_of self.old) connection channel (channel_or_new ((broker_of self.old).channel connection channel)) tag multiple [] s.sends.items s.notes.items (broker_of self.new)) }
+        requires accepted { refusal_of_settling (channel_on self.old connection channel) tag multiple ≡ None }
+        ensures ok { IfOk result (λ s. SettlesOn self.old (of_rejected requeue) connection channel tag multiple [] s.sends.items s.notes.items self.new) }
         ensures addressed { IfOk result (λ s. AreAddressed connection s.sends.items) }
         ensures topology { topology_of self.new ≡ topology_of self.old }
         ensures err { OnErr result (self.new ≡ self.old) }
@@ -127,7 +128,7 @@ impl Core {
         channel: u16,
     ) -> Result<Step, AllocError>
         requires there { IsSome ((broker_of self.old).channel connection channel) }
-        ensures ok { IfOk result (λ s. Settles (topology_of self.old) Returns (broker_of self.old) connection channel (channel_or_new ((broker_of self.old).channel connection channel)) 0 true (reply connection channel BasicRecoverOk ∷ []) s.sends.items s.notes.items (broker_of self.new)) }
+        ensures ok { IfOk result (λ s. SettlesOn self.old Returns connection channel 0 true (reply connection channel BasicRecoverOk ∷ []) s.sends.items s.notes.items self.new) }
         ensures addressed { IfOk result (λ s. AreAddressed connection s.sends.items) }
         ensures topology { topology_of self.new ≡ topology_of self.old }
         ensures err { OnErr result (self.new ≡ self.old) }
