@@ -1,10 +1,13 @@
-//! Byte strings that are shared and never copied, and the words of topic patterns.
+//! Byte strings that are shared, or so short that a copy costs less, and the words of topic patterns.
 
-ghost use Rattle.std.specs.Prelude.{◌≡◌, [], length, IfOk, IfErr};
+ghost use Rattle.std.specs.Prelude.{◌≡◌, ◌≤◌, [], length, take, IfOk, IfErr};
 
 use std::alloc::{AllocError, AllocFailed, Global};
 use std::marker::Model;
 use std::sync::Arc;
+
+/// How many bytes a text has at most that stands in its own 24.
+const MOST_SHORT: usize = 22;
 
 /// Where the bytes of a text stand.
 #[derive(Drop)]
@@ -13,9 +16,30 @@ enum Kept {
     Fixed(&'static [u8]),
     /// In a block that all clones share.
     Shared(Arc<Vec<u8>>),
+    /// In the text itself: the first so many of these.
+    Short(u8, [u8; 22]),
 }
 
-/// A name, a key, a body: any bytes, in 24 bytes of its own. Clones share them.
+/// The first `len` of these bytes, or all where there are fewer.
+fn first_of(bytes: &[u8], len: u8) -> &[u8]
+    ensures { result.now ≡ take len bytes.now }
+{
+    &bytes[..usize::from(len).min(bytes.len())]
+}
+
+/// These bytes, in place.
+fn short(bytes: &[u8]) -> Text
+    requires { length bytes.now ≤ 22 }
+    ensures { result ≡ bytes.now }
+{
+    let mut place = [0; MOST_SHORT];
+    place[..bytes.len()].copy_from_slice(bytes);
+    Text {
+        kept: Kept::Short(bytes.len() as u8, place),
+    }
+}
+
+/// A name, a key, a body: any bytes, in 24 bytes of its own. Where there are more than 22, clones share them.
 pub struct Text {
     kept: Kept,
 }
@@ -28,12 +52,12 @@ impl Drop for Text {
 }
 
 impl Model for Text {
-    ghost use Rattle.std.specs.Prelude.{List, ℕ};
-    ghost use Rattle.model.specs.declared.texts.Kept.TheVariants.{Fixed, Shared};
+    ghost use Rattle.std.specs.Prelude.{List, ℕ, take};
+    ghost use Rattle.model.specs.declared.texts.Kept.TheVariants.{Fixed, Shared, Short};
 
     ghost Value = { List ℕ };
 
-    ghost view = { λ t. elim t.kept [ Fixed s ↦ s.now | Shared a ↦ a.value.items ] };
+    ghost view = { λ t. elim t.kept [ Fixed s ↦ s.now | Shared a ↦ a.value.items | Short len place ↦ take len place ] };
 }
 
 impl Text {
@@ -60,6 +84,9 @@ impl Text {
         ensures ok { IfOk result (λ t. t ≡ bytes.items) }
         ensures err { IfErr result (λ e. e.value ≡ bytes) }
     {
+        if bytes.len() <= MOST_SHORT {
+            return Ok(short(&bytes));
+        }
         let alloc = *bytes.allocator();
         match Arc::new(alloc, bytes) {
             Ok(shared) => Ok(Text {
@@ -69,12 +96,12 @@ impl Text {
         }
     }
 
-    /// A copy of these bytes. It takes no memory where there are none.
+    /// A copy of these bytes. It takes no memory where there are at most 22.
     pub fn from_slice(alloc: Global, bytes: &[u8]) -> Result<Text, AllocError>
         ensures { IfOk result (λ t. t ≡ bytes.now) }
     {
-        if bytes.is_empty() {
-            return Ok(Text::empty());
+        if bytes.len() <= MOST_SHORT {
+            return Ok(short(bytes));
         }
         match Text::from_vec(Vec::from_slice(alloc, bytes)?) {
             Ok(text) => Ok(text),
@@ -82,7 +109,7 @@ impl Text {
         }
     }
 
-    /// The same text, sharing its bytes.
+    /// The same text, sharing its bytes where it doesn't have them itself.
     pub fn clone(&self) -> Result<Text, AllocError>
         ensures { IfOk result (λ t. t ≡ self.now) }
     {
@@ -93,6 +120,9 @@ impl Text {
             Kept::Shared(shared) => Ok(Text {
                 kept: Kept::Shared(Arc::try_clone(shared)?),
             }),
+            Kept::Short(len, place) => Ok(Text {
+                kept: Kept::Short(*len, *place),
+            }),
         }
     }
 
@@ -102,6 +132,7 @@ impl Text {
         match &self.kept {
             Kept::Fixed(bytes) => *bytes,
             Kept::Shared(shared) => shared.as_slice(),
+            Kept::Short(len, place) => first_of(place, *len),
         }
     }
 
