@@ -1,6 +1,6 @@
 -- What a reading or a writing of tables answers.
 use Rattle.std.specs.Prelude.{◌≡◌, ℕ, List, Result, Ok, Err}
-use Rattle.model.specs.Tables.{Pairs, table_bytes, HasSpelling}
+use Rattle.model.specs.Tables.{Pairs, table_bytes, HavePairsSpelling}
 use Rattle.field_table.specs.declared.refusals.Refusal.{Refusal}
 use Rattle.field_table.specs.declared.refusals.Refusal.TheVariants.{SyntaxError, Memory}
 
@@ -16,7 +16,7 @@ AnswersOr (Err e) Found why = Refused e why
 
 -- the bytes are the length and the pairs of this table
 pub record SpellsTable (bytes : List ℕ) (ps : Pairs) : Type 0 where
-  pub fits : HasSpelling ps
+  pub fits : HavePairsSpelling ps
   pub parts : bytes ≡ table_bytes ps
 
 -- the answer is this, or memory was refused

@@ -2,7 +2,7 @@
 
 ghost use Rattle.std.specs.Prelude.{◌≡◌, ◌<◌, ◌≤◌, ◌+◌, ◌-◌, ◌^◌, [], ◌∷◌, ◌++◌, length, vec_len, vec_capacity, OnOk, IfErr, IfSome, IsSome, Err};
 ghost use Rattle.std.specs.Int.{w32, to_be_bytes};
-ghost use Rattle.model.specs.Tables.{letter, content, sized, values_bytes, pairs_bytes, table_bytes, HasSpelling, IsValue};
+ghost use Rattle.model.specs.Tables.{letter, content, sized, values_bytes, pairs_bytes, table_bytes, HavePairsSpelling, IsValue};
 ghost use Rattle.field_table.specs.declared.refusals.Refusal.TheVariants.{Memory};
 ghost use Rattle.field_table.specs.View.{field_view, entry_view, array_view, pairs_view, table_view};
 ghost use Rattle.field_table.specs.Answers.{Refused};
@@ -17,8 +17,8 @@ use crate::refusals::Refusal;
 ///
 /// A table that has no spelling is `SyntaxError`. On an error `out` is as it was.
 pub fn write_table(out: &mut Vec<u8>, table: &Table) -> Result<(), Refusal>
-    ensures ok { OnOk result (HasSpelling (table_view table.now) × (out.new.items ≡ out.old.items ++ table_bytes (table_view table.now))) }
-    ensures err { IfErr result (λ e. Refused e (HasSpelling (table_view table.now) → ⊥) × (out.new.items ≡ out.old.items)) }
+    ensures ok { OnOk result (HavePairsSpelling (table_view table.now) × (out.new.items ≡ out.old.items ++ table_bytes (table_view table.now))) }
+    ensures err { IfErr result (λ e. Refused e (HavePairsSpelling (table_view table.now) → ⊥) × (out.new.items ≡ out.old.items)) }
     // Memory was really wanted.
     ensures full { result ≡ Err Memory → vec_capacity out.old < vec_len out.old + length (table_bytes (table_view table.now)) }
 {

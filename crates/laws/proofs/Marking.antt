@@ -3,7 +3,7 @@ use Rattle.std.proofs.Common.{◌≡◌, ◌<◌, ◌≤◌, ◌+◌, ℕ, List,
 use Rattle.std.specs.Prelude.{codes}
 use Rattle.std.proofs.lemmas.Grind.{common_steps}
 use Rattle.model.specs.Words.{Text}
-use Rattle.model.specs.Tables.{Pairs, no_pairs, pair, Long_string, letter, content, pairs_bytes, ArePairs, HasSpelling, IsTable}
+use Rattle.model.specs.Tables.{Pairs, no_pairs, pair, Long_string, letter, content, pairs_bytes, ArePairs, HavePairsSpelling, IsTable}
 use Rattle.model.specs.Headers.{table_of, value_of, IsValue, AreProperties, header_bytes}
 use Rattle.model.specs.Commands.{IsWithin}
 use Rattle.model.specs.Deaths.{death_queue, death_reason, death_exchange, first_death, IsFieldOf, TellsOfDeath, IsUnmarked, AreMarked, alone, added, marked_before, with_headers}
@@ -43,7 +43,7 @@ death_fits : (queue exchange : Text) → length queue ≤ 255 → length exchang
 death_fits queue exchange q x = (omega arith, omega (arith, q), (omega arith, omega arith, (omega arith, omega (arith, x), tt)))
 
 -- behind these headers, or alone, they tell of a death
-pub added_tells : (ps : Pairs) (queue exchange : Text) → length queue ≤ 255 → length exchange < 256 → HasSpelling ps → length (pairs_bytes ps) ≤ 4000 → TellsOfDeath (pairs_bytes ps ++ first_death queue exchange)
+pub added_tells : (ps : Pairs) (queue exchange : Text) → length queue ≤ 255 → length exchange < 256 → HavePairsSpelling ps → length (pairs_bytes ps) ≤ 4000 → TellsOfDeath (pairs_bytes ps ++ first_death queue exchange)
 added_tells ps queue exchange q x fits small = record {
   pairs = joined ps (death_pairs queue exchange);
   fits = record {

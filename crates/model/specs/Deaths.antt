@@ -2,7 +2,7 @@
 -- Source: RabbitMQ, "Dead Letter Exchanges"; that a dead letter is made in the event of its rejection, and which headers it gets, is own.
 use Rattle.std.specs.Prelude.{◌≡◌, List, [], ◌∷◌, ◌++◌, length, codes, false, ◌⊎◌, Option, Some, None}
 use Rattle.model.specs.Words.{Text}
-use Rattle.model.specs.Tables.{Pairs, no_pairs, pair, Long_string, pairs_bytes, HasSpelling}
+use Rattle.model.specs.Tables.{Pairs, no_pairs, pair, Long_string, pairs_bytes, HavePairsSpelling}
 use Rattle.model.specs.Topology.{Topology, queue_names}
 use Rattle.model.specs.Routing.{Routes, Picks, key_after}
 use Rattle.model.specs.Message.{Message}
@@ -43,7 +43,7 @@ IsFieldOf (pair other v ps) name = (other ≡ name) ⊎ IsFieldOf ps name
 -- These headers tell of a first death: they are the pairs of a table in which the field of its queue stands.
 pub record TellsOfDeath (headers : Text) : Type 0 where
   pub pairs : Pairs
-  pub fits : HasSpelling pairs
+  pub fits : HavePairsSpelling pairs
   pub spelled : headers ≡ pairs_bytes pairs
   pub field : IsFieldOf pairs death_queue
 

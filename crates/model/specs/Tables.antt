@@ -113,12 +113,12 @@ abbrev pub table_bytes : Pairs → List ℕ
 table_bytes ps = sized (pairs_bytes ps)
 
 -- a table that has a spelling: 4 bytes hold its length, and tables and arrays stand inside one another at most 16 levels deep, the outermost counted (own)
-pub record HasSpelling (ps : Pairs) : Type 0 where
+pub record HavePairsSpelling (ps : Pairs) : Type 0 where
   pub size : length (pairs_bytes ps) < 2 ^ 32
   pub fits : ArePairs 15 ps
 
 -- the bytes are the pairs of a table that has a spelling
 pub record IsTable (bytes : List ℕ) : Type 0 where
   pub pairs : Pairs
-  pub fits : HasSpelling pairs
+  pub fits : HavePairsSpelling pairs
   pub spelled : bytes ≡ pairs_bytes pairs
