@@ -7,3 +7,4 @@ pub mod Signing
 pub mod Requeued
 pub mod Planned
 pub mod Rejected
+pub mod Alone

@@ -63,7 +63,11 @@ pub(crate) fn turns(
 }
 
 /// The turn of a message at the queue at this place.
-fn turn(declared: &[DeclaredQueue], place: usize, message: &Message) -> Result<Turn, AllocError>
+pub(crate) fn turn(
+    declared: &[DeclaredQueue],
+    place: usize,
+    message: &Message,
+) -> Result<Turn, AllocError>
     requires { place < length declared.now }
     ensures { IfOk result (λ t. t ≡ turn_at declared.now message.now place) }
 {
@@ -98,7 +102,7 @@ fn is_full(declared: &[DeclaredQueue], queues: &[Queue], place: usize, size: usi
 }
 
 /// The message comes to one queue, or is refused there where that is full now. Tells whether it is refused.
-fn enter(
+pub(crate) fn enter(
     declared: &[DeclaredQueue],
     queues: &mut Queues,
     turn: Turn,

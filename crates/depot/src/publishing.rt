@@ -1,14 +1,15 @@
 //! A publish: planned with all its growths, and then done, which cannot fail.
 
-ghost use Rattle.std.specs.Prelude.{◌≡◌, ◌+◌, ◌≤◌, length, IfOk, OnOk, OnErr, vec_len, vec_capacity};
+ghost use Rattle.std.specs.Prelude.{◌≡◌, ◌+◌, ◌<◌, ◌≤◌, ◌∷◌, [], length, IfOk, OnOk, OnErr, vec_len, vec_capacity};
 ghost use Rattle.model.specs.Step.{message};
+ghost use Rattle.model.specs.declared.methods.Publish.{Publish as Seen};
 ghost use Rattle.model.specs.declared.notes.Note.TheVariants.{Published};
 ghost use Rattle.exchange_graph.specs.Targets.{AreTargets};
 ghost use Rattle.depot.specs.Store.{entries_of};
 ghost use Rattle.depot.specs.Turns.{Enters};
 
 use crate::depots::Routed;
-use crate::entering::{enter_all, make_room, turns};
+use crate::entering::{enter, enter_all, make_room, turn, turns};
 use crate::queues::Queues;
 use exchange_graph::Topology;
 use model::{Content, Message, Note, Publish, Way};
@@ -56,6 +57,9 @@ pub(crate) fn publish_in(
     ensures notes { OnErr result (notes.new.items ≡ notes.old.items) }
 {
     let message = Message::of_publish(alloc, number, publish, content)?;
+    if targets.len() == 1 {
+        return publish_to_one(topology, queues, targets[0], &message, first, notes);
+    }
     let turns = turns(alloc, topology.queues(), targets, &message)?;
     make_room(queues, &turns, 1)?;
     notes.reserve_exact(turns.len() + 3)?;
@@ -64,6 +68,34 @@ pub(crate) fn publish_in(
     let is_some_full = enter_all(topology.queues(), queues, turns, Way::Publish, notes);
     Ok(Routed {
         is_none,
+        is_some_full,
+    })
+}
+
+/// The message comes to the one queue that it is routed to, at this place, or is refused there. So it takes no list of turns.
+fn publish_to_one(
+    topology: &Topology,
+    queues: &mut Queues,
+    place: usize,
+    message: &Message,
+    first: Note,
+    notes: &mut Vec<Note>,
+) -> Result<Routed, AllocError>
+    requires len { length queues.old ≡ length topology.now.queues }
+    requires within { place < length topology.now.queues }
+    ensures ok { IfOk result (λ routed. (p : Seen) → AreTargets topology.now p.exchange p.routing_key (place ∷ []) → Enters topology.now (entries_of queues.old) (entries_of queues.new) p message.now first notes.old.items notes.new.items routed) }
+    ensures len { length queues.new ≡ length queues.old }
+    ensures room { OnOk result (vec_len notes.new + 2 ≤ vec_capacity notes.new) }
+    ensures queues { OnErr result (entries_of queues.new ≡ entries_of queues.old) }
+    ensures notes { OnErr result (notes.new.items ≡ notes.old.items) }
+{
+    let turn = turn(topology.queues(), place, message)?;
+    queues.reserve(place, 1)?;
+    notes.reserve_exact(4)?;
+    notes.push_reserved(first);
+    let is_some_full = enter(topology.queues(), queues, turn, Way::Publish, notes);
+    Ok(Routed {
+        is_none: false,
         is_some_full,
     })
 }

@@ -27,7 +27,8 @@ use Rattle.state_routes.proofs.Numbers.{node_same, node_default, node_above, nod
 use Rattle.state_routes.proofs.Known.{alternate_in, from_alternates}
 use Rattle.state_routes.proofs.DeadLetters.{FromDeath, ToDeath, from_entered, to_entered, dying_tells, dying_has, unfixed_tells, link_of_gate, gate_of_link}
 use Rattle.state_routes.proofs.Chains.{chain_on}
-use Rattle.certificate_laws.proofs.Onces.{in_front, in_back, in_either, in_map, from_map}
+use Rattle.laws.proofs.Counts.{in_front, in_back, in-append}
+use Rattle.certificate_laws.proofs.Onces.{in_map, from_map}
 use Rattle.certificate_laws.proofs.Trackings.{contained, has_place}
 
 link_in : (xs : List Exchange) (q : Text) (b : Binding) (bs : List Binding) → IsIn b bs → IsIn (link_of xs q b) (links_of xs q bs)
@@ -49,7 +50,7 @@ end_within xs q (place.Queue name) = go (bytes_eq name q)
     go false = omega arith
 
 pub links_within : (t : Topology) (q : Text) → AreWithin (count t) (any_links t q)
-links_within t q l i = elim (in_either l (links_of t.exchanges q t.bindings) (alternate_links t.exchanges t.exchanges) i) [
+links_within t q l i = elim (in-append l (links_of t.exchanges q t.bindings) (alternate_links t.exchanges t.exchanges) i) [
   | inl j ↦
       let r = from_links t.exchanges q l t.bindings j in
       subst (λ (z : Link). (z.from < length t.exchanges + 4) × (z.to < length t.exchanges + 4)) (sym r.2) (node_within t.exchanges r.0.source, end_within t.exchanges q r.0.to)
@@ -72,7 +73,7 @@ module _ (t : Topology) (m : Mode) (q : Text) (deaths : List Gate) (entered : Ar
       )
 
   pub within_as : (n : ℕ) (links : List Link) → n ≡ length t.exchanges + 4 → links ≡ any_links t q ++ links_in deaths → AreWithin n links
-  within_as n links e f = subst (λ (z : ℕ). AreWithin z links) (sym e) (λ l i. elim (in_either l (any_links t q) (links_in deaths) (subst (λ (z : List Link). IsIn l z) f i)) [
+  within_as n links e f = subst (λ (z : ℕ). AreWithin z links) (sym e) (λ l i. elim (in-append l (any_links t q) (links_in deaths) (subst (λ (z : List Link). IsIn l z) f i)) [
     | inl j ↦ links_within t q l j
     | inr j ↦ let r = gate_of_link l deaths j in let w = death_low r.0 r.1 in subst (λ (z : Link). (z.from < length t.exchanges + 4) × (z.to < length t.exchanges + 4)) (sym r.2) (w.1, w.2)
   ])
@@ -114,8 +115,8 @@ module _ (t : Topology) (g : Guarantee) (q : Text) (deaths : List Gate) (entered
   -- from places that are no exchanges nothing leads on
   low_end : {a b : ℕ} → Chain (any_links t q ++ links_in deaths) a b → a < 2 → (y : Text) → b ≡ node t.exchanges y → ⊥
   low_end still h y e = let k = node_above t.exchanges y in omega arith
-  low_end (along l i f u rest) h y e = elim (in_either l (any_links t q) (links_in deaths) i) [
-    | inl j ↦ elim (in_either l (links_of t.exchanges q t.bindings) (alternate_links t.exchanges t.exchanges) j) [
+  low_end (along l i f u rest) h y e = elim (in-append l (any_links t q) (links_in deaths) i) [
+    | inl j ↦ elim (in-append l (links_of t.exchanges q t.bindings) (alternate_links t.exchanges t.exchanges) j) [
       | inl j ↦ let r = from_links t.exchanges q l t.bindings j in let k = node_above t.exchanges r.0.source in let m : l.from ≡ node t.exchanges r.0.source = ap (λ (z : Link). z.from) r.2 in omega arith
       | inr j ↦ let r = from_alternates t.exchanges t.exchanges l j in let k = node_above t.exchanges r.0.name in let m : l.from ≡ node t.exchanges r.0.name = ap (λ (z : Link). z.from) r.4 in omega arith
     ]
@@ -147,8 +148,8 @@ module _ (t : Topology) (g : Guarantee) (q : Text) (deaths : List Gate) (entered
 
   pub chain_met : {a b : ℕ} → Chain (any_links t q ++ links_in deaths) a b → (x : Text) → a ≡ node t.exchanges x → Met t g x → (y : Text) → b ≡ node t.exchanges y → IsIn y (exchange_names t.exchanges) ⊎ (y ≡ []) → Met t g y
   chain_met still x e m y f s = subst (λ (z : Text). Met t g z) (sym (same_name y x s (sym f ∙ e))) m
-  chain_met (along {b = b} {c = last} l i f u rest) x e m y k s = elim (in_either l (any_links t q) (links_in deaths) i) [
-    | inl j ↦ elim (in_either l (links_of t.exchanges q t.bindings) (alternate_links t.exchanges t.exchanges) j) [
+  chain_met (along {b = b} {c = last} l i f u rest) x e m y k s = elim (in-append l (any_links t q) (links_in deaths) i) [
+    | inl j ↦ elim (in-append l (links_of t.exchanges q t.bindings) (alternate_links t.exchanges t.exchanges) j) [
       | inl j ↦ by_link (from_links t.exchanges q l t.bindings j) (λ z h n. chain_met rest z h n y k s)
       | inr j ↦ by_other (from_alternates t.exchanges t.exchanges l j) (λ z h n. chain_met rest z h n y k s)
     ]

@@ -24,7 +24,7 @@ use Rattle.state_routes.specs.Gates.{place_of, test_by, kind_at}
 use Rattle.state_routes.specs.Deaths.{is_queue, entry, default_entry, entries, entered, AreEntered, none, next, AreMore, dying, unfixed_end, GoOn, links_in}
 use Rattle.dead_paths.specs.Found.{FindsPath}
 use Rattle.certificate_laws.proofs.Refutations.{walk_comes}
-use Rattle.certificate_laws.proofs.Onces.{in_front, in_back, in_either}
+use Rattle.laws.proofs.Counts.{in_front, in_back, in-append}
 
 -- ---- keys that a queue fixed
 
@@ -143,7 +143,7 @@ pub record ToDeath (t : Topology) (ps : List Tracked) (Ends : DeclaredQueue → 
 module _ (t : Topology) (ps : List Tracked) (Ends : DeclaredQueue → Option ℕ → Type 0) where
   pub from_entered : {queues : List DeclaredQueue} {gates : List Gate} (g : Gate) → AreEntered t ps Ends queues gates → IsIn g gates → FromDeath t ps Ends queues g
   from_entered g none i = absurd i
-  from_entered g (next {last = last} {queues = queues} {gates = gates} end ends rest) i = elim (in_either g (entered t.exchanges ps last.name t.bindings end) gates i) [
+  from_entered g (next {last = last} {queues = queues} {gates = gates} end ends rest) i = elim (in-append g (entered t.exchanges ps last.name t.bindings end) gates i) [
     | inl j ↦ first end ends j
     | inr j ↦ let r = from_entered g rest j in record { last = r.last; is_in = inr r.is_in; ends = r.ends; way = r.way }
   ]

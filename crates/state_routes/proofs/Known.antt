@@ -30,7 +30,8 @@ use Rattle.state_routes.specs.Deaths.{entry, default_entry, AreEntered, dying, G
 use Rattle.state_routes.specs.Known.{AreOnce}
 use Rattle.state_routes.proofs.DeadLetters.{ToDeath, from_entered, to_entered, dying_tells, dying_has, fixed_goes, fixed_sent, sent_fixed}
 use Rattle.state_routes.proofs.Numbers.{node_same, node_default, node_above, found_same}
-use Rattle.certificate_laws.proofs.Onces.{in_front, in_back, in_either, in_map, from_map}
+use Rattle.laws.proofs.Counts.{in_front, in_back, in-append}
+use Rattle.certificate_laws.proofs.Onces.{in_map, from_map}
 use Rattle.certificate_laws.proofs.Refutations.{comes_on}
 use Rattle.certificate_laws.proofs.Trackings.{contained, has_place, same_tracked_tells}
 
@@ -162,7 +163,7 @@ pub from_gates : (t : Topology) (q : Text) (ps : List Tracked) (g : Gate) → Is
 from_gates t q ps g i = go (has_queue t.queues q) refl i
   where
     go : (v : Bool) → has_queue t.queues q ≡ v → IsIn g (cond v (binding_gates t.exchanges q ps t.bindings ++ default_gate ps q ∷ []) (binding_gates t.exchanges q ps t.bindings)) → ((b : Binding) × IsIn b t.bindings × (g ≡ gate_of t.exchanges q ps b)) ⊎ ((has_queue t.queues q ≡ true) × (g ≡ default_gate ps q))
-    go true e j = elim (in_either g (binding_gates t.exchanges q ps t.bindings) (default_gate ps q ∷ []) j) [
+    go true e j = elim (in-append g (binding_gates t.exchanges q ps t.bindings) (default_gate ps q ∷ []) j) [
       | inl k ↦ inl (from_binding_gates t.exchanges q ps g t.bindings k)
       | inr k ↦ elim k [ inl s ↦ inr (e, s) | inr n ↦ absurd n ]
     ]
@@ -223,7 +224,7 @@ from_alternate xs name (Some other) l (inr i) = absurd i
 
 pub from_alternates : (xs es : List Exchange) (l : Link) → IsIn l (alternate_links xs es) → (e : Exchange) × (other : Text) × IsIn e es × (e.alternate ≡ Some other) × (l ≡ record { from = node xs e.name; to = node xs other })
 from_alternates xs [] l i = absurd i
-from_alternates xs (z ∷ zs) l i = elim (in_either l (alternate_link xs z.name z.alternate) (alternate_links xs zs) i) [
+from_alternates xs (z ∷ zs) l i = elim (in-append l (alternate_link xs z.name z.alternate) (alternate_links xs zs) i) [
   | inl j ↦ let r = from_alternate xs z.name z.alternate l j in (z, r.0, inl refl, r.1, r.2)
   | inr j ↦ let r = from_alternates xs zs l j in (r.0, r.1, inr r.2, r.3, r.4)
 ]
@@ -329,7 +330,7 @@ module _ (m : Mode) (t : Topology) (q : Text) (ps : List Tracked) (ms : List ℕ
         (shuts_blocks ps ms once m e.kind b.key (s b.to b (record { is_binding = has_place t.bindings b i; source = same; leads = refl })))
 
     gate_blocks : (g : Gate) → IsIn g (gates_of t q ps ++ deaths) → g.link.from ≡ node t.exchanges e.name → blocks m g.test (accepted ps ms) ≡ true
-    gate_blocks g i f = elim (in_either g (gates_of t q ps) deaths i) [
+    gate_blocks g i f = elim (in-append g (gates_of t q ps) deaths i) [
       | inl j ↦ elim (from_gates t q ps g j) [
         | inl r ↦ ap (λ (z : Gate). blocks m z.test (accepted ps ms)) r.2 ∙ binding_blocks r.0 r.1 (ap (λ (z : Gate). z.link.from) (sym r.2) ∙ f)
         | inr r ↦ absurd (no_default e (contained t.exchanges e c) (sym f ∙ ap (λ (z : Gate). z.link.from) r.1))
@@ -413,7 +414,7 @@ module _ (m : Mode) (t : Topology) (q : Text) (ps : List Tracked) (ms : List ℕ
   default_edge d i o = default d (has_place t.queues d i) refl (passes_names ps ms once m d.name o)
 
   edge_of : (l : Link) → IsIn l (ways_at m t q ps ms deaths) → FromEdge l
-  edge_of l i = elim (in_either l (open_links m (gates_of t q ps ++ deaths) (accepted ps ms)) (open_alternates m (gates_of t q ps ++ deaths) (alternate_links t.exchanges t.exchanges) (accepted ps ms)) i) [
+  edge_of l i = elim (in-append l (open_links m (gates_of t q ps ++ deaths) (accepted ps ms)) (open_alternates m (gates_of t q ps ++ deaths) (alternate_links t.exchanges t.exchanges) (accepted ps ms)) i) [
     | inl j ↦ by_open (from_open m l (gates_of t q ps ++ deaths) (accepted ps ms) j)
     | inr j ↦ by_alternate (from_blocked m (gates_of t q ps ++ deaths) l (alternate_links t.exchanges t.exchanges) (accepted ps ms) j)
   ]
@@ -460,7 +461,7 @@ module _ (m : Mode) (t : Topology) (q : Text) (ps : List Tracked) (ms : List ℕ
           ]
 
       by_open : ((g : Gate) × IsIn g (gates_of t q ps ++ deaths) × (l ≡ g.link) × (passes m g.test (accepted ps ms) ≡ true)) → FromEdge l
-      by_open (g, i, s, o) = elim (in_either g (gates_of t q ps) deaths i) [
+      by_open (g, i, s, o) = elim (in-append g (gates_of t q ps) deaths i) [
         | inl j ↦ by_gates g j s o
         | inr j ↦ by_deaths g j s o
       ]

@@ -8,13 +8,14 @@ use Rattle.model.specs.Guarantee.{Guarantee}
 use Rattle.model.specs.Tracking.{Tracked, IsTrackedList, same_tracked, once_more, each_once, keys_of}
 use Rattle.model.specs.declared.topologies.ExchangeKind.TheVariants.{Topic}
 use Rattle.state_routes.specs.Known.{AreOnce}
-use Rattle.certificate_laws.proofs.Onces.{in_either, in_any}
+use Rattle.laws.proofs.Counts.{in-append}
+use Rattle.certificate_laws.proofs.Onces.{in_any}
 use Rattle.certificate_laws.proofs.Trackings.{same_tracked_tells}
 
 once_behind : (ps : List Tracked) (p : Tracked) → AreOnce ps → (IsIn p ps → ⊥) → AreOnce (ps ++ p ∷ [])
 once_behind [] p o n = ((λ i. i), tt)
 once_behind (q ∷ qs) p o n = (
-  (λ i. elim (in_either q qs (p ∷ []) i) [
+  (λ i. elim (in-append q qs (p ∷ []) i) [
     | inl j ↦ o.0 j
     | inr j ↦ elim j [ inl e ↦ n (inl (sym e)) | inr z ↦ absurd z ]
   ]),
