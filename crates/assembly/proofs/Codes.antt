@@ -1,20 +1,23 @@
 -- Faults carry facts, a method is a publish or a command, and a header may be of a content that is too large.
-use Rattle.std.proofs.Common.{◌≡◌, ℕ, List, true, Option, Some, None, ap, subst, Result, Ok, Err}
+use Rattle.std.proofs.Common.{◌≡◌, ◌∙◌, ℕ, List, true, false, Option, Some, None, ap, subst, sym, refl, Result, Ok, Err}
 use Rattle.model.specs.Commands
-use Rattle.model.specs.Commands.{Taken, Goes_on, Makes, Breaks, Wants_header, TakesPayload, is_too_large, taken_method, taken_dropped}
+use Rattle.model.specs.Commands.{Taken, Goes_on, Makes, Breaks, Wants_header, TakesPayload, is_too_large, taken_method, taken_dropped, taken_header}
 use Rattle.model.specs.Grammar.{IsMethod, SaysMethod, said, split}
 use Rattle.model.specs.Frames.{Frame}
-use Rattle.model.specs.Headers.{SaysSize}
+use Rattle.model.specs.Headers.{Header, SaysSize, SaysHeader}
 use Rattle.model.specs.declared.events.Command.{Command}
 use Rattle.model.specs.declared.methods.Publish.{Publish}
 use Rattle.model.specs.declared.methods.Method.{Method}
 use Rattle.model.specs.declared.methods.Method.TheVariants.{BasicPublish}
 use Rattle.model.specs.declared.events.Command.TheVariants.{Plain}
+use Rattle.assembly.specs.declared.contents.Pending.{Pending}
+use Rattle.assembly.specs.declared.contents.Pending.TheVariants.{Nothing, WantsHeader, WantsBody, Drops}
 use Rattle.assembly.specs.declared.faults.Fault.{Fault}
 use Rattle.assembly.specs.declared.faults.Fault.TheVariants.{Broken, Memory}
 use Rattle.assembly.specs.Faults.{IsFault}
 use Rattle.assembly.specs.Taking.{TakesEffect}
-use Rattle.assembly.proofs.Places.{match_true}
+use Rattle.assembly.specs.Pending.{pending_of, HasPublish}
+use Rattle.assembly.proofs.Places.{match_true, match_false}
 
 -- what follows for each code follows for the fault
 pub map_fault : (P Q : ℕ → Type 0) (e : Fault) → ((code : ℕ) → P code → Q code) → IsFault P e → IsFault Q e
@@ -41,6 +44,39 @@ does_wider E F old new (Ok None) f d = f (Goes_on new) d
 does_wider E F old new (Ok (Some c)) f d = (f (Makes c) d.0, d.1, d.2)
 does_wider E F old new (Err e) f d = (map_fault _ _ e (λ code x. f (Breaks code) x) d.0, d.1)
 
--- a header of a content that is too large
-pub takes_large : (p : Publish) (f : Frame) (size : ℕ) (t : Taken) → SaysSize f.payload (Ok size) → is_too_large f.payload size ≡ true → t ≡ taken_dropped f.channel size 0 → TakesPayload (Wants_header p) f t
-takes_large p f size t s e d = (Ok size, s, match_true (is_too_large f.payload size) _ _ e d)
+-- ---- a header
+
+-- the publish whose header is awaited
+pub the_publish : (q : Pending) → HasPublish q → (p : Publish) × (q ≡ WantsHeader p)
+the_publish Nothing h = absurd h
+the_publish (WantsHeader p) h = (p, refl)
+the_publish (WantsBody g) h = absurd h
+the_publish (Drops d) h = absurd h
+
+abbrev publish_in : Pending → Publish → Publish
+publish_in Nothing p = p
+publish_in (WantsHeader q) p = q
+publish_in (WantsBody g) p = p
+publish_in (Drops d) p = p
+
+-- it is one
+pub one_publish : (q : Pending) (a b : Publish) → q ≡ WantsHeader a → q ≡ WantsHeader b → a ≡ b
+one_publish q a b e f = ap (λ (r : Pending). publish_in r a) (sym e ∙ f)
+
+-- of a content that is too large
+pub takes_large : (q : Pending) (f : Frame) (size : ℕ) (t : Taken) → HasPublish q → SaysSize f.payload (Ok size) → is_too_large f.payload size ≡ true → t ≡ taken_dropped f.channel size 0 → TakesPayload (pending_of q) f t
+takes_large Nothing f size t h s e d = absurd h
+takes_large (WantsHeader p) f size t h s e d = (Ok size, s, match_true (is_too_large f.payload size) _ _ e d)
+takes_large (WantsBody g) f size t h s e d = absurd h
+takes_large (Drops dropping) f size t h s e d = absurd h
+
+-- of any other
+pub takes_small : (p : Publish) (f : Frame) (size : ℕ) (t : Taken) → SaysSize f.payload (Ok size) → is_too_large f.payload size ≡ false → (r : Result Header ℕ) × SaysHeader f.payload r × (t ≡ taken_header f.channel p r) → TakesPayload (Wants_header p) f t
+takes_small p f size t s e d = (Ok size, s, match_false (is_too_large f.payload size) _ _ e d)
+
+-- one that declares no size
+pub takes_unsized : (q : Pending) (f : Frame) (code : ℕ) → HasPublish q → SaysSize f.payload (Err code) → TakesPayload (pending_of q) f (Breaks code)
+takes_unsized Nothing f code h s = absurd h
+takes_unsized (WantsHeader p) f code h s = (Err code, s, refl)
+takes_unsized (WantsBody g) f code h s = absurd h
+takes_unsized (Drops d) f code h s = absurd h

@@ -1,5 +1,6 @@
 -- A stream goes on frame by frame.
-use Rattle.std.proofs.Common.{◌≡◌, ◌+◌, ◌<◌, ◌≤◌, ℕ, List, ◌++◌, length, drop, true, false, Option, Some, None, Ok, Err, sym, ap, subst, refl, arith, length-append}
+use Rattle.std.proofs.Common.{◌≡◌, ◌+◌, ◌<◌, ◌≤◌, ℕ, List, ◌++◌, length, drop, true, false, Option, Some, None, Result, Ok, Err, is_err, sym, ap, subst, refl, arith, length-append}
+use Rattle.std.proofs.lemmas.Bool.{false≢true}
 use Rattle.model.specs.Broker.{with_one}
 use Rattle.model.specs.Frames.{Frame, frame_bytes, Begins, IsBroken}
 use Rattle.model.specs.Commands.{Stream, Pending, Nothing, Taken, Goes_on, Makes, Breaks, TakesOn, Takes, pending_after, Yields, first, now, later, Ends, early, short, broken, faulty, beyond, GoesOn, stays, goes}
@@ -8,10 +9,8 @@ use Rattle.model.specs.declared.events.Command.TheVariants.{Head}
 use Rattle.frame.specs.Reading.{IsUnfinished}
 use Rattle.assembly.specs.declared.faults.Fault.{Fault}
 use Rattle.assembly.specs.declared.faults.Fault.TheVariants.{Broken, Memory}
-use Rattle.assembly.specs.declared.reading.Step.{Step}
-use Rattle.assembly.specs.declared.reading.Step.TheVariants.{Ended, On, Made}
 use Rattle.assembly.specs.Taking.{DoesAt}
-use Rattle.assembly.specs.Onward.{AdvancesBy, Stops, Gives, YieldsNext, step}
+use Rattle.assembly.specs.Onward.{Stops, Gives, YieldsNext, has_command}
 
 -- what is still to come, in parts
 abbrev pub of_parts : ℕ → (ℕ → Pending) → List ℕ → Stream
@@ -62,62 +61,65 @@ ends_then (goes t g) e = beyond t (ends_then g e)
 pub goes_same : (a b c : Stream) → GoesOn a b → c ≡ b → GoesOn a c
 goes_same a b c g e = subst (λ (s : Stream). GoesOn a s) (sym e) g
 
--- ---- one frame
-
-pub steps_ended : (max : ℕ) (pending : ℕ → Pending) (bytes unread : List ℕ) → bytes ≡ unread → IsUnfinished max bytes → AdvancesBy (of_parts max pending unread) (Ok Ended) (of_parts max pending unread)
-steps_ended max pending bytes unread e u = (ends_short (of_parts max pending unread) refl (subst (IsUnfinished max) e u), refl)
-
-pub steps_broken : (max : ℕ) (pending : ℕ → Pending) (bytes unread : List ℕ) (code : ℕ) → bytes ≡ unread → (code ≡ 501) × IsBroken max bytes
-    → AdvancesBy (of_parts max pending unread) (Err (Broken code)) (of_parts max pending unread)
-steps_broken max pending bytes unread code e b = (ends_broken (of_parts max pending unread) code refl b.0 (subst (IsBroken max) e b.1), refl)
-
--- a frame was taken
-stepped : (max : ℕ) (old new : ℕ → Pending) (unread rest : List ℕ) (f : Frame) (made : Option Command) → Begins max unread f rest
-    → DoesAt (TakesOn (old f.channel) f) f.channel old (Ok made) new → AdvancesBy (of_parts max old unread) (Ok (step made)) (of_parts max new rest)
-stepped max old new unread rest f None b d =
-    let fewer = shorter max unread rest f b in
-    (d.0, takes max old new unread rest f (Goes_on d.0) b d.1 d.2, omega (arith, fewer))
-stepped max old new unread rest f (Some c) b d = (takes max old new unread rest f (Makes c) b d.0 d.2, d.1, shorter max unread rest f b)
-
-pub steps_on : (max : ℕ) (old new : ℕ → Pending) (bytes unread rest : List ℕ) (f : Frame) (size : ℕ) (made : Option Command) (s : Step)
-    → bytes ≡ unread → Begins max bytes f (drop size bytes) → rest ≡ drop size unread → s ≡ step made
-    → DoesAt (TakesOn (old f.channel) f) f.channel old (Ok made) new → AdvancesBy (of_parts max old unread) (Ok s) (of_parts max new rest)
-steps_on max old new bytes unread rest f size made s e b left is d =
-    let front : Begins max unread f (drop size unread) = subst (λ (z : List ℕ). Begins max z f (drop size z)) e b in
-    let front2 : Begins max unread f rest = subst (Begins max unread f) (sym left) front in
-    subst (λ (t : Step). AdvancesBy (of_parts max old unread) (Ok t) (of_parts max new rest)) (sym is) (stepped max old new unread rest f made front2 d)
-
--- a frame is a fault, or memory was refused
-pub steps_fault : (max : ℕ) (old new : ℕ → Pending) (bytes unread rest : List ℕ) (f : Frame) (e : Fault) → bytes ≡ unread → Begins max bytes f rest
-    → DoesAt (TakesOn (old f.channel) f) f.channel old (Err e) new → AdvancesBy (of_parts max old unread) (Err e) (of_parts max new unread)
-steps_fault max old new bytes unread rest f (Broken code) same b d =
-    let front : Begins max unread f rest = subst (λ (z : List ℕ). Begins max z f rest) same b in
-    (faulty (takes max old (with_one old f.channel Nothing) unread rest f (Breaks code) front d.0 refl), ap (λ (p : ℕ → Pending). of_parts max p unread) d.1)
-steps_fault max old new bytes unread rest f Memory same b d = (tt, ap (λ (p : ℕ → Pending). of_parts max p unread) d.1)
-
 -- ---- up to a command
 
--- a frame that ends no command
-pub on : (old mid new : Stream) (s : Step) → s ≡ On → GoesOn old mid → length mid.unread ≤ length old.unread → AdvancesBy mid (Ok s) new → GoesOn old new × (length new.unread ≤ length old.unread)
-on old mid new s e g l d =
-    let there : AdvancesBy mid (Ok On) new = subst (λ (t : Step). AdvancesBy mid (Ok t) new) e d in
-    let fewer = there.2 in
-    (goes_then g there.1, omega (arith, fewer))
+-- no whole frame stands there
+pub ended : (old : Stream) (max : ℕ) (pending : ℕ → Pending) (bytes unread : List ℕ) → GoesOn old (of_parts max pending unread) → bytes ≡ unread → IsUnfinished max bytes
+    → YieldsNext old (Ok None) (of_parts max pending unread)
+ended old max pending bytes unread g e u =
+    let end : Ends (of_parts max pending unread) None = ends_short (of_parts max pending unread) refl (subst (IsUnfinished max) e u) in
+    record { same = g; ends = ends_then g end; still = end }
 
-pub answers_ended : (old mid new : Stream) (s : Step) → s ≡ Ended → GoesOn old mid → AdvancesBy mid (Ok s) new → YieldsNext old (Ok None) new
-answers_ended old mid new s e g d =
-    let there : AdvancesBy mid (Ok Ended) new = subst (λ (t : Step). AdvancesBy mid (Ok t) new) e d in
-    record { same = goes_same old mid new g there.1; ends = ends_then g there.0; still = subst (λ (t : Stream). Ends t None) (sym there.1) there.0 }
+-- and none can
+pub unframed : (old : Stream) (max : ℕ) (pending : ℕ → Pending) (bytes unread : List ℕ) (code : ℕ) → GoesOn old (of_parts max pending unread) → bytes ≡ unread → (code ≡ 501) × IsBroken max bytes
+    → YieldsNext old (Err (Broken code)) (of_parts max pending unread)
+unframed old max pending bytes unread code g e b =
+    let end : Ends (of_parts max pending unread) (Some code) = ends_broken (of_parts max pending unread) code refl b.0 (subst (IsBroken max) e b.1) in
+    record { same = g; ends = ends_then g end; still = end }
 
-pub answers_made : (old mid new : Stream) (s : Step) (c : Command) → s ≡ Made c → GoesOn old mid → length mid.unread ≤ length old.unread → AdvancesBy mid (Ok s) new → YieldsNext old (Ok (Some c)) new
-answers_made old mid new s c e g l d =
-    let there : AdvancesBy mid (Ok (Made c)) new = subst (λ (t : Step). AdvancesBy mid (Ok t) new) e d in
-    let fewer = there.2 in
-    record { next = yields_then g (now there.0); command = there.1; shorter = omega (arith, fewer) }
+-- a frame is a fault, or memory was refused
+pub refused : (old : Stream) (max : ℕ) (before after : ℕ → Pending) (bytes unread rest : List ℕ) (f : Frame) (r : Result (Option Command) Fault)
+    → GoesOn old (of_parts max before unread) → bytes ≡ unread → Begins max bytes f rest → is_err r ≡ true
+    → DoesAt (TakesOn (before f.channel) f) f.channel before r after → YieldsNext old r (of_parts max after unread)
+refused old max before after bytes unread rest f (Ok made) g e b err d = absurd (false≢true err)
+refused old max before after bytes unread rest f (Err (Broken code)) g e b err d =
+    let front : Begins max unread f rest = subst (λ (z : List ℕ). Begins max z f rest) e b in
+    let end : Ends (of_parts max before unread) (Some code) = faulty (takes max before (with_one before f.channel Nothing) unread rest f (Breaks code) front d.0 refl) in
+    let same : of_parts max after unread ≡ of_parts max before unread = ap (λ (p : ℕ → Pending). of_parts max p unread) d.1 in
+    record { same = goes_same old _ _ g same; ends = ends_then g end; still = subst (λ (t : Stream). Ends t (Some code)) (sym same) end }
+refused old max before after bytes unread rest f (Err Memory) g e b err d =
+    goes_same old _ _ g (ap (λ (p : ℕ → Pending). of_parts max p unread) d.1)
 
-pub answers_fault : (old mid new : Stream) (e : Fault) → GoesOn old mid → AdvancesBy mid (Err e) new → YieldsNext old (Err e) new
-answers_fault old mid new (Broken code) g s = record { same = goes_same old mid new g s.1; ends = ends_then g s.0; still = subst (λ (t : Stream). Ends t (Some code)) (sym s.1) s.0 }
-answers_fault old mid new Memory g s = goes_same old mid new g s.1
+front_of : (max : ℕ) (bytes unread rest : List ℕ) (f : Frame) (size : ℕ) → bytes ≡ unread → Begins max bytes f (drop size bytes) → rest ≡ drop size unread → Begins max unread f rest
+front_of max bytes unread rest f size e b left =
+    subst (Begins max unread f) (sym left) (subst (λ (z : List ℕ). Begins max z f (drop size z)) e b)
+
+-- a frame ends a command
+pub made : (old : Stream) (max : ℕ) (before after : ℕ → Pending) (bytes unread rest : List ℕ) (f : Frame) (size : ℕ) (r : Result (Option Command) Fault)
+    → GoesOn old (of_parts max before unread) → length unread ≤ length old.unread → bytes ≡ unread → Begins max bytes f (drop size bytes) → rest ≡ drop size unread → has_command r ≡ true
+    → DoesAt (TakesOn (before f.channel) f) f.channel before r after → YieldsNext old r (of_parts max after rest)
+made old max before after bytes unread rest f size (Ok None) g l e b left has d = absurd (false≢true has)
+made old max before after bytes unread rest f size (Ok (Some c)) g l e b left has d =
+    let front = front_of max bytes unread rest f size e b left in
+    let fewer = shorter max unread rest f front in
+    record { next = yields_then g (now (takes max before after unread rest f (Makes c) front d.0 d.2)); command = d.1; shorter = omega (arith, fewer, l) }
+made old max before after bytes unread rest f size (Err fault) g l e b left has d = absurd (false≢true has)
+
+pub record Further (old mid new : Stream) : Type 0 where
+  pub goes : GoesOn old new
+  pub shorter : length new.unread ≤ length old.unread
+  pub fewer : length new.unread < length mid.unread
+
+-- a frame ends none
+pub on : (old : Stream) (max : ℕ) (before after : ℕ → Pending) (bytes unread rest : List ℕ) (f : Frame) (size : ℕ) (r : Result (Option Command) Fault)
+    → GoesOn old (of_parts max before unread) → length unread ≤ length old.unread → bytes ≡ unread → Begins max bytes f (drop size bytes) → rest ≡ drop size unread → is_err r ≡ false → has_command r ≡ false
+    → DoesAt (TakesOn (before f.channel) f) f.channel before r after → Further old (of_parts max before unread) (of_parts max after rest)
+on old max before after bytes unread rest f size (Ok None) g l e b left err has d =
+    let front = front_of max bytes unread rest f size e b left in
+    let less = shorter max unread rest f front in
+    record { goes = goes_then g (takes max before after unread rest f (Goes_on d.0) front d.1 d.2); shorter = omega (arith, less, l); fewer = omega (arith, less) }
+on old max before after bytes unread rest f size (Ok (Some c)) g l e b left err has d = absurd (false≢true (sym has))
+on old max before after bytes unread rest f size (Err fault) g l e b left err has d = absurd (false≢true (sym err))
 
 -- ---- the first eight bytes
 

@@ -1,5 +1,5 @@
 -- What channels await, when one of them is changed.
-use Rattle.std.proofs.Common.{◌≡◌, ◌<◌, ℕ, zero, suc, ◌==◌, Bool, true, false, List, [], ◌∷◌, ◌++◌, length, get_or, set, if◌then◌else◌, Option, Some, None, Result, Ok, Err, sym, ap, subst, refl, ◌∙◌, arith, rules, tests, MatchBool, length-set, get_or-set_other, get_or-set_same}
+use Rattle.std.proofs.Common.{◌≡◌, ◌<◌, ℕ, zero, suc, ◌==◌, Bool, true, false, List, [], ◌∷◌, ◌++◌, length, get_or, set, if◌then◌else◌, Option, Some, None, Result, Ok, Err, sym, ap, subst, refl, ◌∙◌, rules, tests, MatchBool, get_or-set_other, get_or-set_same}
 use Rattle.std.proofs.Math.Path.{fun_ext}
 use Rattle.std.proofs.lemmas.Bool.{eqb-false, eq-eqb, false≢true}
 use Rattle.std.proofs.lemmas.List.{get_or_default}
@@ -36,14 +36,6 @@ place xs h m p lt false e = ap pending_of (get_or-set_other xs h m p Nothing (eq
 pub pending_at-set : (xs : List Pending) (h : ℕ) (p : Pending) → h < length xs → pending_at (set xs h p) ≡ with_one (pending_at xs) h (pending_of p)
 pending_at-set xs h p lt = fun_ext (λ m. place xs h m p lt (m == h) refl)
 
-inner : (xs : List Pending) (h m : ℕ) (p : Pending) (q : Commands.Pending) → h < length xs → (t : Bool) → (m == h) ≡ t → (if t then q else pending_at (set xs h p) m) ≡ (if t then q else pending_at xs m)
-inner xs h m p q lt true e = refl
-inner xs h m p q lt false e = place xs h m p lt false e
-
-pub pending_at-set_twice : (xs : List Pending) (h : ℕ) (p q : Pending) → h < length xs → pending_at (set (set xs h p) h q) ≡ with_one (pending_at xs) h (pending_of q)
-pending_at-set_twice xs h p q lt =
-    fun_ext (λ m. place (set xs h p) h m q (omega (arith, length-set xs h p)) (m == h) refl ∙ inner xs h m p (pending_of q) lt (m == h) refl)
-
 past : (xs : List Pending) (h : ℕ) → content_at (xs ++ Nothing ∷ []) h ≡ content_at xs h
 past [] zero = refl
 past [] (suc h) = refl
@@ -66,29 +58,15 @@ pending_same xs ys e = ap (λ (f : ℕ → Pending). λ h. pending_of (f h)) e
 pub spelled_same : (xs ys : List Pending) → content_at xs ≡ content_at ys → AreSpelled ys → AreSpelled xs
 spelled_same xs ys e s = subst (λ (f : ℕ → Pending). (h : ℕ) → IsSpelledSoFar (f h)) (sym e) s
 
-spelled_at : (xs : List Pending) (h m : ℕ) (p : Pending) → h < length xs → IsSpelledSoFar p → AreSpelled xs → (t : Bool) → (m == h) ≡ t → IsSpelledSoFar (content_at (set xs h p) m)
-spelled_at xs h m p lt s all true e = subst (λ k. IsSpelledSoFar (get_or (set xs h p) k Nothing)) (sym (eq_of m h e)) (subst IsSpelledSoFar (sym (get_or-set_same xs h p Nothing lt)) s)
-spelled_at xs h m p lt s all false e = subst IsSpelledSoFar (sym (get_or-set_other xs h m p Nothing (eqb-false m h e))) (all m)
-
-pub spelled_set : (xs : List Pending) (h : ℕ) (p : Pending) → h < length xs → IsSpelledSoFar p → AreSpelled xs → AreSpelled (set xs h p)
-spelled_set xs h p lt s all m = spelled_at xs h m p lt s all (m == h) refl
-
-pub spelled_there : (xs : List Pending) (h : ℕ) (was x : Pending) → h < length xs → was ≡ x → x ≡ get_or xs h x → AreSpelled xs → IsSpelledSoFar was
-spelled_there xs h was x lt e f all = subst IsSpelledSoFar (sym (e ∙ f ∙ get_or_default xs h x Nothing lt)) (all h)
-
-pub spelled_back : (xs : List Pending) (h : ℕ) (between now : Pending) → h < length xs → between ≡ Nothing → IsSpelledSoFar now → AreSpelled xs → AreSpelled (set (set xs h between) h now)
-spelled_back xs h between now lt e s all =
-    spelled_set (set xs h between) h now (omega (arith, length-set xs h between)) s (spelled_set xs h between lt (subst IsSpelledSoFar (sym e) tt) all)
-
--- one content is taken out, a frame is taken for it, and what it has become is put back
-pub does_there : (E : Commands.Pending → Taken → Type 0) (xs : List Pending) (h : ℕ) (was x between now : Pending) (r : Result (Option Command) Fault)
-    → h < length xs → was ≡ x → x ≡ get_or xs h x → TakesEffect (E (pending_of was)) (pending_of was) r (pending_of now)
-    → DoesAt (E (pending_at xs h)) h (pending_at xs) r (pending_at (set (set xs h between) h now))
-does_there E xs h was x between now r lt e f d =
-    let same : was ≡ content_at xs h = e ∙ f ∙ get_or_default xs h x Nothing lt in
-    does_at (E (pending_at xs h)) h (pending_at xs) (pending_at (set (set xs h between) h now)) r (pending_of now)
+-- a frame is taken for one content where it stands
+pub does_there : (E : Commands.Pending → Taken → Type 0) (xs : List Pending) (h : ℕ) (was now : Pending) (r : Result (Option Command) Fault)
+    → h < length xs → was ≡ get_or xs h was → TakesEffect (E (pending_of was)) (pending_of was) r (pending_of now)
+    → DoesAt (E (pending_at xs h)) h (pending_at xs) r (pending_at (set xs h now))
+does_there E xs h was now r lt e d =
+    let same : was ≡ content_at xs h = e ∙ get_or_default xs h was Nothing lt in
+    does_at (E (pending_at xs h)) h (pending_at xs) (pending_at (set xs h now)) r (pending_of now)
     (subst (λ (p : Pending). TakesEffect (E (pending_of p)) (pending_of p) r (pending_of now)) same d)
-    (pending_at-set_twice xs h between now lt)
+    (pending_at-set xs h now lt)
 
 -- what follows for each effect follows for what was done
 pub does_so : (E F : Taken → Type 0) (h : ℕ) (old new : ℕ → Commands.Pending) (r : Result (Option Command) Fault) → ((t : Taken) → E t → F t) → DoesAt E h old r new → DoesAt F h old r new
@@ -105,7 +83,7 @@ pub match_true : (b : Bool) (P Q : Type 0) → b ≡ true → P → MatchBool b 
 match_true true P Q e p = p
 match_true false P Q e p = absurd (false≢true e)
 
-match_false : (b : Bool) (P Q : Type 0) → b ≡ false → Q → MatchBool b P Q
+pub match_false : (b : Bool) (P Q : Type 0) → b ≡ false → Q → MatchBool b P Q
 match_false true P Q e q = absurd (false≢true (sym e))
 match_false false P Q e q = q
 

@@ -1,24 +1,15 @@
 -- What a stream's calls tell.
-use Rattle.std.specs.Prelude.{◌≡◌, ◌+◌, ◌<◌, ◌≤◌, ℕ, length, Option, Some, None, Result, Ok, Err}
-use Rattle.model.specs.Commands.{Stream, Pending, Goes_on, Makes, Takes, Yields, Ends, GoesOn, IsCommand}
+use Rattle.std.specs.Prelude.{◌+◌, ◌≤◌, ℕ, length, Bool, true, false, Option, Some, None, Result, Ok, Err}
+use Rattle.model.specs.Commands.{Stream, Yields, Ends, GoesOn, IsCommand}
 use Rattle.model.specs.declared.events.Command.{Command}
 use Rattle.assembly.specs.declared.faults.Fault.{Fault}
 use Rattle.assembly.specs.declared.faults.Fault.TheVariants.{Broken, Memory}
-use Rattle.assembly.specs.declared.reading.Step.{Step}
-use Rattle.assembly.specs.declared.reading.Step.TheVariants.{Ended, On, Made}
-use Rattle.assembly.specs.Faults.{IsFault}
 
--- a frame that was taken ends this command, or none
-abbrev pub step : Option Command → Step
-step None = On
-step (Some c) = Made c
-
--- one frame was read, or none stands there
-abbrev pub AdvancesBy : Stream → Result Step Fault → Stream → Type 0
-AdvancesBy old (Ok Ended) new = Ends old None × (new ≡ old)
-AdvancesBy old (Ok On) new = (p : Pending) × Takes old (Goes_on p) new × (length new.unread < length old.unread)
-AdvancesBy old (Ok (Made c)) new = Takes old (Makes c) new × IsCommand c × (length new.unread + 8 ≤ length old.unread)
-AdvancesBy old (Err e) new = IsFault (λ code. Ends old (Some code)) e × (new ≡ old)
+-- a frame that was taken ends a command
+abbrev pub has_command : Result (Option Command) Fault → Bool
+has_command (Ok None) = false
+has_command (Ok (Some c)) = true
+has_command (Err e) = false
 
 -- no command comes: the stream ends so, then and now, and the same is still to come
 pub record Stops (old : Stream) (end : Option ℕ) (new : Stream) : Type 0 where

@@ -31,6 +31,27 @@ IsSpelledSoFar (WantsHeader publish) = IsMethod (BasicPublish publish)
 IsSpelledSoFar (WantsBody g) = IsBegun g.publish g.properties g.size
 IsSpelledSoFar (Drops d) = d.count ≤ d.size
 
+-- a publish was read, and its header is awaited
+abbrev pub HasPublish : Pending → Type 0
+HasPublish Nothing = ⊥
+HasPublish (WantsHeader publish) = ⊤
+HasPublish (WantsBody g) = ⊥
+HasPublish (Drops d) = ⊥
+
+-- a body is gathered
+abbrev pub IsGathered : Pending → Type 0
+IsGathered Nothing = ⊥
+IsGathered (WantsHeader publish) = ⊥
+IsGathered (WantsBody g) = ⊤
+IsGathered (Drops d) = ⊥
+
+-- a body is dropped
+abbrev pub IsDropped : Pending → Type 0
+IsDropped Nothing = ⊥
+IsDropped (WantsHeader publish) = ⊥
+IsDropped (WantsBody g) = ⊥
+IsDropped (Drops d) = ⊤
+
 -- the element of a channel, in a list by channel number
 abbrev pub content_at : List Pending → ℕ → Pending
 content_at contents channel = slice_index_or contents channel Nothing

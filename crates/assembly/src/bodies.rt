@@ -1,10 +1,11 @@
 //! The body of a content, while it comes in.
 
-ghost use Rattle.std.specs.Prelude.{◌≡◌, [], ◌++◌, length, OnOk, OnErr, IfOk, IfErr};
+ghost use Rattle.std.specs.Prelude.{◌≡◌, ◌≤◌, ◌<◌, ◌^◌, [], ◌++◌, length, take, OnOk, OnErr, IfOk, vec_len};
 
 use model::Text;
 use std::alloc::{AllocError, Global};
 use std::marker::Model;
+use std::mem;
 
 /// The bytes of a body that have come so far.
 ///
@@ -32,7 +33,8 @@ impl Body {
     }
 
     pub(crate) fn len(&self) -> usize
-        ensures { result ≡ length self.now }
+        ensures len { result ≡ length self.now }
+        ensures small { result < 2 ^ 63 }
     {
         self.bytes.len()
     }
@@ -45,22 +47,30 @@ impl Body {
         self.bytes.extend_from_slice(piece)
     }
 
-    /// The whole body, of which this is the last piece. Where memory is refused the body comes back as it was.
-    pub(crate) fn finish(mut self, piece: &[u8]) -> Result<Text, Body>
-        ensures ok { IfOk result (λ t. t ≡ self ++ piece.now) }
-        ensures err { IfErr result (λ b. b ≡ self) }
+    /// The whole body, of which this is the last piece, and which is taken from here. Where memory is refused it is as it was.
+    pub(crate) fn finish(&mut self, piece: &[u8]) -> Result<Text, AllocError>
+        ensures ok { IfOk result (λ t. t ≡ self.old ++ piece.now) }
+        ensures err { OnErr result (self.new ≡ self.old) }
     {
         let len = self.bytes.len();
-        if self.append(piece).is_err() {
-            return Err(self);
-        }
-        match Text::from_vec(self.bytes) {
-            Ok(text) => Ok(text),
-            Err(failed) => {
-                let mut bytes = failed.value;
-                bytes.truncate(len);
-                Err(Body { bytes })
-            }
+        self.append(piece)?;
+        whole_of(&mut self.bytes, len)
+    }
+}
+
+/// These bytes as a text, which takes them. Where memory is refused only the first `len` stay.
+fn whole_of(bytes: &mut Vec<u8>, len: usize) -> Result<Text, AllocError>
+    requires { len ≤ vec_len bytes.old }
+    ensures ok { IfOk result (λ t. t ≡ bytes.old.items) }
+    ensures err { OnErr result (bytes.new.items ≡ take len bytes.old.items) }
+{
+    let none = Vec::new(*bytes.allocator());
+    match Text::from_vec(mem::replace(bytes, none)) {
+        Ok(text) => Ok(text),
+        Err(failed) => {
+            *bytes = failed.value;
+            bytes.truncate(len);
+            Err(AllocError)
         }
     }
 }

@@ -15,7 +15,6 @@ use crate::taking::take_awaited;
 use frame::Frame;
 use model::Command;
 use std::alloc::{AllocError, Global};
-use std::mem;
 
 /// Takes a whole frame: the command that it ends, or none where its channel goes on.
 pub(crate) fn take_frame(
@@ -81,8 +80,5 @@ fn take_on_channel(
     ensures spelled { AreSpelled contents.new.items }
     ensures does { DoesAt (λ t. MatchBool (frame.now.kind == awaited (pending_at contents.old.items channel)) (TakesPayload (pending_at contents.old.items channel) (seen frame.now) t) (t ≡ Breaks 505)) channel (pending_at contents.old.items) result (pending_at contents.new.items) }
 {
-    let was = mem::replace(&mut contents[channel], Pending::Nothing);
-    let (now, answer) = take_awaited(alloc, names, was, frame);
-    contents[channel] = now;
-    answer
+    take_awaited(alloc, names, &mut contents[channel], frame)
 }

@@ -1,26 +1,33 @@
-use Rattle.std.proofs.Common.{false, arith}
+use Rattle.std.proofs.Common.{◌∙◌, sym, arith}
 use Rattle.model.specs.Commands.{stays}
-use Rattle.assembly.specs.Held.{stream}
-use Rattle.assembly.proofs.Onwards.{on, answers_ended, answers_made, answers_fault}
+use Rattle.frame.specs.Reading.{seen}
+use Rattle.assembly.specs.Pending.{pending_at}
+use Rattle.assembly.proofs.Onwards.{ended, unframed, refused, made, on}
 use Rattle.assembly.proofs.reading.next_command.Goals as goal
 
 pub frames-init : goal.frames-init
 frames-init c = record { spelled = c.requires.spelled; goes = stays; shorter = omega arith }
 
-pub frames-preserved : goal.frames-preserved
-frames-preserved c =
-    let b = on (stream false c.args.max c.args.contents.now.items c.args.unread.now) (stream false c.args.max c.frames.contents.items c.frames.unread)
-    (stream false c.args.max c.read_one.new.contents.items c.read_one.new.unread) c.in-Ok.step c.in-On.is c.frames.invariant.goes c.frames.invariant.shorter c.in-Ok.ensures.steps in
-    record { spelled = c.read_one.ensures.spelled; goes = b.0; shorter = b.1 }
+pub returns-in-More-clause-answers : goal.returns-in-More-clause-answers
+returns-in-More-clause-answers c =
+    ended _ c.args.max (pending_at c.frames.contents.items) c.bytes.result.now c.frames.unread c.frames.invariant.goes c.bytes.ensures c.in-More.ensures.tells
 
-pub returns-in-Ended-clause-answers : goal.returns-in-Ended-clause-answers
-returns-in-Ended-clause-answers c =
-    answers_ended _ (stream false c.args.max c.frames.contents.items c.frames.unread) _ c.in-Ok.step c.in-Ended.is c.frames.invariant.goes c.in-Ok.ensures.steps
+pub returns-in-Fault-clause-answers : goal.returns-in-Fault-clause-answers
+returns-in-Fault-clause-answers c =
+    unframed _ c.args.max (pending_at c.frames.contents.items) c.bytes.result.now c.frames.unread c.in-Fault.code c.frames.invariant.goes c.bytes.ensures c.in-Fault.ensures.tells
 
-pub returns-in-Made-clause-answers : goal.returns-in-Made-clause-answers
-returns-in-Made-clause-answers c =
-    answers_made _ (stream false c.args.max c.frames.contents.items c.frames.unread) _ c.in-Ok.step c.in-Made.command c.in-Made.is c.frames.invariant.goes c.frames.invariant.shorter c.in-Ok.ensures.steps
+pub returns-then-is_err-clause-answers : goal.returns-then-is_err-clause-answers
+returns-then-is_err-clause-answers c =
+    refused _ c.args.max (pending_at c.frames.contents.items) (pending_at c.take_frame-taken.new.contents.items) c.bytes.result.now c.frames.unread _ (seen c.in-Whole.frame) c.take_frame-taken.result
+    c.frames.invariant.goes c.bytes.ensures c.in-Whole.ensures.tells.front (sym c.is_err.ensures.value ∙ c.if-is_err.true) c.take_frame-taken.ensures.does
 
-pub returns-in-Err-clause-answers : goal.returns-in-Err-clause-answers
-returns-in-Err-clause-answers c =
-    answers_fault _ _ _ c.in-Err.fault c.frames.invariant.goes c.in-Err.ensures.steps
+pub returns-then-is_whole-clause-answers : goal.returns-then-is_whole-clause-answers
+returns-then-is_whole-clause-answers c =
+    made _ c.args.max (pending_at c.frames.contents.items) (pending_at c.take_frame-taken.new.contents.items) c.bytes.result.now c.frames.unread c.take.new.self (seen c.in-Whole.frame) c.in-Whole.size c.take_frame-taken.result
+    c.frames.invariant.goes c.frames.invariant.shorter c.bytes.ensures c.in-Whole.ensures.tells.front c.take.ensures (sym c.is_whole.ensures ∙ c.if-is_whole.true) c.take_frame-taken.ensures.does
+
+pub frames-preserved-else-is_whole-4 : goal.frames-preserved-else-is_whole-4
+frames-preserved-else-is_whole-4 c =
+    let further = on _ c.args.max (pending_at c.frames.contents.items) (pending_at c.take_frame-taken.new.contents.items) c.bytes.result.now c.frames.unread c.take.new.self (seen c.in-Whole.frame) c.in-Whole.size c.take_frame-taken.result
+    c.frames.invariant.goes c.frames.invariant.shorter c.bytes.ensures c.in-Whole.ensures.tells.front c.take.ensures (sym c.is_err.ensures.value ∙ c.if-is_err.false) (sym c.is_whole.ensures ∙ c.if-is_whole.false) c.take_frame-taken.ensures.does in
+    record { spelled = c.take_frame-taken.ensures.spelled; goes = further.goes; shorter = further.shorter }

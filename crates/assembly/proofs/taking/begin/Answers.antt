@@ -1,9 +1,10 @@
-use Rattle.std.proofs.Common.{sym, refl, subst}
+use Rattle.std.proofs.Common.{ap, sym, subst}
 use Rattle.model.specs.Grammar.{IsMethod}
+use Rattle.assembly.specs.Pending.{pending_of}
 use Rattle.assembly.proofs.Codes.{plain, fits}
 use Rattle.assembly.proofs.taking.begin.Goals as goal
 
 pub returns-in-Err-clause-does : goal.returns-in-Err-clause-does
 returns-in-Err-clause-does c =
     let both = plain c.args.frame.now.channel c.args.method c.in-Err.method (sym c.in-Err.ensures) in
-    (both.1, subst IsMethod (sym both.0) (fits c.requires), refl)
+    (both.1, subst IsMethod (sym both.0) (fits c.requires.said), ap pending_of c.requires.nothing)

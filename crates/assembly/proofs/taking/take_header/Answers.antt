@@ -1,21 +1,36 @@
-use Rattle.std.proofs.Common.{◌≡◌, ◌∙◌, Err, refl, sym}
+use Rattle.std.proofs.Common.{◌≡◌, ◌∙◌, refl, sym, subst}
 use Rattle.model.specs.Commands.{Wants_header, TakesPayload, taken_dropped}
 use Rattle.frame.specs.Reading.{seen}
 use Rattle.assembly.specs.Pending.{pending_of}
-use Rattle.assembly.proofs.Codes.{map_fault, does_wider, takes_large}
+use Rattle.assembly.specs.Taking.{TakesEffect}
+use Rattle.assembly.specs.declared.contents.Pending.{Pending}
+use Rattle.assembly.proofs.Codes.{map_fault, does_wider, the_publish, takes_large, takes_small, takes_unsized}
 use Rattle.assembly.proofs.Limits.{small_at}
 use Rattle.assembly.proofs.taking.take_header.Goals as goal
 
 pub returns-then-is_too_large-clause-does : goal.returns-then-is_too_large-clause-does
 returns-then-is_too_large-clause-does c =
     let f = seen c.args.frame.now in
-    does_wider (λ t. t ≡ taken_dropped c.args.frame.now.channel c.in-Ok.size 0) (TakesPayload (Wants_header c.args.publish) f) (Wants_header c.args.publish) (pending_of c.begin_dropping.result.0) c.begin_dropping.result.1
-    (λ t e. takes_large c.args.publish f c.in-Ok.size t c.in-Ok.ensures (sym c.is_too_large.ensures ∙ c.if-is_too_large.true) e)
-    (c.begin_dropping.ensures.does c.args.publish)
+    let was = c.args.pending.now in
+    does_wider (λ t. t ≡ taken_dropped f.channel c.in-Ok.size 0) (TakesPayload (pending_of was) f) (pending_of was) (pending_of c.begin_dropping.new.pending) c.begin_dropping.result
+    (λ t e. takes_large was f c.in-Ok.size t c.requires.begun c.in-Ok.ensures (sym c.is_too_large.ensures ∙ c.if-is_too_large.true) e)
+    (c.begin_dropping.ensures.does (pending_of was))
+
+pub returns-else-is_too_large-clause-does : goal.returns-else-is_too_large-clause-does
+returns-else-is_too_large-clause-does c =
+    let f = seen c.args.frame.now in
+    let now = pending_of c.begin_content.new.pending in
+    let result = c.begin_content.result in
+    let was = the_publish c.args.pending.now c.requires.begun in
+    subst (λ (q : Pending). TakesEffect (TakesPayload (pending_of q) f) (pending_of q) result now) (sym was.1)
+    (does_wider _ (TakesPayload (Wants_header was.0) f) (Wants_header was.0) now result
+    (λ t x. takes_small was.0 f c.in-Ok.size t c.in-Ok.ensures (sym c.is_too_large.ensures ∙ c.if-is_too_large.false) x)
+    (c.begin_content.ensures.does was.0 was.1))
 
 pub returns-in-Err-clause-does : goal.returns-in-Err-clause-does
 returns-in-Err-clause-does c =
-    (map_fault _ _ c.of_size.result (λ code s. (Err code, s, refl)) (c.of_size.ensures c.args.frame.now.payload.now c.in-Err.ensures), refl)
+    let f = seen c.args.frame.now in
+    (map_fault _ _ c.of_size.result (λ code s. takes_unsized c.args.pending.now f code c.requires.begun s) (c.of_size.ensures f.payload c.in-Err.ensures), refl)
 
 pub begin_content-requires-clause-small : goal.begin_content-requires-clause-small
 begin_content-requires-clause-small c = small_at c.args.frame.now.payload.now c.in-Ok.size c.in-Ok.ensures (sym c.is_too_large.ensures ∙ c.if-is_too_large.false)
