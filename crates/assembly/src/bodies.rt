@@ -47,11 +47,15 @@ impl Body {
         self.bytes.extend_from_slice(piece)
     }
 
-    /// The whole body, of which this is the last piece, and which is taken from here. Where memory is refused it is as it was.
+    /// The whole body, of which this is the last piece, and which is taken from here. A body of one piece is copied once. Where
+    /// memory is refused it is as it was.
     pub(crate) fn finish(&mut self, piece: &[u8]) -> Result<Text, AllocError>
         ensures ok { IfOk result (λ t. t ≡ self.old ++ piece.now) }
         ensures err { OnErr result (self.new ≡ self.old) }
     {
+        if self.bytes.is_empty() {
+            return Text::from_slice(*self.bytes.allocator(), piece);
+        }
         let len = self.bytes.len();
         self.append(piece)?;
         whole_of(&mut self.bytes, len)
