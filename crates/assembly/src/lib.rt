@@ -7,7 +7,6 @@
 #![tactic(auto)]
 
 mod bodies;
-mod buffers;
 mod contents;
 mod dropping;
 mod faults;

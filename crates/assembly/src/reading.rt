@@ -5,12 +5,11 @@ ghost use Rattle.assembly.specs.Pending.{AreSpelled};
 ghost use Rattle.assembly.specs.Held.{stream};
 ghost use Rattle.assembly.specs.Onward.{YieldsNext, has_command};
 
-use crate::buffers::Unread;
 use crate::contents::Pending;
 use crate::faults::Fault;
 use crate::frames::take_frame;
 use crate::names::Names;
-use frame::{Read, read_frame};
+use frame::{Buffer, Read, read_frame};
 use model::Command;
 use std::alloc::Global;
 
@@ -20,12 +19,12 @@ pub(crate) fn next_command(
     max: u32,
     names: &mut Names,
     contents: &mut Vec<Pending>,
-    unread: &mut Unread,
+    unread: &mut Buffer,
 ) -> Result<Option<Command>, Fault>
     requires max { 4096 ≤ max }
     requires spelled { AreSpelled contents.old.items }
     ensures spelled { AreSpelled contents.new.items }
-    ensures answers { YieldsNext (stream false max contents.old.items unread.old) result (stream false max contents.new.items unread.new) }
+    ensures answers { YieldsNext (stream false max contents.old.items unread.old.bytes) result (stream false max contents.new.items unread.new.bytes) }
 {
     'frames: loop {
         match read_frame(unread.bytes(), max) {
@@ -53,8 +52,8 @@ fn is_whole(taken: &Result<Option<Command>, Fault>) -> bool
 }
 
 /// Takes eight bytes, where so many are there.
-pub(crate) fn take_eight(unread: &mut Unread) -> Option<[u8; 8]>
-    ensures { MatchOption result ((length unread.old < 8) × (unread.new ≡ unread.old)) (λ bytes. (unread.old ≡ bytes ++ unread.new) × (length bytes ≡ 8)) }
+pub(crate) fn take_eight(unread: &mut Buffer) -> Option<[u8; 8]>
+    ensures { MatchOption result ((length unread.old.bytes < 8) × (unread.new ≡ unread.old)) (λ bytes. (unread.old.bytes ≡ bytes ++ unread.new.bytes) × (length bytes ≡ 8)) }
 {
     let bytes = *unread.bytes().first_chunk::<8>()?;
     unread.take(8);

@@ -5,11 +5,11 @@ ghost use Rattle.model.specs.Commands.{new_stream, running_stream, heard, with_m
 ghost use Rattle.assembly.specs.Held.{stream_of};
 ghost use Rattle.assembly.specs.Onward.{YieldsNext};
 
-use crate::buffers::Unread;
 use crate::contents::Pending;
 use crate::faults::Fault;
 use crate::names::Names;
 use crate::reading::{next_command, take_eight};
+use frame::Buffer;
 use model::Command;
 use std::alloc::{AllocError, Global};
 use std::marker::Model;
@@ -21,7 +21,7 @@ pub struct Stream {
     is_new: bool,
     max: u32,
     contents: Vec<Pending>,
-    unread: Unread,
+    unread: Buffer,
     names: Names,
 }
 
@@ -46,7 +46,7 @@ impl Model for Stream {
 
     ghost Value = { Held };
 
-    ghost view = { λ s. record { is_new = s.is_new; max = s.max; contents = s.contents.items; unread = s.unread } };
+    ghost view = { λ s. record { is_new = s.is_new; max = s.max; contents = s.contents.items; unread = s.unread.bytes } };
 
     ghost invariant = { λ s. (4096 ≤ s.max) × AreSpelled s.contents.items };
 }
@@ -62,7 +62,7 @@ impl Stream {
             is_new: true,
             max: 4096,
             contents: Vec::new(alloc),
-            unread: Unread::new(alloc),
+            unread: Buffer::new(alloc),
             names: Names::new(alloc),
         }
     }
@@ -76,7 +76,7 @@ impl Stream {
             is_new: false,
             max: 131_072,
             contents: Vec::new(alloc),
-            unread: Unread::new(alloc),
+            unread: Buffer::new(alloc),
             names: Names::new(alloc),
         }
     }
@@ -86,7 +86,9 @@ impl Stream {
         ensures ok { OnOk result (stream_of self.new ≡ heard (stream_of self.old) bytes.now) }
         ensures err { OnErr result (self.new ≡ self.old) }
     {
-        self.unread.put(bytes)
+        self.unread.reserve(bytes.len())?;
+        self.unread.put(bytes);
+        Ok(())
     }
 
     /// From now on a frame has at most `max` bytes.

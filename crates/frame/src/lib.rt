@@ -2,13 +2,16 @@
 //!
 //! A frame is a type (1 byte), a channel (2), the size of its payload (4), the payload, and the end byte `CE`. Numbers
 //! are big-endian. Source: AMQP 0-9-1, section 4.2.3, "General Frame Format".
+//! A [`Buffer`] has the bytes of a connection that were not read yet, or not sent.
 #![tactic(auto)]
 
+mod buffers;
 mod frames;
 mod laws;
 mod reading;
 mod writing;
 
+pub use buffers::Buffer;
 pub use frames::{Frame, Read};
 pub use laws::one_frame;
 pub use reading::read_frame;

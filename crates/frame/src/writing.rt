@@ -37,8 +37,8 @@ pub fn put_frame(out: &mut Vec<u8>, frame: &Frame<'_>)
     out.push_reserved(0xCE);
 }
 
-// Appends bytes for which there is room.
-fn put_bytes(out: &mut Vec<u8>, bytes: &[u8])
+/// Appends bytes for which there is room.
+pub(crate) fn put_bytes(out: &mut Vec<u8>, bytes: &[u8])
     requires { vec_len out.old + length bytes.now ≤ vec_capacity out.old }
     ensures items { out.new.items ≡ out.old.items ++ bytes.now }
     ensures len { vec_len out.new ≡ vec_len out.old + length bytes.now }

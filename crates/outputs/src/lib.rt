@@ -4,12 +4,11 @@
 //! frame by frame, in room that was made before (`put_sends`), so that nothing is put out half.
 #![tactic(auto)]
 
-mod output;
 mod scratch;
 mod sending;
 mod spares;
 
-pub use output::Output;
+pub use frame::Buffer as Output;
 pub use scratch::Scratch;
 pub use sending::put_sends;
 pub use spares::Spares;

@@ -9,7 +9,7 @@ ghost use Rattle.model.specs.Sending.{IsStored, HasStored, IsOwn, AreOwn, most_s
 ghost use Rattle.outputs.specs.Waiting.{PutsBytes};
 ghost use Rattle.outputs.specs.Sending.{header_frame, body_bytes};
 
-use crate::output::Output;
+use crate::Output;
 use crate::scratch::Scratch;
 use frame::Frame;
 use model::{Content, Method, Send};

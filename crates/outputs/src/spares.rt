@@ -4,7 +4,7 @@ ghost use Rattle.std.specs.Prelude.{◌≡◌, ◌≤◌, ◌<◌, ◌+◌, IfOk
 ghost use Rattle.model.specs.Sending.{most_sent};
 ghost use Rattle.outputs.specs.Waiting.{HoldsNone};
 
-use crate::output::Output;
+use crate::Output;
 use std::alloc::{AllocError, Global};
 use std::marker::Model;
 

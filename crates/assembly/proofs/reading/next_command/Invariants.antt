@@ -7,9 +7,9 @@ use Rattle.assembly.proofs.reading.next_command.Given as goal
 abbrev pub invariant-frames : goal.invariant-frames
 invariant-frames l = record {
   spelled : AreSpelled l.contents.items;
-  goes : GoesOn (stream false l.max l.fn.contents.items l.fn.unread) (stream false l.max l.contents.items l.unread);
-  shorter : length l.unread ≤ length l.fn.unread;
+  goes : GoesOn (stream false l.max l.fn.contents.items l.fn.unread.bytes) (stream false l.max l.contents.items l.unread.bytes);
+  shorter : length l.unread.bytes ≤ length l.fn.unread.bytes;
 }
 
 abbrev pub decreases-frames : goal.decreases-frames
-decreases-frames l = length l.unread
+decreases-frames l = length l.unread.bytes

@@ -1,5 +1,5 @@
 -- What the reader tests tells what stands at the front.
-use Rattle.std.proofs.Common.{◌≡◌, ◌+◌, ◌-◌, List, ◌∙◌, get_or, length, take, drop, [], ◌∷◌, refl, ap, sym, arith, inr, ℕ, length-append}
+use Rattle.std.proofs.Common.{◌≡◌, ◌+◌, ◌-◌, List, ◌∙◌, get_or, take, drop, [], ◌∷◌, refl, ap, arith, inr, ℕ, length-append}
 use Rattle.std.proofs.Common.{rules}
 use Rattle.frame.proofs.Fronts.{whole_at, open_front, short_front, wrong_end}
 use Rattle.frame.proofs.reading.front_of.Goals as goal

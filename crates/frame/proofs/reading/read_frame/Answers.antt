@@ -1,5 +1,5 @@
 -- A frame that stands at the front is the one that was read.
-use Rattle.std.proofs.Common.{◌≡◌, ◌<◌, ◌^◌, ◌++◌, [], ◌∷◌, ℕ, List, length, drop, arith, subst, sym, append-nil}
+use Rattle.std.proofs.Common.{◌<◌, ◌^◌, [], ℕ, List, drop, arith, subst, sym, append-nil}
 use Rattle.model.specs.Frames
 use Rattle.model.specs.Frames.{Begins}
 use Rattle.frame.specs.declared.frames.Read.{Read}

@@ -7,7 +7,7 @@ pub returns-in-Some : goal.returns-in-Some
 returns-in-Some c =
     let awaited : c.self.inside.is_new ≡ true = ap (λ (h : Held). h.is_new) c.self.view_is ∙ c.requires in
     let e = c.in-Some.ensures in
-    rw (← c.self.view_is) (first_given _ c.take_eight.new.unread c.in-Some.bytes awaited e.0 e.1)
+    rw (← c.self.view_is) (first_given _ c.take_eight.new.unread.bytes c.in-Some.bytes awaited e.0 e.1)
 
 pub returns-in-None : goal.returns-in-None
 returns-in-None c =

@@ -4,7 +4,8 @@ ghost use Rattle.std.specs.Prelude.{◌≡◌, ◌≤◌, ◌+◌, ◌^◌, [], 
 ghost use Rattle.model.specs.Frames.{frame_bytes};
 ghost use Rattle.frame.specs.Reading.{seen};
 
-use frame::{Frame, put_frame};
+use crate::frames::Frame;
+use crate::writing::{put_bytes, put_frame};
 use std::alloc::{AllocError, Global};
 use std::marker::Model;
 use std::mem;
@@ -14,14 +15,14 @@ const MOVED_FROM: usize = 16_384;
 
 /// Bytes that wait to be taken. What was taken lies in front of `start` for a while.
 #[derive(Drop)]
-pub struct Output {
+pub struct Buffer {
     bytes: Vec<u8>,
     start: usize,
 }
 
-impl Model for Output {
+impl Model for Buffer {
     ghost use Rattle.std.specs.Prelude.{◌≤◌, ◌-◌, drop, vec_len, vec_capacity};
-    ghost use Rattle.outputs.specs.Waiting.{Waiting};
+    ghost use Rattle.frame.specs.Waiting.{Waiting};
 
     ghost Value = { Waiting };
 
@@ -30,13 +31,13 @@ impl Model for Output {
     ghost invariant = { λ o. o.start ≤ vec_len o.bytes };
 }
 
-impl Output {
+impl Buffer {
     /// Nothing waits. It holds no storage, and takes no memory.
-    pub fn new(alloc: Global) -> Output
+    pub fn new(alloc: Global) -> Buffer
         ensures bytes { result.bytes ≡ [] }
         ensures room { result.room ≡ 0 }
     {
-        Output {
+        Buffer {
             bytes: Vec::new(alloc),
             start: 0,
         }
@@ -50,7 +51,7 @@ impl Output {
     }
 
     /// Whether it has no storage.
-    pub(crate) fn has_none(&self) -> bool
+    pub fn has_none(&self) -> bool
         ensures bytes { result ≡ true → self.now.bytes ≡ [] }
         ensures room { result ≡ true → self.now.room ≡ 0 }
     {
@@ -58,7 +59,7 @@ impl Output {
     }
 
     /// Moves to this storage, where nothing waits in its own, which it gives back.
-    pub(crate) fn move_into(&mut self, mut storage: Vec<u8>) -> Vec<u8>
+    pub fn move_into(&mut self, mut storage: Vec<u8>) -> Vec<u8>
         requires { self.old.bytes ≡ [] }
         ensures bytes { self.new.bytes ≡ [] }
         ensures room { self.new.room ≡ vec_capacity storage }
@@ -69,7 +70,7 @@ impl Output {
     }
 
     /// Makes room for `n` more bytes.
-    pub(crate) fn reserve(&mut self, n: usize) -> Result<(), AllocError>
+    pub fn reserve(&mut self, n: usize) -> Result<(), AllocError>
         ensures bytes { self.new.bytes ≡ self.old.bytes }
         ensures ok { OnOk result (n ≤ self.new.room) }
     {
@@ -77,22 +78,22 @@ impl Output {
     }
 
     /// Puts bytes in, for which there is room.
-    pub(crate) fn put(&mut self, more: &[u8])
+    pub fn put(&mut self, more: &[u8])
         requires { length more.now ≤ self.old.room }
         ensures bytes { self.new.bytes ≡ self.old.bytes ++ more.now }
         ensures room { self.old.room ≤ self.new.room + length more.now }
     {
-        append(&mut self.bytes, more);
+        put_bytes(&mut self.bytes, more);
     }
 
     /// Puts a frame in, for which there is room.
-    pub(crate) fn put_frame(&mut self, frame: &Frame<'_>)
+    pub fn put_frame(&mut self, frame: &Frame<'_>)
         requires size { length frame.now.payload.now + 9 ≤ 2 ^ 32 }
         requires room { length frame.now.payload.now + 8 ≤ self.old.room }
         ensures bytes { self.new.bytes ≡ self.old.bytes ++ frame_bytes (seen frame.now) }
         ensures room { self.old.room ≤ self.new.room + (length frame.now.payload.now + 8) }
     {
-        frame_into(&mut self.bytes, frame);
+        put_frame(&mut self.bytes, frame);
     }
 
     /// Takes `n` bytes. Where none is left the front is free at once; else what is left moves there once 16 KiB or more
@@ -123,27 +124,6 @@ impl Output {
         } else {
             self.take(waiting);
         }
-    }
-}
-
-fn frame_into(bytes: &mut Vec<u8>, frame: &Frame<'_>)
-    requires size { length frame.now.payload.now + 9 ≤ 2 ^ 32 }
-    requires room { vec_len bytes.old + (length frame.now.payload.now + 8) ≤ vec_capacity bytes.old }
-    ensures items { bytes.new.items ≡ bytes.old.items ++ frame_bytes (seen frame.now) }
-    ensures len { vec_len bytes.new ≡ vec_len bytes.old + (length frame.now.payload.now + 8) }
-    ensures capacity { vec_capacity bytes.old ≤ vec_capacity bytes.new }
-{
-    put_frame(bytes, frame);
-}
-
-fn append(bytes: &mut Vec<u8>, more: &[u8])
-    requires { vec_len bytes.old + length more.now ≤ vec_capacity bytes.old }
-    ensures items { bytes.new.items ≡ bytes.old.items ++ more.now }
-    ensures capacity { vec_capacity bytes.old ≤ vec_capacity bytes.new }
-{
-    match bytes.extend_from_slice(more) {
-        Ok(()) => {}
-        Err(_) => unreachable!(),
     }
 }
 
