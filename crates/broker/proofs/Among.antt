@@ -1,40 +1,12 @@
 -- A seat among others, and what is left of them after a sweep.
-use Rattle.std.proofs.Common.{Some, None, ◌+◌, ◌≡◌, ◌∙◌, ◌<◌, ℕ, zero, suc, List, [], ◌∷◌, ◌++◌, Bool, true, false, cond, length, get_or, filter, inl, inr, refl, sym, ap, subst, arith}
-use Rattle.std.specs.Prelude.{is_some, ◌==◌, ◌&&◌, ◌||◌}
-use Rattle.std.specs.List.{list_any, position_from}
-use Rattle.std.proofs.lemmas.Bool.{eqb-true, eq-eqb, false≢true}
+use Rattle.std.proofs.Common.{Some, None, ◌+◌, ◌≡◌, ◌∙◌, ◌<◌, ℕ, zero, suc, List, [], ◌∷◌, ◌++◌, Bool, true, false, cond, length, get_or, filter, inl, inr, refl, sym, ap, subst, arith, if◌then◌else◌}
+use Rattle.std.specs.Prelude.{is_some, ◌==◌, ◌&&◌}
+use Rattle.std.specs.List.{position_from}
+use Rattle.std.proofs.lemmas.Bool.{eq-eqb, false≢true}
 use Rattle.model.specs.Topology.{IsIn}
-use Rattle.broker.specs.Roster.{Listing, is_seat, is_listing}
+use Rattle.broker.specs.Roster.{is_consumer, is_seat_of}
+use Rattle.broker.specs.declared.roster.seats.Seat.{Seat}
 use Rattle.broker_core.specs.declared.picks.Pick.{Pick}
-
-same_seat : (p q : Pick) → is_seat p q ≡ true → p ≡ q
-same_seat p q = go (p.connection == q.connection) (p.channel == q.channel) (p.number == q.number) refl refl refl
-  where
-    go : (u v w : Bool) → (p.connection == q.connection) ≡ u → (p.channel == q.channel) ≡ v → (p.number == q.number) ≡ w → (u && (v && w)) ≡ true → p ≡ q
-    go true true true a b c e =
-        ap (λ (n : ℕ). record { connection = n; channel = p.channel; number = p.number }) (eqb-true p.connection q.connection a)
-        ∙ ap (λ (n : ℕ). record { connection = q.connection; channel = n; number = p.number }) (eqb-true p.channel q.channel b)
-        ∙ ap (λ (n : ℕ). record { connection = q.connection; channel = q.channel; number = n }) (eqb-true p.number q.number c)
-    go true true false a b c e = absurd (false≢true e)
-    go true false w a b c e = absurd (false≢true e)
-    go false v w a b c e = absurd (false≢true e)
-
-same_listing : (l m : Listing) → is_listing l m ≡ true → l ≡ m
-same_listing l m e = go (l.queue == m.queue) (is_seat l.seat m.seat) refl refl e
-  where
-    go : (u v : Bool) → (l.queue == m.queue) ≡ u → is_seat l.seat m.seat ≡ v → (u && v) ≡ true → l ≡ m
-    go true true a b f = ap (λ (n : ℕ). record { queue = n; seat = l.seat }) (eqb-true l.queue m.queue a) ∙ ap (λ (s : Pick). record { queue = m.queue; seat = s }) (same_seat l.seat m.seat b)
-    go true false a b f = absurd (false≢true f)
-    go false v a b f = absurd (false≢true f)
-
--- what is found among others is there
-pub listed_among : (l : Listing) (xs : List Listing) → list_any (is_listing l) xs ≡ true → IsIn l xs
-listed_among l [] e = absurd (false≢true e)
-listed_among l (x ∷ xs) e = go (is_listing l x) refl (listed_among l xs) e
-  where
-    go : (v : Bool) → is_listing l x ≡ v → (list_any (is_listing l) xs ≡ true → IsIn l xs) → (v || list_any (is_listing l) xs) ≡ true → IsIn l (x ∷ xs)
-    go true is more f = inl (same_listing l x is)
-    go false is more f = inr (more f)
 
 -- what passes a test stays
 pub stays : {X : Type 0} (test : X → Bool) (p : X) (seats : List X) → IsIn p seats → test p ≡ true → IsIn p (filter test seats)
@@ -56,14 +28,35 @@ pub at_end : {X : Type 0} (p : X) (seats : List X) → IsIn p (seats ++ p ∷ []
 at_end p [] = inl refl
 at_end p (x ∷ xs) = inr (at_end p xs)
 
+-- where one was appended, or was not
+pub pushed_in : {X : Type 0} (b : Bool) (p : X) (old new : List X) → new ≡ (if b then old ++ p ∷ [] else old) → b ≡ true → IsIn p new
+pushed_in true p old new e f = subst (λ (xs : List _). IsIn p xs) (sym e) (at_end p old)
+pushed_in false p old new e f = absurd (false≢true f)
+
+pub pushed_still : {X : Type 0} (b : Bool) (p q : X) (old new : List X) → new ≡ (if b then old ++ p ∷ [] else old) → IsIn q old → IsIn q new
+pushed_still true p q old new e i = subst (λ (xs : List _). IsIn q xs) (sym e) (in_front q old (p ∷ []) i)
+pushed_still false p q old new e i = subst (λ (xs : List _). IsIn q xs) (sym e) i
+
 -- the place at which it stands
 pub place_in : {X : Type 0} (p : X) (seats : List X) → IsIn p seats → (i : ℕ) × (i < length seats) × (get_or seats i p ≡ p)
 place_in p [] i = absurd i
 place_in p (x ∷ xs) (inl s) = (zero, (omega arith), sym s)
 place_in p (x ∷ xs) (inr i) = let (n, lt, e) = place_in p xs i in (suc n, (omega (arith, lt)), e)
 
-one_seat : (p : Pick) → is_seat p p ≡ true
-one_seat p = go (p.connection == p.connection) (p.channel == p.channel) (p.number == p.number) (eq-eqb p.connection p.connection refl) (eq-eqb p.channel p.channel refl) (eq-eqb p.number p.number refl)
+-- what stands at a place is there
+pub in_at : {X : Type 0} (seats : List X) (i : ℕ) (p d : X) → i < length seats → get_or seats i d ≡ p → IsIn p seats
+in_at [] i p d lt e = absurd (omega (arith, lt))
+in_at (x ∷ xs) zero p d lt e = inl (sym e)
+in_at (x ∷ xs) (suc i) p d lt e = inr (in_at xs i p d (omega (arith, lt)) e)
+
+-- what stands in front of what is appended
+pub front_at : {X : Type 0} (xs ys : List X) (i : ℕ) (d : X) → i < length xs → get_or (xs ++ ys) i d ≡ get_or xs i d
+front_at [] ys i d lt = absurd (omega (arith, lt))
+front_at (x ∷ xs) ys zero d lt = refl
+front_at (x ∷ xs) ys (suc i) d lt = front_at xs ys i d (omega (arith, lt))
+
+one_consumer : (p : Pick) → is_consumer p p ≡ true
+one_consumer p = go (p.connection == p.connection) (p.channel == p.channel) (p.number == p.number) (eq-eqb p.connection p.connection refl) (eq-eqb p.channel p.channel refl) (eq-eqb p.number p.number refl)
   where
     go : (u v w : Bool) → u ≡ true → v ≡ true → w ≡ true → (u && (v && w)) ≡ true
     go true true true a b c = refl
@@ -71,12 +64,12 @@ one_seat p = go (p.connection == p.connection) (p.channel == p.channel) (p.numbe
     go true false w a b c = absurd (false≢true b)
     go false v w a b c = absurd (false≢true a)
 
--- nothing that passes is there where none is found
-pub not_found : (p : Pick) (seats : List Pick) (n : ℕ) → position_from (is_seat p) n seats ≡ None → IsIn p seats → ⊥
-not_found p [] n e i = i
-not_found p (x ∷ xs) n e i = go (is_seat p x) refl e i (not_found p xs (n + 1))
+-- no seat of the consumer is there where none is found
+pub not_found : (p : Pick) (seats : List Seat) (n : ℕ) → position_from (is_seat_of p) n seats ≡ None → (s : Seat) → IsIn s seats → s.pick ≡ p → ⊥
+not_found p [] n e s i same = i
+not_found p (x ∷ xs) n e s i same = go (is_seat_of p x) refl e i (λ f j. not_found p xs (n + 1) f s j same)
   where
-    go : (v : Bool) → is_seat p x ≡ v → cond v (Some n) (position_from (is_seat p) (n + 1) xs) ≡ None → IsIn p (x ∷ xs) → (position_from (is_seat p) (n + 1) xs ≡ None → IsIn p xs → ⊥) → ⊥
+    go : (v : Bool) → is_seat_of p x ≡ v → cond v (Some n) (position_from (is_seat_of p) (n + 1) xs) ≡ None → IsIn s (x ∷ xs) → (position_from (is_seat_of p) (n + 1) xs ≡ None → IsIn s xs → ⊥) → ⊥
     go true is f j more = false≢true (sym (ap is_some f))
-    go false is f (inl same) more = false≢true (sym is ∙ ap (is_seat p) (sym same) ∙ one_seat p)
+    go false is f (inl here) more = false≢true (sym is ∙ ap (is_consumer p) (ap (λ (z : Seat). z.pick) (sym here) ∙ same) ∙ one_consumer p)
     go false is f (inr j) more = more f j

@@ -1,7 +1,9 @@
 mod Among
+mod Desks
 mod Ending
 mod Marked
 mod Outcomes
+mod Present
 mod Seated
 mod Sleeping
 mod Waking

@@ -1,5 +1,5 @@
 -- Seats of consumers: among others, after a sweep, and at each event.
-use Rattle.std.proofs.Common.{◌≡◌, ◌∙◌, ◌<◌, ℕ, List, [], ◌∷◌, ◌++◌, Bool, true, false, cond, Option, Some, None, length, map, find, not, inl, inr, ◌⊎◌, refl, sym, ap, subst, if◌then◌else◌}
+use Rattle.std.proofs.Common.{◌≡◌, ◌∙◌, ◌<◌, ℕ, List, [], ◌∷◌, ◌++◌, Bool, true, false, Option, Some, None, length, not, inl, inr, ◌⊎◌, refl, sym, ap, subst, if◌then◌else◌}
 use Rattle.std.specs.Prelude.{option_map, is_some, nat_lt, ◌==◌, ◌&&◌, ◌||◌, IfSome}
 use Rattle.std.specs.Str.{bytes_eq}
 use Rattle.std.proofs.lemmas.Bool.{eqb-true, eq-eqb, false≢true}
@@ -21,42 +21,22 @@ use Rattle.model.specs.declared.events.Event.{Event}
 use Rattle.model.specs.declared.events.Event.TheVariants.{Command}
 use Rattle.model.specs.declared.notes.Note.{Note}
 use Rattle.laws.specs.Consumers.{WasConsumer, IsMadeBy, ConsumersAreMade}
-use Rattle.channel.specs.Open.{Open, open_in, consumer_in}
-use Rattle.channel.specs.declared.consumers.Consumer.{Consumer}
-use Rattle.links.specs.Links.{Linked, link_in, channel_in, channel_at, channel_of, connection_at, limits_of}
+use Rattle.channel.specs.Open.{Open, open_in}
+use Rattle.links.specs.Links.{Linked, link_in, channel_in, channel_at, connection_at, limits_of}
 use Rattle.exchange_graph.specs.Marks.{queue_name}
 use Rattle.broker_core.specs.State.{Kept, broker_of, topology_of, names_of}
 use Rattle.judging.specs.Judged.{IsIgnored, IsRequeued, WantsNoMemory}
-use Rattle.broker.specs.Roster.{Rings, ring_at, wakes, HasConsumer, AllHaveSeats, IsServing, AllRun, HasNoList, MakesNoList, Seats, Listing, IsListed, IsSeated, IsThere, IsUp, IsAwake, IsSeatedIn, KeepsSeats, AllDrowse, AllWaken}
-use Rattle.links.specs.Consumers.{has_consumer_numbered, next_number}
-use Rattle.broker_core.specs.Seats.{has_consumer, is_consume, next_seat, seat_of, consumed, IsConsumed}
+use Rattle.broker.specs.Roster.{Rings, Lists, ring_at, wakes, HasConsumer, AllHaveSeats, IsServing, AllRun, HasNoList, MakesNoList, IsSeated, IsAwake, KeepsSeats, KeepsAll}
+use Rattle.links.specs.Consumers.{next_number}
+use Rattle.broker_core.specs.Seats.{is_consume, next_seat, seat_of, consumed, IsConsumed}
 use Rattle.broker_core.specs.declared.picks.Pick.{Pick}
 use Rattle.broker_core.proofs.Consuming.{seat_not_ignored}
-use Rattle.broker_core.proofs.Stepping.{seen_there}
-use Rattle.broker.proofs.Sleeping.{stands, up_still, seated_woken}
+use Rattle.broker.proofs.Present.{has_kept}
 use Rattle.broker.proofs.Waking.{cannot_still}
 
 -- each step leaves what is held and what is outstanding in agreement
 abbrev pub StayAgreed : Type 0
 StayAgreed = (t : Topology) (old new : Broker) (e : Event) (sends : List Send) (notes : List Note) → IsAgreed old → Acts t old e sends notes new → IsAgreed new
-
--- ---- a consumer that is seen is kept
-
-found_by : (names : List Text) (cs : List Consumer) (k : seen.Consumer) (n : ℕ) → IsIn k (map (consumer_in names) cs) → k.number ≡ n → is_some (find (λ (c : Consumer). c.number == n) cs) ≡ true
-found_by names [] k n i e = absurd i
-found_by names (c ∷ cs) k n (inl s) e = ap (λ (v : Bool). is_some (cond v (Some c) (find (λ (x : Consumer). x.number == n) cs))) (eq-eqb c.number n (sym (ap (λ (x : seen.Consumer). x.number) s) ∙ e))
-found_by names (c ∷ cs) k n (inr i) e = go (c.number == n) (found_by names cs k n i e)
-  where
-    go : (v : Bool) → is_some (find (λ (x : Consumer). x.number == n) cs) ≡ true → is_some (cond v (Some c) (find (λ (x : Consumer). x.number == n) cs)) ≡ true
-    go true more = refl
-    go false more = more
-
-has_kept : (kept : Kept) (place : ℕ) (p : Pick) → HasConsumer (topology_of kept) (broker_of kept) place p → has_consumer kept p ≡ true
-has_kept kept place p has =
-    let ch = has.was.0 in
-    let channel = seen_there (names_of kept) (channel_of kept.links p.connection p.channel) ch has.was.1 in
-    ap (λ (o : Option Open). has_consumer_numbered o p.number) channel.there
-    ∙ found_by (names_of kept) channel.kept.given.consumers has.consumer p.number (subst (λ (x : Channel). IsIn has.consumer x.consumers) (sym channel.same) has.was.2) has.numbered
 
 -- where no seat of a consumer that is there is gone, each still has its seat
 pub seats_kept : (kept : Kept) (old new : Rings) → KeepsSeats kept old new → AllHaveSeats (topology_of kept) (broker_of kept) old → AllHaveSeats (topology_of kept) (broker_of kept) new
@@ -68,36 +48,33 @@ seats_kept kept old new keeps seated place p has = keeps place p (seated place p
 abbrev seat_for : ℕ → ℕ → seen.Consumer → Pick
 seat_for c h k = record { connection = c; channel = h; number = k.number }
 
--- the seats of those that may take more after this event are awake
-abbrev pub AreWoken : Event → Rings → Type 0
-AreWoken e rings = (place : ℕ) (p : Pick) → wakes e p ≡ true → IsThere rings place p → IsAwake (ring_at rings.rings place) p
+-- the seats of consumers that may take more after this event are awake
+abbrev pub AreWoken : Topology → Broker → Event → Rings → Type 0
+AreWoken t b e rings = (place : ℕ) (p : Pick) → wakes e p ≡ true → HasConsumer t b place p → IsAwake (ring_at rings.rings place) p
 
 -- each consumer has its seat after an event where the one that the event makes has
-seated_after : ConsumersAreMade → (t : Topology) (old new : Broker) (e : Event) (sends : List Send) (notes : List Note) (rings : Rings) → Acts t old e sends notes new → AreWoken e rings → AllHaveSeats t old rings
-    → ((c h : ℕ) (k : seen.Consumer) → IsMadeBy old e c h k → WasConsumer new c h k → (place : ℕ) → place < length t.queues → queue_name t place ≡ k.queue → IsSeated old rings place (seat_for c h k) ⊎ IsUp rings place (seat_for c h k))
+seated_after : ConsumersAreMade → (t : Topology) (old new : Broker) (e : Event) (sends : List Send) (notes : List Note) (rings : Rings) → Acts t old e sends notes new → AreWoken t old e rings → AllHaveSeats t old rings
+    → ((c h : ℕ) (k : seen.Consumer) → IsMadeBy old e c h k → WasConsumer new c h k → (place : ℕ) → place < length t.queues → queue_name t place ≡ k.queue → HasConsumer t old place (seat_for c h k) ⊎ IsAwake (ring_at rings.rings place) (seat_for c h k))
     → AllHaveSeats t new rings
 seated_after law t old new e sends notes rings acts woken seated makes place p has = go (law t old new e sends notes acts p.connection p.channel has.consumer has.was)
   where
-    up : IsUp rings place p → IsSeated new rings place p
-    up is = record { listed = is.listed; seat = inl is.awake }
-
-    still : IsSeated old rings place p → IsSeated new rings place p
-    still was = record { listed = was.listed; seat = on (wakes e p) refl was.seat }
+    still : HasConsumer t old place p → IsSeated new rings place p
+    still was = on (wakes e p) refl (seated place p was)
       where
-        on : (v : Bool) → wakes e p ≡ v → IsSeatedIn old (ring_at rings.rings place) p → IsSeatedIn new (ring_at rings.rings place) p
-        on true f i = inl (woken place p f (record { listed = was.listed; there = stands old (ring_at rings.rings place) p was.seat }))
+        on : (v : Bool) → wakes e p ≡ v → IsSeated old rings place p → IsSeated new rings place p
+        on true f i = inl (woken place p f was)
         on false f (inl awake) = inl awake
-        on false f (inr (i, cannot)) = inr (i, cannot_still t old new e sends notes p acts f cannot)
+        on false f (inr s) = inr (record { asleep = s.asleep; cannot = cannot_still t old new e sends notes p acts f s.cannot; listed = s.listed })
 
-    made_there : IsSeated old rings place p ⊎ IsUp rings place p → IsSeated new rings place p
+    made_there : HasConsumer t old place p ⊎ IsAwake (ring_at rings.rings place) p → IsSeated new rings place p
     made_there (inl was) = still was
-    made_there (inr is) = up is
+    made_there (inr up) = inl up
 
     go : WasConsumer old p.connection p.channel has.consumer ⊎ IsMadeBy old e p.connection p.channel has.consumer → IsSeated new rings place p
-    go (inl before) = still (seated place p (record { consumer = has.consumer; was = before; numbered = has.numbered; within = has.within; named = has.named }))
+    go (inl before) = still (record { consumer = has.consumer; was = before; numbered = has.numbered; within = has.within; named = has.named })
     go (inr made) =
         made_there
-        (subst (λ (n : ℕ). IsSeated old rings place (record { connection = p.connection; channel = p.channel; number = n }) ⊎ IsUp rings place (record { connection = p.connection; channel = p.channel; number = n })) has.numbered
+        (subst (λ (n : ℕ). HasConsumer t old place (record { connection = p.connection; channel = p.channel; number = n }) ⊎ IsAwake (ring_at rings.rings place) (record { connection = p.connection; channel = p.channel; number = n })) has.numbered
         (makes p.connection p.channel has.consumer made has.was place has.within has.named))
 
 -- an event is a command
@@ -106,7 +83,7 @@ is_command (Command c h m content) = true
 is_command e = false
 
 -- no other makes a consumer
-pub seated_still : ConsumersAreMade → (t : Topology) (old new : Broker) (e : Event) (sends : List Send) (notes : List Note) (rings : Rings) → Acts t old e sends notes new → AreWoken e rings → is_command e ≡ false → AllHaveSeats t old rings → AllHaveSeats t new rings
+pub seated_still : ConsumersAreMade → (t : Topology) (old new : Broker) (e : Event) (sends : List Send) (notes : List Note) (rings : Rings) → Acts t old e sends notes new → AreWoken t old e rings → is_command e ≡ false → AllHaveSeats t old rings → AllHaveSeats t new rings
 seated_still law t old new e sends notes rings acts woken none seated =
     seated_after law t old new e sends notes rings acts woken seated (λ c h k made was place within named. absurd (false≢true (sym none ∙ ap is_command made.2)))
 
@@ -208,36 +185,37 @@ module _ (t : Topology) (old new : Broker) (c h : ℕ) (m : Consume) (content : 
   came (Some conn) p = decided (refusal t old conn h (BasicConsume m) (old.channel c h)) p
 
 -- a consumer that an event makes has its seat where the event's seat is there
-pub seated_next : ConsumersAreMade → (t : Topology) (kept : Kept) (new : Broker) (e : Event) (sends : List Send) (notes : List Note) (rings : Rings) → Acts t (broker_of kept) e sends notes new → AreWoken e rings → AllHaveSeats t (broker_of kept) rings
-    → IfSome (seat_of kept e) (λ p. (place : ℕ) → IsConsumed t e place → IsUp rings place p) → AllHaveSeats t new rings
+pub seated_next : ConsumersAreMade → (t : Topology) (kept : Kept) (new : Broker) (e : Event) (sends : List Send) (notes : List Note) (rings : Rings) → Acts t (broker_of kept) e sends notes new → AreWoken t (broker_of kept) e rings → AllHaveSeats t (broker_of kept) rings
+    → IfSome (seat_of kept e) (λ p. (place : ℕ) → IsConsumed t e place → IsAwake (ring_at rings.rings place) p) → AllHaveSeats t new rings
 seated_next law t kept new e sends notes rings acts woken seated next = seated_after law t b new e sends notes rings acts woken seated made
   where
     b : Broker
     b = broker_of kept
 
-    made : (c h : ℕ) (k : seen.Consumer) → IsMadeBy b e c h k → WasConsumer new c h k → (place : ℕ) → place < length t.queues → queue_name t place ≡ k.queue → IsSeated b rings place (seat_for c h k) ⊎ IsUp rings place (seat_for c h k)
+    made : (c h : ℕ) (k : seen.Consumer) → IsMadeBy b e c h k → WasConsumer new c h k → (place : ℕ) → place < length t.queues → queue_name t place ≡ k.queue → HasConsumer t b place (seat_for c h k) ⊎ IsAwake (ring_at rings.rings place) (seat_for c h k)
     made c h k (m, content, is, numbered) was place within named = on (came t b new c h m content sends notes k (b.connection c) same was)
       where
         same : OnConnection t b c h (BasicConsume m) content sends notes new (b.connection c)
         same = subst (λ (x : Event). Acts t b x sends notes new) is acts
 
-        before : WasConsumer b c h k → IsSeated b rings place (seat_for c h k) ⊎ IsUp rings place (seat_for c h k)
-        before there = inl (seated place (seat_for c h k) (record { consumer = k; was = there; numbered = refl; within = within; named = named }))
+        before : WasConsumer b c h k → HasConsumer t b place (seat_for c h k) ⊎ IsAwake (ring_at rings.rings place) (seat_for c h k)
+        before there = inl (record { consumer = k; was = there; numbered = refl; within = within; named = named })
 
         here : k.queue ≡ m.queue → IsConsumed t e place
         here queue = record { within = within; named = ap consumed is ∙ ap (λ (q : Text). Some q) (sym queue ∙ sym named) }
 
-        go : k.queue ≡ m.queue → (o : Option Pick) → next_seat c h (link_in kept.links c) ≡ o → IfSome o (λ p. (at : ℕ) → IsConsumed t e at → IsUp rings at p) → IsSeated b rings place (seat_for c h k) ⊎ IsUp rings place (seat_for c h k)
+        go : k.queue ≡ m.queue → (o : Option Pick) → next_seat c h (link_in kept.links c) ≡ o → IfSome o (λ p. (at : ℕ) → IsConsumed t e at → IsAwake (ring_at rings.rings at) p)
+            → HasConsumer t b place (seat_for c h k) ⊎ IsAwake (ring_at rings.rings place) (seat_for c h k)
         go queue None f i =
             let stays = ignored_stays t b c h (BasicConsume m) content sends notes new (b.connection c) (no_seat t kept c h m f) same in
             before (was.0, sym (stays.channels c h) ∙ was.1, was.2)
         go queue (Some p) f i =
-            inr (subst (λ (q : Pick). IsUp rings place q) (next_number_is (names_of kept) c h (link_in kept.links c) p f ∙ ap (λ (n : ℕ). record { connection = c; channel = h; number = n }) (sym numbered))
+            inr (subst (λ (q : Pick). IsAwake (ring_at rings.rings place) q) (next_number_is (names_of kept) c h (link_in kept.links c) p f ∙ ap (λ (n : ℕ). record { connection = c; channel = h; number = n }) (sym numbered))
             (i place (here queue)))
 
-        on : WasConsumer b c h k ⊎ (k.queue ≡ m.queue) → IsSeated b rings place (seat_for c h k) ⊎ IsUp rings place (seat_for c h k)
+        on : WasConsumer b c h k ⊎ (k.queue ≡ m.queue) → HasConsumer t b place (seat_for c h k) ⊎ IsAwake (ring_at rings.rings place) (seat_for c h k)
         on (inl there) = before there
-        on (inr queue) = go queue (next_seat c h (link_in kept.links c)) refl (subst (λ (x : Event). IfSome (seat_of kept x) (λ p. (at : ℕ) → IsConsumed t e at → IsUp rings at p)) is next)
+        on (inr queue) = go queue (next_seat c h (link_in kept.links c)) refl (subst (λ (x : Event). IfSome (seat_of kept x) (λ p. (at : ℕ) → IsConsumed t e at → IsAwake (ring_at rings.rings at) p)) is next)
 
 -- ---- what every broker keeps
 
@@ -253,12 +231,12 @@ holds kept r serving = record { agreed = serving.agreed; rings_for = serving.rin
 pub serves : (kept : Kept) (r : Rings) → Holds kept r → AllRun (broker_of kept) r.lists → IsServing kept r
 serves kept r held running = record { agreed = held.agreed; rings_for = held.rings_for; seated = held.seated; running = running }
 
--- where no connection ends, and lists stay as they are, what is listed is of connections that run
-pub running_still : (old new : Broker) (before after : List (ℕ × List Listing)) → ((d : ℕ) → new.connection d ≡ None → old.connection d ≡ None) → after ≡ before → AllRun old before → AllRun new after
-running_still old new before after runs same running d none = subst (λ (ls : List (ℕ × List Listing)). HasNoList ls d) (sym same) (running d (runs d none))
+-- where no connection ends, and no list is made, what is listed is of connections that run
+pub running_still : (old new : Broker) (before after : Lists) → ((d : ℕ) → new.connection d ≡ None → old.connection d ≡ None) → MakesNoList before after → AllRun old before → AllRun new after
+running_still old new before after runs makes running d none = makes d (running d (runs d none))
 
 -- where no other connection than this ends, nothing is listed of this if it runs no more, and no list is made
-pub running_but : (old new : Broker) (before after : List (ℕ × List Listing)) (c : ℕ) → ((d : ℕ) → (d == c) ≡ false → new.connection d ≡ None → old.connection d ≡ None) → (new.connection c ≡ None → HasNoList after c) → MakesNoList before after
+pub running_but : (old new : Broker) (before after : Lists) (c : ℕ) → ((d : ℕ) → (d == c) ≡ false → new.connection d ≡ None → old.connection d ≡ None) → (new.connection c ≡ None → HasNoList after c) → MakesNoList before after
     → AllRun old before → AllRun new after
 running_but old new before after c others gone makes running d none = go (d == c) refl
   where
@@ -268,7 +246,7 @@ running_but old new before after c others gone makes running d none = go (d == c
 
 -- each event that is no command leaves it so
 pub serves_still : StayAgreed → ConsumersAreMade → (t : Topology) (old new : Kept) (e : Event) (sends : List Send) (notes : List Note) (rings : Rings)
-    → Acts t (broker_of old) e sends notes (broker_of new) → AreWoken e rings → is_command e ≡ false → topology_of old ≡ t → topology_of new ≡ t → Holds old rings → Holds new rings
+    → Acts t (broker_of old) e sends notes (broker_of new) → AreWoken t (broker_of old) e rings → is_command e ≡ false → topology_of old ≡ t → topology_of new ≡ t → Holds old rings → Holds new rings
 serves_still agrees law t old new e sends notes rings acts woken none was is serving = record {
   agreed = agrees t (broker_of old) (broker_of new) e sends notes serving.agreed acts;
   rings_for = serving.rings_for ∙ ap (λ (x : Topology). length x.queues) (was ∙ sym is);
@@ -280,12 +258,12 @@ serves_still agrees law t old new e sends notes rings acts woken none was is ser
 pub serves_asleep : StayAgreed → ConsumersAreMade → (t : Topology) (old new : Kept) (e : Event) (sends : List Send) (notes : List Note) (rings : Rings)
     → Acts t (broker_of old) e sends notes (broker_of new) → ((p : Pick) → wakes e p ≡ false) → is_command e ≡ false → topology_of old ≡ t → topology_of new ≡ t → Holds old rings → Holds new rings
 serves_asleep agrees law t old new e sends notes rings acts asleep none was is serving =
-    serves_still agrees law t old new e sends notes rings acts (λ place p woken there. absurd (false≢true (sym (asleep p) ∙ woken))) none was is serving
+    serves_still agrees law t old new e sends notes rings acts (λ place p woken has. absurd (false≢true (sym (asleep p) ∙ woken))) none was is serving
 
 -- so does one whose seat is there
 pub serves_next : StayAgreed → ConsumersAreMade → (old new : Kept) (e : Event) (sends : List Send) (notes : List Note) (rings : Rings)
-    → Acts (topology_of old) (broker_of old) e sends notes (broker_of new) → AreWoken e rings → topology_of new ≡ topology_of old
-    → IfSome (seat_of old e) (λ p. (place : ℕ) → IsConsumed (topology_of old) e place → IsUp rings place p) → Holds old rings → Holds new rings
+    → Acts (topology_of old) (broker_of old) e sends notes (broker_of new) → AreWoken (topology_of old) (broker_of old) e rings → topology_of new ≡ topology_of old
+    → IfSome (seat_of old e) (λ p. (place : ℕ) → IsConsumed (topology_of old) e place → IsAwake (ring_at rings.rings place) p) → Holds old rings → Holds new rings
 serves_next agrees law old new e sends notes rings acts woken is next serving = record {
   agreed = agrees (topology_of old) (broker_of old) (broker_of new) e sends notes serving.agreed acts;
   rings_for = serving.rings_for ∙ ap (λ (x : Topology). length x.queues) (sym is);
@@ -297,29 +275,9 @@ serves_next agrees law old new e sends notes rings acts woken is next serving = 
 pub serves_kept : (kept : Kept) (before rings : Rings) → KeepsSeats kept before rings → length rings.rings ≡ length before.rings → Holds kept before → Holds kept rings
 serves_kept kept before rings keeps len serving = record { agreed = serving.agreed; rings_for = len ∙ serving.rings_for; seated = seats_kept kept before rings keeps serving.seated }
 
--- where seats are woken, or fall asleep whose consumers may take nothing, each is there still
-pub keeps_drowsy : (kept : Kept) (old new : Rings) → AllDrowse (broker_of kept) old.rings new.rings → new.lists ≡ old.lists → KeepsSeats kept old new
-keeps_drowsy kept old new drowse same place p was has = record {
-  listed = subst (λ (ls : List (ℕ × List Listing)). IsListed ls (record { queue = place; seat = p })) (sym same) was.listed;
-  seat = drowse place p was.seat;
-}
-
-pub woken_drowse : (b : Broker) (old new : List Seats) → AllWaken old new → AllDrowse b old new
-woken_drowse b old new w place = seated_woken b (ring_at old place) (ring_at new place) (w place)
-
--- who is up stays up where seats are woken
-pub up_woken : (old new : Rings) (place : ℕ) (p : Pick) → AllWaken old.rings new.rings → new.lists ≡ old.lists → IsUp old place p → IsUp new place p
-up_woken old new place p w same is = record {
-  listed = subst (λ (ls : List (ℕ × List Listing)). IsListed ls (record { queue = place; seat = p })) (sym same) is.listed;
-  awake = up_still (ring_at old.rings place) (ring_at new.rings place) p (w place) is.awake;
-}
-
--- where seats are woken, one that is there was there
-pub woken_there : (old new : Rings) (place : ℕ) (p : Pick) → AllWaken old.rings new.rings → new.lists ≡ old.lists → IsThere new place p → IsThere old place p
-woken_there old new place p w same is = record {
-  listed = subst (λ (ls : List (ℕ × List Listing)). IsListed ls (record { queue = place; seat = p })) same is.listed;
-  there = subst (λ (xs : List Pick). IsIn p xs) (w place).seats is.there;
-}
+-- where no seat is gone at all
+pub keeps_all : (kept : Kept) (old new : Rings) → KeepsAll old new → KeepsSeats kept old new
+keeps_all kept old new keeps place p i has = keeps (broker_of kept) place p i
 
 -- with no consumer none wants a seat
 pub serves_none : (kept : Kept) (rings : Rings) → IsAgreed (broker_of kept) → length rings.rings ≡ length (topology_of kept).queues → ((c h : ℕ) → (broker_of kept).channel c h ≡ None) → Holds kept rings

@@ -1,9 +1,9 @@
 -- Seats that fall asleep and are woken.
-use Rattle.std.proofs.Common.{◌≡◌, ◌∙◌, ◌<◌, ◌≤◌, ◌+◌, ℕ, zero, suc, List, [], ◌∷◌, ◌++◌, Bool, true, false, Option, length, get_or, filter, inl, inr, ◌⊎◌, refl, sym, ap, subst, arith}
-use Rattle.std.specs.Prelude.{◌==◌, slice_index_or}
+use Rattle.std.proofs.Common.{◌≡◌, ◌∙◌, ◌<◌, ◌≤◌, ◌+◌, ℕ, List, ◌++◌, Bool, true, false, length, get_or, set, filter, inl, inr, ◌⊎◌, refl, sym, ap, subst, arith}
+use Rattle.std.specs.Prelude.{◌==◌}
 use Rattle.std.proofs.lemmas.Bool.{eqb-true, eq-eqb, false≢true}
 use Rattle.std.proofs.lemmas.Bool.Decides.{leb_tells}
-use Rattle.std.proofs.lemmas.List.{length-append}
+use Rattle.std.proofs.lemmas.List.{length-append, length-set, get_or-set_same, get_or-set_other}
 use Rattle.model.specs.Topology.{IsIn}
 use Rattle.model.specs.Broker.{Broker}
 use Rattle.model.specs.Consuming.{MayTake}
@@ -13,8 +13,9 @@ use Rattle.broker_core.specs.State.{Kept, broker_of}
 use Rattle.broker_core.specs.Picked.{IsPickFrom, CannotTake}
 use Rattle.broker_core.specs.Seats.{has_consumer}
 use Rattle.broker_core.specs.declared.picks.Pick.{Pick}
-use Rattle.broker.specs.Roster.{Seats, Listing, ring_at, is_of, IsAwake, IsSeatedIn, Sleep, Wakens, AllWaken, Drowses, KeepsRing}
-use Rattle.broker.proofs.Among.{stays, place_in, in_front}
+use Rattle.broker.specs.declared.roster.seats.Seat.{Seat}
+use Rattle.broker.specs.Roster.{Seats, Lists, Listing, ring_of, awake_seat, asleep_seat, has_its_consumer, IsAwakeAt, IsAwake, IsAsleep, IsListed, IsSeatedIn, KeepsIn, KeepsRing, ListsMore, ListsStay, NoneAwake, FallsAsleep, Wakens, AllWaken, IsWoken}
+use Rattle.broker.proofs.Among.{stays, place_in, in_at, in_front, front_at}
 
 -- to one who may take nothing no delivery can be made
 pub cannot_pick : (kept : Kept) (queue : ℕ) (p : Pick) → CannotTake (broker_of kept) p → IsPickFrom kept queue p → ⊥
@@ -36,131 +37,181 @@ set_more old new place i d e = go (i == place) refl
     go true f = subst (λ (n : ℕ). new n ≡ 1) (sym (eqb-true i place f)) d.there
     go false f = d.others i (apart i place f) ∙ e
 
--- ---- seats that fall asleep
+-- ---- one seat is set
 
-pub sleep_still : (b : Broker) (seats : List Pick) (marks : List ℕ) → Sleep b seats marks marks
-sleep_still b seats marks i p lt e = inl e
+-- the place of a seat that sleeps
+asleep_at : (seats : List Seat) (p : Pick) → IsIn (asleep_seat p) seats → (i : ℕ) × (i < length seats) × ((d : Seat) → get_or seats i d ≡ asleep_seat p)
+asleep_at seats p i = let (j, lt, e) = place_in (asleep_seat p) seats i in (j, lt, λ d. same_default seats j d (asleep_seat p) lt ∙ e)
 
-pub sleep_on : (b : Broker) (seats : List Pick) (old mid new : List ℕ) → Sleep b seats old mid → Sleep b seats mid new → Sleep b seats old new
-sleep_on b seats old mid new first then i p lt e = elim (first i p lt e) [ inl f ↦ then i p lt f | inr f ↦ inr f ]
+module _ (seats : List Seat) (old new : List ℕ) (place : ℕ) (s : Seat) (within : place < length seats) where
+  -- a seat at another place is as it was
+  pub awake_apart : (t : Seat) → ((k : ℕ) → (k ≡ place → ⊥) → bit_of new k ≡ bit_of old k) → (i : ℕ) (p : Pick) → (i ≡ place → ⊥) → IsAwakeAt (ring_of seats old) i p → IsAwakeAt (ring_of (set seats place t) new) i p
+  awake_apart t others i p far at = record {
+    within = let lt = at.within in let long = length-set seats place t in omega (arith, lt, long);
+    there = λ d. get_or-set_other seats place i t d far ∙ at.there d;
+    marked = others i far ∙ at.marked;
+  }
 
--- one place was looked at
-pub sleep_one : (b : Broker) (seats : List Pick) (old new : List ℕ) (place : ℕ) (seat : Pick) → ((d : Pick) → slice_index_or seats place d ≡ seat) → (bit_of new place ≡ bit_of old place) ⊎ CannotTake b seat
-    → ((k : ℕ) → (k ≡ place → ⊥) → bit_of new k ≡ bit_of old k) → Sleep b seats old new
-sleep_one b seats old new place seat there here others i p lt e = go (i == place) refl
-  where
-    at : i ≡ place → (bit_of new place ≡ bit_of old place) ⊎ CannotTake b seat → (bit_of new i ≡ 1) ⊎ CannotTake b (slice_index_or seats i p)
-    at same (inl f) = inl (ap (bit_of new) same ∙ f ∙ ap (bit_of old) (sym same) ∙ e)
-    at same (inr f) = inr (subst (CannotTake b) (sym (ap (λ (n : ℕ). slice_index_or seats n p) same ∙ there p)) f)
+  -- so is one that sleeps
+  asleep_apart : (t : Seat) (p : Pick) (i : ℕ) → (i ≡ place → ⊥) → i < length seats → ((d : Seat) → get_or seats i d ≡ asleep_seat p) → IsAsleep (ring_of (set seats place t) new) p
+  asleep_apart t p i far lt there = in_at (set seats place t) i (asleep_seat p) s (let long = length-set seats place t in omega (arith, lt, long)) (get_or-set_other seats place i t s far ∙ there s)
 
-    go : (v : Bool) → (i == place) ≡ v → (bit_of new i ≡ 1) ⊎ CannotTake b (slice_index_or seats i p)
-    go true f = at (eqb-true i place f) here
-    go false f = inl (others i (apart i place f) ∙ e)
+  -- the seat that was set
+  pub awake_here : (t : Seat) (p : Pick) → t ≡ awake_seat p → bit_of new place ≡ 1 → IsAwakeAt (ring_of (set seats place t) new) place p
+  awake_here t p is one = record {
+    within = let long = length-set seats place t in omega (arith, within, long);
+    there = λ d. get_or-set_same seats place t d within ∙ is;
+    marked = one;
+  }
 
--- to none of the seats at these places that were awake a delivery can be made
-abbrev pub NoneTo : Kept → ℕ → List Pick → List ℕ → ℕ → ℕ → Type 0
-NoneTo kept queue seats old from to = (i : ℕ) (p : Pick) → from ≤ i → i < to → bit_of old i ≡ 1 → IsPickFrom kept queue (slice_index_or seats i p) → ⊥
+  asleep_here : (t : Seat) (p : Pick) → t ≡ asleep_seat p → IsAsleep (ring_of (set seats place t) new) p
+  asleep_here t p is = in_at (set seats place t) place (asleep_seat p) s (let long = length-set seats place t in omega (arith, within, long)) (get_or-set_same seats place t s within ∙ is)
 
--- nor to those that are asleep now
-pub none_gap : (kept : Kept) (queue : ℕ) (seats : List Pick) (old mid : List ℕ) (from next bound : ℕ) → Sleep (broker_of kept) seats old mid → NoneTo kept queue seats old from next
-    → ((k : ℕ) → next ≤ k → k < bound → bit_of mid k ≡ 0) → bound ≤ length seats → NoneTo kept queue seats old from bound
-none_gap kept queue seats old mid from next bound sleep none zeros most i p least lt e pick = elim (leb_tells (i + 1) next) [
-  | inl a ↦ let le = a.1 in none i p least (omega (arith, le)) e pick
-  | inr a ↦ let gt = a.1 in gap (zeros i (omega (arith, gt)) lt) (sleep i p (omega (arith, lt, most)) e)
+  -- it is woken
+  pub roused : ((d : Seat) → get_or seats place d ≡ s) → Differs (bit_of old) (bit_of new) place 1 → Wakens (ring_of seats old) (ring_of (set seats place (awake_seat s.pick)) new)
+  roused there d = record { awake = awake; asleep = asleep }
+    where
+      here : (p : Pick) → s.pick ≡ p → IsAwake (ring_of (set seats place (awake_seat s.pick)) new) p
+      here p is = (place, awake_here (awake_seat s.pick) p (ap awake_seat is) d.there)
+
+      awake : (p : Pick) → IsAwake (ring_of seats old) p → IsAwake (ring_of (set seats place (awake_seat s.pick)) new) p
+      awake p (i, at) = go (i == place) refl
+        where
+          go : (v : Bool) → (i == place) ≡ v → IsAwake (ring_of (set seats place (awake_seat s.pick)) new) p
+          go true f = here p (ap (λ (z : Seat). z.pick) (sym (there s) ∙ ap (λ (n : ℕ). get_or seats n s) (sym (eqb-true i place f)) ∙ at.there s))
+          go false f = (i, awake_apart (awake_seat s.pick) d.others i p (apart i place f) at)
+
+      asleep : (p : Pick) → IsAsleep (ring_of seats old) p → IsAsleep (ring_of (set seats place (awake_seat s.pick)) new) p ⊎ IsAwake (ring_of (set seats place (awake_seat s.pick)) new) p
+      asleep p i = go (asleep_at seats p i)
+        where
+          go : (j : ℕ) × (j < length seats) × ((d : Seat) → get_or seats j d ≡ asleep_seat p) → IsAsleep (ring_of (set seats place (awake_seat s.pick)) new) p ⊎ IsAwake (ring_of (set seats place (awake_seat s.pick)) new) p
+          go (j, lt, at) = by (j == place) refl
+            where
+              by : (v : Bool) → (j == place) ≡ v → IsAsleep (ring_of (set seats place (awake_seat s.pick)) new) p ⊎ IsAwake (ring_of (set seats place (awake_seat s.pick)) new) p
+              by true f = inr (here p (ap (λ (z : Seat). z.pick) (sym (there s) ∙ ap (λ (n : ℕ). get_or seats n s) (sym (eqb-true j place f)) ∙ at s)))
+              by false f = inl (asleep_apart (awake_seat s.pick) p j (apart j place f) lt at)
+
+  -- it was looked at, and fell asleep if it might
+  pub rested : (kept : Kept) (queue : ℕ) (before after : Lists) (t : Seat) → ((d : Seat) → get_or seats place d ≡ s) → ListsMore before after → (s.asleep ≡ true → t ≡ s)
+      → ((bit_of new place ≡ bit_of old place) × (t ≡ s)) ⊎ (s.asleep ≡ false → has_consumer kept s.pick ≡ true → FallsAsleep (broker_of kept) after queue s t)
+      → ((k : ℕ) → (k ≡ place → ⊥) → bit_of new k ≡ bit_of old k) → KeepsIn kept queue before after (ring_of seats old) (ring_of (set seats place t) new)
+  rested kept queue before after t there more still fell others p = keep
+    where
+      Now : Type 0
+      Now = IsSeatedIn (broker_of kept) after queue (ring_of (set seats place t) new) p
+
+      fallen : s ≡ awake_seat p → FallsAsleep (broker_of kept) after queue s t → Now
+      fallen is f =
+          let own : s.pick ≡ p = ap (λ (z : Seat). z.pick) is in
+          inr (record {
+            asleep = asleep_here t p (f.asleep ∙ ap asleep_seat own);
+            cannot = subst (CannotTake (broker_of kept)) own f.cannot;
+            listed = subst (λ (q : Pick). IsListed after (record { queue = queue; seat = q })) own f.listed;
+          })
+
+      looked : s ≡ awake_seat p → bit_of old place ≡ 1 → has_consumer kept p ≡ true → ((bit_of new place ≡ bit_of old place) × (t ≡ s)) ⊎ (s.asleep ≡ false → has_consumer kept s.pick ≡ true → FallsAsleep (broker_of kept) after queue s t) → Now
+      looked is one has (inl same) = inl (place, awake_here t p (same.1 ∙ is) (same.0 ∙ one))
+      looked is one has (inr f) = fallen is (f (ap (λ (z : Seat). z.asleep) is) (ap (λ (z : Seat). has_consumer kept z.pick) is ∙ has))
+
+      keep : IsSeatedIn (broker_of kept) before queue (ring_of seats old) p → has_consumer kept p ≡ true → Now
+      keep (inl (i, at)) has = go (i == place) refl
+        where
+          go : (v : Bool) → (i == place) ≡ v → Now
+          go true f =
+              let same = eqb-true i place f in
+              looked (sym (there s) ∙ ap (λ (n : ℕ). get_or seats n s) (sym same) ∙ at.there s) (ap (bit_of old) (sym same) ∙ at.marked) has fell
+          go false f = inl (i, awake_apart t others i p (apart i place f) at)
+      keep (inr f) has = inr (record { asleep = go (asleep_at seats p f.asleep); cannot = f.cannot; listed = more.stay (record { queue = queue; seat = p }) f.listed })
+        where
+          go : (j : ℕ) × (j < length seats) × ((d : Seat) → get_or seats j d ≡ asleep_seat p) → IsAsleep (ring_of (set seats place t) new) p
+          go (j, lt, at) = by (j == place) refl
+            where
+              by : (v : Bool) → (j == place) ≡ v → IsAsleep (ring_of (set seats place t) new) p
+              by true e =
+                  let is : s ≡ asleep_seat p = sym (there s) ∙ ap (λ (n : ℕ). get_or seats n s) (sym (eqb-true j place e)) ∙ at s in
+                  asleep_here t p (still (ap (λ (z : Seat). z.asleep) is) ∙ is)
+              by false e = asleep_apart t p j (apart j place e) lt at
+
+-- ---- those to whom no delivery can be made
+
+-- nor to those at places that are passed over
+pub none_gap : (kept : Kept) (queue : ℕ) (old mid : Seats) (from next bound : ℕ) → NoneAwake kept queue old from next → ((i : ℕ) (p : Pick) → next ≤ i → IsAwakeAt old i p → IsAwakeAt mid i p)
+    → ((k : ℕ) → next ≤ k → k < bound → bit_of mid.marks k ≡ 0) → NoneAwake kept queue old from bound
+none_gap kept queue old mid from next bound none behind zeros i p least lt at pick = elim (leb_tells (i + 1) next) [
+  | inl a ↦ let le = a.1 in none i p least (omega (arith, le)) at pick
+  | inr a ↦
+      let gt = a.1 in
+      let one = sym (zeros i (omega (arith, gt)) lt) ∙ (behind i p (omega (arith, gt)) at).marked in
+      omega (arith, one)
 ]
-  where
-    gap : bit_of mid i ≡ 0 → (bit_of mid i ≡ 1) ⊎ CannotTake (broker_of kept) (slice_index_or seats i p) → ⊥
-    gap z (inl f) = let one = sym z ∙ f in omega (arith, one)
-    gap z (inr f) = cannot_pick kept queue (slice_index_or seats i p) f pick
 
 -- one place more
-pub none_more : (kept : Kept) (queue : ℕ) (seats : List Pick) (old : List ℕ) (from place : ℕ) (seat : Pick) → ((d : Pick) → slice_index_or seats place d ≡ seat) → (IsPickFrom kept queue seat → ⊥)
-    → NoneTo kept queue seats old from place → NoneTo kept queue seats old from (place + 1)
-none_more kept queue seats old from place seat there never none i p least lt e pick = elim (leb_tells (i + 1) place) [
-  | inl a ↦ let le = a.1 in none i p least (omega (arith, le)) e pick
+pub none_more : (kept : Kept) (queue : ℕ) (old : Seats) (from place : ℕ) → NoneAwake kept queue old from place → ((p : Pick) → IsAwakeAt old place p → IsPickFrom kept queue p → ⊥) → NoneAwake kept queue old from (place + 1)
+none_more kept queue old from place none never i p least lt at pick = elim (leb_tells (i + 1) place) [
+  | inl a ↦ let le = a.1 in none i p least (omega (arith, le)) at pick
   | inr a ↦
       let gt = a.1 in
       let here : i ≡ place = omega (arith, lt, gt) in
-      never (subst (IsPickFrom kept queue) (ap (λ (n : ℕ). slice_index_or seats n p) here ∙ there p) pick)
+      never p (subst (λ (n : ℕ). IsAwakeAt old n p) here at) pick
 ]
 
 -- in two parts
-pub none_round : (kept : Kept) (queue : ℕ) (seats : List Pick) (old mid : List ℕ) (turn : ℕ) → Sleep (broker_of kept) seats old mid → NoneTo kept queue seats old turn (length seats) → NoneTo kept queue seats mid 0 turn
-    → NoneTo kept queue seats old 0 (length seats)
-none_round kept queue seats old mid turn sleep behind before i p least lt e pick = elim (leb_tells turn i) [
-  | inl a ↦ behind i p a.1 lt e pick
-  | inr a ↦ let gt = a.1 in at (omega (arith, gt)) (sleep i p lt e)
+pub none_round : (kept : Kept) (queue : ℕ) (old mid : Seats) (turn bound : ℕ) → NoneAwake kept queue old turn bound → ((i : ℕ) (p : Pick) → i < turn → IsAwakeAt old i p → IsAwakeAt mid i p) → NoneAwake kept queue mid 0 turn
+    → NoneAwake kept queue old 0 bound
+none_round kept queue old mid turn bound behind still before i p least lt at pick = elim (leb_tells turn i) [
+  | inl a ↦ behind i p a.1 lt at pick
+  | inr a ↦ let gt = a.1 in before i p (omega arith) (omega (arith, gt)) (still i p (omega (arith, gt)) at) pick
 ]
-  where
-    at : i < turn → (bit_of mid i ≡ 1) ⊎ CannotTake (broker_of kept) (slice_index_or seats i p) → ⊥
-    at less (inl f) = before i p (omega arith) less f pick
-    at less (inr f) = cannot_pick kept queue (slice_index_or seats i p) f pick
+
+pub none_seated : (kept : Kept) (lists : Lists) (queue : ℕ) (r : Seats) → NoneAwake kept queue r 0 (length r.seats) → (p : Pick) → IsSeatedIn (broker_of kept) lists queue r p → IsPickFrom kept queue p → ⊥
+none_seated kept lists queue r none p (inl (i, at)) pick = none i p (omega arith) at.within at pick
+none_seated kept lists queue r none p (inr f) pick = cannot_pick kept queue p f.cannot pick
 
 -- ---- rings
 
--- what stands at a place is there
-pub in_at : (seats : List Pick) (i : ℕ) (p d : Pick) → i < length seats → get_or seats i d ≡ p → IsIn p seats
-in_at [] i p d lt e = absurd (omega (arith, lt))
-in_at (x ∷ xs) zero p d lt e = inl (sym e)
-in_at (x ∷ xs) (suc i) p d lt e = inr (in_at xs i p d (omega (arith, lt)) e)
+-- where more is listed who was seated is so still
+pub seated_more : (b : Broker) (before after : Lists) (queue : ℕ) (r : Seats) (p : Pick) → ListsStay before after → IsSeatedIn b before queue r p → IsSeatedIn b after queue r p
+seated_more b before after queue r p stay (inl up) = inl up
+seated_more b before after queue r p stay (inr f) = inr (record { asleep = f.asleep; cannot = f.cannot; listed = stay (record { queue = queue; seat = p }) f.listed })
 
--- who has a seat stands in the ring
-pub stands : (b : Broker) (r : Seats) (p : Pick) → IsSeatedIn b r p → IsIn p r.seats
-stands b r p (inl up) = in_at r.seats up.place p p up.within (up.there p)
-stands b r p (inr (i, cannot)) = i
-
-pub drowses : (b : Broker) (seats : List Pick) (old new : List ℕ) → Sleep b seats old new → Drowses b (record { seats = seats; awake = old }) (record { seats = seats; awake = new })
-drowses b seats old new sleep p (inl up) = go (sleep up.place p up.within up.awake)
-  where
-    go : (bit_of new up.place ≡ 1) ⊎ CannotTake b (slice_index_or seats up.place p) → IsSeatedIn b (record { seats = seats; awake = new }) p
-    go (inl f) = inl (record { place = up.place; within = up.within; there = up.there; awake = f })
-    go (inr f) = inr (in_at seats up.place p p up.within (up.there p), subst (CannotTake b) (up.there p) f)
-drowses b seats old new sleep p (inr f) = inr f
-
-pub none_seated : (kept : Kept) (queue : ℕ) (seats : List Pick) (old : List ℕ) → NoneTo kept queue seats old 0 (length seats) → (p : Pick) → IsSeatedIn (broker_of kept) (record { seats = seats; awake = old }) p → IsPickFrom kept queue p → ⊥
-none_seated kept queue seats old none p (inl up) pick = none up.place p (omega arith) up.within up.awake (subst (IsPickFrom kept queue) (sym (up.there p)) pick)
-none_seated kept queue seats old none p (inr f) pick = cannot_pick kept queue p f.1 pick
-
--- where the list stays and no bit goes, seats are woken
-pub up_still : (old new : Seats) (p : Pick) → Wakens old new → IsAwake old p → IsAwake new p
-up_still old new p w up = record {
-  place = up.place;
-  within = subst (λ (xs : List Pick). up.place < length xs) (sym w.seats) up.within;
-  there = λ d. ap (λ (xs : List Pick). slice_index_or xs up.place d) w.seats ∙ up.there d;
-  awake = w.awake up.place up.awake;
-}
+-- so is one where seats are woken
+pub seated_woken : (b : Broker) (lists : Lists) (queue : ℕ) (old new : Seats) (p : Pick) → Wakens old new → IsSeatedIn b lists queue old p → IsSeatedIn b lists queue new p
+seated_woken b lists queue old new p w (inl up) = inl (w.awake p up)
+seated_woken b lists queue old new p w (inr f) = elim (w.asleep p f.asleep) [
+  | inl still ↦ inr (record { asleep = still; cannot = f.cannot; listed = f.listed })
+  | inr up ↦ inl up
+]
 
 pub waken_on : (old mid new : Seats) → Wakens old mid → Wakens mid new → Wakens old new
-waken_on old mid new v w = record { seats = w.seats ∙ v.seats; awake = λ i e. w.awake i (v.awake i e) }
+waken_on old mid new v w = record { awake = λ p up. w.awake p (v.awake p up); asleep = λ p i. elim (v.asleep p i) [ inl still ↦ w.asleep p still | inr up ↦ inr (w.awake p up) ] }
 
-pub seated_woken : (b : Broker) (old new : Seats) → Wakens old new → Drowses b old new
-seated_woken b old new w p (inl up) = inl (up_still old new p w up)
-seated_woken b old new w p (inr f) = inr (subst (λ (xs : List Pick). IsIn p xs) (sym w.seats) f.0, f.1)
+-- after a sweep picks look at all that are left
+pub swept : (kept : Kept) (old new : Seats) → new.seats ≡ filter (has_its_consumer kept) old.seats → ((i : ℕ) → i < length new.seats → bit_of new.marks i ≡ 1) → KeepsRing kept old new
+swept kept old new is marked lists queue p = keep
+  where
+    left : (s : Seat) → IsIn s old.seats → has_its_consumer kept s ≡ true → IsIn s new.seats
+    left s i has = subst (λ (xs : List Seat). IsIn s xs) (sym is) (stays (has_its_consumer kept) s old.seats i has)
 
--- after a sweep all that are left are awake
-pub swept : (kept : Kept) (old new : Seats) → new.seats ≡ filter (has_consumer kept) old.seats → ((i : ℕ) → i < length new.seats → bit_of new.awake i ≡ 1) → KeepsRing kept old new
-swept kept old new is awake p i has =
-    let at = place_in p new.seats (subst (λ (xs : List Pick). IsIn p xs) (sym is) (stays (has_consumer kept) p old.seats (stands (broker_of kept) old p i) has)) in
-    inl (record { place = at.0; within = at.1; there = λ d. same_default new.seats at.0 d p at.1 ∙ at.2; awake = awake at.0 at.1 })
+    keep : IsSeatedIn (broker_of kept) lists queue old p → has_consumer kept p ≡ true → IsSeatedIn (broker_of kept) lists queue new p
+    keep (inl (i, at)) has =
+        let (j, lt, e) = place_in (awake_seat p) new.seats (left (awake_seat p) (in_at old.seats i (awake_seat p) (awake_seat p) at.within (at.there (awake_seat p))) has) in
+        inl (j, record { within = lt; there = λ d. same_default new.seats j d (awake_seat p) lt ∙ e; marked = marked j lt })
+    keep (inr f) has = inr (record { asleep = left (asleep_seat p) f.asleep has; cannot = f.cannot; listed = f.listed })
 
-front_at : (xs ys : List Pick) (i : ℕ) (d : Pick) → i < length xs → get_or (xs ++ ys) i d ≡ get_or xs i d
-front_at [] ys i d lt = absurd (omega (arith, lt))
-front_at (x ∷ xs) ys zero d lt = refl
-front_at (x ∷ xs) ys (suc i) d lt = front_at xs ys i d (omega (arith, lt))
-
--- seats more at the end, and one more awake
-pub pushed : (b : Broker) (seats more : List Pick) (old new : List ℕ) (place : ℕ) (p : Pick) → Differs (bit_of old) (bit_of new) place 1 → IsSeatedIn b (record { seats = seats; awake = old }) p → IsSeatedIn b (record { seats = seats ++ more; awake = new }) p
-pushed b seats more old new place p d (inl up) =
-    let lt = up.within in
+-- seats more at the end, and one more at which picks look
+pub pushed : (kept : Kept) (seats more : List Seat) (old new : List ℕ) (place : ℕ) → Differs (bit_of old) (bit_of new) place 1 → KeepsRing kept (ring_of seats old) (ring_of (seats ++ more) new)
+pushed kept seats more old new place d lists queue p (inl (i, at)) has =
+    let lt = at.within in
     let long = length-append seats more in
-    inl (record { place = up.place; within = omega (arith, lt, long); there = λ e. front_at seats more up.place e up.within ∙ up.there e; awake = set_more (bit_of old) (bit_of new) place up.place d up.awake })
-pushed b seats more old new place p d (inr f) = inr (in_front p seats more f.0, f.1)
+    inl (i, record { within = omega (arith, lt, long); there = λ e. front_at seats more i e at.within ∙ at.there e; marked = set_more (bit_of old) (bit_of new) place i d at.marked })
+pushed kept seats more old new place d lists queue p (inr f) has = inr (record { asleep = in_front (asleep_seat p) seats more f.asleep; cannot = f.cannot; listed = f.listed })
 
--- a listed seat is woken where it stands
-pub woken_one : (channel : Option ℕ) (listed : List Listing) (rings mid new : List Seats) (place i : ℕ) (d x : Listing) → i ≡ place → place < length listed → AllWaken rings mid
-    → (is_of channel (get_or listed place x).seat ≡ true → IsIn (get_or listed place x).seat (ring_at mid (get_or listed place x).queue).seats → IsAwake (ring_at new (get_or listed place x).queue) (get_or listed place x).seat)
-    → is_of channel (get_or listed i d).seat ≡ true → IsIn (get_or listed i d).seat (ring_at rings (get_or listed i d).queue).seats → IsAwake (ring_at new (get_or listed i d).queue) (get_or listed i d).seat
-woken_one channel listed rings mid new place i d x at lt wakens f of there =
-    let same : get_or listed place x ≡ get_or listed i d = same_default listed place x d lt ∙ ap (λ (n : ℕ). get_or listed n d) (sym at) in
-    subst (λ (l : Listing). is_of channel l.seat ≡ true → IsIn l.seat (ring_at mid l.queue).seats → IsAwake (ring_at new l.queue) l.seat) same f of
-    (subst (λ (xs : List Pick). IsIn (get_or listed i d).seat xs) (sym (wakens (get_or listed i d).queue).seats) there)
+-- ---- what is listed is woken
+
+-- who was woken is awake still
+pub woken_still : (old mid new : List Seats) (l : Listing) → IsWoken old mid l → AllWaken mid new → IsWoken old new l
+woken_still old mid new l woken w i = (w l.queue).awake l.seat (woken i)
+
+-- and one is woken now
+pub woken_one : (old mid new : List Seats) (l : Listing) → AllWaken old mid → IsWoken mid new l → AllWaken mid new → IsWoken old new l
+woken_one old mid new l v woken w i = elim ((v l.queue).asleep l.seat i) [ inl still ↦ woken still | inr up ↦ (w l.queue).awake l.seat up ]

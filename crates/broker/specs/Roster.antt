@@ -16,71 +16,113 @@ use Rattle.broker_core.specs.State.{Kept, broker_of, topology_of}
 use Rattle.broker_core.specs.Picked.{IsPickFrom, CannotTake}
 use Rattle.broker_core.specs.Seats.{has_consumer}
 use Rattle.broker_core.specs.declared.picks.Pick.{Pick}
+use Rattle.broker.specs.declared.roster.seats.Seat.{Seat}
 
 -- ---- seats
 
--- The seats of a queue's consumers, in the order in which they were made, and a bit for each: 1 where it is awake.
+-- The seats of a queue's consumers, in the order in which they were made, and a bit for each: picks look where it is 1.
 pub record Seats : Type 0 where
-  pub seats : List Pick
-  pub awake : List ℕ
+  pub seats : List Seat
+  pub marks : List ℕ
 
--- A seat, and the place of the queue in whose ring it is.
+-- The seat of a consumer, by its numbers, and the place of the queue in whose ring it is.
 pub record Listing : Type 0 where
   pub queue : ℕ
   pub seat : Pick
 
--- The rings of all queues, in the order of the file, and beside the number of each connection what seats its consumers have.
+-- beside the number of each connection what sleeps on each of its channels, at the channel's number
+abbrev pub Lists : Type 0
+Lists = List (ℕ × List (List Listing))
+
+-- The rings of all queues, in the order of the file, and what sleeps.
 pub record Rings : Type 0 where
   pub rings : List Seats
-  pub lists : List (ℕ × List Listing)
+  pub lists : Lists
 
 -- the seats of the consumers of the queue at this place, where each queue has such a ring
 abbrev pub ring_at : List Seats → ℕ → Seats
-ring_at rings place = slice_index_or rings place (record { seats = []; awake = [] })
+ring_at rings place = slice_index_or rings place (record { seats = []; marks = [] })
 
--- two seats are one
-abbrev pub is_seat : Pick → Pick → Bool
-is_seat p q = (p.connection == q.connection) && ((p.channel == q.channel) && (p.number == q.number))
+-- seats and their bits
+abbrev pub ring_of : List Seat → List ℕ → Seats
+ring_of seats marks = record { seats = seats; marks = marks }
 
--- so are two listings
-abbrev pub is_listing : Listing → Listing → Bool
-is_listing l m = (l.queue == m.queue) && is_seat l.seat m.seat
+-- rings, and what sleeps
+abbrev pub rings_of : List Seats → Lists → Rings
+rings_of rings lists = record { rings = rings; lists = lists }
+
+-- two consumers are one
+abbrev pub is_consumer : Pick → Pick → Bool
+is_consumer p q = (p.connection == q.connection) && ((p.channel == q.channel) && (p.number == q.number))
+
+-- the seat is this consumer's
+abbrev pub is_seat_of : Pick → Seat → Bool
+is_seat_of p s = is_consumer p s.pick
 
 -- the consumer of the seat is there
-abbrev pub has_its_consumer : Kept → Listing → Bool
-has_its_consumer kept l = has_consumer kept l.seat
+abbrev pub has_its_consumer : Kept → Seat → Bool
+has_its_consumer kept s = has_consumer kept s.pick
 
--- This seat stands in the ring and is awake, so that a pick looks at it.
-pub record IsAwake (r : Seats) (p : Pick) : Type 0 where
-  pub place : ℕ
+-- this consumer's seat, awake
+abbrev pub awake_seat : Pick → Seat
+awake_seat p = record { pick = p; asleep = false }
+
+-- and asleep
+abbrev pub asleep_seat : Pick → Seat
+asleep_seat p = record { pick = p; asleep = true }
+
+-- At this place of the ring this consumer's seat stands, awake, where picks look at it.
+pub record IsAwakeAt (r : Seats) (place : ℕ) (p : Pick) : Type 0 where
   pub within : place < length r.seats
-  pub there : (d : Pick) → slice_index_or r.seats place d ≡ p
-  pub awake : bit_of r.awake place ≡ 1
+  pub there : (d : Seat) → slice_index_or r.seats place d ≡ awake_seat p
+  pub marked : bit_of r.marks place ≡ 1
 
--- the seat stands in the ring; it is awake, or its consumer may take no message now
-abbrev pub IsSeatedIn : Broker → Seats → Pick → Type 0
-IsSeatedIn b r p = IsAwake r p ⊎ (IsIn p r.seats × CannotTake b p)
+-- it stands somewhere in the ring
+abbrev pub IsAwake : Seats → Pick → Type 0
+IsAwake r p = (place : ℕ) × IsAwakeAt r place p
 
--- The list of the seat's connection has it.
-pub record IsListed (lists : List (ℕ × List Listing)) (l : Listing) : Type 0 where
-  pub listings : List Listing
-  pub there : lookup (nat_eq l.seat.connection) lists ≡ Some listings
-  pub among : IsIn l listings
+-- this consumer's seat stands in the ring, asleep
+abbrev pub IsAsleep : Seats → Pick → Type 0
+IsAsleep r p = IsIn (asleep_seat p) r.seats
 
--- The consumer of these numbers has its seat in the ring of the queue at this place, and is found when it is to be woken.
-pub record IsSeated (b : Broker) (r : Rings) (place : ℕ) (p : Pick) : Type 0 where
-  pub listed : IsListed r.lists (record { queue = place; seat = p })
-  pub seat : IsSeatedIn b (ring_at r.rings place) p
+-- what sleeps on a channel, of what sleeps on all channels of its connection
+abbrev pub listed_on : List (List Listing) → ℕ → List Listing
+listed_on desk h = slice_index_or desk h []
 
--- It stands there, awake or not.
-pub record IsThere (r : Rings) (place : ℕ) (p : Pick) : Type 0 where
-  pub listed : IsListed r.lists (record { queue = place; seat = p })
-  pub there : IsIn p (ring_at r.rings place).seats
+-- a seat is listed, of those of its connection, on its channel
+abbrev pub IsListedOn : List (List Listing) → Listing → Type 0
+IsListedOn desk l = IsIn l (listed_on desk l.seat.channel)
 
--- It stands there and is awake.
-pub record IsUp (r : Rings) (place : ℕ) (p : Pick) : Type 0 where
-  pub listed : IsListed r.lists (record { queue = place; seat = p })
+-- It is listed at its connection, on its channel.
+pub record IsListed (lists : Lists) (l : Listing) : Type 0 where
+  pub desk : List (List Listing)
+  pub there : lookup (nat_eq l.seat.connection) lists ≡ Some desk
+  pub among : IsListedOn desk l
+
+-- There is a list for this channel of this connection.
+pub record HasList (lists : Lists) (c h : ℕ) : Type 0 where
+  pub desk : List (List Listing)
+  pub there : lookup (nat_eq c) lists ≡ Some desk
+  pub within : h < length desk
+
+-- The seat stands in the ring of the queue at this place, asleep; its consumer may take nothing now, and it is listed.
+pub record Sleeps (b : Broker) (lists : Lists) (queue : ℕ) (r : Seats) (p : Pick) : Type 0 where
+  pub asleep : IsAsleep r p
+  pub cannot : CannotTake b p
+  pub listed : IsListed lists (record { queue = queue; seat = p })
+
+-- it stands there, and is awake, or sleeps so
+abbrev pub IsSeatedIn : Broker → Lists → ℕ → Seats → Pick → Type 0
+IsSeatedIn b lists queue r p = IsAwake r p ⊎ Sleeps b lists queue r p
+
+-- the consumer of these numbers has its seat in the ring of the queue at this place, and is found when it is to be woken
+abbrev pub IsSeated : Broker → Rings → ℕ → Pick → Type 0
+IsSeated b r place p = IsSeatedIn b r.lists place (ring_at r.rings place) p
+
+-- The consumer's seat stands there, awake, and there is a list for its channel, so that it can fall asleep.
+pub record HasSeat (r : Rings) (place : ℕ) (p : Pick) : Type 0 where
   pub awake : IsAwake (ring_at r.rings place) p
+  pub list : HasList r.lists p.connection p.channel
 
 -- ---- what every broker keeps
 
@@ -97,11 +139,11 @@ abbrev pub AllHaveSeats : Topology → Broker → Rings → Type 0
 AllHaveSeats t b r = (place : ℕ) (p : Pick) → HasConsumer t b place p → IsSeated b r place p
 
 -- nothing is listed of this connection: not even an empty list is kept for it
-abbrev pub HasNoList : List (ℕ × List Listing) → ℕ → Type 0
+abbrev pub HasNoList : Lists → ℕ → Type 0
 HasNoList lists c = lookup (nat_eq c) lists ≡ None
 
 -- what is listed is of connections that run
-abbrev pub AllRun : Broker → List (ℕ × List Listing) → Type 0
+abbrev pub AllRun : Broker → Lists → Type 0
 AllRun b lists = (c : ℕ) → b.connection c ≡ None → HasNoList lists c
 
 -- What every broker keeps:
@@ -115,7 +157,7 @@ pub record IsServing (kept : Kept) (r : Rings) : Type 0 where
 -- ---- which queues are gone over
 
 -- Each queue has a bit, and where a seat is awake in the ring of a queue, the queue's bit is 1.
-pub record AreMarked (rings : List Seats) (marks : List ℕ) : Type 0 where
+pub record QueuesAreMarked (rings : List Seats) (marks : List ℕ) : Type 0 where
   pub room : length rings ≤ length marks * 64
   pub awake : (place : ℕ) (p : Pick) → IsAwake (ring_at rings place) p → bit_of marks place ≡ 1
 
@@ -137,57 +179,81 @@ IsNextMarked kept marks from (Some place) = IsFirstMarked kept marks from place
 IsNextMarked kept marks from None = (place : ℕ) (p : Pick) → from ≤ place → bit_of marks place ≡ 1 → IsPickFrom kept place p → ⊥
 
 -- from none of the queues at these places can a delivery be made to one who has a seat there
-abbrev pub NoneBetween : Kept → List Seats → ℕ → ℕ → Type 0
-NoneBetween kept rings from to = (place : ℕ) (p : Pick) → from ≤ place → place < to → IsSeatedIn (broker_of kept) (ring_at rings place) p → IsPickFrom kept place p → ⊥
+abbrev pub NoneBetween : Kept → Rings → ℕ → ℕ → Type 0
+NoneBetween kept r from to = (place : ℕ) (p : Pick) → from ≤ place → place < to → IsSeated (broker_of kept) r place p → IsPickFrom kept place p → ⊥
+
+-- nor from the queue at this place to one whose seat is awake at these places of its ring
+abbrev pub NoneAwake : Kept → ℕ → Seats → ℕ → ℕ → Type 0
+NoneAwake kept queue r from to = (i : ℕ) (p : Pick) → from ≤ i → i < to → IsAwakeAt r i p → IsPickFrom kept queue p → ⊥
 
 -- ---- what stays
 
--- no seat of a consumer that is there is gone
-abbrev pub KeepsRing : Kept → Seats → Seats → Type 0
-KeepsRing kept old new = (p : Pick) → IsSeatedIn (broker_of kept) old p → has_consumer kept p ≡ true → IsSeatedIn (broker_of kept) new p
+-- no seat of a consumer that is there is gone from the ring of the queue at this place, by what was listed before and is after
+abbrev pub KeepsIn : Kept → ℕ → Lists → Lists → Seats → Seats → Type 0
+KeepsIn kept queue before after old new =
+    (p : Pick) → IsSeatedIn (broker_of kept) before queue old p → has_consumer kept p ≡ true → IsSeatedIn (broker_of kept) after queue new p
 
--- from none of the rings
+-- from a ring, whatever is listed
+abbrev pub KeepsRing : Kept → Seats → Seats → Type 0
+KeepsRing kept old new = (lists : Lists) (queue : ℕ) → KeepsIn kept queue lists lists old new
+
+-- from none of the rings, whatever is listed
 abbrev pub KeepRings : Kept → List Seats → List Seats → Type 0
 KeepRings kept old new = (place : ℕ) → KeepsRing kept (ring_at old place) (ring_at new place)
 
--- nor is its listing
-abbrev pub KeepLists : Kept → List (ℕ × List Listing) → List (ℕ × List Listing) → Type 0
+-- from none of the rings, by what is listed
+abbrev pub KeepsSeats : Kept → Rings → Rings → Type 0
+KeepsSeats kept old new = (place : ℕ) → KeepsIn kept place old.lists new.lists (ring_at old.rings place) (ring_at new.rings place)
+
+-- nor is any gone, whatever its consumer may take
+abbrev pub KeepsAll : Rings → Rings → Type 0
+KeepsAll old new = (b : Broker) (place : ℕ) (p : Pick) → IsSeated b old place p → IsSeated b new place p
+
+-- what was listed is listed still
+abbrev pub ListsStay : Lists → Lists → Type 0
+ListsStay old new = (l : Listing) → IsListed old l → IsListed new l
+
+-- that of consumers that are there
+abbrev pub KeepLists : Kept → Lists → Lists → Type 0
 KeepLists kept old new = (l : Listing) → IsListed old l → has_consumer kept l.seat ≡ true → IsListed new l
 
 -- no list is made for a connection that had none
-abbrev pub MakesNoList : List (ℕ × List Listing) → List (ℕ × List Listing) → Type 0
+abbrev pub MakesNoList : Lists → Lists → Type 0
 MakesNoList old new = (c : ℕ) → HasNoList old c → HasNoList new c
 
--- nor for one that doesn't run
-abbrev pub ListsRunning : Broker → List (ℕ × List Listing) → List (ℕ × List Listing) → Type 0
+-- More is listed, and no list is made for a connection that had none.
+pub record ListsMore (old new : Lists) : Type 0 where
+  pub stay : ListsStay old new
+  pub none : MakesNoList old new
+
+-- no list is made for a connection that had none, and doesn't run
+abbrev pub ListsRunning : Broker → Lists → Lists → Type 0
 ListsRunning b old new = (c : ℕ) → b.connection c ≡ None → HasNoList old c → HasNoList new c
 
--- each consumer that is there has its seat as before
-abbrev pub KeepsSeats : Kept → Rings → Rings → Type 0
-KeepsSeats kept old new = (place : ℕ) (p : Pick) → IsSeated (broker_of kept) old place p → has_consumer kept p ≡ true → IsSeated (broker_of kept) new place p
+-- ---- who falls asleep and is woken
 
--- no seat falls asleep but one whose consumer may take nothing now
-abbrev pub Drowses : Broker → Seats → Seats → Type 0
-Drowses b old new = (p : Pick) → IsSeatedIn b old p → IsSeatedIn b new p
-
--- in none of the rings
-abbrev pub AllDrowse : Broker → List Seats → List Seats → Type 0
-AllDrowse b old new = (place : ℕ) → Drowses b (ring_at old place) (ring_at new place)
-
--- the same of the bits of these seats
-abbrev pub Sleep : Broker → List Pick → List ℕ → List ℕ → Type 0
-Sleep b seats old new = (i : ℕ) (p : Pick) → i < length seats → bit_of old i ≡ 1 → (bit_of new i ≡ 1) ⊎ CannotTake b (slice_index_or seats i p)
+-- A seat fell asleep in the ring of the queue at this place: its consumer may take nothing now, and it is listed.
+pub record FallsAsleep (b : Broker) (lists : Lists) (queue : ℕ) (old new : Seat) : Type 0 where
+  pub asleep : new ≡ asleep_seat old.pick
+  pub cannot : CannotTake b old.pick
+  pub listed : IsListed lists (record { queue = queue; seat = old.pick })
 
 -- Seats are woken, and nothing else changes.
 pub record Wakens (old new : Seats) : Type 0 where
-  pub seats : new.seats ≡ old.seats
-  pub awake : (i : ℕ) → bit_of old.awake i ≡ 1 → bit_of new.awake i ≡ 1
+  pub awake : (p : Pick) → IsAwake old p → IsAwake new p
+  pub asleep : (p : Pick) → IsAsleep old p → IsAsleep new p ⊎ IsAwake new p
 
 -- in each ring
 abbrev pub AllWaken : List Seats → List Seats → Type 0
 AllWaken old new = (place : ℕ) → Wakens (ring_at old place) (ring_at new place)
 
--- ---- who is woken
+-- this one is awake now, if it was asleep
+abbrev pub IsWoken : List Seats → List Seats → Listing → Type 0
+IsWoken old new l = IsAsleep (ring_at old l.queue) l.seat → IsAwake (ring_at new l.queue) l.seat
+
+-- each of these
+abbrev pub WakesListed : List Listing → List Seats → List Seats → Type 0
+WakesListed listed old new = (l : Listing) → IsIn l listed → IsWoken old new l
 
 -- a command may leave more that a consumer of its channel may take, but for a publish and a get
 abbrev pub wakes_on : Method → Bool

@@ -78,7 +78,7 @@ impl Broker {
     }
 
     /// A delivery that can be made, if there is any. Queues that have something ready are gone round, from the one behind that
-    /// from which was picked last, and so are the consumers of a queue. It takes no memory.
+    /// from which was picked last, and so are the consumers of a queue. Memory that is wanting only leaves seats awake.
     pub fn pick(&mut self) -> Option<Pick>
         ensures same { self.new ≡ self.old }
         ensures some { IfSome result (λ p. IsPick (broker_of self.old) p) }

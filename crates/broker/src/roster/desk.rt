@@ -1,33 +1,26 @@
-//! What seats the consumers of a connection have, so that they are found when they are to be woken.
+//! The seats that sleep, by connection and channel, so that an event finds those that it is to wake.
 
-ghost use Rattle.std.specs.Prelude.{◌≡◌, ◌<◌, true, OnOk, length, filter, vec_len, vec_capacity};
-ghost use Rattle.std.specs.List.{list_any};
-ghost use Rattle.model.specs.Topology.{IsIn};
-ghost use Rattle.broker.specs.Roster.{ring_at, is_of, is_listing, has_its_consumer, Listing, IsAwake, AllWaken};
-ghost use Rattle.broker_core.specs.Seats.{has_consumer};
+mod waking;
 
-use crate::roster::ring::is_same;
-use crate::roster::seating::Seating;
+ghost use Rattle.std.specs.Prelude.{◌≡◌, ◌≤◌, [], ℕ, true, None, OnOk, length};
+ghost use Rattle.broker_core.specs.State.{broker_of};
+ghost use Rattle.broker.specs.Roster.{listed_on, IsListedOn, Listing, IsListed, HasList, HasNoList, MakesNoList, KeepLists, ListsMore, ListsStay};
+
 use broker_core::{Core, Pick};
 use std::alloc::{AllocError, Global};
+use std::collections::HashMap;
 use std::marker::Model;
+pub(crate) use waking::wake_desk;
 
-/// A seat is of this channel, or of any where none is named.
-fn is_of(channel: Option<u16>, seat: Pick) -> bool
-    ensures { result ≡ is_of channel seat }
-{
-    match channel {
-        None => true,
-        Some(number) => seat.channel == number,
-    }
-}
+/// The desks of the connections, each under its number.
+pub(crate) type Desks = HashMap<u64, Desk>;
 
-/// A seat, and the queue in whose ring it is.
+/// A seat that sleeps, and the queue in whose ring it is.
 #[derive(Drop)]
 pub(crate) struct Listed {
     queue: usize,
     seat: Pick,
-    /// Where it stood in the ring when it was last looked for.
+    /// Where it stood in the ring when it fell asleep.
     place: usize,
 }
 
@@ -40,11 +33,9 @@ impl Model for Listed {
 }
 
 impl Listed {
-    ghost use Rattle.std.specs.Prelude.{◌≡◌, true, length};
-    ghost use Rattle.model.specs.Topology.{IsIn};
-    ghost use Rattle.broker.specs.Roster.{ring_at, is_of, is_listing, has_its_consumer, IsAwake, AllWaken};
+    ghost use Rattle.std.specs.Prelude.{◌≡◌};
 
-    /// This seat, which stands at this place of the queue's ring.
+    /// The seat of this consumer, which stands at this place of the queue's ring.
     pub fn new(queue: usize, seat: Pick, place: usize) -> Listed
         ensures { result ≡ record { queue = queue; seat = seat } }
     {
@@ -52,128 +43,166 @@ impl Listed {
     }
 
     /// The number of its connection.
-    pub fn connection(&self) -> u64
+    fn connection(&self) -> u64
         ensures { result ≡ self.now.seat.connection }
     {
         self.seat.connection
     }
 
-    /// Two listings are one.
-    fn is_same(&self, other: &Listed) -> bool
-        ensures { result ≡ is_listing self.now other.now }
+    /// The number of its channel.
+    fn channel(&self) -> u16
+        ensures { result ≡ self.now.seat.channel }
     {
-        self.queue == other.queue && is_same(self.seat, other.seat)
+        self.seat.channel
     }
+}
 
-    /// Whether its consumer is there still.
-    fn has_consumer(&self, core: &Core) -> bool
-        ensures { result ≡ has_its_consumer core.now self.now }
-    {
-        core.has_consumer(self.seat)
-    }
+/// The seats that sleep on one channel; some may be of consumers that are gone.
+#[derive(Drop)]
+pub(crate) struct Sleepers {
+    listed: Vec<Listed>,
+}
 
-    /// Its seat is awake from now on, if it is of this channel, or none is named.
-    fn wake(&mut self, seating: &mut Seating, channel: Option<u16>)
-        ensures same { self.new ≡ self.old }
-        ensures woken { is_of channel self.old.seat ≡ true → IsIn self.old.seat (ring_at seating.old self.old.queue).seats → IsAwake (ring_at seating.new self.old.queue) self.old.seat }
-        ensures wakens { AllWaken seating.old seating.new }
-        ensures len { length seating.new ≡ length seating.old }
+impl Model for Sleepers {
+    ghost use Rattle.std.specs.Prelude.{List};
+    ghost use Rattle.broker.specs.Roster.{Listing};
+
+    ghost Value = { List Listing };
+
+    ghost view = { λ s. s.listed.items };
+}
+
+impl Sleepers {
+    ghost use Rattle.std.specs.Prelude.{◌≡◌, [], true};
+    ghost use Rattle.model.specs.Topology.{IsIn};
+    ghost use Rattle.broker.specs.Roster.{Listing};
+
+    /// None. It takes no memory.
+    fn new(alloc: Global) -> Sleepers
+        ensures { result ≡ [] }
     {
-        if is_of(channel, self.seat) {
-            self.place = seating.wake(self.queue, self.seat, self.place);
+        Sleepers {
+            listed: Vec::new(alloc),
         }
     }
-}
 
-/// Whether this one is among these.
-fn has_listing(listed: &[Listed], one: &Listed) -> bool
-    ensures { result ≡ list_any (is_listing one.now) listed.now }
-{
-    listed.iter().any(|other| one.is_same(other))
-}
-
-/// Takes out those whose consumer is gone.
-fn sweep(listed: &mut Vec<Listed>, core: &Core)
-    ensures listed { listed.new.items ≡ filter (has_its_consumer core.now) listed.old.items }
-    ensures capacity { vec_capacity listed.new ≡ vec_capacity listed.old }
-{
-    listed.retain(|one| one.has_consumer(core));
-}
-
-/// Makes room for one more. Where the list is full, those whose consumer is gone are taken out.
-fn make_room(listed: &mut Vec<Listed>, core: &Core) -> Result<(), AllocError>
-    ensures room { OnOk result (vec_len listed.new < vec_capacity listed.new) }
-    ensures kept { (l : Listing) → IsIn l listed.old.items → has_consumer core.now l.seat ≡ true → IsIn l listed.new.items }
-{
-    if listed.len() < listed.capacity() {
-        return Ok(());
-    }
-    sweep(listed, core);
-    listed.reserve(listed.len().max(1))
-}
-
-/// The seats of these are awake from now on that are of this channel, or all where none is named.
-fn wake_listed(listed: &mut [Listed], seating: &mut Seating, channel: Option<u16>)
-    ensures same { listed.new ≡ listed.old }
-    ensures woken { (l : Listing) → IsIn l listed.old → is_of channel l.seat ≡ true → IsIn l.seat (ring_at seating.old l.queue).seats → IsAwake (ring_at seating.new l.queue) l.seat }
-    ensures wakens { AllWaken seating.old seating.new }
-    ensures len { length seating.new ≡ length seating.old }
-{
-    for place in 0..listed.len() {
-        listed[place].wake(seating, channel);
+    /// Whether this seat could be listed.
+    fn list(&mut self, one: Listed) -> bool
+        ensures listed { result ≡ true → IsIn one self.new }
+        ensures stay { (l : Listing) → IsIn l self.old → IsIn l self.new }
+    {
+        self.listed.push(one).is_ok()
     }
 }
 
-/// The seats of one connection's consumers; some may be of consumers that are gone.
+/// Makes a list, in which none sleeps, for each channel below this number that has none.
+fn grow(channels: &mut Vec<Sleepers>, alloc: Global, count: usize) -> Result<(), AllocError>
+    ensures room { OnOk result (count ≤ length channels.new.items) }
+    ensures same { (h : ℕ) → listed_on channels.new.items h ≡ listed_on channels.old.items h }
+{
+    'channels: while channels.len() < count {
+        channels.push(Sleepers::new(alloc))?;
+    }
+    Ok(())
+}
+
+/// Whether this seat could be listed on its channel.
+fn list_on(channels: &mut [Sleepers], one: Listed) -> bool
+    ensures listed { result ≡ true → IsListedOn channels.new one }
+    ensures stay { (l : Listing) → IsListedOn channels.old l → IsListedOn channels.new l }
+{
+    let at = one.channel() as usize;
+    at < channels.len() && channels[at].list(one)
+}
+
+/// The seats of one connection that sleep: a list for each channel, at its number.
 #[derive(Drop)]
 pub(crate) struct Desk {
-    listed: Vec<Listed>,
+    channels: Vec<Sleepers>,
 }
 
 impl Model for Desk {
     ghost use Rattle.std.specs.Prelude.{List};
     ghost use Rattle.broker.specs.Roster.{Listing};
 
-    ghost Value = { List Listing };
+    ghost Value = { List (List Listing) };
 
-    ghost view = { λ d. d.listed.items };
+    ghost view = { λ d. d.channels.items };
 }
 
 impl Desk {
-    ghost use Rattle.std.specs.Prelude.{◌≡◌, [], true, OnOk, length};
-    ghost use Rattle.model.specs.Topology.{IsIn};
-    ghost use Rattle.broker.specs.Roster.{ring_at, is_of, Listing, IsAwake, AllWaken};
-    ghost use Rattle.broker_core.specs.Seats.{has_consumer};
+    ghost use Rattle.std.specs.Prelude.{◌≡◌, ◌<◌, [], ℕ, true, OnOk, length};
+    ghost use Rattle.broker.specs.Roster.{listed_on, Listing, IsListedOn};
 
-    /// No seat. It takes no memory.
-    pub fn new(alloc: Global) -> Desk
+    /// No list. It takes no memory.
+    fn new(alloc: Global) -> Desk
         ensures { result ≡ [] }
     {
         Desk {
-            listed: Vec::new(alloc),
+            channels: Vec::new(alloc),
         }
     }
 
-    /// This seat is listed from now on. Where memory is wanting it may not be; none of a consumer that is there is gone.
-    pub fn list(&mut self, core: &Core, one: Listed) -> Result<(), AllocError>
-        ensures listed { OnOk result (IsIn one self.new) }
-        ensures kept { (l : Listing) → IsIn l self.old → has_consumer core.now l.seat ≡ true → IsIn l self.new }
+    /// There is a list for this channel from now on. Where memory is wanting there may not be.
+    fn open(&mut self, alloc: Global, channel: u16) -> Result<(), AllocError>
+        ensures room { OnOk result (channel < length self.new) }
+        ensures same { (h : ℕ) → listed_on self.new h ≡ listed_on self.old h }
     {
-        if has_listing(&self.listed, &one) {
-            return Ok(());
-        }
-        make_room(&mut self.listed, core)?;
-        self.listed.push_reserved(one);
-        Ok(())
+        grow(&mut self.channels, alloc, channel as usize + 1)
     }
 
-    /// Its seats are awake from now on that are of this channel, or all where none is named. It takes no memory.
-    pub fn wake(&mut self, seating: &mut Seating, channel: Option<u16>)
-        ensures same { self.new ≡ self.old }
-        ensures woken { (l : Listing) → IsIn l self.old → is_of channel l.seat ≡ true → IsIn l.seat (ring_at seating.old l.queue).seats → IsAwake (ring_at seating.new l.queue) l.seat }
-        ensures wakens { AllWaken seating.old seating.new }
-        ensures len { length seating.new ≡ length seating.old }
+    /// Whether this seat could be listed on its channel.
+    fn list(&mut self, one: Listed) -> bool
+        ensures listed { result ≡ true → IsListedOn self.new one }
+        ensures stay { (l : Listing) → IsListedOn self.old l → IsListedOn self.new l }
     {
-        wake_listed(&mut self.listed, seating, channel);
+        list_on(&mut self.channels, one)
+    }
+}
+
+/// There is a list for this channel of this connection from now on. Where memory is wanting there may not be.
+pub(crate) fn open_list(
+    desks: &mut Desks,
+    alloc: Global,
+    connection: u64,
+    channel: u16,
+) -> Result<(), AllocError>
+    ensures list { OnOk result (HasList desks.new.entries connection channel) }
+    ensures stay { ListsStay desks.old.entries desks.new.entries }
+    ensures others { (c : ℕ) → (c ≡ connection → ⊥) → HasNoList desks.old.entries c → HasNoList desks.new.entries c }
+{
+    match desks.get_mut(&connection) {
+        Some(desk) => desk.open(alloc, channel),
+        None => {
+            let mut desk = Desk::new(alloc);
+            desk.open(alloc, channel)?;
+            match desks.insert(connection, desk) {
+                Ok(_) => Ok(()),
+                Err(_) => Err(AllocError),
+            }
+        }
+    }
+}
+
+/// Whether this seat could be listed: there is a list for its channel, and memory where the list is full.
+pub(crate) fn list_seat(desks: &mut Desks, one: Listed) -> bool
+    ensures listed { result ≡ true → IsListed desks.new.entries one }
+    ensures more { ListsMore desks.old.entries desks.new.entries }
+{
+    let connection = one.connection();
+    match desks.get_mut(&connection) {
+        Some(desk) => desk.list(one),
+        None => false,
+    }
+}
+
+/// What is listed of this connection is gone if it runs no more.
+pub(crate) fn forget_desk(desks: &mut Desks, core: &Core, connection: u64)
+    ensures kept { KeepLists core.now desks.old.entries desks.new.entries }
+    ensures gone { (broker_of core.now).connection connection ≡ None → HasNoList desks.new.entries connection }
+    ensures none { MakesNoList desks.old.entries desks.new.entries }
+{
+    if !core.runs(connection) {
+        desks.remove(&connection);
     }
 }

@@ -1,19 +1,23 @@
 //! The consumers of one queue, over which its deliveries go round.
 //!
 //! Each consumer has its seat in the ring, by its numbers. A seat stays there after its consumer is gone, until the ring is full
-//! and is swept. What is picked is found by looking at one seat after another, from the one behind that which was picked last; a
-//! seat whose consumer may take nothing then falls asleep, and is passed over until it is woken.
+//! and is swept. What is picked is found by looking at one seat after another, from the one behind that which was picked last. A
+//! seat whose consumer may take nothing then falls asleep, if it can be listed, and is passed over until it is woken. Picks look at
+//! the seats whose bit is 1: that of a seat that sleeps may be, after a sweep, until one looks at it.
 
-ghost use Rattle.std.specs.Prelude.{◌≡◌, ◌<◌, ◌≤◌, ◌+◌, ◌*◌, ◌⊎◌, ℕ, true, false, None, IfSome, OnOk, length, count_by, filter, slice_index_or, vec_len, vec_capacity};
+ghost use Rattle.std.specs.Prelude.{◌≡◌, ◌<◌, ◌≤◌, ◌+◌, ◌*◌, ℕ, true, false, None, IfSome, OnOk, length, count_by, filter, slice_index_or, vec_len, vec_capacity};
 ghost use Rattle.std.specs.List.{position_from};
 ghost use Rattle.model.specs.Topology.{IsIn};
-ghost use Rattle.marks.specs.Places.{bit_of, Differs};
+ghost use Rattle.marks.specs.Places.{bit_of};
 ghost use Rattle.broker_core.specs.State.{broker_of};
-ghost use Rattle.broker_core.specs.Picked.{IsPickFrom, CannotTake};
-ghost use Rattle.broker.specs.Roster.{is_seat, KeepsRing, Sleep};
+ghost use Rattle.broker_core.specs.Picked.{IsPickFrom};
 ghost use Rattle.broker_core.specs.Seats.{has_consumer};
-ghost use Rattle.broker_core.specs.declared.picks.Pick.{Pick as Seat};
+ghost use Rattle.broker_core.specs.declared.picks.Pick.{Pick as Consumer};
+ghost use Rattle.broker.specs.declared.roster.seats.Seat.{Seat as Taken};
+ghost use Rattle.broker.specs.Roster.{ring_of, is_consumer, is_seat_of, has_its_consumer, awake_seat, IsAwakeAt, IsAwake, IsAsleep, KeepsIn, KeepsRing, NoneAwake, ListsMore, FallsAsleep, Wakens};
 
+use crate::roster::desk::{Desks, Listed, list_seat};
+use crate::roster::seats::Seat;
 use broker_core::{Core, Pick};
 use marks::{Flat, Over, Places};
 use std::alloc::{AllocError, Global};
@@ -22,71 +26,100 @@ use std::marker::Model;
 /// A set of places, by a bit for each.
 pub(crate) type Marks = Over<Flat>;
 
-/// Two seats are one.
-pub(crate) fn is_same(one: Pick, other: Pick) -> bool
-    ensures { result ≡ is_seat one other }
+/// Two consumers are one.
+fn is_same(one: Pick, other: Pick) -> bool
+    ensures { result ≡ is_consumer one other }
 {
     one.connection == other.connection && one.channel == other.channel && one.number == other.number
 }
 
-/// The first place at which this seat stands.
-fn search(seats: &[Pick], seat: Pick) -> Option<usize>
-    ensures is { result ≡ position_from (is_seat seat) 0 seats.now }
+/// The first place at which this consumer's seat stands.
+fn search(seats: &[Seat], consumer: Pick) -> Option<usize>
+    ensures is { result ≡ position_from (is_seat_of consumer) 0 seats.now }
     ensures within { IfSome result (λ i. i < length seats.now) }
-    ensures there { IfSome result (λ i. (p : Seat) → slice_index_or seats.now i p ≡ seat) }
+    ensures there { IfSome result (λ i. (d : Taken) → (slice_index_or seats.now i d).pick ≡ consumer) }
 {
-    seats.iter().position(|other| is_same(seat, *other))
+    seats.iter().position(|seat| is_same(consumer, seat.pick))
 }
 
-/// The place at which this seat stands; this one is looked at first.
-fn place_of(seats: &[Pick], seat: Pick, guess: usize) -> Option<usize>
+/// The place at which this consumer's seat stands; this one is looked at first.
+fn place_of(seats: &[Seat], consumer: Pick, guess: usize) -> Option<usize>
     ensures within { IfSome result (λ i. i < length seats.now) }
-    ensures there { IfSome result (λ i. (p : Seat) → slice_index_or seats.now i p ≡ seat) }
-    ensures none { result ≡ None → IsIn seat seats.now → ⊥ }
+    ensures there { IfSome result (λ i. (d : Taken) → (slice_index_or seats.now i d).pick ≡ consumer) }
+    ensures none { result ≡ None → (s : Taken) → IsIn s seats.now → s.pick ≡ consumer → ⊥ }
 {
-    if guess < seats.len() && is_same(seat, seats[guess]) {
+    if guess < seats.len() && is_same(consumer, seats[guess].pick) {
         return Some(guess);
     }
-    search(seats, seat)
+    search(seats, consumer)
+}
+
+/// The seat at this place is awake from now on.
+fn rouse(seats: &mut [Seat], awake: &mut Marks, place: usize)
+    requires within { place < length seats.old }
+    requires room { length seats.old ≤ length awake.old * 64 }
+    ensures len { length awake.new ≡ length awake.old }
+    ensures up { (d : Taken) → IsAwakeAt (ring_of seats.new awake.new) place (slice_index_or seats.old place d).pick }
+    ensures wakens { Wakens (ring_of seats.old awake.old) (ring_of seats.new awake.new) }
+{
+    seats[place].asleep = false;
+    awake.set(place);
+}
+
+/// This consumer's seat is awake from now on, if it is there; it is looked for at this place first. Tells whether it is there.
+fn wake_seat(seats: &mut [Seat], awake: &mut Marks, consumer: Pick, guess: usize) -> bool
+    requires { length seats.old ≤ length awake.old * 64 }
+    ensures len { length awake.new ≡ length awake.old }
+    ensures yes { result ≡ true → IsAwake (ring_of seats.new awake.new) consumer }
+    ensures no { result ≡ false → IsAsleep (ring_of seats.old awake.old) consumer → ⊥ }
+    ensures wakens { Wakens (ring_of seats.old awake.old) (ring_of seats.new awake.new) }
+{
+    match place_of(seats, consumer, guess) {
+        Some(place) => {
+            rouse(seats, awake, place);
+            true
+        }
+        None => false,
+    }
 }
 
 /// Takes out the seats whose consumer is gone.
-fn sweep(seats: &mut Vec<Pick>, core: &Core)
-    ensures seats { seats.new.items ≡ filter (has_consumer core.now) seats.old.items }
+fn sweep(seats: &mut Vec<Seat>, core: &Core)
+    ensures seats { seats.new.items ≡ filter (has_its_consumer core.now) seats.old.items }
     ensures capacity { vec_capacity seats.new ≡ vec_capacity seats.old }
 {
-    seats.retain(|seat| core.has_consumer(*seat));
+    seats.retain(|seat| core.has_consumer(seat.pick));
 }
 
 /// How many of the seats have their consumer still.
-fn staying(seats: &[Pick], core: &Core) -> usize
-    ensures { result ≡ count_by (has_consumer core.now) seats.now }
+fn staying(seats: &[Seat], core: &Core) -> usize
+    ensures { result ≡ count_by (has_its_consumer core.now) seats.now }
 {
     let mut count = 0;
     for seat in seats {
-        if core.has_consumer(*seat) {
+        if core.has_consumer(seat.pick) {
             count += 1;
         }
     }
     count
 }
 
-/// All seats at places below this are awake from now on.
-fn wake_all(awake: &mut Marks, count: usize)
+/// Picks look at all seats at places below this from now on.
+fn mark_all(awake: &mut Marks, count: usize)
     requires { count ≤ length awake.old * 64 }
     ensures len { length awake.new ≡ length awake.old }
-    ensures awake { (i : ℕ) → i < count → bit_of awake.new i ≡ 1 }
+    ensures marked { (i : ℕ) → i < count → bit_of awake.new i ≡ 1 }
 {
     for place in 0..count {
         awake.set(place);
     }
 }
 
-/// Makes room for one seat more. Where the list is full, the seats whose consumer is gone are taken out, those that are left
-/// are awake, and then there is room for as many again, so that few sweeps are made. Where memory is wanting, no other seat is
+/// Makes room for one seat more. Where the list is full, the seats whose consumer is gone are taken out, picks look at those that
+/// are left, and then there is room for as many again, so that few sweeps are made. Where memory is wanting, no other seat is
 /// gone.
 fn make_room(
-    seats: &mut Vec<Pick>,
+    seats: &mut Vec<Seat>,
     awake: &mut Marks,
     next: &mut usize,
     core: &Core,
@@ -95,7 +128,7 @@ fn make_room(
     ensures room { OnOk result (vec_len seats.new < vec_capacity seats.new) }
     ensures mark { OnOk result (vec_len seats.new + 1 ≤ length awake.new * 64) }
     ensures marks { length seats.new.items ≤ length awake.new * 64 }
-    ensures kept { KeepsRing core.now (record { seats = seats.old.items; awake = awake.old }) (record { seats = seats.new.items; awake = awake.new }) }
+    ensures kept { KeepsRing core.now (ring_of seats.old.items awake.old) (ring_of seats.new.items awake.new) }
 {
     if seats.len() < seats.capacity() {
         return awake.grow(seats.len() + 1);
@@ -103,13 +136,37 @@ fn make_room(
     let before = (*next).min(seats.len());
     *next = staying(seats.split_at(before).0, core);
     sweep(seats, core);
-    wake_all(awake, seats.len());
+    mark_all(awake, seats.len());
     awake.grow(seats.len() + 1)?;
     seats.reserve(seats.len().max(1))
 }
 
-/// Whether one of the seats at places below this is awake.
-fn any_awake(awake: &Marks, count: usize) -> bool
+/// This consumer has a seat behind all others from now on, which is awake. Where memory is wanting it may not; no seat of a
+/// consumer that is there is gone.
+fn add_seat(
+    seats: &mut Vec<Seat>,
+    awake: &mut Marks,
+    next: &mut usize,
+    core: &Core,
+    consumer: Pick,
+) -> Result<(), AllocError>
+    requires { length seats.old.items ≤ length awake.old * 64 }
+    ensures marks { length seats.new.items ≤ length awake.new * 64 }
+    ensures seated { OnOk result (IsAwake (ring_of seats.new.items awake.new) consumer) }
+    ensures kept { KeepsRing core.now (ring_of seats.old.items awake.old) (ring_of seats.new.items awake.new) }
+{
+    make_room(seats, awake, next, core)?;
+    let place = seats.len();
+    seats.push_reserved(Seat {
+        pick: consumer,
+        asleep: false,
+    });
+    awake.set(place);
+    Ok(())
+}
+
+/// Whether picks look at one of the seats at places below this.
+fn any_marked(awake: &Marks, count: usize) -> bool
     ensures yes { result ≡ true → (i : ℕ) × (i < count) × (bit_of awake.now i ≡ 1) }
     ensures no { result ≡ false → (i : ℕ) → i < count → bit_of awake.now i ≡ 0 }
 {
@@ -119,46 +176,89 @@ fn any_awake(awake: &Marks, count: usize) -> bool
     }
 }
 
-/// The seat at this place falls asleep if its consumer may take nothing now.
-fn rest(awake: &mut Marks, core: &Core, place: usize, seat: Pick)
-    requires { place < length awake.old * 64 }
-    ensures len { length awake.new ≡ length awake.old }
-    ensures here { (bit_of awake.new place ≡ bit_of awake.old place) ⊎ CannotTake (broker_of core.now) seat }
-    ensures asleep { CannotTake (broker_of core.now) seat → bit_of awake.new place ≡ 0 }
-    ensures others { (k : ℕ) → (k ≡ place → ⊥) → bit_of awake.new k ≡ bit_of awake.old k }
+/// Whether the seat is awake, and a delivery can be made to its consumer from the queue at this place.
+fn may_deliver(core: &Core, queue: usize, seat: Seat) -> bool
+    ensures yes { result ≡ true → IsPickFrom core.now queue seat.pick }
+    ensures no { result ≡ false → seat.asleep ≡ false → IsPickFrom core.now queue seat.pick → ⊥ }
 {
-    if !core.may_take(seat) {
+    !seat.asleep && core.may_deliver(queue, seat.pick)
+}
+
+/// Whether picks need not look any more at this seat at this place, to which nothing can be delivered. It falls asleep where its
+/// consumer may take nothing now, if it can be listed; one whose consumer is gone need not be.
+fn dozes(core: &Core, queue: usize, seat: &mut Seat, desks: &mut Desks, place: usize) -> bool
+    ensures asleep { seat.old.asleep ≡ true → seat.new ≡ seat.old }
+    ensures awake { result ≡ false → seat.new ≡ seat.old }
+    ensures sleeps { result ≡ true → seat.old.asleep ≡ false → has_consumer core.now seat.old.pick ≡ true → FallsAsleep (broker_of core.now) desks.new.entries queue seat.old seat.new }
+    ensures more { ListsMore desks.old.entries desks.new.entries }
+{
+    if seat.asleep {
+        return true;
+    }
+    if core.may_take(seat.pick) {
+        return false;
+    }
+    if !core.has_consumer(seat.pick) {
+        return true;
+    }
+    if !list_seat(desks, Listed::new(queue, seat.pick, place)) {
+        return false;
+    }
+    seat.asleep = true;
+    true
+}
+
+/// The seat at this place, to which nothing can be delivered from the queue at this place, falls asleep if it may.
+fn rest(
+    core: &Core,
+    queue: usize,
+    seats: &mut [Seat],
+    awake: &mut Marks,
+    desks: &mut Desks,
+    place: usize,
+)
+    requires within { place < length seats.old }
+    requires room { length seats.old ≤ length awake.old * 64 }
+    ensures len { length awake.new ≡ length awake.old }
+    ensures kept { KeepsIn core.now queue desks.old.entries desks.new.entries (ring_of seats.old awake.old) (ring_of seats.new awake.new) }
+    ensures more { ListsMore desks.old.entries desks.new.entries }
+    ensures others { (i : ℕ) (p : Consumer) → (i ≡ place → ⊥) → IsAwakeAt (ring_of seats.old awake.old) i p → IsAwakeAt (ring_of seats.new awake.new) i p }
+{
+    if dozes(core, queue, &mut seats[place], desks, place) {
         awake.clear(place);
     }
 }
 
 /// The place of the first of the seats from this one on, up to that one, to whose consumer a delivery can be made from the queue
-/// at this place. Those that are looked at before it and may take nothing fall asleep.
+/// at this place. Those that are looked at before it and may take nothing fall asleep, if they can be listed.
 fn first_between(
     core: &Core,
     queue: usize,
-    seats: &[Pick],
+    seats: &mut [Seat],
     awake: &mut Marks,
+    desks: &mut Desks,
     from: usize,
     to: usize,
 ) -> Option<usize>
-    requires within { to ≤ length seats.now }
-    requires room { length seats.now ≤ length awake.old * 64 }
+    requires within { to ≤ length seats.old }
+    requires room { length seats.old ≤ length awake.old * 64 }
     ensures len { length awake.new ≡ length awake.old }
-    ensures sleep { Sleep (broker_of core.now) seats.now awake.old awake.new }
-    ensures within { IfSome result (λ i. i < length seats.now) }
-    ensures some { IfSome result (λ i. (p : Seat) → IsPickFrom core.now queue (slice_index_or seats.now i p)) }
-    ensures none { result ≡ None → (i : ℕ) (p : Seat) → from ≤ i → i < to → bit_of awake.old i ≡ 1 → IsPickFrom core.now queue (slice_index_or seats.now i p) → ⊥ }
+    ensures kept { KeepsIn core.now queue desks.old.entries desks.new.entries (ring_of seats.old awake.old) (ring_of seats.new awake.new) }
+    ensures more { ListsMore desks.old.entries desks.new.entries }
+    ensures before { (i : ℕ) (p : Consumer) → i < from → IsAwakeAt (ring_of seats.old awake.old) i p → IsAwakeAt (ring_of seats.new awake.new) i p }
+    ensures within { IfSome result (λ i. i < length seats.new) }
+    ensures some { IfSome result (λ i. (d : Taken) → IsPickFrom core.now queue (slice_index_or seats.new i d).pick) }
+    ensures none { result ≡ None → NoneAwake core.now queue (ring_of seats.old awake.old) from to }
 {
     let mut next = from;
     'seats: while let Some(place) = awake.next(next) {
         if place >= to {
             return None;
         }
-        if core.may_deliver(queue, seats[place]) {
+        if may_deliver(core, queue, seats[place]) {
             return Some(place);
         }
-        rest(awake, core, place, seats[place]);
+        rest(core, queue, seats, awake, desks, place);
         next = place + 1;
     }
     None
@@ -168,28 +268,30 @@ fn first_between(
 fn first_round(
     core: &Core,
     queue: usize,
-    seats: &[Pick],
+    seats: &mut [Seat],
     awake: &mut Marks,
+    desks: &mut Desks,
     next: usize,
 ) -> Option<usize>
-    requires { length seats.now ≤ length awake.old * 64 }
+    requires { length seats.old ≤ length awake.old * 64 }
     ensures len { length awake.new ≡ length awake.old }
-    ensures sleep { Sleep (broker_of core.now) seats.now awake.old awake.new }
-    ensures within { IfSome result (λ i. i < length seats.now) }
-    ensures some { IfSome result (λ i. (p : Seat) → IsPickFrom core.now queue (slice_index_or seats.now i p)) }
-    ensures none { result ≡ None → (i : ℕ) (p : Seat) → i < length seats.now → bit_of awake.old i ≡ 1 → IsPickFrom core.now queue (slice_index_or seats.now i p) → ⊥ }
+    ensures kept { KeepsIn core.now queue desks.old.entries desks.new.entries (ring_of seats.old awake.old) (ring_of seats.new awake.new) }
+    ensures more { ListsMore desks.old.entries desks.new.entries }
+    ensures within { IfSome result (λ i. i < length seats.new) }
+    ensures some { IfSome result (λ i. (d : Taken) → IsPickFrom core.now queue (slice_index_or seats.new i d).pick) }
+    ensures none { result ≡ None → NoneAwake core.now queue (ring_of seats.old awake.old) 0 (length seats.old) }
 {
     let turn = next.min(seats.len());
-    match first_between(core, queue, seats, awake, turn, seats.len()) {
+    match first_between(core, queue, seats, awake, desks, turn, seats.len()) {
         Some(place) => Some(place),
-        None => first_between(core, queue, seats, awake, 0, turn),
+        None => first_between(core, queue, seats, awake, desks, 0, turn),
     }
 }
 
 /// The seats of the consumers of one queue, in the order in which they were made; some may be of consumers that are gone.
 pub(crate) struct Ring {
-    seats: Vec<Pick>,
-    /// A bit for each seat, 1 where it is awake.
+    seats: Vec<Seat>,
+    /// A bit for each seat, 1 where picks look at it: where it is awake, and where that is not known.
     awake: Marks,
     /// The place behind the seat that was picked last.
     next: usize,
@@ -212,18 +314,18 @@ impl Model for Ring {
 
     ghost Value = { Seats };
 
-    ghost view = { λ r. record { seats = r.seats.items; awake = r.awake } };
+    ghost view = { λ r. record { seats = r.seats.items; marks = r.awake } };
 
     ghost invariant = { λ r. length r.seats.items ≤ length r.awake * 64 };
 }
 
 impl Ring {
-    ghost use Rattle.std.specs.Prelude.{◌≡◌, [], true, false, None, IfSome, OnOk};
-    ghost use Rattle.model.specs.Topology.{IsIn};
-    ghost use Rattle.broker_core.specs.declared.picks.Pick.{Pick as Seat};
+    ghost use Rattle.std.specs.Prelude.{◌≡◌, ◌<◌, [], ℕ, true, false, None, IfSome, OnOk, length};
+    ghost use Rattle.marks.specs.Places.{bit_of};
+    ghost use Rattle.broker_core.specs.declared.picks.Pick.{Pick as Consumer};
     ghost use Rattle.broker_core.specs.State.{broker_of};
     ghost use Rattle.broker_core.specs.Picked.{IsPickFrom};
-    ghost use Rattle.broker.specs.Roster.{IsAwake, IsSeatedIn, KeepsRing, Drowses, Wakens};
+    ghost use Rattle.broker.specs.Roster.{IsAwake, IsAsleep, IsSeatedIn, KeepsIn, KeepsRing, ListsMore, Wakens};
 
     /// No seat. It takes no memory.
     pub fn new(alloc: Global) -> Ring
@@ -236,57 +338,59 @@ impl Ring {
         }
     }
 
-    /// This seat is there from now on, and awake. Where memory is wanting it may not be; no seat of a consumer that is there is
-    /// gone. Tells its place.
-    pub fn seat(&mut self, core: &Core, seat: Pick) -> Result<usize, AllocError>
-        ensures seated { OnOk result (IsAwake self.new seat) }
+    /// This consumer has its seat from now on, and it is awake. Where memory is wanting it may not; no seat of a consumer that is
+    /// there is gone.
+    pub fn seat(&mut self, core: &Core, consumer: Pick) -> Result<(), AllocError>
+        ensures seated { OnOk result (IsAwake self.new consumer) }
         ensures kept { KeepsRing core.now self.old self.new }
     {
-        if let Some(place) = place_of(&self.seats, seat, 0) {
-            self.awake.set(place);
-            return Ok(place);
+        if wake_seat(&mut self.seats, &mut self.awake, consumer, 0) {
+            return Ok(());
         }
-        make_room(&mut self.seats, &mut self.awake, &mut self.next, core)?;
-        let place = self.seats.len();
-        self.seats.push_reserved(seat);
-        self.awake.set(place);
-        Ok(place)
+        add_seat(
+            &mut self.seats,
+            &mut self.awake,
+            &mut self.next,
+            core,
+            consumer,
+        )
     }
 
-    /// The seat is awake from now on, if it is there; it is looked for at this place first. Tells its place.
-    pub fn wake(&mut self, seat: Pick, guess: usize) -> usize
-        ensures woken { IsIn seat self.old.seats → IsAwake self.new seat }
+    /// This consumer's seat is awake from now on, if it is there; it is looked for at this place first.
+    pub fn wake(&mut self, consumer: Pick, guess: usize)
+        ensures woken { IsAsleep self.old consumer → IsAwake self.new consumer }
         ensures wakens { Wakens self.old self.new }
     {
-        match place_of(&self.seats, seat, guess) {
-            Some(place) => {
-                self.awake.set(place);
-                place
-            }
-            None => guess,
-        }
+        wake_seat(&mut self.seats, &mut self.awake, consumer, guess);
     }
 
-    /// Whether some seat is awake.
+    /// Whether picks look at some seat. If not, none is awake.
     pub fn has_awake(&self) -> bool
-        ensures yes { result ≡ true → (p : Seat) × IsAwake self.now p }
-        ensures no { result ≡ false → (p : Seat) → IsAwake self.now p → ⊥ }
+        ensures yes { result ≡ true → (i : ℕ) × (i < length self.now.seats) × (bit_of self.now.marks i ≡ 1) }
+        ensures no { result ≡ false → (p : Consumer) → IsAwake self.now p → ⊥ }
     {
-        any_awake(&self.awake, self.seats.len())
+        any_marked(&self.awake, self.seats.len())
     }
 
-    /// The first seat to whose consumer a delivery can be made from the queue at this place, from the one behind that which was
-    /// picked last, and then from the front. Only seats that are awake are looked at, and those whose consumer may take nothing
-    /// then fall asleep.
-    pub fn pick(&mut self, core: &Core, queue: usize) -> Option<Pick>
-        ensures drowses { Drowses (broker_of core.now) self.old self.new }
+    /// The first consumer to which a delivery can be made from the queue at this place, from the seat behind that which was picked
+    /// last, and then from the front. Those that are looked at and may take nothing fall asleep, if they can be listed.
+    pub fn pick(&mut self, core: &Core, desks: &mut Desks, queue: usize) -> Option<Pick>
+        ensures kept { KeepsIn core.now queue desks.old.entries desks.new.entries self.old self.new }
+        ensures more { ListsMore desks.old.entries desks.new.entries }
         ensures some { IfSome result (λ p. IsPickFrom core.now queue p) }
-        ensures none { result ≡ None → (p : Seat) → IsSeatedIn (broker_of core.now) self.old p → IsPickFrom core.now queue p → ⊥ }
+        ensures none { result ≡ None → (p : Consumer) → IsSeatedIn (broker_of core.now) desks.old.entries queue self.old p → IsPickFrom core.now queue p → ⊥ }
     {
-        match first_round(core, queue, &self.seats, &mut self.awake, self.next) {
+        match first_round(
+            core,
+            queue,
+            &mut self.seats,
+            &mut self.awake,
+            desks,
+            self.next,
+        ) {
             Some(place) => {
                 self.next = place + 1;
-                Some(self.seats[place])
+                Some(self.seats[place].pick)
             }
             None => None,
         }

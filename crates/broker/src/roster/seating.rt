@@ -5,13 +5,13 @@
 //! clears the bit, and the next seat that is woken or made there sets it. So a queue that lacks one of the two is passed over.
 
 ghost use Rattle.std.specs.Prelude.{◌≡◌, ◌<◌, ◌≤◌, ◌*◌, [], ℕ, None, IfSome, IfOk, OnOk, length};
-ghost use Rattle.model.specs.Topology.{IsIn};
 ghost use Rattle.marks.specs.Places.{bit_of};
 ghost use Rattle.broker_core.specs.State.{broker_of, topology_of};
 ghost use Rattle.broker_core.specs.Picked.{IsPickFrom};
-ghost use Rattle.broker.specs.Roster.{ring_at, IsAwake, IsSeatedIn, AreMarked, IsNextMarked, KeepRings, AllDrowse, AllWaken, NoneBetween};
-ghost use Rattle.broker_core.specs.declared.picks.Pick.{Pick as Seat};
+ghost use Rattle.broker.specs.Roster.{ring_at, rings_of, IsAwake, IsAsleep, IsSeatedIn, QueuesAreMarked, IsNextMarked, KeepRings, KeepsSeats, ListsMore, AllWaken, NoneBetween};
+ghost use Rattle.broker_core.specs.declared.picks.Pick.{Pick as Consumer};
 
+use crate::roster::desk::Desks;
 use crate::roster::ring::{Marks, Ring};
 use broker_core::{Core, Pick};
 use marks::{Flat, Over, Places};
@@ -46,36 +46,35 @@ fn empty_marks(alloc: Global, count: usize) -> Result<Marks, AllocError>
     Ok(marks)
 }
 
-/// This seat is in the ring of the queue at this place from now on, and awake. Where memory is wanting it may not be; no seat of
-/// a consumer that is there is gone. Tells its place.
+/// This consumer has its seat in the ring of the queue at this place from now on, and it is awake. Where memory is wanting it may
+/// not; no seat of a consumer that is there is gone.
 fn seat_at(
     rings: &mut [Ring],
     awake: &mut Marks,
     core: &Core,
     queue: usize,
-    seat: Pick,
-) -> Result<usize, AllocError>
+    consumer: Pick,
+) -> Result<(), AllocError>
     requires within { queue < length rings.old }
-    requires marked { AreMarked rings.old awake.old }
-    ensures seated { OnOk result (IsAwake (ring_at rings.new queue) seat) }
+    requires marked { QueuesAreMarked rings.old awake.old }
+    ensures seated { OnOk result (IsAwake (ring_at rings.new queue) consumer) }
     ensures kept { KeepRings core.now rings.old rings.new }
-    ensures marked { AreMarked rings.new awake.new }
+    ensures marked { QueuesAreMarked rings.new awake.new }
 {
     awake.set(queue);
-    rings[queue].seat(core, seat)
+    rings[queue].seat(core, consumer)
 }
 
-/// The seat is awake from now on in the ring of the queue at this place, where it is looked for at this place first. Tells where
-/// it stands.
-fn wake_at(rings: &mut [Ring], awake: &mut Marks, queue: usize, seat: Pick, guess: usize) -> usize
+/// This consumer's seat is awake from now on in the ring of the queue at this place, where it is looked for at this place first.
+fn wake_at(rings: &mut [Ring], awake: &mut Marks, queue: usize, consumer: Pick, guess: usize)
     requires within { queue < length rings.old }
-    requires marked { AreMarked rings.old awake.old }
-    ensures woken { IsIn seat (ring_at rings.old queue).seats → IsAwake (ring_at rings.new queue) seat }
+    requires marked { QueuesAreMarked rings.old awake.old }
+    ensures woken { IsAsleep (ring_at rings.old queue) consumer → IsAwake (ring_at rings.new queue) consumer }
     ensures wakens { AllWaken rings.old rings.new }
-    ensures marked { AreMarked rings.new awake.new }
+    ensures marked { QueuesAreMarked rings.new awake.new }
 {
     awake.set(queue);
-    rings[queue].wake(seat, guess)
+    rings[queue].wake(consumer, guess);
 }
 
 /// The first place at or behind this one whose queue has something ready and whose bit is 1. The two sets are gone over by
@@ -97,8 +96,8 @@ fn next_both(core: &Core, awake: &Marks, from: usize) -> Option<usize>
 /// The bit of the queue at this place is 0 from now on if no seat of its ring is awake.
 fn settle(rings: &[Ring], awake: &mut Marks, queue: usize)
     requires within { queue < length rings.now }
-    requires marked { AreMarked rings.now awake.old }
-    ensures { AreMarked rings.now awake.new }
+    requires marked { QueuesAreMarked rings.now awake.old }
+    ensures { QueuesAreMarked rings.now awake.new }
 {
     if !rings[queue].has_awake() {
         awake.clear(queue);
@@ -106,17 +105,24 @@ fn settle(rings: &[Ring], awake: &mut Marks, queue: usize)
 }
 
 /// The first delivery that can be made from the queue at this place, whose bit is 1.
-fn pick_at(rings: &mut [Ring], awake: &mut Marks, core: &Core, queue: usize) -> Option<Pick>
+fn pick_at(
+    rings: &mut [Ring],
+    awake: &mut Marks,
+    core: &Core,
+    desks: &mut Desks,
+    queue: usize,
+) -> Option<Pick>
     requires within { queue < length rings.old }
     requires here { bit_of awake.old queue ≡ 1 }
-    requires marked { AreMarked rings.old awake.old }
+    requires marked { QueuesAreMarked rings.old awake.old }
     ensures len { length rings.new ≡ length rings.old }
-    ensures drowse { AllDrowse (broker_of core.now) rings.old rings.new }
-    ensures marked { AreMarked rings.new awake.new }
+    ensures kept { KeepsSeats core.now (rings_of rings.old desks.old.entries) (rings_of rings.new desks.new.entries) }
+    ensures more { ListsMore desks.old.entries desks.new.entries }
+    ensures marked { QueuesAreMarked rings.new awake.new }
     ensures some { IfSome result (λ p. IsPickFrom core.now queue p) }
-    ensures none { result ≡ None → (p : Seat) → IsSeatedIn (broker_of core.now) (ring_at rings.old queue) p → IsPickFrom core.now queue p → ⊥ }
+    ensures none { result ≡ None → (p : Consumer) → IsSeatedIn (broker_of core.now) desks.old.entries queue (ring_at rings.old queue) p → IsPickFrom core.now queue p → ⊥ }
 {
-    match rings[queue].pick(core, queue) {
+    match rings[queue].pick(core, desks, queue) {
         Some(pick) => Some(pick),
         None => {
             settle(rings, awake, queue);
@@ -130,23 +136,25 @@ fn first_between(
     rings: &mut [Ring],
     awake: &mut Marks,
     core: &Core,
+    desks: &mut Desks,
     from: usize,
     to: usize,
 ) -> Option<Found>
     requires len { length rings.old ≡ length (topology_of core.now).queues }
-    requires marked { AreMarked rings.old awake.old }
-    ensures drowse { AllDrowse (broker_of core.now) rings.old rings.new }
-    ensures marked { AreMarked rings.new awake.new }
+    requires marked { QueuesAreMarked rings.old awake.old }
+    ensures kept { KeepsSeats core.now (rings_of rings.old desks.old.entries) (rings_of rings.new desks.new.entries) }
+    ensures more { ListsMore desks.old.entries desks.new.entries }
+    ensures marked { QueuesAreMarked rings.new awake.new }
     ensures within { IfSome result (λ f. f.queue < length rings.new) }
     ensures some { IfSome result (λ f. IsPickFrom core.now f.queue f.pick) }
-    ensures none { result ≡ None → NoneBetween core.now rings.old from to }
+    ensures none { result ≡ None → NoneBetween core.now (rings_of rings.old desks.old.entries) from to }
 {
     let mut next = from;
     'queues: while let Some(queue) = next_both(core, awake, next) {
         if queue >= to {
             return None;
         }
-        if let Some(pick) = pick_at(rings, awake, core, queue) {
+        if let Some(pick) = pick_at(rings, awake, core, desks, queue) {
             return Some(Found { queue, pick });
         }
         next = queue + 1;
@@ -155,19 +163,26 @@ fn first_between(
 }
 
 /// The first delivery that can be made from one of the queues, from this place on and then from the front.
-fn first_round(rings: &mut [Ring], awake: &mut Marks, core: &Core, next: usize) -> Option<Found>
+fn first_round(
+    rings: &mut [Ring],
+    awake: &mut Marks,
+    core: &Core,
+    desks: &mut Desks,
+    next: usize,
+) -> Option<Found>
     requires len { length rings.old ≡ length (topology_of core.now).queues }
-    requires marked { AreMarked rings.old awake.old }
-    ensures drowse { AllDrowse (broker_of core.now) rings.old rings.new }
-    ensures marked { AreMarked rings.new awake.new }
+    requires marked { QueuesAreMarked rings.old awake.old }
+    ensures kept { KeepsSeats core.now (rings_of rings.old desks.old.entries) (rings_of rings.new desks.new.entries) }
+    ensures more { ListsMore desks.old.entries desks.new.entries }
+    ensures marked { QueuesAreMarked rings.new awake.new }
     ensures within { IfSome result (λ f. f.queue < length rings.new) }
     ensures some { IfSome result (λ f. IsPickFrom core.now f.queue f.pick) }
-    ensures none { result ≡ None → NoneBetween core.now rings.old 0 (length rings.old) }
+    ensures none { result ≡ None → NoneBetween core.now (rings_of rings.old desks.old.entries) 0 (length rings.old) }
 {
     let turn = next.min(rings.len());
-    match first_between(rings, awake, core, turn, rings.len()) {
+    match first_between(rings, awake, core, desks, turn, rings.len()) {
         Some(found) => Some(found),
-        None => first_between(rings, awake, core, 0, turn),
+        None => first_between(rings, awake, core, desks, 0, turn),
     }
 }
 
@@ -193,22 +208,20 @@ impl Drop for Seating {
 
 impl Model for Seating {
     ghost use Rattle.std.specs.Prelude.{List};
-    ghost use Rattle.broker.specs.Roster.{Seats, AreMarked};
+    ghost use Rattle.broker.specs.Roster.{Seats, QueuesAreMarked};
 
     ghost Value = { List Seats };
 
     ghost view = { λ s. s.rings.items };
 
-    ghost invariant = { λ s. AreMarked s.rings.items s.awake };
+    ghost invariant = { λ s. QueuesAreMarked s.rings.items s.awake };
 }
 
 impl Seating {
     ghost use Rattle.std.specs.Prelude.{◌≡◌, ◌<◌, ℕ, None, IfSome, IfOk, OnOk, length};
-    ghost use Rattle.model.specs.Topology.{IsIn};
-    ghost use Rattle.broker_core.specs.declared.picks.Pick.{Pick as Seat};
-    ghost use Rattle.broker_core.specs.State.{broker_of, topology_of};
+    ghost use Rattle.broker_core.specs.State.{topology_of};
     ghost use Rattle.broker_core.specs.Picked.{IsPickFrom};
-    ghost use Rattle.broker.specs.Roster.{ring_at, IsAwake, KeepRings, AllDrowse, AllWaken, NoneBetween};
+    ghost use Rattle.broker.specs.Roster.{ring_at, rings_of, IsAwake, IsAsleep, KeepRings, KeepsSeats, ListsMore, AllWaken, NoneBetween};
 
     /// So many rings with no seat.
     pub fn new(alloc: Global, queues: usize) -> Result<Seating, AllocError>
@@ -223,40 +236,39 @@ impl Seating {
         })
     }
 
-    /// This seat is in the ring of the queue at this place from now on, and awake. Where memory is wanting it may not be; no seat
-    /// of a consumer that is there is gone. Tells its place.
-    pub fn seat(&mut self, core: &Core, queue: usize, seat: Pick) -> Result<usize, AllocError>
+    /// This consumer has its seat in the ring of the queue at this place from now on, and it is awake. Where memory is wanting it
+    /// may not; no seat of a consumer that is there is gone.
+    pub fn seat(&mut self, core: &Core, queue: usize, consumer: Pick) -> Result<(), AllocError>
         requires { queue < length self.old }
-        ensures seated { OnOk result (IsAwake (ring_at self.new queue) seat) }
+        ensures seated { OnOk result (IsAwake (ring_at self.new queue) consumer) }
         ensures kept { KeepRings core.now self.old self.new }
         ensures len { length self.new ≡ length self.old }
     {
-        seat_at(&mut self.rings, &mut self.awake, core, queue, seat)
+        seat_at(&mut self.rings, &mut self.awake, core, queue, consumer)
     }
 
-    /// The seat is awake from now on in the ring of the queue at this place, if it is there; it is looked for at this place first.
-    /// Tells where it stands. It takes no memory.
-    pub fn wake(&mut self, queue: usize, seat: Pick, guess: usize) -> usize
-        ensures woken { IsIn seat (ring_at self.old queue).seats → IsAwake (ring_at self.new queue) seat }
+    /// This consumer's seat is awake from now on in the ring of the queue at this place, if it is there; it is looked for at this
+    /// place first. It takes no memory.
+    pub fn wake(&mut self, queue: usize, consumer: Pick, guess: usize)
+        ensures woken { IsAsleep (ring_at self.old queue) consumer → IsAwake (ring_at self.new queue) consumer }
         ensures wakens { AllWaken self.old self.new }
         ensures len { length self.new ≡ length self.old }
     {
         if queue < self.rings.len() {
-            wake_at(&mut self.rings, &mut self.awake, queue, seat, guess)
-        } else {
-            guess
+            wake_at(&mut self.rings, &mut self.awake, queue, consumer, guess);
         }
     }
 
     /// The first delivery that can be made, from the queue behind that from which was picked last, and then from the front.
-    pub fn pick(&mut self, core: &Core) -> Option<Pick>
+    pub fn pick(&mut self, core: &Core, desks: &mut Desks) -> Option<Pick>
         requires { length self.old ≡ length (topology_of core.now).queues }
-        ensures drowse { AllDrowse (broker_of core.now) self.old self.new }
+        ensures kept { KeepsSeats core.now (rings_of self.old desks.old.entries) (rings_of self.new desks.new.entries) }
+        ensures more { ListsMore desks.old.entries desks.new.entries }
         ensures len { length self.new ≡ length self.old }
         ensures some { IfSome result (λ p. (place : ℕ) × IsPickFrom core.now place p) }
-        ensures none { result ≡ None → NoneBetween core.now self.old 0 (length self.old) }
+        ensures none { result ≡ None → NoneBetween core.now (rings_of self.old desks.old.entries) 0 (length self.old) }
     {
-        let found = first_round(&mut self.rings, &mut self.awake, core, self.next)?;
+        let found = first_round(&mut self.rings, &mut self.awake, core, desks, self.next)?;
         self.next = found.queue + 1;
         Some(found.pick)
     }

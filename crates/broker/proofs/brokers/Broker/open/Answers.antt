@@ -15,5 +15,5 @@ invariant_of-self c =
     either_way c.open.result c.open.ensures.ok c.open.ensures.err
     (λ acts. serves new rings
     (serves_asleep c.brokers_stay_agreed.ensures.acts c.consumers_are_made.ensures (topology_of old) old new (Running c.args.connection c.args.channel_max c.args.channels) [] [] rings acts (λ p. refl) refl refl c.open.ensures.topology (holds old rings c.self.invariant))
-    (running_still (broker_of old) (broker_of new) rings.lists rings.lists (opening_runs (topology_of old) (broker_of old) (broker_of new) [] [] c.args.connection c.args.channel_max c.args.channels acts) refl c.self.invariant.running))
+    (running_still (broker_of old) (broker_of new) rings.lists rings.lists (opening_runs (topology_of old) (broker_of old) (broker_of new) [] [] c.args.connection c.args.channel_max c.args.channels acts) (λ d none. none) c.self.invariant.running))
     (λ same. subst (λ (k : Kept). IsServing k rings) (sym same) c.self.invariant)

@@ -13,4 +13,4 @@ invariant_of-self c =
     let rings : Rings = c.self.inside.roster in
     serves new rings
     (serves_asleep c.brokers_stay_agreed.ensures.acts c.consumers_are_made.ensures (topology_of old) old new (Pause c.args.connection) [] [] rings c.pause.ensures.acts (λ p. refl) refl refl c.pause.ensures.topology (holds old rings c.self.invariant))
-    (running_still (broker_of old) (broker_of new) rings.lists rings.lists (pause_runs (topology_of old) (broker_of old) (broker_of new) [] [] c.args.connection c.pause.ensures.acts) refl c.self.invariant.running)
+    (running_still (broker_of old) (broker_of new) rings.lists rings.lists (pause_runs (topology_of old) (broker_of old) (broker_of new) [] [] c.args.connection c.pause.ensures.acts) (λ d none. none) c.self.invariant.running)

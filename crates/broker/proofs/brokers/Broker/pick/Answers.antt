@@ -6,7 +6,7 @@ use Rattle.broker_core.specs.declared.picks.Pick.{Pick}
 use Rattle.broker_core.specs.Picked.{IsPick, IsPickFrom}
 use Rattle.broker_core.proofs.Picking.{pick_from}
 use Rattle.broker.proofs.Outcomes.{if_some}
-use Rattle.broker.proofs.Seated.{holds, serves, serves_kept, keeps_drowsy, running_still}
+use Rattle.broker.proofs.Seated.{holds, serves, serves_kept, running_still}
 use Rattle.broker.proofs.brokers.Broker.pick.Goals as goal
 
 pub pick-requires : goal.pick-requires
@@ -18,7 +18,7 @@ returns-clause-none c = λ e d can.
     let p : Pick = record { connection = d; channel = made.number; number = made.consumer.number } in
     let from = pick_from c.self.inside.core d made in
     let has : HasConsumer (topology_of c.self.inside.core) (broker_of c.self.inside.core) from.place p = record { consumer = made.consumer; was = (made.channel, made.taker.there, made.taker.its); numbered = refl; within = from.within; named = from.named } in
-    c.pick.ensures.none e from.place p (c.self.invariant.seated from.place p has).seat (record { pick = (made, refl, refl); within = from.within; named = from.named })
+    c.pick.ensures.none e from.place p (c.self.invariant.seated from.place p has) (record { pick = (made, refl, refl); within = from.within; named = from.named })
 
 pub returns-clause-some : goal.returns-clause-some
 returns-clause-some c =
@@ -30,5 +30,5 @@ invariant_of-self c =
     let before : Rings = c.self.inside.roster in
     let after : Rings = c.pick.new.self in
     serves kept after
-    (serves_kept kept before after (keeps_drowsy kept before after c.pick.ensures.drowse c.pick.ensures.lists) c.pick.ensures.len (holds kept before c.self.invariant))
-    (running_still (broker_of kept) (broker_of kept) before.lists after.lists (λ d none. none) c.pick.ensures.lists c.self.invariant.running)
+    (serves_kept kept before after c.pick.ensures.kept c.pick.ensures.len (holds kept before c.self.invariant))
+    (running_still (broker_of kept) (broker_of kept) before.lists after.lists (λ d none. none) c.pick.ensures.no_list c.self.invariant.running)

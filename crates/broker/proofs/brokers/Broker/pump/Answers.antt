@@ -19,7 +19,7 @@ invariant_of-self c =
     either_if c.deliver.result _ c.deliver.ensures.ok c.deliver.ensures.err
     (λ s acts. serves new rings
     (serves_asleep c.brokers_stay_agreed.ensures.acts c.consumers_are_made.ensures (topology_of old) old new (Deliver c.args.pick.connection) s.sends.items s.notes.items rings acts (λ p. refl) refl refl c.deliver.ensures.topology (holds old rings c.self.invariant))
-    (running_still (broker_of old) (broker_of new) rings.lists rings.lists (delivery_runs (topology_of old) (broker_of old) (broker_of new) s.sends.items s.notes.items c.args.pick.connection acts) refl c.self.invariant.running))
+    (running_still (broker_of old) (broker_of new) rings.lists rings.lists (delivery_runs (topology_of old) (broker_of old) (broker_of new) s.sends.items s.notes.items c.args.pick.connection acts) (λ d none. none) c.self.invariant.running))
     (λ same. subst (λ (k : Kept). IsServing k rings) (sym same) c.self.invariant)
 
 pub returns-clause-addressed : goal.returns-clause-addressed

@@ -4,7 +4,7 @@ use Rattle.model.specs.declared.events.Event.TheVariants.{Resume}
 use Rattle.broker_core.specs.State.{Kept, broker_of, topology_of}
 use Rattle.broker.specs.Roster.{Rings}
 use Rattle.broker.proofs.Ending.{resume_runs}
-use Rattle.broker.proofs.Seated.{Holds, holds, serves, serves_still, serves_kept, keeps_drowsy, woken_drowse, woken_there, running_still}
+use Rattle.broker.proofs.Seated.{Holds, holds, serves, serves_still, serves_kept, keeps_all, running_still}
 use Rattle.broker.proofs.brokers.Broker.resume.Goals as goal
 
 pub invariant_of-self : goal.invariant_of-self
@@ -14,8 +14,8 @@ invariant_of-self c =
     let before : Rings = c.self.inside.roster in
     let after : Rings = c.wake.new.self in
     let held : Holds old after =
-    serves_kept old before after (keeps_drowsy old before after (woken_drowse (broker_of old) before.rings after.rings c.wake.ensures.wakens) c.wake.ensures.lists) c.wake.ensures.len (holds old before c.self.invariant) in
+    serves_kept old before after (keeps_all old before after c.wake.ensures.kept) c.wake.ensures.len (holds old before c.self.invariant) in
     serves new after
     (serves_still c.brokers_stay_agreed.ensures.acts c.consumers_are_made.ensures (topology_of old) old new (Resume c.args.connection) [] [] after c.resume.ensures.acts
-    (λ place p woken is. c.wake.ensures.woken place p (eqb-true p.connection c.args.connection woken) refl (woken_there before after place p c.wake.ensures.wakens c.wake.ensures.lists is)) refl refl c.resume.ensures.topology held)
-    (running_still (broker_of old) (broker_of new) before.lists after.lists (resume_runs (topology_of old) (broker_of old) (broker_of new) [] [] c.args.connection c.resume.ensures.acts) c.wake.ensures.lists c.self.invariant.running)
+    (λ place p woken has. c.wake.ensures.woken (broker_of old) place p (eqb-true p.connection c.args.connection woken) refl (c.self.invariant.seated place p has)) refl refl c.resume.ensures.topology held)
+    (running_still (broker_of old) (broker_of new) before.lists after.lists (resume_runs (topology_of old) (broker_of old) (broker_of new) [] [] c.args.connection c.resume.ensures.acts) c.wake.ensures.none c.self.invariant.running)

@@ -1,12 +1,12 @@
 use Rattle.std.proofs.Common.{ℕ, sym, subst}
 use Rattle.std.specs.Prelude.{IfSome}
-use Rattle.broker.specs.Roster.{Rings, IsServing, AllRun, IsUp}
+use Rattle.broker.specs.Roster.{Rings, ring_at, HasSeat, IsServing, AllRun, IsAwake}
 use Rattle.broker_core.specs.Seats.{seat_of, IsConsumed}
 use Rattle.broker_core.specs.State.{Kept, broker_of, topology_of}
 use Rattle.replies.specs.Sent.{connection_of_event}
 use Rattle.broker.proofs.Ending.{others_run}
 use Rattle.broker.proofs.Outcomes.{if_some}
-use Rattle.broker.proofs.Seated.{Holds, holds, serves, serves_kept, serves_next, keeps_drowsy, woken_drowse, woken_there, up_woken, running_still, running_but}
+use Rattle.broker.proofs.Seated.{Holds, holds, serves, serves_kept, serves_next, keeps_all, running_still, running_but}
 use Rattle.broker.proofs.brokers.Broker.step.Goals as goal
 
 pub returns-clause-addressed : goal.returns-clause-addressed
@@ -30,10 +30,9 @@ invariant_of-self-in_err-step c =
     let mid : Rings = c.seat_next.new.self in
     let after : Rings = c.wake_for.new.self in
     let seated : Holds old mid = serves_kept old before mid c.seat_next.ensures.kept c.seat_next.ensures.len (holds old before c.self.invariant) in
-    let held : Holds old after =
-    serves_kept old mid after (keeps_drowsy old mid after (woken_drowse (broker_of old) mid.rings after.rings c.wake_for.ensures.wakens) c.wake_for.ensures.lists) c.wake_for.ensures.len seated in
+    let held : Holds old after = serves_kept old mid after (keeps_all old mid after c.wake_for.ensures.kept) c.wake_for.ensures.len seated in
     let running : AllRun (broker_of old) after.lists =
-    running_still (broker_of old) (broker_of old) mid.lists after.lists (λ d none. none) c.wake_for.ensures.lists (λ d none. c.seat_next.ensures.running d none (c.self.invariant.running d none)) in
+    running_still (broker_of old) (broker_of old) mid.lists after.lists (λ d none. none) c.wake_for.ensures.none (λ d none. c.seat_next.ensures.running d none (c.self.invariant.running d none)) in
     subst (λ (k : Kept). IsServing k after) (sym c.in_err-step.ensures.err) (serves old after held running)
 
 -- where the step is made
@@ -46,16 +45,15 @@ invariant_of-self-2 c =
     let after : Rings = c.wake_for.new.self in
     let left : Rings = c.forget_ended.new.self in
     let seated : Holds old mid = serves_kept old before mid c.seat_next.ensures.kept c.seat_next.ensures.len (holds old before c.self.invariant) in
-    let held : Holds old after =
-    serves_kept old mid after (keeps_drowsy old mid after (woken_drowse (broker_of old) mid.rings after.rings c.wake_for.ensures.wakens) c.wake_for.ensures.lists) c.wake_for.ensures.len seated in
+    let held : Holds old after = serves_kept old mid after (keeps_all old mid after c.wake_for.ensures.kept) c.wake_for.ensures.len seated in
     let running : AllRun (broker_of old) after.lists =
-    running_still (broker_of old) (broker_of old) mid.lists after.lists (λ d none. none) c.wake_for.ensures.lists (λ d none. c.seat_next.ensures.running d none (c.self.invariant.running d none)) in
-    let next : IfSome (seat_of old c.args.event.now) (λ p. (place : ℕ) → IsConsumed (topology_of old) c.args.event.now place → IsUp after place p) =
-    if_some (seat_of old c.args.event.now) (λ p. (place : ℕ) → IsConsumed (topology_of old) c.args.event.now place → IsUp mid place p) (λ p. (place : ℕ) → IsConsumed (topology_of old) c.args.event.now place → IsUp after place p)
-    (λ p up place is. up_woken mid after place p c.wake_for.ensures.wakens c.wake_for.ensures.lists (up place is)) c.in_ok-seat_next.ensures.seated in
+    running_still (broker_of old) (broker_of old) mid.lists after.lists (λ d none. none) c.wake_for.ensures.none (λ d none. c.seat_next.ensures.running d none (c.self.invariant.running d none)) in
+    let next : IfSome (seat_of old c.args.event.now) (λ p. (place : ℕ) → IsConsumed (topology_of old) c.args.event.now place → IsAwake (ring_at after.rings place) p) =
+    if_some (seat_of old c.args.event.now) (λ p. (place : ℕ) → IsConsumed (topology_of old) c.args.event.now place → HasSeat mid place p) (λ p. (place : ℕ) → IsConsumed (topology_of old) c.args.event.now place → IsAwake (ring_at after.rings place) p)
+    (λ p up place is. (c.wake_for.ensures.wakens place).awake p (up place is).awake) c.in_ok-seat_next.ensures.seated in
     let acts = c.in_ok-step.ensures.ok in
     serves new left
     (serves_kept new after left c.forget_ended.ensures.kept c.forget_ended.ensures.len
     (serves_next c.brokers_stay_agreed.ensures.acts c.consumers_are_made.ensures old new c.args.event.now _ _ after acts
-    (λ place p woken is. c.wake_for.ensures.woken place p woken (woken_there mid after place p c.wake_for.ensures.wakens c.wake_for.ensures.lists is)) c.step.ensures.topology next held))
+    (λ place p woken has. c.wake_for.ensures.woken (broker_of old) place p woken (seated.seated place p has)) c.step.ensures.topology next held))
     (running_but (broker_of old) (broker_of new) after.lists left.lists (connection_of_event c.args.event.now) (others_run (topology_of old) (broker_of old) (broker_of new) _ _ c.args.event.now acts) c.forget_ended.ensures.gone c.forget_ended.ensures.none running)

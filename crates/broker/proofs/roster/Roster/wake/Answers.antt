@@ -1,10 +1,14 @@
 use Rattle.std.proofs.Common.{sym, subst}
-use Rattle.model.specs.Topology.{IsIn}
-use Rattle.broker.specs.Roster.{Rings, ring_at, IsListed}
+use Rattle.broker.specs.Roster.{Rings, IsSeated}
+use Rattle.broker.proofs.Desks.{wake_seated, wake_others}
 use Rattle.broker.proofs.roster.Roster.wake.Goals as goal
 
 pub returns-clause-woken : goal.returns-clause-woken
-returns-clause-woken c = λ place p same of is.
-    c.wake_desk.ensures.woken (record { queue = place; seat = p }) same
-    (subst (λ (r : Rings). IsListed r.lists (record { queue = place; seat = p })) (sym c.self.view_is) is.listed) of
-    (subst (λ (r : Rings). IsIn p (ring_at r.rings place).seats) (sym c.self.view_is) is.there)
+returns-clause-woken c = λ b place p same of i.
+    wake_seated b c.self.inside.desks.entries c.self.inside.seating c.wake_desk.new.seating place p c.wake_desk.ensures.wakens (c.wake_desk.ensures.woken (record { queue = place; seat = p }) same of)
+    (subst (λ (r : Rings). IsSeated b r place p) (sym c.self.view_is) i)
+
+pub returns-clause-kept : goal.returns-clause-kept
+returns-clause-kept c = λ b place p i.
+    wake_others b c.self.inside.desks.entries c.wake_desk.new.desks.entries c.self.inside.seating c.wake_desk.new.seating c.args.connection c.args.channel place p c.wake_desk.ensures.wakens c.wake_desk.ensures.woken c.wake_desk.ensures.others
+    (subst (λ (r : Rings). IsSeated b r place p) (sym c.self.view_is) i)

@@ -1,16 +1,18 @@
-use Rattle.std.proofs.Common.{◌≡◌, ◌≤◌, ◌-◌, length}
-use Rattle.broker_core.specs.State.{broker_of}
-use Rattle.broker.specs.Roster.{Sleep}
-use Rattle.broker.proofs.Sleeping.{NoneTo}
+use Rattle.std.proofs.Common.{◌≡◌, ◌<◌, ◌≤◌, ◌-◌, ℕ, length}
+use Rattle.broker_core.specs.declared.picks.Pick.{Pick}
+use Rattle.broker.specs.Roster.{ring_of, IsAwakeAt, KeepsIn, ListsMore, NoneAwake}
 use Rattle.broker.proofs.roster.ring.first_between.Given as goal
 
--- no delivery can be made to those before the next that were awake
+-- no delivery can be made to those before the next that were awake, and those behind are as they were
 abbrev pub invariant-seats : goal.invariant-seats
 invariant-seats l = record {
   least : l.from ≤ l.next;
   len : length l.awake ≡ length l.fn.awake;
-  sleep : Sleep (broker_of l.core) l.seats l.fn.awake l.awake;
-  none : NoneTo l.core l.queue l.seats l.fn.awake l.from l.next;
+  kept : KeepsIn l.core l.queue l.fn.desks.entries l.desks.entries (ring_of l.fn.seats l.fn.awake) (ring_of l.seats l.awake);
+  more : ListsMore l.fn.desks.entries l.desks.entries;
+  before : (i : ℕ) (p : Pick) → i < l.from → IsAwakeAt (ring_of l.fn.seats l.fn.awake) i p → IsAwakeAt (ring_of l.seats l.awake) i p;
+  behind : (i : ℕ) (p : Pick) → l.next ≤ i → IsAwakeAt (ring_of l.fn.seats l.fn.awake) i p → IsAwakeAt (ring_of l.seats l.awake) i p;
+  none : NoneAwake l.core l.queue (ring_of l.fn.seats l.fn.awake) l.from l.next;
 }
 
 abbrev pub decreases-seats : goal.decreases-seats

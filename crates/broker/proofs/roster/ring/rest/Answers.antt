@@ -1,12 +1,11 @@
-use Rattle.std.proofs.Common.{inr}
-use Rattle.channel.specs.Open.{consumer_in}
-use Rattle.broker_core.specs.State.{names_of}
+use Rattle.std.proofs.Common.{get_or, false, inr}
+use Rattle.links.proofs.Setting.{same_default}
+use Rattle.broker.specs.declared.roster.seats.Seat.{Seat}
+use Rattle.broker.proofs.Sleeping.{rested}
 use Rattle.broker.proofs.roster.ring.rest.Goals as goal
 
-pub returns-then-not-may_take-clause-here : goal.returns-then-not-may_take-clause-here
-returns-then-not-may_take-clause-here c = inr (c.may_take.ensures.no c.if-not-may_take.true)
-
-pub returns-else-not-may_take-clause-asleep : goal.returns-else-not-may_take-clause-asleep
-returns-else-not-may_take-clause-asleep c = λ cannot.
-    let one = c.may_take.ensures.yes c.if-not-may_take.false in
-    absurd (cannot one.1.channel (consumer_in (names_of c.args.core.now) one.0) one.1.taker one.1.numbered)
+pub returns-then-dozes-clause-kept : goal.returns-then-dozes-clause-kept
+returns-then-dozes-clause-kept c =
+    let none : Seat = record { pick = record { connection = 0; channel = 0; number = 0 }; asleep = false } in
+    rested c.args.seats.now c.args.awake.now c.clear.new.self c.args.place (get_or c.args.seats.now c.args.place none) c.requires.within c.args.core.now c.args.queue c.args.desks.now.entries c.dozes.new.desks.entries c.dozes.new.seat
+    (λ d. same_default c.args.seats.now c.args.place d none c.requires.within) c.dozes.ensures.more c.dozes.ensures.asleep (inr (c.dozes.ensures.sleeps c.if-dozes.true)) c.clear.ensures.cleared.others

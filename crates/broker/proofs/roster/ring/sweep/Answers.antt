@@ -1,7 +1,7 @@
 use Rattle.std.proofs.Common.{rules}
 use Rattle.std.proofs.lemmas.Fn.{filter_same}
-use Rattle.broker_core.specs.Seats.{has_consumer}
+use Rattle.broker.specs.Roster.{has_its_consumer}
 use Rattle.broker.proofs.roster.ring.sweep.Goals as goal
 
 pub returns-clause-seats : goal.returns-clause-seats
-returns-clause-seats c = filter_same _ (has_consumer c.args.core.now) _ (λ x b f' r. search rules) _ _ c.retain.ensures.filtered
+returns-clause-seats c = filter_same _ (has_its_consumer c.args.core.now) _ (λ x b f' r. search rules) _ _ c.retain.ensures.filtered

@@ -2,8 +2,10 @@ use Rattle.std.proofs.Common.{◌≡◌, ◌∙◌, ◌+◌, ℕ, inl, inr, refl
 use Rattle.std.proofs.lemmas.Bool.Decides.{leb_tells}
 use Rattle.broker_core.specs.Picked.{IsPickFrom}
 use Rattle.broker_core.specs.State.{broker_of}
-use Rattle.broker.specs.Roster.{ring_at, IsSeatedIn}
+use Rattle.broker.specs.Roster.{rings_of, IsSeated}
+use Rattle.broker.proofs.Desks.{more_on}
 use Rattle.broker.proofs.Marked.{marked_by}
+use Rattle.broker.proofs.Present.{picked_kept}
 use Rattle.broker.proofs.roster.seating.first_between.Goals as goal
 
 pub returns-then-queue-to-clause-none : goal.returns-then-queue-to-clause-none
@@ -13,7 +15,7 @@ returns-then-queue-to-clause-none c = λ e place p from lt i pick.
       | inl a ↦ let le = a.1 in c.queues.invariant.none place p from (omega (arith, le)) i pick
       | inr a ↦
           let gt = a.1 in
-          c.in-Some.ensures.before place p (omega (arith, gt)) (omega (arith, lt, past)) (marked_by c.args.core.now c.queues.rings c.queues.awake place p c.queues.invariant.marked (c.queues.invariant.drowse place p i) pick) pick
+          c.in-Some.ensures.before place p (omega (arith, gt)) (omega (arith, lt, past)) (marked_by c.args.core.now c.queues.desks.entries c.queues.rings c.queues.awake place p c.queues.invariant.marked (c.queues.invariant.kept place p i (picked_kept c.args.core.now place p pick)) pick) pick
     ]
 
 pub queues-preserved : goal.queues-preserved
@@ -21,7 +23,8 @@ queues-preserved c =
     let least = c.queues.invariant.least in
     let next = c.in-Some.ensures.least in
     record {
-      drowse = λ place p i. c.pick_at.ensures.drowse place p (c.queues.invariant.drowse place p i);
+      kept = λ place p i has. c.pick_at.ensures.kept place p (c.queues.invariant.kept place p i has) has;
+      more = more_on _ _ _ c.queues.invariant.more c.pick_at.ensures.more;
       len = c.pick_at.ensures.len ∙ c.queues.invariant.len;
       marked = c.pick_at.ensures.marked;
       least = omega (arith, least, next);
@@ -32,23 +35,21 @@ queues-preserved c =
             elim (leb_tells (place + 1) c.in-Some.queue) [
               | inl b ↦
                   let before = b.1 in
-                  c.in-Some.ensures.before place p (omega (arith, gt)) (omega (arith, before)) (marked_by c.args.core.now c.queues.rings c.queues.awake place p c.queues.invariant.marked (c.queues.invariant.drowse place p i) pick) pick
+                  c.in-Some.ensures.before place p (omega (arith, gt)) (omega (arith, before)) (marked_by c.args.core.now c.queues.desks.entries c.queues.rings c.queues.awake place p c.queues.invariant.marked (c.queues.invariant.kept place p i (picked_kept c.args.core.now place p pick)) pick) pick
               | inr b ↦
                   let behind = b.1 in
                   let here : place ≡ c.in-Some.queue = omega (arith, lt, behind) in
+                  let from : IsPickFrom c.args.core.now c.in-Some.queue p = subst (λ (n : ℕ). IsPickFrom c.args.core.now n p) here pick in
                   c.in_default-pick_at.ensures.none refl p
-                  (c.queues.invariant.drowse c.in-Some.queue p (subst (λ (n : ℕ). IsSeatedIn (broker_of c.args.core.now) (ring_at c.args.rings.now n) p) here i))
-                  (subst (λ (n : ℕ). IsPickFrom c.args.core.now n p) here pick)
+                  (c.queues.invariant.kept c.in-Some.queue p (subst (λ (n : ℕ). IsSeated (broker_of c.args.core.now) (rings_of c.args.rings.now c.args.desks.now.entries) n p) here i) (picked_kept c.args.core.now c.in-Some.queue p from))
+                  from
             ]
       ];
     }
-
-pub returns-in-Some-pick_at-clause-drowse : goal.returns-in-Some-pick_at-clause-drowse
-returns-in-Some-pick_at-clause-drowse c = λ place p i. c.pick_at.ensures.drowse place p (c.queues.invariant.drowse place p i)
 
 pub returns-clause-none : goal.returns-clause-none
 returns-clause-none c = λ e place p from lt i pick.
     elim (leb_tells (place + 1) c.queues.next) [
       | inl a ↦ let le = a.1 in c.queues.invariant.none place p from (omega (arith, le)) i pick
-      | inr a ↦ let gt = a.1 in c.in_default.ensures place p (omega (arith, gt)) (marked_by c.args.core.now c.queues.rings c.queues.awake place p c.queues.invariant.marked (c.queues.invariant.drowse place p i) pick) pick
+      | inr a ↦ let gt = a.1 in c.in_default.ensures place p (omega (arith, gt)) (marked_by c.args.core.now c.queues.desks.entries c.queues.rings c.queues.awake place p c.queues.invariant.marked (c.queues.invariant.kept place p i (picked_kept c.args.core.now place p pick)) pick) pick
     ]

@@ -1,16 +1,17 @@
 use Rattle.std.proofs.Common.{◌≡◌, ◌≤◌, ◌-◌, length}
-use Rattle.broker.specs.Roster.{AreMarked, AllDrowse, NoneBetween}
-use Rattle.broker_core.specs.State.{broker_of, topology_of}
+use Rattle.broker.specs.Roster.{rings_of, QueuesAreMarked, KeepsSeats, ListsMore, NoneBetween}
+use Rattle.broker_core.specs.State.{topology_of}
 use Rattle.broker.proofs.roster.seating.first_between.Given as goal
 
 -- each seat is there still, each queue in whose ring one is awake is marked, and from no queue before the next a delivery can be made
 abbrev pub invariant-queues : goal.invariant-queues
 invariant-queues l = record {
-  drowse : AllDrowse (broker_of l.core) l.fn.rings l.rings;
+  kept : KeepsSeats l.core (rings_of l.fn.rings l.fn.desks.entries) (rings_of l.rings l.desks.entries);
+  more : ListsMore l.fn.desks.entries l.desks.entries;
   len : length l.rings ≡ length l.fn.rings;
-  marked : AreMarked l.rings l.awake;
+  marked : QueuesAreMarked l.rings l.awake;
   least : l.from ≤ l.next;
-  none : NoneBetween l.core l.fn.rings l.from l.next;
+  none : NoneBetween l.core (rings_of l.fn.rings l.fn.desks.entries) l.from l.next;
 }
 
 abbrev pub decreases-queues : goal.decreases-queues

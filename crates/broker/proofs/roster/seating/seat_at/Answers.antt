@@ -6,8 +6,8 @@ use Rattle.broker.proofs.roster.seating.seat_at.Goals as goal
 
 pub returns-clause-kept : goal.returns-clause-kept
 returns-clause-kept c =
-    keep_set c.args.core.now c.args.rings.now c.args.queue c.seat.new.self c.requires.within
-    (subst (λ (r : Seats). KeepsRing c.args.core.now r c.seat.new.self) (sym (same_default c.args.rings.now c.args.queue (record { seats = []; awake = [] }) c.index-rings-queue.result c.requires.within)) c.seat.ensures.kept)
+    keep_set c.args.rings.now c.args.queue c.seat.new.self c.requires.within c.args.core.now
+    (subst (λ (r : Seats). KeepsRing c.args.core.now r c.seat.new.self) (sym (same_default c.args.rings.now c.args.queue (record { seats = []; marks = [] }) c.index-rings-queue.result c.requires.within)) c.seat.ensures.kept)
 
 pub returns-clause-marked : goal.returns-clause-marked
 returns-clause-marked c =

@@ -1,0 +1,49 @@
+-- Lists of what sleeps: one is listed more, and those of a channel are woken.
+use Rattle.std.proofs.Common.{◌≡◌, ◌∙◌, ◌<◌, ℕ, List, [], Bool, true, false, Option, length, get_or, set, inl, inr, refl, sym, ap, subst}
+use Rattle.std.specs.Prelude.{◌==◌}
+use Rattle.std.proofs.lemmas.Bool.{eqb-true, eq-eqb, false≢true}
+use Rattle.std.proofs.lemmas.List.{get_or-set_same, get_or-set_other}
+use Rattle.model.specs.Topology.{IsIn}
+use Rattle.model.specs.Broker.{Broker}
+use Rattle.broker_core.specs.declared.picks.Pick.{Pick}
+use Rattle.broker.specs.Roster.{Seats, Lists, Listing, ring_at, is_of, listed_on, IsAwake, IsListed, IsListedOn, IsSeatedIn, ListsMore, AllWaken, IsWoken}
+use Rattle.broker.proofs.Sleeping.{apart}
+
+-- more is listed on one channel
+pub stay_set : (desk : List (List Listing)) (at : ℕ) (old new : List Listing) → at < length desk → ((d : List Listing) → get_or desk at d ≡ old) → ((l : Listing) → IsIn l old → IsIn l new) → (l : Listing) → IsListedOn desk l → IsListedOn (set desk at new) l
+stay_set desk at old new lt there more l i = go (l.seat.channel == at) refl
+  where
+    go : (v : Bool) → (l.seat.channel == at) ≡ v → IsListedOn (set desk at new) l
+    go true f =
+        let same = eqb-true l.seat.channel at f in
+        subst (λ (xs : List Listing). IsIn l xs) (sym (ap (listed_on (set desk at new)) same ∙ get_or-set_same desk at new [] lt))
+        (more l (subst (λ (xs : List Listing). IsIn l xs) (ap (listed_on desk) same ∙ there []) i))
+    go false f = subst (λ (xs : List Listing). IsIn l xs) (sym (get_or-set_other desk at l.seat.channel new [] (apart l.seat.channel at f))) i
+
+pub more_on : (old mid new : Lists) → ListsMore old mid → ListsMore mid new → ListsMore old new
+more_on old mid new f g = record { stay = λ l i. g.stay l (f.stay l i); none = λ c i. g.none c (f.none c i) }
+
+-- who is seated is awake where what is listed of it is woken
+pub wake_seated : (b : Broker) (lists : Lists) (old new : List Seats) (place : ℕ) (p : Pick) → AllWaken old new → (IsListed lists (record { queue = place; seat = p }) → IsWoken old new (record { queue = place; seat = p }))
+    → IsSeatedIn b lists place (ring_at old place) p → IsAwake (ring_at new place) p
+wake_seated b lists old new place p w woken (inl up) = (w place).awake p up
+wake_seated b lists old new place p w woken (inr s) = woken s.listed s.asleep
+
+-- and is seated still where all others stay listed
+pub wake_others : (b : Broker) (before after : Lists) (old new : List Seats) (c : ℕ) (channel : Option ℕ) (place : ℕ) (p : Pick) → AllWaken old new
+    → ((l : Listing) → l.seat.connection ≡ c → is_of channel l.seat ≡ true → IsListed before l → IsWoken old new l)
+    → ((l : Listing) → (l.seat.connection ≡ c → is_of channel l.seat ≡ true → ⊥) → IsListed before l → IsListed after l)
+    → IsSeatedIn b before place (ring_at old place) p → IsSeatedIn b after place (ring_at new place) p
+wake_others b before after old new c channel place p w woken others (inl up) = inl ((w place).awake p up)
+wake_others b before after old new c channel place p w woken others (inr s) = go (p.connection == c) (is_of channel p) refl refl
+  where
+    left : (p.connection ≡ c → is_of channel p ≡ true → ⊥) → IsSeatedIn b after place (ring_at new place) p
+    left other = elim ((w place).asleep p s.asleep) [
+      | inl still ↦ inr (record { asleep = still; cannot = s.cannot; listed = others (record { queue = place; seat = p }) other s.listed })
+      | inr up ↦ inl up
+    ]
+
+    go : (u v : Bool) → (p.connection == c) ≡ u → is_of channel p ≡ v → IsSeatedIn b after place (ring_at new place) p
+    go true true f g = inl (woken (record { queue = place; seat = p }) (eqb-true p.connection c f) g s.listed s.asleep)
+    go true false f g = left (λ same of. false≢true (sym g ∙ of))
+    go false v f g = left (λ same of. false≢true (sym f ∙ eq-eqb p.connection c same))

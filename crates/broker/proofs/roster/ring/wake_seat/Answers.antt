@@ -1,0 +1,11 @@
+use Rattle.std.proofs.Common.{refl, subst}
+use Rattle.broker.specs.Roster.{ring_of, asleep_seat, IsAwakeAt}
+use Rattle.broker.proofs.roster.ring.wake_seat.Goals as goal
+
+pub returns-in-Some-clause-yes : goal.returns-in-Some-clause-yes
+returns-in-Some-clause-yes c = λ e.
+    let any = asleep_seat c.args.consumer in
+    (c.in-Some.place, subst (IsAwakeAt (ring_of c.rouse.new.seats c.rouse.new.awake) c.in-Some.place) (c.in-Some.ensures.there any) (c.rouse.ensures.up any))
+
+pub returns-in-None-clause-no : goal.returns-in-None-clause-no
+returns-in-None-clause-no c = λ e i. c.in-None.ensures.none refl (asleep_seat c.args.consumer) i refl
