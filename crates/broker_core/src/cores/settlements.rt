@@ -18,7 +18,7 @@ impl Core {
     ghost use Rattle.model.specs.Deliveries.{Leaves, Rejects, Returns, of_rejected};
     ghost use Rattle.model.specs.Step.{refusal_of_settling, reply};
     ghost use Rattle.model.specs.declared.methods.Method.TheVariants.{BasicRecoverOk};
-    ghost use Rattle.broker_core.specs.State.{broker_of, topology_of};
+    ghost use Rattle.broker_core.specs.State.{broker_of, channel_on, topology_of};
     ghost use Rattle.broker_core.specs.Steps.{SettlesOn};
 
     /// What this tag settles leaves its queues for this cause, and is no longer outstanding. All that takes memory is made
