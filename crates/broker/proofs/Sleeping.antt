@@ -14,7 +14,7 @@ use Rattle.broker_core.specs.Picked.{IsPickFrom, CannotTake}
 use Rattle.broker_core.specs.Seats.{has_consumer}
 use Rattle.broker_core.specs.declared.picks.Pick.{Pick}
 use Rattle.broker.specs.declared.roster.seats.Seat.{Seat}
-use Rattle.broker.specs.Roster.{Seats, Lists, Listing, ring_of, awake_seat, asleep_seat, has_its_consumer, IsAwakeAt, IsAwake, IsAsleep, IsListed, IsSeatedIn, KeepsIn, KeepsRing, ListsMore, ListsStay, NoneAwake, FallsAsleep, Wakens, AllWaken, IsWoken}
+use Rattle.broker.specs.Roster.{Seats, Lists, Listing, ring_of, awake_seat, asleep_seat, has_its_consumer, IsAwakeAt, IsAwake, IsAsleep, IsListed, IsSeatedIn, KeepsIn, KeepsRing, ListsMore, ListsStay, NoneAwake, Dozes, FallsAsleep, NoneSeated, StaysAt, Wakens, AllWaken, IsWoken}
 use Rattle.broker.proofs.Among.{stays, place_in, in_at, in_front, front_at}
 
 -- to one who may take nothing no delivery can be made
@@ -45,8 +45,8 @@ asleep_at seats p i = let (j, lt, e) = place_in (asleep_seat p) seats i in (j, l
 
 module _ (seats : List Seat) (old new : List ℕ) (place : ℕ) (s : Seat) (within : place < length seats) where
   -- a seat at another place is as it was
-  pub awake_apart : (t : Seat) → ((k : ℕ) → (k ≡ place → ⊥) → bit_of new k ≡ bit_of old k) → (i : ℕ) (p : Pick) → (i ≡ place → ⊥) → IsAwakeAt (ring_of seats old) i p → IsAwakeAt (ring_of (set seats place t) new) i p
-  awake_apart t others i p far at = record {
+  pub awake_apart : (t : Seat) → ((k : ℕ) → (k ≡ place → ⊥) → bit_of new k ≡ bit_of old k) → (i : ℕ) → (i ≡ place → ⊥) → StaysAt (ring_of seats old) (ring_of (set seats place t) new) i
+  awake_apart t others i far p at = record {
     within = let lt = at.within in let long = length-set seats place t in omega (arith, lt, long);
     there = λ d. get_or-set_other seats place i t d far ∙ at.there d;
     marked = others i far ∙ at.marked;
@@ -79,7 +79,7 @@ module _ (seats : List Seat) (old new : List ℕ) (place : ℕ) (s : Seat) (with
         where
           go : (v : Bool) → (i == place) ≡ v → IsAwake (ring_of (set seats place (awake_seat s.pick)) new) p
           go true f = here p (ap (λ (z : Seat). z.pick) (sym (there s) ∙ ap (λ (n : ℕ). get_or seats n s) (sym (eqb-true i place f)) ∙ at.there s))
-          go false f = (i, awake_apart (awake_seat s.pick) d.others i p (apart i place f) at)
+          go false f = (i, awake_apart (awake_seat s.pick) d.others i (apart i place f) p at)
 
       asleep : (p : Pick) → IsAsleep (ring_of seats old) p → IsAsleep (ring_of (set seats place (awake_seat s.pick)) new) p ⊎ IsAwake (ring_of (set seats place (awake_seat s.pick)) new) p
       asleep p i = go (asleep_at seats p i)
@@ -93,7 +93,7 @@ module _ (seats : List Seat) (old new : List ℕ) (place : ℕ) (s : Seat) (with
 
   -- it was looked at, and fell asleep if it might
   pub rested : (kept : Kept) (queue : ℕ) (before after : Lists) (t : Seat) → ((d : Seat) → get_or seats place d ≡ s) → ListsMore before after → (s.asleep ≡ true → t ≡ s)
-      → ((bit_of new place ≡ bit_of old place) × (t ≡ s)) ⊎ (s.asleep ≡ false → has_consumer kept s.pick ≡ true → FallsAsleep (broker_of kept) after queue s t)
+      → ((bit_of new place ≡ bit_of old place) × (t ≡ s)) ⊎ Dozes kept after queue s t
       → ((k : ℕ) → (k ≡ place → ⊥) → bit_of new k ≡ bit_of old k) → KeepsIn kept queue before after (ring_of seats old) (ring_of (set seats place t) new)
   rested kept queue before after t there more still fell others p = keep
     where
@@ -109,7 +109,7 @@ module _ (seats : List Seat) (old new : List ℕ) (place : ℕ) (s : Seat) (with
             listed = subst (λ (q : Pick). IsListed after (record { queue = queue; seat = q })) own f.listed;
           })
 
-      looked : s ≡ awake_seat p → bit_of old place ≡ 1 → has_consumer kept p ≡ true → ((bit_of new place ≡ bit_of old place) × (t ≡ s)) ⊎ (s.asleep ≡ false → has_consumer kept s.pick ≡ true → FallsAsleep (broker_of kept) after queue s t) → Now
+      looked : s ≡ awake_seat p → bit_of old place ≡ 1 → has_consumer kept p ≡ true → ((bit_of new place ≡ bit_of old place) × (t ≡ s)) ⊎ Dozes kept after queue s t → Now
       looked is one has (inl same) = inl (place, awake_here t p (same.1 ∙ is) (same.0 ∙ one))
       looked is one has (inr f) = fallen is (f (ap (λ (z : Seat). z.asleep) is) (ap (λ (z : Seat). has_consumer kept z.pick) is ∙ has))
 
@@ -120,7 +120,7 @@ module _ (seats : List Seat) (old new : List ℕ) (place : ℕ) (s : Seat) (with
           go true f =
               let same = eqb-true i place f in
               looked (sym (there s) ∙ ap (λ (n : ℕ). get_or seats n s) (sym same) ∙ at.there s) (ap (bit_of old) (sym same) ∙ at.marked) has fell
-          go false f = inl (i, awake_apart t others i p (apart i place f) at)
+          go false f = inl (i, awake_apart t others i (apart i place f) p at)
       keep (inr f) has = inr (record { asleep = go (asleep_at seats p f.asleep); cannot = f.cannot; listed = more.stay (record { queue = queue; seat = p }) f.listed })
         where
           go : (j : ℕ) × (j < length seats) × ((d : Seat) → get_or seats j d ≡ asleep_seat p) → IsAsleep (ring_of (set seats place t) new) p
@@ -135,13 +135,13 @@ module _ (seats : List Seat) (old new : List ℕ) (place : ℕ) (s : Seat) (with
 -- ---- those to whom no delivery can be made
 
 -- nor to those at places that are passed over
-pub none_gap : (kept : Kept) (queue : ℕ) (old mid : Seats) (from next bound : ℕ) → NoneAwake kept queue old from next → ((i : ℕ) (p : Pick) → next ≤ i → IsAwakeAt old i p → IsAwakeAt mid i p)
+pub none_gap : (kept : Kept) (queue : ℕ) (old mid : Seats) (from next bound : ℕ) → NoneAwake kept queue old from next → ((i : ℕ) → next ≤ i → StaysAt old mid i)
     → ((k : ℕ) → next ≤ k → k < bound → bit_of mid.marks k ≡ 0) → NoneAwake kept queue old from bound
 none_gap kept queue old mid from next bound none behind zeros i p least lt at pick = elim (leb_tells (i + 1) next) [
   | inl a ↦ let le = a.1 in none i p least (omega (arith, le)) at pick
   | inr a ↦
       let gt = a.1 in
-      let one = sym (zeros i (omega (arith, gt)) lt) ∙ (behind i p (omega (arith, gt)) at).marked in
+      let one = sym (zeros i (omega (arith, gt)) lt) ∙ (behind i (omega (arith, gt)) p at).marked in
       omega (arith, one)
 ]
 
@@ -156,14 +156,14 @@ none_more kept queue old from place none never i p least lt at pick = elim (leb_
 ]
 
 -- in two parts
-pub none_round : (kept : Kept) (queue : ℕ) (old mid : Seats) (turn bound : ℕ) → NoneAwake kept queue old turn bound → ((i : ℕ) (p : Pick) → i < turn → IsAwakeAt old i p → IsAwakeAt mid i p) → NoneAwake kept queue mid 0 turn
+pub none_round : (kept : Kept) (queue : ℕ) (old mid : Seats) (turn bound : ℕ) → NoneAwake kept queue old turn bound → ((i : ℕ) → i < turn → StaysAt old mid i) → NoneAwake kept queue mid 0 turn
     → NoneAwake kept queue old 0 bound
 none_round kept queue old mid turn bound behind still before i p least lt at pick = elim (leb_tells turn i) [
   | inl a ↦ behind i p a.1 lt at pick
-  | inr a ↦ let gt = a.1 in before i p (omega arith) (omega (arith, gt)) (still i p (omega (arith, gt)) at) pick
+  | inr a ↦ let gt = a.1 in before i p (omega arith) (omega (arith, gt)) (still i (omega (arith, gt)) p at) pick
 ]
 
-pub none_seated : (kept : Kept) (lists : Lists) (queue : ℕ) (r : Seats) → NoneAwake kept queue r 0 (length r.seats) → (p : Pick) → IsSeatedIn (broker_of kept) lists queue r p → IsPickFrom kept queue p → ⊥
+pub none_seated : (kept : Kept) (lists : Lists) (queue : ℕ) (r : Seats) → NoneAwake kept queue r 0 (length r.seats) → NoneSeated kept lists queue r
 none_seated kept lists queue r none p (inl (i, at)) pick = none i p (omega arith) at.within at pick
 none_seated kept lists queue r none p (inr f) pick = cannot_pick kept queue p f.cannot pick
 

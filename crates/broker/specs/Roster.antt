@@ -1,5 +1,5 @@
 -- The consumers of all channels by their numbers, over which deliveries go round, and which of them are passed over (own).
-use Rattle.std.specs.Prelude.{◌≡◌, ◌==◌, ◌&&◌, ◌<◌, ◌≤◌, ◌*◌, ◌⊎◌, ℕ, List, [], Bool, true, false, Option, Some, None, length, slice_index_or, nat_eq}
+use Rattle.std.specs.Prelude.{◌≡◌, ◌==◌, ◌&&◌, ◌<◌, ◌≤◌, ◌*◌, ◌⊎◌, ℕ, List, [], Bool, true, false, Option, Some, None, length, slice_index_or, nat_eq, IfSome}
 use Rattle.std.specs.Map.{lookup}
 use Rattle.model.specs.Topology.{Topology, IsIn}
 use Rattle.model.specs.Broker.{Consumer, Broker}
@@ -14,13 +14,13 @@ use Rattle.depot.specs.Store.{HasReady}
 use Rattle.exchange_graph.specs.Marks.{queue_name}
 use Rattle.broker_core.specs.State.{Kept, broker_of, topology_of}
 use Rattle.broker_core.specs.Picked.{IsPickFrom, CannotTake}
-use Rattle.broker_core.specs.Seats.{has_consumer}
+use Rattle.broker_core.specs.Seats.{has_consumer, seat_of, IsConsumed}
 use Rattle.broker_core.specs.declared.picks.Pick.{Pick}
 use Rattle.broker.specs.declared.roster.seats.Seat.{Seat}
 
 -- ---- seats
 
--- The seats of a queue's consumers, in the order in which they were made, and a bit for each: picks look where it is 1.
+-- The seats of a queue's consumers, in the order in which they were made, and a bit for each: picks look at those where it is 1.
 pub record Seats : Type 0 where
   pub seats : List Seat
   pub marks : List ℕ
@@ -124,6 +124,10 @@ pub record HasSeat (r : Rings) (place : ℕ) (p : Pick) : Type 0 where
   pub awake : IsAwake (ring_at r.rings place) p
   pub list : HasList r.lists p.connection p.channel
 
+-- the consumer that this event is to make has its seat
+abbrev pub SeatsNext : Kept → Event → Rings → Type 0
+SeatsNext kept e r = IfSome (seat_of kept e) (λ p. (place : ℕ) → IsConsumed (topology_of kept) e place → HasSeat r place p)
+
 -- ---- what every broker keeps
 
 -- A consumer of these numbers is there, of the queue at this place.
@@ -182,7 +186,11 @@ IsNextMarked kept marks from None = (place : ℕ) (p : Pick) → from ≤ place 
 abbrev pub NoneBetween : Kept → Rings → ℕ → ℕ → Type 0
 NoneBetween kept r from to = (place : ℕ) (p : Pick) → from ≤ place → place < to → IsSeated (broker_of kept) r place p → IsPickFrom kept place p → ⊥
 
--- nor from the queue at this place to one whose seat is awake at these places of its ring
+-- nor from the queue at this place to one who has a seat in its ring
+abbrev pub NoneSeated : Kept → Lists → ℕ → Seats → Type 0
+NoneSeated kept lists queue r = (p : Pick) → IsSeatedIn (broker_of kept) lists queue r p → IsPickFrom kept queue p → ⊥
+
+-- nor to one whose seat is awake at these places of the ring
 abbrev pub NoneAwake : Kept → ℕ → Seats → ℕ → ℕ → Type 0
 NoneAwake kept queue r from to = (i : ℕ) (p : Pick) → from ≤ i → i < to → IsAwakeAt r i p → IsPickFrom kept queue p → ⊥
 
@@ -208,6 +216,10 @@ KeepsSeats kept old new = (place : ℕ) → KeepsIn kept place old.lists new.lis
 -- nor is any gone, whatever its consumer may take
 abbrev pub KeepsAll : Rings → Rings → Type 0
 KeepsAll old new = (b : Broker) (place : ℕ) (p : Pick) → IsSeated b old place p → IsSeated b new place p
+
+-- whose seat is awake at this place of a ring is so still
+abbrev pub StaysAt : Seats → Seats → ℕ → Type 0
+StaysAt old new i = (p : Pick) → IsAwakeAt old i p → IsAwakeAt new i p
 
 -- what was listed is listed still
 abbrev pub ListsStay : Lists → Lists → Type 0
@@ -238,7 +250,11 @@ pub record FallsAsleep (b : Broker) (lists : Lists) (queue : ℕ) (old new : Sea
   pub cannot : CannotTake b old.pick
   pub listed : IsListed lists (record { queue = queue; seat = old.pick })
 
--- Seats are woken, and nothing else changes.
+-- one did that was awake, and whose consumer is there
+abbrev pub Dozes : Kept → Lists → ℕ → Seat → Seat → Type 0
+Dozes kept lists queue old new = old.asleep ≡ false → has_consumer kept old.pick ≡ true → FallsAsleep (broker_of kept) lists queue old new
+
+-- Seats are woken: who is awake stays so, and who sleeps does so still or is awake now.
 pub record Wakens (old new : Seats) : Type 0 where
   pub awake : (p : Pick) → IsAwake old p → IsAwake new p
   pub asleep : (p : Pick) → IsAsleep old p → IsAsleep new p ⊎ IsAwake new p
@@ -254,6 +270,10 @@ IsWoken old new l = IsAsleep (ring_at old l.queue) l.seat → IsAwake (ring_at n
 -- each of these
 abbrev pub WakesListed : List Listing → List Seats → List Seats → Type 0
 WakesListed listed old new = (l : Listing) → IsIn l listed → IsWoken old new l
+
+-- the seat of this consumer is awake now, in whatever ring it stood and whatever it may take
+abbrev pub WakesSeat : Rings → Rings → Pick → Type 0
+WakesSeat old new p = (b : Broker) (place : ℕ) → IsSeated b old place p → IsAwake (ring_at new.rings place) p
 
 -- a command may leave more that a consumer of its channel may take, but for a publish and a get
 abbrev pub wakes_on : Method → Bool
@@ -271,3 +291,7 @@ wakes e p = false
 abbrev pub is_of : Option ℕ → Pick → Bool
 is_of None p = true
 is_of (Some h) p = p.channel == h
+
+-- it is of this connection too
+abbrev pub IsAt : ℕ → Option ℕ → Pick → Type 0
+IsAt c channel p = (p.connection ≡ c) × (is_of channel p ≡ true)

@@ -77,11 +77,10 @@ impl Roster {
     ghost use Rattle.std.specs.Prelude.{◌≡◌, [], ℕ, true, None, Option, IfSome, IfOk, IsOk, OnOk, length};
     ghost use Rattle.replies.specs.Sent.{connection_of_event};
     ghost use Rattle.broker_core.specs.declared.picks.Pick.{Pick as Consumer};
-    ghost use Rattle.model.specs.Broker.{Broker};
     ghost use Rattle.broker_core.specs.State.{broker_of, topology_of};
     ghost use Rattle.broker_core.specs.Picked.{IsPickFrom};
-    ghost use Rattle.broker_core.specs.Seats.{seat_of, IsConsumed};
-    ghost use Rattle.broker.specs.Roster.{ring_at, is_of, wakes, IsAwake, IsSeated, HasSeat, HasNoList, MakesNoList, ListsRunning, KeepsSeats, KeepsAll, AllWaken};
+    ghost use Rattle.broker_core.specs.Seats.{seat_of};
+    ghost use Rattle.broker.specs.Roster.{wakes, IsAt, IsSeated, SeatsNext, HasNoList, MakesNoList, ListsRunning, KeepsSeats, KeepsAll, AllWaken, WakesSeat};
 
     /// No seat, for so many queues.
     pub fn new(alloc: Global, queues: usize) -> Result<Roster, AllocError>
@@ -98,7 +97,7 @@ impl Roster {
     /// Where memory is wanting it may not; no seat of a consumer that is there is gone.
     pub fn seat_next(&mut self, alloc: Global, core: &Core, event: &Event) -> Result<(), AllocError>
         requires { length self.old.rings ≡ length (topology_of core.now).queues }
-        ensures seated { OnOk result (IfSome (seat_of core.now event.now) (λ p. (place : ℕ) → IsConsumed (topology_of core.now) event.now place → HasSeat self.new place p)) }
+        ensures seated { OnOk result (SeatsNext core.now event.now self.new) }
         ensures kept { KeepsSeats core.now self.old self.new }
         ensures running { ListsRunning (broker_of core.now) self.old.lists self.new.lists }
         ensures len { length self.new.rings ≡ length self.old.rings }
@@ -122,7 +121,7 @@ impl Roster {
     /// The seats of this connection's consumers are awake from now on that are of this channel, or all where none is named. It
     /// takes no memory.
     pub fn wake(&mut self, connection: u64, channel: Option<u16>)
-        ensures woken { (b : Broker) (place : ℕ) (p : Consumer) → p.connection ≡ connection → is_of channel p ≡ true → IsSeated b self.old place p → IsAwake (ring_at self.new.rings place) p }
+        ensures woken { (p : Consumer) → IsAt connection channel p → WakesSeat self.old self.new p }
         ensures kept { KeepsAll self.old self.new }
         ensures wakens { AllWaken self.old.rings self.new.rings }
         ensures none { MakesNoList self.old.lists self.new.lists }
@@ -133,7 +132,7 @@ impl Roster {
 
     /// The seats of consumers that may be able to take more after this event are awake from now on. It takes no memory.
     pub fn wake_for(&mut self, event: &Event)
-        ensures woken { (b : Broker) (place : ℕ) (p : Consumer) → wakes event.now p ≡ true → IsSeated b self.old place p → IsAwake (ring_at self.new.rings place) p }
+        ensures woken { (p : Consumer) → wakes event.now p ≡ true → WakesSeat self.old self.new p }
         ensures kept { KeepsAll self.old self.new }
         ensures wakens { AllWaken self.old.rings self.new.rings }
         ensures none { MakesNoList self.old.lists self.new.lists }

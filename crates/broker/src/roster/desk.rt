@@ -2,7 +2,7 @@
 
 mod waking;
 
-ghost use Rattle.std.specs.Prelude.{◌≡◌, ◌≤◌, [], ℕ, true, None, OnOk, length};
+ghost use Rattle.std.specs.Prelude.{◌≡◌, ◌≤◌, ℕ, true, None, OnOk, length};
 ghost use Rattle.broker_core.specs.State.{broker_of};
 ghost use Rattle.broker.specs.Roster.{listed_on, IsListedOn, Listing, IsListed, HasList, HasNoList, MakesNoList, KeepLists, ListsMore, ListsStay};
 

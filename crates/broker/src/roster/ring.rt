@@ -9,12 +9,9 @@ ghost use Rattle.std.specs.Prelude.{◌≡◌, ◌<◌, ◌≤◌, ◌+◌, ◌*
 ghost use Rattle.std.specs.List.{position_from};
 ghost use Rattle.model.specs.Topology.{IsIn};
 ghost use Rattle.marks.specs.Places.{bit_of};
-ghost use Rattle.broker_core.specs.State.{broker_of};
 ghost use Rattle.broker_core.specs.Picked.{IsPickFrom};
-ghost use Rattle.broker_core.specs.Seats.{has_consumer};
-ghost use Rattle.broker_core.specs.declared.picks.Pick.{Pick as Consumer};
 ghost use Rattle.broker.specs.declared.roster.seats.Seat.{Seat as Taken};
-ghost use Rattle.broker.specs.Roster.{ring_of, is_consumer, is_seat_of, has_its_consumer, awake_seat, IsAwakeAt, IsAwake, IsAsleep, KeepsIn, KeepsRing, NoneAwake, ListsMore, FallsAsleep, Wakens};
+ghost use Rattle.broker.specs.Roster.{ring_of, is_consumer, is_seat_of, has_its_consumer, IsAwakeAt, IsAwake, IsAsleep, StaysAt, KeepsIn, KeepsRing, NoneAwake, ListsMore, Dozes, Wakens};
 
 use crate::roster::desk::{Desks, Listed, list_seat};
 use crate::roster::seats::Seat;
@@ -189,7 +186,7 @@ fn may_deliver(core: &Core, queue: usize, seat: Seat) -> bool
 fn dozes(core: &Core, queue: usize, seat: &mut Seat, desks: &mut Desks, place: usize) -> bool
     ensures asleep { seat.old.asleep ≡ true → seat.new ≡ seat.old }
     ensures awake { result ≡ false → seat.new ≡ seat.old }
-    ensures sleeps { result ≡ true → seat.old.asleep ≡ false → has_consumer core.now seat.old.pick ≡ true → FallsAsleep (broker_of core.now) desks.new.entries queue seat.old seat.new }
+    ensures sleeps { result ≡ true → Dozes core.now desks.new.entries queue seat.old seat.new }
     ensures more { ListsMore desks.old.entries desks.new.entries }
 {
     if seat.asleep {
@@ -222,7 +219,7 @@ fn rest(
     ensures len { length awake.new ≡ length awake.old }
     ensures kept { KeepsIn core.now queue desks.old.entries desks.new.entries (ring_of seats.old awake.old) (ring_of seats.new awake.new) }
     ensures more { ListsMore desks.old.entries desks.new.entries }
-    ensures others { (i : ℕ) (p : Consumer) → (i ≡ place → ⊥) → IsAwakeAt (ring_of seats.old awake.old) i p → IsAwakeAt (ring_of seats.new awake.new) i p }
+    ensures others { (i : ℕ) → (i ≡ place → ⊥) → StaysAt (ring_of seats.old awake.old) (ring_of seats.new awake.new) i }
 {
     if dozes(core, queue, &mut seats[place], desks, place) {
         awake.clear(place);
@@ -245,7 +242,7 @@ fn first_between(
     ensures len { length awake.new ≡ length awake.old }
     ensures kept { KeepsIn core.now queue desks.old.entries desks.new.entries (ring_of seats.old awake.old) (ring_of seats.new awake.new) }
     ensures more { ListsMore desks.old.entries desks.new.entries }
-    ensures before { (i : ℕ) (p : Consumer) → i < from → IsAwakeAt (ring_of seats.old awake.old) i p → IsAwakeAt (ring_of seats.new awake.new) i p }
+    ensures before { (i : ℕ) → i < from → StaysAt (ring_of seats.old awake.old) (ring_of seats.new awake.new) i }
     ensures within { IfSome result (λ i. i < length seats.new) }
     ensures some { IfSome result (λ i. (d : Taken) → IsPickFrom core.now queue (slice_index_or seats.new i d).pick) }
     ensures none { result ≡ None → NoneAwake core.now queue (ring_of seats.old awake.old) from to }
@@ -291,7 +288,7 @@ fn first_round(
 /// The seats of the consumers of one queue, in the order in which they were made; some may be of consumers that are gone.
 pub(crate) struct Ring {
     seats: Vec<Seat>,
-    /// A bit for each seat, 1 where picks look at it: where it is awake, and where that is not known.
+    /// A bit for each seat, 1 where picks look at it: where it is awake, and after a sweep until one has looked.
     awake: Marks,
     /// The place behind the seat that was picked last.
     next: usize,
@@ -323,9 +320,8 @@ impl Ring {
     ghost use Rattle.std.specs.Prelude.{◌≡◌, ◌<◌, [], ℕ, true, false, None, IfSome, OnOk, length};
     ghost use Rattle.marks.specs.Places.{bit_of};
     ghost use Rattle.broker_core.specs.declared.picks.Pick.{Pick as Consumer};
-    ghost use Rattle.broker_core.specs.State.{broker_of};
     ghost use Rattle.broker_core.specs.Picked.{IsPickFrom};
-    ghost use Rattle.broker.specs.Roster.{IsAwake, IsAsleep, IsSeatedIn, KeepsIn, KeepsRing, ListsMore, Wakens};
+    ghost use Rattle.broker.specs.Roster.{IsAwake, IsAsleep, KeepsIn, KeepsRing, NoneSeated, ListsMore, Wakens};
 
     /// No seat. It takes no memory.
     pub fn new(alloc: Global) -> Ring
@@ -378,7 +374,7 @@ impl Ring {
         ensures kept { KeepsIn core.now queue desks.old.entries desks.new.entries self.old self.new }
         ensures more { ListsMore desks.old.entries desks.new.entries }
         ensures some { IfSome result (λ p. IsPickFrom core.now queue p) }
-        ensures none { result ≡ None → (p : Consumer) → IsSeatedIn (broker_of core.now) desks.old.entries queue self.old p → IsPickFrom core.now queue p → ⊥ }
+        ensures none { result ≡ None → NoneSeated core.now desks.old.entries queue self.old }
     {
         match first_round(
             core,

@@ -6,10 +6,9 @@
 
 ghost use Rattle.std.specs.Prelude.{◌≡◌, ◌<◌, ◌≤◌, ◌*◌, [], ℕ, None, IfSome, IfOk, OnOk, length};
 ghost use Rattle.marks.specs.Places.{bit_of};
-ghost use Rattle.broker_core.specs.State.{broker_of, topology_of};
+ghost use Rattle.broker_core.specs.State.{topology_of};
 ghost use Rattle.broker_core.specs.Picked.{IsPickFrom};
-ghost use Rattle.broker.specs.Roster.{ring_at, rings_of, IsAwake, IsAsleep, IsSeatedIn, QueuesAreMarked, IsNextMarked, KeepRings, KeepsSeats, ListsMore, AllWaken, NoneBetween};
-ghost use Rattle.broker_core.specs.declared.picks.Pick.{Pick as Consumer};
+ghost use Rattle.broker.specs.Roster.{ring_at, rings_of, IsAwake, IsAsleep, QueuesAreMarked, IsNextMarked, KeepRings, KeepsSeats, ListsMore, AllWaken, NoneSeated, NoneBetween};
 
 use crate::roster::desk::Desks;
 use crate::roster::ring::{Marks, Ring};
@@ -120,7 +119,7 @@ fn pick_at(
     ensures more { ListsMore desks.old.entries desks.new.entries }
     ensures marked { QueuesAreMarked rings.new awake.new }
     ensures some { IfSome result (λ p. IsPickFrom core.now queue p) }
-    ensures none { result ≡ None → (p : Consumer) → IsSeatedIn (broker_of core.now) desks.old.entries queue (ring_at rings.old queue) p → IsPickFrom core.now queue p → ⊥ }
+    ensures none { result ≡ None → NoneSeated core.now desks.old.entries queue (ring_at rings.old queue) }
 {
     match rings[queue].pick(core, desks, queue) {
         Some(pick) => Some(pick),

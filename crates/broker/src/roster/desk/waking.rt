@@ -1,7 +1,7 @@
 //! Seats that sleep are woken, and their lists are empty then.
 
-ghost use Rattle.std.specs.Prelude.{◌≡◌, [], ℕ, true, false, length};
-ghost use Rattle.broker.specs.Roster.{is_of, listed_on, Listing, IsListedOn, IsListed, IsWoken, WakesListed, MakesNoList, AllWaken};
+ghost use Rattle.std.specs.Prelude.{◌≡◌, ℕ, true, false, length};
+ghost use Rattle.broker.specs.Roster.{is_of, listed_on, Listing, IsAt, IsListedOn, IsListed, IsWoken, WakesListed, MakesNoList, AllWaken};
 
 use crate::roster::desk::{Desk, Desks, Listed, Sleepers};
 use crate::roster::seating::Seating;
@@ -107,8 +107,8 @@ pub(crate) fn wake_desk(
     connection: u64,
     channel: Option<u16>,
 )
-    ensures others { (l : Listing) → (l.seat.connection ≡ connection → is_of channel l.seat ≡ true → ⊥) → IsListed desks.old.entries l → IsListed desks.new.entries l }
-    ensures woken { (l : Listing) → l.seat.connection ≡ connection → is_of channel l.seat ≡ true → IsListed desks.old.entries l → IsWoken seating.old seating.new l }
+    ensures others { (l : Listing) → (IsAt connection channel l.seat → ⊥) → IsListed desks.old.entries l → IsListed desks.new.entries l }
+    ensures woken { (l : Listing) → IsAt connection channel l.seat → IsListed desks.old.entries l → IsWoken seating.old seating.new l }
     ensures none { MakesNoList desks.old.entries desks.new.entries }
     ensures wakens { AllWaken seating.old seating.new }
     ensures len { length seating.new ≡ length seating.old }

@@ -17,5 +17,5 @@ invariant_of-self c =
     serves_kept old before after (keeps_all old before after c.wake.ensures.kept) c.wake.ensures.len (holds old before c.self.invariant) in
     serves new after
     (serves_still c.brokers_stay_agreed.ensures.acts c.consumers_are_made.ensures (topology_of old) old new (Resume c.args.connection) [] [] after c.resume.ensures.acts
-    (λ place p woken has. c.wake.ensures.woken (broker_of old) place p (eqb-true p.connection c.args.connection woken) refl (c.self.invariant.seated place p has)) refl refl c.resume.ensures.topology held)
+    (λ place p woken has. c.wake.ensures.woken p (eqb-true p.connection c.args.connection woken, refl) (broker_of old) place (c.self.invariant.seated place p has)) refl refl c.resume.ensures.topology held)
     (running_still (broker_of old) (broker_of new) before.lists after.lists (resume_runs (topology_of old) (broker_of old) (broker_of new) [] [] c.args.connection c.resume.ensures.acts) c.wake.ensures.none c.self.invariant.running)

@@ -55,5 +55,5 @@ invariant_of-self-2 c =
     serves new left
     (serves_kept new after left c.forget_ended.ensures.kept c.forget_ended.ensures.len
     (serves_next c.brokers_stay_agreed.ensures.acts c.consumers_are_made.ensures old new c.args.event.now _ _ after acts
-    (λ place p woken has. c.wake_for.ensures.woken (broker_of old) place p woken (seated.seated place p has)) c.step.ensures.topology next held))
+    (λ place p woken has. c.wake_for.ensures.woken p woken (broker_of old) place (seated.seated place p has)) c.step.ensures.topology next held))
     (running_but (broker_of old) (broker_of new) after.lists left.lists (connection_of_event c.args.event.now) (others_run (topology_of old) (broker_of old) (broker_of new) _ _ c.args.event.now acts) c.forget_ended.ensures.gone c.forget_ended.ensures.none running)

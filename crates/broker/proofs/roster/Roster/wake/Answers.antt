@@ -4,8 +4,8 @@ use Rattle.broker.proofs.Desks.{wake_seated, wake_others}
 use Rattle.broker.proofs.roster.Roster.wake.Goals as goal
 
 pub returns-clause-woken : goal.returns-clause-woken
-returns-clause-woken c = λ b place p same of i.
-    wake_seated b c.self.inside.desks.entries c.self.inside.seating c.wake_desk.new.seating place p c.wake_desk.ensures.wakens (c.wake_desk.ensures.woken (record { queue = place; seat = p }) same of)
+returns-clause-woken c = λ p at b place i.
+    wake_seated b c.self.inside.desks.entries c.self.inside.seating c.wake_desk.new.seating place p c.wake_desk.ensures.wakens (c.wake_desk.ensures.woken (record { queue = place; seat = p }) at)
     (subst (λ (r : Rings). IsSeated b r place p) (sym c.self.view_is) i)
 
 pub returns-clause-kept : goal.returns-clause-kept

@@ -7,12 +7,12 @@ use Rattle.broker.proofs.Waking.{both}
 use Rattle.broker.proofs.roster.Roster.wake_for.Goals as goal
 
 pub returns-then-wakes_on-clause-woken : goal.returns-then-wakes_on-clause-woken
-returns-then-wakes_on-clause-woken c = λ b place p woken is.
+returns-then-wakes_on-clause-woken c = λ p woken.
     let told = sym (ap (λ (e : Event). wakes e p) c.in-Command.is) ∙ woken in
     let its = both (wakes_on c.in-Command.method) ((p.connection == c.in-Command.connection) && (p.channel == c.in-Command.channel)) told in
     let here = both (p.connection == c.in-Command.connection) (p.channel == c.in-Command.channel) its.1 in
-    c.wake.ensures.woken b place p (eqb-true p.connection c.in-Command.connection here.0) here.1 is
+    c.wake.ensures.woken p (eqb-true p.connection c.in-Command.connection here.0, here.1)
 
 pub returns-in-Resume-clause-woken : goal.returns-in-Resume-clause-woken
-returns-in-Resume-clause-woken c = λ b place p woken is.
-    c.wake-in-Resume.ensures.woken b place p (eqb-true p.connection c.in-Resume.connection (sym (ap (λ (e : Event). wakes e p) c.in-Resume.is) ∙ woken)) refl is
+returns-in-Resume-clause-woken c = λ p woken.
+    c.wake-in-Resume.ensures.woken p (eqb-true p.connection c.in-Resume.connection (sym (ap (λ (e : Event). wakes e p) c.in-Resume.is) ∙ woken), refl)

@@ -32,12 +32,12 @@ seats-preserved c =
       len = c.rest.ensures.len ∙ c.seats.invariant.len;
       kept = λ p i has. c.rest.ensures.kept p (c.seats.invariant.kept p i has) has;
       more = more_on _ _ _ c.seats.invariant.more c.rest.ensures.more;
-      before = λ i p lt at. c.rest.ensures.others i p (λ same. omega (arith, same, lt, least, next)) (c.seats.invariant.before i p lt at);
-      behind = λ i p le at. c.rest.ensures.others i p (λ same. omega (arith, same, le)) (c.seats.invariant.behind i p (omega (arith, le, next)) at);
+      before = λ i lt p at. c.rest.ensures.others i (λ same. omega (arith, same, lt, least, next)) p (c.seats.invariant.before i lt p at);
+      behind = λ i le p at. c.rest.ensures.others i (λ same. omega (arith, same, le)) p (c.seats.invariant.behind i (omega (arith, le, next)) p at);
       none = none_more c.args.core.now c.args.queue (ring_of c.args.seats.now c.args.awake.now) c.args.from c.in-Some.place
           (none_gap c.args.core.now c.args.queue (ring_of c.args.seats.now c.args.awake.now) (ring_of c.seats.seats c.seats.awake) c.args.from c.seats.next c.in-Some.place c.seats.invariant.none c.seats.invariant.behind c.in-Some.ensures.some.before)
           (λ p at pick.
-          let is = (c.seats.invariant.behind c.in-Some.place p next at).there none in
+          let is = (c.seats.invariant.behind c.in-Some.place next p at).there none in
           c.may_deliver.ensures.no c.if-may_deliver.false (ap (λ (s : Seat). s.asleep) is) (subst (IsPickFrom c.args.core.now c.args.queue) (sym (ap (λ (s : Seat). s.pick) is)) pick));
     }
 

@@ -1,6 +1,5 @@
 use Rattle.std.proofs.Common.{◌≡◌, ◌<◌, ◌≤◌, ◌-◌, ℕ, length}
-use Rattle.broker_core.specs.declared.picks.Pick.{Pick}
-use Rattle.broker.specs.Roster.{ring_of, IsAwakeAt, KeepsIn, ListsMore, NoneAwake}
+use Rattle.broker.specs.Roster.{ring_of, StaysAt, KeepsIn, ListsMore, NoneAwake}
 use Rattle.broker.proofs.roster.ring.first_between.Given as goal
 
 -- no delivery can be made to those before the next that were awake, and those behind are as they were
@@ -10,8 +9,8 @@ invariant-seats l = record {
   len : length l.awake ≡ length l.fn.awake;
   kept : KeepsIn l.core l.queue l.fn.desks.entries l.desks.entries (ring_of l.fn.seats l.fn.awake) (ring_of l.seats l.awake);
   more : ListsMore l.fn.desks.entries l.desks.entries;
-  before : (i : ℕ) (p : Pick) → i < l.from → IsAwakeAt (ring_of l.fn.seats l.fn.awake) i p → IsAwakeAt (ring_of l.seats l.awake) i p;
-  behind : (i : ℕ) (p : Pick) → l.next ≤ i → IsAwakeAt (ring_of l.fn.seats l.fn.awake) i p → IsAwakeAt (ring_of l.seats l.awake) i p;
+  before : (i : ℕ) → i < l.from → StaysAt (ring_of l.fn.seats l.fn.awake) (ring_of l.seats l.awake) i;
+  behind : (i : ℕ) → l.next ≤ i → StaysAt (ring_of l.fn.seats l.fn.awake) (ring_of l.seats l.awake) i;
   none : NoneAwake l.core l.queue (ring_of l.fn.seats l.fn.awake) l.from l.next;
 }
 
