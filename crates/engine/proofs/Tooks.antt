@@ -205,7 +205,7 @@ fed_changes given ls new_ls i bytes a f =
       within = f.within;
       here = f.here;
       number = f.fed.number;
-      kept = λ k. subst (λ (n : ℕ). Rattle.engine.specs.Reading.IsKept n f.new.kept) (sym f.fed.number) (subst (λ (o : Option Event). Rattle.engine.specs.Reading.IsKept f.old.number o) (sym f.fed.kept) k);
+      kept = λ k. subst (λ (n : ℕ). Rattle.engine.specs.Reading.IsKeptEvent n f.new.kept) (sym f.fed.number) (subst (λ (o : Option Event). Rattle.engine.specs.Reading.IsKeptEvent f.old.number o) (sym f.fed.kept) k);
       left = f.left ∙ sym (ap (λ (v : Bool). cond v (remove ls i) (set ls i f.new)) still);
       over = λ gone. absurd (false≢true (sym still ∙ gone));
     }
