@@ -4,8 +4,8 @@
 //! and a seat awake, from the one behind that from which was picked last, and in each round its ring. So a consumer of a queue
 //! that has nothing ready costs nothing, nor does a queue of which nobody may take something. A seat that is found when its
 //! consumer may take nothing falls asleep, is listed at its channel, and costs nothing until an event of its own channel or the end
-//! of its connection's pause wakes it, which takes it out of the list. So a command of a channel costs what sleeps on that channel,
-//! and not what is idle. A seat that can't be listed for want of memory stays awake.
+//! of its connection's pause wakes it, which takes it out of the list. So a command wakes what sleeps on its channel, and goes over
+//! no seat that is idle. A seat that can't be listed for want of memory stays awake.
 
 mod desk;
 mod ring;
