@@ -3,3 +3,4 @@ pub mod Settlement
 pub mod Counting
 pub mod Seating
 pub mod Numbering
+pub mod Halving

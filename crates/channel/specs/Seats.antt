@@ -1,5 +1,5 @@
 -- The consumers of a channel, each with the count of what it was given and is not settled (own).
-use Rattle.std.specs.Prelude.{◌≡◌, ◌<◌, ℕ, List, [], ◌∷◌, map, Bool, false, ◌==◌, ◌&&◌, ◌||◌, if◌then◌else◌, ◌+◌, ◌-◌, Option, Some, None, count_by}
+use Rattle.std.specs.Prelude.{◌≡◌, ◌<◌, ℕ, List, [], ◌∷◌, map, Bool, false, ◌==◌, ◌&&◌, ◌||◌, if◌then◌else◌, ◌+◌, ◌-◌, Option, Some, None, count_by, length, slice_index_or}
 use Rattle.std.specs.List.{AllByRecursion}
 use Rattle.std.specs.Str.{bytes_eq}
 use Rattle.model.specs.Words.{Text}
@@ -49,6 +49,10 @@ counted_in by s = if is_to s.consumer.number by then record s { held = s.held + 
 abbrev pub counted_out : List Outstanding → Seat → Seat
 counted_out gone s = record s { held = s.held - count_to taker_of s.consumer.number gone }
 
+-- one was settled that was given so
+abbrev pub uncounted : Taker → Seat → Seat
+uncounted by s = if is_to s.consumer.number by then record s { held = s.held - 1 } else s
+
 -- this consumer, if there is one, may be given one message more beside what it has and what all have
 abbrev pub may_held : ℕ → ℕ → Option Seat → Bool
 may_held limit given None = false
@@ -63,6 +67,15 @@ pub record SeatsAreCounted (s : Seated) (outstanding : List Outstanding) : Type 
 abbrev pub AreNumbered : ℕ → List Consumer → Type 0
 AreNumbered next [] = Unit {0}
 AreNumbered next (c ∷ cs) = (c.number < next) × (AllByRecursion (λ (d : Consumer). c.number < d.number) cs × AreNumbered next cs)
+
+-- their numbers rise
+abbrev pub NumbersRise : List Consumer → Type 0
+NumbersRise cs = (next : ℕ) × AreNumbered next cs
+
+-- The consumer at this place has this number.
+pub record IsSeatAt (seats : List Seat) (number place : ℕ) : Type 0 where
+  pub within : place < length seats
+  pub numbered : (d : Seat) → (slice_index_or seats place d).consumer.number ≡ number
 
 -- What was outstanding is what is gone and what is left: each kind of taker has as many in both as there were.
 abbrev pub AreParts : List Outstanding → List Outstanding → List Outstanding → Type 0

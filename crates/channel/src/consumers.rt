@@ -1,10 +1,11 @@
 //! The consumers of a channel, and what they may be given.
 
-ghost use Rattle.std.specs.Prelude.{cond, ◌≡◌, ◌<◌, ◌≤◌, ◌-◌, ◌^◌, map, find, filter, count_by, not, option_map, vec_len, vec_capacity};
-ghost use Rattle.std.specs.List.{list_any, All};
+ghost use Rattle.std.specs.Prelude.{cond, ◌≡◌, ◌<◌, ◌≤◌, ◌-◌, ◌^◌, None, IfSome, length, map, find, filter, count_by, not, option_map, true, vec_len, vec_capacity};
+ghost use Rattle.model.specs.declared.messages.Taker.TheVariants as taker;
+ghost use Rattle.std.specs.List.{list_any, position_from, All};
 ghost use Rattle.model.specs.Prefetch.{is_to, is_delivery, is_below, count_to, count_given};
 ghost use Rattle.channel.specs.Outstanding.{taker_of};
-ghost use Rattle.channel.specs.Seats.{is_of, has_name, takes_from, counted_in, counted_out, may_held};
+ghost use Rattle.channel.specs.Seats.{consumers_of, is_of, has_name, takes_from, counted_in, counted_out, uncounted, may_held, IsSeatAt, NumbersRise};
 
 use crate::pending::Outstanding;
 use model::{Taker, Text};
@@ -59,15 +60,69 @@ pub(crate) fn is_in_use(seats: &[Seat], tag: &[u8]) -> bool
     seats.iter().any(|s| s.consumer.tag.as_bytes() == tag)
 }
 
+/// The number of the consumer at this place.
+fn number_at(seats: &[Seat], place: usize) -> u64
+    requires { place < length seats.now }
+{
+    seats[place].consumer.number
+}
+
+/// The place of the first consumer with this number or a greater one, where numbers rise.
+fn place_near(seats: &[Seat], number: u64) -> usize {
+    let mut low = 0;
+    let mut high = seats.len();
+    while low < high {
+        let middle = low + (high - low) / 2;
+        if number_at(seats, middle) < number {
+            low = middle + 1;
+        } else {
+            high = middle;
+        }
+    }
+    low
+}
+
+/// Whether the consumer at this place has this number.
+fn is_at(seats: &[Seat], place: usize, number: u64) -> bool
+    ensures { result ≡ true → IsSeatAt seats.now number place }
+{
+    place < seats.len() && seats[place].consumer.number == number
+}
+
+/// The first place at which the consumer has this number, looked for one by one.
+fn search(seats: &[Seat], number: u64) -> Option<usize>
+    ensures is { result ≡ position_from (is_of number) 0 seats.now }
+    ensures some { IfSome result (λ place. IsSeatAt seats.now number place) }
+{
+    seats.iter().position(|s| s.consumer.number == number)
+}
+
+/// The place of the consumer of this number. It is found by halving, since numbers rise; none is told after a look at each.
+fn place_of(seats: &[Seat], number: u64) -> Option<usize>
+    ensures some { IfSome result (λ place. IsSeatAt seats.now number place) }
+    ensures none { result ≡ None → find (is_of number) seats.now ≡ None }
+{
+    let place = place_near(seats, number);
+    if is_at(seats, place, number) {
+        return Some(place);
+    }
+    search(seats, number)
+}
+
 /// The seat of the consumer of this number.
 fn seat_of(seats: &[Seat], number: u64) -> Option<&Seat>
+    requires { NumbersRise (consumers_of seats.now) }
     ensures { option_map (λ s. s.now) result ≡ find (is_of number) seats.now }
 {
-    seats.iter().find(|s| s.consumer.number == number)
+    match place_of(seats, number) {
+        Some(place) => Some(&seats[place]),
+        None => None,
+    }
 }
 
 /// The consumer of this number.
 pub(crate) fn consumer_of(seats: &[Seat], number: u64) -> Option<&Consumer>
+    requires { NumbersRise (consumers_of seats.now) }
     ensures { option_map (λ k. k.now) result ≡ option_map (λ s. s.consumer) (find (is_of number) seats.now) }
 {
     match seat_of(seats, number) {
@@ -142,56 +197,65 @@ pub(crate) fn given_to_all(given: &[Outstanding]) -> usize
     count
 }
 
-/// Counts a message that is given out, if it is given to this consumer.
-fn count_one_in(seat: &mut Seat, by: &Taker)
-    requires { seat.old.held < 2 ^ 64 - 1 }
-    ensures { seat.new ≡ counted_in by.now seat.old }
+/// Counts a message that is given out to the consumer of this number, if there is one.
+fn count_one_in(seats: &mut [Seat], number: u64)
+    requires held { All (λ s. s.held < 2 ^ 64 - 1) seats.old }
+    requires rise { NumbersRise (consumers_of seats.old) }
+    ensures { seats.new ≡ map (counted_in (taker.Consumer number)) seats.old }
 {
-    if is_its(by, seat.consumer.number) {
-        seat.held += 1;
-    }
-}
-
-/// Counts a message that is given out, at each seat.
-fn count_each_in(seats: &mut [Seat], by: &Taker)
-    requires { All (λ s. s.held < 2 ^ 64 - 1) seats.old }
-    ensures { seats.new ≡ map (counted_in by.now) seats.old }
-{
-    for seat in seats.iter_mut() {
-        count_one_in(seat, by);
+    if let Some(place) = place_of(seats, number) {
+        seats[place].held += 1;
     }
 }
 
 /// Counts a message that is given out.
 pub(crate) fn count_in(seats: &mut Vec<Seat>, by: &Taker)
-    requires { All (λ s. s.held < 2 ^ 64 - 1) seats.old.items }
+    requires held { All (λ s. s.held < 2 ^ 64 - 1) seats.old.items }
+    requires rise { NumbersRise (consumers_of seats.old.items) }
     ensures seats { seats.new.items ≡ map (counted_in by.now) seats.old.items }
     ensures len { vec_len seats.new ≡ vec_len seats.old }
     ensures capacity { vec_capacity seats.new ≡ vec_capacity seats.old }
 {
-    count_each_in(seats, by);
+    match by {
+        Taker::Get => {}
+        Taker::Consumer(number) => count_one_in(seats, *number),
+    }
 }
 
-/// Counts those no more that are settled and were given to this consumer.
-fn count_one_out(seat: &mut Seat, gone: &[Outstanding])
-    ensures { seat.new ≡ counted_out gone.now seat.old }
+/// Counts one no more that was given to the consumer of this number, if there is one.
+fn count_number_out(seats: &mut [Seat], number: u64)
+    requires { NumbersRise (consumers_of seats.old) }
+    ensures { seats.new ≡ map (uncounted (taker.Consumer number)) seats.old }
 {
-    seat.held = seat
-        .held
-        .saturating_sub(given_to(gone, seat.consumer.number));
+    if let Some(place) = place_of(seats, number) {
+        seats[place].held = seats[place].held.saturating_sub(1);
+    }
 }
 
-/// Counts those no more that are settled, at each seat.
+/// Counts one no more that is settled.
+fn count_one_out(seats: &mut [Seat], by: &Taker)
+    requires { NumbersRise (consumers_of seats.old) }
+    ensures { seats.new ≡ map (uncounted by.now) seats.old }
+{
+    match by {
+        Taker::Get => {}
+        Taker::Consumer(number) => count_number_out(seats, *number),
+    }
+}
+
+/// Counts those no more that are settled, one after another.
 fn count_each_out(seats: &mut [Seat], gone: &[Outstanding])
+    requires { NumbersRise (consumers_of seats.old) }
     ensures { seats.new ≡ map (counted_out gone.now) seats.old }
 {
-    for seat in seats.iter_mut() {
-        count_one_out(seat, gone);
+    for one in gone {
+        count_one_out(seats, &one.by);
     }
 }
 
 /// Counts those no more that are settled.
 pub(crate) fn count_out(seats: &mut Vec<Seat>, gone: &[Outstanding])
+    requires { NumbersRise (consumers_of seats.old.items) }
     ensures seats { seats.new.items ≡ map (counted_out gone.now) seats.old.items }
     ensures len { vec_len seats.new ≡ vec_len seats.old }
     ensures capacity { vec_capacity seats.new ≡ vec_capacity seats.old }
@@ -209,6 +273,7 @@ fn is_room(limit: u16, held: usize) -> bool
 /// The consumer of this number is there, and may be given one message more, where all consumers of the channel have `given`
 /// under this limit of theirs.
 pub(crate) fn may_one(seats: &[Seat], number: u64, limit: u16, given: usize) -> bool
+    requires { NumbersRise (consumers_of seats.now) }
     ensures { result ≡ may_held limit given (find (is_of number) seats.now) }
 {
     match seat_of(seats, number) {

@@ -33,7 +33,7 @@ impl Seats {
     ghost use Rattle.std.specs.List.{list_any, All};
     ghost use Rattle.model.specs.Prefetch.{count_to};
     ghost use Rattle.channel.specs.Outstanding.{taker_of};
-    ghost use Rattle.channel.specs.Seats.{SeatsAreCounted, AreParts, consumers_of, is_named, takes_from};
+    ghost use Rattle.channel.specs.Seats.{SeatsAreCounted, AreParts, NumbersRise, consumers_of, is_named, takes_from};
     ghost use Rattle.channel.specs.Deliveries.{may_of};
     ghost use Rattle.channel.specs.declared.consumers.Consumer.{Consumer as One};
     ghost use Rattle.channel.specs.declared.pending.Outstanding.{Outstanding as Given};
@@ -79,6 +79,7 @@ impl Seats {
 
     /// The consumer of this number.
     pub(crate) fn numbered(&self, number: u64) -> Option<&Consumer>
+        requires { NumbersRise self.now.consumers }
         ensures { option_map (λ k. k.now) result ≡ find (λ (c : One). c.number == number) self.now.consumers }
     {
         consumer_of(&self.seats, number)
@@ -86,6 +87,7 @@ impl Seats {
 
     /// Whether the consumer of this number is there and may be given one message more, under this limit of all.
     pub(crate) fn may_take(&self, number: u64, limit: u16) -> bool
+        requires { NumbersRise self.now.consumers }
         ensures { (given : List Given) → SeatsAreCounted self.now given → result ≡ may_of limit given (find (λ (c : One). c.number == number) self.now.consumers) }
     {
         may_one(&self.seats, number, limit, self.given)
@@ -125,6 +127,7 @@ impl Seats {
     pub(crate) fn count_in(&mut self, by: &Taker)
         requires each { All (λ n. n < 2 ^ 64 - 1) self.old.held }
         requires all { self.old.given < 2 ^ 64 - 1 }
+        requires rise { NumbersRise self.old.consumers }
         ensures consumers { self.new.consumers ≡ self.old.consumers }
         ensures room { self.new.room ≡ self.old.room }
         ensures counted { (given : List Given) (o : Given) → o.by ≡ by.now → SeatsAreCounted self.old given → SeatsAreCounted self.new (given ++ o ∷ []) }
@@ -135,6 +138,7 @@ impl Seats {
 
     /// Counts those no more that are settled.
     pub(crate) fn count_out(&mut self, gone: &[Outstanding])
+        requires { NumbersRise self.old.consumers }
         ensures consumers { self.new.consumers ≡ self.old.consumers }
         ensures room { self.new.room ≡ self.old.room }
         ensures counted { (given left : List Given) → AreParts given gone.now left → SeatsAreCounted self.old given → SeatsAreCounted self.new left }

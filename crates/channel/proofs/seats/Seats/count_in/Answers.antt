@@ -8,8 +8,8 @@ use Rattle.channel.specs.declared.consumers.Consumer.{Consumer}
 use Rattle.channel.proofs.Counting.{same_consumers, new_counts, in_consumer, step_in, one_more, held_small}
 use Rattle.channel.proofs.seats.Seats.count_in.Goals as goal
 
-pub count_in-requires : goal.count_in-requires
-count_in-requires c = held_small 18446744073709551615 c.self.inside.seats.items (subst (λ (s : Seated). All (λ k. k < 18446744073709551615) s.held) (sym c.self.view_is) c.requires.each)
+pub count_in-requires-clause-held : goal.count_in-requires-clause-held
+count_in-requires-clause-held c = held_small 18446744073709551615 c.self.inside.seats.items (subst (λ (s : Seated). All (λ k. k < 18446744073709551615) s.held) (sym c.self.view_is) c.requires.each)
 
 pub returns-clause-consumers : goal.returns-clause-consumers
 returns-clause-consumers c = subst (λ (s : Seated). consumers_of c.count_in.new.seats.items ≡ s.consumers) c.self.view_is
