@@ -10,8 +10,8 @@ use Rattle.model.specs.declared.methods.Publish.{Publish}
 use Rattle.model.specs.declared.methods.Method.{Method}
 use Rattle.model.specs.declared.methods.Method.TheVariants.{BasicPublish}
 use Rattle.model.specs.declared.events.Command.TheVariants.{Plain}
-use Rattle.assembly.specs.declared.contents.Pending.{Pending}
-use Rattle.assembly.specs.declared.contents.Pending.TheVariants.{Nothing, WantsHeader, WantsBody, Drops}
+use Rattle.assembly.specs.declared.contents.Awaited.{Awaited}
+use Rattle.assembly.specs.declared.contents.Awaited.TheVariants.{Nothing, WantsHeader, WantsBody, Drops}
 use Rattle.assembly.specs.declared.faults.Fault.{Fault}
 use Rattle.assembly.specs.declared.faults.Fault.TheVariants.{Broken, Memory}
 use Rattle.assembly.specs.Faults.{IsFault}
@@ -47,24 +47,24 @@ does_wider E F old new (Err e) f d = (map_fault _ _ e (λ code x. f (Breaks code
 -- ---- a header
 
 -- the publish whose header is awaited
-pub the_publish : (q : Pending) → HasPublish q → (p : Publish) × (q ≡ WantsHeader p)
+pub the_publish : (q : Awaited) → HasPublish q → (p : Publish) × (q ≡ WantsHeader p)
 the_publish Nothing h = absurd h
 the_publish (WantsHeader p) h = (p, refl)
 the_publish (WantsBody g) h = absurd h
 the_publish (Drops d) h = absurd h
 
-abbrev publish_in : Pending → Publish → Publish
+abbrev publish_in : Awaited → Publish → Publish
 publish_in Nothing p = p
 publish_in (WantsHeader q) p = q
 publish_in (WantsBody g) p = p
 publish_in (Drops d) p = p
 
 -- it is one
-pub one_publish : (q : Pending) (a b : Publish) → q ≡ WantsHeader a → q ≡ WantsHeader b → a ≡ b
-one_publish q a b e f = ap (λ (r : Pending). publish_in r a) (sym e ∙ f)
+pub one_publish : (q : Awaited) (a b : Publish) → q ≡ WantsHeader a → q ≡ WantsHeader b → a ≡ b
+one_publish q a b e f = ap (λ (r : Awaited). publish_in r a) (sym e ∙ f)
 
 -- of a content that is too large
-pub takes_large : (q : Pending) (f : Frame) (size : ℕ) (t : Taken) → HasPublish q → SaysSize f.payload (Ok size) → is_too_large f.payload size ≡ true → t ≡ taken_dropped f.channel size 0 → TakesPayload (pending_of q) f t
+pub takes_large : (q : Awaited) (f : Frame) (size : ℕ) (t : Taken) → HasPublish q → SaysSize f.payload (Ok size) → is_too_large f.payload size ≡ true → t ≡ taken_dropped f.channel size 0 → TakesPayload (pending_of q) f t
 takes_large Nothing f size t h s e d = absurd h
 takes_large (WantsHeader p) f size t h s e d = (Ok size, s, match_true (is_too_large f.payload size) _ _ e d)
 takes_large (WantsBody g) f size t h s e d = absurd h
@@ -75,7 +75,7 @@ pub takes_small : (p : Publish) (f : Frame) (size : ℕ) (t : Taken) → SaysSiz
 takes_small p f size t s e d = (Ok size, s, match_false (is_too_large f.payload size) _ _ e d)
 
 -- one that declares no size
-pub takes_unsized : (q : Pending) (f : Frame) (code : ℕ) → HasPublish q → SaysSize f.payload (Err code) → TakesPayload (pending_of q) f (Breaks code)
+pub takes_unsized : (q : Awaited) (f : Frame) (code : ℕ) → HasPublish q → SaysSize f.payload (Err code) → TakesPayload (pending_of q) f (Breaks code)
 takes_unsized Nothing f code h s = absurd h
 takes_unsized (WantsHeader p) f code h s = (Err code, s, refl)
 takes_unsized (WantsBody g) f code h s = absurd h

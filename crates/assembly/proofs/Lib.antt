@@ -3,5 +3,4 @@ pub mod Sizes
 pub mod Limits
 pub mod Places
 pub mod Onwards
-pub mod Staying
 pub mod Once

@@ -12,7 +12,7 @@ use Rattle.model.specs.declared.events.Command.{Command}
 use Rattle.model.specs.declared.events.Command.TheVariants.{Full}
 use Rattle.model.specs.declared.methods.Publish.{Publish}
 use Rattle.model.specs.declared.methods.Method.TheVariants.{BasicPublish}
-use Rattle.assembly.specs.Pending.{IsBegun}
+use Rattle.assembly.specs.Pending.{IsPublishBegun}
 
 neither : (a b : Bool) → (a || b) ≡ false → (a ≡ false) × (b ≡ false)
 neither true b e = absurd (false≢true (sym e))
@@ -26,7 +26,7 @@ declared : (payload : List ℕ) (h : Headers.Header) → SaysHeader payload (Ok 
 declared payload h (said below are is) = (ap (λ (z : List ℕ). size_at z) is ∙ from_be_bytes-to_be_bytes_8 h.size below, are, is)
 
 -- a content that is not too large was begun
-pub begun : (payload : List ℕ) (p : Publish) (h : Headers.Header) → IsMethod (BasicPublish p) → is_too_large payload (size_at payload) ≡ false → SaysHeader payload (Ok h) → IsBegun p h.properties h.size
+pub begun : (payload : List ℕ) (p : Publish) (h : Headers.Header) → IsMethod (BasicPublish p) → is_too_large payload (size_at payload) ≡ false → SaysHeader payload (Ok h) → IsPublishBegun p h.properties h.size
 begun payload p h method small says =
     let at = declared payload h says in
     let limits = neither _ _ small in
@@ -38,11 +38,11 @@ begun payload p h method small says =
     }
 
 -- where no body is declared, the publish is whole, and its content is not too large
-pub empty_body : (h : ℕ) (p : Publish) (header : Headers.Header) (c : Command) (body : Text) → c ≡ Full h p (record { properties = header.properties; body = body }) → body ≡ [] → header.size ≡ 0 → IsBegun p header.properties header.size
+pub empty_body : (h : ℕ) (p : Publish) (header : Headers.Header) (c : Command) (body : Text) → c ≡ Full h p (record { properties = header.properties; body = body }) → body ≡ [] → header.size ≡ 0 → IsPublishBegun p header.properties header.size
     → (Makes c ≡ taken_header h p (Ok header)) × IsCommand c
 empty_body h p header c body is empty none b =
     let made : c ≡ Full h p (record { properties = header.properties; body = [] }) = is ∙ ap (λ (z : Text). Full h p (record { properties = header.properties; body = z })) empty in
-    let start : IsBegun p header.properties 0 = subst (IsBegun p header.properties) none b in (
+    let start : IsPublishBegun p header.properties 0 = subst (IsPublishBegun p header.properties) none b in (
       ap Makes made ∙ subst (λ (n : ℕ). Makes (Full h p (record { properties = header.properties; body = [] })) ≡ taken_body h p header.properties n []) (sym none) refl,
       subst IsCommand (sym made) (start.method, record { properties = start.spelled; body = start.body; header = start.header }),
     )

@@ -10,7 +10,7 @@ use Rattle.frame.specs.Reading.{IsUnfinished}
 use Rattle.assembly.specs.declared.faults.Fault.{Fault}
 use Rattle.assembly.specs.declared.faults.Fault.TheVariants.{Broken, Memory}
 use Rattle.assembly.specs.Taking.{DoesAt}
-use Rattle.assembly.specs.Onward.{Stops, Gives, YieldsNext, has_command}
+use Rattle.assembly.specs.Onward.{Stops, GivesCommand, YieldsNext, has_command}
 
 -- what is still to come, in parts
 abbrev pub of_parts : ℕ → (ℕ → Pending) → List ℕ → Stream
@@ -123,7 +123,7 @@ on old max before after bytes unread rest f size (Err fault) g l e b left err ha
 
 -- ---- the first eight bytes
 
-pub first_given : (s : Stream) (rest bytes : List ℕ) → s.is_new ≡ true → s.unread ≡ bytes ++ rest → length bytes ≡ 8 → Gives s (Head bytes) (record s { is_new = false; unread = rest })
+pub first_given : (s : Stream) (rest bytes : List ℕ) → s.is_new ≡ true → s.unread ≡ bytes ++ rest → length bytes ≡ 8 → GivesCommand s (Head bytes) (record s { is_new = false; unread = rest })
 first_given s rest bytes awaited e n =
     let l : length s.unread ≡ length (bytes ++ rest) = ap length e in
     record {

@@ -8,12 +8,12 @@ use Rattle.model.specs.Commands
 use Rattle.model.specs.Frames.{Frame}
 use Rattle.model.specs.Commands.{Taken, Goes_on, Makes, Breaks, TakesOn, TakesPayload, awaited, taken_heartbeat, is_on_wrong_channel}
 use Rattle.model.specs.declared.events.Command.{Command}
-use Rattle.assembly.specs.declared.contents.Pending.{Pending}
-use Rattle.assembly.specs.declared.contents.Pending.TheVariants.{Nothing}
+use Rattle.assembly.specs.declared.contents.Awaited.{Awaited}
+use Rattle.assembly.specs.declared.contents.Awaited.TheVariants.{Nothing}
 use Rattle.assembly.specs.declared.faults.Fault.{Fault}
 use Rattle.assembly.specs.declared.faults.Fault.TheVariants.{Broken, Memory}
 use Rattle.assembly.specs.Faults.{IsFault}
-use Rattle.assembly.specs.Pending.{pending_of, pending_at, content_at, AreSpelled, IsSpelledSoFar}
+use Rattle.assembly.specs.Pending.{pending_of, pending_at, content_at, AreSpelledSoFar, IsSpelledSoFar}
 use Rattle.assembly.specs.Taking.{TakesEffect, DoesAt}
 
 -- a choice by a test of numbers, where the second is what the first says at equal ones
@@ -29,21 +29,21 @@ pub with_one_same : {A : Type 0} (f : ℕ → A) (n : ℕ) → f ≡ with_one f 
 with_one_same f n = fun_ext (λ m. choice (f n) (f m) m n (m == n) refl (λ e. ap f (sym (eq_of m n e))))
 
 -- what one channel awaits is changed
-place : (xs : List Pending) (h m : ℕ) (p : Pending) → h < length xs → (t : Bool) → (m == h) ≡ t → pending_at (set xs h p) m ≡ (if t then pending_of p else pending_at xs m)
+place : (xs : List Awaited) (h m : ℕ) (p : Awaited) → h < length xs → (t : Bool) → (m == h) ≡ t → pending_at (set xs h p) m ≡ (if t then pending_of p else pending_at xs m)
 place xs h m p lt true e = ap pending_of (subst (λ k. get_or (set xs h p) k Nothing ≡ p) (sym (eq_of m h e)) (get_or-set_same xs h p Nothing lt))
 place xs h m p lt false e = ap pending_of (get_or-set_other xs h m p Nothing (eqb-false m h e))
 
-pub pending_at-set : (xs : List Pending) (h : ℕ) (p : Pending) → h < length xs → pending_at (set xs h p) ≡ with_one (pending_at xs) h (pending_of p)
+pub pending_at-set : (xs : List Awaited) (h : ℕ) (p : Awaited) → h < length xs → pending_at (set xs h p) ≡ with_one (pending_at xs) h (pending_of p)
 pending_at-set xs h p lt = fun_ext (λ m. place xs h m p lt (m == h) refl)
 
-past : (xs : List Pending) (h : ℕ) → content_at (xs ++ Nothing ∷ []) h ≡ content_at xs h
+past : (xs : List Awaited) (h : ℕ) → content_at (xs ++ Nothing ∷ []) h ≡ content_at xs h
 past [] zero = refl
 past [] (suc h) = refl
 past (x ∷ xs) zero = refl
 past (x ∷ xs) (suc h) = past xs h
 
 -- nothing is awaited past the end
-pub content_at-push : (xs : List Pending) → content_at (xs ++ Nothing ∷ []) ≡ content_at xs
+pub content_at-push : (xs : List Awaited) → content_at (xs ++ Nothing ∷ []) ≡ content_at xs
 content_at-push xs = fun_ext (past xs)
 
 pub does_at : (E : Taken → Type 0) (h : ℕ) (old new : ℕ → Commands.Pending) (r : Result (Option Command) Fault) (p : Commands.Pending) → TakesEffect E (old h) r p → new ≡ with_one old h p → DoesAt E h old r new
@@ -52,20 +52,20 @@ does_at E h old new (Ok (Some c)) p d e = (d.0, d.1, e ∙ ap (with_one old h) d
 does_at E h old new (Err f) p d e = (d.0, e ∙ ap (with_one old h) d.1 ∙ sym (with_one_same old h))
 
 -- of the contents as a whole
-pub pending_same : (xs ys : List Pending) → content_at xs ≡ content_at ys → pending_at xs ≡ pending_at ys
-pending_same xs ys e = ap (λ (f : ℕ → Pending). λ h. pending_of (f h)) e
+pub pending_same : (xs ys : List Awaited) → content_at xs ≡ content_at ys → pending_at xs ≡ pending_at ys
+pending_same xs ys e = ap (λ (f : ℕ → Awaited). λ h. pending_of (f h)) e
 
-pub spelled_same : (xs ys : List Pending) → content_at xs ≡ content_at ys → AreSpelled ys → AreSpelled xs
-spelled_same xs ys e s = subst (λ (f : ℕ → Pending). (h : ℕ) → IsSpelledSoFar (f h)) (sym e) s
+pub spelled_same : (xs ys : List Awaited) → content_at xs ≡ content_at ys → AreSpelledSoFar ys → AreSpelledSoFar xs
+spelled_same xs ys e s = subst (λ (f : ℕ → Awaited). (h : ℕ) → IsSpelledSoFar (f h)) (sym e) s
 
 -- a frame is taken for one content where it stands
-pub does_there : (E : Commands.Pending → Taken → Type 0) (xs : List Pending) (h : ℕ) (was now : Pending) (r : Result (Option Command) Fault)
+pub does_there : (E : Commands.Pending → Taken → Type 0) (xs : List Awaited) (h : ℕ) (was now : Awaited) (r : Result (Option Command) Fault)
     → h < length xs → was ≡ get_or xs h was → TakesEffect (E (pending_of was)) (pending_of was) r (pending_of now)
     → DoesAt (E (pending_at xs h)) h (pending_at xs) r (pending_at (set xs h now))
 does_there E xs h was now r lt e d =
     let same : was ≡ content_at xs h = e ∙ get_or_default xs h was Nothing lt in
     does_at (E (pending_at xs h)) h (pending_at xs) (pending_at (set xs h now)) r (pending_of now)
-    (subst (λ (p : Pending). TakesEffect (E (pending_of p)) (pending_of p) r (pending_of now)) same d)
+    (subst (λ (p : Awaited). TakesEffect (E (pending_of p)) (pending_of p) r (pending_of now)) same d)
     (pending_at-set xs h now lt)
 
 -- what follows for each effect follows for what was done
@@ -93,10 +93,6 @@ apart a b e = search (tests, rules)
 -- a heartbeat
 pub takes_heartbeat : (p : Commands.Pending) (f : Frame) (t : Taken) → f.kind ≡ 8 → t ≡ taken_heartbeat p f → TakesOn p f t
 takes_heartbeat p f t e d = match_true (f.kind == 8) _ _ (eq-eqb f.kind 8 e) d
-
--- a frame on a channel that may not have it
-pub takes_wrong : (p : Commands.Pending) (f : Frame) → (f.kind ≡ 8 → ⊥) → is_on_wrong_channel f ≡ true → TakesOn p f (Breaks 504)
-takes_wrong p f e w = match_false (f.kind == 8) _ _ (apart f.kind 8 e) (match_true (is_on_wrong_channel f) _ _ w refl)
 
 -- any other frame
 pub takes_other : (p : Commands.Pending) (f : Frame) (t : Taken) → (f.kind ≡ 8 → ⊥) → is_on_wrong_channel f ≡ false

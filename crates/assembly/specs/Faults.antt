@@ -2,8 +2,8 @@
 use Rattle.std.specs.Prelude.{ℕ, List, Err, ⊤}
 use Rattle.model.specs.Grammar.{SaysMethod}
 use Rattle.model.specs.Headers.{SaysSize, SaysHeader}
-use Rattle.methods.specs.declared.refusals.Refusal as methods_refusal
-use Rattle.headers.specs.declared.contents.Refusal as headers_refusal
+use Rattle.methods.specs.declared.refusals.BadMethod as methods_refusal
+use Rattle.headers.specs.declared.contents.BadHeader as headers_refusal
 use Rattle.methods.specs.Reading as methods
 use Rattle.headers.specs.Reading as headers
 use Rattle.assembly.specs.declared.faults.Fault.{Fault}
@@ -15,13 +15,13 @@ IsFault Why (Broken code) = Why code
 IsFault Why Memory = ⊤
 
 -- where the reader of methods refuses a payload so, it is this fault
-abbrev pub RefusesMethod : List ℕ → methods_refusal.Refusal → Fault → Type 0
+abbrev pub RefusesMethod : List ℕ → methods_refusal.BadMethod → Fault → Type 0
 RefusesMethod payload refusal fault = methods.MethodIsRefused payload refusal → IsFault (λ code. SaysMethod payload (Err code)) fault
 
 -- where the reader of a header's size refuses a payload so, it is this fault
-abbrev pub RefusesSize : List ℕ → headers_refusal.Refusal → Fault → Type 0
+abbrev pub RefusesSize : List ℕ → headers_refusal.BadHeader → Fault → Type 0
 RefusesSize payload refusal fault = headers.TellsSize payload (Err refusal) → IsFault (λ code. SaysSize payload (Err code)) fault
 
 -- where the reader of headers refuses a payload so, it is this fault
-abbrev pub RefusesHeader : List ℕ → headers_refusal.Refusal → Fault → Type 0
+abbrev pub RefusesHeader : List ℕ → headers_refusal.BadHeader → Fault → Type 0
 RefusesHeader payload refusal fault = headers.HeaderIsRefused payload refusal → IsFault (λ code. SaysHeader payload (Err code)) fault

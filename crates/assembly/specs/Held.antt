@@ -1,7 +1,7 @@
 -- What a stream holds.
 use Rattle.std.specs.Prelude.{ℕ, List, Bool}
 use Rattle.model.specs.Commands.{Stream}
-use Rattle.assembly.specs.declared.contents.Pending.{Pending}
+use Rattle.assembly.specs.declared.contents.Awaited.{Awaited}
 use Rattle.assembly.specs.Pending.{pending_at}
 
 -- what of a connection's bytes is not a command yet: contents that are begun, and bytes that were not read
@@ -11,12 +11,12 @@ pub record Held : Type 0 where
   -- the greatest frame, in bytes
   pub max : ℕ
   -- what channels have begun, by channel number
-  pub contents : List Pending
+  pub contents : List Awaited
   -- fed and not yet read
   pub unread : List ℕ
 
 -- what is still to come of such a rest
-abbrev pub stream : Bool → ℕ → List Pending → List ℕ → Stream
+abbrev pub stream : Bool → ℕ → List Awaited → List ℕ → Stream
 stream is_new max contents unread = record { is_new = is_new; max = max; pending = pending_at contents; unread = unread }
 
 -- what is still to come

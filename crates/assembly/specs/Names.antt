@@ -11,10 +11,10 @@ pub record SpellsPublish (payload : List ℕ) (publish : Publish) : Type 0 where
   pub says : SaysMethod payload (Ok (BasicPublish publish))
 
 -- what is kept here, if anything, is a publish with its own payload
-abbrev pub IsRight : Option Known → Type 0
-IsRight None = ⊤
-IsRight (Some known) = SpellsPublish known.payload.items known.publish
+abbrev pub IsKnownRight : Option Known → Type 0
+IsKnownRight None = ⊤
+IsKnownRight (Some known) = SpellsPublish known.payload.items known.publish
 
 -- the same of each place
 abbrev pub AreRight : List (Option Known) → Type 0
-AreRight slots = All IsRight slots
+AreRight slots = All IsKnownRight slots

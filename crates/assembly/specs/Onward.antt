@@ -18,14 +18,14 @@ pub record Stops (old : Stream) (end : Option ℕ) (new : Stream) : Type 0 where
   pub still : Ends new end
 
 -- this command was the next, and at least a frame was read
-pub record Gives (old : Stream) (c : Command) (new : Stream) : Type 0 where
+pub record GivesCommand (old : Stream) (c : Command) (new : Stream) : Type 0 where
   pub next : Yields old c new
   pub command : IsCommand c
   pub shorter : length new.unread + 8 ≤ length old.unread
 
 -- the answer is right for this stream, and so is what is left
 abbrev pub YieldsNext : Stream → Result (Option Command) Fault → Stream → Type 0
-YieldsNext old (Ok (Some c)) new = Gives old c new
+YieldsNext old (Ok (Some c)) new = GivesCommand old c new
 YieldsNext old (Ok None) new = Stops old None new
 YieldsNext old (Err (Broken code)) new = Stops old (Some code) new
 YieldsNext old (Err Memory) new = GoesOn old new

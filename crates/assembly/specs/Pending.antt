@@ -7,59 +7,59 @@ use Rattle.model.specs.Commands.{Wants_header, Wants_body, most_body, most_heade
 use Rattle.model.specs.declared.contents.Fields.{Fields as Properties}
 use Rattle.model.specs.declared.methods.Publish.{Publish}
 use Rattle.model.specs.declared.methods.Method.TheVariants.{BasicPublish}
-use Rattle.assembly.specs.declared.contents.Pending.{Pending}
-use Rattle.assembly.specs.declared.contents.Pending.TheVariants.{Nothing, WantsHeader, WantsBody, Drops}
+use Rattle.assembly.specs.declared.contents.Awaited.{Awaited}
+use Rattle.assembly.specs.declared.contents.Awaited.TheVariants.{Nothing, WantsHeader, WantsBody, Drops}
 
 -- what the definitions call it
-abbrev pub pending_of : Pending → Commands.Pending
+abbrev pub pending_of : Awaited → Commands.Pending
 pending_of Nothing = Commands.Nothing
 pending_of (WantsHeader publish) = Wants_header publish
 pending_of (WantsBody g) = Wants_body g.publish g.properties g.size g.body
 pending_of (Drops d) = Commands.Drops d.size d.count
 
 -- A publish whose body comes in, of so many bytes: it and its properties have a spelling, and its content is not too large.
-pub record IsBegun (publish : Publish) (properties : Properties) (size : ℕ) : Type 0 where
+pub record IsPublishBegun (publish : Publish) (properties : Properties) (size : ℕ) : Type 0 where
   pub method : IsMethod (BasicPublish publish)
   pub spelled : AreProperties properties
   pub body : size ≤ most_body
   pub header : length (header_bytes size properties) ≤ most_header
 
 -- its publish and its content, if there are any, can be sent again, and no more is dropped than was declared
-abbrev pub IsSpelledSoFar : Pending → Type 0
+abbrev pub IsSpelledSoFar : Awaited → Type 0
 IsSpelledSoFar Nothing = ⊤
 IsSpelledSoFar (WantsHeader publish) = IsMethod (BasicPublish publish)
-IsSpelledSoFar (WantsBody g) = IsBegun g.publish g.properties g.size
+IsSpelledSoFar (WantsBody g) = IsPublishBegun g.publish g.properties g.size
 IsSpelledSoFar (Drops d) = d.count ≤ d.size
 
 -- a publish was read, and its header is awaited
-abbrev pub HasPublish : Pending → Type 0
+abbrev pub HasPublish : Awaited → Type 0
 HasPublish Nothing = ⊥
 HasPublish (WantsHeader publish) = ⊤
 HasPublish (WantsBody g) = ⊥
 HasPublish (Drops d) = ⊥
 
 -- a body is gathered
-abbrev pub IsGathered : Pending → Type 0
+abbrev pub IsGathered : Awaited → Type 0
 IsGathered Nothing = ⊥
 IsGathered (WantsHeader publish) = ⊥
 IsGathered (WantsBody g) = ⊤
 IsGathered (Drops d) = ⊥
 
 -- a body is dropped
-abbrev pub IsDropped : Pending → Type 0
+abbrev pub IsDropped : Awaited → Type 0
 IsDropped Nothing = ⊥
 IsDropped (WantsHeader publish) = ⊥
 IsDropped (WantsBody g) = ⊥
 IsDropped (Drops d) = ⊤
 
 -- the element of a channel, in a list by channel number
-abbrev pub content_at : List Pending → ℕ → Pending
+abbrev pub content_at : List Awaited → ℕ → Awaited
 content_at contents channel = slice_index_or contents channel Nothing
 
 -- what each channel has begun: those past the end of the list have begun nothing
-abbrev pub pending_at : List Pending → ℕ → Commands.Pending
+abbrev pub pending_at : List Awaited → ℕ → Commands.Pending
 pending_at contents channel = pending_of (content_at contents channel)
 
 -- the same of each channel
-abbrev pub AreSpelled : List Pending → Type 0
-AreSpelled contents = (channel : ℕ) → IsSpelledSoFar (content_at contents channel)
+abbrev pub AreSpelledSoFar : List Awaited → Type 0
+AreSpelledSoFar contents = (channel : ℕ) → IsSpelledSoFar (content_at contents channel)

@@ -21,7 +21,7 @@ pub(crate) struct Dropping {
 
 /// What a channel awaits.
 #[derive(Drop)]
-pub(crate) enum Pending {
+pub(crate) enum Awaited {
     /// A method.
     Nothing,
     /// The header of this publish.

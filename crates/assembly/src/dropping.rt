@@ -7,7 +7,7 @@ ghost use Rattle.frame.specs.Reading.{seen};
 ghost use Rattle.assembly.specs.Pending.{pending_of, IsSpelledSoFar, IsDropped};
 ghost use Rattle.assembly.specs.Taking.{TakesEffect};
 
-use crate::contents::{Dropping, Pending};
+use crate::contents::{Awaited, Dropping};
 use crate::faults::Fault;
 use frame::Frame;
 use model::Command;
@@ -26,7 +26,7 @@ pub(crate) fn is_too_large(payload: &[u8], size: u64) -> bool
 
 /// The header of a content that is too large was read. A body of no bytes has come with it.
 pub(crate) fn begin_dropping(
-    pending: &mut Pending,
+    pending: &mut Awaited,
     channel: u16,
     size: u64,
 ) -> Result<Option<Command>, Fault>
@@ -34,22 +34,22 @@ pub(crate) fn begin_dropping(
     ensures does { (old : said.Pending) → TakesEffect (λ t. t ≡ taken_dropped channel size 0) old result (pending_of pending.new) }
 {
     if size == 0 {
-        *pending = Pending::Nothing;
+        *pending = Awaited::Nothing;
         return Ok(Some(Command::TooLarge { channel }));
     }
-    *pending = Pending::Drops(Dropping { size, count: 0 });
+    *pending = Awaited::Drops(Dropping { size, count: 0 });
     Ok(None)
 }
 
 /// A piece is dropped. Past the declared size it is a fault, and at it the publish has come.
-pub(crate) fn drop_piece(pending: &mut Pending, frame: &Frame<'_>) -> Result<Option<Command>, Fault>
+pub(crate) fn drop_piece(pending: &mut Awaited, frame: &Frame<'_>) -> Result<Option<Command>, Fault>
     requires dropped { IsDropped pending.old }
     requires spelled { IsSpelledSoFar pending.old }
     ensures spelled { IsSpelledSoFar pending.new }
     ensures does { TakesEffect (TakesPayload (pending_of pending.old) (seen frame.now)) (pending_of pending.old) result (pending_of pending.new) }
 {
     match pending {
-        Pending::Drops(dropping) => {
+        Awaited::Drops(dropping) => {
             let missing = dropping.size - dropping.count;
             let length = frame.payload.len() as u64;
             if length > missing {
@@ -62,7 +62,7 @@ pub(crate) fn drop_piece(pending: &mut Pending, frame: &Frame<'_>) -> Result<Opt
         }
         _ => unreachable!(),
     }
-    *pending = Pending::Nothing;
+    *pending = Awaited::Nothing;
     let channel = frame.channel;
     Ok(Some(Command::TooLarge { channel }))
 }

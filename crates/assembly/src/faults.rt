@@ -29,32 +29,32 @@ impl From<AllocError> for Fault {
 }
 
 /// A method's refusal, by its reply code.
-pub(crate) fn of_method(refusal: methods::Refusal) -> Fault
+pub(crate) fn of_method(refusal: methods::BadMethod) -> Fault
     ensures { (payload : List ℕ) → RefusesMethod payload refusal result }
 {
     match refusal {
-        methods::Refusal::FrameError => Fault::Broken(501),
-        methods::Refusal::SyntaxError => Fault::Broken(502),
-        methods::Refusal::CommandInvalid => Fault::Broken(503),
-        methods::Refusal::NotImplemented => Fault::Broken(540),
-        methods::Refusal::Memory => Fault::Memory,
+        methods::BadMethod::FrameError => Fault::Broken(501),
+        methods::BadMethod::SyntaxError => Fault::Broken(502),
+        methods::BadMethod::CommandInvalid => Fault::Broken(503),
+        methods::BadMethod::NotImplemented => Fault::Broken(540),
+        methods::BadMethod::Memory => Fault::Memory,
     }
 }
 
 /// A refusal of a header's size: nothing but 501 is a reason.
-pub(crate) fn of_size(_refusal: headers::Refusal) -> Fault
+pub(crate) fn of_size(_refusal: headers::BadHeader) -> Fault
     ensures { (payload : List ℕ) → RefusesSize payload _refusal result }
 {
     Fault::Broken(501)
 }
 
 /// A header's refusal, by its reply code.
-pub(crate) fn of_header(refusal: headers::Refusal) -> Fault
+pub(crate) fn of_header(refusal: headers::BadHeader) -> Fault
     ensures { (payload : List ℕ) → RefusesHeader payload refusal result }
 {
     match refusal {
-        headers::Refusal::FrameError => Fault::Broken(501),
-        headers::Refusal::SyntaxError => Fault::Broken(502),
-        headers::Refusal::Memory => Fault::Memory,
+        headers::BadHeader::FrameError => Fault::Broken(501),
+        headers::BadHeader::SyntaxError => Fault::Broken(502),
+        headers::BadHeader::Memory => Fault::Memory,
     }
 }

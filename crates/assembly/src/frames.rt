@@ -5,12 +5,12 @@ ghost use Rattle.model.specs.Commands;
 ghost use Rattle.model.specs.Commands.{Breaks, TakesPayload, TakesOn, awaited, taken_heartbeat};
 ghost use Rattle.model.specs.Commands.{is_on_wrong_channel as is_wrong};
 ghost use Rattle.frame.specs.Reading.{seen};
-ghost use Rattle.assembly.specs.Pending.{pending_at, content_at, AreSpelled};
+ghost use Rattle.assembly.specs.Pending.{pending_at, content_at, AreSpelledSoFar};
 ghost use Rattle.assembly.specs.Taking.{DoesAt};
 
-use crate::contents::Pending;
+use crate::contents::Awaited;
 use crate::faults::Fault;
-use crate::names::Names;
+use crate::names::LastNames;
 use crate::taking::take_awaited;
 use frame::Frame;
 use model::Command;
@@ -19,12 +19,12 @@ use std::alloc::{AllocError, Global};
 /// Takes a whole frame: the command that it ends, or none where its channel goes on.
 pub(crate) fn take_frame(
     alloc: Global,
-    names: &mut Names,
-    contents: &mut Vec<Pending>,
+    names: &mut LastNames,
+    contents: &mut Vec<Awaited>,
     frame: &Frame<'_>,
 ) -> Result<Option<Command>, Fault>
-    requires { AreSpelled contents.old.items }
-    ensures spelled { AreSpelled contents.new.items }
+    requires { AreSpelledSoFar contents.old.items }
+    ensures spelled { AreSpelledSoFar contents.new.items }
     ensures does { DoesAt (TakesOn (pending_at contents.old.items frame.now.channel) (seen frame.now)) frame.now.channel (pending_at contents.old.items) result (pending_at contents.new.items) }
 {
     if frame.kind == 8 {
@@ -57,12 +57,12 @@ fn is_on_wrong_channel(frame: &Frame<'_>) -> bool
 }
 
 /// Makes room for what this channel begins. Each channel awaits what it did.
-fn reach(contents: &mut Vec<Pending>, channel: usize) -> Result<(), AllocError>
+fn reach(contents: &mut Vec<Awaited>, channel: usize) -> Result<(), AllocError>
     ensures reached { OnOk result (channel < vec_len contents.new) }
     ensures same { content_at contents.new.items ≡ content_at contents.old.items }
 {
     'channels: while contents.len() <= channel {
-        contents.push(Pending::Nothing)?;
+        contents.push(Awaited::Nothing)?;
     }
     Ok(())
 }
@@ -70,14 +70,14 @@ fn reach(contents: &mut Vec<Pending>, channel: usize) -> Result<(), AllocError>
 /// Takes a frame that is no heartbeat, on a channel that may have it.
 fn take_on_channel(
     alloc: Global,
-    names: &mut Names,
-    contents: &mut Vec<Pending>,
+    names: &mut LastNames,
+    contents: &mut Vec<Awaited>,
     channel: usize,
     frame: &Frame<'_>,
 ) -> Result<Option<Command>, Fault>
     requires reached { channel < vec_len contents.old }
-    requires spelled { AreSpelled contents.old.items }
-    ensures spelled { AreSpelled contents.new.items }
+    requires spelled { AreSpelledSoFar contents.old.items }
+    ensures spelled { AreSpelledSoFar contents.new.items }
     ensures does { DoesAt (λ t. MatchBool (frame.now.kind == awaited (pending_at contents.old.items channel)) (TakesPayload (pending_at contents.old.items channel) (seen frame.now) t) (t ≡ Breaks 505)) channel (pending_at contents.old.items) result (pending_at contents.new.items) }
 {
     take_awaited(alloc, names, &mut contents[channel], frame)

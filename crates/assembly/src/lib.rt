@@ -18,5 +18,5 @@ mod streams;
 mod taking;
 
 pub use faults::Fault;
-pub use laws::{commands_stay, faults_stay, going_on_stays, one_next};
+pub use laws::one_next;
 pub use streams::Stream;

@@ -3,7 +3,7 @@
 //! Nothing rests on what is kept here: what is given back is what the bytes say.
 
 ghost use Rattle.std.specs.Prelude.{◌≡◌, IfSome};
-ghost use Rattle.assembly.specs.Names.{SpellsPublish, IsRight, AreRight};
+ghost use Rattle.assembly.specs.Names.{SpellsPublish, IsKnownRight, AreRight};
 
 use model::{Publish, Text};
 use std::alloc::Global;
@@ -25,12 +25,12 @@ pub(crate) struct Known {
 /// The names and the publishes that came last, each in the place that its bytes choose. There are none before the first
 /// publish.
 #[derive(Drop)]
-pub(crate) struct Names {
+pub(crate) struct LastNames {
     names: Vec<Text>,
     publishes: Vec<Option<Known>>,
 }
 
-impl Model for Names {
+impl Model for LastNames {
     ghost use Rattle.std.specs.Prelude.{List, Option};
     ghost use Rattle.assembly.specs.declared.names.Known.{Known as Seen};
     ghost use Rattle.assembly.specs.Names.{AreRight};
@@ -42,13 +42,13 @@ impl Model for Names {
     ghost invariant = { λ n. AreRight n.publishes.items };
 }
 
-impl Names {
+impl LastNames {
     ghost use Rattle.std.specs.Prelude.{◌≡◌, IfSome};
     ghost use Rattle.assembly.specs.Names.{SpellsPublish};
 
     /// Nothing came before. It takes no memory.
-    pub(crate) fn new(alloc: Global) -> Names {
-        Names {
+    pub(crate) fn new(alloc: Global) -> LastNames {
+        LastNames {
             names: Vec::new(alloc),
             publishes: Vec::new(alloc),
         }
@@ -87,7 +87,7 @@ fn publish_in(slots: &[Option<Known>], payload: &[u8]) -> Option<Publish>
 
 /// The publish that this payload spells, if it is the one that stands here.
 fn known_at(slot: &Option<Known>, payload: &[u8]) -> Option<Publish>
-    requires { IsRight slot.now }
+    requires { IsKnownRight slot.now }
     ensures { IfSome result (λ p. SpellsPublish payload.now p) }
 {
     match slot {
@@ -136,7 +136,7 @@ fn keep_in(alloc: Global, slots: &mut Vec<Option<Known>>, payload: &[u8], publis
 /// This publish and the payload that spells it. None where memory is refused.
 fn known_of(alloc: Global, payload: &[u8], publish: &Publish) -> Option<Known>
     requires { SpellsPublish payload.now publish.now }
-    ensures { IsRight result }
+    ensures { IsKnownRight result }
 {
     match (copy_of(publish), Vec::from_slice(alloc, payload)) {
         (Some(publish), Ok(payload)) => Some(Known { payload, publish }),

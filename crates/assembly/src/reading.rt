@@ -1,15 +1,15 @@
 //! Commands are read.
 
 ghost use Rattle.std.specs.Prelude.{◌≡◌, ◌<◌, ◌≤◌, ◌++◌, false, length, MatchOption};
-ghost use Rattle.assembly.specs.Pending.{AreSpelled};
+ghost use Rattle.assembly.specs.Pending.{AreSpelledSoFar};
 ghost use Rattle.assembly.specs.Held.{stream};
 ghost use Rattle.assembly.specs.Onward.{YieldsNext, has_command};
 
-use crate::contents::Pending;
+use crate::contents::Awaited;
 use crate::faults::Fault;
 use crate::frames::take_frame;
-use crate::names::Names;
-use frame::{Buffer, Read, read_frame};
+use crate::names::LastNames;
+use frame::{Buffer, ReadFrame, read_frame};
 use model::Command;
 use std::alloc::Global;
 
@@ -17,20 +17,20 @@ use std::alloc::Global;
 pub(crate) fn next_command(
     alloc: Global,
     max: u32,
-    names: &mut Names,
-    contents: &mut Vec<Pending>,
+    names: &mut LastNames,
+    contents: &mut Vec<Awaited>,
     unread: &mut Buffer,
 ) -> Result<Option<Command>, Fault>
     requires max { 4096 ≤ max }
-    requires spelled { AreSpelled contents.old.items }
-    ensures spelled { AreSpelled contents.new.items }
+    requires spelled { AreSpelledSoFar contents.old.items }
+    ensures spelled { AreSpelledSoFar contents.new.items }
     ensures answers { YieldsNext (stream false max contents.old.items unread.old.bytes) result (stream false max contents.new.items unread.new.bytes) }
 {
     'frames: loop {
         match read_frame(unread.bytes(), max) {
-            Read::More => return Ok(None),
-            Read::Fault(code) => return Err(Fault::Broken(code)),
-            Read::Whole(frame, size) => {
+            ReadFrame::More => return Ok(None),
+            ReadFrame::Fault(code) => return Err(Fault::Broken(code)),
+            ReadFrame::Whole(frame, size) => {
                 let taken = take_frame(alloc, names, contents, &frame);
                 if taken.is_err() {
                     return taken;

@@ -5,9 +5,9 @@ ghost use Rattle.model.specs.Commands.{new_stream, running_stream, heard, with_m
 ghost use Rattle.assembly.specs.Held.{stream_of};
 ghost use Rattle.assembly.specs.Onward.{YieldsNext};
 
-use crate::contents::Pending;
+use crate::contents::Awaited;
 use crate::faults::Fault;
-use crate::names::Names;
+use crate::names::LastNames;
 use crate::reading::{next_command, take_eight};
 use frame::Buffer;
 use model::Command;
@@ -20,9 +20,9 @@ pub struct Stream {
     /// The first eight bytes are awaited.
     is_new: bool,
     max: u32,
-    contents: Vec<Pending>,
+    contents: Vec<Awaited>,
     unread: Buffer,
-    names: Names,
+    names: LastNames,
 }
 
 /// Written out, so that a drop is one call.
@@ -42,13 +42,13 @@ impl Drop for Stream {
 impl Model for Stream {
     ghost use Rattle.std.specs.Prelude.{◌≤◌};
     ghost use Rattle.assembly.specs.Held.{Held};
-    ghost use Rattle.assembly.specs.Pending.{AreSpelled};
+    ghost use Rattle.assembly.specs.Pending.{AreSpelledSoFar};
 
     ghost Value = { Held };
 
     ghost view = { λ s. record { is_new = s.is_new; max = s.max; contents = s.contents.items; unread = s.unread.bytes } };
 
-    ghost invariant = { λ s. (4096 ≤ s.max) × AreSpelled s.contents.items };
+    ghost invariant = { λ s. (4096 ≤ s.max) × AreSpelledSoFar s.contents.items };
 }
 
 impl Stream {
@@ -63,7 +63,7 @@ impl Stream {
             max: 4096,
             contents: Vec::new(alloc),
             unread: Buffer::new(alloc),
-            names: Names::new(alloc),
+            names: LastNames::new(alloc),
         }
     }
 
@@ -77,7 +77,7 @@ impl Stream {
             max: 131_072,
             contents: Vec::new(alloc),
             unread: Buffer::new(alloc),
-            names: Names::new(alloc),
+            names: LastNames::new(alloc),
         }
     }
 

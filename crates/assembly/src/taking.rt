@@ -10,14 +10,14 @@ ghost use Rattle.model.specs.declared.methods.Publish.{Publish as Seen};
 ghost use Rattle.frame.specs.Reading.{seen};
 ghost use Rattle.assembly.specs.Pending.{pending_of, IsSpelledSoFar, HasPublish, IsGathered};
 ghost use Rattle.assembly.specs.declared.contents.Gathering.{Gathering as Begun};
-ghost use Rattle.assembly.specs.declared.contents.Pending.TheVariants.{Nothing, WantsHeader, WantsBody};
+ghost use Rattle.assembly.specs.declared.contents.Awaited.TheVariants.{Nothing, WantsHeader, WantsBody};
 ghost use Rattle.assembly.specs.Taking.{TakesEffect};
 
 use crate::bodies::Body;
-use crate::contents::{Gathering, Pending};
+use crate::contents::{Awaited, Gathering};
 use crate::dropping::{begin_dropping, drop_piece, is_too_large};
 use crate::faults::{Fault, of_header, of_method, of_size};
-use crate::names::Names;
+use crate::names::LastNames;
 use frame::Frame;
 use headers::{read_header, read_size};
 use methods::read_method;
@@ -28,8 +28,8 @@ use std::mem;
 /// Takes a frame that is no heartbeat, on a channel that may have it: one of a type that is not awaited is out of place.
 pub(crate) fn take_awaited(
     alloc: Global,
-    names: &mut Names,
-    pending: &mut Pending,
+    names: &mut LastNames,
+    pending: &mut Awaited,
     frame: &Frame<'_>,
 ) -> Result<Option<Command>, Fault>
     requires { IsSpelledSoFar pending.old }
@@ -40,30 +40,30 @@ pub(crate) fn take_awaited(
         return Err(Fault::Broken(505));
     }
     match pending {
-        Pending::Nothing => take_method(alloc, names, pending, frame),
-        Pending::WantsHeader(_) => take_header(alloc, pending, frame),
-        Pending::WantsBody(_) => take_body(pending, frame),
-        Pending::Drops(_) => drop_piece(pending, frame),
+        Awaited::Nothing => take_method(alloc, names, pending, frame),
+        Awaited::WantsHeader(_) => take_header(alloc, pending, frame),
+        Awaited::WantsBody(_) => take_body(pending, frame),
+        Awaited::Drops(_) => drop_piece(pending, frame),
     }
 }
 
 /// The type of frame that a channel awaits.
-fn awaited_kind(pending: &Pending) -> u8
+fn awaited_kind(pending: &Awaited) -> u8
     ensures { result ≡ awaited (pending_of pending.now) }
 {
     match pending {
-        Pending::Nothing => 1,
-        Pending::WantsHeader(_) => 2,
-        Pending::WantsBody(_) => 3,
-        Pending::Drops(_) => 3,
+        Awaited::Nothing => 1,
+        Awaited::WantsHeader(_) => 2,
+        Awaited::WantsBody(_) => 3,
+        Awaited::Drops(_) => 3,
     }
 }
 
 /// A method is a command, but a publish waits for its content.
 fn take_method(
     alloc: Global,
-    names: &mut Names,
-    pending: &mut Pending,
+    names: &mut LastNames,
+    pending: &mut Awaited,
     frame: &Frame<'_>,
 ) -> Result<Option<Command>, Fault>
     requires { pending.old ≡ Nothing }
@@ -71,7 +71,7 @@ fn take_method(
     ensures does { TakesEffect (TakesPayload (pending_of pending.old) (seen frame.now)) (pending_of pending.old) result (pending_of pending.new) }
 {
     if let Some(publish) = names.publish_of(frame.payload) {
-        *pending = Pending::WantsHeader(publish);
+        *pending = Awaited::WantsHeader(publish);
         return Ok(None);
     }
     match read_method(alloc, frame.payload) {
@@ -83,8 +83,8 @@ fn take_method(
 /// A method that was read is a command, but a publish waits for its content.
 fn begin(
     alloc: Global,
-    names: &mut Names,
-    pending: &mut Pending,
+    names: &mut LastNames,
+    pending: &mut Awaited,
     frame: &Frame<'_>,
     method: Method,
 ) -> Result<Option<Command>, Fault>
@@ -96,7 +96,7 @@ fn begin(
     match method.into_publish() {
         Ok(publish) => {
             let publish = names.learn(alloc, frame.payload, publish);
-            *pending = Pending::WantsHeader(publish);
+            *pending = Awaited::WantsHeader(publish);
             Ok(None)
         }
         Err(method) => {
@@ -109,7 +109,7 @@ fn begin(
 /// A header declares the body of the publish before it. Of a content that is too large nothing else is read.
 fn take_header(
     alloc: Global,
-    pending: &mut Pending,
+    pending: &mut Awaited,
     frame: &Frame<'_>,
 ) -> Result<Option<Command>, Fault>
     requires begun { HasPublish pending.old }
@@ -131,7 +131,7 @@ fn take_header(
 /// A header that is not too large. A body of no bytes is whole.
 fn begin_content(
     alloc: Global,
-    pending: &mut Pending,
+    pending: &mut Awaited,
     frame: &Frame<'_>,
 ) -> Result<Option<Command>, Fault>
     requires begun { HasPublish pending.old }
@@ -147,7 +147,7 @@ fn begin_content(
                 let whole = full(frame.channel, publish, header.properties, Text::empty());
                 return Ok(Some(whole));
             }
-            *pending = Pending::WantsBody(Gathering {
+            *pending = Awaited::WantsBody(Gathering {
                 publish,
                 properties: header.properties,
                 size: header.size,
@@ -160,13 +160,13 @@ fn begin_content(
 }
 
 /// Takes out the publish whose header came.
-fn begun_publish(pending: &mut Pending) -> Publish
+fn begun_publish(pending: &mut Awaited) -> Publish
     requires { HasPublish pending.old }
     ensures publish { pending.old ≡ WantsHeader result }
     ensures nothing { pending.new ≡ Nothing }
 {
-    match mem::replace(pending, Pending::Nothing) {
-        Pending::WantsHeader(publish) => publish,
+    match mem::replace(pending, Awaited::Nothing) {
+        Awaited::WantsHeader(publish) => publish,
         _ => unreachable!(),
     }
 }
@@ -183,14 +183,14 @@ fn full(channel: u16, publish: Publish, properties: Properties, body: Text) -> C
 }
 
 /// A piece of a body. Past the declared size it is a fault, and at it the publish is a command.
-fn take_body(pending: &mut Pending, frame: &Frame<'_>) -> Result<Option<Command>, Fault>
+fn take_body(pending: &mut Awaited, frame: &Frame<'_>) -> Result<Option<Command>, Fault>
     requires gathered { IsGathered pending.old }
     requires spelled { IsSpelledSoFar pending.old }
     ensures spelled { IsSpelledSoFar pending.new }
     ensures does { TakesEffect (TakesPayload (pending_of pending.old) (seen frame.now)) (pending_of pending.old) result (pending_of pending.new) }
 {
     match pending {
-        Pending::WantsBody(gathering) => {
+        Awaited::WantsBody(gathering) => {
             let length = gathering.body.len() as u64 + frame.payload.len() as u64;
             if gathering.size < length {
                 return Err(Fault::Broken(501));
@@ -211,13 +211,13 @@ fn take_body(pending: &mut Pending, frame: &Frame<'_>) -> Result<Option<Command>
 }
 
 /// The publish whose whole body this is. Its channel awaits a method from then on.
-fn complete(pending: &mut Pending, channel: u16, body: Text) -> Command
+fn complete(pending: &mut Awaited, channel: u16, body: Text) -> Command
     requires { IsGathered pending.old }
     ensures full { (g : Begun) → pending.old ≡ WantsBody g → result ≡ command.Full channel g.publish (record { properties = g.properties; body = body }) }
     ensures nothing { pending.new ≡ Nothing }
 {
-    match mem::replace(pending, Pending::Nothing) {
-        Pending::WantsBody(gathering) => {
+    match mem::replace(pending, Awaited::Nothing) {
+        Awaited::WantsBody(gathering) => {
             full(channel, gathering.publish, gathering.properties, body)
         }
         _ => unreachable!(),

@@ -6,7 +6,7 @@ use Rattle.std.proofs.lemmas.List.{get_or-set_same, get_or-set_other}
 use Rattle.model.specs.Topology.{IsIn}
 use Rattle.model.specs.Broker.{Broker}
 use Rattle.broker_core.specs.declared.picks.Pick.{Pick}
-use Rattle.broker.specs.Roster.{Seats, Lists, Listing, ring_at, is_of, listed_on, IsAt, IsAwake, IsListed, IsListedOn, IsSeatedIn, ListsMore, AllWaken, IsWoken}
+use Rattle.broker.specs.Roster.{Seats, Lists, Listing, ring_at, is_on_channel, listed_on, IsAt, IsAwake, IsListed, IsListedOn, IsSeatedIn, ListsMore, AllWaken, IsWoken}
 use Rattle.broker.proofs.Sleeping.{apart}
 
 -- more is listed on one channel
@@ -35,7 +35,7 @@ pub wake_others : (b : Broker) (before after : Lists) (old new : List Seats) (c 
     → ((l : Listing) → (IsAt c channel l.seat → ⊥) → IsListed before l → IsListed after l)
     → IsSeatedIn b before place (ring_at old place) p → IsSeatedIn b after place (ring_at new place) p
 wake_others b before after old new c channel place p w woken others (inl up) = inl ((w place).awake p up)
-wake_others b before after old new c channel place p w woken others (inr s) = go (p.connection == c) (is_of channel p) refl refl
+wake_others b before after old new c channel place p w woken others (inr s) = go (p.connection == c) (is_on_channel channel p) refl refl
   where
     left : (IsAt c channel p → ⊥) → IsSeatedIn b after place (ring_at new place) p
     left other = elim ((w place).asleep p s.asleep) [
@@ -43,7 +43,7 @@ wake_others b before after old new c channel place p w woken others (inr s) = go
       | inr up ↦ inl up
     ]
 
-    go : (u v : Bool) → (p.connection == c) ≡ u → is_of channel p ≡ v → IsSeatedIn b after place (ring_at new place) p
+    go : (u v : Bool) → (p.connection == c) ≡ u → is_on_channel channel p ≡ v → IsSeatedIn b after place (ring_at new place) p
     go true true f g = inl (woken (record { queue = place; seat = p }) (eqb-true p.connection c f, g) s.listed s.asleep)
     go true false f g = left (λ at. false≢true (sym g ∙ at.1))
     go false v f g = left (λ at. false≢true (sym f ∙ eq-eqb p.connection c at.0))

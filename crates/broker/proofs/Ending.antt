@@ -1,8 +1,7 @@
 -- Which connections run after an event: no other than its own ends, and that by few events.
 use Rattle.std.proofs.Common.{◌≡◌, ◌∙◌, ℕ, List, Bool, true, false, Option, Some, None, refl, sym, ap, subst, if◌then◌else◌}
-use Rattle.std.specs.Prelude.{is_some, option_map, ◌==◌}
+use Rattle.std.specs.Prelude.{is_some, ◌==◌}
 use Rattle.std.proofs.lemmas.Bool.{eqb-true, eq-eqb, false≢true}
-use Rattle.std.proofs.lemmas.Option.{same_Some}
 use Rattle.model.specs.Topology.{Topology}
 use Rattle.model.specs.Broker.{Channel, Connection, Broker, with_one}
 use Rattle.model.specs.Deliveries.{first_ready}
@@ -20,11 +19,6 @@ use Rattle.model.specs.declared.methods.Method.{Method}
 use Rattle.model.specs.declared.methods.Method.TheVariants.{ConnectionClose, ChannelOpen, ChannelFlow, ChannelClose, ChannelCloseOk, ExchangeDeclare, QueueDeclare, QueuePurge, BasicQos, BasicConsume, BasicCancel, BasicPublish, BasicGet, BasicAck, BasicReject, BasicNack, BasicRecover, ConfirmSelect}
 use Rattle.model.specs.declared.notes.Note.{Note}
 use Rattle.replies.specs.Sent.{connection_of_event}
-use Rattle.links.specs.Links.{Linked, link_in, channel_in, connection_at}
-use Rattle.links.specs.Consumers.{next_number}
-use Rattle.broker_core.specs.Seats.{is_consume, next_seat, seat_of}
-use Rattle.broker_core.specs.State.{Kept, broker_of}
-use Rattle.broker_core.specs.declared.picks.Pick.{Pick}
 
 module _ (t : Topology) (old new : Broker) (sends : List Send) (notes : List Note) where
   -- this connection runs still if it ran
@@ -142,23 +136,3 @@ module _ (t : Topology) (old new : Broker) (sends : List Send) (notes : List Not
 
   pub delivery_runs : (c : ℕ) → Acts t old (Deliver c) sends notes new → (d : ℕ) → Runs d
   delivery_runs c p = same p.makes.left.connections
-
--- a connection on which a consumer is to be made runs
-pub seat_runs : (kept : Kept) (e : Event) (p : Pick) → seat_of kept e ≡ Some p → (broker_of kept).connection p.connection ≡ None → ⊥
-seat_runs kept (Command c h m content) p is none = on (is_consume m) is
-  where
-    nothing_made : (o : Option Linked) → link_in kept.links c ≡ o → next_seat c h o ≡ Some p → ⊥
-    nothing_made None at e = false≢true (ap is_some e)
-    nothing_made (Some l) at e = false≢true (sym (ap is_some (sym (ap connection_at at) ∙ ap (broker_of kept).connection (its (next_number_in l) e) ∙ none)))
-      where
-        next_number_in : Linked → Option ℕ
-        next_number_in x = next_number (channel_in x h)
-
-        its : (o : Option ℕ) → option_map {U = Pick} (λ (n : ℕ). record { connection = c; channel = h; number = n }) o ≡ Some p → c ≡ p.connection
-        its None f = absurd (false≢true (ap is_some f))
-        its (Some n) f = ap (λ (q : Pick). q.connection) (same_Some _ p f)
-
-    on : (v : Bool) → (if v then next_seat c h (link_in kept.links c) else None) ≡ Some p → ⊥
-    on true e = nothing_made (link_in kept.links c) refl e
-    on false e = false≢true (ap is_some e)
-seat_runs kept _ p is none = false≢true (ap is_some is)

@@ -1,5 +1,5 @@
 -- Queues over which picks go: each in whose ring a seat is awake is marked.
-use Rattle.std.proofs.Common.{◌≡◌, ◌∙◌, ◌<◌, ◌≤◌, ◌+◌, ◌*◌, ℕ, zero, suc, List, [], ◌∷◌, ◌++◌, Bool, true, false, length, set, inl, inr, refl, sym, ap, subst, arith}
+use Rattle.std.proofs.Common.{◌≡◌, ◌∙◌, ◌<◌, ◌≤◌, ◌+◌, ◌*◌, ℕ, List, [], Bool, true, false, length, set, inl, inr, refl, sym, ap, subst, arith}
 use Rattle.std.specs.Prelude.{◌==◌}
 use Rattle.std.proofs.lemmas.Bool.{eqb-true}
 use Rattle.std.proofs.lemmas.Bool.Decides.{leb_tells}
@@ -104,13 +104,6 @@ module _ (rings : List Seats) (queue : ℕ) (r : Seats) (lt : queue < length rin
       go : (v : Bool) → (place == queue) ≡ v → Wakens (ring_at rings place) (ring_at (set rings queue r) place)
       go true f = subst (λ (x : Seats). Wakens x (ring_at (set rings queue r) place)) (sym (was_here place f)) (subst (Wakens (ring_at rings queue)) (sym (set_here place f)) w)
       go false f = subst (Wakens (ring_at rings place)) (sym (set_there place f)) (record { awake = λ p up. up; asleep = λ p i. inl i })
-
--- rings with no seat, and one more
-pub empty_more : (rings : List Seats) (r : Seats) → ((place : ℕ) → (ring_at rings place).seats ≡ []) → r.seats ≡ [] → (place : ℕ) → (ring_at (rings ++ r ∷ []) place).seats ≡ []
-empty_more [] r none e zero = e
-empty_more [] r none e (suc n) = refl
-empty_more (x ∷ xs) r none e zero = none zero
-empty_more (x ∷ xs) r none e (suc n) = empty_more xs r (λ place. none (suc place)) e n
 
 -- they want no mark
 pub marked_empty : (rings : List Seats) (marks : List ℕ) → length rings ≤ length marks * 64 → ((place : ℕ) → (ring_at rings place).seats ≡ []) → QueuesAreMarked rings marks

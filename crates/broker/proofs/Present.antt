@@ -11,7 +11,7 @@ use Rattle.channel.specs.declared.consumers.Consumer.{Consumer}
 use Rattle.links.specs.Links.{channel_of}
 use Rattle.links.specs.Consumers.{has_consumer_numbered}
 use Rattle.laws.specs.Consumers.{WasConsumer}
-use Rattle.broker_core.specs.State.{Kept, broker_of, topology_of, names_of}
+use Rattle.broker_core.specs.State.{Kept, broker_of, topology_kept, names_of}
 use Rattle.broker_core.specs.Picked.{IsPickFrom}
 use Rattle.broker_core.specs.Seats.{has_consumer}
 use Rattle.broker_core.specs.declared.picks.Pick.{Pick}
@@ -27,7 +27,7 @@ found_by names (c ∷ cs) k n (inr i) e = go (c.number == n) (found_by names cs 
     go true more = refl
     go false more = more
 
-pub has_kept : (kept : Kept) (place : ℕ) (p : Pick) → HasConsumer (topology_of kept) (broker_of kept) place p → has_consumer kept p ≡ true
+pub has_kept : (kept : Kept) (place : ℕ) (p : Pick) → HasConsumer (topology_kept kept) (broker_of kept) place p → has_consumer kept p ≡ true
 has_kept kept place p has =
     let ch = has.was.0 in
     let channel = seen_there (names_of kept) (channel_of kept.links p.connection p.channel) ch has.was.1 in

@@ -1,15 +1,14 @@
 -- Seats of consumers: among others, after a sweep, and at each event.
-use Rattle.std.proofs.Common.{◌≡◌, ◌∙◌, ◌<◌, ℕ, List, [], ◌∷◌, ◌++◌, Bool, true, false, Option, Some, None, length, not, inl, inr, ◌⊎◌, refl, sym, ap, subst, if◌then◌else◌}
-use Rattle.std.specs.Prelude.{option_map, is_some, nat_lt, ◌==◌, ◌&&◌, ◌||◌, IfSome}
-use Rattle.std.specs.Str.{bytes_eq}
+use Rattle.std.proofs.Common.{◌≡◌, ◌∙◌, ◌<◌, ℕ, List, [], ◌∷◌, ◌++◌, Bool, true, false, Option, Some, None, length, inl, inr, ◌⊎◌, refl, sym, ap, subst, if◌then◌else◌}
+use Rattle.std.specs.Prelude.{option_map, is_some, ◌==◌, ◌&&◌, IfSome}
 use Rattle.std.proofs.lemmas.Bool.{eqb-true, eq-eqb, false≢true}
 use Rattle.std.proofs.lemmas.Option.{same_Some}
 use Rattle.model.specs.Words.{Text}
 use Rattle.model.specs.Topology.{Topology, IsIn}
 use Rattle.model.specs.Agreement.{IsAgreed}
 use Rattle.model.specs.Broker as seen
-use Rattle.model.specs.Broker.{Broker, Channel, Connection, queue_named, with_pair, with_row}
-use Rattle.model.specs.Step.{Is, Acts, Refuses, Decides, OnConnection, Refusal, Ignored, Of_channel, Of_connection, or_else, refusal, refusal_of_asking, refusal_of_seat, refusal_of_consume, channel_or_new}
+use Rattle.model.specs.Broker.{Broker, Channel, Connection, with_pair, with_row}
+use Rattle.model.specs.Step.{Is, Acts, Refuses, Decides, OnConnection, Refusal, Ignored, Of_channel, Of_connection, refusal, channel_or_new}
 use Rattle.model.specs.Consuming.{consumer_of}
 use Rattle.model.specs.Grammar.{ids_of}
 use Rattle.model.specs.declared.contents.Content.{Content}
@@ -22,15 +21,14 @@ use Rattle.model.specs.declared.events.Event.TheVariants.{Command}
 use Rattle.model.specs.declared.notes.Note.{Note}
 use Rattle.laws.specs.Consumers.{WasConsumer, IsMadeBy, ConsumersAreMade}
 use Rattle.channel.specs.Open.{Open, open_in}
-use Rattle.links.specs.Links.{Linked, link_in, channel_in, channel_at, connection_at, limits_of}
+use Rattle.links.specs.Links.{Linked, linked_in, channel_in, channel_at, connection_at, limits_of}
 use Rattle.exchange_graph.specs.Marks.{queue_name}
-use Rattle.broker_core.specs.State.{Kept, broker_of, topology_of, names_of}
-use Rattle.judging.specs.Judged.{IsIgnored, IsRequeued, WantsNoMemory}
+use Rattle.broker_core.specs.State.{Kept, broker_of, topology_kept, names_of}
+use Rattle.judging.specs.Judged.{IsIgnored}
 use Rattle.broker.specs.Roster.{Rings, Lists, ring_at, wakes, HasConsumer, AllHaveSeats, IsServing, AllRun, HasNoList, MakesNoList, IsSeated, IsAwake, KeepsSeats, KeepsAll}
 use Rattle.links.specs.Consumers.{next_number}
-use Rattle.broker_core.specs.Seats.{is_consume, next_seat, seat_of, consumed, IsConsumed}
+use Rattle.broker_core.specs.Seats.{next_seat, seat_of, consumed, IsConsumed}
 use Rattle.broker_core.specs.declared.picks.Pick.{Pick}
-use Rattle.broker_core.proofs.Consuming.{seat_not_ignored}
 use Rattle.broker.proofs.Present.{has_kept}
 use Rattle.broker.proofs.Waking.{cannot_still}
 
@@ -39,7 +37,7 @@ abbrev pub StayAgreed : Type 0
 StayAgreed = (t : Topology) (old new : Broker) (e : Event) (sends : List Send) (notes : List Note) → IsAgreed old → Acts t old e sends notes new → IsAgreed new
 
 -- where no seat of a consumer that is there is gone, each still has its seat
-pub seats_kept : (kept : Kept) (old new : Rings) → KeepsSeats kept old new → AllHaveSeats (topology_of kept) (broker_of kept) old → AllHaveSeats (topology_of kept) (broker_of kept) new
+pub seats_kept : (kept : Kept) (old new : Rings) → KeepsSeats kept old new → AllHaveSeats (topology_kept kept) (broker_of kept) old → AllHaveSeats (topology_kept kept) (broker_of kept) new
 seats_kept kept old new keeps seated place p has = keeps place p (seated place p has) (has_kept kept place p has)
 
 -- ---- events
@@ -96,8 +94,8 @@ ignored_stays t b c h m content sends notes new None is does = does.left
 ignored_stays t b c h m content sends notes new (Some conn) is does = (subst (λ (r : Option Refusal). Decides t b c h m content r sends notes new) is does).left
 
 -- a consume is ignored where there is no next seat for it
-no_seat : (t : Topology) (kept : Kept) (c h : ℕ) (m : Consume) → next_seat c h (link_in kept.links c) ≡ None → IsIgnored t (broker_of kept) c h (BasicConsume m) ((broker_of kept).connection c)
-no_seat t kept c h m none = go (link_in kept.links c) refl none
+no_seat : (t : Topology) (kept : Kept) (c h : ℕ) (m : Consume) → next_seat c h (linked_in kept.links c) ≡ None → IsIgnored t (broker_of kept) c h (BasicConsume m) ((broker_of kept).connection c)
+no_seat t kept c h m none = go (linked_in kept.links c) refl none
   where
     b : Broker
     b = broker_of kept
@@ -114,7 +112,7 @@ no_seat t kept c h m none = go (link_in kept.links c) refl none
     unmapped f None e = refl
     unmapped f (Some x) e = absurd (false≢true (sym (ap is_some e)))
 
-    go : (o : Option Linked) → link_in kept.links c ≡ o → next_seat c h o ≡ None → IsIgnored t b c h (BasicConsume m) (b.connection c)
+    go : (o : Option Linked) → linked_in kept.links c ≡ o → next_seat c h o ≡ None → IsIgnored t b c h (BasicConsume m) (b.connection c)
     go None e f = subst (λ (x : Option Linked). IsIgnored t b c h (BasicConsume m) (connection_at x)) (sym e) tt
     go (Some l) e f =
         subst (λ (x : Option Linked). IsIgnored t b c h (BasicConsume m) (connection_at x)) (sym e)
@@ -204,26 +202,26 @@ seated_next law t kept new e sends notes rings acts woken seated next = seated_a
         here : k.queue ≡ m.queue → IsConsumed t e place
         here queue = record { within = within; named = ap consumed is ∙ ap (λ (q : Text). Some q) (sym queue ∙ sym named) }
 
-        go : k.queue ≡ m.queue → (o : Option Pick) → next_seat c h (link_in kept.links c) ≡ o → IfSome o (λ p. (at : ℕ) → IsConsumed t e at → IsAwake (ring_at rings.rings at) p)
+        go : k.queue ≡ m.queue → (o : Option Pick) → next_seat c h (linked_in kept.links c) ≡ o → IfSome o (λ p. (at : ℕ) → IsConsumed t e at → IsAwake (ring_at rings.rings at) p)
             → HasConsumer t b place (seat_for c h k) ⊎ IsAwake (ring_at rings.rings place) (seat_for c h k)
         go queue None f i =
             let stays = ignored_stays t b c h (BasicConsume m) content sends notes new (b.connection c) (no_seat t kept c h m f) same in
             before (was.0, sym (stays.channels c h) ∙ was.1, was.2)
         go queue (Some p) f i =
-            inr (subst (λ (q : Pick). IsAwake (ring_at rings.rings place) q) (next_number_is (names_of kept) c h (link_in kept.links c) p f ∙ ap (λ (n : ℕ). record { connection = c; channel = h; number = n }) (sym numbered))
+            inr (subst (λ (q : Pick). IsAwake (ring_at rings.rings place) q) (next_number_is (names_of kept) c h (linked_in kept.links c) p f ∙ ap (λ (n : ℕ). record { connection = c; channel = h; number = n }) (sym numbered))
             (i place (here queue)))
 
         on : WasConsumer b c h k ⊎ (k.queue ≡ m.queue) → HasConsumer t b place (seat_for c h k) ⊎ IsAwake (ring_at rings.rings place) (seat_for c h k)
         on (inl there) = before there
-        on (inr queue) = go queue (next_seat c h (link_in kept.links c)) refl (subst (λ (x : Event). IfSome (seat_of kept x) (λ p. (at : ℕ) → IsConsumed t e at → IsAwake (ring_at rings.rings at) p)) is next)
+        on (inr queue) = go queue (next_seat c h (linked_in kept.links c)) refl (subst (λ (x : Event). IfSome (seat_of kept x) (λ p. (at : ℕ) → IsConsumed t e at → IsAwake (ring_at rings.rings at) p)) is next)
 
 -- ---- what every broker keeps
 
 -- What it keeps but for what is listed.
 pub record Holds (kept : Kept) (r : Rings) : Type 0 where
   pub agreed : IsAgreed (broker_of kept)
-  pub rings_for : length r.rings ≡ length (topology_of kept).queues
-  pub seated : AllHaveSeats (topology_of kept) (broker_of kept) r
+  pub rings_for : length r.rings ≡ length (topology_kept kept).queues
+  pub seated : AllHaveSeats (topology_kept kept) (broker_of kept) r
 
 pub holds : (kept : Kept) (r : Rings) → IsServing kept r → Holds kept r
 holds kept r serving = record { agreed = serving.agreed; rings_for = serving.rings_for; seated = serving.seated }
@@ -246,7 +244,7 @@ running_but old new before after c others gone makes running d none = go (d == c
 
 -- each event that is no command leaves it so
 pub serves_still : StayAgreed → ConsumersAreMade → (t : Topology) (old new : Kept) (e : Event) (sends : List Send) (notes : List Note) (rings : Rings)
-    → Acts t (broker_of old) e sends notes (broker_of new) → AreWoken t (broker_of old) e rings → is_command e ≡ false → topology_of old ≡ t → topology_of new ≡ t → Holds old rings → Holds new rings
+    → Acts t (broker_of old) e sends notes (broker_of new) → AreWoken t (broker_of old) e rings → is_command e ≡ false → topology_kept old ≡ t → topology_kept new ≡ t → Holds old rings → Holds new rings
 serves_still agrees law t old new e sends notes rings acts woken none was is serving = record {
   agreed = agrees t (broker_of old) (broker_of new) e sends notes serving.agreed acts;
   rings_for = serving.rings_for ∙ ap (λ (x : Topology). length x.queues) (was ∙ sym is);
@@ -256,19 +254,19 @@ serves_still agrees law t old new e sends notes rings acts woken none was is ser
 
 -- and one that wakes no seat
 pub serves_asleep : StayAgreed → ConsumersAreMade → (t : Topology) (old new : Kept) (e : Event) (sends : List Send) (notes : List Note) (rings : Rings)
-    → Acts t (broker_of old) e sends notes (broker_of new) → ((p : Pick) → wakes e p ≡ false) → is_command e ≡ false → topology_of old ≡ t → topology_of new ≡ t → Holds old rings → Holds new rings
+    → Acts t (broker_of old) e sends notes (broker_of new) → ((p : Pick) → wakes e p ≡ false) → is_command e ≡ false → topology_kept old ≡ t → topology_kept new ≡ t → Holds old rings → Holds new rings
 serves_asleep agrees law t old new e sends notes rings acts asleep none was is serving =
     serves_still agrees law t old new e sends notes rings acts (λ place p woken has. absurd (false≢true (sym (asleep p) ∙ woken))) none was is serving
 
 -- so does one whose seat is there
 pub serves_next : StayAgreed → ConsumersAreMade → (old new : Kept) (e : Event) (sends : List Send) (notes : List Note) (rings : Rings)
-    → Acts (topology_of old) (broker_of old) e sends notes (broker_of new) → AreWoken (topology_of old) (broker_of old) e rings → topology_of new ≡ topology_of old
-    → IfSome (seat_of old e) (λ p. (place : ℕ) → IsConsumed (topology_of old) e place → IsAwake (ring_at rings.rings place) p) → Holds old rings → Holds new rings
+    → Acts (topology_kept old) (broker_of old) e sends notes (broker_of new) → AreWoken (topology_kept old) (broker_of old) e rings → topology_kept new ≡ topology_kept old
+    → IfSome (seat_of old e) (λ p. (place : ℕ) → IsConsumed (topology_kept old) e place → IsAwake (ring_at rings.rings place) p) → Holds old rings → Holds new rings
 serves_next agrees law old new e sends notes rings acts woken is next serving = record {
-  agreed = agrees (topology_of old) (broker_of old) (broker_of new) e sends notes serving.agreed acts;
+  agreed = agrees (topology_kept old) (broker_of old) (broker_of new) e sends notes serving.agreed acts;
   rings_for = serving.rings_for ∙ ap (λ (x : Topology). length x.queues) (sym is);
   seated = subst (λ (x : Topology). AllHaveSeats x (broker_of new) rings) (sym is)
-      (seated_next law (topology_of old) old (broker_of new) e sends notes rings acts woken serving.seated next);
+      (seated_next law (topology_kept old) old (broker_of new) e sends notes rings acts woken serving.seated next);
 }
 
 -- where no seat of a consumer that is there is gone it is so still
@@ -280,7 +278,7 @@ pub keeps_all : (kept : Kept) (old new : Rings) → KeepsAll old new → KeepsSe
 keeps_all kept old new keeps place p i has = keeps (broker_of kept) place p i
 
 -- with no consumer none wants a seat
-pub serves_none : (kept : Kept) (rings : Rings) → IsAgreed (broker_of kept) → length rings.rings ≡ length (topology_of kept).queues → ((c h : ℕ) → (broker_of kept).channel c h ≡ None) → Holds kept rings
+pub serves_none : (kept : Kept) (rings : Rings) → IsAgreed (broker_of kept) → length rings.rings ≡ length (topology_kept kept).queues → ((c h : ℕ) → (broker_of kept).channel c h ≡ None) → Holds kept rings
 serves_none kept rings agreed len none = record {
   agreed = agreed;
   rings_for = len;
@@ -288,71 +286,3 @@ serves_none kept rings agreed len none = record {
 }
 
 -- ---- events that want no memory
-
-consume_is : (m : Method) → is_consume m ≡ true → (k : Consume) × (m ≡ BasicConsume k)
-consume_is (BasicConsume k) e = (k, refl)
-consume_is _ e = absurd (false≢true e)
-
--- one that is not ignored for its number or its channel
-not_ignored_on : (zero over : Bool) (rest : Option Refusal) → (rest ≡ Some Ignored → ⊥) → (if zero then Some (Of_connection 503) else (if over then Some (Of_connection 504) else rest)) ≡ Some Ignored → ⊥
-not_ignored_on true over rest none e = cc
-not_ignored_on false true rest none e = cc
-not_ignored_on false false rest none e = none e
-
--- nothing that is said against a consume makes it ignored
-consume_not_ignored : (t : Topology) (ch : Channel) (m : Consume) → refusal_of_consume t ch m ≡ Some Ignored → ⊥
-consume_not_ignored t ch m = first (is_some (queue_named t.queues m.queue)) (or_else (refusal_of_asking m) (refusal_of_seat ch m)) (second (m.exclusive || m.no_local || not (bytes_eq m.arguments [])) (refusal_of_seat ch m) (seat_not_ignored ch m))
-  where
-    first : (v : Bool) (rest : Option Refusal) → (rest ≡ Some Ignored → ⊥) → or_else (if v then None else Some (Of_channel 404)) rest ≡ Some Ignored → ⊥
-    first true rest none e = none e
-    first false rest none e = cc
-
-    second : (v : Bool) (rest : Option Refusal) → (rest ≡ Some Ignored → ⊥) → or_else (if v then Some (Of_connection 540) else None) rest ≡ Some Ignored → ⊥
-    second true rest none e = cc
-    second false rest none e = none e
-
--- a consume that is ignored has no seat
-ignored_seat : (t : Topology) (kept : Kept) (c h : ℕ) (m : Consume) → IsIgnored t (broker_of kept) c h (BasicConsume m) ((broker_of kept).connection c) → next_seat c h (link_in kept.links c) ≡ None
-ignored_seat t kept c h m ignored = go (link_in kept.links c) refl
-  where
-    b : Broker
-    b = broker_of kept
-
-    names : List Text
-    names = names_of kept
-
-    open_one : (l : Linked) (ch : Open) (v : Bool) → ch.is_closing ≡ v → refusal t b (limits_of l) h (BasicConsume m) (Some (open_in names ch)) ≡ Some Ignored → option_map {U = Pick} (λ (n : ℕ). record { connection = c; channel = h; number = n }) (if v then None else Some ch.given.next_number) ≡ None
-    open_one l ch true is f = refl
-    open_one l ch false is f =
-        absurd (not_ignored_on (h == 0) (nat_lt l.channel_max h) (refusal_of_consume t (open_in names ch) m) (consume_not_ignored t (open_in names ch) m)
-        (subst (λ (v : Bool). (if v then Some Ignored else (if h == 0 then Some (Of_connection 503) else (if nat_lt l.channel_max h then Some (Of_connection 504) else refusal_of_consume t (open_in names ch) m))) ≡ Some Ignored) is f))
-
-    on : (l : Linked) (o : Option Open) → refusal t b (limits_of l) h (BasicConsume m) (option_map (open_in names) o) ≡ Some Ignored → option_map {U = Pick} (λ (n : ℕ). record { connection = c; channel = h; number = n }) (next_number o) ≡ None
-    on l None f = absurd (not_ignored_on (h == 0) (nat_lt l.channel_max h) (Some (Of_connection 504)) (λ e. cc) f)
-    on l (Some ch) f = open_one l ch ch.is_closing refl f
-
-    go : (o : Option Linked) → link_in kept.links c ≡ o → next_seat c h o ≡ None
-    go None e = refl
-    go (Some l) e =
-        on l (channel_in l h)
-        (sym (ap (λ (x : Option Linked). refusal t b (limits_of l) h (BasicConsume m) (option_map (open_in names) (channel_at x h))) e)
-        ∙ subst (λ (x : Option Linked). IsIgnored t b c h (BasicConsume m) (connection_at x)) e ignored)
-
--- no event that wants no memory makes a consumer
-command_seat : (t : Topology) (kept : Kept) (c h : ℕ) (m : Method) (content : Option Content) → WantsNoMemory t (broker_of kept) (Command c h m content) → (v : Bool) → is_consume m ≡ v → (if v then next_seat c h (link_in kept.links c) else None) ≡ None
-command_seat t kept c h m content quiet false is = refl
-command_seat t kept c h m content quiet true is =
-    let one = consume_is m is in
-    made one.0 (subst (λ (x : Method). WantsNoMemory t (broker_of kept) (Command c h x content)) one.1 quiet)
-  where
-    requeued_not : (k : Consume) (o : Option Connection) → IsRequeued t (broker_of kept) c h (BasicConsume k) o → ⊥
-    requeued_not k None is = is
-    requeued_not k (Some conn) is = false≢true is.0
-
-    made : (k : Consume) → WantsNoMemory t (broker_of kept) (Command c h (BasicConsume k) content) → next_seat c h (link_in kept.links c) ≡ None
-    made k (inl ignored) = ignored_seat t kept c h k ignored
-    made k (inr requeued) = absurd (requeued_not k ((broker_of kept).connection c) requeued)
-
-pub quiet_seat : (t : Topology) (kept : Kept) (e : Event) → WantsNoMemory t (broker_of kept) e → seat_of kept e ≡ None
-quiet_seat t kept (Command c h m content) quiet = command_seat t kept c h m content quiet (is_consume m) refl
-quiet_seat t kept _ quiet = refl

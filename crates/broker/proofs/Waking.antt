@@ -1,12 +1,13 @@
 -- Which events leave more that a consumer may take.
-use Rattle.std.proofs.Common.{◌≡◌, ◌∙◌, ◌≤◌, ◌+◌, ℕ, List, [], ◌++◌, Bool, true, false, Option, Some, None, inl, inr, ◌⊎◌, refl, sym, ap, subst, arith, if◌then◌else◌}
-use Rattle.std.specs.Prelude.{is_some, nat_le, nat_lt, ◌==◌, ◌&&◌, ◌||◌, count_by}
+use Rattle.std.proofs.Common.{◌≡◌, ◌∙◌, ◌≤◌, ◌+◌, ℕ, List, ◌++◌, Bool, true, false, Option, Some, None, inl, inr, ◌⊎◌, refl, sym, ap, subst, arith, if◌then◌else◌}
+use Rattle.std.specs.Prelude.{is_some, nat_lt, ◌==◌, ◌&&◌, ◌||◌, count_by}
 use Rattle.std.proofs.lemmas.Bool.{eqb-true, eq-eqb, ltb-true, lt-ltb, false≢true}
 use Rattle.std.proofs.lemmas.Option.{same_Some}
 use Rattle.laws.proofs.Counts.{count-append}
+use Rattle.laws.proofs.Made.{row_new}
 use Rattle.model.specs.Topology.{Topology, IsIn}
 use Rattle.model.specs.Words.{Text}
-use Rattle.model.specs.Broker.{Consumer, Channel, Connection, Broker, Outstanding, new_channel, with_one, with_pair, with_row}
+use Rattle.model.specs.Broker.{Consumer, Channel, Connection, Broker, Outstanding, with_one, with_pair, with_row}
 use Rattle.model.specs.Consuming.{MayTake, may_take, taker_of}
 use Rattle.model.specs.Deliveries.{channel_after, outstanding_after, first_ready}
 use Rattle.model.specs.Entries.{by_channel}
@@ -148,13 +149,6 @@ module _ (t : Topology) (old new : Broker) (e : Event) (sends : List Send) (note
       go : (v : Bool) → (if v then None else old.connection d) ≡ Some may.connection → (if v then None else old.channel d l) ≡ Some ch → Could d l k.number
       go true a b = absurd (false≢true (ap is_some b))
       go false a b = before d l ch k may.connection a may.awake b may.open_still may.its may.may
-
-  row_new : (max l : ℕ) (ch : Channel) → channels_up_to max l ≡ Some ch → ch.consumers ≡ []
-  row_new max l ch e = by (nat_le 1 l && nat_le l max) e
-    where
-      by : (v : Bool) → (if v then Some new_channel else None) ≡ Some ch → ch.consumers ≡ []
-      by true e = ap (λ (z : Channel). z.consumers) (sym (same_Some new_channel ch e))
-      by false e = absurd (false≢true (ap is_some e))
 
   -- it runs, with new channels
   opens : (c max n : ℕ) (conn : Connection) → ((d : ℕ) → new.connection d ≡ with_one old.connection c (Some conn) d) → ((d l : ℕ) → new.channel d l ≡ with_row old.channel c (channels_up_to n) d l) → AllCould

@@ -12,7 +12,7 @@ use Rattle.laws.specs.Consumers.{WasConsumer}
 use Rattle.marks.specs.Places.{bit_of}
 use Rattle.depot.specs.Store.{HasReady}
 use Rattle.exchange_graph.specs.Marks.{queue_name}
-use Rattle.broker_core.specs.State.{Kept, broker_of, topology_of}
+use Rattle.broker_core.specs.State.{Kept, broker_of, topology_kept}
 use Rattle.broker_core.specs.Picked.{IsPickFrom, CannotTake}
 use Rattle.broker_core.specs.Seats.{has_consumer, seat_of, IsConsumed}
 use Rattle.broker_core.specs.declared.picks.Pick.{Pick}
@@ -126,7 +126,7 @@ pub record HasSeat (r : Rings) (place : ℕ) (p : Pick) : Type 0 where
 
 -- the consumer that this event is to make has its seat
 abbrev pub SeatsNext : Kept → Event → Rings → Type 0
-SeatsNext kept e r = IfSome (seat_of kept e) (λ p. (place : ℕ) → IsConsumed (topology_of kept) e place → HasSeat r place p)
+SeatsNext kept e r = IfSome (seat_of kept e) (λ p. (place : ℕ) → IsConsumed (topology_kept kept) e place → HasSeat r place p)
 
 -- ---- what every broker keeps
 
@@ -153,8 +153,8 @@ AllRun b lists = (c : ℕ) → b.connection c ≡ None → HasNoList lists c
 -- What every broker keeps:
 pub record IsServing (kept : Kept) (r : Rings) : Type 0 where
   pub agreed : IsAgreed (broker_of kept)
-  pub rings_for : length r.rings ≡ length (topology_of kept).queues
-  pub seated : AllHaveSeats (topology_of kept) (broker_of kept) r
+  pub rings_for : length r.rings ≡ length (topology_kept kept).queues
+  pub seated : AllHaveSeats (topology_kept kept) (broker_of kept) r
   -- of a connection that runs no more nothing is listed
   pub running : AllRun (broker_of kept) r.lists
 
@@ -172,7 +172,7 @@ NoneMarked kept marks from to = (place : ℕ) (p : Pick) → from ≤ place → 
 -- The first place at or behind `from` whose queue has something ready and whose bit is 1.
 pub record IsFirstMarked (kept : Kept) (marks : List ℕ) (from place : ℕ) : Type 0 where
   pub least : from ≤ place
-  pub within : place < length (topology_of kept).queues
+  pub within : place < length (topology_kept kept).queues
   pub ready : HasReady kept.store place
   pub marked : bit_of marks place ≡ 1
   pub before : NoneMarked kept marks from place
@@ -288,10 +288,10 @@ wakes (Resume c) p = p.connection == c
 wakes e p = false
 
 -- a seat is of this channel, or of any where none is named
-abbrev pub is_of : Option ℕ → Pick → Bool
-is_of None p = true
-is_of (Some h) p = p.channel == h
+abbrev pub is_on_channel : Option ℕ → Pick → Bool
+is_on_channel None p = true
+is_on_channel (Some h) p = p.channel == h
 
 -- it is of this connection too
 abbrev pub IsAt : ℕ → Option ℕ → Pick → Type 0
-IsAt c channel p = (p.connection ≡ c) × (is_of channel p ≡ true)
+IsAt c channel p = (p.connection ≡ c) × (is_on_channel channel p ≡ true)

@@ -41,14 +41,14 @@ impl Broker {
     ghost use Rattle.model.specs.Sending.{AreCarried};
     ghost use Rattle.model.specs.Step.{Acts, Is};
     ghost use Rattle.model.specs.declared.events.Event.TheVariants as event_is;
-    ghost use Rattle.broker_core.specs.State.{broker_of, topology_of, nothing};
+    ghost use Rattle.broker_core.specs.State.{broker_of, topology_kept, nothing};
     ghost use Rattle.judging.specs.Judged.{IsAsked, WantsNoMemory};
     ghost use Rattle.broker_core.specs.Picked.{IsPick};
     ghost use Rattle.replies.specs.Sent.{AreAddressed, connection_of_event};
 
     /// The broker of this topology: its queues are empty, and no connection runs.
     pub fn new(alloc: Global, topology: Topology) -> Result<Broker, AllocError>
-        ensures topology { IfOk result (λ b. topology_of b ≡ topology) }
+        ensures topology { IfOk result (λ b. topology_kept b ≡ topology) }
         ensures empty { IfOk result (λ b. Is nothing (broker_of b)) }
     {
         brokers_stay_agreed();
@@ -62,11 +62,11 @@ impl Broker {
     /// a loss, a pause and its end, a command that is ignored, and a rejection that requeues want none.
     pub fn step(&mut self, alloc: Global, event: &Event) -> Result<Step, AllocError>
         requires asked { IsAsked event.now }
-        ensures ok { IfOk result (λ s. Acts (topology_of self.old) (broker_of self.old) event.now s.sends.items s.notes.items (broker_of self.new)) }
+        ensures ok { IfOk result (λ s. Acts (topology_kept self.old) (broker_of self.old) event.now s.sends.items s.notes.items (broker_of self.new)) }
         ensures addressed { IfOk result (λ s. IsSaid event.now → AreCarried (broker_of self.old) → AreAddressed (connection_of_event event.now) s.sends.items) }
-        ensures topology { topology_of self.new ≡ topology_of self.old }
+        ensures topology { topology_kept self.new ≡ topology_kept self.old }
         ensures err { OnErr result (self.new ≡ self.old) }
-        ensures quiet { WantsNoMemory (topology_of self.old) (broker_of self.old) event.now → IsOk result }
+        ensures quiet { WantsNoMemory (topology_kept self.old) (broker_of self.old) event.now → IsOk result }
     {
         brokers_stay_agreed();
         consumers_are_made();
@@ -92,9 +92,9 @@ impl Broker {
     /// memory is wanting, nothing has changed.
     pub fn pump(&mut self, alloc: Global, pick: Pick) -> Result<Step, AllocError>
         requires { IsPick (broker_of self.old) pick }
-        ensures ok { IfOk result (λ s. Acts (topology_of self.old) (broker_of self.old) (event_is.Deliver pick.connection) s.sends.items s.notes.items (broker_of self.new)) }
-        ensures addressed { IfOk result (λ s. AreCarried (broker_of self.old) → AreNamed (topology_of self.old) (broker_of self.old) → AreAddressed pick.connection s.sends.items) }
-        ensures topology { topology_of self.new ≡ topology_of self.old }
+        ensures ok { IfOk result (λ s. Acts (topology_kept self.old) (broker_of self.old) (event_is.Deliver pick.connection) s.sends.items s.notes.items (broker_of self.new)) }
+        ensures addressed { IfOk result (λ s. AreCarried (broker_of self.old) → AreNamed (topology_kept self.old) (broker_of self.old) → AreAddressed pick.connection s.sends.items) }
+        ensures topology { topology_kept self.new ≡ topology_kept self.old }
         ensures err { OnErr result (self.new ≡ self.old) }
     {
         brokers_stay_agreed();
@@ -111,8 +111,8 @@ impl Broker {
         channel_max: u16,
         channels: u16,
     ) -> Result<(), AllocError>
-        ensures ok { OnOk result (Acts (topology_of self.old) (broker_of self.old) (event_is.Running connection channel_max channels) [] [] (broker_of self.new)) }
-        ensures topology { topology_of self.new ≡ topology_of self.old }
+        ensures ok { OnOk result (Acts (topology_kept self.old) (broker_of self.old) (event_is.Running connection channel_max channels) [] [] (broker_of self.new)) }
+        ensures topology { topology_kept self.new ≡ topology_kept self.old }
         ensures err { OnErr result (self.new ≡ self.old) }
     {
         brokers_stay_agreed();
@@ -122,8 +122,8 @@ impl Broker {
 
     /// The connection is lost: what it held is ready again, and it is gone with its channels. It takes no memory.
     pub fn lose(&mut self, connection: u64)
-        ensures acts { Acts (topology_of self.old) (broker_of self.old) (event_is.Lose connection) [] [] (broker_of self.new) }
-        ensures topology { topology_of self.new ≡ topology_of self.old }
+        ensures acts { Acts (topology_kept self.old) (broker_of self.old) (event_is.Lose connection) [] [] (broker_of self.new) }
+        ensures topology { topology_kept self.new ≡ topology_kept self.old }
     {
         brokers_stay_agreed();
         consumers_are_made();
@@ -133,8 +133,8 @@ impl Broker {
 
     /// The output of the connection holds 1,048,576 bytes or more from now on. It takes no memory.
     pub fn pause(&mut self, connection: u64)
-        ensures acts { Acts (topology_of self.old) (broker_of self.old) (event_is.Pause connection) [] [] (broker_of self.new) }
-        ensures topology { topology_of self.new ≡ topology_of self.old }
+        ensures acts { Acts (topology_kept self.old) (broker_of self.old) (event_is.Pause connection) [] [] (broker_of self.new) }
+        ensures topology { topology_kept self.new ≡ topology_kept self.old }
     {
         brokers_stay_agreed();
         consumers_are_made();
@@ -143,8 +143,8 @@ impl Broker {
 
     /// It holds fewer again. It takes no memory.
     pub fn resume(&mut self, connection: u64)
-        ensures acts { Acts (topology_of self.old) (broker_of self.old) (event_is.Resume connection) [] [] (broker_of self.new) }
-        ensures topology { topology_of self.new ≡ topology_of self.old }
+        ensures acts { Acts (topology_kept self.old) (broker_of self.old) (event_is.Resume connection) [] [] (broker_of self.new) }
+        ensures topology { topology_kept self.new ≡ topology_kept self.old }
     {
         brokers_stay_agreed();
         consumers_are_made();

@@ -77,7 +77,7 @@ impl Roster {
     ghost use Rattle.std.specs.Prelude.{◌≡◌, [], ℕ, true, None, Option, IfSome, IfOk, IsOk, OnOk, length};
     ghost use Rattle.replies.specs.Sent.{connection_of_event};
     ghost use Rattle.broker_core.specs.declared.picks.Pick.{Pick as Consumer};
-    ghost use Rattle.broker_core.specs.State.{broker_of, topology_of};
+    ghost use Rattle.broker_core.specs.State.{broker_of, topology_kept};
     ghost use Rattle.broker_core.specs.Picked.{IsPickFrom};
     ghost use Rattle.broker_core.specs.Seats.{seat_of};
     ghost use Rattle.broker.specs.Roster.{wakes, IsAt, IsSeated, SeatsNext, HasNoList, MakesNoList, ListsRunning, KeepsSeats, KeepsAll, AllWaken, WakesSeat};
@@ -96,7 +96,7 @@ impl Roster {
     /// The consumer that this event is to make, if any, has its seat from now on, which is awake, and a list for when it sleeps.
     /// Where memory is wanting it may not; no seat of a consumer that is there is gone.
     pub fn seat_next(&mut self, alloc: Global, core: &Core, event: &Event) -> Result<(), AllocError>
-        requires { length self.old.rings ≡ length (topology_of core.now).queues }
+        requires { length self.old.rings ≡ length (topology_kept core.now).queues }
         ensures seated { OnOk result (SeatsNext core.now event.now self.new) }
         ensures kept { KeepsSeats core.now self.old self.new }
         ensures running { ListsRunning (broker_of core.now) self.old.lists self.new.lists }
@@ -177,7 +177,7 @@ impl Roster {
     /// The first delivery that can be made, from the queue behind that from which was picked last, and then from the front. Where
     /// memory is wanting, seats stay awake whose consumers may take nothing.
     pub fn pick(&mut self, core: &Core) -> Option<Pick>
-        requires { length self.old.rings ≡ length (topology_of core.now).queues }
+        requires { length self.old.rings ≡ length (topology_kept core.now).queues }
         ensures kept { KeepsSeats core.now self.old self.new }
         ensures no_list { MakesNoList self.old.lists self.new.lists }
         ensures len { length self.new.rings ≡ length self.old.rings }

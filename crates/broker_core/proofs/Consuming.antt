@@ -1,29 +1,29 @@
 -- Consumers that are made and cancelled, as the model has them.
-use Rattle.std.proofs.Common.{◌≡◌, ◌∙◌, ◌<◌, ℕ, List, [], ◌∷◌, Bool, true, false, cond, Option, Some, None, Result, Ok, Err, length, length-append, map, filter, not, refl, sym, ap, subst, arith, if◌then◌else◌}
-use Rattle.std.specs.Prelude.{is_some, nat_le, codes, decimal, ◌==◌, ◌||◌}
+use Rattle.std.proofs.Common.{◌≡◌, ◌∙◌, ◌<◌, ℕ, List, [], ◌∷◌, Bool, true, false, cond, Option, Some, None, Result, Ok, Err, length, map, filter, not, refl, sym, ap, subst, if◌then◌else◌}
+use Rattle.std.specs.Prelude.{is_some, nat_le, ◌==◌, ◌||◌}
 use Rattle.std.specs.Str.{bytes_eq}
 use Rattle.std.proofs.lemmas.Bool.{leb-false, false≢true}
-use Rattle.std.proofs.lemmas.Fmt.{length-decimal-le}
 use Rattle.model.specs.Words.{Text}
 use Rattle.model.specs.Topology.{Topology}
 use Rattle.model.specs.Broker as seen
 use Rattle.model.specs.Broker.{Broker, Channel, Connection}
-use Rattle.model.specs.Consuming.{server_tag, next_free, tag_for, is_tagged, is_tag_taken, is_tag_wanting, without_consumer}
+use Rattle.model.specs.Consuming.{next_free, tag_for, is_tagged, is_tag_taken, is_tag_wanting, without_consumer}
 use Rattle.model.specs.Step.{Is, Refusal, Ignored, Of_connection, greatest, or_else, refusal_of_tag, refusal_of_many, refusal_of_numbers, refusal_of_seat, refusal, channel_or_new, with_channel}
 use Rattle.model.specs.declared.methods.Consume.{Consume}
 use Rattle.model.specs.declared.methods.Method.{Method}
-use Rattle.channel.specs.Open.{Open, open_in, consumer_in, without_named, Seats}
+use Rattle.channel.specs.Open.{Open, open_in, consumer_in, without_named, SeatsConsumer}
 use Rattle.channel.specs.Seats.{is_named}
 use Rattle.channel.specs.declared.consumers.Consumer.{Consumer}
-use Rattle.channel.specs.declared.consumers.Refusal as why
-use Rattle.channel.specs.declared.consumers.Refusal.TheVariants.{InUse, TooMany, Spent, Memory}
+use Rattle.channel.specs.declared.consumers.SeatRefusal as why
+use Rattle.channel.specs.declared.consumers.SeatRefusal.TheVariants.{InUse, TooMany, Spent, Memory}
 use Rattle.links.specs.Links.{PutsChannel}
 use Rattle.broker_core.specs.Consumed.{MakesConsumer}
-use Rattle.judging.specs.Judged.{IsPlaceOf, IsIgnored, JudgesOn, left_of}
+use Rattle.judging.specs.Judged.{IsQueuePlace, IsIgnored, JudgesOn, refusal_left}
 use Rattle.judging.specs.declared.refusals.Act.{Act}
 use Rattle.judging.specs.declared.refusals.Act.TheVariants as act
-use Rattle.broker_core.specs.State.{Kept, broker_of, topology_of, names_of}
+use Rattle.broker_core.specs.State.{Kept, broker_of, topology_kept, names_of}
 use Rattle.broker_core.proofs.Stepping.{put_is}
+use Rattle.laws.proofs.Named.{server_short}
 
 -- ---- what is said against a consume
 
@@ -41,13 +41,6 @@ seat_not_ignored ch m = ignored_not (is_tag_taken ch m.consumer_tag) 530 (or_els
     (ignored_not (nat_le 256 (length ch.consumers)) 506 (refusal_of_numbers ch m.consumer_tag) (last_not ((ch.next_number == greatest) || is_tag_wanting ch m.consumer_tag) 541))
 
 -- ---- its tag
-
--- a tag of the server is short
-server_short : (n : ℕ) → n < 18446744073709551615 → length (server_tag n) < 256
-server_short n lt =
-    let digits = length-decimal-le 20 n (omega arith) (omega (arith, lt)) (omega (arith, lt)) in
-    let all = length-append (codes "amq.ctag-") (decimal n) in
-    omega (arith, digits, all)
 
 second_none : (a b : Option Refusal) → or_else a b ≡ None → b ≡ None
 second_none None b e = e
@@ -69,7 +62,7 @@ tag_short ch m free short = go m.consumer_tag (none_wanting (ch.next_number == g
 -- ---- what is made
 
 -- what the channel says of a consumer is what the broker makes of it
-pub makes_is : (old new : Kept) (c h place : ℕ) (ch made : Open) (m : Consume) (r : Result Text why.Refusal) → IsPlaceOf (topology_of old) m.queue place → Seats ch place m r made
+pub makes_is : (old new : Kept) (c h place : ℕ) (ch made : Open) (m : Consume) (r : Result Text why.SeatRefusal) → IsQueuePlace (topology_kept old) m.queue place → SeatsConsumer ch place m r made
     → new.store ≡ old.store → PutsChannel old.links c h (Some made) new.links → MakesConsumer (broker_of old) c h (open_in (names_of old) ch) m r (broker_of new)
 makes_is old new c h place ch made m (Ok tag) at seated e put = record {
   free = seated.free (names_of old);
@@ -109,7 +102,7 @@ cancelled_is old new c h ch tag seats e put =
 -- ---- what is left to say of an act
 
 -- nothing that is left to say of an act makes it ignored
-left_not_ignored : (ch : Channel) (a : Act) → left_of ch a ≡ Some Ignored → ⊥
+left_not_ignored : (ch : Channel) (a : Act) → refusal_left ch a ≡ Some Ignored → ⊥
 left_not_ignored ch (act.Consume place m) e = seat_not_ignored ch m.now e
 left_not_ignored ch act.OpenChannel e = absurd (false≢true (ap is_some e))
 left_not_ignored ch act.Flow e = absurd (false≢true (ap is_some e))

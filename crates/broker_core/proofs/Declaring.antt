@@ -1,7 +1,6 @@
 -- A declare that asks whether a queue is there, answered by what is counted of it.
 use Rattle.std.proofs.Common.{◌≡◌, ◌∙◌, ◌<◌, ◌+◌, ◌==◌, ℕ, List, [], ◌∷◌, Bool, true, false, cond, Option, Some, None, length, get_or, map, count_by, sum_by, nat_le, inl, inr, refl, sym, ap, arith, if◌then◌else◌}
 use Rattle.std.specs.Prelude.{option_map, min}
-use Rattle.std.specs.List.{All}
 use Rattle.std.specs.Str.{bytes_eq}
 use Rattle.std.proofs.lemmas.Bool.{eqb-true, eq-eqb, false≢true}
 use Rattle.std.proofs.lemmas.Bool.Decides.{leb_tells, nat_tests}
@@ -20,14 +19,14 @@ use Rattle.model.specs.declared.events.Send.{Send}
 use Rattle.model.specs.declared.notes.Note.{Note}
 use Rattle.model.specs.declared.messages.Entry.{Entry}
 use Rattle.exchange_graph.specs.Marks.{queue_name}
-use Rattle.depot.specs.Store.{queue_at, queue_of, IsNamed}
+use Rattle.depot.specs.Store.{queue_at, entries_named, IsQueueNamed}
 use Rattle.channel.specs.Open.{Open, open_in, consumer_in}
 use Rattle.channel.specs.Seats.{takes_from}
 use Rattle.channel.specs.declared.consumers.Consumer.{Consumer}
 use Rattle.links.specs.Links.{channel_of}
 use Rattle.links.specs.Counting.{consumers_at, CountsConsumers}
 use Rattle.links.specs.Placed.{TakeWithin, IsPlaced}
-use Rattle.broker_core.specs.State.{Kept, ArePlaced, broker_of, topology_of, names_of}
+use Rattle.broker_core.specs.State.{Kept, ArePlaced, broker_of, topology_kept, names_of}
 use Rattle.broker_core.proofs.Picking.{same_place}
 use Rattle.broker_core.proofs.Stepping.{seen_there}
 
@@ -75,13 +74,13 @@ same_sum f g (x ∷ xs) same =
 abbrev counted_on : Kept → ℕ → List ChannelName → ℕ
 counted_on kept place channels = sum_by (λ (x : ChannelName). consumers_at place (channel_of kept.links x.connection x.number)) channels
 
-has_consumers : (kept : Kept) (place count : ℕ) (name : Text) → ArePlaced kept → AreApart (names_of kept) → place < length (topology_of kept).queues → queue_name (topology_of kept) place ≡ name
+has_consumers : (kept : Kept) (place count : ℕ) (name : Text) → ArePlaced kept → AreApart (names_of kept) → place < length (topology_kept kept).queues → queue_name (topology_kept kept) place ≡ name
     → (is : CountsConsumers kept.links place count) → HasConsumers (broker_of kept) name (counted_on kept place is.channels)
 has_consumers kept place count name placed apart lt named is = record {
   channels = is.channels;
   all = λ c h ch there. let found = seen_there (names_of kept) (channel_of kept.links c h) ch there in is.all c h found.kept found.there;
   apart = is.apart;
-  counted = same_sum _ _ is.channels (λ x. on_channel (topology_of kept) place name (channel_of kept.links x.connection x.number) apart lt named (placed x.connection x.number));
+  counted = same_sum _ _ is.channels (λ x. on_channel (topology_kept kept) place name (channel_of kept.links x.connection x.number) apart lt named (placed x.connection x.number));
 }
 
 -- ---- the answer
@@ -97,12 +96,12 @@ written_same n = elim (leb_tells n 4294967295) [
 ]
 
 pub found_is : (kept : Kept) (c h place ready count : ℕ) (m : QueueDeclare) (sends : List Send) (notes : List Note) → ArePlaced kept → AreApart (names_of kept)
-    → place < length (topology_of kept).queues → queue_name (topology_of kept) place ≡ m.queue → IsNamed kept.store place → ready ≡ ready_in (queue_at kept.store place) → CountsConsumers kept.links place count
+    → place < length (topology_kept kept).queues → queue_name (topology_kept kept) place ≡ m.queue → IsQueueNamed kept.store place → ready ≡ ready_in (queue_at kept.store place) → CountsConsumers kept.links place count
     → sends ≡ declare_sends c h m.no_wait (queue_declared m.queue ready count) → notes ≡ [] → Finds (broker_of kept) c h m sends notes (broker_of kept)
 found_is kept c h place ready count m sends notes placed apart lt named at ready_is is sent noted =
     let total = counted_on kept place is.channels in
-    let here : queue_at kept.store place ≡ queue_of kept.store m.queue = sym at.entries_are ∙ ap (queue_of kept.store) named in
-    let all : ready ≡ ready_in (queue_of kept.store m.queue) = ready_is ∙ ap (λ (es : List Entry). ready_in es) here in
+    let here : queue_at kept.store place ≡ entries_named kept.store m.queue = sym at.entries_are ∙ ap (entries_named kept.store) named in
+    let all : ready ≡ ready_in (entries_named kept.store m.queue) = ready_is ∙ ap (λ (es : List Entry). ready_in es) here in
     let written : written_count count ≡ written_count total = ap written_count is.counted ∙ written_same total in
     record {
       consumers = total;
@@ -110,7 +109,7 @@ found_is kept c h place ready count m sends notes placed apart lt named at ready
       does = record {
         sent = sent
             ∙ ap (λ (n : ℕ). declare_sends c h m.no_wait (queue_declared m.queue n count)) all
-            ∙ ap (λ (n : ℕ). declare_sends c h m.no_wait (QueueDeclareOk (record { queue = m.queue; message_count = written_count (ready_in (queue_of kept.store m.queue)); consumer_count = n }))) written;
+            ∙ ap (λ (n : ℕ). declare_sends c h m.no_wait (QueueDeclareOk (record { queue = m.queue; message_count = written_count (ready_in (entries_named kept.store m.queue)); consumer_count = n }))) written;
         noted = noted;
         left = record { counted = refl; queues = λ q. refl; connections = λ d. refl; channels = λ d k. refl };
       };

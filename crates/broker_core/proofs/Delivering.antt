@@ -18,11 +18,11 @@ use Rattle.model.specs.declared.notes.Note.{Note}
 use Rattle.exchange_graph.specs.Marks.{queue_name}
 use Rattle.channel.specs.Open.{open_in, consumer_in}
 use Rattle.channel.specs.declared.consumers.Consumer.{Consumer}
-use Rattle.links.specs.Links.{Linked, link_in, limits_of, connection_at, channel_at}
+use Rattle.links.specs.Links.{Linked, linked_in, limits_of, connection_at, channel_at}
 use Rattle.broker_core.specs.State.{ArePlaced}
 use Rattle.broker_core.specs.Picked.{IsPick, IsPickFrom, TakesAs, TellsConsumer, CannotTake}
 use Rattle.links.specs.Consumers.{TellsOn}
-use Rattle.broker_core.specs.State.{Kept, broker_of, topology_of, names_of}
+use Rattle.broker_core.specs.State.{Kept, broker_of, topology_kept, names_of}
 use Rattle.broker_core.specs.declared.picks.Pick.{Pick}
 use Rattle.broker_core.proofs.Giving.{all_in}
 use Rattle.broker_core.proofs.Stepping.{seen_there}
@@ -32,7 +32,7 @@ use Rattle.broker_core.proofs.Placing.{takes_within}
 -- ---- who may take a message
 
 -- who may take one on the connection that stands there may take one
-pub tells_is : (kept : Kept) (p : Pick) (l : Linked) (r : Option Consumer) → link_in kept.links p.connection ≡ Some l → ArePlaced kept → TellsOn l p.channel p.number r → TellsConsumer kept p r
+pub tells_is : (kept : Kept) (p : Pick) (l : Linked) (r : Option Consumer) → linked_in kept.links p.connection ≡ Some l → ArePlaced kept → TellsOn l p.channel p.number r → TellsConsumer kept p r
 tells_is kept p l (Some k) e placed t = record {
   channel = open_in (names_of kept) t.channel;
   taker = record {
@@ -46,7 +46,7 @@ tells_is kept p l (Some k) e placed t = record {
   };
   numbered = t.taker.numbered;
   only = t.taker.only (names_of kept);
-  within = takes_within (topology_of kept) k t.channel.given.consumers (placed p.connection p.channel t.channel (ap (λ (o : Option Linked). channel_at o p.channel) e ∙ t.there)).consumers t.taker.seat;
+  within = takes_within (topology_kept kept) k t.channel.given.consumers (placed p.connection p.channel t.channel (ap (λ (o : Option Linked). channel_at o p.channel) e ∙ t.there)).consumers t.taker.seat;
 }
 tells_is kept p l None e placed t = λ ch k taker numbered.
     let names = names_of kept in
@@ -65,31 +65,31 @@ none_told f kept p (Some k) e t = absurd (false≢true (sym e))
 -- ---- which delivery can be made
 
 -- the one that can be made to it where its queue has a message
-abbrev the_pick : (kept : Kept) (p : Pick) (k : Consumer) (e : Entry) → TakesAs kept p k → first_ready ((broker_of kept).queue (queue_name (topology_of kept) k.queue)) ≡ Some e → CanDeliver (broker_of kept) p.connection
+abbrev the_pick : (kept : Kept) (p : Pick) (k : Consumer) (e : Entry) → TakesAs kept p k → first_ready ((broker_of kept).queue (queue_name (topology_kept kept) k.queue)) ≡ Some e → CanDeliver (broker_of kept) p.connection
 the_pick kept p k e t found = record { number = p.channel; channel = t.channel; consumer = consumer_in (names_of kept) k; taker = t.taker; entry = e; first = found }
 
 -- and it is made from its queue
-pub picked_from : (kept : Kept) (place : ℕ) (p : Pick) (k : Consumer) (e : Entry) → TakesAs kept p k → first_ready ((broker_of kept).queue (queue_name (topology_of kept) k.queue)) ≡ Some e → k.queue ≡ place → IsPickFrom kept place p
+pub picked_from : (kept : Kept) (place : ℕ) (p : Pick) (k : Consumer) (e : Entry) → TakesAs kept p k → first_ready ((broker_of kept).queue (queue_name (topology_kept kept) k.queue)) ≡ Some e → k.queue ≡ place → IsPickFrom kept place p
 picked_from kept place p k e t found here = record {
   pick = (the_pick kept p k e t found, refl, t.numbered);
-  within = subst (λ (n : ℕ). n < length (topology_of kept).queues) here t.within;
-  named = ap (queue_name (topology_of kept)) (sym here);
+  within = subst (λ (n : ℕ). n < length (topology_kept kept).queues) here t.within;
+  named = ap (queue_name (topology_kept kept)) (sym here);
 }
 
 -- and any that can be made to one of its numbers takes from its queue
-pub ready_for : (kept : Kept) (p : Pick) (k : Consumer) → TakesAs kept p k → (pick : IsPick (broker_of kept) p) → first_ready ((broker_of kept).queue (queue_name (topology_of kept) k.queue)) ≡ Some pick.0.entry
+pub ready_for : (kept : Kept) (p : Pick) (k : Consumer) → TakesAs kept p k → (pick : IsPick (broker_of kept) p) → first_ready ((broker_of kept).queue (queue_name (topology_kept kept) k.queue)) ≡ Some pick.0.entry
 ready_for kept p k t (made, at, numbered) =
     let same : made.channel ≡ t.channel = same_Some made.channel t.channel (sym made.taker.there ∙ ap (λ (h : ℕ). (broker_of kept).channel p.connection h) at ∙ t.taker.there) in
     let one : made.consumer ≡ consumer_in (names_of kept) k = t.only made.consumer (subst (λ (x : Channel). IsIn made.consumer x.consumers) same made.taker.its) numbered in
     ap (λ (x : seen.Consumer). first_ready ((broker_of kept).queue x.queue)) (sym one) ∙ made.first
 
 -- it is a consumer of the queue from which it is made
-pub same_queue : (kept : Kept) (place : ℕ) (p : Pick) (k : Consumer) → AreApart (queue_names (topology_of kept).queues) → TakesAs kept p k → IsPickFrom kept place p → k.queue ≡ place
+pub same_queue : (kept : Kept) (place : ℕ) (p : Pick) (k : Consumer) → AreApart (queue_names (topology_kept kept).queues) → TakesAs kept p k → IsPickFrom kept place p → k.queue ≡ place
 same_queue kept place p k apart t from =
     let made = from.pick.0 in
     let same : made.channel ≡ t.channel = same_Some made.channel t.channel (sym made.taker.there ∙ ap (λ (h : ℕ). (broker_of kept).channel p.connection h) from.pick.1 ∙ t.taker.there) in
     let one : made.consumer ≡ consumer_in (names_of kept) k = t.only made.consumer (subst (λ (x : Channel). IsIn made.consumer x.consumers) same made.taker.its) from.pick.2 in
-    same_place (topology_of kept) k.queue place apart t.within from.within (sym (from.named ∙ ap (λ (x : seen.Consumer). x.queue) one))
+    same_place (topology_kept kept) k.queue place apart t.within from.within (sym (from.named ∙ ap (λ (x : seen.Consumer). x.queue) one))
 
 -- none can be made where none may take a message
 pub none_picked : (kept : Kept) (p : Pick) → TellsConsumer kept p None → IsPick (broker_of kept) p → ⊥
@@ -99,13 +99,13 @@ none_picked kept p none (made, at, numbered) = none made.channel made.consumer (
 
 -- what was sent, noted and left is the delivery of this message to this consumer
 pub delivered : (kept : Kept) (new : Broker) (p : Pick) (k : Consumer) (e : Entry) (tag : ℕ) (name : Text) (sends : List Send) (notes : List Note) → TakesAs kept p k
-    → first_ready ((broker_of kept).queue (queue_name (topology_of kept) k.queue)) ≡ Some e → tag ≡ (channel_or_new ((broker_of kept).channel p.connection p.channel)).next_tag → name ≡ queue_name (topology_of kept) k.queue
+    → first_ready ((broker_of kept).queue (queue_name (topology_kept kept) k.queue)) ≡ Some e → tag ≡ (channel_or_new ((broker_of kept).channel p.connection p.channel)).next_tag → name ≡ queue_name (topology_kept kept) k.queue
     → sends ≡ deliver p.connection p.channel tag k.tag e ∷ [] → notes ≡ delivery_notes k.no_ack e.message.number name
-    → Is (after_delivery (broker_of kept) p.connection p.channel (channel_or_new ((broker_of kept).channel p.connection p.channel)) k.no_ack (queue_name (topology_of kept) k.queue) (taker.Consumer p.number)) new
+    → Is (after_delivery (broker_of kept) p.connection p.channel (channel_or_new ((broker_of kept).channel p.connection p.channel)) k.no_ack (queue_name (topology_kept kept) k.queue) (taker.Consumer p.number)) new
     → IsDelivery (broker_of kept) p.connection sends notes new
 delivered kept new p k e tag name sends notes t found tagged named sent noted left =
     let b = broker_of kept in
-    let q = queue_name (topology_of kept) k.queue in
+    let q = queue_name (topology_kept kept) k.queue in
     let own : channel_or_new (b.channel p.connection p.channel) ≡ t.channel = ap channel_or_new t.taker.there in
     record {
       made = the_pick kept p k e t found;
@@ -118,5 +118,5 @@ delivered kept new p k e tag name sends notes t found tagged named sent noted le
     }
 
 -- its tag is short where consumers are named
-pub takes_short : (kept : Kept) (p : Pick) (k : Consumer) → TakesAs kept p k → AreNamed (topology_of kept) (broker_of kept) → length k.tag < 256
+pub takes_short : (kept : Kept) (p : Pick) (k : Consumer) → TakesAs kept p k → AreNamed (topology_kept kept) (broker_of kept) → length k.tag < 256
 takes_short kept p k t named = all_in (λ (x : seen.Consumer). length x.tag < 256) (consumer_in (names_of kept) k) t.channel.consumers (named p.connection p.channel t.channel t.taker.there).spelled t.taker.its

@@ -17,14 +17,14 @@ use Rattle.laws.proofs.Leaving.{at_queue}
 use Rattle.laws.proofs.Agreement.{IsClear, counted_in, in_freed, returned_clear, returned_shrinks}
 use Rattle.channel.specs.Open.{Open, open_in, outstanding_in}
 use Rattle.channel.specs.declared.pending.Outstanding.{Outstanding}
-use Rattle.depot.specs.Store.{Store, queue_of, queue_at, with_requeued, IsWhole}
-use Rattle.links.specs.Links.{Linked, channel_at, channel_of, link_in, outstanding_on}
-use Rattle.links.specs.Placed.{AreWithin, IsPlaced}
+use Rattle.depot.specs.Store.{Store, entries_named, queue_at, with_requeued, IsStoreWhole}
+use Rattle.links.specs.Links.{Linked, channel_at, channel_of, linked_in, outstanding_on}
+use Rattle.links.specs.Placed.{OutstandingAreWithin, IsPlaced}
 use Rattle.settling.specs.Settled as settled
 use Rattle.settling.specs.Settled.{returned_one, returned_all}
 use Rattle.settling.proofs.Settlements.{AreNamed, returned_by_names}
 use Rattle.broker_core.specs.Freed.{returned_from, returned_at}
-use Rattle.broker_core.specs.State.{Kept, ArePlaced, broker_of, topology_of, names_of}
+use Rattle.broker_core.specs.State.{Kept, ArePlaced, broker_of, topology_kept, names_of}
 use Rattle.broker_core.proofs.Placing.{none_within}
 use Rattle.broker_core.proofs.Settling.{returned_topology, returned_published}
 use Rattle.broker_core.proofs.Stepping.{IsFreed, listed_requeued, some_same}
@@ -119,7 +119,7 @@ pub record IsOnChannel (n : ℕ) (names : List Text) (slots : List (Option Open)
 abbrev pub AreOnChannels : ℕ → ℕ → List Text → List (Option Open) → (Text → List Entry) → Type 0
 AreOnChannels c n names slots queues = (q : Text) (e : Entry) (holder : Holder) → IsIn e (queues q) → e.mark ≡ Held holder → by_connection c holder ≡ true → IsOnChannel n names slots q holder
 
-returned_whole : (c h : ℕ) (os : List Outstanding) (s : Store) → IsWhole s → IsWhole (returned_all c h s os)
+returned_whole : (c h : ℕ) (os : List Outstanding) (s : Store) → IsStoreWhole s → IsStoreWhole (returned_all c h s os)
 returned_whole c h [] s whole = whole
 returned_whole c h (o ∷ os) s whole =
     returned_whole c h os (returned_one c h s o) (record { formed = whole.formed; len = length-set s.queues o.queue (map (freed (is_under (settled.holder_of_outstanding c h o))) (queue_at s o.queue)) ∙ whole.len })
@@ -149,14 +149,14 @@ rest_found c n names slot slots queues mid found here q e holder i is own =
         absurd (false≢true (sym other ∙ and_from (holder.connection == c) (holder.channel == n) own (eq-eqb holder.channel n same)))
     later (suc k) number among other = record { place = k; number = omega (arith, number); among = among }
 
-pub connection_freed : AreNamed → (c n : ℕ) (names : List Text) (slots : List (Option Open)) (s : Store) → queue_names s.topology.queues ≡ names → IsWhole s → ((k : ℕ) → AreWithin s.topology (outstanding_on (get_or slots k None)))
-    → AreOnChannels c n names slots (queue_of s) → (q : Text) → queue_of (returned_from c n s slots) q ≡ map (freed (by_connection c)) (queue_of s q)
-connection_freed are c n names [] s same whole within found q = sym (all_stay (by_connection c) (queue_of s q) (λ e holder i is. not_true (by_connection c holder) (λ own. (found q e holder i is own).among.there)))
+pub connection_freed : AreNamed → (c n : ℕ) (names : List Text) (slots : List (Option Open)) (s : Store) → queue_names s.topology.queues ≡ names → IsStoreWhole s → ((k : ℕ) → OutstandingAreWithin s.topology (outstanding_on (get_or slots k None)))
+    → AreOnChannels c n names slots (entries_named s) → (q : Text) → entries_named (returned_from c n s slots) q ≡ map (freed (by_connection c)) (entries_named s q)
+connection_freed are c n names [] s same whole within found q = sym (all_stay (by_connection c) (entries_named s q) (λ e holder i is. not_true (by_connection c holder) (λ own. (found q e holder i is own).among.there)))
 connection_freed are c n names (slot ∷ slots) s same whole within found q =
     connection_freed are c (n + 1) names slots mid (ap (λ (t : Topology). queue_names t.queues) stays ∙ same) (returned_whole c n (outstanding_on slot) s whole)
-    (λ k. subst (λ (t : Topology). AreWithin t (outstanding_on (get_or slots k None))) (sym stays) (within (suc k))) (rest_found c n names slot slots (queue_of s) (queue_of mid) found here) q
+    (λ k. subst (λ (t : Topology). OutstandingAreWithin t (outstanding_on (get_or slots k None))) (sym stays) (within (suc k))) (rest_found c n names slot slots (entries_named s) (entries_named mid) found here) q
     ∙ ap (map (freed (by_connection c))) (here q)
-    ∙ all_through (by_channel c n) (by_connection c) (λ g own. (and_parts (g.connection == c) (g.channel == n) own).0) (queue_of s q)
+    ∙ all_through (by_channel c n) (by_connection c) (λ g own. (and_parts (g.connection == c) (g.channel == n) own).0) (entries_named s q)
   where
     mid : Store
     mid = returned_all c n s (outstanding_on slot)
@@ -164,9 +164,9 @@ connection_freed are c n names (slot ∷ slots) s same whole within found q =
     stays : mid.topology ≡ s.topology
     stays = returned_topology c n (outstanding_on slot) s
 
-    here : (q : Text) → queue_of mid q ≡ map (freed (by_channel c n)) (queue_of s q)
-    here = channel_freed c n (map (outstanding_in names) (outstanding_on slot)) (queue_of s) (queue_of mid) (first_found c n names slot slots (queue_of s) found)
-        (subst (λ (ns : List Text). AreReturned c n (map (outstanding_in ns) (outstanding_on slot)) (queue_of s) (queue_of mid)) same (returned_by_names are c n (outstanding_on slot) s whole (within zero)))
+    here : (q : Text) → entries_named mid q ≡ map (freed (by_channel c n)) (entries_named s q)
+    here = channel_freed c n (map (outstanding_in names) (outstanding_on slot)) (entries_named s) (entries_named mid) (first_found c n names slot slots (entries_named s) found)
+        (subst (λ (ns : List Text). AreReturned c n (map (outstanding_in ns) (outstanding_on slot)) (entries_named s) (entries_named mid)) same (returned_by_names are c n (outstanding_on slot) s whole (within zero)))
 
 -- ---- a broker that agrees with itself
 
@@ -175,7 +175,7 @@ seen_outstanding names None ch e = absurd (false≢true (ap is_some e))
 seen_outstanding names (Some k) ch e = sym (ap (λ (x : seen.Channel). x.outstanding) (some_same (open_in names k) ch e))
 
 -- what is held is outstanding on the channel that holds it, as it is kept
-found_at : (kept : Kept) → IsAgreed (broker_of kept) → (q : Text) (e : Entry) (holder : Holder) → IsIn e (queue_of kept.store q) → e.mark ≡ Held holder
+found_at : (kept : Kept) → IsAgreed (broker_of kept) → (q : Text) (e : Entry) (holder : Holder) → IsIn e (entries_named kept.store q) → e.mark ≡ Held holder
     → IsAmong holder.tag q (map (outstanding_in (names_of kept)) (outstanding_on (channel_of kept.links holder.connection holder.channel)))
 found_at kept agreed q e holder i is =
     let on = agreed.held q e holder i is in
@@ -186,27 +186,27 @@ found_at kept agreed q e holder i is =
       queue_is = on.queue;
     }
 
-found_on_channel : (kept : Kept) (c h : ℕ) → IsAgreed (broker_of kept) → AreFound c h (map (outstanding_in (names_of kept)) (outstanding_on (channel_of kept.links c h))) (queue_of kept.store)
+found_on_channel : (kept : Kept) (c h : ℕ) → IsAgreed (broker_of kept) → AreFound c h (map (outstanding_in (names_of kept)) (outstanding_on (channel_of kept.links c h))) (entries_named kept.store)
 found_on_channel kept c h agreed q e holder i is own =
     let parts = and_parts (holder.connection == c) (holder.channel == h) own in
     subst (λ (k : ℕ). IsAmong holder.tag q (map (outstanding_in (names_of kept)) (outstanding_on (channel_of kept.links c k)))) (eqb-true holder.channel h parts.1)
     (subst (λ (d : ℕ). IsAmong holder.tag q (map (outstanding_in (names_of kept)) (outstanding_on (channel_of kept.links d holder.channel)))) (eqb-true holder.connection c parts.0) (found_at kept agreed q e holder i is))
 
-found_on_link : (kept : Kept) (c : ℕ) (l : Option Linked) → link_in kept.links c ≡ l → IsAgreed (broker_of kept) → (q : Text) (e : Entry) (holder : Holder) → IsIn e (queue_of kept.store q) → e.mark ≡ Held holder → by_connection c holder ≡ true
+found_on_link : (kept : Kept) (c : ℕ) (l : Option Linked) → linked_in kept.links c ≡ l → IsAgreed (broker_of kept) → (q : Text) (e : Entry) (holder : Holder) → IsIn e (entries_named kept.store q) → e.mark ≡ Held holder → by_connection c holder ≡ true
     → IsAmong holder.tag q (map (outstanding_in (names_of kept)) (outstanding_on (channel_at l holder.channel)))
 found_on_link kept c l at agreed q e holder i is own =
     subst (λ (x : Option Linked). IsAmong holder.tag q (map (outstanding_in (names_of kept)) (outstanding_on (channel_at x holder.channel)))) at
     (subst (λ (d : ℕ). IsAmong holder.tag q (map (outstanding_in (names_of kept)) (outstanding_on (channel_of kept.links d holder.channel)))) (eqb-true holder.connection c own) (found_at kept agreed q e holder i is))
 
-within_on : (t : Topology) (o : Option Open) → ((ch : Open) → o ≡ Some ch → IsPlaced t ch) → AreWithin t (outstanding_on o)
+within_on : (t : Topology) (o : Option Open) → ((ch : Open) → o ≡ Some ch → IsPlaced t ch) → OutstandingAreWithin t (outstanding_on o)
 within_on t None placed = none_within t [] refl
 within_on t (Some ch) placed = (placed ch refl).outstanding
 
-pub within_at : (kept : Kept) (c : ℕ) (l : Option Linked) → l ≡ link_in kept.links c → ArePlaced kept → (h : ℕ) → AreWithin (topology_of kept) (outstanding_on (channel_at l h))
-within_at kept c l at placed h = subst (λ (x : Option Linked). AreWithin (topology_of kept) (outstanding_on (channel_at x h))) (sym at) (within_on (topology_of kept) (channel_of kept.links c h) (placed c h))
+pub within_at : (kept : Kept) (c : ℕ) (l : Option Linked) → l ≡ linked_in kept.links c → ArePlaced kept → (h : ℕ) → OutstandingAreWithin (topology_kept kept) (outstanding_on (channel_at l h))
+within_at kept c l at placed h = subst (λ (x : Option Linked). OutstandingAreWithin (topology_kept kept) (outstanding_on (channel_at x h))) (sym at) (within_on (topology_kept kept) (channel_of kept.links c h) (placed c h))
 
-pub held_within : (kept : Kept) (c h : ℕ) (os : List Outstanding) → ArePlaced kept → os ≡ outstanding_on (channel_of kept.links c h) → AreWithin (topology_of kept) os
-held_within kept c h os placed held = subst (AreWithin (topology_of kept)) (sym held) (within_on (topology_of kept) (channel_of kept.links c h) (placed c h))
+pub held_within : (kept : Kept) (c h : ℕ) (os : List Outstanding) → ArePlaced kept → os ≡ outstanding_on (channel_of kept.links c h) → OutstandingAreWithin (topology_kept kept) os
+held_within kept c h os placed held = subst (OutstandingAreWithin (topology_kept kept)) (sym held) (within_on (topology_kept kept) (channel_of kept.links c h) (placed c h))
 
 from_topology : (c h : ℕ) (slots : List (Option Open)) (s : Store) → (returned_from c h s slots).topology ≡ s.topology
 from_topology c h [] s = refl
@@ -217,40 +217,40 @@ from_published c h [] s = refl
 from_published c h (o ∷ os) s = from_published c (h + 1) os (returned_all c h s (outstanding_on o)) ∙ returned_published c h (outstanding_on o) s
 
 -- what is outstanding on a channel is put back
-pub channel_is_freed : AreNamed → (old kept : Kept) (c h : ℕ) (os : List Outstanding) (new : Store) → old ≡ kept → IsWhole old.store → ArePlaced old → IsAgreed (broker_of kept) → os ≡ outstanding_on (channel_of old.links c h)
+pub channel_is_freed : AreNamed → (old kept : Kept) (c h : ℕ) (os : List Outstanding) (new : Store) → old ≡ kept → IsStoreWhole old.store → ArePlaced old → IsAgreed (broker_of kept) → os ≡ outstanding_on (channel_of old.links c h)
     → new ≡ returned_all c h old.store os → IsFreed (by_channel c h) old.store new
 channel_is_freed are old kept c h os new e whole placed agreed held made =
     let agrees : IsAgreed (broker_of old) = subst (λ (k : Kept). IsAgreed (broker_of k)) (sym e) agreed in
-    let found : AreFound c h (map (outstanding_in (names_of old)) os) (queue_of old.store) = subst (λ (ds : List Outstanding). AreFound c h (map (outstanding_in (names_of old)) ds) (queue_of old.store)) (sym held) (found_on_channel old c h agrees) in
+    let found : AreFound c h (map (outstanding_in (names_of old)) os) (entries_named old.store) = subst (λ (ds : List Outstanding). AreFound c h (map (outstanding_in (names_of old)) ds) (entries_named old.store)) (sym held) (found_on_channel old c h agrees) in
     let within = held_within old c h os placed held in
     record {
       topology = ap (λ (s : Store). s.topology) made ∙ returned_topology c h os old.store;
       published = ap (λ (s : Store). s.published) made ∙ returned_published c h os old.store;
-      queues = λ q. ap (λ (s : Store). queue_of s q) made
-          ∙ channel_freed c h (map (outstanding_in (names_of old)) os) (queue_of old.store) (queue_of (returned_all c h old.store os)) found (returned_by_names are c h os old.store whole within) q;
+      queues = λ q. ap (λ (s : Store). entries_named s q) made
+          ∙ channel_freed c h (map (outstanding_in (names_of old)) os) (entries_named old.store) (entries_named (returned_all c h old.store os)) found (returned_by_names are c h os old.store whole within) q;
     }
 
 -- where no connection of a number is there, nothing is held by it
-pub none_held : (kept : Kept) (c : ℕ) → link_in kept.links c ≡ None → IsAgreed (broker_of kept) → IsFreed (by_connection c) kept.store kept.store
+pub none_held : (kept : Kept) (c : ℕ) → linked_in kept.links c ≡ None → IsAgreed (broker_of kept) → IsFreed (by_connection c) kept.store kept.store
 none_held kept c none agreed = record {
   topology = refl;
   published = refl;
-  queues = λ q. sym (all_stay (by_connection c) (queue_of kept.store q) (λ e holder i is. not_true (by_connection c holder) (λ own. (found_on_link kept c None none agreed q e holder i is own).there)));
+  queues = λ q. sym (all_stay (by_connection c) (entries_named kept.store q) (λ e holder i is. not_true (by_connection c holder) (λ own. (found_on_link kept c None none agreed q e holder i is own).there)));
 }
 
 -- what is outstanding on the channels of a connection is put back
-link_is_freed : AreNamed → (kept : Kept) (c : ℕ) (l : Option Linked) (new : Store) → IsWhole kept.store → ArePlaced kept → IsAgreed (broker_of kept) → l ≡ link_in kept.links c → new ≡ returned_at c kept.store l
+link_is_freed : AreNamed → (kept : Kept) (c : ℕ) (l : Option Linked) (new : Store) → IsStoreWhole kept.store → ArePlaced kept → IsAgreed (broker_of kept) → l ≡ linked_in kept.links c → new ≡ returned_at c kept.store l
     → IsFreed (by_connection c) kept.store new
 link_is_freed are kept c None new whole placed agreed at made = subst (IsFreed (by_connection c) kept.store) (sym made) (none_held kept c (sym at) agreed)
 link_is_freed are kept c (Some l) new whole placed agreed at made = record {
   topology = ap (λ (s : Store). s.topology) made ∙ from_topology c 0 l.channels kept.store;
   published = ap (λ (s : Store). s.published) made ∙ from_published c 0 l.channels kept.store;
-  queues = λ q. ap (λ (s : Store). queue_of s q) made
+  queues = λ q. ap (λ (s : Store). entries_named s q) made
       ∙ connection_freed are c 0 (names_of kept) l.channels kept.store refl whole (within_at kept c (Some l) at placed)
       (λ r e holder i is own. record { place = holder.channel; number = omega arith; among = found_on_link kept c (Some l) (sym at) agreed r e holder i is own }) q;
 }
 
-pub connection_is_freed : AreNamed → (old kept : Kept) (c : ℕ) (l : Option Linked) (new : Store) → old ≡ kept → IsWhole old.store → ArePlaced old → IsAgreed (broker_of kept) → l ≡ link_in old.links c → new ≡ returned_at c old.store l
+pub connection_is_freed : AreNamed → (old kept : Kept) (c : ℕ) (l : Option Linked) (new : Store) → old ≡ kept → IsStoreWhole old.store → ArePlaced old → IsAgreed (broker_of kept) → l ≡ linked_in old.links c → new ≡ returned_at c old.store l
     → IsFreed (by_connection c) old.store new
 connection_is_freed are old kept c l new e whole placed agreed = link_is_freed are old c l new whole placed (subst (λ (k : Kept). IsAgreed (broker_of k)) (sym e) agreed)
 
@@ -259,7 +259,7 @@ pub requeued_is : (mine : Holder → Bool) (old new : Store) → new ≡ with_re
 requeued_is mine old new made = record {
   topology = ap (λ (s : Store). s.topology) made;
   published = ap (λ (s : Store). s.published) made;
-  queues = λ q. ap (λ (s : Store). queue_of s q) made ∙ listed_requeued mine (queue_names old.topology.queues) old.queues q;
+  queues = λ q. ap (λ (s : Store). entries_named s q) made ∙ listed_requeued mine (queue_names old.topology.queues) old.queues q;
 }
 
 pub absent : (o : Option Linked) → is_some o ≡ false → o ≡ None

@@ -6,7 +6,7 @@ use Rattle.std.proofs.lemmas.Slice.Eq.{bytes_eq-Decides}
 use Rattle.model.specs.Words.{Text}
 use Rattle.model.specs.Topology.{Topology}
 use Rattle.model.specs.Broker as model
-use Rattle.model.specs.Broker.{Broker, is_ready, with_pair}
+use Rattle.model.specs.Broker.{Broker, is_ready}
 use Rattle.model.specs.Entries.{held_as, change_first, without_first}
 use Rattle.model.specs.Prefetch.{has_tag_left}
 use Rattle.model.specs.Deliveries.{first_ready, ready_in, after_giving, after_delivery, delivery_notes}

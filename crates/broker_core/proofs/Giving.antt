@@ -13,7 +13,7 @@ use Rattle.model.specs.Broker.{Broker, is_ready, with_pair}
 use Rattle.model.specs.Entries.{is_held_as, held_as, change_first, without_first}
 use Rattle.model.specs.Prefetch.{has_tag_left}
 use Rattle.model.specs.Deliveries as seen
-use Rattle.model.specs.Deliveries.{first_ready, ready_in, after_giving, after_delivery, channel_after, delivery_notes}
+use Rattle.model.specs.Deliveries.{after_delivery, channel_after}
 use Rattle.model.specs.Step.{Is, channel_or_new}
 use Rattle.model.specs.declared.messages.Entry.{Entry}
 use Rattle.model.specs.declared.messages.Holder.{Holder}
@@ -21,10 +21,10 @@ use Rattle.model.specs.declared.messages.Mark.{Mark}
 use Rattle.model.specs.declared.messages.Mark.TheVariants.{Ready, Held}
 use Rattle.model.specs.declared.messages.Taker.{Taker}
 use Rattle.exchange_graph.specs.Marks.{queue_name}
-use Rattle.depot.specs.Store.{Store, IsNamed, queue_of, queue_at, with_entries_at}
+use Rattle.depot.specs.Store.{Store, IsQueueNamed, entries_named, queue_at, with_entries_at}
 use Rattle.channel.specs.Open.{Open, open_in, outstanding_in, given_on, settled_on}
 use Rattle.links.specs.Links.{Linked, CanGive, SetsRoom, PutsChannel, channel_of}
-use Rattle.broker_core.specs.State.{Kept, broker_of, topology_of, names_of}
+use Rattle.broker_core.specs.State.{Kept, broker_of, topology_kept, names_of}
 use Rattle.broker_core.proofs.Stepping.{seen_put}
 
 -- a tag that is seen to be left is left
@@ -32,14 +32,14 @@ pub can_give : (names : List Text) (o : Option Open) → has_tag_left (channel_o
 can_give names o h k e = subst (λ (x : Option Open). has_tag_left (channel_or_new (option_map (open_in names) x)).next_tag ≡ true) e h
 
 -- the first ready message of a queue left it, and needs no acknowledgement
-pub taken_is : (old new : Kept) (c h place : ℕ) (by : Taker) (ch : Open) → IsNamed old.store place
+pub taken_is : (old new : Kept) (c h place : ℕ) (by : Taker) (ch : Open) → IsQueueNamed old.store place
     → new.store ≡ with_entries_at old.store place (without_first is_ready (queue_at old.store place))
     → PutsChannel old.links c h (Some (settled_on ch)) new.links
-    → Is (after_delivery (broker_of old) c h (open_in (names_of old) ch) true (queue_name (topology_of old) place) by) (broker_of new)
+    → Is (after_delivery (broker_of old) c h (open_in (names_of old) ch) true (queue_name (topology_kept old) place) by) (broker_of new)
 taken_is old new c h place by ch named e put = record {
   counted = ap (λ (s : Store). s.published) e;
-  queues = λ q. ap (λ (s : Store). queue_of s q) e ∙ named.changed (without_first is_ready (queue_at old.store place)) q
-      ∙ ap (λ (es : List Entry). seen.with_queue (queue_of old.store) (queue_name old.store.topology place) (without_first is_ready es) q) (sym named.entries_are);
+  queues = λ q. ap (λ (s : Store). entries_named s q) e ∙ named.changed (without_first is_ready (queue_at old.store place)) q
+      ∙ ap (λ (es : List Entry). seen.with_queue (entries_named old.store) (queue_name old.store.topology place) (without_first is_ready es) q) (sym named.entries_are);
   connections = put.connections;
   channels = seen_put (names_of old) (names_of new) old.links new.links c h (Some (settled_on ch)) (ap (λ (s : Store). queue_names s.topology.queues) e) put;
 }
@@ -51,16 +51,16 @@ seen_given names ch place arrival by =
     (map-append (outstanding_in names) ch.given.outstanding (record { tag = ch.given.next_tag; queue = place; arrival = arrival; by = by } ∷ []))
 
 -- the first ready message of a queue is held under the channel's next tag
-pub held_is : (old new : Kept) (c h place arrival : ℕ) (by : Taker) (ch : Open) → IsNamed old.store place
+pub held_is : (old new : Kept) (c h place arrival : ℕ) (by : Taker) (ch : Open) → IsQueueNamed old.store place
     → new.store ≡ with_entries_at old.store place (change_first is_ready (held_as (record { connection = c; channel = h; tag = ch.given.next_tag; by = by })) (queue_at old.store place))
     → PutsChannel old.links c h (Some (given_on ch place arrival by)) new.links
-    → Is (after_delivery (broker_of old) c h (open_in (names_of old) ch) false (queue_name (topology_of old) place) by) (broker_of new)
+    → Is (after_delivery (broker_of old) c h (open_in (names_of old) ch) false (queue_name (topology_kept old) place) by) (broker_of new)
 held_is old new c h place arrival by ch named e put =
     let holder : Holder = record { connection = c; channel = h; tag = ch.given.next_tag; by = by } in
     record {
       counted = ap (λ (s : Store). s.published) e;
-      queues = λ q. ap (λ (s : Store). queue_of s q) e ∙ named.changed (change_first is_ready (held_as holder) (queue_at old.store place)) q
-          ∙ ap (λ (es : List Entry). seen.with_queue (queue_of old.store) (queue_name old.store.topology place) (change_first is_ready (held_as holder) es) q) (sym named.entries_are);
+      queues = λ q. ap (λ (s : Store). entries_named s q) e ∙ named.changed (change_first is_ready (held_as holder) (queue_at old.store place)) q
+          ∙ ap (λ (es : List Entry). seen.with_queue (entries_named old.store) (queue_name old.store.topology place) (change_first is_ready (held_as holder) es) q) (sym named.entries_are);
       connections = put.connections;
       channels = λ d k. seen_put (names_of old) (names_of new) old.links new.links c h (Some (given_on ch place arrival by)) (ap (λ (s : Store). queue_names s.topology.queues) e) put d k
           ∙ ap (λ (x : model.Channel). with_pair (broker_of old).channel c h (Some x) d k) (seen_given (names_of old) ch place arrival by);

@@ -12,9 +12,9 @@ use Rattle.model.specs.Deliveries.{first_ready}
 use Rattle.model.specs.declared.messages.Entry.{Entry}
 use Rattle.model.specs.declared.topologies.DeclaredQueue.{DeclaredQueue}
 use Rattle.exchange_graph.specs.Marks.{queue_name}
-use Rattle.depot.specs.Store.{queue_at, HasReady, IsNamed, IsNextReady}
-use Rattle.broker_core.specs.Picked.{IsPickFrom, IsNext}
-use Rattle.broker_core.specs.State.{Kept, broker_of, topology_of, names_of}
+use Rattle.depot.specs.Store.{queue_at, HasReady, IsQueueNamed, IsNextReady}
+use Rattle.broker_core.specs.Picked.{IsPickFrom, IsNextPicked}
+use Rattle.broker_core.specs.State.{Kept, broker_of, topology_kept, names_of}
 use Rattle.broker_core.specs.declared.picks.Pick.{Pick}
 
 -- ---- names apart
@@ -67,8 +67,8 @@ stands (n ∷ ns) (es ∷ ess) q e f = go (bytes_eq n q) refl f (stands ns ess q
 -- The place of the queue from which a delivery is made.
 pub record From (kept : Kept) (c : ℕ) (made : CanDeliver (broker_of kept) c) : Type 0 where
   pub place : ℕ
-  pub within : place < length (topology_of kept).queues
-  pub named : queue_name (topology_of kept) place ≡ made.consumer.queue
+  pub within : place < length (topology_kept kept).queues
+  pub named : queue_name (topology_kept kept) place ≡ made.consumer.queue
 
 pub pick_from : (kept : Kept) (c : ℕ) (made : CanDeliver (broker_of kept) c) → From kept c made
 pick_from kept c made =
@@ -87,14 +87,14 @@ found_counted {X} p (y ∷ ys) x e = go (p y) e (found_counted p ys x)
     go true f more = omega arith
     go false f more = more f
 
-ready_from : (kept : Kept) (place : ℕ) (p : Pick) → IsNamed kept.store place → IsPickFrom kept place p → HasReady kept.store place
+ready_from : (kept : Kept) (place : ℕ) (p : Pick) → IsQueueNamed kept.store place → IsPickFrom kept place p → HasReady kept.store place
 ready_from kept place p named from =
     found_counted is_ready (queue_at kept.store place) from.pick.0.entry
     (subst (λ (es : List Entry). find is_ready es ≡ Some from.pick.0.entry) named.entries_are
     (subst (λ (q : Text). find is_ready ((broker_of kept).queue q) ≡ Some from.pick.0.entry) (sym from.named) from.pick.0.first))
 
 -- the next queue that has something ready is the next from which a delivery may be made
-pub next_is : (kept : Kept) (from : ℕ) (o : Option ℕ) → ((place : ℕ) → place < length (topology_of kept).queues → IsNamed kept.store place) → IsNextReady kept.store from o → IsNext kept from o
+pub next_is : (kept : Kept) (from : ℕ) (o : Option ℕ) → ((place : ℕ) → place < length (topology_kept kept).queues → IsQueueNamed kept.store place) → IsNextReady kept.store from o → IsNextPicked kept from o
 next_is kept from (Some place) named is = record {
   least = is.behind;
   within = is.within;

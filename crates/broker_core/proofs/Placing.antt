@@ -8,38 +8,38 @@ use Rattle.std.specs.List.{All}
 use Rattle.model.specs.Words.{Text}
 use Rattle.model.specs.Topology.{Topology, IsIn}
 use Rattle.model.specs.Broker as seen
-use Rattle.model.specs.Broker.{new_channel, with_one, with_row}
+use Rattle.model.specs.Broker.{new_channel, with_row}
 use Rattle.model.specs.Step.{channels_up_to}
 use Rattle.model.specs.declared.messages.Taker.{Taker}
 use Rattle.model.specs.declared.methods.Qos.{Qos}
 use Rattle.model.specs.declared.methods.Consume.{Consume}
 use Rattle.channel.specs.Seats.{is_named}
-use Rattle.channel.specs.Open.{Open, open_in, outstanding_in, consumer_in, with_qos, given_on, without_named, places_of, IsSeated, Seats}
+use Rattle.channel.specs.Open.{Open, open_in, outstanding_in, consumer_in, with_qos, given_on, without_named, places_of, IsConsumerSeated, SeatsConsumer}
 use Rattle.channel.specs.Deliveries.{with_limit}
 use Rattle.channel.specs.declared.pending.Outstanding.{Outstanding}
 use Rattle.channel.specs.declared.consumers.Consumer.{Consumer}
-use Rattle.channel.specs.declared.consumers.Refusal.{Refusal}
+use Rattle.channel.specs.declared.consumers.SeatRefusal.{SeatRefusal}
 use Rattle.links.specs.Links.{channel_of, seen_in, PutsChannel, OpensLink}
-use Rattle.links.specs.Placed.{AreWithin, TakeWithin, IsPlaced}
+use Rattle.links.specs.Placed.{OutstandingAreWithin, TakeWithin, IsPlaced}
 use Rattle.broker_core.specs.State.{ArePlaced}
-use Rattle.broker_core.specs.State.{Kept, topology_of}
+use Rattle.broker_core.specs.State.{Kept, topology_kept}
 
 -- the channels are as they were
-pub placed_same : (old new : Kept) → topology_of new ≡ topology_of old → ((c h : ℕ) → channel_of new.links c h ≡ channel_of old.links c h) → ArePlaced old → ArePlaced new
+pub placed_same : (old new : Kept) → topology_kept new ≡ topology_kept old → ((c h : ℕ) → channel_of new.links c h ≡ channel_of old.links c h) → ArePlaced old → ArePlaced new
 placed_same old new e same placed c h ch is = subst (λ (t : Topology). IsPlaced t ch) (sym e) (placed c h ch (sym (same c h) ∙ is))
 
 -- one channel is another
-pub placed_put : (old new : Kept) (c h : ℕ) (ch : Option Open) → topology_of new ≡ topology_of old → PutsChannel old.links c h ch new.links
-    → ((k : Open) → ch ≡ Some k → IsPlaced (topology_of old) k) → ArePlaced old → ArePlaced new
+pub placed_put : (old new : Kept) (c h : ℕ) (ch : Option Open) → topology_kept new ≡ topology_kept old → PutsChannel old.links c h ch new.links
+    → ((k : Open) → ch ≡ Some k → IsPlaced (topology_kept old) k) → ArePlaced old → ArePlaced new
 placed_put old new c h ch e put own placed d k x is = subst (λ (t : Topology). IsPlaced t x) (sym e) (go (d == c && k == h) (sym (put.channels d k) ∙ is))
   where
-    go : (b : Bool) → (if b then ch else channel_of old.links d k) ≡ Some x → IsPlaced (topology_of old) x
+    go : (b : Bool) → (if b then ch else channel_of old.links d k) ≡ Some x → IsPlaced (topology_kept old) x
     go true f = own x f
     go false f = placed d k x f
 
 -- a channel on which nothing is outstanding
-pub none_within : (t : Topology) (given : List Outstanding) → given ≡ [] → AreWithin t given
-none_within t given e = subst (AreWithin t) (sym e) (λ i o lt. absurd (omega (arith, lt)))
+pub none_within : (t : Topology) (given : List Outstanding) → given ≡ [] → OutstandingAreWithin t given
+none_within t given e = subst (OutstandingAreWithin t) (sym e) (λ i o lt. absurd (omega (arith, lt)))
 
 -- nor is there a consumer that takes from elsewhere where there is none
 none_take : (t : Topology) (consumers : List Consumer) → consumers ≡ [] → TakeWithin t consumers
@@ -51,21 +51,21 @@ placed_new t ch e f = record { outstanding = none_within t ch.given.outstanding 
 
 -- a channel is as it was, for all that is outstanding on it and for all its consumers
 placed_as : (t : Topology) (ch new : Open) → IsPlaced t ch → new.given.outstanding ≡ ch.given.outstanding → new.given.consumers ≡ ch.given.consumers → IsPlaced t new
-placed_as t ch new placed e f = record { outstanding = subst (AreWithin t) (sym e) placed.outstanding; consumers = subst (TakeWithin t) (sym f) placed.consumers }
+placed_as t ch new placed e f = record { outstanding = subst (OutstandingAreWithin t) (sym e) placed.outstanding; consumers = subst (TakeWithin t) (sym f) placed.consumers }
 
 -- this is the channel that is there
 pub placed_some : (t : Topology) (new : Open) → IsPlaced t new → (k : Open) → Some new ≡ Some k → IsPlaced t k
 placed_some t new placed k e = subst (IsPlaced t) (same_Some new k e) placed
 
 pub placed_at : (kept : Kept) (c h : ℕ) (ch : Open) (new : Open) → ArePlaced kept → channel_of kept.links c h ≡ Some ch → new.given.outstanding ≡ ch.given.outstanding → new.given.consumers ≡ ch.given.consumers
-    → (k : Open) → Some new ≡ Some k → IsPlaced (topology_of kept) k
-placed_at kept c h ch new placed is same_given same_consumers = placed_some (topology_of kept) new (placed_as (topology_of kept) ch new (placed c h ch is) same_given same_consumers)
+    → (k : Open) → Some new ≡ Some k → IsPlaced (topology_kept kept) k
+placed_at kept c h ch new placed is same_given same_consumers = placed_some (topology_kept kept) new (placed_as (topology_kept kept) ch new (placed c h ch is) same_given same_consumers)
 
 -- the channels of one connection are gone
-pub placed_gone : (old new : Kept) (c : ℕ) → topology_of new ≡ topology_of old → ((d k : ℕ) → channel_of new.links d k ≡ with_row (channel_of old.links) c (λ h. None) d k) → ArePlaced old → ArePlaced new
+pub placed_gone : (old new : Kept) (c : ℕ) → topology_kept new ≡ topology_kept old → ((d k : ℕ) → channel_of new.links d k ≡ with_row (channel_of old.links) c (λ h. None) d k) → ArePlaced old → ArePlaced new
 placed_gone old new c e gone placed d k x is = subst (λ (t : Topology). IsPlaced t x) (sym e) (go (d == c) (sym (gone d k) ∙ is))
   where
-    go : (b : Bool) → (if b then None else channel_of old.links d k) ≡ Some x → IsPlaced (topology_of old) x
+    go : (b : Bool) → (if b then None else channel_of old.links d k) ≡ Some x → IsPlaced (topology_kept old) x
     go true f = absurd (false≢true (ap is_some f))
     go false f = placed d k x f
 
@@ -82,15 +82,15 @@ new_placed t ch true e =
 new_placed t ch false e = absurd (false≢true (sym (ap is_some e)))
 
 -- a connection runs, with new channels
-pub placed_opened : (old new : Kept) (c max k : ℕ) → topology_of new ≡ topology_of old → OpensLink old.links c max k new.links → ArePlaced old → ArePlaced new
+pub placed_opened : (old new : Kept) (c max k : ℕ) → topology_kept new ≡ topology_kept old → OpensLink old.links c max k new.links → ArePlaced old → ArePlaced new
 placed_opened old new c max k e l placed d h x is = go (d == c) refl
   where
-    go : (b : Bool) → (d == c) ≡ b → IsPlaced (topology_of new) x
-    go true f = new_placed (topology_of new) x _ (ap (option_map (open_in [])) (sym is) ∙ l.channels_are [] d h ∙ ap (λ (b : Bool). if b then channels_up_to k h else seen_in [] old.links d h) f)
+    go : (b : Bool) → (d == c) ≡ b → IsPlaced (topology_kept new) x
+    go true f = new_placed (topology_kept new) x _ (ap (option_map (open_in [])) (sym is) ∙ l.channels_are [] d h ∙ ap (λ (b : Bool). if b then channels_up_to k h else seen_in [] old.links d h) f)
     go false f = subst (λ (t : Topology). IsPlaced t x) (sym e) (placed d h x (sym (l.others_stay d h f) ∙ is))
 
 -- one delivery more, from a queue that is there
-pub within_more : (t : Topology) (given : List Outstanding) (o : Outstanding) → o.queue < length t.queues → AreWithin t given → AreWithin t (given ++ o ∷ [])
+pub within_more : (t : Topology) (given : List Outstanding) (o : Outstanding) → o.queue < length t.queues → OutstandingAreWithin t given → OutstandingAreWithin t (given ++ o ∷ [])
 within_more t [] o lt within zero d l = lt
 within_more t [] o lt within (suc k) d l = absurd (omega (arith, l))
 within_more t (x ∷ xs) o lt within zero d l = within zero d (omega arith)
@@ -100,7 +100,7 @@ within_more t (x ∷ xs) o lt within (suc k) d l = within_more t xs o lt (λ i e
 pub placed_given : (t : Topology) (ch mid : Open) (place arrival : ℕ) (by : Taker) → place < length t.queues → mid.given.outstanding ≡ ch.given.outstanding → mid.given.consumers ≡ ch.given.consumers → IsPlaced t ch
     → IsPlaced t (given_on mid place arrival by)
 placed_given t ch mid place arrival by lt same_given same_consumers placed = record {
-  outstanding = within_more t mid.given.outstanding _ lt (subst (AreWithin t) (sym same_given) placed.outstanding);
+  outstanding = within_more t mid.given.outstanding _ lt (subst (OutstandingAreWithin t) (sym same_given) placed.outstanding);
   consumers = subst (TakeWithin t) (sym same_consumers) placed.consumers;
 }
 
@@ -139,15 +139,15 @@ place_more n (x ∷ xs) p lt all zero d l = all zero d (omega arith)
 place_more n (x ∷ xs) p lt all (suc k) d l = place_more n xs p lt (λ i e m. all (suc i) e (omega (arith, m))) k d (omega (arith, l))
 
 -- one consumer more, of a queue that is there
-placed_seated : (t : Topology) (old new : Open) (place : ℕ) (m : Consume) (tag : Text) → place < length t.queues → IsSeated old place m tag new → IsPlaced t old → IsPlaced t new
+placed_seated : (t : Topology) (old new : Open) (place : ℕ) (m : Consume) (tag : Text) → place < length t.queues → IsConsumerSeated old place m tag new → IsPlaced t old → IsPlaced t new
 placed_seated t old new place m tag lt seated placed = record {
-  outstanding = subst (AreWithin t) (sym seated.outstanding) placed.outstanding;
+  outstanding = subst (OutstandingAreWithin t) (sym seated.outstanding) placed.outstanding;
   consumers = take_at (length t.queues) new.given.consumers
       (subst (All (λ (i : ℕ). i < length t.queues)) (sym seated.places) (place_more (length t.queues) (places_of old.given.consumers) place lt (places_at (length t.queues) old.given.consumers placed.consumers)));
 }
 
 -- so it is with one consumer more, or refused
-pub placed_made : (t : Topology) (old new : Open) (place : ℕ) (m : Consume) (r : Result Text Refusal) → place < length t.queues → Seats old place m r new → IsPlaced t old → IsPlaced t new
+pub placed_made : (t : Topology) (old new : Open) (place : ℕ) (m : Consume) (r : Result Text SeatRefusal) → place < length t.queues → SeatsConsumer old place m r new → IsPlaced t old → IsPlaced t new
 placed_made t old new place m (Ok tag) lt seated placed = placed_seated t old new place m tag lt seated placed
 placed_made t old new place m (Err why) lt seated placed = subst (IsPlaced t) (sym seated.1) placed
 

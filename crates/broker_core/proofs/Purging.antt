@@ -1,5 +1,5 @@
 -- What a purge leaves, as the model's state.
-use Rattle.std.proofs.Common.{◌≡◌, ◌<◌, ◌+◌, ℕ, suc, List, [], ◌∷◌, ◌++◌, map, filter, not, length, replicate, refl, sym, ap, ◌∙◌, append_assoc}
+use Rattle.std.proofs.Common.{◌≡◌, ℕ, suc, List, [], ◌∷◌, map, filter, not, length, replicate, refl, sym, ap, ◌∙◌}
 use Rattle.model.specs.Words.{Text}
 use Rattle.model.specs.Topology.{queue_names}
 use Rattle.model.specs.Broker.{is_ready}
@@ -14,7 +14,7 @@ use Rattle.model.specs.declared.notes.Cause.TheVariants.{Purged}
 use Rattle.model.specs.declared.notes.Note.{Note}
 use Rattle.model.specs.declared.notes.Note.TheVariants.{Left}
 use Rattle.exchange_graph.specs.Marks.{queue_name}
-use Rattle.depot.specs.Store.{Store, queue_of, queue_at, with_entries_at, IsNamed}
+use Rattle.depot.specs.Store.{Store, entries_named, queue_at, with_entries_at, IsQueueNamed}
 use Rattle.links.specs.Links.{Linked, connection_of, seen_in}
 use Rattle.broker_core.specs.State.{Kept, broker_of, names_of}
 use Rattle.settling.specs.Purged.{purged}
@@ -43,13 +43,13 @@ noted_purge q gone names numbers e f =
 
 -- a purge by the place of its queue is one by its name
 pub purged_is : (old new : Kept) (c h place : ℕ) (m : Purge) (sends : List Send) (names : List Text) (numbers : List ℕ) (notes : List Note)
-    → IsNamed old.store place → queue_name old.store.topology place ≡ m.queue
+    → IsQueueNamed old.store place → queue_name old.store.topology place ≡ m.queue
     → new.store ≡ with_entries_at old.store place (filter (λ (e : Entry). not (is_ready e)) (queue_at old.store place)) → new.links ≡ old.links
     → sends ≡ purge_sends c h m.no_wait (ready_in (queue_at old.store place))
     → names ≡ replicate (ready_in (queue_at old.store place)) m.queue → numbers ≡ map number_of (filter is_ready (queue_at old.store place)) → notes ≡ purged names numbers
     → Purges (broker_of old) c h m sends notes (broker_of new)
 purged_is old new c h place m sends names numbers notes at named store links sent names_are numbers_are noted =
-    let here : queue_at old.store place ≡ queue_of old.store m.queue = sym at.entries_are ∙ ap (queue_of old.store) named in
+    let here : queue_at old.store place ≡ entries_named old.store m.queue = sym at.entries_are ∙ ap (entries_named old.store) named in
     let left : List Entry = filter (λ (e : Entry). not (is_ready e)) (queue_at old.store place) in
     record {
       sent = sent ∙ ap (λ (es : List Entry). purge_sends c h m.no_wait (ready_in es)) here;
@@ -58,10 +58,10 @@ purged_is old new c h place m sends names numbers notes at named store links sen
           ∙ ap (λ (es : List Entry). purge_notes m.queue (filter is_ready es)) here;
       left = record {
         counted = ap (λ (s : Store). s.published) store;
-        queues = λ q. ap (λ (s : Store). queue_of s q) store
+        queues = λ q. ap (λ (s : Store). entries_named s q) store
             ∙ at.changed left q
-            ∙ ap (λ (name : Text). seen.with_queue (queue_of old.store) name left q) named
-            ∙ ap (λ (es : List Entry). seen.with_queue (queue_of old.store) m.queue (filter (λ (e : Entry). not (is_ready e)) es) q) here;
+            ∙ ap (λ (name : Text). seen.with_queue (entries_named old.store) name left q) named
+            ∙ ap (λ (es : List Entry). seen.with_queue (entries_named old.store) m.queue (filter (λ (e : Entry). not (is_ready e)) es) q) here;
         connections = λ d. ap (λ (l : List (ℕ × Linked)). connection_of l d) links;
         channels = λ d k.
             ap (λ (s : Store). seen_in (queue_names s.topology.queues) new.links d k) store

@@ -1,5 +1,5 @@
 -- What the parts of a step leave, as the model's state.
-use Rattle.std.proofs.Common.{◌≡◌, ◌+◌, ◌++◌, ◌∷◌, [], ℕ, zero, suc, List, Bool, true, false, ◌&&◌, ◌||◌, ◌==◌, IsSome, Result, Ok, Err, Option, Some, None, map, length, replicate, refl, sym, ap, subst, ◌∙◌, if◌then◌else◌}
+use Rattle.std.proofs.Common.{◌≡◌, ◌+◌, ◌++◌, ◌∷◌, [], ℕ, zero, suc, List, Bool, true, false, ◌&&◌, ◌==◌, IsSome, Result, Ok, Err, Option, Some, None, map, length, replicate, refl, sym, ap, subst, ◌∙◌, if◌then◌else◌}
 use Rattle.std.specs.Prelude.{option_map, is_some, IfSome}
 use Rattle.std.specs.Str.{bytes_eq}
 use Rattle.model.specs.Words.{Text}
@@ -7,7 +7,7 @@ use Rattle.model.specs.Topology.{Topology, queue_names}
 use Rattle.model.specs.Broker.{Broker, Channel, Connection, listed, with_one, with_row, with_pair}
 use Rattle.model.specs.Sending.{IsAddressed}
 use Rattle.model.specs.Step as step
-use Rattle.model.specs.Step.{Performs, Decides, OnConnection, Refusal, Ignored, Of_connection, Is, channel_or_new, refusal_of_publish, refusal_to, refusal_of_count, or_else, is_spent, greatest, IsPublish, limited, with_gone, with_freed, with_channel, refusal, refusal_of_large, next_of, confirm_sends, confirm_notes, answer_of, return_of, returned_notes, entry_notes, is_none, is_some_full, channels_up_to}
+use Rattle.model.specs.Step.{Decides, OnConnection, Refusal, Ignored, Is, IsPublish, limited, with_gone, with_freed, with_channel, refusal, refusal_of_large, next_of, confirm_sends, confirm_notes, answer_of, return_of, returned_notes, entry_notes, is_none, is_some_full, channels_up_to}
 use Rattle.model.specs.Entries.{freed, by_channel, by_connection}
 use Rattle.model.specs.declared.messages.Entry.{Entry}
 use Rattle.model.specs.declared.messages.Holder.{Holder}
@@ -19,16 +19,16 @@ use Rattle.model.specs.declared.events.Send.{Send}
 use Rattle.model.specs.declared.notes.Note.{Note}
 use Rattle.model.specs.declared.notes.Note.TheVariants.{Published}
 use Rattle.model.specs.declared.notes.Way.TheVariants as way
-use Rattle.depot.specs.Store.{Store, queue_of}
+use Rattle.depot.specs.Store.{Store, entries_named}
 use Rattle.depot.specs.Publishing.{Publishes}
 use Rattle.depot.specs.declared.depots.Routed.{Routed}
 use Rattle.channel.specs.Open as opened
 use Rattle.channel.specs.Open.{Open, open_in}
 use Rattle.channel.specs.Deliveries.{with_limit}
-use Rattle.links.specs.Links.{Linked, link_in, channel_seen, limits_of, connection_at, channel_at, connection_of, channel_of, seen_in, CanCount, AreLinks, PutsChannel, OpensLink}
+use Rattle.links.specs.Links.{Linked, linked_in, channel_seen, limits_of, connection_at, channel_at, connection_of, channel_of, seen_in, HoldsConnections, PutsChannel, OpensLink}
 use Rattle.replies.specs.Sent.{AreAddressed, return_if, sent_back}
-use Rattle.broker_core.specs.State.{Kept, broker_of, topology_of, names_of}
-use Rattle.judging.specs.Judged.{seen, HasChannel, IsIgnored, IsLargeIgnored, IsRequeued, is_requeueing, requeues, Asks, Judges, JudgesOn, JudgesLarge}
+use Rattle.broker_core.specs.State.{Kept, broker_of, topology_kept, names_of}
+use Rattle.judging.specs.Judged.{refusal_seen, HasChannel, IsIgnored, IsRequeued, is_requeueing, requeues, AsksAct, Judges, JudgesOn, JudgesLarge}
 use Rattle.judging.specs.declared.refusals.Refusal as declared
 use Rattle.judging.specs.declared.refusals.Act as wanted
 use Rattle.judging.specs.declared.refusals.Act.TheVariants as act
@@ -79,11 +79,11 @@ seen_gone names others old new c e l d k =
 pub record IsFreed (mine : Holder → Bool) (old new : Store) : Type 0 where
   pub topology : new.topology ≡ old.topology
   pub published : new.published ≡ old.published
-  pub queues : (q : Text) → queue_of new q ≡ map (freed mine) (queue_of old q)
+  pub queues : (q : Text) → entries_named new q ≡ map (freed mine) (entries_named old q)
 
 -- a connection is gone, and what it held is requeued
 pub gone_is : (old new : Kept) (c : ℕ) → IsFreed (by_connection c) old.store new.store
-    → AreLinks new.links (with_one (connection_of old.links) c None) (with_row (channel_of old.links) c (λ h. None))
+    → HoldsConnections new.links (with_one (connection_of old.links) c None) (with_row (channel_of old.links) c (λ h. None))
     → Is (with_gone (broker_of old) c) (broker_of new)
 gone_is old new c f l = record {
   counted = f.published;
@@ -117,29 +117,29 @@ pub put_is : (old new : Kept) (c h : ℕ) (ch : Option Open) → new.store ≡ o
     → Is (with_channel (broker_of old) c h (option_map (open_in (names_of old)) ch)) (broker_of new)
 put_is old new c h ch e l = record {
   counted = ap (λ (s : Store). s.published) e;
-  queues = λ q. ap (λ (s : Store). queue_of s q) e;
+  queues = λ q. ap (λ (s : Store). entries_named s q) e;
   connections = l.connections;
   channels = seen_put (names_of old) (names_of new) old.links new.links c h ch (ap (λ (s : Store). queue_names s.topology.queues) e) l;
 }
 
 -- what is judged by the connection that stands there is judged by the broker's state
-pub judged_on : (kept : Kept) (c h : ℕ) (m : Method) (r : Result wanted.Act declared.Refusal) (l : Linked) → link_in kept.links c ≡ Some l
-    → Judges (topology_of kept) (broker_of kept) (channel_seen (names_of kept) l h) m (refusal (topology_of kept) (broker_of kept) (limits_of l) h m (channel_seen (names_of kept) l h)) r
-    → JudgesOn (topology_of kept) (broker_of kept) c h m (Some r)
+pub judged_on : (kept : Kept) (c h : ℕ) (m : Method) (r : Result wanted.Act declared.Refusal) (l : Linked) → linked_in kept.links c ≡ Some l
+    → Judges (topology_kept kept) (broker_of kept) (channel_seen (names_of kept) l h) m (refusal (topology_kept kept) (broker_of kept) (limits_of l) h m (channel_seen (names_of kept) l h)) r
+    → JudgesOn (topology_kept kept) (broker_of kept) c h m (Some r)
 judged_on kept c h m r l e j = (
   limits_of l,
   ap connection_at e,
-  subst (λ (x : Option Linked). Judges (topology_of kept) (broker_of kept) (option_map (open_in (names_of kept)) (channel_at x h)) m (refusal (topology_of kept) (broker_of kept) (limits_of l) h m (option_map (open_in (names_of kept)) (channel_at x h))) r) (sym e) j,
+  subst (λ (x : Option Linked). Judges (topology_kept kept) (broker_of kept) (option_map (open_in (names_of kept)) (channel_at x h)) m (refusal (topology_kept kept) (broker_of kept) (limits_of l) h m (option_map (open_in (names_of kept)) (channel_at x h))) r) (sym e) j,
 )
 
 -- the same of a content that is too large
-pub large_judged : (kept : Kept) (c h : ℕ) (r : declared.Refusal) (l : Linked) → link_in kept.links c ≡ Some l
-    → seen r ≡ refusal_of_large (limits_of l) h (channel_seen (names_of kept) l h) → HasChannel r (channel_seen (names_of kept) l h)
+pub large_judged : (kept : Kept) (c h : ℕ) (r : declared.Refusal) (l : Linked) → linked_in kept.links c ≡ Some l
+    → refusal_seen r ≡ refusal_of_large (limits_of l) h (channel_seen (names_of kept) l h) → HasChannel r (channel_seen (names_of kept) l h)
     → JudgesLarge (broker_of kept) c h (Some r)
 large_judged kept c h r l e is has = (
   limits_of l,
   ap connection_at e,
-  subst (λ (x : Option Linked). seen r ≡ refusal_of_large (limits_of l) h (option_map (open_in (names_of kept)) (channel_at x h))) (sym e) is,
+  subst (λ (x : Option Linked). refusal_seen r ≡ refusal_of_large (limits_of l) h (option_map (open_in (names_of kept)) (channel_at x h))) (sym e) is,
   subst (λ (x : Option Linked). HasChannel r (option_map (open_in (names_of kept)) (channel_at x h))) (sym e) has,
 )
 
@@ -147,13 +147,10 @@ pub some_same : {A : Type 0} (x y : A) → Some x ≡ Some y → x ≡ y
 some_same x y e = cc
 
 -- what is refused where the command is ignored is only ignored
-pub ignored_by : (t : Topology) (b : Broker) (c h : ℕ) (m : Method) (e : declared.Refusal) → JudgesOn t b c h m (Some (Err e)) → IsIgnored t b c h m (b.connection c) → seen e ≡ Ignored
+pub ignored_by : (t : Topology) (b : Broker) (c h : ℕ) (m : Method) (e : declared.Refusal) → JudgesOn t b c h m (Some (Err e)) → IsIgnored t b c h m (b.connection c) → refusal_seen e ≡ Ignored
 ignored_by t b c h m e (conn, at, judged) is =
     let ignored : refusal t b conn h m (b.channel c h) ≡ Some Ignored = subst (λ (o : Option Connection). IsIgnored t b c h m o) at is in
-    some_same (seen e) Ignored (sym judged.0 ∙ ignored)
-
-pub large_ignored_by : (b : Broker) (c h : ℕ) (e : declared.Refusal) → JudgesLarge b c h (Some e) → IsLargeIgnored b c h (b.connection c) → seen e ≡ Ignored
-large_ignored_by b c h e (conn, at, judged, has) is = judged ∙ subst (λ (o : Option Connection). IsLargeIgnored b c h o) at is
+    some_same (refusal_seen e) Ignored (sym judged.0 ∙ ignored)
 
 -- what goes back of a publish goes back where it is mandatory and routed nowhere
 back_sent : (man none : Bool) (s : Send) → sent_back none (if man then Some s else None) ≡ (if man && none then s ∷ [] else [])
@@ -173,12 +170,12 @@ back_noted false false s = refl
 pub published_is : (old new : Kept) (c h : ℕ) (ch : Open) (p : Publish) (content : Content) (noted : List Note) (routed : Routed)
     → Publishes old.store c h p content (next_of ch.confirm) noted routed new.store
     → PutsChannel old.links c h (Some (record ch { confirm = next_of ch.confirm })) new.links
-    → IsPublish (topology_of old) (broker_of old) c h (open_in (names_of old) ch) p content
+    → IsPublish (topology_kept old) (broker_of old) c h (open_in (names_of old) ch) p content
     (sent_back routed.is_none (return_if c h p content) ++ confirm_sends c h (next_of ch.confirm) (answer_of routed.is_some_full))
     ((noted ++ returned_notes (old.store.published + 1) (routed.is_none && is_some (return_if c h p content))) ++ confirm_notes (old.store.published + 1) (next_of ch.confirm) (answer_of routed.is_some_full)) (broker_of new)
 published_is old new c h ch p content noted routed made put =
     let n = old.store.published + 1 in
-    let entries = queue_of old.store in
+    let entries = entries_named old.store in
     let back : Option Send = return_if c h p content in
     let full = is_some_full old.store.topology entries content made.targets in
     let none = is_none made.targets in
@@ -229,25 +226,6 @@ pub seen_there : (names : List Text) (o : Option Open) (ch : Channel) → option
 seen_there names None ch e = absurd (let none : None ≡ Some ch = e in cc)
 seen_there names (Some k) ch e = record { kept = k; there = refl; same = some_same (open_in names k) ch e }
 
-past : (b : Bool) (rest : Option Refusal) → (if b then Some (Of_connection 540) else rest) ≡ None → rest ≡ None
-past true rest e = cc
-past false rest e = e
-
-past_first : (first rest : Option Refusal) → or_else first rest ≡ None → rest ≡ None
-past_first None rest e = e
-past_first (Some r) rest e = cc
-
-unspent : (counted spent : Bool) → (if counted || spent then Some (Of_connection 541) else None) ≡ None → spent ≡ false
-unspent true spent e = cc
-unspent false true e = cc
-unspent false false e = refl
-
--- the confirm number of a publish that is accepted can rise
-pub can_count : (t : Topology) (b : Broker) (names : List Text) (o : Option Open) (p : Publish) → refusal_of_publish t b (channel_or_new (option_map (open_in names) o)) p ≡ None → CanCount o
-can_count t b names o p h k e =
-    let accepted : refusal_of_publish t b (open_in names k) p ≡ None = subst (λ (x : Option Open). refusal_of_publish t b (channel_or_new (option_map (open_in names) x)) p ≡ None) e h in
-    unspent (b.published == greatest) (is_spent k.confirm) (past_first (refusal_to t p.exchange) (refusal_of_count b (open_in names k)) (past p.immediate (or_else (refusal_to t p.exchange) (refusal_of_count b (open_in names k))) accepted))
-
 -- what is decided of a command is what it does
 pub decides_on : (t : Topology) (b : Broker) (c h : ℕ) (m : Method) (content : Option Content) (left : Option Refusal) (sends : List Send) (notes : List Note) (new : Broker) (conn : Connection)
     → b.connection c ≡ Some conn → refusal t b conn h m (b.channel c h) ≡ left
@@ -273,7 +251,7 @@ limited_is names ch m = chosen m.global
 -- ---- rejections that requeue
 
 -- the act of a rejection that requeues requeues
-pub requeues_by : (t : Topology) (b : Broker) (ch : Option Channel) (m : Method) (a : wanted.Act) → Asks t b ch m a → is_requeueing m ≡ true → requeues a ≡ true
+pub requeues_by : (t : Topology) (b : Broker) (ch : Option Channel) (m : Method) (a : wanted.Act) → AsksAct t b ch m a → is_requeueing m ≡ true → requeues a ≡ true
 requeues_by t b ch m (act.Reject r) asked is = sym (ap is_requeueing asked.0) ∙ is
 requeues_by t b ch m (act.Nack n) asked is = sym (ap is_requeueing asked.0) ∙ is
 requeues_by t b ch m act.OpenChannel (reserved, e) is = sym (ap is_requeueing e) ∙ is
@@ -297,7 +275,7 @@ requeues_by t b ch m act.CloseConnection (x, e) is = sym (ap is_requeueing e) �
 pub requeued_not : (t : Topology) (b : Broker) (c h : ℕ) (m : Method) (e : declared.Refusal) → JudgesOn t b c h m (Some (Err e)) → IsRequeued t b c h m (b.connection c) → ⊥
 requeued_not t b c h m e (conn, at, judged) is =
     let accepted = subst (λ (o : Option Connection). IsRequeued t b c h m o) at is in
-    let none_is_some : None ≡ Some (seen e) = sym accepted.1 ∙ judged.0 in
+    let none_is_some : None ≡ Some (refusal_seen e) = sym accepted.1 ∙ judged.0 in
     cc
 
 -- and its act requeues
@@ -311,5 +289,5 @@ kept_link : (o : Option Linked) → IsSome (connection_at o) → IsSome o
 kept_link None h = h
 kept_link (Some l) h = refl
 
-pub link_there : (old kept : Kept) (c : ℕ) → old ≡ kept → IsSome ((broker_of kept).connection c) → IsSome (link_in old.links c)
-link_there old kept c e some = kept_link (link_in old.links c) (subst (λ (k : Kept). IsSome ((broker_of k).connection c)) (sym e) some)
+pub link_there : (old kept : Kept) (c : ℕ) → old ≡ kept → IsSome ((broker_of kept).connection c) → IsSome (linked_in old.links c)
+link_there old kept c e some = kept_link (linked_in old.links c) (subst (λ (k : Kept). IsSome ((broker_of k).connection c)) (sym e) some)

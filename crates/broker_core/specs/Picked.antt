@@ -8,7 +8,7 @@ use Rattle.exchange_graph.specs.Marks.{queue_name}
 use Rattle.depot.specs.Store.{HasReady}
 use Rattle.channel.specs.Open.{consumer_in}
 use Rattle.channel.specs.declared.consumers.Consumer.{Consumer}
-use Rattle.broker_core.specs.State.{Kept, broker_of, topology_of, names_of}
+use Rattle.broker_core.specs.State.{Kept, broker_of, topology_kept, names_of}
 use Rattle.broker_core.specs.declared.picks.Pick.{Pick}
 
 -- a delivery that can be made, to this consumer
@@ -18,20 +18,20 @@ IsPick b p = (made : CanDeliver b p.connection) × (made.number ≡ p.channel) �
 -- A delivery that can be made to this consumer, from the queue at this place.
 pub record IsPickFrom (kept : Kept) (place : ℕ) (p : Pick) : Type 0 where
   pub pick : IsPick (broker_of kept) p
-  pub within : place < length (topology_of kept).queues
-  pub named : queue_name (topology_of kept) place ≡ pick.0.consumer.queue
+  pub within : place < length (topology_kept kept).queues
+  pub named : queue_name (topology_kept kept) place ≡ pick.0.consumer.queue
 
 -- The first place at or behind `from` whose queue has something ready: no delivery can be made from those before it.
-pub record IsFirst (kept : Kept) (from place : ℕ) : Type 0 where
+pub record IsFirstPicked (kept : Kept) (from place : ℕ) : Type 0 where
   pub least : from ≤ place
-  pub within : place < length (topology_of kept).queues
+  pub within : place < length (topology_kept kept).queues
   pub ready : HasReady kept.store place
   pub before : (at : ℕ) (p : Pick) → from ≤ at → at < place → IsPickFrom kept at p → ⊥
 
 -- It is told, or none, and then no delivery can be made from a queue at or behind `from`.
-abbrev pub IsNext : Kept → ℕ → Option ℕ → Type 0
-IsNext kept from (Some place) = IsFirst kept from place
-IsNext kept from None = (at : ℕ) (p : Pick) → from ≤ at → IsPickFrom kept at p → ⊥
+abbrev pub IsNextPicked : Kept → ℕ → Option ℕ → Type 0
+IsNextPicked kept from (Some place) = IsFirstPicked kept from place
+IsNextPicked kept from None = (at : ℕ) (p : Pick) → from ≤ at → IsPickFrom kept at p → ⊥
 
 -- the consumer of these numbers may take no message now, or is not there
 abbrev pub CannotTake : Broker → Pick → Type 0
@@ -43,7 +43,7 @@ pub record TakesAs (kept : Kept) (p : Pick) (k : Consumer) : Type 0 where
   pub taker : MayTake (broker_of kept) p.connection p.channel channel (consumer_in (names_of kept) k)
   pub numbered : k.number ≡ p.number
   pub only : (other : seen.Consumer) → IsIn other channel.consumers → other.number ≡ p.number → other ≡ consumer_in (names_of kept) k
-  pub within : k.queue < length (topology_of kept).queues
+  pub within : k.queue < length (topology_kept kept).queues
 
 -- It is told, exactly where it may.
 abbrev pub TellsConsumer : Kept → Pick → Option Consumer → Type 0

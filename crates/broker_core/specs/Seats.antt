@@ -7,7 +7,7 @@ use Rattle.model.specs.declared.methods.Method.TheVariants.{BasicConsume}
 use Rattle.model.specs.declared.events.Event.{Event}
 use Rattle.model.specs.declared.events.Event.TheVariants.{Command}
 use Rattle.exchange_graph.specs.Marks.{queue_name}
-use Rattle.links.specs.Links.{Linked, link_in, channel_in, channel_of}
+use Rattle.links.specs.Links.{Linked, linked_in, channel_in, channel_of}
 use Rattle.links.specs.Consumers.{has_consumer_numbered, next_number}
 use Rattle.broker_core.specs.State.{Kept}
 use Rattle.broker_core.specs.declared.picks.Pick.{Pick}
@@ -30,7 +30,7 @@ next_seat c h (Some l) = option_map (λ (n : ℕ). record { connection = c; chan
 
 -- the seat of the consumer that this event is to make
 abbrev pub seat_of : Kept → Event → Option Pick
-seat_of kept (Command c h m content) = if is_consume m then next_seat c h (link_in kept.links c) else None
+seat_of kept (Command c h m content) = if is_consume m then next_seat c h (linked_in kept.links c) else None
 seat_of kept e = None
 
 -- the queue from which a consume asks to consume

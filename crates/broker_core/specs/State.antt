@@ -15,8 +15,8 @@ pub record Kept : Type 0 where
   pub links : List (ℕ × Linked)
 
 -- the topology that the broker runs
-abbrev pub topology_of : Kept → Topology
-topology_of kept = kept.store.topology
+abbrev pub topology_kept : Kept → Topology
+topology_kept kept = kept.store.topology
 
 -- the names of its queues, in the order of their places
 abbrev pub names_of : Kept → List Text
@@ -41,4 +41,4 @@ nothing = record { published = 0; queue = λ q. []; connection = λ c. None; cha
 
 -- what is outstanding on each channel was given out from queues that are there, and its consumers take from such
 abbrev pub ArePlaced : Kept → Type 0
-ArePlaced kept = (c h : ℕ) (ch : Open) → channel_of kept.links c h ≡ Some ch → IsPlaced (topology_of kept) ch
+ArePlaced kept = (c h : ℕ) (ch : Open) → channel_of kept.links c h ≡ Some ch → IsPlaced (topology_kept kept) ch

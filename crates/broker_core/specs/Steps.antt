@@ -6,12 +6,12 @@ use Rattle.model.specs.declared.contents.Content.{Content}
 use Rattle.model.specs.declared.methods.Method.{Method}
 use Rattle.model.specs.declared.events.Send.{Send}
 use Rattle.model.specs.declared.notes.Note.{Note}
-use Rattle.broker_core.specs.State.{Kept, broker_of, channel_on, topology_of}
+use Rattle.broker_core.specs.State.{Kept, broker_of, channel_on, topology_kept}
 
 -- the command of this channel is performed, or refused for this
 abbrev pub DecidesOn : Kept → ℕ → ℕ → Method → Option Content → Option Refusal → List Send → List Note → Kept → Type 0
-DecidesOn old c h m content refusal sends notes new = Decides (topology_of old) (broker_of old) c h m content refusal sends notes (broker_of new)
+DecidesOn old c h m content refusal sends notes new = Decides (topology_kept old) (broker_of old) c h m content refusal sends notes (broker_of new)
 
 -- what is outstanding on this channel under the tag, or up to it, is settled so, and this is answered
 abbrev pub SettlesOn : Kept → Settlement → ℕ → ℕ → ℕ → Bool → List Send → List Send → List Note → Kept → Type 0
-SettlesOn old how c h tag multiple answer sends notes new = Settles (topology_of old) how (broker_of old) c h (channel_on old c h) tag multiple answer sends notes (broker_of new)
+SettlesOn old how c h tag multiple answer sends notes new = Settles (topology_kept old) how (broker_of old) c h (channel_on old c h) tag multiple answer sends notes (broker_of new)

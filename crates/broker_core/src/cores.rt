@@ -60,14 +60,14 @@ impl Core {
     ghost use Rattle.model.specs.Grammar.{IsMethod};
     ghost use Rattle.model.specs.Step.{Acts, Is, OnConnection, OnLarge};
     ghost use Rattle.model.specs.declared.methods.Method.{Method as Seen};
-    ghost use Rattle.broker_core.specs.State.{broker_of, channel_on, topology_of, nothing};
+    ghost use Rattle.broker_core.specs.State.{broker_of, channel_on, topology_kept, nothing};
     ghost use Rattle.broker_core.specs.Steps.{DecidesOn};
-    ghost use Rattle.judging.specs.Judged.{requeues, left_of, IsAsked, IsRequeued, IsIgnored, IsLargeIgnored, WantsNoMemory, JudgesOn, JudgesLarge, Asks, CanAct};
+    ghost use Rattle.judging.specs.Judged.{requeues, refusal_left, IsAsked, IsRequeued, IsIgnored, IsLargeIgnored, WantsNoMemory, JudgesOn, JudgesLarge, AsksAct, CanAct};
     ghost use Rattle.replies.specs.Sent.{AreAddressed, connection_of_event};
 
     /// The broker of this topology: its queues are empty, and no connection runs.
     pub fn new(alloc: Global, topology: Topology) -> Result<Core, AllocError>
-        ensures topology { IfOk result (λ b. topology_of b ≡ topology) }
+        ensures topology { IfOk result (λ b. topology_kept b ≡ topology) }
         ensures empty { IfOk result (λ b. Is nothing (broker_of b)) }
     {
         Ok(Core {
@@ -83,7 +83,7 @@ impl Core {
         channel: u16,
         method: &'a Method,
     ) -> Option<Result<Act<'a>, Refusal>>
-        ensures { JudgesOn (topology_of self.now) (broker_of self.now) connection channel method.now result }
+        ensures { JudgesOn (topology_kept self.now) (broker_of self.now) connection channel method.now result }
     {
         match self.links.get(connection) {
             None => None,
@@ -112,10 +112,10 @@ impl Core {
     ) -> Result<Step, AllocError>
         requires agreed { IsAgreed (broker_of self.old) }
         requires runs { IsSome ((broker_of self.old).connection connection) }
-        requires can { CanAct (topology_of self.old) (broker_of self.old) ((broker_of self.old).channel connection channel) act }
-        ensures ok { IfOk result (λ s. (m : Seen) → Asks (topology_of self.old) (broker_of self.old) ((broker_of self.old).channel connection channel) m act.entry → DecidesOn self.old connection channel m content.now (left_of (channel_on self.old connection channel) act.entry) s.sends.items s.notes.items self.new) }
-        ensures addressed { IfOk result (λ s. (m : Seen) → Asks (topology_of self.old) (broker_of self.old) ((broker_of self.old).channel connection channel) m act.entry → IsMethod m → AreCarried (broker_of self.old) → AreAddressed connection s.sends.items) }
-        ensures topology { topology_of self.new ≡ topology_of self.old }
+        requires can { CanAct (topology_kept self.old) (broker_of self.old) ((broker_of self.old).channel connection channel) act }
+        ensures ok { IfOk result (λ s. (m : Seen) → AsksAct (topology_kept self.old) (broker_of self.old) ((broker_of self.old).channel connection channel) m act.entry → DecidesOn self.old connection channel m content.now (refusal_left (channel_on self.old connection channel) act.entry) s.sends.items s.notes.items self.new) }
+        ensures addressed { IfOk result (λ s. (m : Seen) → AsksAct (topology_kept self.old) (broker_of self.old) ((broker_of self.old).channel connection channel) m act.entry → IsMethod m → AreCarried (broker_of self.old) → AreAddressed connection s.sends.items) }
+        ensures topology { topology_kept self.new ≡ topology_kept self.old }
         ensures err { OnErr result (self.new ≡ self.old) }
         ensures quiet { requeues act.entry ≡ true → IsOk result }
     {
@@ -184,11 +184,11 @@ impl Core {
         content: &Option<Content>,
     ) -> Result<Step, AllocError>
         requires { IsAgreed (broker_of self.old) }
-        ensures ok { IfOk result (λ s. OnConnection (topology_of self.old) (broker_of self.old) connection channel method.now content.now s.sends.items s.notes.items (broker_of self.new) ((broker_of self.old).connection connection)) }
-        ensures requeued { IsRequeued (topology_of self.old) (broker_of self.old) connection channel method.now ((broker_of self.old).connection connection) → IsOk result }
-        ensures ignored { IsIgnored (topology_of self.old) (broker_of self.old) connection channel method.now ((broker_of self.old).connection connection) → IsOk result }
+        ensures ok { IfOk result (λ s. OnConnection (topology_kept self.old) (broker_of self.old) connection channel method.now content.now s.sends.items s.notes.items (broker_of self.new) ((broker_of self.old).connection connection)) }
+        ensures requeued { IsRequeued (topology_kept self.old) (broker_of self.old) connection channel method.now ((broker_of self.old).connection connection) → IsOk result }
+        ensures ignored { IsIgnored (topology_kept self.old) (broker_of self.old) connection channel method.now ((broker_of self.old).connection connection) → IsOk result }
         ensures addressed { IfOk result (λ s. IsMethod method.now → AreCarried (broker_of self.old) → AreAddressed connection s.sends.items) }
-        ensures topology { topology_of self.new ≡ topology_of self.old }
+        ensures topology { topology_kept self.new ≡ topology_kept self.old }
         ensures err { OnErr result (self.new ≡ self.old) }
     {
         match self.judge_command(connection, channel, method) {
@@ -209,7 +209,7 @@ impl Core {
         ensures ok { IfOk result (λ s. OnLarge (broker_of self.old) connection channel s.sends.items s.notes.items (broker_of self.new) ((broker_of self.old).connection connection)) }
         ensures ignored { IsLargeIgnored (broker_of self.old) connection channel ((broker_of self.old).connection connection) → IsOk result }
         ensures addressed { IfOk result (λ s. AreAddressed connection s.sends.items) }
-        ensures topology { topology_of self.new ≡ topology_of self.old }
+        ensures topology { topology_kept self.new ≡ topology_kept self.old }
         ensures err { OnErr result (self.new ≡ self.old) }
     {
         match self.judge_large(connection, channel) {
@@ -224,11 +224,11 @@ impl Core {
     pub fn step(&mut self, alloc: Global, event: &Event) -> Result<Step, AllocError>
         requires agreed { IsAgreed (broker_of self.old) }
         requires asked { IsAsked event.now }
-        ensures ok { IfOk result (λ s. Acts (topology_of self.old) (broker_of self.old) event.now s.sends.items s.notes.items (broker_of self.new)) }
+        ensures ok { IfOk result (λ s. Acts (topology_kept self.old) (broker_of self.old) event.now s.sends.items s.notes.items (broker_of self.new)) }
         ensures addressed { IfOk result (λ s. IsSaid event.now → AreCarried (broker_of self.old) → AreAddressed (connection_of_event event.now) s.sends.items) }
-        ensures topology { topology_of self.new ≡ topology_of self.old }
+        ensures topology { topology_kept self.new ≡ topology_kept self.old }
         ensures err { OnErr result (self.new ≡ self.old) }
-        ensures quiet { WantsNoMemory (topology_of self.old) (broker_of self.old) event.now → IsOk result }
+        ensures quiet { WantsNoMemory (topology_kept self.old) (broker_of self.old) event.now → IsOk result }
     {
         match event {
             Event::Open { .. } | Event::First { .. } => Ok(Step::nothing(alloc)),

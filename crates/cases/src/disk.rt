@@ -1,6 +1,6 @@
 //! The files that cases have and name.
 
-use server::{Files, Unread, Unwritten};
+use server::{Files, NotWritten, Unread};
 use std::alloc::Global;
 use std::{fs, io};
 
@@ -32,12 +32,12 @@ impl Folder<'_> {
 
 /// What the program reads: the file `script`, where the case has one, and the files of the folder.
 #[derive(Drop)]
-pub struct Disk<'a> {
+pub struct CaseDisk<'a> {
     pub folder: Folder<'a>,
     pub script: Option<&'a [u8]>,
 }
 
-impl Disk<'_> {
+impl CaseDisk<'_> {
     fn bytes(&self, alloc: Global, name: &str) -> io::Result<Vec<u8>> {
         match self.script {
             Some(script) if name == "script" => Ok(Vec::from_slice(alloc, script)?),
@@ -46,7 +46,7 @@ impl Disk<'_> {
     }
 }
 
-impl Files for Disk<'_> {
+impl Files for CaseDisk<'_> {
     ghost use Rattle.server.specs.Files.{Unknown};
 
     ghost holds = { λ _ _. Unknown };
@@ -59,7 +59,7 @@ impl Files for Disk<'_> {
         }
     }
 
-    fn write(&mut self, _name: &str, _bytes: &[u8]) -> Result<(), Unwritten> {
-        Err(Unwritten)
+    fn write(&mut self, _name: &str, _bytes: &[u8]) -> Result<(), NotWritten> {
+        Err(NotWritten)
     }
 }

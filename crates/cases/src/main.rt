@@ -21,16 +21,16 @@ use trials::tried;
 
 /// How many cases and rows there were, and how many cases failed.
 #[derive(Clone, Copy, Drop)]
-struct Count {
+struct Tally {
     cases: u64,
     rows: u64,
     failed: u64,
 }
 
-impl Count {
+impl Tally {
     /// One case more, with so many rows, or none where it failed.
-    fn and(self, rows: Option<u64>) -> Count {
-        Count {
+    fn and(self, rows: Option<u64>) -> Tally {
+        Tally {
             cases: self.cases.saturating_add(1),
             rows: self.rows.saturating_add(rows.unwrap_or(0)),
             failed: self.failed.saturating_add(u64::from(rows.is_none())),
@@ -61,8 +61,8 @@ fn run(folder: Folder<'_>, name: &str) -> io::Result<Option<u64>> {
 }
 
 /// Runs each case that standard input names.
-fn run_all(folder: Folder<'_>) -> io::Result<Count> {
-    let mut count = Count {
+fn run_all(folder: Folder<'_>) -> io::Result<Tally> {
+    let mut count = Tally {
         cases: 0,
         rows: 0,
         failed: 0,
@@ -75,7 +75,7 @@ fn run_all(folder: Folder<'_>) -> io::Result<Count> {
 
 /// Whether there are cases, and none failed.
 fn all_pass(folder: Folder<'_>) -> io::Result<bool> {
-    let Count {
+    let Tally {
         cases,
         rows,
         failed,

@@ -3,7 +3,7 @@
 //! It is what is put on standard output, then what is put on standard error, each line of it behind `! `, then the exit
 //! status as `status N`, where that is not 0.
 
-use crate::disk::Disk;
+use crate::disk::CaseDisk;
 use server::program;
 use std::alloc::Global;
 use std::io;
@@ -25,7 +25,7 @@ fn put_complaint(alloc: Global, out: &mut Vec<u8>, complaint: &[u8]) -> io::Resu
 pub fn printed(
     alloc: Global,
     words: &[String],
-    files: &mut Disk<'_>,
+    files: &mut CaseDisk<'_>,
     expected: &str,
 ) -> io::Result<Vec<u8>> {
     let mut out: Vec<u8> = Vec::new(alloc);

@@ -12,7 +12,7 @@ const MARK: &str = "==== ";
 
 /// A text under its name. The only text of a file without rows has the empty name.
 #[derive(Clone, Copy, Drop)]
-pub struct Row<'a> {
+pub struct CaseRow<'a> {
     pub name: &'a str,
     pub text: &'a str,
 }
@@ -23,11 +23,11 @@ pub fn malformed() -> io::Error {
 }
 
 /// The rows of a file, behind the first mark.
-fn marked(alloc: Global, text: &str) -> io::Result<Vec<Row<'_>>> {
+fn marked(alloc: Global, text: &str) -> io::Result<Vec<CaseRow<'_>>> {
     let mut rows = Vec::new(alloc);
     for part in text.split(MARK) {
         match part.split_once('\n') {
-            Some((name, text)) => rows.push(Row { name, text })?,
+            Some((name, text)) => rows.push(CaseRow { name, text })?,
             None => return Err(malformed()),
         }
     }
@@ -35,20 +35,20 @@ fn marked(alloc: Global, text: &str) -> io::Result<Vec<Row<'_>>> {
 }
 
 /// The rows of a file.
-pub fn rows_of(alloc: Global, text: &str) -> io::Result<Vec<Row<'_>>> {
+pub fn rows_of(alloc: Global, text: &str) -> io::Result<Vec<CaseRow<'_>>> {
     match text.split_once(MARK) {
         Some((head, rest)) if head.lines().all(|line| line.starts_with('#')) => marked(alloc, rest),
         Some(_) => Err(malformed()),
         None => {
             let mut rows = Vec::new(alloc);
-            rows.push(Row { name: "", text })?;
+            rows.push(CaseRow { name: "", text })?;
             Ok(rows)
         }
     }
 }
 
 /// The text of the row that has this place and this name.
-pub fn text_at<'a>(rows: &[Row<'a>], place: usize, name: &str) -> io::Result<&'a str> {
+pub fn text_at<'a>(rows: &[CaseRow<'a>], place: usize, name: &str) -> io::Result<&'a str> {
     if let Some(only) = rows.first() {
         if rows.len() == 1 && only.name.is_empty() {
             return Ok(only.text);

@@ -2,10 +2,10 @@
 
 use crate::comparing::{Difference, compared};
 use crate::cutting::{Cut, cut_script, longest};
-use crate::disk::{Disk, Folder};
+use crate::disk::{CaseDisk, Folder};
 use crate::files::{Case, case_of, words_of, written_out};
 use crate::printing::printed;
-use crate::rows::{Row, rows_of, text_at};
+use crate::rows::{CaseRow, rows_of, text_at};
 use std::alloc::Global;
 use std::io;
 
@@ -38,7 +38,7 @@ fn failure_at(folder: Folder<'_>, trial: &Trial<'_>, cut: Cut) -> io::Result<Opt
         Some(script) => Some(cut_script(alloc, script.as_str(), cut)?),
         None => None,
     };
-    let mut files = Disk {
+    let mut files = CaseDisk {
         folder,
         script: script.as_ref().map(|script| script.as_slice()),
     };
@@ -88,7 +88,7 @@ fn failure_of(folder: Folder<'_>, trial: &Trial<'_>) -> io::Result<Option<Failur
 }
 
 /// The longer of two lists of rows, the first where they are of one length.
-fn longer<'x, 'a>(first: &'x [Row<'a>], second: &'x [Row<'a>]) -> &'x [Row<'a>] {
+fn longer<'x, 'a>(first: &'x [CaseRow<'a>], second: &'x [CaseRow<'a>]) -> &'x [CaseRow<'a>] {
     if second.len() > first.len() {
         second
     } else {
@@ -98,15 +98,15 @@ fn longer<'x, 'a>(first: &'x [Row<'a>], second: &'x [Row<'a>]) -> &'x [Row<'a>] 
 
 /// The rows of the files of a case. One that has no script has no row of a script.
 #[derive(Drop)]
-struct Table<'a> {
-    words: Vec<Row<'a>>,
-    scripts: Vec<Row<'a>>,
-    expected: Vec<Row<'a>>,
+struct CaseTable<'a> {
+    words: Vec<CaseRow<'a>>,
+    scripts: Vec<CaseRow<'a>>,
+    expected: Vec<CaseRow<'a>>,
 }
 
-impl<'a> Table<'a> {
-    fn read(alloc: Global, case: &'a Case) -> io::Result<Table<'a>> {
-        Ok(Table {
+impl<'a> CaseTable<'a> {
+    fn read(alloc: Global, case: &'a Case) -> io::Result<CaseTable<'a>> {
+        Ok(CaseTable {
             words: rows_of(alloc, case.words.as_str())?,
             scripts: match &case.script {
                 Some(script) => rows_of(alloc, script.as_str())?,
@@ -117,7 +117,7 @@ impl<'a> Table<'a> {
     }
 
     /// The rows of the file that has the most.
-    fn rows(&self) -> &[Row<'a>] {
+    fn rows(&self) -> &[CaseRow<'a>] {
         longer(
             longer(self.words.as_slice(), self.scripts.as_slice()),
             self.expected.as_slice(),
@@ -137,7 +137,7 @@ impl<'a> Table<'a> {
 /// Runs the row at this place.
 fn failure_at_row(
     folder: Folder<'_>,
-    table: &Table<'_>,
+    table: &CaseTable<'_>,
     place: usize,
     row: &str,
 ) -> io::Result<Option<Failure>> {
@@ -162,7 +162,7 @@ fn tell(folder: Folder<'_>, row: &str, failure: Failure) -> io::Result<()> {
 pub fn tried(folder: Folder<'_>, name: &str) -> io::Result<Option<u64>> {
     let alloc = folder.rt.alloc();
     let case = case_of(folder, name)?;
-    let table = Table::read(alloc, &case)?;
+    let table = CaseTable::read(alloc, &case)?;
     let mut count = 0u64;
     let mut failed = 0u64;
     for (place, row) in table.rows().iter().enumerate() {

@@ -9,7 +9,7 @@ use Rattle.certificate_laws.proofs.Certificates.{certificate_sound}
 use Rattle.certificate_laws.proofs.Trackings.{contained}
 use Rattle.certificate_check.specs.Checks.{Checks}
 use Rattle.certificate_check.specs.declared.faults.CertFault.{CertFault}
-use Rattle.certificate.specs.Certified.{IsCertified, IsUncertified, ChecksAt, AreCertifiedBelow, AreCertified, FailsFirst}
+use Rattle.certificate.specs.Certified.{IsCertifiedAt, IsUncertified, ChecksAt, AreCertifiedBelow, AreCertified, FailsFirst}
 
 place_in : (gs : List Guarantee) (g : Guarantee) → IsIn g gs → (n : ℕ) × (slice_get gs n ≡ Some g)
 place_in [] g i = absurd i
@@ -27,11 +27,6 @@ found_there [] i h l e = absurd (omega (arith, l))
 found_there {A} (x ∷ xs) zero h l e = ap (λ (z : A). Some z) (sym e)
 found_there (x ∷ xs) (suc i) h l e = found_there xs i h (let k : suc i < suc (length xs) = l in omega (arith, k)) e
 
-pub none_there : {A : Type 0} (xs : List A) (i : ℕ) → length xs ≤ i → slice_get xs i ≡ None
-none_there [] i h = refl
-none_there (x ∷ xs) zero h = absurd (omega (arith, h))
-none_there (x ∷ xs) (suc i) h = none_there xs i (let k : suc (length xs) ≤ suc i = h in omega (arith, k))
-
 pub checked_at : (t : Topology) (g : Guarantee) (cs : List Certificate) (place : ℕ) (c : Certificate) (res : Result Unit CertFault) → place < length cs → c ≡ get_or cs place c → Checks t g c res → ChecksAt t g cs place res
 checked_at t g cs place c (Ok u) l e k = record { certificate = c; is = found_there cs place c l e; accepted = k }
 checked_at t g cs place c (Err f) l e k = inr (record { certificate = c; is = found_there cs place c l e; fault = k })
@@ -46,13 +41,13 @@ below_or i zero = inr (omega arith)
 below_or zero (suc n) = inl (omega arith)
 below_or (suc i) (suc n) = elim (below_or i n) [ inl h ↦ inl (omega arith) | inr h ↦ inr (omega arith) ]
 
-pub one_certified : (t : Topology) (gs : List Guarantee) (cs : List Certificate) (place : ℕ) (h : Guarantee) → h ≡ get_or gs place h → AreCertifiedBelow t gs cs place → IsCertified t h cs place → AreCertifiedBelow t gs cs (place + 1)
+pub one_certified : (t : Topology) (gs : List Guarantee) (cs : List Certificate) (place : ℕ) (h : Guarantee) → h ≡ get_or gs place h → AreCertifiedBelow t gs cs place → IsCertifiedAt t h cs place → AreCertifiedBelow t gs cs (place + 1)
 one_certified t gs cs place h e b c i g l s = elim (below_or i place) [
   | inl k ↦ b i g k s
   | inr k ↦
       let same : i ≡ place = omega arith in
       let is : h ≡ g = same_there gs place g h e (subst (λ (n : ℕ). slice_get gs n ≡ Some g) same s) in
-      subst (λ (n : ℕ). IsCertified t g cs n) (sym same) (subst (λ (z : Guarantee). IsCertified t z cs place) is c)
+      subst (λ (n : ℕ). IsCertifiedAt t g cs n) (sym same) (subst (λ (z : Guarantee). IsCertifiedAt t z cs place) is c)
 ]
 
 pub refused_at : (t : Topology) (gs : List Guarantee) (cs : List Certificate) (place : ℕ) (h : Guarantee) (f : CertFault) → place < length gs → h ≡ get_or gs place h → AreCertifiedBelow t gs cs place → IsUncertified t h cs place f → FailsFirst t gs cs place f

@@ -1,6 +1,6 @@
 -- A queue is routed to exactly where its place is among the targets.
-use Rattle.std.proofs.Common.{◌≡◌, ℕ, zero, suc, ◌<◌, List, [], ◌∷◌, Bool, true, false, refl, sym, ◌∙◌, subst, length, eqb, eq-eqb, get_or, inl, inr, arith, Some}
-use Rattle.std.specs.Prelude.{◌==◌, ◌||◌, slice_get, Decides}
+use Rattle.std.proofs.Common.{◌≡◌, ℕ, ◌<◌, List, [], ◌∷◌, Bool, true, false, refl, sym, ◌∙◌, subst, length, eqb, eq-eqb, get_or, inl, inr, arith}
+use Rattle.std.specs.Prelude.{◌==◌, ◌||◌, Decides}
 use Rattle.std.specs.List.{list_any}
 use Rattle.std.proofs.lemmas.Bool.{eqb-true}
 use Rattle.std.proofs.lemmas.List.{length-map}
@@ -62,8 +62,3 @@ pub any_place : (place : ℕ) (ps : List ℕ) → Decides (list_any (λ (p : ℕ
 any_place place [] = (λ h. absurd (cc), λ h. absurd h)
 any_place place (p ∷ ps) =
     any_at place p ps (eqb p place) (list_any (λ (q : ℕ). q == place) ps) (λ q. eqb-true p place q) (λ q. eq-eqb p place (sym q)) (any_place place ps)
-
-pub got : {A : Type 0} (xs : List A) (i : ℕ) (x : A) → slice_get xs i ≡ Some x → get_or xs i x ≡ x
-got [] i x e = absurd (cc)
-got (y ∷ ys) zero x e = cc
-got (y ∷ ys) (suc i) x e = got ys i x e

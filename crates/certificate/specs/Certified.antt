@@ -9,7 +9,7 @@ use Rattle.certificate_check.specs.declared.faults.CertFault.TheVariants.{Form}
 use Rattle.certificate.specs.Admitted.{Admitted}
 
 -- the certificate at this place is accepted for the guarantee
-pub record IsCertified (t : Topology) (g : Guarantee) (cs : List Certificate) (place : ℕ) : Type 0 where
+pub record IsCertifiedAt (t : Topology) (g : Guarantee) (cs : List Certificate) (place : ℕ) : Type 0 where
   pub certificate : Certificate
   pub is : slice_get cs place ≡ Some certificate
   pub accepted : Accepts t g certificate
@@ -26,17 +26,17 @@ IsUncertified t g cs place f = ((slice_get cs place ≡ None) × (f ≡ Form)) �
 
 -- what a check of the certificate at this place answers: it is accepted for the guarantee, or why it is not
 abbrev pub ChecksAt : Topology → Guarantee → List Certificate → ℕ → Result Unit CertFault → Type 0
-ChecksAt t g cs place (Ok u) = IsCertified t g cs place
+ChecksAt t g cs place (Ok u) = IsCertifiedAt t g cs place
 ChecksAt t g cs place (Err f) = IsUncertified t g cs place f
 
 -- each guarantee before this place has its certificate
 abbrev pub AreCertifiedBelow : Topology → List Guarantee → List Certificate → ℕ → Type 0
-AreCertifiedBelow t gs cs n = (i : ℕ) (g : Guarantee) → i < n → slice_get gs i ≡ Some g → IsCertified t g cs i
+AreCertifiedBelow t gs cs n = (i : ℕ) (g : Guarantee) → i < n → slice_get gs i ≡ Some g → IsCertifiedAt t g cs i
 
 -- each guarantee has its certificate, and there are no more
 pub record AreCertified (t : Topology) (gs : List Guarantee) (cs : List Certificate) : Type 0 where
   pub count : length gs ≡ length cs
-  pub all : (i : ℕ) (g : Guarantee) → slice_get gs i ≡ Some g → IsCertified t g cs i
+  pub all : (i : ℕ) (g : Guarantee) → slice_get gs i ≡ Some g → IsCertifiedAt t g cs i
 
 -- the guarantee at this place has no certificate, for this fault
 pub record FailsAt (t : Topology) (gs : List Guarantee) (cs : List Certificate) (place : ℕ) (f : CertFault) : Type 0 where

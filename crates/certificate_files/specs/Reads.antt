@@ -3,21 +3,21 @@ use Rattle.std.specs.Prelude.{◌≡◌, ◌<◌, ◌≤◌, List, ℕ, Option, 
 use Rattle.std.specs.declared.alloc.Global.{Global}
 use Rattle.serde_json.specs.Data.{Data}
 use Rattle.json_file.specs.Members.{IsJson}
-use Rattle.json_file.specs.Outcomes.{Fails}
-use Rattle.json_file.specs.declared.faults.Fault.{Fault}
+use Rattle.json_file.specs.Outcomes.{FailsJson}
+use Rattle.json_file.specs.declared.faults.BadJson.{BadJson}
 use Rattle.state_walks.specs.Judged.{states_of}
 use Rattle.model.specs.Certificates.{Certificate}
-use Rattle.certificate_files.specs.declared.bad.Bad.{Bad}
-use Rattle.certificate_files.specs.declared.bad.Bad.TheVariants.{NotJson, Malformed, TooLong, Memory}
+use Rattle.certificate_files.specs.declared.bad.BadCertificates.{BadCertificates}
+use Rattle.certificate_files.specs.declared.bad.BadCertificates.TheVariants.{NotJson, Malformed, TooLong, Memory}
 use Rattle.certificate_files.specs.Stated.{certificates_of}
 
 -- the states that stand there are given, or they are refused where none do
-abbrev pub GivesStates : Result (Vec (Vec ℕ Global) Global) Fault → Option (List (List ℕ)) → Type 0
+abbrev pub GivesStates : Result (Vec (Vec ℕ Global) Global) BadJson → Option (List (List ℕ)) → Type 0
 GivesStates (Ok v) o = o ≡ Some (states_of v.items)
-GivesStates (Err e) o = Fails e (o ≡ None)
+GivesStates (Err e) o = FailsJson e (o ≡ None)
 
 -- the file is JSON and states these certificates
-pub record IsFile (bytes : List ℕ) (cs : List Certificate) : Type 0 where
+pub record IsCertificatesFile (bytes : List ℕ) (cs : List Certificate) : Type 0 where
   pub value : Data
   pub json : IsJson bytes value
   pub states : certificates_of value ≡ Some cs
@@ -29,8 +29,8 @@ pub record IsOther (bytes : List ℕ) : Type 0 where
   pub states : certificates_of value ≡ None
 
 -- A file is too long, or no JSON, or states no certificates, or is read; want of memory owes nothing.
-abbrev pub ReadsCertificateFile : Result (Vec Certificate Global) Bad → List ℕ → Type 0
-ReadsCertificateFile (Ok cs) bytes = IsFile bytes cs.items
+abbrev pub ReadsCertificateFile : Result (Vec Certificate Global) BadCertificates → List ℕ → Type 0
+ReadsCertificateFile (Ok cs) bytes = IsCertificatesFile bytes cs.items
 ReadsCertificateFile (Err NotJson) bytes = (length bytes ≤ 16777216) × ((d : Data) → IsJson bytes d → ⊥)
 ReadsCertificateFile (Err Malformed) bytes = IsOther bytes
 ReadsCertificateFile (Err TooLong) bytes = 16777216 < length bytes

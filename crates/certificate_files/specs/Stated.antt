@@ -1,14 +1,10 @@
 -- The certificates that a JSON value states (own).
 use Rattle.std.specs.Prelude.{codes, ℕ, List, [], ◌∷◌, Option, Some, None, option_and_then, if◌then◌else◌, ◌==◌}
+use Rattle.model.specs.Options.{◌>>=◌}
 use Rattle.serde_json.specs.Data.{Data}
 use Rattle.serde_json.specs.Find.{get, as_number, as_u64, as_array}
 use Rattle.json_file.specs.Members.{each, has_only, text_at}
 use Rattle.model.specs.Certificates.{Certificate}
-
-infixl 10 ◌>>=◌
--- the second reading is done with what the first gave, if it gave something
-abbrev pub ◌>>=◌ : {A B : Type 0} → Option A → (A → Option B) → Option B
-o >>= f = option_and_then f o
 
 -- a whole number below 2^64
 abbrev pub whole_number : Data → Option ℕ

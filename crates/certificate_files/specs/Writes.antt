@@ -11,7 +11,7 @@ use Rattle.model.specs.Certificates.{Certificate}
 use Rattle.certificate_files.specs.declared.unwritten.Unwritten.{Unwritten}
 use Rattle.certificate_files.specs.declared.unwritten.Unwritten.TheVariants.{NotText, Memory}
 use Rattle.certificate_files.specs.Spelled.{certificate_data, file_data}
-use Rattle.certificate_files.specs.Reads.{IsFile}
+use Rattle.certificate_files.specs.Reads.{IsCertificatesFile}
 
 -- the texts of a certificate are UTF-8
 pub record AreTexts (c : Certificate) : Type 0 where
@@ -21,31 +21,31 @@ pub record AreTexts (c : Certificate) : Type 0 where
   pub queue : IsUtf8 c.queue
 
 -- nothing is written for this reason alone; want of memory owes nothing
-abbrev pub Lacks : Unwritten → Type 0 → Type 0
-Lacks NotText why = why → ⊥
-Lacks Memory why = Unit {0}
+abbrev pub FailsToWrite : Unwritten → Type 0 → Type 0
+FailsToWrite NotText why = why → ⊥
+FailsToWrite Memory why = Unit {0}
 
 -- the text is lent, or is no UTF-8, or memory was refused
 abbrev pub LendsText : Result (Bor (List ℕ)) Unwritten → Text → Type 0
 LendsText (Ok s) text = s.now ≡ text
-LendsText (Err e) text = Lacks e (IsUtf8 text)
+LendsText (Err e) text = FailsToWrite e (IsUtf8 text)
 
 -- the certificate as JSON, or one of its texts is no UTF-8, or memory was refused
 abbrev pub GivesData : Result Value Unwritten → Certificate → Type 0
 GivesData (Ok v) c = view v ≡ certificate_data c
-GivesData (Err e) c = Lacks e (AreTexts c)
+GivesData (Err e) c = FailsToWrite e (AreTexts c)
 
 -- the certificates as JSON, in their order, or a text of one is no UTF-8, or memory was refused
-abbrev pub GivesItems : Result (Vec Value Global) Unwritten → List Certificate → Type 0
-GivesItems (Ok vs) cs = map view vs.items ≡ map certificate_data cs
-GivesItems (Err e) cs = Lacks e (AllByRecursion AreTexts cs)
+abbrev pub GivesCertificates : Result (Vec Value Global) Unwritten → List Certificate → Type 0
+GivesCertificates (Ok vs) cs = map view vs.items ≡ map certificate_data cs
+GivesCertificates (Err e) cs = FailsToWrite e (AllByRecursion AreTexts cs)
 
 -- the file that is written is compact, and is read back as these certificates
 pub record IsWritten (bytes : List ℕ) (cs : List Certificate) : Type 0 where
   pub compact : bytes ≡ compact_text (file_data cs)
-  pub reads_back : length bytes ≤ 16777216 → IsFile bytes cs
+  pub reads_back : length bytes ≤ 16777216 → IsCertificatesFile bytes cs
 
 -- the file of these certificates is given, or a text of one is no UTF-8, or memory was refused
 abbrev pub Writes : Result (Vec ℕ Global) Unwritten → List Certificate → Type 0
 Writes (Ok bytes) cs = IsWritten bytes.items cs
-Writes (Err e) cs = Lacks e (AllByRecursion AreTexts cs)
+Writes (Err e) cs = FailsToWrite e (AllByRecursion AreTexts cs)

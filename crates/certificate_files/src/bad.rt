@@ -1,13 +1,13 @@
 //! Why a certificates file is refused.
 
 ghost use Rattle.std.specs.Prelude.{◌≡◌};
-ghost use Rattle.certificate_files.specs.Numbers.{number};
+ghost use Rattle.certificate_files.specs.Numbers.{certificates_cause};
 
-use json_file::Fault;
+use json_file::BadJson;
 
 /// What stands against a file, under its number in a definitions file.
 #[derive(Clone, Copy, PartialEq, Eq, Debug, Drop)]
-pub enum Bad {
+pub enum BadCertificates {
     /// 1: the file is not JSON.
     NotJson,
     /// 2: it is not an array of objects that each have exactly the members of a certificate, of their kinds.
@@ -18,32 +18,32 @@ pub enum Bad {
     Memory,
 }
 
-impl Bad {
+impl BadCertificates {
     /// The number of the cause.
     pub fn number(self) -> u8
-        ensures { result ≡ number self }
+        ensures { result ≡ certificates_cause self }
     {
         match self {
-            Bad::NotJson => 1,
-            Bad::Malformed => 2,
-            Bad::TooLong => 10,
-            Bad::Memory => 14,
+            BadCertificates::NotJson => 1,
+            BadCertificates::Malformed => 2,
+            BadCertificates::TooLong => 10,
+            BadCertificates::Memory => 14,
         }
     }
 }
 
-impl From<Fault> for Bad {
+impl From<BadJson> for BadCertificates {
     ghost use Rattle.std.specs.Prelude.{◌≡◌};
-    ghost use Rattle.certificate_files.specs.Faults.{bad_of};
+    ghost use Rattle.certificate_files.specs.Faults.{bad_certificates};
 
-    ghost from_gives = { λ fault r. r ≡ bad_of fault };
+    ghost from_gives = { λ fault r. r ≡ bad_certificates fault };
 
-    fn from(fault: Fault) -> Bad {
+    fn from(fault: BadJson) -> BadCertificates {
         match fault {
-            Fault::TooLong => Bad::TooLong,
-            Fault::NotJson => Bad::NotJson,
-            Fault::Malformed => Bad::Malformed,
-            Fault::Memory => Bad::Memory,
+            BadJson::TooLong => BadCertificates::TooLong,
+            BadJson::NotJson => BadCertificates::NotJson,
+            BadJson::Malformed => BadCertificates::Malformed,
+            BadJson::Memory => BadCertificates::Memory,
         }
     }
 }

@@ -6,7 +6,7 @@ mod reading;
 mod unwritten;
 mod writing;
 
-pub use bad::Bad;
+pub use bad::BadCertificates;
 pub use reading::read_certificates;
 pub use unwritten::Unwritten;
 pub use writing::write_certificates;

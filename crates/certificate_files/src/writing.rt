@@ -4,7 +4,7 @@ ghost use Rattle.std.specs.Prelude.{◌≡◌, IfOk, string_bytes, IsUtf8};
 ghost use Rattle.serde_json.specs.View.{view};
 ghost use Rattle.state_walks.specs.Judged.{states_of};
 ghost use Rattle.certificate_files.specs.Spelled.{members_data, state_data, states_data};
-ghost use Rattle.certificate_files.specs.Writes.{GivesData, GivesItems, LendsText, Writes};
+ghost use Rattle.certificate_files.specs.Writes.{GivesData, GivesCertificates, LendsText, Writes};
 
 use crate::unwritten::Unwritten;
 use certificate_check::Certificate;
@@ -73,7 +73,7 @@ fn certificate_value(alloc: Global, certificate: &Certificate) -> Result<Value, 
 
 /// The values of some certificates.
 fn certificate_values(alloc: Global, certificates: &[Certificate]) -> Result<Vec<Value>, Unwritten>
-    ensures { GivesItems result certificates.now }
+    ensures { GivesCertificates result certificates.now }
 {
     let mut found = Vec::new(alloc);
     for certificate in certificates {

@@ -7,11 +7,11 @@ use certificate_files::read_certificates;
 use definitions::{Definitions, read_definitions};
 use exchange_graph::Topology;
 use guarantees::{Guarantee, read_guarantees};
-use line_words::{Answer, Unanswered, named_and_edits, sources_of, words_of};
+use line_words::{LineAnswer, Unanswered, named_and_edits, sources_of, words_of};
 use routing_lines::put_route;
 
 /// Answers about what was admitted: how many guarantees it has, or the queues to which it leads a key.
-fn answer_of_admitted(out: &mut Answer, admitted: &Checked, words: &[&str]) {
+fn answer_of_admitted(out: &mut LineAnswer, admitted: &Checked, words: &[&str]) {
     match words {
         [] => {
             out.put("admitted ");
@@ -23,7 +23,7 @@ fn answer_of_admitted(out: &mut Answer, admitted: &Checked, words: &[&str]) {
 }
 
 /// Answers about a clone of what was admitted.
-fn answer_of_clone(out: &mut Answer, checked: &Checked, words: &[&str]) {
+fn answer_of_clone(out: &mut LineAnswer, checked: &Checked, words: &[&str]) {
     match checked.clone(out.alloc()) {
         Ok(same) => answer_of_admitted(out, &same, words),
         Err(_) => out.fail(Unanswered::Memory),
@@ -31,7 +31,7 @@ fn answer_of_clone(out: &mut Answer, checked: &Checked, words: &[&str]) {
 }
 
 /// Appends the place of the first guarantee that is not admitted, behind its fault.
-fn put_not_admitted(out: &mut Answer, place: usize, fault: &CertFault) {
+fn put_not_admitted(out: &mut LineAnswer, place: usize, fault: &CertFault) {
     put_fault(out, fault);
     out.put(" at ");
     out.put_number(place as u64);
@@ -39,7 +39,7 @@ fn put_not_admitted(out: &mut Answer, place: usize, fault: &CertFault) {
 
 /// Answers about what is admitted of these guarantees.
 fn answer_of_guarantees(
-    out: &mut Answer,
+    out: &mut LineAnswer,
     topology: Topology,
     stated: Vec<Guarantee>,
     certificates: &[Certificate],
@@ -53,7 +53,7 @@ fn answer_of_guarantees(
 
 /// Answers about what is admitted of a file of guarantees.
 fn answer_over(
-    out: &mut Answer,
+    out: &mut LineAnswer,
     read: Definitions,
     guarantees: &str,
     certificates: &[Certificate],
@@ -68,7 +68,7 @@ fn answer_over(
 
 /// Answers about what is admitted by these certificates of two files.
 fn answer_by(
-    out: &mut Answer,
+    out: &mut LineAnswer,
     definitions: &str,
     guarantees: &str,
     certificates: &[Certificate],
@@ -81,7 +81,7 @@ fn answer_by(
 }
 
 /// Answers about what is admitted of three files.
-fn answer_of_files(out: &mut Answer, files: &[String], words: &[&str]) {
+fn answer_of_files(out: &mut LineAnswer, files: &[String], words: &[&str]) {
     let [definitions, guarantees, certificates] = files else {
         return out.fail(Unanswered::Form);
     };
@@ -98,7 +98,7 @@ fn answer_of_files(out: &mut Answer, files: &[String], words: &[&str]) {
 }
 
 /// Answers a line about what is admitted, which names three files.
-pub fn answer(out: &mut Answer, rt: &HostRuntime, asked: &str) {
+pub fn answer(out: &mut LineAnswer, rt: &HostRuntime, asked: &str) {
     let (named, edits) = named_and_edits(asked);
     let words = words_of(out, named);
     match words.as_slice() {

@@ -1,11 +1,11 @@
 //! Faults of certificates, told.
 
 use certificate_check::CertFault;
-use line_words::{Answer, Unanswered};
+use line_words::{LineAnswer, Unanswered};
 use model::Text;
 
 /// Appends the letter that leads out: a word in quotes, or `other`.
-fn put_letter(out: &mut Answer, named: &Option<Text>) {
+fn put_letter(out: &mut LineAnswer, named: &Option<Text>) {
     match named {
         Some(text) => out.put_quoted(text),
         None => out.put("other"),
@@ -13,7 +13,7 @@ fn put_letter(out: &mut Answer, named: &Option<Text>) {
 }
 
 /// Appends the state that a letter leads out of, and the letter.
-fn put_open(out: &mut Answer, state: usize, named: &Option<Text>) {
+fn put_open(out: &mut LineAnswer, state: usize, named: &Option<Text>) {
     out.put("fault 2 state ");
     out.put_number(state as u64);
     out.put(" letter ");
@@ -21,13 +21,13 @@ fn put_open(out: &mut Answer, state: usize, named: &Option<Text>) {
 }
 
 /// Appends the state that breaks the promise, behind the fault's number.
-fn put_broken(out: &mut Answer, fault: &str, state: usize) {
+fn put_broken(out: &mut LineAnswer, fault: &str, state: usize) {
     out.put(fault);
     out.put_number(state as u64);
 }
 
 /// Appends a fault in words.
-pub fn put_fault(out: &mut Answer, fault: &CertFault) {
+pub fn put_fault(out: &mut LineAnswer, fault: &CertFault) {
     match fault {
         CertFault::Start => out.put("fault 1"),
         CertFault::Open { state, word } => put_open(out, *state, word),

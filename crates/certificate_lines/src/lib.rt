@@ -14,7 +14,7 @@ mod faults;
 mod rewriting;
 mod verdicts;
 
-use line_words::Answer;
+use line_words::LineAnswer;
 
 /// The kinds of lines about one guarantee.
 const OF_ONE: [&str; 4] = ["check", "search", "certificate", "disprove"];
@@ -23,7 +23,7 @@ const OF_ONE: [&str; 4] = ["check", "search", "certificate", "disprove"];
 const OF_FILES: [&str; 3] = ["certificates", "certificates-hex", "rewritten"];
 
 /// Answers a line about certificates. Tells whether its kind is one of these.
-pub fn answer(out: &mut Answer, rt: &HostRuntime, kind: &str, asked: &str) -> bool {
+pub fn answer(out: &mut LineAnswer, rt: &HostRuntime, kind: &str, asked: &str) -> bool {
     if OF_ONE.contains(&kind) {
         verdicts::answer(out, rt, kind, asked);
     } else if OF_FILES.contains(&kind) {

@@ -2,10 +2,10 @@
 
 use certificate_check::Certificate;
 use certificate_files::{read_certificates, write_certificates};
-use line_words::{Answer, Unanswered, bytes_of, source_of};
+use line_words::{LineAnswer, Unanswered, bytes_of, source_of};
 
 /// Appends how many certificates a file has, or why it is refused.
-fn put_outcome(out: &mut Answer, bytes: &[u8]) {
+fn put_outcome(out: &mut LineAnswer, bytes: &[u8]) {
     match read_certificates(out.alloc(), bytes) {
         Ok(found) => {
             out.put("read ");
@@ -19,7 +19,7 @@ fn put_outcome(out: &mut Answer, bytes: &[u8]) {
 }
 
 /// Appends the file of these certificates.
-pub fn put_file_of(out: &mut Answer, certificates: &[Certificate]) {
+pub fn put_file_of(out: &mut LineAnswer, certificates: &[Certificate]) {
     match write_certificates(out.alloc(), certificates) {
         Ok(written) => out.put_bytes(written.as_slice()),
         Err(_) => out.fail(Unanswered::File),
@@ -27,7 +27,7 @@ pub fn put_file_of(out: &mut Answer, certificates: &[Certificate]) {
 }
 
 /// Appends whether what is written of these certificates is the text of the file, or what is written.
-fn put_again(out: &mut Answer, certificates: &[Certificate], file: &[u8]) {
+fn put_again(out: &mut LineAnswer, certificates: &[Certificate], file: &[u8]) {
     match write_certificates(out.alloc(), certificates) {
         Ok(written) if written.as_slice() == file => out.put("the same"),
         Ok(written) => out.put_bytes(written.as_slice()),
@@ -36,7 +36,7 @@ fn put_again(out: &mut Answer, certificates: &[Certificate], file: &[u8]) {
 }
 
 /// Appends whether what is written of the certificates of a file is the file's own text, or that text.
-fn put_rewritten(out: &mut Answer, file: &[u8]) {
+fn put_rewritten(out: &mut LineAnswer, file: &[u8]) {
     match read_certificates(out.alloc(), file) {
         Ok(found) => put_again(out, found.as_slice(), file.trim_ascii()),
         Err(_) => out.fail(Unanswered::File),
@@ -44,7 +44,7 @@ fn put_rewritten(out: &mut Answer, file: &[u8]) {
 }
 
 /// Answers a line about a certificates file.
-pub fn answer(out: &mut Answer, rt: &HostRuntime, kind: &str, asked: &str) {
+pub fn answer(out: &mut LineAnswer, rt: &HostRuntime, kind: &str, asked: &str) {
     if kind == "certificates-hex" {
         let bytes = bytes_of(out, asked);
         return put_outcome(out, bytes.as_slice());

@@ -7,13 +7,13 @@ use certificate_check::{Certificate, check};
 use certificate_files::read_certificates;
 use definitions::read_definitions;
 use exchange_graph::Topology;
-use guarantee_search::{Cause, Verdict, search};
+use guarantee_search::{UndecidedCause, Verdict, search};
 use guarantees::Guarantee;
-use line_words::{Answer, Unanswered, named_and_edits, sources_of, words_of};
+use line_words::{LineAnswer, Unanswered, named_and_edits, sources_of, words_of};
 use model::{Mode, Text};
 
 /// The mode of this name.
-fn mode_of(out: &mut Answer, mode: &str) -> Mode {
+fn mode_of(out: &mut LineAnswer, mode: &str) -> Mode {
     match mode {
         "reaches" => Mode::Reaches,
         "never" => Mode::Never,
@@ -25,7 +25,7 @@ fn mode_of(out: &mut Answer, mode: &str) -> Mode {
 }
 
 /// The text of a word.
-fn text_of(out: &mut Answer, word: &str) -> Text {
+fn text_of(out: &mut LineAnswer, word: &str) -> Text {
     match Text::from_slice(out.alloc(), word.as_bytes()) {
         Ok(text) => text,
         Err(_) => {
@@ -37,7 +37,7 @@ fn text_of(out: &mut Answer, word: &str) -> Text {
 
 /// Appends what is told of a certificate.
 fn put_checked(
-    out: &mut Answer,
+    out: &mut LineAnswer,
     topology: &Topology,
     guarantee: &Guarantee,
     certificate: &Certificate,
@@ -50,7 +50,7 @@ fn put_checked(
 
 /// Appends what is told of the one certificate among these.
 fn put_one_checked(
-    out: &mut Answer,
+    out: &mut LineAnswer,
     topology: &Topology,
     guarantee: &Guarantee,
     found: &[Certificate],
@@ -62,7 +62,7 @@ fn put_one_checked(
 }
 
 /// Appends what is told of the one certificate of a file.
-fn put_check_of(out: &mut Answer, topology: &Topology, guarantee: &Guarantee, file: &str) {
+fn put_check_of(out: &mut LineAnswer, topology: &Topology, guarantee: &Guarantee, file: &str) {
     match read_certificates(out.alloc(), file.as_bytes()) {
         Ok(found) => put_one_checked(out, topology, guarantee, found.as_slice()),
         Err(_) => out.fail(Unanswered::File),
@@ -70,7 +70,7 @@ fn put_check_of(out: &mut Answer, topology: &Topology, guarantee: &Guarantee, fi
 }
 
 /// Appends that a certificate was found, and whether a check accepts it.
-fn put_yes(out: &mut Answer, topology: &Topology, guarantee: &Guarantee, found: &Certificate) {
+fn put_yes(out: &mut LineAnswer, topology: &Topology, guarantee: &Guarantee, found: &Certificate) {
     if check(out.alloc(), topology, guarantee, found).is_ok() {
         out.put("yes states ");
         out.put_number(found.states().len() as u64);
@@ -80,7 +80,7 @@ fn put_yes(out: &mut Answer, topology: &Topology, guarantee: &Guarantee, found: 
 }
 
 /// Appends the names of a path, if it has some.
-fn put_path(out: &mut Answer, path: &[Text]) {
+fn put_path(out: &mut LineAnswer, path: &[Text]) {
     if path.is_empty() {
         return;
     }
@@ -92,7 +92,7 @@ fn put_path(out: &mut Answer, path: &[Text]) {
 }
 
 /// Appends that a key was found, with its path, if it is seen to break the guarantee.
-fn put_no(out: &mut Answer, topology: &Topology, guarantee: &Guarantee, found: &Refutation) {
+fn put_no(out: &mut LineAnswer, topology: &Topology, guarantee: &Guarantee, found: &Refutation) {
     match disprove(out.alloc(), topology, guarantee, found) {
         Ok(true) => {
             out.put("no key ");
@@ -105,16 +105,16 @@ fn put_no(out: &mut Answer, topology: &Topology, guarantee: &Guarantee, found: &
 }
 
 /// Appends why a search did not decide.
-fn put_cause(out: &mut Answer, cause: Cause) {
+fn put_cause(out: &mut LineAnswer, cause: UndecidedCause) {
     out.put(match cause {
-        Cause::TooManyStates => "undecided states",
-        Cause::KeyTooLong => "undecided key",
-        Cause::Unfit => "undecided unfit",
+        UndecidedCause::TooManyStates => "undecided states",
+        UndecidedCause::KeyTooLong => "undecided key",
+        UndecidedCause::Unfit => "undecided unfit",
     });
 }
 
 /// Appends what a search says.
-fn put_searched(out: &mut Answer, topology: &Topology, guarantee: &Guarantee) {
+fn put_searched(out: &mut LineAnswer, topology: &Topology, guarantee: &Guarantee) {
     match search(out.alloc(), topology, guarantee) {
         Ok(Verdict::Yes(found)) => put_yes(out, topology, guarantee, &found),
         Ok(Verdict::No(found)) => put_no(out, topology, guarantee, &found),
@@ -124,7 +124,7 @@ fn put_searched(out: &mut Answer, topology: &Topology, guarantee: &Guarantee) {
 }
 
 /// Appends the file of the certificate that a search finds, or `none`.
-fn put_found(out: &mut Answer, topology: &Topology, guarantee: &Guarantee) {
+fn put_found(out: &mut LineAnswer, topology: &Topology, guarantee: &Guarantee) {
     match search(out.alloc(), topology, guarantee) {
         Ok(Verdict::Yes(found)) => put_file_of(out, &[found]),
         Ok(_) => out.put("none"),
@@ -133,7 +133,7 @@ fn put_found(out: &mut Answer, topology: &Topology, guarantee: &Guarantee) {
 }
 
 /// Appends a name to a path.
-fn push_name(out: &mut Answer, path: &mut Vec<Text>, name: &str) {
+fn push_name(out: &mut LineAnswer, path: &mut Vec<Text>, name: &str) {
     let name = text_of(out, name);
     if path.push(name).is_err() {
         out.fail(Unanswered::Memory);
@@ -141,7 +141,7 @@ fn push_name(out: &mut Answer, path: &mut Vec<Text>, name: &str) {
 }
 
 /// The path of these names.
-fn path_of(out: &mut Answer, names: &[&str]) -> Vec<Text> {
+fn path_of(out: &mut LineAnswer, names: &[&str]) -> Vec<Text> {
     let mut path = Vec::new(out.alloc());
     for name in names {
         push_name(out, &mut path, name);
@@ -151,7 +151,7 @@ fn path_of(out: &mut Answer, names: &[&str]) -> Vec<Text> {
 
 /// Appends whether a key, with a path of these names, is seen to break the guarantee.
 fn put_disproved(
-    out: &mut Answer,
+    out: &mut LineAnswer,
     topology: &Topology,
     guarantee: &Guarantee,
     key: &str,
@@ -168,7 +168,7 @@ fn put_disproved(
 /// Answers what is asked about a guarantee, with the words that stand behind it, and with a file of certificates if one
 /// is named.
 fn answer_of_guarantee(
-    out: &mut Answer,
+    out: &mut LineAnswer,
     kind: &str,
     topology: &Topology,
     guarantee: &Guarantee,
@@ -190,7 +190,7 @@ fn answer_of_guarantee(
 
 /// Answers a line over a topology. Its first words are a guarantee, `MODE EXCHANGE PATTERN QUEUE`.
 fn answer_over(
-    out: &mut Answer,
+    out: &mut LineAnswer,
     kind: &str,
     topology: &Topology,
     files: &[String],
@@ -208,7 +208,7 @@ fn answer_over(
 }
 
 /// Answers a line over files, the first of which is a definitions file.
-fn answer_of_files(out: &mut Answer, kind: &str, files: &[String], words: &[&str]) {
+fn answer_of_files(out: &mut LineAnswer, kind: &str, files: &[String], words: &[&str]) {
     let Some(definitions) = files.first() else {
         return out.fail(Unanswered::File);
     };
@@ -220,7 +220,7 @@ fn answer_of_files(out: &mut Answer, kind: &str, files: &[String], words: &[&str
 
 /// Answers a line about the certificates or the refutations of a guarantee, which names a definitions file, and for a check
 /// a file of certificates.
-pub fn answer(out: &mut Answer, rt: &HostRuntime, kind: &str, asked: &str) {
+pub fn answer(out: &mut LineAnswer, rt: &HostRuntime, kind: &str, asked: &str) {
     let (named, edits) = named_and_edits(asked);
     let words = words_of(out, named);
     let count = if kind == "check" { 2 } else { 1 };

@@ -1,5 +1,5 @@
 -- Counts of what consumers hold, at each change.
-use Rattle.std.proofs.Common.{◌≡◌, ℕ, zero, suc, ◌+◌, ◌<◌, List, [], ◌∷◌, ◌++◌, length, get_or, set, take, drop, map, filter, find, count_by, refl, sym, ap, ◌∙◌, arith, Bool, true, false, cond, not, Option, Some, None}
+use Rattle.std.proofs.Common.{◌≡◌, ℕ, zero, suc, ◌+◌, ◌<◌, List, [], ◌∷◌, ◌++◌, length, get_or, map, filter, find, count_by, refl, sym, ap, ◌∙◌, arith, Bool, true, false, cond, not, Option, Some, None}
 use Rattle.std.specs.Prelude.{◌||◌, ◌==◌}
 use Rattle.std.specs.List.{All, list_any}
 use Rattle.std.proofs.lemmas.List.Sums.{count_by-le-length, length-filter, sum_by-cons}
@@ -7,45 +7,13 @@ use Rattle.model.specs.Settling.{takes, is_refused, settled, kept}
 use Rattle.model.specs.Prefetch.{is_to, count_to, count_given}
 use Rattle.model.specs.declared.messages.Taker.{Taker}
 use Rattle.channel.specs.Outstanding.{tag_of, taker_of}
-use Rattle.channel.specs.Seats.{consumers_of, counts_of, is_of, counted_in, counted_out, may_held, AreParts}
+use Rattle.channel.specs.Seats.{consumers_of, counts_of, is_numbered, counted_in, counted_out, may_held, AreParts}
 use Rattle.channel.specs.Deliveries.{may_of}
 use Rattle.channel.specs.declared.pending.Outstanding.{Outstanding}
 use Rattle.channel.specs.declared.consumers.Consumer.{Consumer}
-use Rattle.channel.specs.declared.consumers.Seat.{Seat}
+use Rattle.channel.specs.declared.consumers.CountedConsumer.{CountedConsumer}
 
 -- ---- the first i of a list changed, the others as they were
-
-changed_at : {X : Type 0} (f : X → X) (xs : List X) (i : ℕ) (d : X) → i < length xs → get_or (map f (take i xs) ++ drop i xs) i d ≡ get_or xs i d
-changed_at f [] i d h = absurd (omega arith)
-changed_at f (x ∷ xs) zero d h = refl
-changed_at f (x ∷ xs) (suc i) d h = changed_at f xs i d (omega arith)
-
-changed_more : {X : Type 0} (f : X → X) (xs : List X) (i : ℕ) (d : X) → i < length xs
-    → set (map f (take i xs) ++ drop i xs) i (f (get_or xs i d)) ≡ map f (take (suc i) xs) ++ drop (suc i) xs
-changed_more f [] i d h = absurd (omega arith)
-changed_more f (x ∷ xs) zero d h = refl
-changed_more f (x ∷ xs) (suc i) d h = ap (λ (ys : List _). f x ∷ ys) (changed_more f xs i d (omega arith))
-
-changed-length : {X : Type 0} (f : X → X) (xs : List X) (i : ℕ) → length (map f (take i xs) ++ drop i xs) ≡ length xs
-changed-length f [] zero = refl
-changed-length f [] (suc i) = refl
-changed-length f (x ∷ xs) zero = refl
-changed-length f (x ∷ xs) (suc i) = ap suc (changed-length f xs i)
-
--- the next one as it was before
-pub next_was : {X : Type 0} (f : X → X) (xs start : List X) (i : ℕ) (d : X) → i < length xs → d ≡ get_or xs i d → xs ≡ map f (take i start) ++ drop i start → d ≡ get_or start i d
-next_was f xs start i d lt at is = let long : length xs ≡ length start = ap length is ∙ changed-length f start i in at ∙ ap (λ (ys : List _). get_or ys i d) is ∙ changed_at f start i d (omega arith)
-
--- the next one is changed
-pub changed_next : {X : Type 0} (f : X → X) (xs start : List X) (i j : ℕ) (e d : X) → j ≡ suc i → i < length xs → d ≡ get_or xs i d → xs ≡ map f (take i start) ++ drop i start → e ≡ f (get_or xs i d)
-    → set xs i e ≡ map f (take j start) ++ drop j start
-changed_next f xs start i j e d step lt at is new =
-    let long : length xs ≡ length start = ap length is ∙ changed-length f start i in
-    let before : i < length start = omega arith in
-    ap (λ (ys : List _). set ys i e) is
-    ∙ ap (set (map f (take i start) ++ drop i start) i) (new ∙ ap f (sym at ∙ next_was f xs start i d lt at is))
-    ∙ changed_more f start i d before
-    ∙ ap (λ (k : ℕ). map f (take k start) ++ drop k start) (sym step)
 
 -- ---- counts of a list in two parts
 
@@ -99,7 +67,7 @@ abbrev counts : List Consumer → List Outstanding → List ℕ
 counts consumers given = map (λ (c : Consumer). count_to taker_of c.number given) consumers
 
 -- the consumers stay where each count is changed
-pub same_consumers : (f : Seat → Seat) → ((s : Seat) → (f s).consumer ≡ s.consumer) → (seats : List Seat) → consumers_of (map f seats) ≡ consumers_of seats
+pub same_consumers : (f : CountedConsumer → CountedConsumer) → ((s : CountedConsumer) → (f s).consumer ≡ s.consumer) → (seats : List CountedConsumer) → consumers_of (map f seats) ≡ consumers_of seats
 same_consumers f same [] = refl
 same_consumers f same (s ∷ ss) = ap (λ (c : Consumer). c ∷ consumers_of (map f ss)) (same s) ∙ ap (λ (cs : List Consumer). s.consumer ∷ cs) (same_consumers f same ss)
 
@@ -110,21 +78,21 @@ tail_is : (x y : ℕ) (xs ys : List ℕ) → x ∷ xs ≡ y ∷ ys → xs ≡ ys
 tail_is x y xs ys e = cc
 
 -- each count is changed as what is outstanding changes
-pub new_counts : (f : Seat → Seat) (old new : List Outstanding) → ((s : Seat) → s.held ≡ count_to taker_of s.consumer.number old → (f s).held ≡ count_to taker_of s.consumer.number new)
-    → (seats : List Seat) → counts_of seats ≡ counts (consumers_of seats) old → counts_of (map f seats) ≡ counts (consumers_of seats) new
+pub new_counts : (f : CountedConsumer → CountedConsumer) (old new : List Outstanding) → ((s : CountedConsumer) → s.held ≡ count_to taker_of s.consumer.number old → (f s).held ≡ count_to taker_of s.consumer.number new)
+    → (seats : List CountedConsumer) → counts_of seats ≡ counts (consumers_of seats) old → counts_of (map f seats) ≡ counts (consumers_of seats) new
 new_counts f old new step [] h = refl
 new_counts f old new step (s ∷ ss) h =
     ap (λ (n : ℕ). n ∷ counts_of (map f ss)) (step s (head_is _ _ _ _ h))
     ∙ ap (λ (ns : List ℕ). count_to taker_of s.consumer.number new ∷ ns) (new_counts f old new step ss (tail_is _ _ _ _ h))
 
-pub in_consumer : (by : Taker) (s : Seat) → (counted_in by s).consumer ≡ s.consumer
+pub in_consumer : (by : Taker) (s : CountedConsumer) → (counted_in by s).consumer ≡ s.consumer
 in_consumer by s = go (is_to s.consumer.number by)
   where
     go : (b : Bool) → (cond b (record s { held = s.held + 1 }) s).consumer ≡ s.consumer
     go true = refl
     go false = refl
 
-pub in_held : (by : Taker) (s : Seat) → (counted_in by s).held ≡ s.held + cond (is_to s.consumer.number by) 1 0
+pub in_held : (by : Taker) (s : CountedConsumer) → (counted_in by s).held ≡ s.held + cond (is_to s.consumer.number by) 1 0
 in_held by s = go (is_to s.consumer.number by)
   where
     go : (b : Bool) → (cond b (record s { held = s.held + 1 }) s).held ≡ s.held + cond b 1 0
@@ -147,18 +115,18 @@ one_passed p (x ∷ xs) o = go (p x) (one_passed p xs o)
 pub one_more : (p : Outstanding → Bool) (os : List Outstanding) (o : Outstanding) → count_by p (os ++ o ∷ []) ≡ count_by p os + cond (p o) 1 0
 one_more p os o = let a = length-filter p (os ++ o ∷ []) in let b = length-filter p os in let c = one_passed p os o in omega arith
 
-pub step_in : (by : Taker) (os : List Outstanding) (o : Outstanding) → o.by ≡ by → (s : Seat) → s.held ≡ count_to taker_of s.consumer.number os → (counted_in by s).held ≡ count_to taker_of s.consumer.number (os ++ o ∷ [])
+pub step_in : (by : Taker) (os : List Outstanding) (o : Outstanding) → o.by ≡ by → (s : CountedConsumer) → s.held ≡ count_to taker_of s.consumer.number os → (counted_in by s).held ≡ count_to taker_of s.consumer.number (os ++ o ∷ [])
 step_in by os o e s h =
     in_held by s
     ∙ ap (λ (n : ℕ). n + cond (is_to s.consumer.number by) 1 0) h
     ∙ ap (λ (t : Taker). count_to taker_of s.consumer.number os + cond (is_to s.consumer.number t) 1 0) (sym e)
     ∙ sym (one_more (λ x. is_to s.consumer.number (taker_of x)) os o)
 
-pub step_out : (given gone left : List Outstanding) → AreParts given gone left → (s : Seat) → s.held ≡ count_to taker_of s.consumer.number given → (counted_out gone s).held ≡ count_to taker_of s.consumer.number left
+pub step_out : (given gone left : List Outstanding) → AreParts given gone left → (s : CountedConsumer) → s.held ≡ count_to taker_of s.consumer.number given → (counted_out gone s).held ≡ count_to taker_of s.consumer.number left
 step_out given gone left parts s h = let p = parts (λ x. is_to s.consumer.number (taker_of x)) in omega arith
 
 -- a consumer more
-pub one_seat : (seats : List Seat) (s : Seat) (given : List Outstanding) → counts_of seats ≡ counts (consumers_of seats) given → s.held ≡ count_to taker_of s.consumer.number given
+pub one_seat : (seats : List CountedConsumer) (s : CountedConsumer) (given : List Outstanding) → counts_of seats ≡ counts (consumers_of seats) given → s.held ≡ count_to taker_of s.consumer.number given
     → counts_of (seats ++ s ∷ []) ≡ counts (consumers_of (seats ++ s ∷ [])) given
 one_seat [] s given h e = ap (λ (n : ℕ). n ∷ []) e
 one_seat (x ∷ xs) s given h e =
@@ -166,16 +134,16 @@ one_seat (x ∷ xs) s given h e =
     ∙ ap (λ (ns : List ℕ). count_to taker_of x.consumer.number given ∷ ns) (one_seat xs s given (tail_is _ _ _ _ h) e)
 
 -- some are taken out
-pub seats_filtered : (p : Consumer → Bool) (seats : List Seat) → consumers_of (filter (λ (s : Seat). p s.consumer) seats) ≡ filter p (consumers_of seats)
+pub seats_filtered : (p : Consumer → Bool) (seats : List CountedConsumer) → consumers_of (filter (λ (s : CountedConsumer). p s.consumer) seats) ≡ filter p (consumers_of seats)
 seats_filtered p [] = refl
 seats_filtered p (s ∷ ss) = go (p s.consumer) (seats_filtered p ss)
   where
-    go : (b : Bool) → consumers_of (filter (λ (s : Seat). p s.consumer) ss) ≡ filter p (consumers_of ss)
-        → consumers_of (cond b (s ∷ filter (λ (s : Seat). p s.consumer) ss) (filter (λ (s : Seat). p s.consumer) ss)) ≡ cond b (s.consumer ∷ filter p (consumers_of ss)) (filter p (consumers_of ss))
+    go : (b : Bool) → consumers_of (filter (λ (s : CountedConsumer). p s.consumer) ss) ≡ filter p (consumers_of ss)
+        → consumers_of (cond b (s ∷ filter (λ (s : CountedConsumer). p s.consumer) ss) (filter (λ (s : CountedConsumer). p s.consumer) ss)) ≡ cond b (s.consumer ∷ filter p (consumers_of ss)) (filter p (consumers_of ss))
     go true e = ap (λ (cs : List Consumer). s.consumer ∷ cs) e
     go false e = e
 
-pub counts_filtered : (p : Seat → Bool) (seats : List Seat) (given : List Outstanding) → counts_of seats ≡ counts (consumers_of seats) given → counts_of (filter p seats) ≡ counts (consumers_of (filter p seats)) given
+pub counts_filtered : (p : CountedConsumer → Bool) (seats : List CountedConsumer) (given : List Outstanding) → counts_of seats ≡ counts (consumers_of seats) given → counts_of (filter p seats) ≡ counts (consumers_of (filter p seats)) given
 counts_filtered p [] given h = refl
 counts_filtered p (s ∷ ss) given h = go (p s) (counts_filtered p ss given (tail_is _ _ _ _ h))
   where
@@ -184,25 +152,25 @@ counts_filtered p (s ∷ ss) given h = go (p s) (counts_filtered p ss given (tai
     go false e = e
 
 -- seats are counted by their consumers
-pub counted_of : (p : Consumer → Bool) (seats : List Seat) → count_by (λ (s : Seat). p s.consumer) seats ≡ count_by p (consumers_of seats)
+pub counted_of : (p : Consumer → Bool) (seats : List CountedConsumer) → count_by (λ (s : CountedConsumer). p s.consumer) seats ≡ count_by p (consumers_of seats)
 counted_of p [] = refl
 counted_of p (s ∷ ss) =
-    sum_by-cons (λ (x : Seat). cond (p x.consumer) 1 0) s ss
+    sum_by-cons (λ (x : CountedConsumer). cond (p x.consumer) 1 0) s ss
     ∙ ap (λ (n : ℕ). cond (p s.consumer) 1 0 + n) (counted_of p ss)
     ∙ sym (sum_by-cons (λ (x : Consumer). cond (p x) 1 0) s.consumer (consumers_of ss))
 
-pub any_named : (p : Consumer → Bool) (seats : List Seat) → list_any (λ (s : Seat). p s.consumer) seats ≡ list_any p (consumers_of seats)
+pub any_named : (p : Consumer → Bool) (seats : List CountedConsumer) → list_any (λ (s : CountedConsumer). p s.consumer) seats ≡ list_any p (consumers_of seats)
 any_named p [] = refl
 any_named p (s ∷ ss) = ap (λ (b : Bool). p s.consumer || b) (any_named p ss)
 
 -- by its kept counts a consumer may take what it may by what is outstanding
-pub may_kept : (limit given number : ℕ) (seats : List Seat) (os : List Outstanding) → counts_of seats ≡ counts (consumers_of seats) os → given ≡ count_given taker_of os
-    → may_held limit given (find (is_of number) seats) ≡ may_of limit os (find (λ (c : Consumer). c.number == number) (consumers_of seats))
+pub may_kept : (limit given number : ℕ) (seats : List CountedConsumer) (os : List Outstanding) → counts_of seats ≡ counts (consumers_of seats) os → given ≡ count_given taker_of os
+    → may_held limit given (find (is_numbered number) seats) ≡ may_of limit os (find (λ (c : Consumer). c.number == number) (consumers_of seats))
 may_kept limit given number [] os h g = refl
 may_kept limit given number (s ∷ ss) os h g = go (s.consumer.number == number) (may_kept limit given number ss os (tail_is _ _ _ _ h) g)
   where
-    go : (b : Bool) → may_held limit given (find (is_of number) ss) ≡ may_of limit os (find (λ (c : Consumer). c.number == number) (consumers_of ss))
-        → may_held limit given (cond b (Some s) (find (is_of number) ss)) ≡ may_of limit os (cond b (Some s.consumer) (find (λ (c : Consumer). c.number == number) (consumers_of ss)))
+    go : (b : Bool) → may_held limit given (find (is_numbered number) ss) ≡ may_of limit os (find (λ (c : Consumer). c.number == number) (consumers_of ss))
+        → may_held limit given (cond b (Some s) (find (is_numbered number) ss)) ≡ may_of limit os (cond b (Some s.consumer) (find (λ (c : Consumer). c.number == number) (consumers_of ss)))
     go true e = rw (head_is _ _ _ _ h, g) refl
     go false e = e
 
@@ -213,14 +181,14 @@ counts_small n (c ∷ cs) os h zero d lt = let m = count_by-le-length (λ x. is_
 counts_small n (c ∷ cs) os h (suc k) d lt = counts_small n cs os h k d (omega arith)
 
 -- each count of a seat is in the list of counts
-held_at : (seats : List Seat) (k : ℕ) (d : Seat) → get_or (counts_of seats) k d.held ≡ (get_or seats k d).held
+held_at : (seats : List CountedConsumer) (k : ℕ) (d : CountedConsumer) → get_or (counts_of seats) k d.held ≡ (get_or seats k d).held
 held_at [] k d = refl
 held_at (s ∷ ss) zero d = refl
 held_at (s ∷ ss) (suc k) d = held_at ss k d
 
-counts-length : (seats : List Seat) → length (counts_of seats) ≡ length seats
+counts-length : (seats : List CountedConsumer) → length (counts_of seats) ≡ length seats
 counts-length [] = refl
 counts-length (s ∷ ss) = ap suc (counts-length ss)
 
-pub held_small : (n : ℕ) (seats : List Seat) → All (λ k. k < n) (counts_of seats) → All (λ (s : Seat). s.held < n) seats
+pub held_small : (n : ℕ) (seats : List CountedConsumer) → All (λ k. k < n) (counts_of seats) → All (λ (s : CountedConsumer). s.held < n) seats
 held_small n seats h k d lt = let a = h k d.held (let l = counts-length seats in omega arith) in let e = held_at seats k d in omega arith

@@ -10,12 +10,12 @@ use Rattle.model.specs.Broker as seen
 use Rattle.model.specs.Prefetch.{is_to, is_delivery, is_below, count_to, count_given, has_tag_left}
 use Rattle.model.specs.Consuming as said
 use Rattle.channel.specs.Outstanding.{taker_of}
-use Rattle.channel.specs.Seats.{consumers_of, is_of, AreNumbered}
+use Rattle.channel.specs.Seats.{consumers_of, is_numbered, AreNumbered}
 use Rattle.channel.specs.Deliveries.{Given, may_of, may_be_given, consumer_at, taker_at}
 use Rattle.channel.specs.Open.{Open, outstanding_in, consumer_in, open_in, IsTaker, HasNoTaker, TellsTaker}
 use Rattle.channel.specs.declared.pending.Outstanding.{Outstanding}
 use Rattle.channel.specs.declared.consumers.Consumer.{Consumer}
-use Rattle.channel.specs.declared.consumers.Seat.{Seat}
+use Rattle.channel.specs.declared.consumers.CountedConsumer.{CountedConsumer}
 
 -- ---- numbers that rise
 
@@ -54,12 +54,12 @@ numbered_filter next p (c ∷ cs) (lt, (above, rest)) = go (p c) (numbered_filte
 -- ---- the consumer of a number
 
 -- the seat of a number has the consumer of it
-pub seat_is : (number : ℕ) (seats : List Seat) → option_map (λ (s : Seat). s.consumer) (find (is_of number) seats) ≡ find (λ (c : Consumer). c.number == number) (consumers_of seats)
+pub seat_is : (number : ℕ) (seats : List CountedConsumer) → option_map (λ (s : CountedConsumer). s.consumer) (find (is_numbered number) seats) ≡ find (λ (c : Consumer). c.number == number) (consumers_of seats)
 seat_is number [] = refl
 seat_is number (s ∷ ss) = go (s.consumer.number == number) (seat_is number ss)
   where
-    go : (b : Bool) → option_map (λ (s : Seat). s.consumer) (find (is_of number) ss) ≡ find (λ (c : Consumer). c.number == number) (consumers_of ss)
-        → option_map (λ (s : Seat). s.consumer) (cond b (Some s) (find (is_of number) ss)) ≡ cond b (Some s.consumer) (find (λ (c : Consumer). c.number == number) (consumers_of ss))
+    go : (b : Bool) → option_map (λ (s : CountedConsumer). s.consumer) (find (is_numbered number) ss) ≡ find (λ (c : Consumer). c.number == number) (consumers_of ss)
+        → option_map (λ (s : CountedConsumer). s.consumer) (cond b (Some s) (find (is_numbered number) ss)) ≡ cond b (Some s.consumer) (find (λ (c : Consumer). c.number == number) (consumers_of ss))
     go true e = refl
     go false e = e
 

@@ -14,10 +14,10 @@ use Rattle.laws.specs.Consumers.{NextTagsAreFound}
 use Rattle.channel.specs.Seats.{is_named}
 use Rattle.channel.specs.Names.{server_name, IsNextName, AreNamesSpent}
 use Rattle.channel.specs.Deliveries.{Given, with_consumer_added, RefusesConsumer, AddsConsumer, RefusesUnnamed, ConsumesUnnamed, IsMadeUnder}
-use Rattle.channel.specs.Open.{Open, consumer_in, open_in, places_of, IsSeated, IsUnseated, Seats}
+use Rattle.channel.specs.Open.{Open, consumer_in, open_in, places_of, IsConsumerSeated, IsUnseated, SeatsConsumer}
 use Rattle.channel.specs.declared.consumers.Consumer.{Consumer}
-use Rattle.channel.specs.declared.consumers.Refusal.{Refusal}
-use Rattle.channel.specs.declared.consumers.Refusal.TheVariants.{InUse, TooMany, Spent, Memory}
+use Rattle.channel.specs.declared.consumers.SeatRefusal.{SeatRefusal}
+use Rattle.channel.specs.declared.consumers.SeatRefusal.TheVariants.{InUse, TooMany, Spent, Memory}
 
 -- ---- consumers, where queues have names
 
@@ -118,7 +118,7 @@ given_wanting ch [] h = absurd (h refl)
 given_wanting ch (b ∷ bs) h = refl
 
 pub named_seated : (old : Open) (given : Given) (queue : ℕ) (m : Consume) (number : ℕ) → (length m.consumer_tag ≡ 0 → ⊥)
-    → AddsConsumer old.given m.consumer_tag queue m.no_ack (Ok number) given → IsSeated old queue m m.consumer_tag (record old { given = given })
+    → AddsConsumer old.given m.consumer_tag queue m.no_ack (Ok number) given → IsConsumerSeated old queue m m.consumer_tag (record old { given = given })
 named_seated old given queue m number h (free, (few, (left, (is, (made, seats))))) = record {
   free = λ names. decides (open_in names old) m false false false
       (given_taken (open_in names old) m.consumer_tag h ∙ any_tagged names m.consumer_tag old.given.consumers ∙ free)
@@ -130,7 +130,7 @@ named_seated old given queue m number h (free, (few, (left, (is, (made, seats)))
   places = ap (λ (g : Given). places_of g.consumers) made ∙ places_more old.given.consumers _;
 }
 
-pub named_refused : (old : Open) (m : Consume) (r : Refusal) → (length m.consumer_tag ≡ 0 → ⊥) → RefusesConsumer old.given m.consumer_tag r → IsUnseated old m r
+pub named_refused : (old : Open) (m : Consume) (r : SeatRefusal) → (length m.consumer_tag ≡ 0 → ⊥) → RefusesConsumer old.given m.consumer_tag r → IsUnseated old m r
 named_refused old m InUse h used = λ names.
     decides (open_in names old) m true _ _ (given_taken (open_in names old) m.consumer_tag h ∙ any_tagged names m.consumer_tag old.given.consumers ∙ used) refl refl
 named_refused old m TooMany h (free, many) = λ names.
@@ -167,7 +167,7 @@ none_is : NextTagsAreFound → (names : List Text) (old : Open) → AreNamesSpen
 none_is laws names old spent = laws.none_left (open_in names old) spent.within (λ k le lt. any_tagged names (server_name k) old.given.consumers ∙ spent.used k le lt)
 
 unnamed_made : NextTagsAreFound → (old : Open) (given : Given) (queue : ℕ) (m : Consume) (tag : Text) (n : ℕ) → m.consumer_tag ≡ []
-    → length old.given.consumers < 256 → old.given.next_number < greatest → IsMadeUnder old.given queue m.no_ack tag given n → IsSeated old queue m tag (record old { given = given })
+    → length old.given.consumers < 256 → old.given.next_number < greatest → IsMadeUnder old.given queue m.no_ack tag given n → IsConsumerSeated old queue m tag (record old { given = given })
 unnamed_made laws old given queue m tag n none few left is = record {
   free = λ names. decides (open_in names old) m false false false
       (no_tag_taken (open_in names old) m.consumer_tag none)
@@ -185,10 +185,10 @@ unnamed_made laws old given queue m tag n none few left is = record {
     tagged names = is.named ∙ sym (no_tag_for (open_in names old) m.consumer_tag none ∙ ap server_tag (next_is laws names old n is.next))
 
 pub unnamed_seated : NextTagsAreFound → (old : Open) (given : Given) (queue : ℕ) (m : Consume) (tag : Text) → length m.consumer_tag ≡ 0
-    → ConsumesUnnamed old.given queue m.no_ack (Ok tag) given → IsSeated old queue m tag (record old { given = given })
+    → ConsumesUnnamed old.given queue m.no_ack (Ok tag) given → IsConsumerSeated old queue m tag (record old { given = given })
 unnamed_seated laws old given queue m tag h (few, (left, (seats, (n, is)))) = unnamed_made laws old given queue m tag n (no_tag m.consumer_tag h) few left is
 
-pub unnamed_refused : NextTagsAreFound → (old : Open) (m : Consume) (r : Refusal) → length m.consumer_tag ≡ 0 → RefusesUnnamed old.given r → IsUnseated old m r
+pub unnamed_refused : NextTagsAreFound → (old : Open) (m : Consume) (r : SeatRefusal) → length m.consumer_tag ≡ 0 → RefusesUnnamed old.given r → IsUnseated old m r
 unnamed_refused laws old m InUse h why = absurd why
 unnamed_refused laws old m TooMany h many = λ names. let none = no_tag m.consumer_tag h in
     decides (open_in names old) m false true _ (no_tag_taken (open_in names old) m.consumer_tag none) (many_in names old.given.consumers many) refl
@@ -203,11 +203,11 @@ unnamed_refused laws old m Spent h (few, spent) = λ names. let none = no_tag m.
         ∙ or_true (old.given.next_number == greatest)
 unnamed_refused laws old m Memory h why = tt
 
-pub unnamed_seats : NextTagsAreFound → (old : Open) (given : Given) (queue : ℕ) (m : Consume) (r : Result Text Refusal) → length m.consumer_tag ≡ 0
-    → ConsumesUnnamed old.given queue m.no_ack r given → Seats old queue m r (record old { given = given })
+pub unnamed_seats : NextTagsAreFound → (old : Open) (given : Given) (queue : ℕ) (m : Consume) (r : Result Text SeatRefusal) → length m.consumer_tag ≡ 0
+    → ConsumesUnnamed old.given queue m.no_ack r given → SeatsConsumer old queue m r (record old { given = given })
 unnamed_seats laws old given queue m (Ok tag) h is = unnamed_seated laws old given queue m tag h is
 unnamed_seats laws old given queue m (Err r) h (why, same) = (unnamed_refused laws old m r h why, ap (λ (g : Given). record old { given = g }) same)
 
-pub named_unseated : (old : Open) (given : Given) (m : Consume) (tag : Text) (r : Refusal) → (length m.consumer_tag ≡ 0 → ⊥) → tag ≡ m.consumer_tag
+pub named_unseated : (old : Open) (given : Given) (m : Consume) (tag : Text) (r : SeatRefusal) → (length m.consumer_tag ≡ 0 → ⊥) → tag ≡ m.consumer_tag
     → RefusesConsumer old.given tag r → given ≡ old.given → IsUnseated old m r × (record old { given = given } ≡ old)
 named_unseated old given m tag r h e why same = (named_refused old m r h (subst (λ (t : Text). RefusesConsumer old.given t r) e why), ap (λ (g : Given). record old { given = g }) same)

@@ -33,9 +33,6 @@ one_passes os i tag r h = record {
   after = λ k d ge lt. not_equal _ _ (let a = r i k d (omega arith) lt in let b = h.there d in omega arith);
 }
 
-zero_or : (tag : ℕ) (a : Bool) → (tag ≡ 0 → a ≡ true) → cond (eqb tag 0) true a ≡ a
-zero_or tag a h = elim (eqb_tells tag 0) [ inl p ↦ rw p.0 (sym (h p.1)) | inr p ↦ rw p.0 refl ]
-
 pub many_pass : (os : List Outstanding) (i tag : ℕ) → (tag ≡ 0 → ⊥) → Rises tag_of os → IsTagAt os i tag → PassWithin (takes tag_of tag true) os 0 (i + 1)
 many_pass os i tag nz r h = record {
   order = omega arith;

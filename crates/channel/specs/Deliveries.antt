@@ -10,8 +10,8 @@ use Rattle.channel.specs.Seats.{is_named}
 use Rattle.channel.specs.Names.{server_name, IsNextName, AreNamesSpent}
 use Rattle.channel.specs.declared.pending.Outstanding.{Outstanding}
 use Rattle.channel.specs.declared.consumers.Consumer.{Consumer}
-use Rattle.channel.specs.declared.consumers.Refusal.{Refusal}
-use Rattle.channel.specs.declared.consumers.Refusal.TheVariants.{InUse, TooMany, Spent, Memory}
+use Rattle.channel.specs.declared.consumers.SeatRefusal.{SeatRefusal}
+use Rattle.channel.specs.declared.consumers.SeatRefusal.TheVariants.{InUse, TooMany, Spent, Memory}
 
 -- delivery tags, limits, consumers, what is outstanding, and how many messages more can be given out, and how many consumers more be made, without memory
 pub record Given : Type 0 where
@@ -59,19 +59,19 @@ abbrev pub with_consumer_added : Given → Text → ℕ → Bool → ℕ → Giv
 with_consumer_added g name queue no_ack seats = record g { seats = seats; next_number = g.next_number + 1; consumers = g.consumers ++ record { number = g.next_number; tag = name; queue = queue; no_ack = no_ack; limit = g.each_limit } ∷ [] }
 
 -- why a consumer was refused, in this order: its tag is in use on the channel; there are 256 (own); the numbers are spent; memory was wanting, where there was no room for one more
-abbrev pub RefusesConsumer : Given → Text → Refusal → Type 0
+abbrev pub RefusesConsumer : Given → Text → SeatRefusal → Type 0
 RefusesConsumer g name InUse = list_any (is_named name) g.consumers ≡ true
 RefusesConsumer g name TooMany = (list_any (is_named name) g.consumers ≡ false) × (256 ≤ length g.consumers)
 RefusesConsumer g name Spent = (list_any (is_named name) g.consumers ≡ false) × ((length g.consumers < 256) × (g.next_number ≡ greatest))
 RefusesConsumer g name Memory = (list_any (is_named name) g.consumers ≡ false) × ((length g.consumers < 256) × ((g.next_number < greatest) × (g.seats ≡ 0)))
 
 -- A consumer was made, or refused: then nothing changed.
-abbrev pub AddsConsumer : Given → Text → ℕ → Bool → Result ℕ Refusal → Given → Type 0
+abbrev pub AddsConsumer : Given → Text → ℕ → Bool → Result ℕ SeatRefusal → Given → Type 0
 AddsConsumer old name queue no_ack (Ok number) new = (list_any (is_named name) old.consumers ≡ false) × ((length old.consumers < 256) × ((old.next_number < greatest) × ((number ≡ old.next_number) × ((new ≡ with_consumer_added old name queue no_ack new.seats) × (old.seats ≤ new.seats + 1)))))
 AddsConsumer old name queue no_ack (Err refusal) new = RefusesConsumer old name refusal × (new ≡ old)
 
 -- why a consumer without a tag of its own was refused, in this order: there are 256; the numbers or the names are spent; memory was wanting
-abbrev pub RefusesUnnamed : Given → Refusal → Type 0
+abbrev pub RefusesUnnamed : Given → SeatRefusal → Type 0
 RefusesUnnamed g InUse = ⊥
 RefusesUnnamed g TooMany = 256 ≤ length g.consumers
 RefusesUnnamed g Spent = (length g.consumers < 256) × ((g.next_number ≡ greatest) ⊎ AreNamesSpent g.consumers g.next_name)
@@ -84,6 +84,6 @@ pub record IsMadeUnder (old : Given) (queue : ℕ) (no_ack : Bool) (tag : Text) 
   pub made : new ≡ record (with_consumer_added old (server_name n) queue no_ack new.seats) { next_name = n + 1 }
 
 -- A consumer was made under the next name that is not in use, which is told, or refused: then nothing changed.
-abbrev pub ConsumesUnnamed : Given → ℕ → Bool → Result Text Refusal → Given → Type 0
+abbrev pub ConsumesUnnamed : Given → ℕ → Bool → Result Text SeatRefusal → Given → Type 0
 ConsumesUnnamed old queue no_ack (Ok tag) new = (length old.consumers < 256) × ((old.next_number < greatest) × ((old.seats ≤ new.seats + 1) × ((n : ℕ) × IsMadeUnder old queue no_ack tag new n)))
 ConsumesUnnamed old queue no_ack (Err refusal) new = RefusesUnnamed old refusal × (new ≡ old)

@@ -14,8 +14,8 @@ use Rattle.channel.specs.Seats.{is_named, takes_from}
 use Rattle.channel.specs.Deliveries.{Given, with_limit, with_given}
 use Rattle.channel.specs.declared.pending.Outstanding.{Outstanding}
 use Rattle.channel.specs.declared.consumers.Consumer.{Consumer}
-use Rattle.channel.specs.declared.consumers.Refusal.{Refusal}
-use Rattle.channel.specs.declared.consumers.Refusal.TheVariants.{InUse, TooMany, Spent, Memory}
+use Rattle.channel.specs.declared.consumers.SeatRefusal.{SeatRefusal}
+use Rattle.channel.specs.declared.consumers.SeatRefusal.TheVariants.{InUse, TooMany, Spent, Memory}
 
 -- an open channel
 pub record Open : Type 0 where
@@ -80,7 +80,7 @@ abbrev pub places_of : List Consumer → List ℕ
 places_of consumers = map (λ (c : Consumer). c.queue) consumers
 
 -- A consumer of the queue at this place was made under this tag (AMQP 0-9-1, basic.consume).
-pub record IsSeated (old : Open) (queue : ℕ) (m : Consume) (tag : Text) (new : Open) : Type 0 where
+pub record IsConsumerSeated (old : Open) (queue : ℕ) (m : Consume) (tag : Text) (new : Open) : Type 0 where
   -- nothing stood against it
   pub free : (names : List Text) → refusal_of_seat (open_in names old) m ≡ None
   pub named : (names : List Text) → tag ≡ tag_for (open_in names old) m.consumer_tag
@@ -91,16 +91,16 @@ pub record IsSeated (old : Open) (queue : ℕ) (m : Consume) (tag : Text) (new :
   pub places : places_of new.given.consumers ≡ places_of old.given.consumers ++ queue ∷ []
 
 -- why none was made: as the model says, or for want of memory
-abbrev pub IsUnseated : Open → Consume → Refusal → Type 0
+abbrev pub IsUnseated : Open → Consume → SeatRefusal → Type 0
 IsUnseated old m InUse = (names : List Text) → refusal_of_seat (open_in names old) m ≡ Some (Of_connection 530)
 IsUnseated old m TooMany = (names : List Text) → refusal_of_seat (open_in names old) m ≡ Some (Of_connection 506)
 IsUnseated old m Spent = (names : List Text) → refusal_of_seat (open_in names old) m ≡ Some (Of_connection 541)
 IsUnseated old m Memory = Unit {0}
 
 -- A consumer was made under this tag, or refused: then nothing changed.
-abbrev pub Seats : Open → ℕ → Consume → Result Text Refusal → Open → Type 0
-Seats old queue m (Ok tag) new = IsSeated old queue m tag new
-Seats old queue m (Err refusal) new = IsUnseated old m refusal × (new ≡ old)
+abbrev pub SeatsConsumer : Open → ℕ → Consume → Result Text SeatRefusal → Open → Type 0
+SeatsConsumer old queue m (Ok tag) new = IsConsumerSeated old queue m tag new
+SeatsConsumer old queue m (Err refusal) new = IsUnseated old m refusal × (new ≡ old)
 
 -- The consumer of this number is the channel's, the only one of this number, and may be given one message more.
 pub record IsTaker (ch : Open) (number : ℕ) (k : Consumer) : Type 0 where

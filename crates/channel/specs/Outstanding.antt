@@ -12,7 +12,7 @@ abbrev pub taker_of : Outstanding → Taker
 taker_of o = o.by
 
 -- what is outstanding, and how many messages more can be given out without memory
-pub record Waiting : Type 0 where
+pub record OutstandingList : Type 0 where
   pub outstanding : List Outstanding
   pub room : ℕ
 

@@ -8,7 +8,7 @@ use Rattle.model.specs.declared.messages.Taker.{Taker}
 use Rattle.channel.specs.Outstanding.{taker_of}
 use Rattle.channel.specs.declared.pending.Outstanding.{Outstanding}
 use Rattle.channel.specs.declared.consumers.Consumer.{Consumer}
-use Rattle.channel.specs.declared.consumers.Seat.{Seat}
+use Rattle.channel.specs.declared.consumers.CountedConsumer.{CountedConsumer}
 
 -- the consumers; what each was given, and what all were, that is not settled; and how many consumers more can be made without memory
 pub record Seated : Type 0 where
@@ -18,16 +18,16 @@ pub record Seated : Type 0 where
   pub room : ℕ
 
 -- the consumers, without their counts
-abbrev pub consumers_of : List Seat → List Consumer
-consumers_of seats = map (λ (s : Seat). s.consumer) seats
+abbrev pub consumers_of : List CountedConsumer → List Consumer
+consumers_of seats = map (λ (s : CountedConsumer). s.consumer) seats
 
 -- their counts
-abbrev pub counts_of : List Seat → List ℕ
-counts_of seats = map (λ (s : Seat). s.held) seats
+abbrev pub counts_of : List CountedConsumer → List ℕ
+counts_of seats = map (λ (s : CountedConsumer). s.held) seats
 
 -- the seat of the consumer of this number
-abbrev pub is_of : ℕ → Seat → Bool
-is_of number s = s.consumer.number == number
+abbrev pub is_numbered : ℕ → CountedConsumer → Bool
+is_numbered number s = s.consumer.number == number
 
 -- the consumer has this tag
 abbrev pub is_named : Text → Consumer → Bool
@@ -38,23 +38,23 @@ abbrev pub takes_from : ℕ → Consumer → Bool
 takes_from queue c = c.queue == queue
 
 -- the consumer there has this tag
-abbrev pub has_name : Text → Seat → Bool
+abbrev pub has_name : Text → CountedConsumer → Bool
 has_name name s = is_named name s.consumer
 
 -- one message more was given out
-abbrev pub counted_in : Taker → Seat → Seat
+abbrev pub counted_in : Taker → CountedConsumer → CountedConsumer
 counted_in by s = if is_to s.consumer.number by then record s { held = s.held + 1 } else s
 
 -- these were settled
-abbrev pub counted_out : List Outstanding → Seat → Seat
+abbrev pub counted_out : List Outstanding → CountedConsumer → CountedConsumer
 counted_out gone s = record s { held = s.held - count_to taker_of s.consumer.number gone }
 
 -- one was settled that was given so
-abbrev pub uncounted : Taker → Seat → Seat
+abbrev pub uncounted : Taker → CountedConsumer → CountedConsumer
 uncounted by s = if is_to s.consumer.number by then record s { held = s.held - 1 } else s
 
 -- this consumer, if there is one, may be given one message more beside what it has and what all have
-abbrev pub may_held : ℕ → ℕ → Option Seat → Bool
+abbrev pub may_held : ℕ → ℕ → Option CountedConsumer → Bool
 may_held limit given None = false
 may_held limit given (Some s) = s.consumer.no_ack || (is_below s.consumer.limit s.held && is_below limit given)
 
@@ -73,9 +73,9 @@ abbrev pub NumbersRise : List Consumer → Type 0
 NumbersRise cs = (next : ℕ) × AreNumbered next cs
 
 -- The consumer at this place has this number.
-pub record IsSeatAt (seats : List Seat) (number place : ℕ) : Type 0 where
+pub record IsSeatAt (seats : List CountedConsumer) (number place : ℕ) : Type 0 where
   pub within : place < length seats
-  pub numbered : (d : Seat) → (slice_index_or seats place d).consumer.number ≡ number
+  pub numbered : (d : CountedConsumer) → (slice_index_or seats place d).consumer.number ≡ number
 
 -- What was outstanding is what is gone and what is left: each kind of taker has as many in both as there were.
 abbrev pub AreParts : List Outstanding → List Outstanding → List Outstanding → Type 0

@@ -8,9 +8,9 @@ ghost use Rattle.model.specs.Step.{started, next_of, is_spent};
 ghost use Rattle.model.specs.Prefetch.{has_tag_left};
 ghost use Rattle.channel.specs.Outstanding.{tag_of};
 ghost use Rattle.channel.specs.Deliveries.{consumer_at};
-ghost use Rattle.channel.specs.Open.{nothing_given, with_qos, given_on, settled_on, without_settled, without_named, consumers_from, open_in, Seats, TellsTaker};
+ghost use Rattle.channel.specs.Open.{nothing_given, with_qos, given_on, settled_on, without_settled, without_named, consumers_from, open_in, SeatsConsumer, TellsTaker};
 
-use crate::consumers::{Consumer, Refusal};
+use crate::consumers::{Consumer, SeatRefusal};
 use crate::deliveries::Deliveries;
 use crate::pending::Outstanding;
 use laws::next_tags_are_found;
@@ -119,8 +119,8 @@ impl Channel {
         alloc: Global,
         queue: usize,
         consume: &Consume,
-    ) -> Result<Text, Refusal>
-        ensures { Seats self.old queue consume.now result self.new }
+    ) -> Result<Text, SeatRefusal>
+        ensures { SeatsConsumer self.old queue consume.now result self.new }
     {
         if consume.consumer_tag.len() == 0 {
             next_tags_are_found();

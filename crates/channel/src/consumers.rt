@@ -5,7 +5,7 @@ ghost use Rattle.model.specs.declared.messages.Taker.TheVariants as taker;
 ghost use Rattle.std.specs.List.{list_any, position_from, All};
 ghost use Rattle.model.specs.Prefetch.{is_to, is_delivery, is_below, count_to, count_given};
 ghost use Rattle.channel.specs.Outstanding.{taker_of};
-ghost use Rattle.channel.specs.Seats.{consumers_of, is_of, has_name, takes_from, counted_in, counted_out, uncounted, may_held, IsSeatAt, NumbersRise};
+ghost use Rattle.channel.specs.Seats.{consumers_of, is_numbered, has_name, takes_from, counted_in, counted_out, uncounted, may_held, IsSeatAt, NumbersRise};
 
 use crate::pending::Outstanding;
 use model::{Taker, Text};
@@ -26,14 +26,14 @@ pub struct Consumer {
 
 /// A consumer, and how many of the outstanding messages were given to it.
 #[derive(Drop)]
-pub struct Seat {
+pub struct CountedConsumer {
     pub consumer: Consumer,
     pub(crate) held: usize,
 }
 
 /// Why a consumer was not made.
 #[derive(Clone, Copy, PartialEq, Eq, Debug, Drop)]
-pub enum Refusal {
+pub enum SeatRefusal {
     /// Its tag is in use on the channel: 530.
     InUse,
     /// The channel has 256 consumers: 506.
@@ -43,32 +43,32 @@ pub enum Refusal {
     Memory,
 }
 
-impl From<AllocError> for Refusal {
-    ghost use Rattle.channel.specs.declared.consumers.Refusal.TheVariants.{Memory};
+impl From<AllocError> for SeatRefusal {
+    ghost use Rattle.channel.specs.declared.consumers.SeatRefusal.TheVariants.{Memory};
 
     ghost from_gives = { λ _ r. r ≡ Memory };
 
-    fn from(_: AllocError) -> Refusal {
-        Refusal::Memory
+    fn from(_: AllocError) -> SeatRefusal {
+        SeatRefusal::Memory
     }
 }
 
 /// Some consumer has this tag.
-pub(crate) fn is_in_use(seats: &[Seat], tag: &[u8]) -> bool
+pub(crate) fn is_in_use(seats: &[CountedConsumer], tag: &[u8]) -> bool
     ensures { result ≡ list_any (has_name tag.now) seats.now }
 {
     seats.iter().any(|s| s.consumer.tag.as_bytes() == tag)
 }
 
 /// The number of the consumer at this place.
-fn number_at(seats: &[Seat], place: usize) -> u64
+fn number_at(seats: &[CountedConsumer], place: usize) -> u64
     requires { place < length seats.now }
 {
     seats[place].consumer.number
 }
 
 /// The place of the first consumer with this number or a greater one, where numbers rise.
-fn place_near(seats: &[Seat], number: u64) -> usize {
+fn place_near(seats: &[CountedConsumer], number: u64) -> usize {
     let mut low = 0;
     let mut high = seats.len();
     while low < high {
@@ -83,24 +83,24 @@ fn place_near(seats: &[Seat], number: u64) -> usize {
 }
 
 /// Whether the consumer at this place has this number.
-fn is_at(seats: &[Seat], place: usize, number: u64) -> bool
+fn is_at(seats: &[CountedConsumer], place: usize, number: u64) -> bool
     ensures { result ≡ true → IsSeatAt seats.now number place }
 {
     place < seats.len() && seats[place].consumer.number == number
 }
 
 /// The first place at which the consumer has this number, looked for one by one.
-fn search(seats: &[Seat], number: u64) -> Option<usize>
-    ensures is { result ≡ position_from (is_of number) 0 seats.now }
+fn search(seats: &[CountedConsumer], number: u64) -> Option<usize>
+    ensures is { result ≡ position_from (is_numbered number) 0 seats.now }
     ensures some { IfSome result (λ place. IsSeatAt seats.now number place) }
 {
     seats.iter().position(|s| s.consumer.number == number)
 }
 
 /// The place of the consumer of this number. It is found by halving, since numbers rise; none is told after a look at each.
-fn place_of(seats: &[Seat], number: u64) -> Option<usize>
+fn place_of(seats: &[CountedConsumer], number: u64) -> Option<usize>
     ensures some { IfSome result (λ place. IsSeatAt seats.now number place) }
-    ensures none { result ≡ None → find (is_of number) seats.now ≡ None }
+    ensures none { result ≡ None → find (is_numbered number) seats.now ≡ None }
 {
     let place = place_near(seats, number);
     if is_at(seats, place, number) {
@@ -110,9 +110,9 @@ fn place_of(seats: &[Seat], number: u64) -> Option<usize>
 }
 
 /// The seat of the consumer of this number.
-fn seat_of(seats: &[Seat], number: u64) -> Option<&Seat>
+fn seat_of(seats: &[CountedConsumer], number: u64) -> Option<&CountedConsumer>
     requires { NumbersRise (consumers_of seats.now) }
-    ensures { option_map (λ s. s.now) result ≡ find (is_of number) seats.now }
+    ensures { option_map (λ s. s.now) result ≡ find (is_numbered number) seats.now }
 {
     match place_of(seats, number) {
         Some(place) => Some(&seats[place]),
@@ -121,9 +121,9 @@ fn seat_of(seats: &[Seat], number: u64) -> Option<&Seat>
 }
 
 /// The consumer of this number.
-pub(crate) fn consumer_of(seats: &[Seat], number: u64) -> Option<&Consumer>
+pub(crate) fn consumer_of(seats: &[CountedConsumer], number: u64) -> Option<&Consumer>
     requires { NumbersRise (consumers_of seats.now) }
-    ensures { option_map (λ k. k.now) result ≡ option_map (λ s. s.consumer) (find (is_of number) seats.now) }
+    ensures { option_map (λ k. k.now) result ≡ option_map (λ s. s.consumer) (find (is_numbered number) seats.now) }
 {
     match seat_of(seats, number) {
         Some(seat) => Some(&seat.consumer),
@@ -132,14 +132,14 @@ pub(crate) fn consumer_of(seats: &[Seat], number: u64) -> Option<&Consumer>
 }
 
 /// How many take from the queue at this place.
-pub(crate) fn count_from(seats: &[Seat], queue: usize) -> usize
+pub(crate) fn count_from(seats: &[CountedConsumer], queue: usize) -> usize
     ensures { result ≡ count_by (λ s. takes_from queue s.consumer) seats.now }
 {
     seats.iter().filter(|s| s.consumer.queue == queue).count()
 }
 
 /// Takes out the consumers of this tag.
-pub(crate) fn take_out(seats: &mut Vec<Seat>, tag: &[u8])
+pub(crate) fn take_out(seats: &mut Vec<CountedConsumer>, tag: &[u8])
     ensures seats { seats.new.items ≡ filter (λ s. not (has_name tag.now s)) seats.old.items }
     ensures len { vec_len seats.new ≤ vec_len seats.old }
     ensures capacity { vec_capacity seats.new ≡ vec_capacity seats.old }
@@ -198,7 +198,7 @@ pub(crate) fn given_to_all(given: &[Outstanding]) -> usize
 }
 
 /// Counts a message that is given out to the consumer of this number, if there is one.
-fn count_one_in(seats: &mut [Seat], number: u64)
+fn count_one_in(seats: &mut [CountedConsumer], number: u64)
     requires held { All (λ s. s.held < 2 ^ 64 - 1) seats.old }
     requires rise { NumbersRise (consumers_of seats.old) }
     ensures { seats.new ≡ map (counted_in (taker.Consumer number)) seats.old }
@@ -209,7 +209,7 @@ fn count_one_in(seats: &mut [Seat], number: u64)
 }
 
 /// Counts a message that is given out.
-pub(crate) fn count_in(seats: &mut Vec<Seat>, by: &Taker)
+pub(crate) fn count_in(seats: &mut Vec<CountedConsumer>, by: &Taker)
     requires held { All (λ s. s.held < 2 ^ 64 - 1) seats.old.items }
     requires rise { NumbersRise (consumers_of seats.old.items) }
     ensures seats { seats.new.items ≡ map (counted_in by.now) seats.old.items }
@@ -223,7 +223,7 @@ pub(crate) fn count_in(seats: &mut Vec<Seat>, by: &Taker)
 }
 
 /// Counts one no more that was given to the consumer of this number, if there is one.
-fn count_number_out(seats: &mut [Seat], number: u64)
+fn count_number_out(seats: &mut [CountedConsumer], number: u64)
     requires { NumbersRise (consumers_of seats.old) }
     ensures { seats.new ≡ map (uncounted (taker.Consumer number)) seats.old }
 {
@@ -233,7 +233,7 @@ fn count_number_out(seats: &mut [Seat], number: u64)
 }
 
 /// Counts one no more that is settled.
-fn count_one_out(seats: &mut [Seat], by: &Taker)
+fn count_one_out(seats: &mut [CountedConsumer], by: &Taker)
     requires { NumbersRise (consumers_of seats.old) }
     ensures { seats.new ≡ map (uncounted by.now) seats.old }
 {
@@ -244,7 +244,7 @@ fn count_one_out(seats: &mut [Seat], by: &Taker)
 }
 
 /// Counts those no more that are settled, one after another.
-fn count_each_out(seats: &mut [Seat], gone: &[Outstanding])
+fn count_each_out(seats: &mut [CountedConsumer], gone: &[Outstanding])
     requires { NumbersRise (consumers_of seats.old) }
     ensures { seats.new ≡ map (counted_out gone.now) seats.old }
 {
@@ -254,7 +254,7 @@ fn count_each_out(seats: &mut [Seat], gone: &[Outstanding])
 }
 
 /// Counts those no more that are settled.
-pub(crate) fn count_out(seats: &mut Vec<Seat>, gone: &[Outstanding])
+pub(crate) fn count_out(seats: &mut Vec<CountedConsumer>, gone: &[Outstanding])
     requires { NumbersRise (consumers_of seats.old.items) }
     ensures seats { seats.new.items ≡ map (counted_out gone.now) seats.old.items }
     ensures len { vec_len seats.new ≡ vec_len seats.old }
@@ -272,9 +272,9 @@ fn is_room(limit: u16, held: usize) -> bool
 
 /// The consumer of this number is there, and may be given one message more, where all consumers of the channel have `given`
 /// under this limit of theirs.
-pub(crate) fn may_one(seats: &[Seat], number: u64, limit: u16, given: usize) -> bool
+pub(crate) fn may_one(seats: &[CountedConsumer], number: u64, limit: u16, given: usize) -> bool
     requires { NumbersRise (consumers_of seats.now) }
-    ensures { result ≡ may_held limit given (find (is_of number) seats.now) }
+    ensures { result ≡ may_held limit given (find (is_numbered number) seats.now) }
 {
     match seat_of(seats, number) {
         Some(seat) => {

@@ -1,8 +1,8 @@
 //! Delivery tags, what is outstanding under them, and the consumers with their limits.
 
-use crate::consumers::{Consumer, Refusal, Seat, given_to};
+use crate::consumers::{Consumer, CountedConsumer, SeatRefusal, given_to};
 use crate::names::next_name;
-use crate::pending::{Outstanding, Pending};
+use crate::pending::{Outstanding, Unsettled};
 use crate::seats::Seats;
 use model::{Taker, Text};
 use std::alloc::{AllocError, Global};
@@ -11,7 +11,7 @@ use std::marker::Model;
 /// What an open channel keeps of its deliveries.
 #[derive(Drop)]
 pub struct Deliveries {
-    pending: Pending,
+    pending: Unsettled,
     seats: Seats,
     next_tag: u64,
     next_number: u64,
@@ -45,7 +45,7 @@ impl Deliveries {
         ensures { result ≡ record { next_tag = 1; next_number = 1; next_name = 1; each_limit = 0; limit = 0; consumers = []; outstanding = []; room = result.room; seats = result.seats } }
     {
         Deliveries {
-            pending: Pending::new(alloc),
+            pending: Unsettled::new(alloc),
             seats: Seats::new(alloc),
             next_tag: 1,
             next_number: 1,
@@ -189,21 +189,21 @@ impl Deliveries {
     /// Makes a consumer of this tag. Tells its number. Refused, in this order: where a consumer of the channel has the tag
     /// (530), where the channel has 256 consumers (506), where the numbers are spent (541), and for want of memory, only where
     /// there was no room for one more. Then nothing changes.
-    pub fn consume(&mut self, tag: Text, queue: usize, no_ack: bool) -> Result<u64, Refusal>
+    pub fn consume(&mut self, tag: Text, queue: usize, no_ack: bool) -> Result<u64, SeatRefusal>
         ensures { AddsConsumer self.old tag queue no_ack result self.new }
     {
         if self.seats.has(tag.as_bytes()) {
-            return Err(Refusal::InUse);
+            return Err(SeatRefusal::InUse);
         }
         if self.seats.len() >= 256 {
-            return Err(Refusal::TooMany);
+            return Err(SeatRefusal::TooMany);
         }
         let number = self.next_number;
         if number == u64::MAX {
-            return Err(Refusal::Spent);
+            return Err(SeatRefusal::Spent);
         }
         if self.seats.reserve().is_err() {
-            return Err(Refusal::Memory);
+            return Err(SeatRefusal::Memory);
         }
         let consumer = Consumer {
             number,
@@ -225,18 +225,18 @@ impl Deliveries {
         alloc: Global,
         queue: usize,
         no_ack: bool,
-    ) -> Result<Text, Refusal>
+    ) -> Result<Text, SeatRefusal>
         ensures { ConsumesUnnamed self.old queue no_ack result self.new }
     {
         if self.seats.len() >= 256 {
-            return Err(Refusal::TooMany);
+            return Err(SeatRefusal::TooMany);
         }
         if self.next_number == u64::MAX {
-            return Err(Refusal::Spent);
+            return Err(SeatRefusal::Spent);
         }
         match next_name(alloc, &self.seats, self.next_name) {
-            Err(_) => Err(Refusal::Memory),
-            Ok(None) => Err(Refusal::Spent),
+            Err(_) => Err(SeatRefusal::Memory),
+            Ok(None) => Err(SeatRefusal::Spent),
             Ok(Some(name)) => {
                 let tag = name.tag.clone()?;
                 self.consume(name.tag, queue, no_ack)?;
@@ -255,7 +255,7 @@ impl Deliveries {
     }
 
     /// The consumers, in the order in which they were made.
-    pub fn consumers(&self) -> &[Seat]
+    pub fn consumers(&self) -> &[CountedConsumer]
         ensures { consumers_of result.now ≡ self.now.consumers }
     {
         self.seats.all()

@@ -13,6 +13,6 @@ mod seats;
 mod tags;
 
 pub use channels::Channel;
-pub use consumers::{Consumer, Refusal, Seat};
+pub use consumers::{Consumer, CountedConsumer, SeatRefusal};
 pub use deliveries::Deliveries;
 pub use pending::Outstanding;

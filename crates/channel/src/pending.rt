@@ -20,34 +20,34 @@ pub struct Outstanding {
 
 /// Messages that were given out and are not settled, in the order of their tags: those behind `start`.
 #[derive(Drop)]
-pub(crate) struct Pending {
+pub(crate) struct Unsettled {
     items: Vec<Outstanding>,
     start: usize,
 }
 
-impl Model for Pending {
+impl Model for Unsettled {
     ghost use Rattle.std.specs.Prelude.{◌-◌, ◌≤◌, vec_len, vec_capacity, drop};
     ghost use Rattle.model.specs.Settling.{Rises};
-    ghost use Rattle.channel.specs.Outstanding.{Waiting, tag_of};
+    ghost use Rattle.channel.specs.Outstanding.{OutstandingList, tag_of};
 
-    ghost Value = { Waiting };
+    ghost Value = { OutstandingList };
 
     ghost view = { λ p. record { outstanding = drop p.start p.items.items; room = vec_capacity p.items - vec_len p.items } };
 
     ghost invariant = { λ p. (p.start ≤ vec_len p.items) × Rises tag_of (drop p.start p.items.items) };
 }
 
-impl Pending {
+impl Unsettled {
     ghost use Rattle.std.specs.Prelude.{◌≡◌, ◌+◌, ◌<◌, ◌≤◌, ◌^◌, ◌++◌, ◌∷◌, [], ℕ, option_map, OnOk, OnErr, length, get_or};
     ghost use Rattle.model.specs.Settling.{settled, kept, Rises};
     ghost use Rattle.channel.specs.Outstanding.{tag_of};
     ghost use Rattle.channel.specs.Seats.{AreParts};
 
     /// Nothing is outstanding. It takes no memory.
-    pub(crate) fn new(alloc: Global) -> Pending
+    pub(crate) fn new(alloc: Global) -> Unsettled
         ensures { result.outstanding ≡ [] }
     {
-        Pending {
+        Unsettled {
             items: Vec::new(alloc),
             start: 0,
         }

@@ -3,8 +3,8 @@
 ghost use Rattle.std.specs.Prelude.{◌≡◌};
 
 use crate::consumers::{
-    Consumer, Seat, consumer_of, count_from, count_in, count_out, given_to_all, is_in_use, may_one,
-    one_if_consumed, take_out,
+    Consumer, CountedConsumer, consumer_of, count_from, count_in, count_out, given_to_all,
+    is_in_use, may_one, one_if_consumed, take_out,
 };
 use crate::pending::Outstanding;
 use model::Taker;
@@ -15,7 +15,7 @@ use std::marker::Model;
 /// more counts what was given to any, cancelled ones too.
 #[derive(Drop)]
 pub(crate) struct Seats {
-    seats: Vec<Seat>,
+    seats: Vec<CountedConsumer>,
     given: usize,
 }
 
@@ -50,7 +50,7 @@ impl Seats {
     }
 
     /// All of them.
-    pub(crate) fn all(&self) -> &[Seat]
+    pub(crate) fn all(&self) -> &[CountedConsumer]
         ensures { consumers_of result.now ≡ self.now.consumers }
     {
         &self.seats
@@ -111,7 +111,7 @@ impl Seats {
         ensures room { self.new.room + 1 ≡ self.old.room }
         ensures counted { (given : List Given) → SeatsAreCounted self.old given → held ≡ count_to taker_of consumer.number given → SeatsAreCounted self.new given }
     {
-        self.seats.push_reserved(Seat { consumer, held });
+        self.seats.push_reserved(CountedConsumer { consumer, held });
     }
 
     /// Takes out the consumers of this tag. What they were given counts on for all.

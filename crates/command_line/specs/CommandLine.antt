@@ -24,8 +24,8 @@ abbrev pub needed_option : Text → Rule
 needed_option id = record (option id) { required = true }
 
 -- a number that may be given, by `--` and the option's name: a decimal one below 2^64
-abbrev pub number : Text → Rule
-number id = record (option id) { parser = Some (Unsigned 0 18446744073709551615) }
+abbrev pub number_option : Text → Rule
+number_option id = record (option id) { parser = Some (Unsigned 0 18446744073709551615) }
 
 -- a command that looks at a definitions file and a guarantees file: its name, and `DEFS GUARANTEES`
 abbrev pub over_guarantees : Text → App
@@ -53,7 +53,7 @@ serve_at = with_rule (with_rule (over_guarantees (codes "serve")) (needed (codes
 
 -- `serve DEFS GUARANTEES CERTS --listen IP:PORT [--turns N]`
 abbrev pub serve : App
-serve = with_rule serve_at (number (codes "turns"))
+serve = with_rule serve_at (number_option (codes "turns"))
 
 -- `route DEFS EXCHANGE KEY`
 abbrev pub route : App
@@ -164,5 +164,5 @@ abbrev pub AsksNothing : List Text → Type 0
 AsksNothing words = (wanted : Wanted) → AsksFor words wanted → ⊥
 
 -- Why a command line is refused: a growth was refused, or it asks for nothing.
-abbrev pub IsRefused : List Text → Error → Type 0
-IsRefused words e = (kind_of e ≡ OutOfMemory) ⊎ AsksNothing words
+abbrev pub AreWordsRefused : List Text → Error → Type 0
+AreWordsRefused words e = (kind_of e ≡ OutOfMemory) ⊎ AsksNothing words

@@ -26,13 +26,13 @@ ghost use Rattle.clap.specs.Words.{
 ghost use Rattle.clap.specs.declared.Command.TheViews.{out-Command as fields_of};
 ghost use Rattle.command_line.specs.CommandLine.{
   Asks,
-  IsRefused,
+  AreWordsRefused,
   check,
   check_of,
   judging,
   needed,
   needed_option,
-  number,
+  number_option,
   option,
   over_guarantees,
   replay,
@@ -98,8 +98,8 @@ fn needed_option<'a>(alloc: Global, id: &'a str, value: &'a str, help: &'a str) 
 }
 
 /// A number that may be given, by `--` and the option's name, with what help says of it.
-fn number<'a>(alloc: Global, id: &'a str, help: &'a str) -> Arg<'a>
-    ensures rule { rule_of result ≡ number id.entry.now }
+fn number_option<'a>(alloc: Global, id: &'a str, help: &'a str) -> Arg<'a>
+    ensures rule { rule_of result ≡ number_option id.entry.now }
     ensures local { result.global ≡ false }
 {
     Arg::new(alloc, id)
@@ -211,7 +211,7 @@ fn serve_command<'a>(alloc: Global) -> Result<Command<'a>, AllocError>
     ensures local { IfOk result (λ c. (fields_of c).has_globals ≡ false) }
 {
     let command = serve_at(alloc)?;
-    let turns = number(
+    let turns = number_option(
         alloc,
         "turns",
         "How many turns to serve; without it, until the process is ended",
@@ -424,7 +424,7 @@ fn asked<'a>(matches: &ArgMatches<'a>) -> Option<Asked<'a>>
 /// What the words ask of the program.
 fn ask<'a, S: AsStr>(program: &mut Command<'a>, words: &'a [S]) -> Result<Asked<'a>, Error>
     requires { app_of program.old ≡ warren }
-    ensures { MatchResult result (λ asked. Asks (map S.text words.entry.now) asked) (λ e. IsRefused (map S.text words.entry.now) e) }
+    ensures { MatchResult result (λ asked. Asks (map S.text words.entry.now) asked) (λ e. AreWordsRefused (map S.text words.entry.now) e) }
 {
     let matches = program.try_get_matches_from_mut(words)?;
     let asked = asked(&matches);
@@ -439,7 +439,7 @@ fn ask<'a, S: AsStr>(program: &mut Command<'a>, words: &'a [S]) -> Result<Asked<
 ///
 /// An error is shown by its own text, help among them; its kind is `OutOfMemory` where a growth was refused.
 pub fn command<'a, S: AsStr>(alloc: Global, words: &'a [S]) -> Result<Asked<'a>, Error>
-    ensures { MatchResult result (λ asked. Asks (map S.text words.entry.now) asked) (λ e. IsRefused (map S.text words.entry.now) e) }
+    ensures { MatchResult result (λ asked. Asks (map S.text words.entry.now) asked) (λ e. AreWordsRefused (map S.text words.entry.now) e) }
 {
     let mut program = warren_command(alloc)?;
     let asked = ask(&mut program, words);

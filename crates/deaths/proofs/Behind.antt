@@ -1,5 +1,5 @@
 -- Fields put one behind another are the pairs of a table.
-use Rattle.std.proofs.Common.{◌≡◌, subst, Option, Some, None, Result, Ok, Err, IfOk, ℕ, List, [], ◌∷◌, ◌++◌, length, sym, ap, ◌∙◌, append_assoc}
+use Rattle.std.proofs.Common.{◌≡◌, subst, Option, Some, None, Result, Ok, Err, IfOk, ℕ, List, ◌∷◌, ◌++◌, length, sym, ap, ◌∙◌, append_assoc}
 use Rattle.std.proofs.lemmas.List.{append-nil}
 use Rattle.model.specs.Words.{Text}
 use Rattle.model.specs.Tables.{Pairs, no_pairs, pair, Long_string, pairs_bytes, sized}

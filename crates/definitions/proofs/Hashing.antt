@@ -1,5 +1,5 @@
 -- Users, one by one.
-use Rattle.std.proofs.Common.{◌≡◌, ℕ, ◌+◌, ◌<◌, ◌≤◌, List, [], ◌∷◌, ◌++◌, Option, Some, None, length, map, take, drop, get_or, refl, sym, ap, ◌∙◌, subst, append_assoc, append-nil}
+use Rattle.std.proofs.Common.{◌≡◌, ℕ, ◌+◌, ◌<◌, ◌≤◌, List, [], ◌∷◌, ◌++◌, Option, Some, length, map, take, drop, get_or, refl, sym, ap, ◌∙◌, subst, append_assoc, append-nil}
 use Rattle.std.specs.Prelude.{All, IsSome}
 use Rattle.std.proofs.lemmas.List.{drop_more, at_drop_all}
 use Rattle.model.specs.Words.{Text}
@@ -40,12 +40,3 @@ all_read entries i made l s = record {
       ∙ ap (λ (xs : List UserEntry). made ++ map user_of xs) (sym (at_drop_all (λ (xs : List UserEntry). xs) entries i l))
       ∙ s.are;
 }
-
--- an entry without a hash
-pub not_hashed : (entries : List UserEntry) (i : ℕ) (e : UserEntry) (o : Option Text) → i < length entries → e ≡ get_or entries i e → o ≡ hash_of e → o ≡ None
-    → All (λ (u : UserEntry). IsSome (hash_of u)) entries → ⊥
-not_hashed entries i e o l g p q a =
-    let s : IsSome (hash_of e) = subst (λ (x : UserEntry). IsSome (hash_of x)) (sym g) (a i e l) in
-    let n : hash_of e ≡ None = sym p ∙ q in
-    let z : IsSome {T = Text} None = subst (λ (z : Option Text). IsSome z) n s in
-    cc

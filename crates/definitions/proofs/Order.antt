@@ -2,19 +2,19 @@
 use Rattle.std.proofs.Common.{◌≡◌, Bool, true, false, ℕ, ◌+◌, ◌<◌, ◌==◌, inl, inr, refl, sym, ap, ◌∙◌, subst, arith}
 use Rattle.std.proofs.lemmas.Bool.Decides.{eqb_tells}
 use Rattle.std.specs.Prelude.{◌⊎◌, Decides, if◌then◌else◌}
-use Rattle.definitions.specs.declared.bad.Bad.{Bad}
-use Rattle.definitions.specs.declared.bad.Bad.TheVariants.{NotJson, Malformed, OtherVhost, Repeated, Absent, OtherType, Unsupported, NoOverflow, Worded, TooMany, NoExchange, OtherPermission, OtherHash, Memory}
-use Rattle.definitions.specs.Numbers.{number}
+use Rattle.definitions.specs.declared.bad.BadDefinitions.{BadDefinitions}
+use Rattle.definitions.specs.declared.bad.BadDefinitions.TheVariants.{NotJson, Malformed, OtherVhost, Repeated, Absent, OtherType, Unsupported, NoOverflow, Worded, TooMany, NoExchange, OtherPermission, OtherHash, Memory}
+use Rattle.definitions.specs.Numbers.{definitions_cause}
 use Rattle.definitions.specs.File.{File}
 use Rattle.definitions.specs.Causes.{IsClear, IsClearBelow, IsLeast}
 
 -- the cause of a number
-abbrev numbered : ℕ → Bad
+abbrev numbered : ℕ → BadDefinitions
 numbered n = if n == 1 then NotJson else if n == 2 then Malformed else if n == 3 then OtherVhost else if n == 4 then Repeated else if n == 5 then Absent else if n == 6 then OtherType
     else if n == 7 then Unsupported else if n == 8 then NoOverflow else if n == 9 then Worded else if n == 10 then TooMany else if n == 11 then NoExchange else if n == 12 then OtherPermission
     else if n == 13 then OtherHash else Memory
 
-again : (b : Bad) → numbered (number b) ≡ b
+again : (b : BadDefinitions) → numbered (definitions_cause b) ≡ b
 again NotJson = refl
 again Malformed = refl
 again OtherVhost = refl
@@ -30,7 +30,7 @@ again OtherPermission = refl
 again OtherHash = refl
 again Memory = refl
 
-pub number_same : (a b : Bad) → number a ≡ number b → a ≡ b
+pub number_same : (a b : BadDefinitions) → definitions_cause a ≡ definitions_cause b → a ≡ b
 number_same a b e = sym (again a) ∙ ap numbered e ∙ again b
 
 split : (a n : ℕ) → a < n + 1 → (a < n) ⊎ (a ≡ n)
@@ -54,12 +54,12 @@ none_below f OtherHash h = absurd (omega (arith, h))
 none_below f Memory h = tt
 
 -- a cause that stands where none below it does
-pub least : (f : File) (bad : Bad) (b : Bool) → IsClearBelow (number bad) f → Decides b (IsClear bad f) → b ≡ false → IsLeast bad f
+pub least : (f : File) (bad : BadDefinitions) (b : Bool) → IsClearBelow (definitions_cause bad) f → Decides b (IsClear bad f) → b ≡ false → IsLeast bad f
 least f bad b below d e = record { below = below; stands = λ h. (let z : b ≡ true = d.1 h in cc) }
 
 -- one cause more
-pub below_next : (f : File) (bad : Bad) → IsClearBelow (number bad) f → IsClear bad f → IsClearBelow (number bad + 1) f
-below_next f bad below clear other h = elim (split (number other) (number bad) h) [
+pub below_next : (f : File) (bad : BadDefinitions) → IsClearBelow (definitions_cause bad) f → IsClear bad f → IsClearBelow (definitions_cause bad + 1) f
+below_next f bad below clear other h = elim (split (definitions_cause other) (definitions_cause bad) h) [
   | inl l ↦ below other l
-  | inr e ↦ subst (λ (b : Bad). IsClear b f) (sym (number_same other bad e)) clear
+  | inr e ↦ subst (λ (b : BadDefinitions). IsClear b f) (sym (number_same other bad e)) clear
 ]

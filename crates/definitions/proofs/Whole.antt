@@ -2,23 +2,23 @@
 use Rattle.std.proofs.Common.{◌≡◌, ℕ, ◌<◌, List, Some, None, Result, Ok, Err, sym, ap, ◌∙◌, subst, arith}
 use Rattle.serde_json.specs.Data.{Data}
 use Rattle.json_file.specs.Members.{IsJson}
-use Rattle.json_file.specs.Outcomes.{Fails}
-use Rattle.json_file.specs.declared.faults.Fault.{Fault}
-use Rattle.json_file.specs.declared.faults.Fault.TheVariants as fault
-use Rattle.definitions.specs.declared.bad.Bad.{Bad}
-use Rattle.definitions.specs.declared.bad.Bad.TheVariants.{NotJson, Malformed, OtherVhost, Repeated, Absent, OtherType, Unsupported, NoOverflow, Worded, TooMany, NoExchange, OtherPermission, OtherHash, Memory}
-use Rattle.definitions.specs.Numbers.{number}
-use Rattle.definitions.specs.Faults.{bad_of}
+use Rattle.json_file.specs.Outcomes.{FailsJson}
+use Rattle.json_file.specs.declared.faults.BadJson.{BadJson}
+use Rattle.json_file.specs.declared.faults.BadJson.TheVariants as fault
+use Rattle.definitions.specs.declared.bad.BadDefinitions.{BadDefinitions}
+use Rattle.definitions.specs.declared.bad.BadDefinitions.TheVariants.{NotJson, Malformed, OtherVhost, Repeated, Absent, OtherType, Unsupported, NoOverflow, Worded, TooMany, NoExchange, OtherPermission, OtherHash, Memory}
+use Rattle.definitions.specs.Numbers.{definitions_cause}
+use Rattle.definitions.specs.Faults.{bad_definitions}
 use Rattle.definitions.specs.File.{File, file_at}
 use Rattle.definitions.specs.Causes.{IsClear, IsLeast, IsTold}
-use Rattle.definitions.specs.Judged.{IsUnread, StatesOrTells}
-use Rattle.definitions.specs.Reads.{IsFile, IsFirst, IsFree, IsRefused, ReadsDefinitions, Stated}
+use Rattle.definitions.specs.Judged.{IsFileUnread, StatesOrTells}
+use Rattle.definitions.specs.Reads.{IsDefinitionsFile, IsFirst, IsFree, IsRefused, ReadsDefinitions, Stated}
 
 -- a file is one value, and states one list of each kind
 one_value : (bytes : List ℕ) (d e : Data) → IsJson bytes d → IsJson bytes e → d ≡ e
 one_value bytes d e a b = let s : Some d ≡ Some e = sym a.value ∙ b.value in cc
 
-one_file : (bytes : List ℕ) (f g : File) → IsFile bytes f → IsFile bytes g → f ≡ g
+one_file : (bytes : List ℕ) (f g : File) → IsDefinitionsFile bytes f → IsDefinitionsFile bytes g → f ≡ g
 one_file bytes f g a b =
     let v : a.value ≡ b.value = one_value bytes a.value b.value a.json b.json in
     let s : Some f ≡ Some g = sym a.states ∙ ap file_at v ∙ b.states in
@@ -26,7 +26,7 @@ one_file bytes f g a b =
 
 -- ---- why a file has no entries
 
-before_malformed : (bytes : List ℕ) (d : Data) → IsJson bytes d → (lower : Bad) → number lower < 2 → IsFree lower bytes
+before_malformed : (bytes : List ℕ) (d : Data) → IsJson bytes d → (lower : BadDefinitions) → definitions_cause lower < 2 → IsFree lower bytes
 before_malformed bytes d j NotJson h = λ s. (d, j)
 before_malformed bytes d j Malformed h = absurd (omega (arith, h))
 before_malformed bytes d j OtherVhost h = absurd (omega (arith, h))
@@ -42,7 +42,7 @@ before_malformed bytes d j OtherPermission h = absurd (omega (arith, h))
 before_malformed bytes d j OtherHash h = absurd (omega (arith, h))
 before_malformed bytes d j Memory h = tt
 
-pub unread : (bytes : List ℕ) (d : Data) (e : Fault) → IsJson bytes d → Fails e (file_at d ≡ None) → IsUnread (bad_of e) bytes
+pub unread : (bytes : List ℕ) (d : Data) (e : BadJson) → IsJson bytes d → FailsJson e (file_at d ≡ None) → IsFileUnread (bad_definitions e) bytes
 unread bytes d fault.TooLong j h = absurd h
 unread bytes d fault.NotJson j h = absurd h
 unread bytes d fault.Malformed j h = record {
@@ -53,7 +53,7 @@ unread bytes d fault.Memory j h = tt
 
 -- ---- the causes of entries
 
-free_of : (bytes : List ℕ) (f : File) (bad : Bad) → IsFile bytes f → IsClear bad f → IsFree bad bytes
+free_of : (bytes : List ℕ) (f : File) (bad : BadDefinitions) → IsDefinitionsFile bytes f → IsClear bad f → IsFree bad bytes
 free_of bytes f NotJson w c = λ s. (w.value, w.json)
 free_of bytes f Malformed w c = λ d j. (f, ap file_at (one_value bytes d w.value j w.json) ∙ w.states)
 free_of bytes f OtherVhost w c = λ g x. subst (λ (z : File). IsClear OtherVhost z) (one_file bytes f g w x) c
@@ -72,7 +72,7 @@ free_of bytes f OtherPermission w c = λ g x. subst (λ (z : File). IsClear Othe
 free_of bytes f OtherHash w c = λ g x. subst (λ (z : File). IsClear OtherHash z) (one_file bytes f g w x) c
 free_of bytes f Memory w c = tt
 
-clear_of : (bytes : List ℕ) (f : File) (bad : Bad) → IsFile bytes f → IsFree bad bytes → IsClear bad f
+clear_of : (bytes : List ℕ) (f : File) (bad : BadDefinitions) → IsDefinitionsFile bytes f → IsFree bad bytes → IsClear bad f
 clear_of bytes f NotJson w h = tt
 clear_of bytes f Malformed w h = tt
 clear_of bytes f OtherVhost w h = h f w
@@ -88,13 +88,13 @@ clear_of bytes f OtherPermission w h = h f w
 clear_of bytes f OtherHash w h = h f w
 clear_of bytes f Memory w h = tt
 
-first_of : (bytes : List ℕ) (f : File) (bad : Bad) → IsFile bytes f → IsLeast bad f → IsFirst bad bytes
+first_of : (bytes : List ℕ) (f : File) (bad : BadDefinitions) → IsDefinitionsFile bytes f → IsLeast bad f → IsFirst bad bytes
 first_of bytes f bad w l = record {
   before = λ lower h. free_of bytes f lower w (l.below lower h);
   stands = λ h. l.stands (clear_of bytes f bad w h);
 }
 
-refused : (bytes : List ℕ) (f : File) (bad : Bad) → IsFile bytes f → IsTold bad f → IsRefused bad bytes
+refused : (bytes : List ℕ) (f : File) (bad : BadDefinitions) → IsDefinitionsFile bytes f → IsTold bad f → IsRefused bad bytes
 refused bytes f NotJson w t = first_of bytes f NotJson w t
 refused bytes f Malformed w t = first_of bytes f Malformed w t
 refused bytes f OtherVhost w t = first_of bytes f OtherVhost w t
@@ -110,7 +110,7 @@ refused bytes f OtherPermission w t = first_of bytes f OtherPermission w t
 refused bytes f OtherHash w t = first_of bytes f OtherHash w t
 refused bytes f Memory w t = tt
 
-few : (b : Bad) → number b < 15
+few : (b : BadDefinitions) → definitions_cause b < 15
 few NotJson = omega arith
 few Malformed = omega arith
 few OtherVhost = omega arith
@@ -126,7 +126,7 @@ few OtherPermission = omega arith
 few OtherHash = omega arith
 few Memory = omega arith
 
-pub read_whole : (bytes : List ℕ) (f : File) (r : Result Stated Bad) → IsFile bytes f → StatesOrTells r f → ReadsDefinitions r bytes
+pub read_whole : (bytes : List ℕ) (f : File) (r : Result Stated BadDefinitions) → IsDefinitionsFile bytes f → StatesOrTells r f → ReadsDefinitions r bytes
 read_whole bytes f (Ok s) w h = record {
   free = λ bad. free_of bytes f bad w (h.clear bad (few bad));
   file = f;

@@ -9,9 +9,9 @@ use Rattle.definitions.specs.declared.document.PermissionEntry.{PermissionEntry}
 use Rattle.definitions.specs.declared.document.ExchangeEntry.{ExchangeEntry}
 use Rattle.definitions.specs.declared.document.QueueEntry.{QueueEntry}
 use Rattle.definitions.specs.declared.document.BindingEntry.{BindingEntry}
-use Rattle.definitions.specs.declared.bad.Bad.{Bad}
-use Rattle.definitions.specs.declared.bad.Bad.TheVariants.{NotJson, Malformed, OtherVhost, Repeated, Absent, OtherType, Unsupported, NoOverflow, Worded, TooMany, NoExchange, OtherPermission, OtherHash, Memory}
-use Rattle.definitions.specs.Numbers.{number}
+use Rattle.definitions.specs.declared.bad.BadDefinitions.{BadDefinitions}
+use Rattle.definitions.specs.declared.bad.BadDefinitions.TheVariants.{NotJson, Malformed, OtherVhost, Repeated, Absent, OtherType, Unsupported, NoOverflow, Worded, TooMany, NoExchange, OtherPermission, OtherHash, Memory}
+use Rattle.definitions.specs.Numbers.{definitions_cause}
 use Rattle.definitions.specs.File.{File}
 use Rattle.definitions.specs.States.{hash_of, kind_named, topology_of}
 
@@ -120,7 +120,7 @@ HasNamesLead f = NamesLead (topology_of f)
 -- ---- 12: permissions
 
 -- to configure nothing, and to write and read all
-pub record IsWhole (p : PermissionEntry) : Type 0 where
+pub record PermitsAll (p : PermissionEntry) : Type 0 where
   pub configure : p.configure ≡ codes "^$"
   pub write : p.write ≡ codes ".*"
   pub read : p.read ≡ codes ".*"
@@ -135,7 +135,7 @@ pub record IsOfUser (names : List Text) (p : PermissionEntry) : Type 0 where
 
 -- each user has exactly one permission, each is of a user, and each is whole
 pub record HasPermissions (f : File) : Type 0 where
-  pub whole : All IsWhole f.permissions
+  pub whole : All PermitsAll f.permissions
   pub apart : AreApart (permission_names f)
   pub each : All (IsPermitted (permission_names f)) f.users
   pub known : All (IsOfUser (user_names f)) f.permissions
@@ -149,7 +149,7 @@ HasHashes f = All (λ (u : UserEntry). IsSome (hash_of u)) f.users
 -- ---- all of them
 
 -- the file is clear of this cause
-abbrev pub IsClear : Bad → File → Type 0
+abbrev pub IsClear : BadDefinitions → File → Type 0
 IsClear NotJson f = Unit {0}
 IsClear Malformed f = Unit {0}
 IsClear OtherVhost f = HasOneVhost f
@@ -167,15 +167,15 @@ IsClear Memory f = Unit {0}
 
 -- .. and of every cause below this number
 abbrev pub IsClearBelow : ℕ → File → Type 0
-IsClearBelow n f = (bad : Bad) → number bad < n → IsClear bad f
+IsClearBelow n f = (bad : BadDefinitions) → definitions_cause bad < n → IsClear bad f
 
 -- This cause stands in the file, and none below it.
-pub record IsLeast (bad : Bad) (f : File) : Type 0 where
-  pub below : IsClearBelow (number bad) f
+pub record IsLeast (bad : BadDefinitions) (f : File) : Type 0 where
+  pub below : IsClearBelow (definitions_cause bad) f
   pub stands : IsClear bad f → ⊥
 
 -- the cause that is told is the least; want of memory owes nothing
-abbrev pub IsTold : Bad → File → Type 0
+abbrev pub IsTold : BadDefinitions → File → Type 0
 IsTold NotJson f = IsLeast NotJson f
 IsTold Malformed f = IsLeast Malformed f
 IsTold OtherVhost f = IsLeast OtherVhost f

@@ -1,9 +1,10 @@
 -- What a definitions file states, entry by entry. Source: RabbitMQ, "Definition Export and Import".
 use Rattle.std.specs.Prelude.{codes, ◌≡◌, ℕ, List, Bool, Option, Some, None, Result, Ok, Err, option_and_then}
+use Rattle.model.specs.Options.{◌>>=◌}
 use Rattle.serde_json.specs.Data.{Data}
 use Rattle.json_file.specs.Members.{array_at, each}
-use Rattle.json_file.specs.Outcomes.{Fails}
-use Rattle.json_file.specs.declared.faults.Fault.{Fault}
+use Rattle.json_file.specs.Outcomes.{FailsJson}
+use Rattle.json_file.specs.declared.faults.BadJson.{BadJson}
 use Rattle.definitions.specs.declared.document.VhostEntry.{VhostEntry}
 use Rattle.definitions.specs.declared.document.UserEntry.{UserEntry}
 use Rattle.definitions.specs.declared.document.PermissionEntry.{PermissionEntry}
@@ -11,7 +12,7 @@ use Rattle.definitions.specs.declared.document.ExchangeEntry.{ExchangeEntry}
 use Rattle.definitions.specs.declared.document.QueueEntry.{QueueEntry}
 use Rattle.definitions.specs.declared.document.BindingEntry.{BindingEntry}
 use Rattle.definitions.specs.declared.document.Document.{Document}
-use Rattle.definitions.specs.Shape.{◌>>=◌, vhost_at, user_at, permission_at, exchange_at, queue_at, binding_at, plain_at}
+use Rattle.definitions.specs.Shape.{vhost_at, user_at, permission_at, exchange_at, queue_at, binding_at, plain_at}
 
 -- the entries, each list in the order of the file, and whether there is no policy, parameter or topic permission
 pub record File : Type 0 where
@@ -52,6 +53,6 @@ file_of d = record {
 }
 
 -- what a value states is given, or it is refused where it states nothing
-abbrev pub GivesFile : Result Document Fault → Option File → Type 0
+abbrev pub GivesFile : Result Document BadJson → Option File → Type 0
 GivesFile (Ok d) o = o ≡ Some (file_of d)
-GivesFile (Err e) o = Fails e (o ≡ None)
+GivesFile (Err e) o = FailsJson e (o ≡ None)

@@ -1,39 +1,39 @@
 -- What is known of a file whose entries were looked at.
 use Rattle.std.specs.Prelude.{◌≡◌, ℕ, List, Result, Ok, Err, ⊤}
-use Rattle.definitions.specs.declared.bad.Bad.{Bad}
-use Rattle.definitions.specs.declared.bad.Bad.TheVariants.{NotJson, Malformed, OtherVhost, Repeated, Absent, OtherType, Unsupported, NoOverflow, Worded, TooMany, NoExchange, OtherPermission, OtherHash, Memory}
+use Rattle.definitions.specs.declared.bad.BadDefinitions.{BadDefinitions}
+use Rattle.definitions.specs.declared.bad.BadDefinitions.TheVariants.{NotJson, Malformed, OtherVhost, Repeated, Absent, OtherType, Unsupported, NoOverflow, Worded, TooMany, NoExchange, OtherPermission, OtherHash, Memory}
 use Rattle.definitions.specs.declared.document.Document.{Document}
 use Rattle.definitions.specs.File.{File, file_of}
 use Rattle.definitions.specs.Causes.{IsClearBelow, IsTold}
 use Rattle.definitions.specs.States.{topology_of, users_of}
-use Rattle.definitions.specs.Reads.{IsFile, IsFirst, Stated}
+use Rattle.definitions.specs.Reads.{IsDefinitionsFile, IsFirst, Stated}
 
 -- the entries of a file are given, or it is refused because it has none
-abbrev pub IsUnread : Bad → List ℕ → Type 0
-IsUnread NotJson bytes = IsFirst NotJson bytes
-IsUnread Malformed bytes = IsFirst Malformed bytes
-IsUnread OtherVhost bytes = ⊥
-IsUnread Repeated bytes = ⊥
-IsUnread Absent bytes = ⊥
-IsUnread OtherType bytes = ⊥
-IsUnread Unsupported bytes = ⊥
-IsUnread NoOverflow bytes = ⊥
-IsUnread Worded bytes = ⊥
-IsUnread TooMany bytes = IsFirst TooMany bytes
-IsUnread NoExchange bytes = ⊥
-IsUnread OtherPermission bytes = ⊥
-IsUnread OtherHash bytes = ⊥
-IsUnread Memory bytes = Unit {0}
+abbrev pub IsFileUnread : BadDefinitions → List ℕ → Type 0
+IsFileUnread NotJson bytes = IsFirst NotJson bytes
+IsFileUnread Malformed bytes = IsFirst Malformed bytes
+IsFileUnread OtherVhost bytes = ⊥
+IsFileUnread Repeated bytes = ⊥
+IsFileUnread Absent bytes = ⊥
+IsFileUnread OtherType bytes = ⊥
+IsFileUnread Unsupported bytes = ⊥
+IsFileUnread NoOverflow bytes = ⊥
+IsFileUnread Worded bytes = ⊥
+IsFileUnread TooMany bytes = IsFirst TooMany bytes
+IsFileUnread NoExchange bytes = ⊥
+IsFileUnread OtherPermission bytes = ⊥
+IsFileUnread OtherHash bytes = ⊥
+IsFileUnread Memory bytes = Unit {0}
 
 -- what the bytes of a file give: its entries, or the cause for which it is refused before there are any
-abbrev pub OpensDefinitions : Result Document Bad → List ℕ → Type 0
-OpensDefinitions (Ok d) bytes = IsFile bytes (file_of d)
-OpensDefinitions (Err bad) bytes = IsUnread bad bytes
+abbrev pub OpensDefinitions : Result Document BadDefinitions → List ℕ → Type 0
+OpensDefinitions (Ok d) bytes = IsDefinitionsFile bytes (file_of d)
+OpensDefinitions (Err bad) bytes = IsFileUnread bad bytes
 
 -- no cause below 13 stands in the entries, or the least is told
-abbrev pub Judges : Result ⊤ Bad → File → Type 0
-Judges (Ok done) f = IsClearBelow 13 f
-Judges (Err bad) f = IsTold bad f
+abbrev pub JudgesFile : Result ⊤ BadDefinitions → File → Type 0
+JudgesFile (Ok done) f = IsClearBelow 13 f
+JudgesFile (Err bad) f = IsTold bad f
 
 -- no cause stands in the entries, and they are given as what they set up
 pub record IsSettled (s : Stated) (f : File) : Type 0 where
@@ -42,6 +42,6 @@ pub record IsSettled (s : Stated) (f : File) : Type 0 where
   pub users : s.users ≡ users_of f
 
 -- .. or the least cause is told
-abbrev pub StatesOrTells : Result Stated Bad → File → Type 0
+abbrev pub StatesOrTells : Result Stated BadDefinitions → File → Type 0
 StatesOrTells (Ok s) f = IsSettled s f
 StatesOrTells (Err bad) f = IsTold bad f

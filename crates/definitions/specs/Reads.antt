@@ -1,33 +1,29 @@
 -- What reading a definitions file answers: each cause over the whole file, and of several the one of the least number.
 use Rattle.std.specs.Prelude.{◌≡◌, ◌<◌, ◌≤◌, ℕ, List, Some, Result, Ok, Err, length}
 use Rattle.serde_json.specs.Data.{Data}
-use Rattle.json_file.specs.Members.{IsJson}
+use Rattle.json_file.specs.Members.{IsJson, IsJsonFile}
 use Rattle.model.specs.Topology.{Topology}
 use Rattle.model.specs.declared.messages.User.{User}
-use Rattle.definitions.specs.declared.bad.Bad.{Bad}
-use Rattle.definitions.specs.declared.bad.Bad.TheVariants.{NotJson, Malformed, OtherVhost, Repeated, Absent, OtherType, Unsupported, NoOverflow, Worded, TooMany, NoExchange, OtherPermission, OtherHash, Memory}
-use Rattle.definitions.specs.Numbers.{number}
+use Rattle.definitions.specs.declared.bad.BadDefinitions.{BadDefinitions}
+use Rattle.definitions.specs.declared.bad.BadDefinitions.TheVariants.{NotJson, Malformed, OtherVhost, Repeated, Absent, OtherType, Unsupported, NoOverflow, Worded, TooMany, NoExchange, OtherPermission, OtherHash, Memory}
+use Rattle.definitions.specs.Numbers.{definitions_cause}
 use Rattle.definitions.specs.File.{File, file_at}
 use Rattle.definitions.specs.Causes.{IsClear}
 use Rattle.definitions.specs.States.{topology_of, users_of}
 
 -- the file is JSON and states these entries
-pub record IsFile (bytes : List ℕ) (f : File) : Type 0 where
+pub record IsDefinitionsFile (bytes : List ℕ) (f : File) : Type 0 where
   pub value : Data
   pub json : IsJson bytes value
   pub states : file_at value ≡ Some f
 
--- a file of at most 16,777,216 bytes is JSON
-abbrev pub IsJsonFile : List ℕ → Type 0
-IsJsonFile bytes = length bytes ≤ 16777216 → (d : Data) × IsJson bytes d
-
--- .. and has all required members, each of its kind
+-- a file that is JSON has all required members, each of its kind
 abbrev pub IsWellShaped : List ℕ → Type 0
 IsWellShaped bytes = (d : Data) → IsJson bytes d → (f : File) × (file_at d ≡ Some f)
 
 -- the file's entries are clear of this cause
-abbrev pub HasClear : Bad → List ℕ → Type 0
-HasClear bad bytes = (f : File) → IsFile bytes f → IsClear bad f
+abbrev pub HasClear : BadDefinitions → List ℕ → Type 0
+HasClear bad bytes = (f : File) → IsDefinitionsFile bytes f → IsClear bad f
 
 -- the file is not too long, and does not have too many entries
 pub record IsInLimits (bytes : List ℕ) : Type 0 where
@@ -35,7 +31,7 @@ pub record IsInLimits (bytes : List ℕ) : Type 0 where
   pub few : HasClear TooMany bytes
 
 -- The file is free of this cause. A file that is too long is not read, so that no other cause stands in it.
-abbrev pub IsFree : Bad → List ℕ → Type 0
+abbrev pub IsFree : BadDefinitions → List ℕ → Type 0
 IsFree NotJson bytes = IsJsonFile bytes
 IsFree Malformed bytes = IsWellShaped bytes
 IsFree OtherVhost bytes = HasClear OtherVhost bytes
@@ -52,12 +48,12 @@ IsFree OtherHash bytes = HasClear OtherHash bytes
 IsFree Memory bytes = Unit {0}
 
 -- This cause stands in the file, and none of a smaller number does.
-pub record IsFirst (bad : Bad) (bytes : List ℕ) : Type 0 where
-  pub before : (lower : Bad) → number lower < number bad → IsFree lower bytes
+pub record IsFirst (bad : BadDefinitions) (bytes : List ℕ) : Type 0 where
+  pub before : (lower : BadDefinitions) → definitions_cause lower < definitions_cause bad → IsFree lower bytes
   pub stands : IsFree bad bytes → ⊥
 
 -- a file is refused by its first cause; want of memory owes nothing
-abbrev pub IsRefused : Bad → List ℕ → Type 0
+abbrev pub IsRefused : BadDefinitions → List ℕ → Type 0
 IsRefused NotJson bytes = IsFirst NotJson bytes
 IsRefused Malformed bytes = IsFirst Malformed bytes
 IsRefused OtherVhost bytes = IsFirst OtherVhost bytes
@@ -80,13 +76,13 @@ pub record Stated : Type 0 where
 
 -- No cause stands in the file, and this is what it states.
 pub record IsAccepted (s : Stated) (bytes : List ℕ) : Type 0 where
-  pub free : (bad : Bad) → IsFree bad bytes
+  pub free : (bad : BadDefinitions) → IsFree bad bytes
   pub file : File
-  pub is_file : IsFile bytes file
+  pub is_file : IsDefinitionsFile bytes file
   pub topology : s.topology ≡ topology_of file
   pub users : s.users ≡ users_of file
 
 -- A file is read exactly where no cause stands in it, and is given as what it states; else it is refused by its first cause.
-abbrev pub ReadsDefinitions : Result Stated Bad → List ℕ → Type 0
+abbrev pub ReadsDefinitions : Result Stated BadDefinitions → List ℕ → Type 0
 ReadsDefinitions (Ok s) bytes = IsAccepted s bytes
 ReadsDefinitions (Err bad) bytes = IsRefused bad bytes

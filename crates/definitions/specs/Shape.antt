@@ -1,5 +1,6 @@
 -- The entries that a JSON value states. Source: RabbitMQ, "Definition Export and Import".
-use Rattle.std.specs.Prelude.{codes, ℕ, List, [], ◌∷◌, Bool, not, ◌&&◌, Option, Some, option_and_then}
+use Rattle.std.specs.Prelude.{codes, ℕ, List, [], ◌∷◌, Bool, not, ◌&&◌, Option, Some}
+use Rattle.model.specs.Options.{◌>>=◌}
 use Rattle.serde_json.specs.Data.{Data}
 use Rattle.json_file.specs.Members.{text_at, truth_at, arguments_at, optional_text_at, optional_number_at, is_filled, has_only}
 use Rattle.definitions.specs.declared.document.VhostEntry.{VhostEntry}
@@ -10,11 +11,6 @@ use Rattle.definitions.specs.declared.document.QueueArguments.{QueueArguments}
 use Rattle.definitions.specs.declared.document.ExchangeEntry.{ExchangeEntry}
 use Rattle.definitions.specs.declared.document.QueueEntry.{QueueEntry}
 use Rattle.definitions.specs.declared.document.BindingEntry.{BindingEntry}
-
--- what `←` means below: where one member is missing or of another kind, there is no entry
-infixl 10 ◌>>=◌
-abbrev pub ◌>>=◌ : {A B : Type 0} → Option A → (A → Option B) → Option B
-o >>= f = option_and_then f o
 
 -- a vhost; its other members are ignored
 unfoldable pub vhost_at : Data → Option VhostEntry

@@ -38,15 +38,15 @@ queue_of q = record {
 }
 
 -- where a binding leads; one of an unknown destination type is taken to lead back to its source, so that nothing else is looked for
-abbrev pub place_of : BindingEntry → Place
-place_of b =
+abbrev pub destination_of : BindingEntry → Place
+destination_of b =
     if bytes_eq b.destination_type (codes "queue") then place.Queue b.destination else
     if bytes_eq b.destination_type (codes "exchange") then place.Exchange b.destination else
     place.Exchange b.source
 
 -- a binding
 abbrev pub binding_of : BindingEntry → Binding
-binding_of b = record { source = b.source; to = place_of b; key = b.key }
+binding_of b = record { source = b.source; to = destination_of b; key = b.key }
 
 -- exactly 36 bytes
 abbrev pub of_36 : Text → Option Text

@@ -1,14 +1,14 @@
 //! Why a definitions file is refused.
 
 ghost use Rattle.std.specs.Prelude.{◌≡◌};
-ghost use Rattle.definitions.specs.Numbers.{number};
+ghost use Rattle.definitions.specs.Numbers.{definitions_cause};
 
-use json_file::Fault;
+use json_file::BadJson;
 use std::alloc::{AllocError, AllocFailed};
 
 /// A cause that stands in a file. Of several the one of the least number is told.
 #[derive(Clone, Copy, PartialEq, Eq, Debug, Drop)]
-pub enum Bad {
+pub enum BadDefinitions {
     /// 1: the file is not JSON.
     NotJson,
     /// 2: a required member is missing; a member, an array or an argument is of the wrong kind; or a number is out of its
@@ -44,64 +44,64 @@ pub enum Bad {
     Memory,
 }
 
-impl Bad {
+impl BadDefinitions {
     /// The number of the cause, from 1 to 14.
     pub fn number(self) -> u8
-        ensures { result ≡ number self }
+        ensures { result ≡ definitions_cause self }
     {
         match self {
-            Bad::NotJson => 1,
-            Bad::Malformed => 2,
-            Bad::OtherVhost => 3,
-            Bad::Repeated => 4,
-            Bad::Absent => 5,
-            Bad::OtherType => 6,
-            Bad::Unsupported => 7,
-            Bad::NoOverflow => 8,
-            Bad::Worded => 9,
-            Bad::TooMany => 10,
-            Bad::NoExchange => 11,
-            Bad::OtherPermission => 12,
-            Bad::OtherHash => 13,
-            Bad::Memory => 14,
+            BadDefinitions::NotJson => 1,
+            BadDefinitions::Malformed => 2,
+            BadDefinitions::OtherVhost => 3,
+            BadDefinitions::Repeated => 4,
+            BadDefinitions::Absent => 5,
+            BadDefinitions::OtherType => 6,
+            BadDefinitions::Unsupported => 7,
+            BadDefinitions::NoOverflow => 8,
+            BadDefinitions::Worded => 9,
+            BadDefinitions::TooMany => 10,
+            BadDefinitions::NoExchange => 11,
+            BadDefinitions::OtherPermission => 12,
+            BadDefinitions::OtherHash => 13,
+            BadDefinitions::Memory => 14,
         }
     }
 }
 
-impl From<AllocError> for Bad {
+impl From<AllocError> for BadDefinitions {
     ghost use Rattle.std.specs.Prelude.{◌≡◌};
-    ghost use Rattle.definitions.specs.declared.bad.Bad.TheVariants.{Memory};
+    ghost use Rattle.definitions.specs.declared.bad.BadDefinitions.TheVariants.{Memory};
 
     ghost from_gives = { λ _ r. r ≡ Memory };
 
-    fn from(_: AllocError) -> Bad {
-        Bad::Memory
+    fn from(_: AllocError) -> BadDefinitions {
+        BadDefinitions::Memory
     }
 }
 
-impl<T: Drop> From<AllocFailed<T>> for Bad {
+impl<T: Drop> From<AllocFailed<T>> for BadDefinitions {
     ghost use Rattle.std.specs.Prelude.{◌≡◌};
-    ghost use Rattle.definitions.specs.declared.bad.Bad.TheVariants.{Memory};
+    ghost use Rattle.definitions.specs.declared.bad.BadDefinitions.TheVariants.{Memory};
 
     ghost from_gives = { λ _ r. r ≡ Memory };
 
-    fn from(_: AllocFailed<T>) -> Bad {
-        Bad::Memory
+    fn from(_: AllocFailed<T>) -> BadDefinitions {
+        BadDefinitions::Memory
     }
 }
 
-impl From<Fault> for Bad {
+impl From<BadJson> for BadDefinitions {
     ghost use Rattle.std.specs.Prelude.{◌≡◌};
-    ghost use Rattle.definitions.specs.Faults.{bad_of};
+    ghost use Rattle.definitions.specs.Faults.{bad_definitions};
 
-    ghost from_gives = { λ fault r. r ≡ bad_of fault };
+    ghost from_gives = { λ fault r. r ≡ bad_definitions fault };
 
-    fn from(fault: Fault) -> Bad {
+    fn from(fault: BadJson) -> BadDefinitions {
         match fault {
-            Fault::TooLong => Bad::TooMany,
-            Fault::NotJson => Bad::NotJson,
-            Fault::Malformed => Bad::Malformed,
-            Fault::Memory => Bad::Memory,
+            BadJson::TooLong => BadDefinitions::TooMany,
+            BadJson::NotJson => BadDefinitions::NotJson,
+            BadJson::Malformed => BadDefinitions::Malformed,
+            BadJson::Memory => BadDefinitions::Memory,
         }
     }
 }

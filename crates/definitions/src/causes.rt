@@ -19,7 +19,7 @@ ghost use Rattle.definitions.specs.Causes.{
   IsPlainQueue,
   IsShortName,
   IsSupported,
-  IsWhole,
+  PermitsAll,
   SaysOverflow,
   permission_names,
   user_names,
@@ -243,7 +243,7 @@ pub fn has_names_lead(document: &Document, draft: &Draft<'_>) -> bool
 
 /// Whether a permission is to configure nothing, and to write and read all.
 fn is_whole(permission: &PermissionEntry) -> bool
-    ensures { Decides result (IsWhole permission.now) }
+    ensures { Decides result (PermitsAll permission.now) }
 {
     permission.configure.as_bytes() == b"^$".as_slice()
         && permission.write.as_bytes() == b".*".as_slice()
@@ -252,7 +252,7 @@ fn is_whole(permission: &PermissionEntry) -> bool
 
 /// Whether these permissions are.
 fn all_whole(permissions: &[PermissionEntry]) -> bool
-    ensures { Decides result (All IsWhole permissions.now) }
+    ensures { Decides result (All PermitsAll permissions.now) }
 {
     permissions.iter().all(|permission| is_whole(permission))
 }

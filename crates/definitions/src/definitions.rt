@@ -5,7 +5,7 @@ ghost use Rattle.definitions.specs.File.{file_of};
 ghost use Rattle.definitions.specs.Judged.{OpensDefinitions, StatesOrTells};
 ghost use Rattle.definitions.specs.Reads.{ReadsDefinitions};
 
-use crate::bad::Bad;
+use crate::bad::BadDefinitions;
 use crate::document::Document;
 use crate::judging::judge;
 use crate::shape::document;
@@ -66,7 +66,7 @@ impl Definitions {
 }
 
 /// The entries of a file, or why it has none.
-fn open(alloc: Global, bytes: &[u8]) -> Result<Document, Bad>
+fn open(alloc: Global, bytes: &[u8]) -> Result<Document, BadDefinitions>
     ensures { OpensDefinitions result bytes.now }
 {
     let value = parse(alloc, bytes)?;
@@ -75,13 +75,13 @@ fn open(alloc: Global, bytes: &[u8]) -> Result<Document, Bad>
 }
 
 /// What the entries of a file set up, or the least cause that stands in them.
-fn settle(alloc: Global, document: &Document) -> Result<Definitions, Bad>
+fn settle(alloc: Global, document: &Document) -> Result<Definitions, BadDefinitions>
     ensures { StatesOrTells result (file_of document.now) }
 {
     let parts = Parts::of(alloc, document)?;
     judge(alloc, document, &parts)?;
     let Some(users) = users_of(alloc, document.users.as_slice())? else {
-        return Err(Bad::OtherHash);
+        return Err(BadDefinitions::OtherHash);
     };
     let topology = parts.sound(alloc)?;
     Ok(Definitions { topology, users })
@@ -91,7 +91,7 @@ fn settle(alloc: Global, document: &Document) -> Result<Definitions, Bad>
 ///
 /// A file has at most 16,777,216 bytes. Source: RabbitMQ, "Definition Export and Import"; `docs/FORMATS.md` lists the
 /// members, the causes and the limits.
-pub fn read_definitions(alloc: Global, bytes: &[u8]) -> Result<Definitions, Bad>
+pub fn read_definitions(alloc: Global, bytes: &[u8]) -> Result<Definitions, BadDefinitions>
     ensures { ReadsDefinitions result bytes.now }
 {
     let document = open(alloc, bytes)?;

@@ -3,10 +3,10 @@
 ghost use Rattle.std.specs.Prelude.{◌≡◌, MatchResult};
 ghost use Rattle.definitions.specs.Causes.{IsClearBelow, IsTold, user_names};
 ghost use Rattle.definitions.specs.File.{file_of};
-ghost use Rattle.definitions.specs.Judged.{Judges};
+ghost use Rattle.definitions.specs.Judged.{JudgesFile};
 ghost use Rattle.definitions.specs.States.{topology_of};
 
-use crate::bad::Bad;
+use crate::bad::BadDefinitions;
 use crate::causes::{
     has_all_join, has_all_worded, has_few, has_names_apart, has_names_lead, has_one_vhost,
     has_overflows, has_permissions, has_types, is_supported,
@@ -21,25 +21,25 @@ fn first_cause(
     document: &Document,
     users: &Directory<'_, UserEntry>,
     draft: &Draft<'_>,
-) -> Result<(), Bad>
+) -> Result<(), BadDefinitions>
     requires users { users.now ≡ user_names (file_of document.now) }
     requires draft { draft.now ≡ topology_of (file_of document.now) }
     ensures { MatchResult result (λ _. IsClearBelow 8 (file_of document.now)) (λ bad. IsTold bad (file_of document.now)) }
 {
     if !has_one_vhost(document) {
-        return Err(Bad::OtherVhost);
+        return Err(BadDefinitions::OtherVhost);
     }
     if !has_names_apart(document, users, draft) {
-        return Err(Bad::Repeated);
+        return Err(BadDefinitions::Repeated);
     }
     if !has_all_join(document, draft) {
-        return Err(Bad::Absent);
+        return Err(BadDefinitions::Absent);
     }
     if !has_types(document) {
-        return Err(Bad::OtherType);
+        return Err(BadDefinitions::OtherType);
     }
     if !is_supported(document) {
-        return Err(Bad::Unsupported);
+        return Err(BadDefinitions::Unsupported);
     }
     Ok(())
 }
@@ -50,26 +50,26 @@ fn next_cause(
     document: &Document,
     users: &Directory<'_, UserEntry>,
     draft: &Draft<'_>,
-) -> Result<(), Bad>
+) -> Result<(), BadDefinitions>
     requires users { users.now ≡ user_names (file_of document.now) }
     requires draft { draft.now ≡ topology_of (file_of document.now) }
     requires clear { IsClearBelow 8 (file_of document.now) }
-    ensures { Judges result (file_of document.now) }
+    ensures { JudgesFile result (file_of document.now) }
 {
     if !has_overflows(document) {
-        return Err(Bad::NoOverflow);
+        return Err(BadDefinitions::NoOverflow);
     }
     if !has_all_worded(document, draft) {
-        return Err(Bad::Worded);
+        return Err(BadDefinitions::Worded);
     }
     if !has_few(document, draft) {
-        return Err(Bad::TooMany);
+        return Err(BadDefinitions::TooMany);
     }
     if !has_names_lead(document, draft) {
-        return Err(Bad::NoExchange);
+        return Err(BadDefinitions::NoExchange);
     }
     if !has_permissions(alloc, document, users) {
-        return Err(Bad::OtherPermission);
+        return Err(BadDefinitions::OtherPermission);
     }
     Ok(())
 }
@@ -80,10 +80,10 @@ fn least_cause(
     document: &Document,
     users: &Directory<'_, UserEntry>,
     draft: &Draft<'_>,
-) -> Result<(), Bad>
+) -> Result<(), BadDefinitions>
     requires users { users.now ≡ user_names (file_of document.now) }
     requires draft { draft.now ≡ topology_of (file_of document.now) }
-    ensures { Judges result (file_of document.now) }
+    ensures { JudgesFile result (file_of document.now) }
 {
     first_cause(document, users, draft)?;
     next_cause(alloc, document, users, draft)
@@ -91,9 +91,9 @@ fn least_cause(
 
 /// Tells the least cause that stands in a file, if one below the users' hashes does. What the file sets up is asked of
 /// its draft.
-pub fn judge(alloc: Global, document: &Document, parts: &Parts) -> Result<(), Bad>
+pub fn judge(alloc: Global, document: &Document, parts: &Parts) -> Result<(), BadDefinitions>
     requires { parts.now ≡ topology_of (file_of document.now) }
-    ensures { Judges result (file_of document.now) }
+    ensures { JudgesFile result (file_of document.now) }
 {
     let users = Directory::of(alloc, document.users.as_slice());
     let draft = parts.draft(alloc);

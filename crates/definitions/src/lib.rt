@@ -10,5 +10,5 @@ mod names;
 mod shape;
 mod stating;
 
-pub use bad::Bad;
+pub use bad::BadDefinitions;
 pub use definitions::{Definitions, read_definitions};

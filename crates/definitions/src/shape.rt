@@ -2,7 +2,7 @@
 
 ghost use Rattle.std.specs.Prelude.{◌≡◌};
 ghost use Rattle.serde_json.specs.View.{view};
-ghost use Rattle.json_file.specs.Outcomes.{Gives};
+ghost use Rattle.json_file.specs.Outcomes.{GivesValue};
 ghost use Rattle.definitions.specs.File.{GivesFile, file_at};
 ghost use Rattle.definitions.specs.Shape.{
   binding_listed_at,
@@ -16,32 +16,32 @@ use crate::document::{
     QueueEntry, UserEntry, VhostEntry,
 };
 use json_file::{
-    Entry, Fault, arguments, entries, has_only, is_filled, optional_number, optional_text, text,
-    truth,
+    BadJson, FromValue, arguments, entries, has_only, is_filled, optional_number, optional_text,
+    text, truth,
 };
 use serde_json::Value;
 use std::alloc::Global;
 
-impl Entry for VhostEntry {
+impl FromValue for VhostEntry {
     ghost use Rattle.definitions.specs.Shape.{vhost_at};
 
     ghost states = { vhost_at };
 
     #[tactic(auto, unfolding(crate::specs::Shape::vhost_at))]
-    fn read(alloc: Global, value: &Value) -> Result<VhostEntry, Fault> {
+    fn read(alloc: Global, value: &Value) -> Result<VhostEntry, BadJson> {
         Ok(VhostEntry {
             name: text(alloc, value, "name")?,
         })
     }
 }
 
-impl Entry for UserEntry {
+impl FromValue for UserEntry {
     ghost use Rattle.definitions.specs.Shape.{user_at};
 
     ghost states = { user_at };
 
     #[tactic(auto, unfolding(crate::specs::Shape::user_at))]
-    fn read(alloc: Global, value: &Value) -> Result<UserEntry, Fault> {
+    fn read(alloc: Global, value: &Value) -> Result<UserEntry, BadJson> {
         Ok(UserEntry {
             name: text(alloc, value, "name")?,
             password_hash: text(alloc, value, "password_hash")?,
@@ -50,13 +50,13 @@ impl Entry for UserEntry {
     }
 }
 
-impl Entry for PermissionEntry {
+impl FromValue for PermissionEntry {
     ghost use Rattle.definitions.specs.Shape.{permission_at};
 
     ghost states = { permission_at };
 
     #[tactic(auto, unfolding(crate::specs::Shape::permission_at))]
-    fn read(alloc: Global, value: &Value) -> Result<PermissionEntry, Fault> {
+    fn read(alloc: Global, value: &Value) -> Result<PermissionEntry, BadJson> {
         Ok(PermissionEntry {
             user: text(alloc, value, "user")?,
             vhost: text(alloc, value, "vhost")?,
@@ -69,8 +69,8 @@ impl Entry for PermissionEntry {
 
 /// The arguments of an exchange.
 #[tactic(auto, unfolding(crate::specs::Shape::exchange_arguments_at))]
-fn exchange_arguments(alloc: Global, value: &Value) -> Result<ExchangeArguments, Fault>
-    ensures { Gives result (exchange_arguments_at (view value.now)) }
+fn exchange_arguments(alloc: Global, value: &Value) -> Result<ExchangeArguments, BadJson>
+    ensures { GivesValue result (exchange_arguments_at (view value.now)) }
 {
     let stated = arguments(value)?;
     Ok(ExchangeArguments {
@@ -79,13 +79,13 @@ fn exchange_arguments(alloc: Global, value: &Value) -> Result<ExchangeArguments,
     })
 }
 
-impl Entry for ExchangeEntry {
+impl FromValue for ExchangeEntry {
     ghost use Rattle.definitions.specs.Shape.{exchange_at};
 
     ghost states = { exchange_at };
 
     #[tactic(auto, unfolding(crate::specs::Shape::exchange_at))]
-    fn read(alloc: Global, value: &Value) -> Result<ExchangeEntry, Fault> {
+    fn read(alloc: Global, value: &Value) -> Result<ExchangeEntry, BadJson> {
         let name = text(alloc, value, "name")?;
         let vhost = text(alloc, value, "vhost")?;
         let kind = text(alloc, value, "type")?;
@@ -119,8 +119,8 @@ impl Entry for ExchangeEntry {
 
 /// The arguments of a queue.
 #[tactic(auto, unfolding(crate::specs::Shape::queue_arguments_at))]
-fn queue_arguments(alloc: Global, value: &Value) -> Result<QueueArguments, Fault>
-    ensures { Gives result (queue_arguments_at (view value.now)) }
+fn queue_arguments(alloc: Global, value: &Value) -> Result<QueueArguments, BadJson>
+    ensures { GivesValue result (queue_arguments_at (view value.now)) }
 {
     let stated = arguments(value)?;
     let max_length = optional_number(stated, "x-max-length")?;
@@ -145,13 +145,13 @@ fn queue_arguments(alloc: Global, value: &Value) -> Result<QueueArguments, Fault
     })
 }
 
-impl Entry for QueueEntry {
+impl FromValue for QueueEntry {
     ghost use Rattle.definitions.specs.Shape.{queue_at};
 
     ghost states = { queue_at };
 
     #[tactic(auto, unfolding(crate::specs::Shape::queue_at))]
-    fn read(alloc: Global, value: &Value) -> Result<QueueEntry, Fault> {
+    fn read(alloc: Global, value: &Value) -> Result<QueueEntry, BadJson> {
         let name = text(alloc, value, "name")?;
         let vhost = text(alloc, value, "vhost")?;
         let _ = truth(value, "durable")?;
@@ -173,8 +173,8 @@ impl Entry for QueueEntry {
 
 /// Whether a binding has only its members, and no argument.
 #[tactic(auto, unfolding(crate::specs::Shape::binding_listed_at))]
-fn binding_listed(value: &Value) -> Result<bool, Fault>
-    ensures { Gives result (binding_listed_at (view value.now)) }
+fn binding_listed(value: &Value) -> Result<bool, BadJson>
+    ensures { GivesValue result (binding_listed_at (view value.now)) }
 {
     let stated = arguments(value)?;
     let members = has_only(
@@ -191,13 +191,13 @@ fn binding_listed(value: &Value) -> Result<bool, Fault>
     Ok(members & has_only(stated, &[]))
 }
 
-impl Entry for BindingEntry {
+impl FromValue for BindingEntry {
     ghost use Rattle.definitions.specs.Shape.{binding_at};
 
     ghost states = { binding_at };
 
     #[tactic(auto, unfolding(crate::specs::Shape::binding_at))]
-    fn read(alloc: Global, value: &Value) -> Result<BindingEntry, Fault> {
+    fn read(alloc: Global, value: &Value) -> Result<BindingEntry, BadJson> {
         let source = text(alloc, value, "source")?;
         let vhost = text(alloc, value, "vhost")?;
         let destination = text(alloc, value, "destination")?;
@@ -217,8 +217,8 @@ impl Entry for BindingEntry {
 
 /// Whether there is no policy, parameter or topic permission.
 #[tactic(auto, unfolding(crate::specs::Shape::plain_at))]
-fn plain(value: &Value) -> Result<bool, Fault>
-    ensures { Gives result (plain_at (view value.now)) }
+fn plain(value: &Value) -> Result<bool, BadJson>
+    ensures { GivesValue result (plain_at (view value.now)) }
 {
     let policies = is_filled(value, "policies")?;
     let parameters = is_filled(value, "parameters")?;
@@ -228,7 +228,7 @@ fn plain(value: &Value) -> Result<bool, Fault>
 
 /// The entries that a value states, if it is an object with all of them, each of its kind.
 #[tactic(auto, unfolding(crate::specs::File::file_at))]
-pub fn document(alloc: Global, value: &Value) -> Result<Document, Fault>
+pub fn document(alloc: Global, value: &Value) -> Result<Document, BadJson>
     ensures { GivesFile result (file_at (view value.now)) }
 {
     let vhosts = entries::<VhostEntry>(alloc, value, "vhosts")?;

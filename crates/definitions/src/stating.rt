@@ -8,7 +8,7 @@ ghost use Rattle.definitions.specs.States.{
   exchange_of,
   hash_of,
   of_36,
-  place_of,
+  destination_of,
   queue_of,
   topology_of,
   user_of,
@@ -82,8 +82,8 @@ fn queues_of(alloc: Global, entries: &[QueueEntry]) -> Result<Vec<DeclaredQueue>
 }
 
 /// Where a binding leads. One of an unknown destination type is taken to lead back to its source.
-fn place_of(entry: &BindingEntry) -> Result<Place, AllocError>
-    ensures { IfOk result (λ p. p ≡ place_of entry.now) }
+fn destination_of(entry: &BindingEntry) -> Result<Place, AllocError>
+    ensures { IfOk result (λ p. p ≡ destination_of entry.now) }
 {
     if entry.destination_type.as_bytes() == b"queue".as_slice() {
         Ok(Place::Queue(entry.destination.clone()?))
@@ -100,7 +100,7 @@ fn binding_of(entry: &BindingEntry) -> Result<Binding, AllocError>
 {
     Ok(Binding {
         source: entry.source.clone()?,
-        to: place_of(entry)?,
+        to: destination_of(entry)?,
         key: entry.key.clone()?,
     })
 }

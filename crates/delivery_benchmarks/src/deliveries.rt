@@ -1,7 +1,7 @@
 //! What it costs to publish a message, to deliver it and to have it acknowledged, bytes to bytes.
 
 use crate::consumers::{Acks, put_consume, put_qos};
-use crate::loads::{Load, MESSAGES, load_at};
+use crate::loads::{DeliveryLoad, MESSAGES, load_at};
 use measuring::{Client, Keys, Measured, Part, SELECT, Written, built, print_parts};
 use std::alloc::Global;
 use std::io;
@@ -17,7 +17,7 @@ const BODY: usize = 12;
 
 /// A load, as its parts are run: a connection that publishes, and one that consumes.
 #[derive(Drop)]
-struct Running {
+struct RunningDeliveries {
     alloc: Global,
     engine: Measured,
     publisher: u64,
@@ -28,7 +28,7 @@ struct Running {
     delivered: u64,
 }
 
-impl Running {
+impl RunningDeliveries {
     /// Publishes so many messages.
     fn publish(&mut self, messages: u64) {
         let bytes = self.client.window(self.alloc, messages);
@@ -61,7 +61,7 @@ impl Running {
     }
 }
 
-impl Part for Running {
+impl Part for RunningDeliveries {
     fn prepare(&mut self, _: u64) {}
 
     fn run(&mut self, _: u64) {
@@ -73,7 +73,7 @@ impl Part for Running {
 }
 
 /// The name of the queue of this number that has a consumer.
-fn put_name(name: &mut Written, load: &Load, number: u32) {
+fn put_name(name: &mut Written, load: &DeliveryLoad, number: u32) {
     name.put_text("q");
     if load.queues != 1 {
         name.put_number(u64::from(number));
@@ -81,14 +81,14 @@ fn put_name(name: &mut Written, load: &Load, number: u32) {
 }
 
 /// Appends the consume of the queue of this number.
-fn put_consumer(alloc: Global, out: &mut Written, load: &Load, number: u32) {
+fn put_consumer(alloc: Global, out: &mut Written, load: &DeliveryLoad, number: u32) {
     let mut name = Written::new(alloc);
     put_name(&mut name, load, number);
     put_consume(out, name.as_slice());
 }
 
 /// What the consuming client writes first.
-fn consumes(alloc: Global, load: &Load) -> Written {
+fn consumes(alloc: Global, load: &DeliveryLoad) -> Written {
     let mut bytes = Written::new(alloc);
     put_qos(&mut bytes, load.prefetch);
     for _ in 0..load.idle {
@@ -127,11 +127,11 @@ fn hold_back(engine: &mut Measured, alloc: Global, publisher: u64, consumers: u3
 }
 
 /// Fills the load's queue, and has its consumers made.
-fn start(alloc: Global, mut engine: Measured, load: &Load) -> Running {
+fn start(alloc: Global, mut engine: Measured, load: &DeliveryLoad) -> RunningDeliveries {
     let publisher = engine.open_ready();
     engine.perform(publisher, SELECT.as_slice());
     let consumer = engine.open_ready();
-    let mut running = Running {
+    let mut running = RunningDeliveries {
         alloc,
         engine,
         publisher,
@@ -148,7 +148,7 @@ fn start(alloc: Global, mut engine: Measured, load: &Load) -> Running {
 }
 
 /// Runs a load, and prints what a message took in each part.
-fn measure_over(rt: &HostRuntime, engine: Measured, load: &Load) -> io::Result<()> {
+fn measure_over(rt: &HostRuntime, engine: Measured, load: &DeliveryLoad) -> io::Result<()> {
     let mut running = start(rt.alloc(), engine, load);
     print!(rt; "{}:", load.name)?;
     print_parts(rt, &mut running, PART)?;
@@ -160,11 +160,11 @@ fn measure_over(rt: &HostRuntime, engine: Measured, load: &Load) -> io::Result<(
 }
 
 /// An engine over the load's topology, none where it is refused or memory is.
-fn engine_of(alloc: Global, load: &Load) -> Option<Measured> {
+fn engine_of(alloc: Global, load: &DeliveryLoad) -> Option<Measured> {
     Measured::over(alloc, built(alloc, load.shape())?, Vec::new(alloc))
 }
 
-fn measure(rt: &HostRuntime, load: &Load) -> io::Result<()> {
+fn measure(rt: &HostRuntime, load: &DeliveryLoad) -> io::Result<()> {
     match engine_of(rt.alloc(), load) {
         Some(engine) => measure_over(rt, engine, load),
         None => println!(rt; "{}: there is no engine", load.name),

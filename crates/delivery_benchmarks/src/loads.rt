@@ -4,7 +4,7 @@ use measuring::{Keys, Shape};
 
 /// One load: messages of 12 bytes that are published, delivered to consumers and acknowledged, 100 at a time.
 #[derive(Clone, Copy, Drop)]
-pub struct Load {
+pub struct DeliveryLoad {
     pub name: &'static str,
     /// How many queues have a consumer.
     pub queues: u32,
@@ -21,7 +21,7 @@ pub struct Load {
 /// How many messages a load publishes, delivers and acknowledges.
 pub const MESSAGES: u64 = 100_000;
 
-impl Load {
+impl DeliveryLoad {
     /// The topology of the load.
     pub fn shape(&self) -> Shape {
         if self.queues == 1 {
@@ -40,8 +40,8 @@ impl Load {
 }
 
 /// A load with one queue and one consumer.
-fn one(name: &'static str, prefetch: u16, waiting: u64) -> Load {
-    Load {
+fn one(name: &'static str, prefetch: u16, waiting: u64) -> DeliveryLoad {
+    DeliveryLoad {
         name,
         queues: 1,
         idle: 0,
@@ -52,7 +52,7 @@ fn one(name: &'static str, prefetch: u16, waiting: u64) -> Load {
 }
 
 /// The load at this place, none past the last.
-pub fn load_at(place: u32) -> Option<Load> {
+pub fn load_at(place: u32) -> Option<DeliveryLoad> {
     let load = match place {
         0 => one("one consumer, prefetch 0", 0, 0),
         1 => one("one consumer, prefetch 1", 1, 0),
@@ -61,19 +61,19 @@ pub fn load_at(place: u32) -> Option<Load> {
         4 => one("100,000 waiting", 0, 100_000),
         5 => one("1,000,000 waiting", 0, 1_000_000),
         6 => one("1,000,000 waiting, prefetch 1", 1, 1_000_000),
-        7 => Load {
+        7 => DeliveryLoad {
             queues: 256,
             ..one("256 queues, each with a consumer", 0, 0)
         },
-        8 => Load {
+        8 => DeliveryLoad {
             idle: 1,
             ..one("1 idle consumer beside", 0, 0)
         },
-        9 => Load {
+        9 => DeliveryLoad {
             idle: 255,
             ..one("255 idle consumers beside", 0, 0)
         },
-        10 => Load {
+        10 => DeliveryLoad {
             full: 200,
             ..one("200 consumers beside that hold what they may", 0, 0)
         },

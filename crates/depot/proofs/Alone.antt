@@ -9,29 +9,29 @@ use Rattle.model.specs.declared.topologies.DeclaredQueue.{DeclaredQueue}
 use Rattle.model.specs.declared.notes.Note.{Note}
 use Rattle.model.specs.declared.notes.Way.TheVariants as way
 use Rattle.exchange_graph.specs.Targets.{AreTargets}
-use Rattle.depot.specs.declared.turns.Turn.{Turn}
-use Rattle.depot.specs.Turns.{Outcome, turn_at, outcome, is_refusal, entered_one, Enters}
+use Rattle.depot.specs.declared.turns.PlannedTurn.{PlannedTurn}
+use Rattle.depot.specs.Turns.{TurnOutcome, turn_at, outcome, is_refusal, entered_one, Enters}
 
 or_none : (b : Bool) → b ≡ (b || false)
 or_none true = refl
 or_none false = refl
 
 -- the one turn of a publish is taken
-pub one_enters : (t : Topology) (p : Publish) (m : Message) (place : ℕ) (first : Note) (before pushed after : List Note) (declared : List DeclaredQueue) (old mid new : List (List Entry)) (turn : Turn) (full : Bool)
+pub one_enters : (t : Topology) (p : Publish) (m : Message) (place : ℕ) (first : Note) (before pushed after : List Note) (declared : List DeclaredQueue) (old mid new : List (List Entry)) (turn : PlannedTurn) (full : Bool)
     → AreTargets t p.exchange p.routing_key (place ∷ []) → declared ≡ t.queues → turn ≡ turn_at t.queues m place → mid ≡ old
     → new ≡ entered_one (outcome way.Publish declared mid turn) mid → pushed ≡ before ++ first ∷ [] → after ≡ pushed ++ (outcome way.Publish declared mid turn).note ∷ []
     → full ≡ is_refusal (outcome way.Publish declared mid turn) → Enters t old new p m first before after (record { is_none = false; is_some_full = full })
 one_enters t p m place first before pushed after declared old mid new turn full routed qs turned same entries noted notes refused =
     let o : outcome way.Publish declared mid turn ≡ outcome way.Publish t.queues old (turn_at t.queues m place) =
     ap (λ (ds : List DeclaredQueue). outcome way.Publish ds mid turn) qs
-    ∙ ap (λ (u : Turn). outcome way.Publish t.queues mid u) turned
+    ∙ ap (λ (u : PlannedTurn). outcome way.Publish t.queues mid u) turned
     ∙ ap (λ (es : List (List Entry)). outcome way.Publish t.queues es (turn_at t.queues m place)) same in
     record {
       turns = turn_at t.queues m place ∷ [];
       plan = record { targets = place ∷ []; routed = routed; turned = refl };
-      entries = entries ∙ ap (λ (x : Outcome). entered_one x mid) o ∙ ap (entered_one (outcome way.Publish t.queues old (turn_at t.queues m place))) same;
+      entries = entries ∙ ap (λ (x : TurnOutcome). entered_one x mid) o ∙ ap (entered_one (outcome way.Publish t.queues old (turn_at t.queues m place))) same;
       notes =
-          notes ∙ ap (λ (x : Outcome). pushed ++ x.note ∷ []) o
+          notes ∙ ap (λ (x : TurnOutcome). pushed ++ x.note ∷ []) o
           ∙ ap (λ (ns : List Note). ns ++ (outcome way.Publish t.queues old (turn_at t.queues m place)).note ∷ []) noted
           ∙ append_assoc before (first ∷ []) ((outcome way.Publish t.queues old (turn_at t.queues m place)).note ∷ []);
       none = refl;

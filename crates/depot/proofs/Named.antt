@@ -3,11 +3,11 @@ use Rattle.std.proofs.Common.{◌≡◌, ℕ, zero, suc, ◌<◌, List, [], ◌�
 use Rattle.std.specs.Str.{bytes_eq}
 use Rattle.std.proofs.lemmas.Slice.Eq.{bytes_eq-Decides}
 use Rattle.model.specs.Words.{Text}
-use Rattle.model.specs.Topology.{Topology, queue_names, IsIn, AreApart}
+use Rattle.model.specs.Topology.{queue_names, IsIn, AreApart}
 use Rattle.model.specs.Broker.{listed}
 use Rattle.model.specs.declared.messages.Entry.{Entry}
 use Rattle.exchange_graph.specs.Marks.{queue_name}
-use Rattle.depot.specs.Store.{Store, queue_of, queue_at, with_entries_at, IsWhole}
+use Rattle.depot.specs.Store.{Store, entries_named, queue_at, with_entries_at, IsStoreWhole}
 use Rattle.depot.proofs.Naming.{names-length, is_in, other_name, listed_at}
 
 listed-put : (names : List Text) (lists : List (List Entry)) (i : ℕ) (x : List Entry) (q : Text) → AreApart names → length names ≡ length lists → i < length names
@@ -31,15 +31,15 @@ listed-put (n ∷ ns) (es ∷ ess) (suc i) x q apart len lt = go (bytes_eq n q) 
     go false is ih = ih
 
 -- one queue is changed, and every other is as it was
-pub queue_of-changed : (s : Store) (place : ℕ) (entries : List Entry) (q : Text) → IsWhole s → place < length s.topology.queues
-    → queue_of (with_entries_at s place entries) q ≡ (if bytes_eq (queue_name s.topology place) q then entries else queue_of s q)
+pub queue_of-changed : (s : Store) (place : ℕ) (entries : List Entry) (q : Text) → IsStoreWhole s → place < length s.topology.queues
+    → entries_named (with_entries_at s place entries) q ≡ (if bytes_eq (queue_name s.topology place) q then entries else entries_named s q)
 queue_of-changed s place entries q whole lt =
     let len = whole.len in
     let long = names-length s.topology.queues in
     listed-put (queue_names s.topology.queues) s.queues place entries q whole.formed.queues_apart (omega arith) (omega arith)
 
 -- the queue at a place is the queue of its name
-pub queue_of-place : (s : Store) (place : ℕ) → IsWhole s → place < length s.topology.queues → queue_of s (queue_name s.topology place) ≡ queue_at s place
+pub queue_of-place : (s : Store) (place : ℕ) → IsStoreWhole s → place < length s.topology.queues → entries_named s (queue_name s.topology place) ≡ queue_at s place
 queue_of-place s place whole lt =
     let len = whole.len in
     let long = names-length s.topology.queues in

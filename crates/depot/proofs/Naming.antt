@@ -23,11 +23,11 @@ use Rattle.model.specs.declared.notes.Way.{Way}
 use Rattle.model.specs.declared.notes.Way.TheVariants as way
 use Rattle.queue.specs.Line.{ready_count}
 use Rattle.exchange_graph.specs.Targets.{names_at}
-use Rattle.depot.specs.declared.turns.Turn.{Turn}
+use Rattle.depot.specs.declared.turns.PlannedTurn.{PlannedTurn}
 use Rattle.depot.specs.declared.depots.Routed.{Routed}
 use Rattle.depot.specs.Store.{Store}
 use Rattle.depot.specs.Publishing.{Publishing}
-use Rattle.depot.specs.Turns.{Outcome, outcome_of, outcome, outcomes, turn_at, limits, is_full_at, places, notes_of_outcomes, is_refusal, no_turns, arriving, entered_one, entered, IsPlan, Enters}
+use Rattle.depot.specs.Turns.{TurnOutcome, outcome_of, outcome, outcomes, turn_at, limits, is_full_at, places, notes_of_outcomes, is_refusal, no_turns, arriving, entered_one, all_entered, IsPlan, Enters}
 
 -- ---- names
 
@@ -122,11 +122,11 @@ ready_some qs lists name i at len =
 -- ---- the queues
 
 -- the place of each
-abbrev pub places_of : List Outcome → List ℕ
-places_of os = map (λ (o : Outcome). o.place) os
+abbrev pub places_of : List TurnOutcome → List ℕ
+places_of os = map (λ (o : TurnOutcome). o.place) os
 
 -- what comes to the queue q by these outcomes
-abbrev pub arrivals : List Text → List Outcome → Text → List Entry
+abbrev pub arrivals : List Text → List TurnOutcome → Text → List Entry
 arrivals names [] q = []
 arrivals names (o ∷ os) q = cond (bytes_eq (get_or names o.place []) q) (arriving o.message) [] ++ arrivals names os q
 
@@ -150,8 +150,8 @@ listed-set (n ∷ ns) (es ∷ ess) (suc i) x q apart len lt = go (bytes_eq n q) 
         sym (ap (λ (b : Bool). es ++ cond b x []) other ∙ append-nil es)
     go false is ih = ih
 
-listed-entered : (names : List Text) (os : List Outcome) (lists : List (List Entry)) (q : Text) → AreApart names → length names ≡ length lists → All (λ (i : ℕ). i < length names) (places_of os)
-    → listed names (entered os lists) q ≡ listed names lists q ++ arrivals names os q
+listed-entered : (names : List Text) (os : List TurnOutcome) (lists : List (List Entry)) (q : Text) → AreApart names → length names ≡ length lists → All (λ (i : ℕ). i < length names) (places_of os)
+    → listed names (all_entered os lists) q ≡ listed names lists q ++ arrivals names os q
 listed-entered names [] lists q apart len within = sym (append-nil (listed names lists q))
 listed-entered names (o ∷ os) lists q apart len within =
     let kept = length-set lists o.place (get_or lists o.place [] ++ arriving o.message) in
@@ -162,7 +162,7 @@ listed-entered names (o ∷ os) lists q apart len within =
 -- ---- the turns of a message
 
 -- what becomes of the turn at this place
-abbrev pub outcome_at : Way → List DeclaredQueue → List (List Entry) → Message → ℕ → Outcome
+abbrev pub outcome_at : Way → List DeclaredQueue → List (List Entry) → Message → ℕ → TurnOutcome
 outcome_at how qs lists m i = outcome_of how (get_or (queue_names qs) i []) (is_full_at qs lists i) m i
 
 one_arrives : (how : Way) (name : Text) (m : Message) (i : ℕ) (b f : Bool) (xs ys : List Entry) → xs ≡ ys
@@ -195,11 +195,11 @@ places_of_outcomes how qs lists m (i ∷ is) =
     ap (λ (j : ℕ). j ∷ places_of (map (outcome_at how qs lists m) is)) (place_of_outcome how (get_or (queue_names qs) i []) m i (is_full_at qs lists i))
     ∙ ap (λ (js : List ℕ). i ∷ js) (places_of_outcomes how qs lists m is)
 
-pub turned_within : (t : Topology) (m : Message) (targets : List ℕ) (turns ts : List Turn) (n : ℕ) → turns ≡ map (turn_at t.queues m) targets → All (λ (i : ℕ). i < length t.queues) targets → ts ≡ turns → n ≡ length t.queues → All (λ (i : ℕ). i < n) (places ts)
+pub turned_within : (t : Topology) (m : Message) (targets : List ℕ) (turns ts : List PlannedTurn) (n : ℕ) → turns ≡ map (turn_at t.queues m) targets → All (λ (i : ℕ). i < length t.queues) targets → ts ≡ turns → n ≡ length t.queues → All (λ (i : ℕ). i < n) (places ts)
 turned_within t m targets turns ts n turned within same len =
     subst (λ (is : List ℕ). All (λ (i : ℕ). i < n) is) (sym (ap places (same ∙ turned) ∙ places_of_turns t.queues m targets)) (subst (λ (k : ℕ). All (λ (i : ℕ). i < k) targets) (sym len) within)
 
-pub turned_rising : (t : Topology) (m : Message) (targets : List ℕ) (turns ts : List Turn) → turns ≡ map (turn_at t.queues m) targets → AllPairs (λ (i j : ℕ). i < j) targets → ts ≡ turns → AllPairs (λ (i j : ℕ). i < j) (places ts)
+pub turned_rising : (t : Topology) (m : Message) (targets : List ℕ) (turns ts : List PlannedTurn) → turns ≡ map (turn_at t.queues m) targets → AllPairs (λ (i j : ℕ). i < j) targets → ts ≡ turns → AllPairs (λ (i j : ℕ). i < j) (places ts)
 turned_rising t m targets turns ts turned rising same = subst (AllPairs (λ (i j : ℕ). i < j)) (sym (ap places (same ∙ turned) ∙ places_of_turns t.queues m targets)) rising
 
 -- where the places rise, each queue is found as it was before the first turn
@@ -211,18 +211,18 @@ outcomes_start how qs m (i ∷ is) lists now rising same =
     let first : outcome how qs now (turn_at qs m i) ≡ outcome_at how qs lists m i
     = ap (λ (es : List Entry). outcome_of how (get_or (queue_names qs) i []) (is_at (get_or (limits qs) i None) (ready_count es)) m i) (same 0 (omega arith)) in
     let here = place_of_outcome how (get_or (queue_names qs) i []) m i (is_full_at qs now i) in
-    ap (λ (o : Outcome). o ∷ outcomes how qs (map (turn_at qs m) is) (entered_one (outcome how qs now (turn_at qs m i)) now)) first
-    ∙ ap (λ (os : List Outcome). outcome_at how qs lists m i ∷ os)
+    ap (λ (o : TurnOutcome). o ∷ outcomes how qs (map (turn_at qs m) is) (entered_one (outcome how qs now (turn_at qs m i)) now)) first
+    ∙ ap (λ (os : List TurnOutcome). outcome_at how qs lists m i ∷ os)
     (outcomes_start how qs m is lists (entered_one (outcome how qs now (turn_at qs m i)) now) (λ j k d lt within. rising (suc j) (suc k) d (omega arith) (omega arith))
     (λ k lt.
     let later : i < get_or is k 0 = rising 0 (suc k) 0 (omega arith) (omega arith) in
     get_or-set_other now (outcome how qs now (turn_at qs m i)).place (get_or is k 0) _ [] (λ e. absurd (omega (arith, later, here, e)))
     ∙ same (suc k) (omega arith)))
 
-pub turned : (t : Topology) (how : Way) (lists : List (List Entry)) (exchange key : Text) (m : Message) (turns : List Turn) (plan : IsPlan t exchange key m turns)
+pub turned : (t : Topology) (how : Way) (lists : List (List Entry)) (exchange key : Text) (m : Message) (turns : List PlannedTurn) (plan : IsPlan t exchange key m turns)
     → outcomes how t.queues turns lists ≡ map (outcome_at how t.queues lists m) plan.targets
 turned t how lists exchange key m turns plan =
-    ap (λ (ts : List Turn). outcomes how t.queues ts lists) plan.turned ∙ outcomes_start how t.queues m plan.targets lists lists plan.routed.rising (λ k lt. refl)
+    ap (λ (ts : List PlannedTurn). outcomes how t.queues ts lists) plan.turned ∙ outcomes_start how t.queues m plan.targets lists lists plan.routed.rising (λ k lt. refl)
 
 arrive : (t : Topology) (how : Way) (lists : List (List Entry)) (m : Message) (q : Text) (targets : List ℕ) → AreApart (queue_names t.queues) → length lists ≡ length t.queues → All (λ (i : ℕ). i < length t.queues) targets
     → arrivals (queue_names t.queues) (map (outcome_at how t.queues lists m) targets) q ≡ comes_to t (listed (queue_names t.queues) lists) m q (names_at (queue_names t.queues) targets)
@@ -266,15 +266,15 @@ nothing qs m (i ∷ is) = refl
 -- ---- by the names of the queues
 
 -- what is noted of a message that comes to its queues
-pub noted_by_names : (t : Topology) (how : Way) (lists : List (List Entry)) (exchange key : Text) (m : Message) (turns : List Turn) (plan : IsPlan t exchange key m turns) (size : ℕ)
+pub noted_by_names : (t : Topology) (how : Way) (lists : List (List Entry)) (exchange key : Text) (m : Message) (turns : List PlannedTurn) (plan : IsPlan t exchange key m turns) (size : ℕ)
     → AreApart (queue_names t.queues) → length lists ≡ length t.queues
     → notes_of_outcomes (outcomes how t.queues turns lists) ≡ entry_notes t (listed (queue_names t.queues) lists) size m.number how (names_at (queue_names t.queues) plan.targets)
 noted_by_names t how lists exchange key m turns plan size apart len = ap notes_of_outcomes (turned t how lists exchange key m turns plan) ∙ note t how lists m size plan.targets apart len plan.routed.within
 
 -- and what each queue has then
-pub entered_by_names : (t : Topology) (how : Way) (lists : List (List Entry)) (exchange key : Text) (m : Message) (turns : List Turn) (plan : IsPlan t exchange key m turns) (q : Text)
+pub entered_by_names : (t : Topology) (how : Way) (lists : List (List Entry)) (exchange key : Text) (m : Message) (turns : List PlannedTurn) (plan : IsPlan t exchange key m turns) (q : Text)
     → AreApart (queue_names t.queues) → length lists ≡ length t.queues
-    → listed (queue_names t.queues) (entered (outcomes how t.queues turns lists) lists) q
+    → listed (queue_names t.queues) (all_entered (outcomes how t.queues turns lists) lists) q
     ≡ listed (queue_names t.queues) lists q ++ comes_to t (listed (queue_names t.queues) lists) m q (names_at (queue_names t.queues) plan.targets)
 entered_by_names t how lists exchange key m turns plan q apart len =
     let names = queue_names t.queues in
@@ -282,7 +282,7 @@ entered_by_names t how lists exchange key m turns plan q apart len =
     let os = map (outcome_at how t.queues lists m) plan.targets in
     let within : All (λ (i : ℕ). i < length names) (places_of os)
     = subst (λ (is : List ℕ). All (λ (i : ℕ). i < length names) is) (sym (places_of_outcomes how t.queues lists m plan.targets)) (subst (λ (k : ℕ). All (λ (i : ℕ). i < k) plan.targets) (sym long) plan.routed.within) in
-    ap (λ (xs : List Outcome). listed names (entered xs lists) q) (turned t how lists exchange key m turns plan)
+    ap (λ (xs : List TurnOutcome). listed names (all_entered xs lists) q) (turned t how lists exchange key m turns plan)
     ∙ listed-entered names os lists q apart (omega arith) within
     ∙ ap (λ (es : List Entry). listed names lists q ++ es) (arrive t how lists m q plan.targets apart len plan.routed.within)
 

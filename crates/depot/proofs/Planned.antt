@@ -11,10 +11,10 @@ use Rattle.model.specs.declared.topologies.DeclaredQueue.{DeclaredQueue}
 use Rattle.queue.specs.Line.{Line}
 use Rattle.depot.specs.declared.given.Given.{Given}
 use Rattle.depot.specs.declared.plans.Death.{Death}
-use Rattle.depot.specs.declared.turns.Turn.{Turn}
-use Rattle.depot.specs.Turns.{places, room_at, times, HasRoom}
-use Rattle.depot.specs.Rejecting.{AreWithin}
-use Rattle.depot.specs.Dying.{MayHaveLetters, LettersAt, IsDeathOf, Plans, given_at, ArePlanned, IsSoundDeath, times_in}
+use Rattle.depot.specs.declared.turns.PlannedTurn.{PlannedTurn}
+use Rattle.depot.specs.Turns.{places, room_at, LinesHaveRoom}
+use Rattle.depot.specs.Rejecting.{GoneAreWithin}
+use Rattle.depot.specs.Dying.{MayHaveLetters, IsDeathOf, Plans, given_at, ArePlanned, IsSoundDeath, times_in}
 use Rattle.depot.proofs.Turning.{times_rising, times_or}
 use Rattle.depot.proofs.Naming.{turned_within, turned_rising}
 
@@ -35,8 +35,8 @@ all_behind P d ds first others (suc i) e lt = others i e (omega arith)
 sound_letters : (t : Topology) (q : DeclaredQueue) (m : Message) (d : Death) (n : ℕ) (x : Option Text) → d.place < n → n ≡ length t.queues → MayHaveLetters t q m d.turns.items x → IsSoundDeath n d
 sound_letters t q m d n None lt same none = record {
   place = lt;
-  within = subst (λ (ts : List Turn). All (λ (i : ℕ). i < n) (places ts)) (sym none) (λ i e l. absurd (omega arith));
-  rising = subst (λ (ts : List Turn). AllPairs (λ (i j : ℕ). i < j) (places ts)) (sym none) (λ i j e l k. absurd (omega arith));
+  within = subst (λ (ts : List PlannedTurn). All (λ (i : ℕ). i < n) (places ts)) (sym none) (λ i e l. absurd (omega arith));
+  rising = subst (λ (ts : List PlannedTurn). AllPairs (λ (i j : ℕ). i < j) (places ts)) (sym none) (λ i j e l k. absurd (omega arith));
 }
 sound_letters t q m d n (Some x) lt same made =
     let letter = dead_letter m x (key_after q.dead_letter_key m.key) made.content in
@@ -64,7 +64,7 @@ sound_first t c h g (Some x) first rest all n same lt one e others =
     let d = one.0 in
     subst (All (IsSoundDeath n)) (sym (e ∙ ap (λ (xs : List Death). xs ++ rest) one.1)) (all_behind (IsSoundDeath n) d rest (sound_death t c h g x d n same lt one.2) others)
 
-pub sound_all : (t : Topology) (c h : ℕ) (entries : List (List Entry)) (gs : List Given) (ds : List Death) (n : ℕ) → n ≡ length t.queues → AreWithin t gs → ArePlanned t c h entries gs ds → All (IsSoundDeath n) ds
+pub sound_all : (t : Topology) (c h : ℕ) (entries : List (List Entry)) (gs : List Given) (ds : List Death) (n : ℕ) → n ≡ length t.queues → GoneAreWithin t gs → ArePlanned t c h entries gs ds → All (IsSoundDeath n) ds
 sound_all t c h entries [] ds n same within are = subst (All (IsSoundDeath n)) (sym are) (λ i d lt. absurd (omega arith))
 sound_all t c h entries (g ∷ gs) ds n same within are =
     let lt : g.place < length t.queues = within 0 g (omega arith) in
@@ -73,7 +73,7 @@ sound_all t c h entries (g ∷ gs) ds n same within are =
 
 -- ---- room
 
-rooms_or : (lines : List Line) (n m : ℕ) (ds : List Death) (k : ℕ) → ((j : ℕ) (d : Death) → j < length ds → HasRoom lines (places (get_or ds j d).turns.items) n) → All (IsSoundDeath m) ds
+rooms_or : (lines : List Line) (n m : ℕ) (ds : List Death) (k : ℕ) → ((j : ℕ) (d : Death) → j < length ds → LinesHaveRoom lines (places (get_or ds j d).turns.items) n) → All (IsSoundDeath m) ds
     → (times_in k ds ≤ length ds) × ((times_in k ds ≡ 0) ⊎ (n ≤ room_at lines k))
 rooms_or lines n m [] k room sound = (omega arith, inl refl)
 rooms_or lines n m (d ∷ ds) k room sound =
@@ -84,11 +84,11 @@ rooms_or lines n m (d ∷ ds) k room sound =
       omega (arith, once, few),
       elim (times_or k (places d.turns.items)) [
         | inl none ↦ (elim rest.1 [ inl others ↦ inl (omega (arith, none, others)) | inr enough ↦ inr enough ])
-        | inr there ↦ inr (let made : HasRoom lines (places d.turns.items) n = room 0 d (omega arith) in let enough = made there.0 there.1 in let at = ap (λ (p : ℕ). room_at lines p) there.2 in omega (arith, enough, at))
+        | inr there ↦ inr (let made : LinesHaveRoom lines (places d.turns.items) n = room 0 d (omega arith) in let enough = made there.0 there.1 in let at = ap (λ (p : ℕ). room_at lines p) there.2 in omega (arith, enough, at))
       ],
     )
 
-pub rooms : (lines : List Line) (m : ℕ) (ds : List Death) → ((j : ℕ) (d : Death) → j < length ds → HasRoom lines (places (get_or ds j d).turns.items) (length ds)) → All (IsSoundDeath m) ds → (k : ℕ) → times_in k ds ≤ room_at lines k
+pub rooms : (lines : List Line) (m : ℕ) (ds : List Death) → ((j : ℕ) (d : Death) → j < length ds → LinesHaveRoom lines (places (get_or ds j d).turns.items) (length ds)) → All (IsSoundDeath m) ds → (k : ℕ) → times_in k ds ≤ room_at lines k
 rooms lines m ds room sound k =
     let both = rooms_or lines (length ds) m ds k room sound in
     let most = both.0 in

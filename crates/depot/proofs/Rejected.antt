@@ -1,11 +1,9 @@
 -- What is done by the places of queues is the rejection by their names.
-use Rattle.std.proofs.Common.{◌≡◌, ◌≢◌, ℕ, zero, suc, ◌+◌, ◌<◌, ◌≤◌, List, [], ◌∷◌, ◌++◌, Bool, true, false, cond, refl, sym, ap, subst, ◌∙◌, map, filter, length, get_or, set, not, arith, All, AllPairs, Option, Some, None, Result, Ok, Err, OnOk}
-use Rattle.std.specs.Prelude.{count_by, find, nat_lt, ◌==◌, ◌&&◌, if◌then◌else◌}
+use Rattle.std.proofs.Common.{◌≡◌, ℕ, zero, suc, ◌+◌, ◌<◌, ◌≤◌, List, [], ◌∷◌, ◌++◌, Bool, true, false, cond, refl, sym, ap, subst, ◌∙◌, map, filter, length, get_or, set, not, arith, Option, Some, None, Result, Ok, Err, OnOk}
+use Rattle.std.specs.Prelude.{count_by, find, nat_lt, ◌&&◌, if◌then◌else◌}
 use Rattle.std.proofs.lemmas.Grind.{common_steps}
 use Rattle.std.specs.Str.{bytes_eq}
-use Rattle.std.proofs.lemmas.Bool.{eqb-true, ne_eqb, false≢true}
 use Rattle.std.proofs.lemmas.List.{length-set, get_or_past}
-use Rattle.std.proofs.lemmas.List.Sums.{sum_by-cons}
 use Rattle.std.proofs.lemmas.Slice.Eq.{bytes_eq-Decides}
 use Rattle.model.specs.Words.{Text}
 use Rattle.model.specs.Topology.{Topology, queue_names, AreApart}
@@ -13,33 +11,31 @@ use Rattle.model.specs.Routing.{key_after}
 use Rattle.model.specs.Broker.{queue_named, listed, is_full, is_at, limit_of}
 use Rattle.model.specs.Broker as seen
 use Rattle.model.specs.Message.{Message}
-use Rattle.model.specs.Entries.{is_under, is_held_as, without_first}
+use Rattle.model.specs.Entries.{is_held_as, without_first}
 use Rattle.model.specs.Entering.{entry_note, entry_notes, comes_to}
-use Rattle.model.specs.Deaths.{dead_letter, with_headers, NothingComes, IsDeath, DiesBy, DiesIn, MayDie}
+use Rattle.model.specs.Deaths.{dead_letter, DiesBy, DiesIn, MayDie}
 use Rattle.model.specs.Deliveries as given
 use Rattle.model.specs.Deliveries.{AreRejected}
 use Rattle.model.specs.declared.contents.Content.{Content}
 use Rattle.model.specs.declared.messages.Entry.{Entry}
 use Rattle.model.specs.declared.messages.Holder.{Holder}
-use Rattle.model.specs.declared.messages.Mark.{Mark}
-use Rattle.model.specs.declared.messages.Mark.TheVariants.{Ready, Held}
+use Rattle.model.specs.declared.messages.Mark.TheVariants.{Ready}
 use Rattle.model.specs.declared.topologies.DeclaredQueue.{DeclaredQueue}
-use Rattle.model.specs.declared.notes.Cause.TheVariants.{Rejected}
 use Rattle.model.specs.declared.notes.Note.{Note}
-use Rattle.model.specs.declared.notes.Note.TheVariants.{Left, Entered, Refused}
+use Rattle.model.specs.declared.notes.Note.TheVariants.{Entered, Refused}
 use Rattle.model.specs.declared.notes.Way.TheVariants as way
 use Rattle.queue.specs.Line.{ready_count}
 use Rattle.exchange_graph.specs.Marks.{queue_name}
 use Rattle.exchange_graph.specs.Targets.{names_at}
 use Rattle.depot.specs.declared.given.Given.{Given}
 use Rattle.depot.specs.declared.plans.Death.{Death}
-use Rattle.depot.specs.declared.turns.Turn.{Turn}
-use Rattle.depot.specs.Store.{Store, queue_of, IsWhole}
-use Rattle.depot.specs.Turns.{Outcome, outcomes, arriving, entered_one, entered, notes_of_outcomes}
-use Rattle.depot.specs.Rejecting.{holder_of_given, outstanding_of, AreWithin, AreOrdered, IsApart, Rejecting}
-use Rattle.depot.specs.Dying.{MayHaveLetters, LettersAt, IsDeathOf, Plans, given_at, ArePlanned, without, outcomes_of, died, death_notes, died_all, all_notes, Rejects}
+use Rattle.depot.specs.declared.turns.PlannedTurn.{PlannedTurn}
+use Rattle.depot.specs.Store.{Store, entries_named, IsStoreWhole}
+use Rattle.depot.specs.Turns.{TurnOutcome, outcomes, arriving, entered_one, all_entered, notes_of_outcomes}
+use Rattle.depot.specs.Rejecting.{holder_of_given, outstanding_of, GoneAreWithin, AreOrdered, IsApart, Rejecting}
+use Rattle.depot.specs.Dying.{MayHaveLetters, IsDeathOf, Plans, given_at, ArePlanned, without, outcomes_of, died, death_notes, died_all, all_notes, Rejects}
 use Rattle.depot.proofs.Firsts.{number, count-cons, one_passes, none_found, count-filter, find-filter, held_apart}
-use Rattle.depot.proofs.Naming.{names-length, same_name, other_name, later_name, noted_by_names, entered_by_names}
+use Rattle.depot.proofs.Naming.{names-length, same_name, later_name, noted_by_names, entered_by_names}
 use Rattle.depot.proofs.Named.{queue_of-changed, queue_of-place}
 use Rattle.depot.proofs.Planned.{queue_there}
 
@@ -65,7 +61,7 @@ seen-set f (xs ∷ xss) zero (suc k) es e = refl
 seen-set f (xs ∷ xss) (suc i) zero es e = refl
 seen-set f (xs ∷ xss) (suc i) (suc k) es e = seen-set f xss i k es e
 
-seen-entered : {B : Type 0} (f : List Entry → B) → ((xs : List Entry) (o : Option Message) → f (xs ++ arriving o) ≡ f xs) → (os : List Outcome) (lists : List (List Entry)) (k : ℕ) → f (get_or (entered os lists) k []) ≡ f (get_or lists k [])
+seen-entered : {B : Type 0} (f : List Entry → B) → ((xs : List Entry) (o : Option Message) → f (xs ++ arriving o) ≡ f xs) → (os : List TurnOutcome) (lists : List (List Entry)) (k : ℕ) → f (get_or (all_entered os lists) k []) ≡ f (get_or lists k [])
 seen-entered f same [] lists k = refl
 seen-entered f same (o ∷ os) lists k = seen-entered f same os (entered_one o lists) k ∙ seen-set f lists o.place k (get_or lists o.place [] ++ arriving o.message) (same (get_or lists o.place []) o.message)
 
@@ -94,7 +90,7 @@ apart_after qs d lists apart k a =
     let one = apart k a in
     omega (arith, same, fewer, one)
 
-length-entered : (os : List Outcome) (lists : List (List Entry)) → length (entered os lists) ≡ length lists
+length-entered : (os : List TurnOutcome) (lists : List (List Entry)) → length (all_entered os lists) ≡ length lists
 length-entered [] lists = refl
 length-entered (o ∷ os) lists = length-entered os (entered_one o lists) ∙ length-set lists o.place (get_or lists o.place [] ++ arriving o.message)
 
@@ -140,26 +136,26 @@ named_there (x ∷ xs) zero q apart lt is = rw (same_name x.name) (ap Some (sym 
 named_there (x ∷ xs) (suc i) q apart lt is = let long = names-length xs in rw (later_name x.name (queue_names xs) i apart (omega arith)) (named_there xs i q apart.1 (omega arith) is)
 
 -- the queues without the message that dies, by their names
-without_named : (s : Store) (c h : ℕ) (g : Given) (d : Death) (q : Text) → IsWhole s → AreApartBy s.queues → g.place < length s.topology.queues → d.place ≡ g.place → d.holder ≡ holder_of_given c h g
-    → queue_of (with_lists s (without d s.queues)) q ≡ given.without_given c h (queue_of s) (outstanding_of s.topology g) q
+without_named : (s : Store) (c h : ℕ) (g : Given) (d : Death) (q : Text) → IsStoreWhole s → AreApartBy s.queues → g.place < length s.topology.queues → d.place ≡ g.place → d.holder ≡ holder_of_given c h g
+    → entries_named (with_lists s (without d s.queues)) q ≡ given.without_given c h (entries_named s) (outstanding_of s.topology g) q
 without_named s c h g d q whole apart lt place holder =
     let p = is_held_as (holder_of_given c h g) in
     let name = queue_name s.topology g.place in
     let here = queue_of-place s g.place whole lt in
     let gone = filter (λ (e : Entry). not (p e)) (get_or s.queues g.place []) in
-    ap (λ (i : ℕ). queue_of (with_lists s (set s.queues i (filter (λ (e : Entry). not (is_held_as d.holder e)) (get_or s.queues i [])))) q) place
-    ∙ ap (λ (a : Holder). queue_of (with_lists s (set s.queues g.place (filter (λ (e : Entry). not (is_held_as a e)) (get_or s.queues g.place [])))) q) holder
+    ap (λ (i : ℕ). entries_named (with_lists s (set s.queues i (filter (λ (e : Entry). not (is_held_as d.holder e)) (get_or s.queues i [])))) q) place
+    ∙ ap (λ (a : Holder). entries_named (with_lists s (set s.queues g.place (filter (λ (e : Entry). not (is_held_as a e)) (get_or s.queues g.place [])))) q) holder
     ∙ queue_of-changed s g.place gone q whole lt
-    ∙ ap (λ (es : List Entry). if bytes_eq name q then es else queue_of s q) (one_passes p (get_or s.queues g.place []) (apart g.place (holder_of_given c h g)) ∙ ap (without_first p) (sym here))
+    ∙ ap (λ (es : List Entry). if bytes_eq name q then es else entries_named s q) (one_passes p (get_or s.queues g.place []) (apart g.place (holder_of_given c h g)) ∙ ap (without_first p) (sym here))
 
 -- a message that dies, and its dead letter
-dies_by : (s : Store) (q : DeclaredQueue) (m : Message) (d : Death) (queues : Text → List Entry) (x : Option Text) → IsWhole s → ((r : Text) → queue_of (with_lists s (without d s.queues)) r ≡ queues r)
+dies_by : (s : Store) (q : DeclaredQueue) (m : Message) (d : Death) (queues : Text → List Entry) (x : Option Text) → IsStoreWhole s → ((r : Text) → entries_named (with_lists s (without d s.queues)) r ≡ queues r)
     → MayHaveLetters s.topology q m d.turns.items x
-    → DiesBy s.topology q queues m (notes_of_outcomes (outcomes_of s.topology.queues d s.queues)) (queue_of (with_lists s (died s.topology.queues d s.queues))) x
+    → DiesBy s.topology q queues m (notes_of_outcomes (outcomes_of s.topology.queues d s.queues)) (entries_named (with_lists s (died s.topology.queues d s.queues))) x
 dies_by s q m d queues None whole same none =
     let w = without d s.queues in (
-      ap (λ (ts : List Turn). notes_of_outcomes (outcomes way.Dead s.topology.queues ts w)) none,
-      (λ r. ap (λ (ts : List Turn). queue_of (with_lists s (entered (outcomes way.Dead s.topology.queues ts w) w)) r) none ∙ same r),
+      ap (λ (ts : List PlannedTurn). notes_of_outcomes (outcomes way.Dead s.topology.queues ts w)) none,
+      (λ r. ap (λ (ts : List PlannedTurn). entries_named (with_lists s (all_entered (outcomes way.Dead s.topology.queues ts w) w)) r) none ∙ same r),
     )
 dies_by s q m d queues (Some exchange) whole same letters =
     let t = s.topology in
@@ -188,21 +184,21 @@ dies_by s q m d queues (Some exchange) whole same letters =
 
 -- ---- all of them
 
-may_die : (s : Store) (c h : ℕ) (g : Given) (e : Entry) (d : Death) → IsWhole s → AreApartBy s.queues → g.place < length s.topology.queues → IsDeathOf s.topology c h g e d
-    → MayDie s.topology (queue_name s.topology g.place) (given.without_given c h (queue_of s) (outstanding_of s.topology g)) (death_notes s.topology.queues d s.queues) (queue_of (with_lists s (died s.topology.queues d s.queues))) (Some e)
+may_die : (s : Store) (c h : ℕ) (g : Given) (e : Entry) (d : Death) → IsStoreWhole s → AreApartBy s.queues → g.place < length s.topology.queues → IsDeathOf s.topology c h g e d
+    → MayDie s.topology (queue_name s.topology g.place) (given.without_given c h (entries_named s) (outstanding_of s.topology g)) (death_notes s.topology.queues d s.queues) (entries_named (with_lists s (died s.topology.queues d s.queues))) (Some e)
 may_die s c h g e d whole apart lt is =
     let t = s.topology in
     let q = queue_there t.queues g.place lt in
-    let queues = given.without_given c h (queue_of s) (outstanding_of t g) in
+    let queues = given.without_given c h (entries_named s) (outstanding_of t g) in
     let notes = notes_of_outcomes (outcomes_of t.queues d s.queues) in
-    let new = queue_of (with_lists s (died t.queues d s.queues)) in (
+    let new = entries_named (with_lists s (died t.queues d s.queues)) in (
       notes,
       ap (λ (n : Note). n ∷ notes) is.note,
       subst (DiesIn t queues e.message notes new) (sym (named_there t.queues g.place q.0 whole.formed.queues_apart lt q.1))
           (dies_by s q.0 e.message d queues q.0.dead_letter_exchange whole (λ r. without_named s c h g d r whole apart lt is.place is.holder) (is.letters q.0 q.1)),
     )
 
-not_there : (s : Store) (c h : ℕ) (g : Given) (r : Text) → find (is_held_as (holder_of_given c h g)) (queue_of s (queue_name s.topology g.place)) ≡ None → queue_of s r ≡ given.without_given c h (queue_of s) (outstanding_of s.topology g) r
+not_there : (s : Store) (c h : ℕ) (g : Given) (r : Text) → find (is_held_as (holder_of_given c h g)) (entries_named s (queue_name s.topology g.place)) ≡ None → entries_named s r ≡ given.without_given c h (entries_named s) (outstanding_of s.topology g) r
 not_there s c h g r none = go (bytes_eq name r) refl
   where
     name : Text
@@ -211,36 +207,36 @@ not_there s c h g r none = go (bytes_eq name r) refl
     p : Entry → Bool
     p = is_held_as (holder_of_given c h g)
 
-    go : (b : Bool) → bytes_eq name r ≡ b → queue_of s r ≡ (if b then without_first p (queue_of s name) else queue_of s r)
-    go true is = ap (λ (n : Text). queue_of s n) (sym ((bytes_eq-Decides name r).0 is)) ∙ sym (none_found p (queue_of s name) none)
+    go : (b : Bool) → bytes_eq name r ≡ b → entries_named s r ≡ (if b then without_first p (entries_named s name) else entries_named s r)
+    go true is = ap (λ (n : Text). entries_named s n) (sym ((bytes_eq-Decides name r).0 is)) ∙ sym (none_found p (entries_named s name) none)
     go false is = refl
 
-whole_with : (s : Store) (lists : List (List Entry)) → IsWhole s → length lists ≡ length s.queues → IsWhole (with_lists s lists)
+whole_with : (s : Store) (lists : List (List Entry)) → IsStoreWhole s → length lists ≡ length s.queues → IsStoreWhole (with_lists s lists)
 whole_with s lists whole len = record { formed = whole.formed; len = len ∙ whole.len }
 
 -- what is still to do, where it was planned
 abbrev RejectedBy : Store → ℕ → ℕ → List Given → List Death → Type 0
 RejectedBy s c h gone ds =
-    AreRejected s.topology c h (map (outstanding_of s.topology) gone) (queue_of s) (all_notes s.topology.queues ds s.queues) (queue_of (with_lists s (died_all s.topology.queues ds s.queues)))
+    AreRejected s.topology c h (map (outstanding_of s.topology) gone) (entries_named s) (all_notes s.topology.queues ds s.queues) (entries_named (with_lists s (died_all s.topology.queues ds s.queues)))
 
 -- what is still to do once the first of them is done
 abbrev IsLater : Store → ℕ → ℕ → List Given → List Death → Type 0
 IsLater s c h gs rest =
-    (lists : List (List Entry)) → IsWhole (with_lists s lists) → AreApartBy lists → ArePlanned s.topology c h lists gs rest → RejectedBy (with_lists s lists) c h gs rest
+    (lists : List (List Entry)) → IsStoreWhole (with_lists s lists) → AreApartBy lists → ArePlanned s.topology c h lists gs rest → RejectedBy (with_lists s lists) c h gs rest
 
-rejected_next : (s : Store) (c h : ℕ) (g : Given) (gs : List Given) (first rest ds : List Death) (o : Option Entry) → given_at c h s.queues g ≡ o → IsWhole s → AreApartBy s.queues → AreOrdered (g ∷ gs) → g.place < length s.topology.queues
+rejected_next : (s : Store) (c h : ℕ) (g : Given) (gs : List Given) (first rest ds : List Death) (o : Option Entry) → given_at c h s.queues g ≡ o → IsStoreWhole s → AreApartBy s.queues → AreOrdered (g ∷ gs) → g.place < length s.topology.queues
     → Plans s.topology c h g o first → ds ≡ first ++ rest → ArePlanned s.topology c h s.queues gs rest → IsLater s c h gs rest → RejectedBy s c h (g ∷ gs) ds
 rejected_next s c h g gs first rest ds None there whole apart ordered lt none e planned later =
     let t = s.topology in
     let name = queue_name t g.place in
     let p = is_held_as (holder_of_given c h g) in
     let same : ds ≡ rest = e ∙ ap (λ (xs : List Death). xs ++ rest) none in
-    let absent : find p (queue_of s name) ≡ None = ap (find p) (queue_of-place s g.place whole lt) ∙ there in
+    let absent : find p (entries_named s name) ≡ None = ap (find p) (queue_of-place s g.place whole lt) ∙ there in
     subst (λ (xs : List Death). RejectedBy s c h (g ∷ gs) xs) (sym same) (
-      queue_of s,
+      entries_named s,
       [],
       all_notes t.queues rest s.queues,
-      subst (MayDie t name (given.without_given c h (queue_of s) (outstanding_of t g)) [] (queue_of s)) (sym absent) (refl, λ r. not_there s c h g r absent),
+      subst (MayDie t name (given.without_given c h (entries_named s) (outstanding_of t g)) [] (entries_named s)) (sym absent) (refl, λ r. not_there s c h g r absent),
       refl,
       later s.queues whole apart planned,
     )
@@ -250,7 +246,7 @@ rejected_next s c h g gs first rest ds (Some x) there whole apart ordered lt one
     let name = queue_name t g.place in
     let p = is_held_as (holder_of_given c h g) in
     let same : ds ≡ d ∷ rest = e ∙ ap (λ (xs : List Death). xs ++ rest) one.1 in
-    let present : find p (queue_of s name) ≡ Some x = ap (find p) (queue_of-place s g.place whole lt) ∙ there in
+    let present : find p (entries_named s name) ≡ Some x = ap (find p) (queue_of-place s g.place whole lt) ∙ there in
     let now = died t.queues d s.queues in
     let tag : d.holder.tag ≡ g.tag = ap (λ (a : Holder). a.tag) one.2.holder in
     let still = planned_after t c h s.queues now gs rest
@@ -258,23 +254,23 @@ rejected_next s c h g gs first rest ds (Some x) there whole apart ordered lt one
     let after : g.tag < (get_or gs i y).tag = ordered 0 (suc i) y (omega arith) (omega (arith, l)) in
     found_after t.queues d s.queues (holder_of_given c h (get_or gs i y)) (get_or gs i y).place (λ z. let at : (get_or gs i y).tag ≡ d.holder.tag = z in absurd (omega (arith, after, at, tag)))) planned in
     subst (λ (xs : List Death). RejectedBy s c h (g ∷ gs) xs) (sym same) (
-      queue_of (with_lists s now),
+      entries_named (with_lists s now),
       death_notes t.queues d s.queues,
       all_notes t.queues rest now,
-      subst (MayDie t name (given.without_given c h (queue_of s) (outstanding_of t g)) (death_notes t.queues d s.queues) (queue_of (with_lists s now))) (sym present) (may_die s c h g x d whole apart lt one.2),
+      subst (MayDie t name (given.without_given c h (entries_named s) (outstanding_of t g)) (death_notes t.queues d s.queues) (entries_named (with_lists s now))) (sym present) (may_die s c h g x d whole apart lt one.2),
       refl,
       later now (whole_with s now whole (length-died t.queues d s.queues)) (apart_after t.queues d s.queues apart) still,
     )
 
-rejected_from : (s : Store) (c h : ℕ) (gone : List Given) (ds : List Death) → IsWhole s → AreApartBy s.queues → AreOrdered gone → AreWithin s.topology gone → ArePlanned s.topology c h s.queues gone ds → RejectedBy s c h gone ds
+rejected_from : (s : Store) (c h : ℕ) (gone : List Given) (ds : List Death) → IsStoreWhole s → AreApartBy s.queues → AreOrdered gone → GoneAreWithin s.topology gone → ArePlanned s.topology c h s.queues gone ds → RejectedBy s c h gone ds
 rejected_from s c h [] ds whole apart ordered within are =
-    (ap (λ (xs : List Death). all_notes s.topology.queues xs s.queues) are, (λ q. ap (λ (xs : List Death). queue_of (with_lists s (died_all s.topology.queues xs s.queues)) q) are))
+    (ap (λ (xs : List Death). all_notes s.topology.queues xs s.queues) are, (λ q. ap (λ (xs : List Death). entries_named (with_lists s (died_all s.topology.queues xs s.queues)) q) are))
 rejected_from s c h (g ∷ gs) ds whole apart ordered within are =
     rejected_next s c h g gs are.0 are.1 ds (given_at c h s.queues g) refl whole apart ordered (within 0 g (omega arith)) are.2 are.3 are.4
     (λ lists w a p.
     rejected_from (with_lists s lists) c h gs are.1 w a (λ i j k l m. ordered (suc i) (suc j) k (omega (arith, l)) (omega (arith, m))) (λ i k l. within (suc i) k (omega (arith, l))) p)
 
-apart_by : (s : Store) → IsWhole s → IsApart s → AreApartBy s.queues
+apart_by : (s : Store) → IsStoreWhole s → IsApart s → AreApartBy s.queues
 apart_by s whole apart k a = go (nat_lt k (length s.topology.queues)) refl
   where
     go : (b : Bool) → nat_lt k (length s.topology.queues) ≡ b → count_by (is_held_as a) (get_or s.queues k []) ≤ 1
@@ -286,7 +282,7 @@ apart_by s whole apart k a = go (nat_lt k (length s.topology.queues)) refl
         omega (arith, none)
 
 -- what was done by places is the rejection
-pub rejecting : (old new : Store) (c h : ℕ) (gone : List Given) (before after : List Note) → IsWhole old → IsApart old → AreOrdered gone → AreWithin old.topology gone → new.published ≡ old.published → new.topology ≡ old.topology
+pub rejecting : (old new : Store) (c h : ℕ) (gone : List Given) (before after : List Note) → IsStoreWhole old → IsApart old → AreOrdered gone → GoneAreWithin old.topology gone → new.published ≡ old.published → new.topology ≡ old.topology
     → Rejects old.topology c h gone old.queues new.queues before after → Rejecting old c h gone before after new
 rejecting old new c h gone before after whole apart ordered within counted same r =
     let t = old.topology in
@@ -294,7 +290,7 @@ rejecting old new c h gone before after whole apart ordered within counted same 
     record {
       noted = all_notes t.queues r.deaths old.queues;
       appended = r.notes;
-      rejected = subst (λ (s : Store). AreRejected t c h (map (outstanding_of t) gone) (queue_of old) (all_notes t.queues r.deaths old.queues) (queue_of s)) done (rejected_from old c h gone r.deaths whole (apart_by old whole apart) ordered within r.planned);
+      rejected = subst (λ (s : Store). AreRejected t c h (map (outstanding_of t) gone) (entries_named old) (all_notes t.queues r.deaths old.queues) (entries_named s)) done (rejected_from old c h gone r.deaths whole (apart_by old whole apart) ordered within r.planned);
       counted = counted;
       topology = same;
     }

@@ -1,5 +1,5 @@
 -- Queues made ready again one after another.
-use Rattle.std.proofs.Common.{◌≡◌, ℕ, zero, suc, ◌+◌, ◌<◌, ◌≤◌, List, [], ◌∷◌, length, get_or, set, map, filter, refl, sym, ap, subst, ◌∙◌, arith, Bool, true, false, cond, inl, inr}
+use Rattle.std.proofs.Common.{◌≡◌, ℕ, suc, ◌+◌, ◌<◌, ◌≤◌, List, [], ◌∷◌, length, get_or, set, map, filter, refl, sym, ap, subst, ◌∙◌, arith, Bool, true, false, cond, inl, inr}
 use Rattle.std.proofs.lemmas.Bool.{false≢true}
 use Rattle.std.proofs.lemmas.Bool.Decides.{eqb_tells, leb_tells}
 use Rattle.std.proofs.lemmas.List.{get_or-set_same, get_or-set_other}
@@ -9,10 +9,11 @@ use Rattle.model.specs.declared.messages.Entry.{Entry}
 use Rattle.model.specs.declared.messages.Holder.{Holder}
 use Rattle.model.specs.declared.messages.Mark.{Mark}
 use Rattle.model.specs.declared.messages.Mark.TheVariants.{Ready, Held}
-use Rattle.marks.specs.Places.{bit_of, IsNext}
+use Rattle.marks.specs.Places.{bit_of, IsNextMark}
 use Rattle.queue.specs.Line.{ready_count, requeued}
-use Rattle.depot.specs.Signs.{held_bit, Bits, AreSigned}
+use Rattle.depot.specs.Signs.{QueueBits, QueuesAreSigned}
 use Rattle.depot.proofs.Signing.{all_ready, held_within}
+use Rattle.queue.proofs.Requeued.{mapped_again, mapped_same}
 
 -- ---- one queue
 
@@ -62,28 +63,16 @@ requeued_kept mine (e ∷ es) h = go e.mark h (requeued_kept mine es)
 
 -- ---- all queues in turn
 
-mapped_again : {X : Type 0} (g : X → X) → ((x : X) → g (g x) ≡ g x) → (xs : List X) (i : ℕ) (d : X) → map g (set xs i (g (get_or xs i d))) ≡ map g xs
-mapped_again g again [] i d = refl
-mapped_again g again (x ∷ xs) zero d = ap (λ (y : _). y ∷ map g xs) (again x)
-mapped_again g again (x ∷ xs) (suc i) d = ap (λ (ys : List _). g x ∷ ys) (mapped_again g again xs i d)
-
-mapped_same : {X : Type 0} (g : X → X) (xs : List X) (d : X) → ((k : ℕ) → k < length xs → g (get_or xs k d) ≡ get_or xs k d) → map g xs ≡ xs
-mapped_same g [] d h = refl
-mapped_same g (x ∷ xs) d h = ap (λ (y : _). y ∷ map g xs) (h 0 (omega arith)) ∙ ap (λ (ys : List _). x ∷ ys) (mapped_same g xs d (λ k lt. h (suc k) (omega arith)))
-
 -- Queues up to a place are done; what is still to be done leads to what is wanted.
 pub record RequeuedUpTo (mine : Holder → Bool) (start lists : List (List Entry)) (place : ℕ) : Type 0 where
   pub whole : map (requeued mine) lists ≡ map (requeued mine) start
   pub done : (k : ℕ) → k < place → requeued mine (get_or lists k []) ≡ get_or lists k []
 
-pub none_requeued : (mine : Holder → Bool) (start : List (List Entry)) → RequeuedUpTo mine start start 0
-none_requeued mine start = record { whole = refl; done = λ k lt. absurd (omega arith) }
-
 -- queues that hold nothing stay
-not_marked : (mine : Holder → Bool) (lists : List (List Entry)) (bits : Bits) (k : ℕ) → AreSigned lists bits → bit_of bits.held k ≡ 0 → requeued mine (get_or lists k []) ≡ get_or lists k []
+not_marked : (mine : Holder → Bool) (lists : List (List Entry)) (bits : QueueBits) (k : ℕ) → QueuesAreSigned lists bits → bit_of bits.held k ≡ 0 → requeued mine (get_or lists k []) ≡ get_or lists k []
 not_marked mine lists bits k s z = requeued_kept mine (get_or lists k []) (all_ready (get_or lists k []) (sym (s.held k) ∙ z))
 
-pub next_requeued : (mine : Holder → Bool) (start lists now : List (List Entry)) (bits : Bits) (from i next : ℕ) → AreSigned lists bits → IsNext (bit_of bits.held) from i
+pub next_requeued : (mine : Holder → Bool) (start lists now : List (List Entry)) (bits : QueueBits) (from i next : ℕ) → QueuesAreSigned lists bits → IsNextMark (bit_of bits.held) from i
     → now ≡ set lists i (requeued mine (get_or lists i [])) → next ≡ i + 1 → RequeuedUpTo mine start lists from → RequeuedUpTo mine start now next
 next_requeued mine start lists now bits from i next s n e step f = record {
   whole = ap (map g) e ∙ mapped_again g (requeued_again mine) lists i [] ∙ f.whole;
@@ -108,7 +97,7 @@ next_requeued mine start lists now bits from i next s n e step f = record {
       | inr p ↦ (let ne = p.1 in let e : get_or (set lists i v) k [] ≡ get_or lists k [] = get_or-set_other lists i k v [] p.1 in ap g e ∙ before k (omega arith) ∙ sym e)
     ]
 
-pub all_requeued : (mine : Holder → Bool) (start lists : List (List Entry)) (bits : Bits) (from : ℕ) → AreSigned lists bits → ((k : ℕ) → from ≤ k → bit_of bits.held k ≡ 0)
+pub all_requeued : (mine : Holder → Bool) (start lists : List (List Entry)) (bits : QueueBits) (from : ℕ) → QueuesAreSigned lists bits → ((k : ℕ) → from ≤ k → bit_of bits.held k ≡ 0)
     → RequeuedUpTo mine start lists from → lists ≡ map (requeued mine) start
 all_requeued mine start lists bits from s z f = sym (mapped_same (requeued mine) lists [] (λ k lt. go k)) ∙ f.whole
   where

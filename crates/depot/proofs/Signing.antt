@@ -1,11 +1,11 @@
 -- What the signs of queues say, as queues change.
-use Rattle.std.proofs.Common.{◌≡◌, ℕ, zero, suc, ◌+◌, ◌*◌, ◌<◌, ◌≤◌, ◌==◌, List, [], ◌∷◌, length, get_or, set, map, filter, replicate, refl, sym, ap, subst, ◌∙◌, arith, Bool, true, false, cond, inl, inr}
+use Rattle.std.proofs.Common.{◌≡◌, ℕ, ◌*◌, ◌<◌, ◌≤◌, List, [], length, get_or, set, replicate, sym, ap, subst, ◌∙◌, arith, Bool, cond, inl, inr}
 use Rattle.std.proofs.lemmas.Bool.Decides.{eqb_tells, leb_tells}
-use Rattle.std.proofs.lemmas.List.{get_or-set_same, get_or-set_other, get_or_past, get_or-replicate, length-set, length-replicate}
+use Rattle.std.proofs.lemmas.List.{get_or-set_other, get_or_past, get_or-replicate, length-set, length-replicate}
 use Rattle.model.specs.declared.messages.Entry.{Entry}
-use Rattle.marks.specs.Places.{bit_of, Differs, IsNext}
+use Rattle.marks.specs.Places.{bit_of, Differs, IsNextMark}
 use Rattle.queue.specs.Line.{ready_count}
-use Rattle.depot.specs.Signs.{ready_bit, held_bit, Bits, AreSigned}
+use Rattle.depot.specs.Signs.{ready_bit, held_bit, QueueBits, QueuesAreSigned}
 
 -- ---- the bits of one list
 
@@ -25,8 +25,8 @@ none_there n k d = elim (leb_tells n k) [
 ]
 
 -- no queue has any message
-pub signed_new : (n : ℕ) (bits : Bits) → ((k : ℕ) → bit_of bits.ready k ≡ 0) → ((k : ℕ) → bit_of bits.held k ≡ 0) → n ≤ length bits.ready * 64 → n ≤ length bits.held * 64
-    → AreSigned (replicate n []) bits
+pub signed_new : (n : ℕ) (bits : QueueBits) → ((k : ℕ) → bit_of bits.ready k ≡ 0) → ((k : ℕ) → bit_of bits.held k ≡ 0) → n ≤ length bits.ready * 64 → n ≤ length bits.held * 64
+    → QueuesAreSigned (replicate n []) bits
 signed_new n bits ready held ready_room held_room =
     let none : List Entry = [] in
     let long = length-replicate n none in record {
@@ -44,11 +44,11 @@ one_signed bit lists es place old new was d k = elim (eqb_tells k place) [
   | inr p ↦ d.others k p.1 ∙ was k ∙ sym (ap bit (get_or-set_other lists place k es [] p.1))
 ]
 
-pub signed_one : (lists now : List (List Entry)) (es : List Entry) (place : ℕ) (old new : Bits) → now ≡ set lists place es → AreSigned lists old
+pub signed_one : (lists now : List (List Entry)) (es : List Entry) (place : ℕ) (old new : QueueBits) → now ≡ set lists place es → QueuesAreSigned lists old
     → Differs (bit_of old.ready) (bit_of new.ready) place (ready_bit (get_or now place [])) → length new.ready ≡ length old.ready
-    → Differs (bit_of old.held) (bit_of new.held) place (held_bit (get_or now place [])) → length new.held ≡ length old.held → AreSigned now new
+    → Differs (bit_of old.held) (bit_of new.held) place (held_bit (get_or now place [])) → length new.held ≡ length old.held → QueuesAreSigned now new
 signed_one lists now es place old new is s ready ready_len held held_len =
-    subst (λ (ls : List (List Entry)). AreSigned ls new) (sym is) (
+    subst (λ (ls : List (List Entry)). QueuesAreSigned ls new) (sym is) (
     let long = length-set lists place es in
     let r = s.ready_room in
     let h = s.held_room in record {
@@ -59,7 +59,7 @@ signed_one lists now es place old new is s ready ready_len held held_len =
     })
 
 -- the next place of the set is that of a queue
-pub held_within : (lists : List (List Entry)) (bits : Bits) (from i : ℕ) → AreSigned lists bits → IsNext (bit_of bits.held) from i → i < length lists
+pub held_within : (lists : List (List Entry)) (bits : QueueBits) (from i : ℕ) → QueuesAreSigned lists bits → IsNextMark (bit_of bits.held) from i → i < length lists
 held_within lists bits from i s n = elim (leb_tells (length lists) i) [
   | inl p ↦ absurd (let z : 1 ≡ 0 = sym n.there ∙ s.held i ∙ ap held_bit (get_or_past lists i [] p.1) in omega arith)
   | inr p ↦ (let lt = p.1 in omega arith)

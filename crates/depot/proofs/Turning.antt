@@ -1,60 +1,26 @@
 -- Turns, one after another, and the room for them.
-use Rattle.std.proofs.Common.{◌≡◌, ℕ, zero, suc, ◌+◌, ◌<◌, ◌≤◌, List, [], ◌∷◌, ◌++◌, Bool, true, false, cond, length, get_or, set, refl, sym, ap, ◌∙◌, arith, All, AllPairs, inl, inr, ◌⊎◌}
+use Rattle.std.proofs.Common.{◌≡◌, ℕ, zero, suc, ◌+◌, ◌<◌, ◌≤◌, List, [], ◌∷◌, Bool, true, false, cond, length, get_or, set, refl, sym, ap, ◌∙◌, arith, All, AllPairs, inl, inr, ◌⊎◌}
 use Rattle.std.specs.Prelude.{◌==◌, ◌||◌}
 use Rattle.std.proofs.lemmas.Bool.{eqb-true, ne_eqb}
 use Rattle.std.proofs.lemmas.Bool.Decides.{eqb_tells}
-use Rattle.std.proofs.lemmas.List.{append-nil, get_or-set_other}
-use Rattle.model.specs.Message.{Message}
-use Rattle.model.specs.Words.{Text}
-use Rattle.model.specs.declared.messages.Entry.{Entry}
-use Rattle.model.specs.declared.messages.Mark.TheVariants.{Ready}
-use Rattle.model.specs.declared.notes.Note.{Note}
-use Rattle.model.specs.declared.notes.Note.TheVariants.{Entered, Refused}
-use Rattle.model.specs.declared.notes.Way.{Way}
+use Rattle.std.proofs.lemmas.List.{get_or-set_other}
 use Rattle.queue.specs.Line.{Line}
-use Rattle.depot.specs.declared.turns.Turn.{Turn}
-use Rattle.depot.specs.Turns.{places, outcome_of, is_refusal, entered_one, room_at, no_line, times, HasRoom, IsRoomy}
+use Rattle.depot.specs.declared.turns.PlannedTurn.{PlannedTurn}
+use Rattle.depot.specs.Turns.{places, room_at, no_line, times, LinesHaveRoom, IsRoomy}
 
-pub place_is : (ts : List Turn) (i : ℕ) (t : Turn) → i < length ts → t ≡ get_or ts i t → get_or (places ts) i 0 ≡ t.place
-place_is ts i t lt is = at ts i t lt ∙ ap (λ (s : Turn). s.place) (sym is)
+pub place_is : (ts : List PlannedTurn) (i : ℕ) (t : PlannedTurn) → i < length ts → t ≡ get_or ts i t → get_or (places ts) i 0 ≡ t.place
+place_is ts i t lt is = at ts i t lt ∙ ap (λ (s : PlannedTurn). s.place) (sym is)
   where
-    at : (xs : List Turn) (j : ℕ) (d : Turn) → j < length xs → get_or (places xs) j 0 ≡ (get_or xs j d).place
+    at : (xs : List PlannedTurn) (j : ℕ) (d : PlannedTurn) → j < length xs → get_or (places xs) j 0 ≡ (get_or xs j d).place
     at [] j d h = absurd (omega arith)
     at (x ∷ xs) zero d h = refl
     at (x ∷ xs) (suc j) d h = at xs j d (omega arith)
 
-pub places-length : (ts : List Turn) → length (places ts) ≡ length ts
+pub places-length : (ts : List PlannedTurn) → length (places ts) ≡ length ts
 places-length [] = refl
 places-length (t ∷ ts) = ap suc (places-length ts)
 
 -- ---- one queue
-
-set_same : {X : Type 0} (xs : List X) (i : ℕ) (d : X) → set xs i (get_or xs i d) ≡ xs
-set_same [] i d = refl
-set_same (x ∷ xs) zero d = refl
-set_same (x ∷ xs) (suc i) d = ap (λ (ys : List _). x ∷ ys) (set_same xs i d)
-
--- the message comes
-pub entered_taken : (how : Way) (name : Text) (full : Bool) (m : Message) (place : ℕ) (es : List (List Entry)) → full ≡ false
-    → set es place (get_or es place [] ++ record { message = m; mark = Ready } ∷ []) ≡ entered_one (outcome_of how name full m place) es
-entered_taken how name full m place es is = ap (λ (b : Bool). entered_one (outcome_of how name b m place) es) (sym is)
-
--- it is refused
-pub entered_refused : (how : Way) (name : Text) (full : Bool) (m : Message) (place : ℕ) (es : List (List Entry)) → full ≡ true → es ≡ entered_one (outcome_of how name full m place) es
-entered_refused how name full m place es is =
-    sym (ap (λ (b : Bool). entered_one (outcome_of how name b m place) es) is
-    ∙ ap (λ (xs : List Entry). set es place xs) (append-nil (get_or es place []))
-    ∙ set_same es place [])
-
-pub taken_note : (how : Way) (name : Text) (full : Bool) (m : Message) (place : ℕ) → full ≡ false → Entered m.number name how ≡ (outcome_of how name full m place).note
-taken_note how name full m place is = ap (λ (b : Bool). (outcome_of how name b m place).note) (sym is)
-
-pub refused_note : (how : Way) (name : Text) (full : Bool) (m : Message) (place : ℕ) → full ≡ true → Refused m.number name ≡ (outcome_of how name full m place).note
-refused_note how name full m place is = ap (λ (b : Bool). (outcome_of how name b m place).note) (sym is)
-
-pub refusal_is : (how : Way) (name : Text) (full : Bool) (m : Message) (place : ℕ) → is_refusal (outcome_of how name full m place) ≡ full
-refusal_is how name true m place = refl
-refusal_is how name false m place = refl
 
 -- ---- the others
 
@@ -133,14 +99,11 @@ times_or k (i ∷ is) = elim (eqb_tells k i) [
 ]
 
 -- there is room wherever there is room for as many as may come
-pub roomy : (lines : List Line) (is : List ℕ) (n : ℕ) → HasRoom lines is n → ((k : ℕ) → times k is ≤ n) → IsRoomy lines is
+pub roomy : (lines : List Line) (is : List ℕ) (n : ℕ) → LinesHaveRoom lines is n → ((k : ℕ) → times k is ≤ n) → IsRoomy lines is
 roomy lines is n room few k = elim (times_or k is) [
   | inl none ↦ omega (arith, none)
   | inr there ↦ (let enough = room there.0 there.1 in let at = ap (λ (p : ℕ). room_at lines p) there.2 in let most = few k in omega (arith, enough, at, most))
 ]
-
-pub room_grown : (lines now : List Line) (is : List ℕ) (n : ℕ) → ((k : ℕ) → room_at lines k ≤ room_at now k) → HasRoom lines is n → HasRoom now is n
-room_grown lines now is n grown room k lt = let had = room k lt in let more = grown (get_or is k 0) in omega (arith, had, more)
 
 -- room is made at one more place, and none is lost
 pub room_more : (lines now : List Line) (is : List ℕ) (n i j p : ℕ) → j ≡ i + 1 → get_or is i 0 ≡ p → n ≤ room_at now p

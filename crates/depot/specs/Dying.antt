@@ -1,5 +1,5 @@
 -- Deaths queue by queue, by their places in the file.
-use Rattle.std.specs.Prelude.{◌≡◌, ◌<◌, ◌≤◌, ◌+◌, ℕ, List, [], ◌∷◌, ◌++◌, length, filter, find, not, All, AllPairs, Option, Some, None, slice_index_or, slice_set}
+use Rattle.std.specs.Prelude.{◌≡◌, ◌<◌, ◌+◌, ℕ, List, [], ◌∷◌, ◌++◌, length, filter, find, not, All, AllPairs, Option, Some, None, slice_index_or, slice_set}
 use Rattle.model.specs.Words.{Text}
 use Rattle.model.specs.Topology.{Topology}
 use Rattle.model.specs.Routing.{key_after}
@@ -17,25 +17,25 @@ use Rattle.exchange_graph.specs.Marks.{queue_name}
 use Rattle.deaths.specs.Marked.{IsMarked}
 use Rattle.depot.specs.declared.given.Given.{Given}
 use Rattle.depot.specs.declared.plans.Death.{Death}
-use Rattle.depot.specs.declared.turns.Turn.{Turn}
+use Rattle.depot.specs.declared.turns.PlannedTurn.{PlannedTurn}
 use Rattle.depot.specs.Rejecting.{holder_of_given}
-use Rattle.depot.specs.Turns.{Outcome, outcomes, entered, notes_of_outcomes, places, times, IsPlan}
+use Rattle.depot.specs.Turns.{TurnOutcome, outcomes, all_entered, notes_of_outcomes, places, times, IsPlan}
 
 -- ---- what is planned
 
 -- The turns of the dead letter of a message that dies in this queue, which goes to this exchange.
-pub record AreLetters (t : Topology) (q : DeclaredQueue) (m : Message) (turns : List Turn) (exchange : Text) : Type 0 where
+pub record AreDeadLetters (t : Topology) (q : DeclaredQueue) (m : Message) (turns : List PlannedTurn) (exchange : Text) : Type 0 where
   pub content : Content
   pub marked : IsMarked q.name m.exchange m.content content
   pub plan : IsPlan t exchange (key_after q.dead_letter_key m.key) (dead_letter m exchange (key_after q.dead_letter_key m.key) content) turns
 
 -- a queue that has no dead-letter exchange makes none
-abbrev pub MayHaveLetters : Topology → DeclaredQueue → Message → List Turn → Option Text → Type 0
+abbrev pub MayHaveLetters : Topology → DeclaredQueue → Message → List PlannedTurn → Option Text → Type 0
 MayHaveLetters t q m turns None = turns ≡ []
-MayHaveLetters t q m turns (Some exchange) = AreLetters t q m turns exchange
+MayHaveLetters t q m turns (Some exchange) = AreDeadLetters t q m turns exchange
 
 -- the turns of the dead letter of a message that dies in the queue at this place, if it makes one
-abbrev pub LettersAt : Topology → ℕ → Message → List Turn → Type 0
+abbrev pub LettersAt : Topology → ℕ → Message → List PlannedTurn → Type 0
 LettersAt t place m turns = (q : DeclaredQueue) → q ≡ slice_index_or t.queues place q → MayHaveLetters t q m turns q.dead_letter_exchange
 
 -- The death of a message that was given out.
@@ -67,12 +67,12 @@ abbrev pub without : Death → List (List Entry) → List (List Entry)
 without d entries = slice_set entries d.place (filter (λ (e : Entry). not (is_held_as d.holder e)) (slice_index_or entries d.place []))
 
 -- what becomes of its dead letter at each queue
-abbrev pub outcomes_of : List DeclaredQueue → Death → List (List Entry) → List Outcome
+abbrev pub outcomes_of : List DeclaredQueue → Death → List (List Entry) → List TurnOutcome
 outcomes_of queues d entries = outcomes way.Dead queues d.turns.items (without d entries)
 
 -- the queues after a death
 abbrev pub died : List DeclaredQueue → Death → List (List Entry) → List (List Entry)
-died queues d entries = entered (outcomes_of queues d entries) (without d entries)
+died queues d entries = all_entered (outcomes_of queues d entries) (without d entries)
 
 -- what is noted of it
 abbrev pub death_notes : List DeclaredQueue → Death → List (List Entry) → List Note

@@ -10,7 +10,7 @@ use Rattle.model.specs.declared.notes.Note.{Note}
 use Rattle.model.specs.declared.notes.Note.TheVariants.{Published}
 use Rattle.model.specs.declared.notes.Way.TheVariants as way
 use Rattle.depot.specs.declared.depots.Routed.{Routed}
-use Rattle.depot.specs.Store.{Store, queue_of}
+use Rattle.depot.specs.Store.{Store, entries_named}
 
 -- A publish on this channel, under this confirm number: the message comes to the end of each routed queue that is not full.
 pub record Publishes (old : Store) (connection channel : ℕ) (p : Publish) (content : Content) (confirm : Option ℕ) (noted : List Note) (routed : Routed) (new : Store) : Type 0 where
@@ -18,12 +18,12 @@ pub record Publishes (old : Store) (connection channel : ℕ) (p : Publish) (con
   pub targets : List Text
   pub picked : Picks (Routes old.topology p.exchange p.routing_key) (queue_names old.topology.queues) targets
   pub notes : noted ≡ Published (old.published + 1) connection channel p.exchange p.routing_key confirm
-      ∷ entry_notes old.topology (queue_of old) (length content.body) (old.published + 1) way.Publish targets
+      ∷ entry_notes old.topology (entries_named old) (length content.body) (old.published + 1) way.Publish targets
   pub none : routed.is_none ≡ is_none targets
-  pub full : routed.is_some_full ≡ is_some_full old.topology (queue_of old) content targets
+  pub full : routed.is_some_full ≡ is_some_full old.topology (entries_named old) content targets
   pub counted : new.published ≡ old.published + 1
   pub topology : new.topology ≡ old.topology
-  pub queues : (q : Text) → queue_of new q ≡ queue_of old q ++ comes_to old.topology (queue_of old) (message (old.published + 1) p content) q targets
+  pub queues : (q : Text) → entries_named new q ≡ entries_named old q ++ comes_to old.topology (entries_named old) (message (old.published + 1) p content) q targets
 
 -- The notes are those of before with these behind them, and there is room for two more.
 pub record Publishing (old : Store) (connection channel : ℕ) (p : Publish) (content : Content) (confirm : Option ℕ) (before after : List Note) (routed : Routed) (new : Store) : Type 0 where

@@ -16,8 +16,8 @@ pub record Store : Type 0 where
   pub published : ℕ
 
 -- the entries of the queue of this name
-abbrev pub queue_of : Store → Text → List Entry
-queue_of s q = listed (queue_names s.topology.queues) s.queues q
+abbrev pub entries_named : Store → Text → List Entry
+entries_named s q = listed (queue_names s.topology.queues) s.queues q
 
 -- the entries of the queue at this place in the file
 abbrev pub queue_at : Store → ℕ → List Entry
@@ -28,7 +28,7 @@ abbrev pub with_entries_at : Store → ℕ → List Entry → Store
 with_entries_at s place entries = record s { queues = slice_set s.queues place entries }
 
 -- What every depot keeps: names apart, and a list for each queue of the topology.
-pub record IsWhole (s : Store) : Type 0 where
+pub record IsStoreWhole (s : Store) : Type 0 where
   pub formed : IsWellFormed s.topology
   pub len : length s.queues ≡ length s.topology.queues
 
@@ -41,9 +41,9 @@ abbrev pub with_requeued : Store → (Holder → Bool) → Store
 with_requeued s mine = record s { queues = map (requeued mine) s.queues }
 
 -- The queue at this place of the file is that of its name: it has those entries, and what it has instead that name has.
-pub record IsNamed (s : Store) (place : ℕ) : Type 0 where
-  pub entries_are : queue_of s (queue_name s.topology place) ≡ queue_at s place
-  pub changed : (entries : List Entry) (q : Text) → queue_of (with_entries_at s place entries) q ≡ seen.with_queue (queue_of s) (queue_name s.topology place) entries q
+pub record IsQueueNamed (s : Store) (place : ℕ) : Type 0 where
+  pub entries_are : entries_named s (queue_name s.topology place) ≡ queue_at s place
+  pub changed : (entries : List Entry) (q : Text) → entries_named (with_entries_at s place entries) q ≡ seen.with_queue (entries_named s) (queue_name s.topology place) entries q
 
 -- the queue at this place has a message that can be given out
 abbrev pub HasReady : Store → ℕ → Type 0

@@ -15,23 +15,23 @@ use Rattle.model.specs.declared.notes.Way.{Way}
 use Rattle.model.specs.declared.notes.Way.TheVariants as way
 use Rattle.queue.specs.Line.{Line, ready_count}
 use Rattle.exchange_graph.specs.Targets.{AreTargets}
-use Rattle.depot.specs.declared.turns.Turn.{Turn}
+use Rattle.depot.specs.declared.turns.PlannedTurn.{PlannedTurn}
 use Rattle.depot.specs.declared.depots.Routed.{Routed}
 
 -- ---- one turn
 
 -- the turn of a message at the queue at this place
-abbrev pub turn_at : List DeclaredQueue → Message → ℕ → Turn
+abbrev pub turn_at : List DeclaredQueue → Message → ℕ → PlannedTurn
 turn_at queues m place = record { place = place; name = slice_index_or (queue_names queues) place []; message = m }
 
 -- what becomes of a turn: the queue at this place takes the message, or refuses it where there is none, and so it is noted
-pub record Outcome : Type 0 where
+pub record TurnOutcome : Type 0 where
   pub place : ℕ
   pub message : Option Message
   pub note : Note
 
 -- .. at a queue that is full or not
-abbrev pub outcome_of : Way → Text → Bool → Message → ℕ → Outcome
+abbrev pub outcome_of : Way → Text → Bool → Message → ℕ → TurnOutcome
 outcome_of how name full m place =
     if full then record { place = place; message = None; note = Refused m.number name }
     else record { place = place; message = Some m; note = Entered m.number name how }
@@ -45,11 +45,11 @@ abbrev pub is_full_at : List DeclaredQueue → List (List Entry) → ℕ → Boo
 is_full_at queues entries place = is_at (slice_index_or (limits queues) place None) (ready_count (slice_index_or entries place []))
 
 -- what becomes of a turn at its queue, with these entries
-abbrev pub outcome : Way → List DeclaredQueue → List (List Entry) → Turn → Outcome
+abbrev pub outcome : Way → List DeclaredQueue → List (List Entry) → PlannedTurn → TurnOutcome
 outcome how queues entries t = outcome_of how t.name (is_full_at queues entries t.place) t.message t.place
 
 -- the queue refuses
-abbrev pub is_refusal : Outcome → Bool
+abbrev pub is_refusal : TurnOutcome → Bool
 is_refusal o = elim o.message [ None ↦ true | Some m ↦ false ]
 
 -- what comes to the queue
@@ -58,36 +58,36 @@ arriving None = []
 arriving (Some m) = record { message = m; mark = Ready } ∷ []
 
 -- what comes of it
-abbrev pub entered_one : Outcome → List (List Entry) → List (List Entry)
+abbrev pub entered_one : TurnOutcome → List (List Entry) → List (List Entry)
 entered_one o entries = slice_set entries o.place (slice_index_or entries o.place [] ++ arriving o.message)
 
 -- ---- turns
 
 -- the place of each
-abbrev pub places : List Turn → List ℕ
-places turns = map (λ (t : Turn). t.place) turns
+abbrev pub places : List PlannedTurn → List ℕ
+places turns = map (λ (t : PlannedTurn). t.place) turns
 
 -- what becomes of turns that are taken one after another, so that each queue is judged as the turns before leave it
-abbrev pub outcomes : Way → List DeclaredQueue → List Turn → List (List Entry) → List Outcome
+abbrev pub outcomes : Way → List DeclaredQueue → List PlannedTurn → List (List Entry) → List TurnOutcome
 outcomes how queues [] entries = []
 outcomes how queues (t ∷ ts) entries = outcome how queues entries t ∷ outcomes how queues ts (entered_one (outcome how queues entries t) entries)
 
 -- the note of each
-abbrev pub notes_of_outcomes : List Outcome → List Note
-notes_of_outcomes os = map (λ (o : Outcome). o.note) os
+abbrev pub notes_of_outcomes : List TurnOutcome → List Note
+notes_of_outcomes os = map (λ (o : TurnOutcome). o.note) os
 
 -- the queues after all of them
-abbrev pub entered : List Outcome → List (List Entry) → List (List Entry)
-entered [] entries = entries
-entered (o ∷ os) entries = entered os (entered_one o entries)
+abbrev pub all_entered : List TurnOutcome → List (List Entry) → List (List Entry)
+all_entered [] entries = entries
+all_entered (o ∷ os) entries = all_entered os (entered_one o entries)
 
 -- there is none
-abbrev pub no_turns : List Turn → Bool
+abbrev pub no_turns : List PlannedTurn → Bool
 no_turns [] = true
 no_turns (t ∷ ts) = false
 
 -- These are the turns of a message that is sent to this exchange under this key: one at each queue that it is routed to.
-pub record IsPlan (t : Topology) (exchange key : Text) (m : Message) (turns : List Turn) : Type 0 where
+pub record IsPlan (t : Topology) (exchange key : Text) (m : Message) (turns : List PlannedTurn) : Type 0 where
   pub targets : List ℕ
   pub routed : AreTargets t exchange key targets
   pub turned : turns ≡ map (turn_at t.queues m) targets
@@ -108,8 +108,8 @@ times place [] = 0
 times place (p ∷ ps) = cond (place == p) 1 0 + times place ps
 
 -- each of these queues has room for so many messages
-abbrev pub HasRoom : List Line → List ℕ → ℕ → Type 0
-HasRoom lines targets count = (k : ℕ) → k < length targets → count ≤ room_at lines (slice_index_or targets k 0)
+abbrev pub LinesHaveRoom : List Line → List ℕ → ℕ → Type 0
+LinesHaveRoom lines targets count = (k : ℕ) → k < length targets → count ≤ room_at lines (slice_index_or targets k 0)
 
 -- each queue has room for a message each time that it is one of these
 abbrev pub IsRoomy : List Line → List ℕ → Type 0
@@ -119,9 +119,9 @@ IsRoomy lines targets = (place : ℕ) → times place targets ≤ room_at lines 
 
 -- All turns of a publish were taken.
 pub record Enters (t : Topology) (old new : List (List Entry)) (p : Publish) (m : Message) (first : Note) (before after : List Note) (routed : Routed) : Type 0 where
-  pub turns : List Turn
+  pub turns : List PlannedTurn
   pub plan : IsPlan t p.exchange p.routing_key m turns
-  pub entries : new ≡ entered (outcomes way.Publish t.queues turns old) old
+  pub entries : new ≡ all_entered (outcomes way.Publish t.queues turns old) old
   pub notes : after ≡ before ++ first ∷ notes_of_outcomes (outcomes way.Publish t.queues turns old)
   pub none : routed.is_none ≡ no_turns turns
   pub full : routed.is_some_full ≡ list_any is_refusal (outcomes way.Publish t.queues turns old)

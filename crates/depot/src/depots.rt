@@ -1,7 +1,7 @@
 //! Publishes, requeueing, what the queues hold, and what is given out and settled.
 
 ghost use Rattle.std.specs.Prelude.{◌<◌, ℕ, length};
-ghost use Rattle.depot.specs.Store.{Store, IsWhole, IsNamed};
+ghost use Rattle.depot.specs.Store.{Store, IsStoreWhole, IsQueueNamed};
 
 use crate::given::Given;
 use crate::places::queue_at;
@@ -83,9 +83,9 @@ impl Depot {
     ghost use Rattle.model.specs.Step.{greatest};
     ghost use Rattle.model.specs.Entries.{by_connection, is_under, is_held_as, held_as, change_first, without_first, number_of};
     ghost use Rattle.queue.specs.Line.{ready_count, requeued};
-    ghost use Rattle.depot.specs.Store.{queue_of, queue_at, with_entries_at, with_requeued, IsWhole, IsNamed, IsNextReady};
+    ghost use Rattle.depot.specs.Store.{entries_named, queue_at, with_entries_at, with_requeued, IsStoreWhole, IsQueueNamed, IsNextReady};
     ghost use Rattle.depot.specs.Publishing.{Publishing};
-    ghost use Rattle.depot.specs.Rejecting.{AreWithin, AreOrdered, IsApart, Rejecting};
+    ghost use Rattle.depot.specs.Rejecting.{GoneAreWithin, AreOrdered, IsApart, Rejecting};
 
     /// The depot of this topology: each queue is there and has no message.
     pub fn new(alloc: Global, topology: Topology) -> Result<Depot, AllocError>
@@ -156,7 +156,7 @@ impl Depot {
         gone: &[Given],
         notes: &mut Vec<Note>,
     ) -> Result<(), AllocError>
-        requires within { AreWithin self.old.topology gone.now }
+        requires within { GoneAreWithin self.old.topology gone.now }
         requires ordered { AreOrdered gone.now }
         requires apart { IsApart self.old }
         ensures ok { OnOk result (Rejecting self.old connection channel gone.now notes.old.items notes.new.items self.new) }
@@ -206,7 +206,7 @@ impl Depot {
 
     /// How many messages of the queue of this name can be given out, or `None` where there is no such queue.
     pub fn ready(&self, name: &[u8]) -> Option<usize>
-        ensures { result ≡ option_map (λ _. ready_count (queue_of self.now name.now)) (queue_named self.now.topology.queues name.now) }
+        ensures { result ≡ option_map (λ _. ready_count (entries_named self.now name.now)) (queue_named self.now.topology.queues name.now) }
     {
         let topology = self.router.topology();
         let place = topology.queue_at(name)?;
@@ -215,7 +215,7 @@ impl Depot {
 
     /// What every depot keeps.
     pub fn is_whole(&self)
-        ensures { IsWhole self.now }
+        ensures { IsStoreWhole self.now }
     {
         self.router.topology().is_well_formed();
     }
@@ -223,7 +223,7 @@ impl Depot {
     /// What stands at a place of the file stands under its name.
     pub fn is_named(&self, place: usize)
         requires { place < length self.now.topology.queues }
-        ensures { IsNamed self.now place }
+        ensures { IsQueueNamed self.now place }
     {
         self.is_whole();
     }
@@ -316,5 +316,5 @@ impl Depot {
 
 /// What stands at a place of the file stands under its name, in whatever depot.
 pub fn places_are_named()
-    ensures { (s : Store) (place : ℕ) → IsWhole s → place < length s.topology.queues → IsNamed s place }
+    ensures { (s : Store) (place : ℕ) → IsStoreWhole s → place < length s.topology.queues → IsQueueNamed s place }
 {}

@@ -31,15 +31,15 @@ ghost use Rattle.depot.specs.Turns.{
   is_full_at,
   is_refusal,
   entered_one,
-  entered,
+  all_entered,
   room_at,
   times,
-  HasRoom,
+  LinesHaveRoom,
   IsRoomy,
 };
 
 use crate::queues::Queues;
-use crate::turns::Turn;
+use crate::turns::PlannedTurn;
 use model::{DeclaredQueue, Message, Note, Way};
 use queue::Queue;
 use std::alloc::{AllocError, Global};
@@ -50,7 +50,7 @@ pub(crate) fn turns(
     declared: &[DeclaredQueue],
     targets: &[usize],
     message: &Message,
-) -> Result<Vec<Turn>, AllocError>
+) -> Result<Vec<PlannedTurn>, AllocError>
     requires { All (λ i. i < length declared.now) targets.now }
     ensures { IfOk result (λ turns. turns.items ≡ map (turn_at declared.now message.now) targets.now) }
 {
@@ -67,11 +67,11 @@ pub(crate) fn turn(
     declared: &[DeclaredQueue],
     place: usize,
     message: &Message,
-) -> Result<Turn, AllocError>
+) -> Result<PlannedTurn, AllocError>
     requires { place < length declared.now }
     ensures { IfOk result (λ t. t ≡ turn_at declared.now message.now place) }
 {
-    Ok(Turn {
+    Ok(PlannedTurn {
         place,
         name: declared[place].name.clone()?,
         message: message.clone()?,
@@ -79,12 +79,16 @@ pub(crate) fn turn(
 }
 
 /// Makes room for so many messages in each of these queues.
-pub(crate) fn make_room(queues: &mut Queues, turns: &[Turn], more: usize) -> Result<(), AllocError>
+pub(crate) fn make_room(
+    queues: &mut Queues,
+    turns: &[PlannedTurn],
+    more: usize,
+) -> Result<(), AllocError>
     requires { All (λ i. i < length queues.old) (places turns.now) }
     ensures same { entries_of queues.new ≡ entries_of queues.old }
     ensures len { length queues.new ≡ length queues.old }
     ensures kept { (place : ℕ) → room_at queues.old place ≤ room_at queues.new place }
-    ensures room { OnOk result (HasRoom queues.new (places turns.now) more) }
+    ensures room { OnOk result (LinesHaveRoom queues.new (places turns.now) more) }
 {
     for turn in turns {
         queues.reserve(turn.place, more)?;
@@ -105,7 +109,7 @@ fn is_full(declared: &[DeclaredQueue], queues: &[Queue], place: usize, size: usi
 pub(crate) fn enter(
     declared: &[DeclaredQueue],
     queues: &mut Queues,
-    turn: Turn,
+    turn: PlannedTurn,
     way: Way,
     notes: &mut Vec<Note>,
 ) -> bool
@@ -121,7 +125,7 @@ pub(crate) fn enter(
     ensures notes_len { vec_len notes.new ≡ vec_len notes.old + 1 }
     ensures notes_capacity { vec_capacity notes.new ≡ vec_capacity notes.old }
 {
-    let Turn {
+    let PlannedTurn {
         place,
         name,
         message,
@@ -152,7 +156,7 @@ pub(crate) fn enter(
 pub(crate) fn enter_all(
     declared: &[DeclaredQueue],
     queues: &mut Queues,
-    turns: Vec<Turn>,
+    turns: Vec<PlannedTurn>,
     way: Way,
     notes: &mut Vec<Note>,
 ) -> bool
@@ -161,7 +165,7 @@ pub(crate) fn enter_all(
     requires room { IsRoomy queues.old (places turns.items) }
     requires notes { vec_len notes.old + vec_len turns ≤ vec_capacity notes.old }
     ensures refused { result ≡ list_any is_refusal (outcomes way declared.now turns.items (entries_of queues.old)) }
-    ensures entries { entries_of queues.new ≡ entered (outcomes way declared.now turns.items (entries_of queues.old)) (entries_of queues.old) }
+    ensures entries { entries_of queues.new ≡ all_entered (outcomes way declared.now turns.items (entries_of queues.old)) (entries_of queues.old) }
     ensures spent { (place : ℕ) → room_at queues.old place ≤ room_at queues.new place + times place (places turns.items) }
     ensures len { length queues.new ≡ length queues.old }
     ensures notes { notes.new.items ≡ notes.old.items ++ notes_of_outcomes (outcomes way declared.now turns.items (entries_of queues.old)) }

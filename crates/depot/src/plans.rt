@@ -1,6 +1,6 @@
 //! What a rejection is going to do.
 
-use crate::turns::Turn;
+use crate::turns::PlannedTurn;
 use model::{Holder, Note};
 
 /// A message leaves the queue at a place, and its dead letter has these turns.
@@ -11,5 +11,5 @@ pub(crate) struct Death {
     pub(crate) arrival: u64,
     /// That it leaves.
     pub(crate) note: Note,
-    pub(crate) turns: Vec<Turn>,
+    pub(crate) turns: Vec<PlannedTurn>,
 }

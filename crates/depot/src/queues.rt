@@ -5,7 +5,7 @@ ghost use Rattle.depot.specs.Store.{entries_of};
 
 use crate::places::{hold_at, purge_at, push_at, release_at, remove_at, reserve_at, take_first_at};
 use crate::requeueing::requeue_connection_in;
-use crate::signs::Signs;
+use crate::signs::QueueSigns;
 use model::{Entry, Holder, Message};
 use queue::Queue;
 use std::alloc::{AllocError, Global};
@@ -16,20 +16,20 @@ use std::marker::Model;
 #[derive(Drop)]
 pub(crate) struct Queues {
     queues: Vec<Queue>,
-    signs: Signs,
+    signs: QueueSigns,
 }
 
 impl Model for Queues {
     ghost use Rattle.std.specs.Prelude.{List};
     ghost use Rattle.queue.specs.Line.{Line};
     ghost use Rattle.depot.specs.Store.{entries_of};
-    ghost use Rattle.depot.specs.Signs.{AreSigned};
+    ghost use Rattle.depot.specs.Signs.{QueuesAreSigned};
 
     ghost Value = { List Line };
 
     ghost view = { λ q. q.queues.items };
 
-    ghost invariant = { λ q. AreSigned (entries_of q.queues.items) q.signs };
+    ghost invariant = { λ q. QueuesAreSigned (entries_of q.queues.items) q.signs };
 }
 
 /// So many queues with no message.
@@ -76,7 +76,7 @@ impl Queues {
     ghost use Rattle.model.specs.Broker.{is_ready};
     ghost use Rattle.model.specs.declared.messages.Mark.TheVariants.{Ready};
     ghost use Rattle.model.specs.Entries.{by_connection, is_under, is_held_as, held_as, change_first, without_first, number_of};
-    ghost use Rattle.marks.specs.Places.{IsNext};
+    ghost use Rattle.marks.specs.Places.{IsNextMark};
     ghost use Rattle.queue.specs.Line.{ready_count, requeued};
     ghost use Rattle.depot.specs.Store.{entries_of};
     ghost use Rattle.depot.specs.Signs.{ready_bit};
@@ -87,7 +87,7 @@ impl Queues {
         ensures { IfOk result (λ queues. entries_of queues ≡ replicate count []) }
     {
         let queues = empty_queues(alloc, count)?;
-        let signs = Signs::new(alloc, count)?;
+        let signs = QueueSigns::new(alloc, count)?;
         Ok(Queues { queues, signs })
     }
 
@@ -100,7 +100,7 @@ impl Queues {
 
     /// The first queue with a message that can be given out, of those from `from` on.
     pub(crate) fn next_ready(&self, from: usize) -> Option<usize>
-        ensures some { IfSome result (λ place. IsNext (λ k. ready_bit (slice_index_or (entries_of self.now) k [])) from place) }
+        ensures some { IfSome result (λ place. IsNextMark (λ k. ready_bit (slice_index_or (entries_of self.now) k [])) from place) }
         ensures none { IfNone result ((k : ℕ) → from ≤ k → ready_bit (slice_index_or (entries_of self.now) k []) ≡ 0) }
     {
         self.signs.next_ready(from)

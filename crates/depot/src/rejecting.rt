@@ -5,14 +5,14 @@ ghost use Rattle.model.specs.Routing.{key_after};
 ghost use Rattle.depot.specs.declared.plans.Death.{Death as Planned};
 ghost use Rattle.depot.specs.Store.{entries_of};
 ghost use Rattle.depot.specs.Turns.{places, room_at, times, IsRoomy};
-ghost use Rattle.depot.specs.Rejecting.{holder_of_given, AreWithin};
+ghost use Rattle.depot.specs.Rejecting.{holder_of_given, GoneAreWithin};
 ghost use Rattle.depot.specs.Dying.{LettersAt, Plans, given_at, ArePlanned, died, death_notes, died_all, all_notes, IsSoundDeath, notes_in, times_in, Rejects};
 
 use crate::entering::{enter_all, make_room, turns};
 use crate::given::Given;
 use crate::plans::Death;
 use crate::queues::Queues;
-use crate::turns::Turn;
+use crate::turns::PlannedTurn;
 use deaths::marked;
 use kept_routes::Router;
 use model::{Cause, DeclaredQueue, Holder, Message, Note, Text, Way};
@@ -36,7 +36,7 @@ fn letters(
     router: &mut Router,
     place: usize,
     message: &Message,
-) -> Result<Vec<Turn>, AllocError>
+) -> Result<Vec<PlannedTurn>, AllocError>
     requires { place < length router.old.queues }
     ensures letters { IfOk result (λ turns. LettersAt router.old place message.now turns.items) }
     ensures same { router.new ≡ router.old }
@@ -104,7 +104,7 @@ fn plan(
     gone: &[Given],
 ) -> Result<Vec<Death>, AllocError>
     requires len { length queues.now ≡ length router.old.queues }
-    requires within { AreWithin router.old gone.now }
+    requires within { GoneAreWithin router.old gone.now }
     ensures planned { IfOk result (λ deaths. ArePlanned router.old connection channel (entries_of queues.now) gone.now deaths.items) }
     ensures same { router.new ≡ router.old }
 {
@@ -206,7 +206,7 @@ pub(crate) fn reject_in(
     notes: &mut Vec<Note>,
 ) -> Result<(), AllocError>
     requires len { length queues.old ≡ length router.old.queues }
-    requires within { AreWithin router.old gone.now }
+    requires within { GoneAreWithin router.old gone.now }
     ensures ok { OnOk result (Rejects router.old connection channel gone.now (entries_of queues.old) (entries_of queues.new) notes.old.items notes.new.items) }
     ensures same { router.new ≡ router.old }
     ensures len { length queues.new ≡ length queues.old }

@@ -10,19 +10,19 @@ use std::alloc::{AllocError, Global};
 use std::marker::Model;
 
 /// A bit for each queue.
-type Marks = Over<Flat>;
+type QueueMarks = Over<Flat>;
 
 /// Two sets of places of queues: those with a message that can be given out, and those with one that is held.
 #[derive(Drop)]
-pub(crate) struct Signs {
-    ready: Marks,
-    held: Marks,
+pub(crate) struct QueueSigns {
+    ready: QueueMarks,
+    held: QueueMarks,
 }
 
-impl Model for Signs {
-    ghost use Rattle.depot.specs.Signs.{Bits};
+impl Model for QueueSigns {
+    ghost use Rattle.depot.specs.Signs.{QueueBits};
 
-    ghost Value = { Bits };
+    ghost Value = { QueueBits };
 
     ghost view = { λ s. record { ready = s.ready; held = s.held } };
 }
@@ -42,7 +42,7 @@ fn has_held(queue: &Queue) -> bool
 }
 
 /// Puts a place in, or takes it out.
-fn put(marks: &mut Marks, place: usize, is_in: bool)
+fn put(marks: &mut QueueMarks, place: usize, is_in: bool)
     requires { place < length marks.old * 64 }
     ensures bit { Differs (bit_of marks.old) (bit_of marks.new) place (cond is_in 1 0) }
     ensures len { length marks.new ≡ length marks.old }
@@ -55,7 +55,7 @@ fn put(marks: &mut Marks, place: usize, is_in: bool)
 }
 
 /// A set with room for all places below this, and with none in it.
-fn room_for(alloc: Global, places: usize) -> Result<Marks, AllocError>
+fn room_for(alloc: Global, places: usize) -> Result<QueueMarks, AllocError>
     ensures bits { IfOk result (λ marks. (k : ℕ) → bit_of marks k ≡ 0) }
     ensures room { IfOk result (λ marks. places ≤ length marks * 64) }
 {
@@ -64,20 +64,20 @@ fn room_for(alloc: Global, places: usize) -> Result<Marks, AllocError>
     Ok(marks)
 }
 
-impl Signs {
+impl QueueSigns {
     ghost use Rattle.std.specs.Prelude.{◌≡◌, ℕ, List, [], ◌<◌, ◌≤◌, ◌*◌, length, replicate, slice_set, IfOk, IfSome, IfNone};
     ghost use Rattle.model.specs.declared.messages.Entry.{Entry};
-    ghost use Rattle.marks.specs.Places.{bit_of, IsNext};
+    ghost use Rattle.marks.specs.Places.{bit_of, IsNextMark};
     ghost use Rattle.depot.specs.Store.{entries_of};
-    ghost use Rattle.depot.specs.Signs.{AreSigned};
+    ghost use Rattle.depot.specs.Signs.{QueuesAreSigned};
 
     /// The sets of so many queues with no message, with room for all of them.
-    pub(crate) fn new(alloc: Global, queues: usize) -> Result<Signs, AllocError>
-        ensures { IfOk result (λ signs. AreSigned (replicate queues []) signs) }
+    pub(crate) fn new(alloc: Global, queues: usize) -> Result<QueueSigns, AllocError>
+        ensures { IfOk result (λ signs. QueuesAreSigned (replicate queues []) signs) }
     {
         let ready = room_for(alloc, queues)?;
         let held = room_for(alloc, queues)?;
-        Ok(Signs { ready, held })
+        Ok(QueueSigns { ready, held })
     }
 
     /// Sets the bits of this place as its queue is now, which alone has changed. It takes no memory.
@@ -85,7 +85,7 @@ impl Signs {
         requires within { place < length queues.now }
         requires ready { length queues.now ≤ length self.old.ready * 64 }
         requires held { length queues.now ≤ length self.old.held * 64 }
-        ensures { (lists : List (List Entry)) (entries : List Entry) → entries_of queues.now ≡ slice_set lists place entries → AreSigned lists self.old → AreSigned (entries_of queues.now) self.new }
+        ensures { (lists : List (List Entry)) (entries : List Entry) → entries_of queues.now ≡ slice_set lists place entries → QueuesAreSigned lists self.old → QueuesAreSigned (entries_of queues.now) self.new }
     {
         let queue = &queues[place];
         put(&mut self.ready, place, has_ready(queue));
@@ -94,7 +94,7 @@ impl Signs {
 
     /// The first queue with a message that can be given out, of those from `from` on.
     pub(crate) fn next_ready(&self, from: usize) -> Option<usize>
-        ensures some { IfSome result (λ place. IsNext (bit_of self.now.ready) from place) }
+        ensures some { IfSome result (λ place. IsNextMark (bit_of self.now.ready) from place) }
         ensures none { IfNone result ((k : ℕ) → from ≤ k → bit_of self.now.ready k ≡ 0) }
     {
         self.ready.next(from)
@@ -102,7 +102,7 @@ impl Signs {
 
     /// The first queue with a message that is held, of those from `from` on.
     pub(crate) fn next_held(&self, from: usize) -> Option<usize>
-        ensures some { IfSome result (λ place. IsNext (bit_of self.now.held) from place) }
+        ensures some { IfSome result (λ place. IsNextMark (bit_of self.now.held) from place) }
         ensures none { IfNone result ((k : ℕ) → from ≤ k → bit_of self.now.held k ≡ 0) }
     {
         self.held.next(from)

@@ -4,7 +4,7 @@ use model::{Message, Text};
 
 /// The message is to come to the queue at a place, which has this name.
 #[derive(Drop)]
-pub(crate) struct Turn {
+pub(crate) struct PlannedTurn {
     pub(crate) place: usize,
     pub(crate) name: Text,
     pub(crate) message: Message,

@@ -6,7 +6,7 @@ use Rattle.model.specs.Commands.{new_stream, running_stream}
 use Rattle.model.specs.Arrivals.{World, Same, Turns, Waits, is_over, is_gone, with_heard, Takes_off, Delivers, delivers, Loses}
 use Rattle.model.specs.Consistent.{IsConsistent}
 use Rattle.model.specs.declared.events.Event.TheVariants as event
-use Rattle.laws.specs.Consumers.{IsNamed}
+use Rattle.laws.specs.Consumers.{IsWorldNamed}
 use Rattle.laws.proofs.Consistency.{stay_consistent}
 use Rattle.laws.proofs.Naming.{worlds_named}
 use Rattle.runs.specs.Opened.{OpensNew, OpensReady, Hears, IsLost}
@@ -19,7 +19,7 @@ use Rattle.engine.specs.declared.turning.Turn.TheVariants as turn
 -- what an engine keeps of its world
 pub record Agrees (w : World) : Type 0 where
   pub consistent : IsConsistent w
-  pub named : IsNamed w
+  pub named : IsWorldNamed w
 
 pub agreed : (p : Parts) → IsEngine p → Agrees (world_of p)
 agreed p e = record { consistent = e.consistent; named = e.named }

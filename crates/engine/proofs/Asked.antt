@@ -1,9 +1,8 @@
 -- What is asked next, and what is decided of it.
-use Rattle.std.specs.Prelude.{Result, Ok, Err, IfOk, IsOk, OnErr}
-use Rattle.model.specs.Step.{Does, Is}
+use Rattle.std.specs.Prelude.{Result, Ok, Err, IfOk, OnErr}
+use Rattle.model.specs.Step.{Is}
 use Rattle.model.specs.State.{after_move}
-use Rattle.std.proofs.Common.{◌≡◌, ◌≢◌, ℕ, List, [], refl}
-use Rattle.std.proofs.lemmas.Bool.{false≢true}
+use Rattle.std.proofs.Common.{◌≡◌, ◌≢◌, ℕ, List, refl}
 use Rattle.model.specs.Broker.{Broker}
 use Rattle.model.specs.Phases.{Session}
 use Rattle.model.specs.declared.events.Phase.{Phase}
@@ -30,14 +29,6 @@ ok_map (Err e) P Q f p = tt
 pub on_err : {T F : Type 0} (r : Result T F) (P : Type 0) → P → OnErr r P
 on_err (Ok x) P p = tt
 on_err (Err e) P p = p
-
--- nothing is sent at a pause, nor noted
-pub quiet : (sends : List Send) (notes : List Note) (new made : Broker) → Does sends notes new [] made → Does [] [] new [] made
-quiet sends notes new made d = record { sent = refl; noted = refl; left = d.left }
-
-pub ok_then : {T F : Type 0} (r : Result T F) (P : T → Type 0) (Q : Type 0) → ((x : T) → P x → Q) → IsOk r → IfOk r P → Q
-ok_then (Ok x) P Q f ok p = f x p
-ok_then (Err e) P Q f ok p = absurd (false≢true ok)
 
 pub is_same : (b : Broker) → Is b b
 is_same b = record { counted = refl; queues = λ q. refl; connections = λ c. refl; channels = λ c h. refl }

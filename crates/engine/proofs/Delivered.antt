@@ -15,14 +15,14 @@ use Rattle.model.specs.declared.events.Phase.TheVariants as phase
 use Rattle.model.specs.declared.events.Event.TheVariants as event
 use Rattle.model.specs.declared.notes.Note.{Note}
 use Rattle.laws.proofs.Whole.{pump_keeps}
-use Rattle.broker_core.specs.State.{Kept, topology_of, broker_of}
+use Rattle.broker_core.specs.State.{Kept, topology_kept, broker_of}
 use Rattle.runs.specs.Opened.{Idles}
 use Rattle.engine.specs.Reading.{IsKeptEvent}
-use Rattle.outputs.specs.Waiting.{Waiting}
+use Rattle.outputs.specs.Waiting.{WaitingBytes}
 use Rattle.engine.specs.Pumping.{LinkPumped, OutputChanges, LinksPumped, LinksNotPumped, IsPump}
 use Rattle.engine.specs.World.{Parts, link_in, session_of, wire_in, wire_of, config_of, state_of, world_of, is_link_gone, AreRising, IsEngine}
-use Rattle.engine.specs.Engines.{Becomes, Changes, IsPlaceOf}
-use Rattle.engine.specs.declared.link.Link.{Link}
+use Rattle.engine.specs.Engines.{Becomes, Changes, IsLinkPlace}
+use Rattle.engine.specs.declared.connected.Connected.{Connected}
 use Rattle.engine.proofs.Numbered.{link_in-place}
 use Rattle.engine.proofs.Agreeing.{agreed, same_agrees, delivers_agrees}
 use Rattle.engine.proofs.Lifted.{Ended, ended, at_own, at_others, same_config, output_in, with_same}
@@ -49,58 +49,58 @@ below p c k made = sym (k.paused c made.taker.connection made.taker.runs) ∙ ma
 
 -- ---- the connection whose output changes
 
-found_there : (ls new_ls : List Link) (c : ℕ) (f : OutputChanges c ls new_ls) → AreRising 0 ls → link_in ls f.old.number ≡ Some f.old
+found_there : (ls new_ls : List Connected) (c : ℕ) (f : OutputChanges c ls new_ls) → AreRising 0 ls → link_in ls f.old.number ≡ Some f.old
 found_there ls new_ls c f r = link_in-place 0 ls f.place f.old r f.within f.here
 
-open_still : (p : Parts) (c : ℕ) (new_ls : List Link) (f : OutputChanges c p.links new_ls) → IsEngine p → CanDeliver (broker_of p.broker) c → is_ended f.old.session.phase ≡ false
+open_still : (p : Parts) (c : ℕ) (new_ls : List Connected) (f : OutputChanges c p.links new_ls) → IsEngine p → CanDeliver (broker_of p.broker) c → is_ended f.old.session.phase ≡ false
 open_still p c new_ls f e made =
     let found : link_in p.links c ≡ Some f.old = subst (λ (k : ℕ). link_in p.links k ≡ Some f.old) f.number (found_there p.links new_ls c f e.links.rising) in
-    running_open f.old.session.phase (sym (ap (λ (o : Option Link). is_running (session_of o).phase) found) ∙ runs p c e.consistent made)
+    running_open f.old.session.phase (sym (ap (λ (o : Option Connected). is_running (session_of o).phase) found) ∙ runs p c e.consistent made)
 
-output_changes : (ls new_ls : List Link) (c : ℕ) (f : OutputChanges c ls new_ls) → is_ended f.old.session.phase ≡ false → Changes ls f.place f.old f.new new_ls
+output_changes : (ls new_ls : List Connected) (c : ℕ) (f : OutputChanges c ls new_ls) → is_ended f.old.session.phase ≡ false → Changes ls f.place f.old f.new new_ls
 output_changes ls new_ls c f awake =
     let still : is_link_gone f.new ≡ false = ap is_link_gone f.rest ∙ ap (λ (v : Bool). v && not (nat_lt 0 (length f.new.output.bytes))) awake in
     record {
       within = f.within;
       here = f.here;
-      number = ap (λ (z : Link). z.number) f.rest;
-      kept = λ k. subst (λ (z : Link). IsKeptEvent z.number z.kept) (sym f.rest) k;
+      number = ap (λ (z : Connected). z.number) f.rest;
+      kept = λ k. subst (λ (z : Connected). IsKeptEvent z.number z.kept) (sym f.rest) k;
       left = f.left ∙ sym (ap (λ (v : Bool). cond v (remove ls f.place) (set ls f.place f.new)) still);
       over = λ gone. absurd (false≢true (sym still ∙ gone));
     }
 
-abbrev pub output_change : (ls : List Link) (c i : ℕ) (old new : Link) → IsPlaceOf ls c (Some i) → get_or ls i old ≡ old → new ≡ record old { output = new.output } → OutputChanges c ls (set ls i new)
+abbrev pub output_change : (ls : List Connected) (c i : ℕ) (old new : Connected) → IsLinkPlace ls c (Some i) → get_or ls i old ≡ old → new ≡ record old { output = new.output } → OutputChanges c ls (set ls i new)
 output_change ls c i old new at here only = record {
   place = i;
   within = at.0;
   old = old;
   here = here;
-  number = sym (ap (λ (z : Link). z.number) here) ∙ at.1 old;
+  number = sym (ap (λ (z : Connected). z.number) here) ∙ at.1 old;
   new = new;
   rest = only;
   left = refl;
 }
 
-pub not_pumped_by : {T E : Type 0} (r : Result T E) (b new_b : Broker) (c : ℕ) (ls new_ls : List Link) (f : OutputChanges c ls new_ls) → OnErr r (new_b ≡ b) → OnErr r (f.new.output.bytes ≡ f.old.output.bytes)
+pub not_pumped_by : {T E : Type 0} (r : Result T E) (b new_b : Broker) (c : ℕ) (ls new_ls : List Connected) (f : OutputChanges c ls new_ls) → OnErr r (new_b ≡ b) → OnErr r (f.new.output.bytes ≡ f.old.output.bytes)
     → OnErr r (LinksNotPumped b c ls new_b new_ls)
 not_pumped_by (Ok x) b new_b c ls new_ls f kept output = tt
 not_pumped_by (Err x) b new_b c ls new_ls f kept output = record { change = f; broker = kept; output = output }
 
 -- the wire is as before, but for its output
-output_alone : (b : Bool) (l : Link) (o : Waiting) → wire_in b (record l { output = o }) ≡ record (wire_in b l) { output = o.bytes }
+output_alone : (b : Bool) (l : Connected) (o : WaitingBytes) → wire_in b (record l { output = o }) ≡ record (wire_in b l) { output = o.bytes }
 output_alone true l o = refl
 output_alone false l o = refl
 
 -- ---- the delivery
 
-delivered : (old new : Parts) (l l' : Link) (notes : List Note) → Becomes old l l' new → link_in old.links l.number ≡ Some l → IsConsistent (world_of old) → l' ≡ record l { output = l'.output }
-    → LinkPumped (topology_of old.broker) (broker_of old.broker) l.number l notes (broker_of new.broker) l'
+delivered : (old new : Parts) (l l' : Connected) (notes : List Note) → Becomes old l l' new → link_in old.links l.number ≡ Some l → IsConsistent (world_of old) → l' ≡ record l { output = l'.output }
+    → LinkPumped (topology_kept old.broker) (broker_of old.broker) l.number l notes (broker_of new.broker) l'
     → (hs : List Happening) × (notes ≡ notes_of hs) × Delivers (world_of old) l.number hs (world_of new)
 delivered old new l l' notes b found k only p =
     let c = l.number in
     let session_was : session_of (link_in old.links c) ≡ l.session = ap session_of found in
     let sessions : (d : ℕ) → session_of (link_in new.links d) ≡ session_of (link_in old.links d) =
-    λ d. b.sessions d ∙ with_same (λ n. session_of (link_in old.links n)) c l'.session (ap (λ (z : Link). z.session) only ∙ sym session_was) d in
+    λ d. b.sessions d ∙ with_same (λ n. session_of (link_in old.links n)) c l'.session (ap (λ (z : Connected). z.session) only ∙ sym session_was) d in
     let wire_was : wire_of (link_in old.links c) ≡ wire_of (Some l) = ap wire_of found in
     let wire_is : wire_of (link_in new.links c) ≡ wire_of (Some l') = b.wires c ∙ at_own (λ d. wire_of (link_in old.links d)) c (wire_of (Some l')) in
     let output_was : (wire_of (link_in old.links c)).output ≡ l.output.bytes = ap (λ (w : Wire). w.output) wire_was ∙ output_in (is_ended l.session.phase) l in
@@ -131,27 +131,27 @@ delivered old new l l' notes b found k only p =
           rests = λ d ne. sessions d;
         };
         given = b.given;
-        wire = wire_is ∙ ap (λ (z : Link). wire_of (Some z)) only ∙ output_alone (is_ended l.session.phase) l l'.output
+        wire = wire_is ∙ ap (λ (z : Connected). wire_of (Some z)) only ∙ output_alone (is_ended l.session.phase) l l'.output
             ∙ ap (λ (w : Wire). record w { output = l'.output.bytes }) (sym wire_was)
             ∙ ap (λ (z : List ℕ). record (wire_of (link_in old.links c)) { output = z }) (sym output_is);
       },
     )
 
-made_of : (old new : Parts) (c : ℕ) (notes : List Note) → LinksPumped (topology_of old.broker) (broker_of old.broker) c old.links notes (broker_of new.broker) new.links → CanDeliver (broker_of old.broker) c
+made_of : (old new : Parts) (c : ℕ) (notes : List Note) → LinksPumped (topology_kept old.broker) (broker_of old.broker) c old.links notes (broker_of new.broker) new.links → CanDeliver (broker_of old.broker) c
 made_of old new c notes p = p.pumped.acts.made
 
 pumps : (old new : Parts) (c : ℕ) (notes : List Note) → IsEngine old → Stays old new
-    → LinksPumped (topology_of old.broker) (broker_of old.broker) c old.links notes (broker_of new.broker) new.links → IsPump (world_of old) notes (world_of new)
+    → LinksPumped (topology_kept old.broker) (broker_of old.broker) c old.links notes (broker_of new.broker) new.links → IsPump (world_of old) notes (world_of new)
 pumps old new c notes e st p =
     let f = p.change in
     let ch = output_changes old.links new.links c f (open_still old c new.links f e (made_of old new c notes p)) in
     let b = becomes old new f.place f.old f.new st e.links.rising ch in
     let did = delivered old new f.old f.new notes b (found_there old.links new.links c f e.links.rising) e.consistent f.rest
-    (subst (λ (n : ℕ). LinkPumped (topology_of old.broker) (broker_of old.broker) n f.old notes (broker_of new.broker) f.new) (sym f.number) p.pumped) in
+    (subst (λ (n : ℕ). LinkPumped (topology_kept old.broker) (broker_of old.broker) n f.old notes (broker_of new.broker) f.new) (sym f.number) p.pumped) in
     record { connection = f.old.number; happenings = did.0; noted = did.1; delivers = did.2; promises = pump_keeps (world_of old) (world_of new) did.0 (sound old e) e.consistent (delivers did.2) }
 
 pumps_engine : (old new : Parts) (c : ℕ) (notes : List Note) → IsEngine old → Stays old new
-    → LinksPumped (topology_of old.broker) (broker_of old.broker) c old.links notes (broker_of new.broker) new.links → IsEngine new
+    → LinksPumped (topology_kept old.broker) (broker_of old.broker) c old.links notes (broker_of new.broker) new.links → IsEngine new
 pumps_engine old new c notes e st p =
     let f = p.change in
     let done = pumps old new c notes e st p in
@@ -167,9 +167,9 @@ not_pumped old new c e st made p =
     let found = found_there old.links new.links c f e.links.rising in
     let b = becomes old new f.place f.old f.new st e.links.rising (output_changes old.links new.links c f (open_still old c new.links f e made)) in
     let sessions : (d : ℕ) → session_of (link_in new.links d) ≡ session_of (link_in old.links d) =
-    λ d. b.sessions d ∙ with_same (λ n. session_of (link_in old.links n)) f.old.number f.new.session (ap (λ (z : Link). z.session) f.rest ∙ sym (ap session_of found)) d in
+    λ d. b.sessions d ∙ with_same (λ n. session_of (link_in old.links n)) f.old.number f.new.session (ap (λ (z : Connected). z.session) f.rest ∙ sym (ap session_of found)) d in
     let wire : wire_of (Some f.new) ≡ wire_of (link_in old.links f.old.number) =
-    ap (λ (z : Link). wire_of (Some z)) f.rest ∙ output_alone (is_ended f.old.session.phase) f.old f.new.output
+    ap (λ (z : Connected). wire_of (Some z)) f.rest ∙ output_alone (is_ended f.old.session.phase) f.old f.new.output
     ∙ ap (λ (z : List ℕ). record (wire_of (Some f.old)) { output = z }) (p.output ∙ sym (output_in (is_ended f.old.session.phase) f.old)) ∙ sym (ap wire_of found) in
     record {
       config = same_config old new f.old f.new b;
@@ -187,7 +187,7 @@ not_pumped_engine old new c e st made p =
 
 -- every engine stays one
 pumped_engine : {V E : Type 0} (r : Result V E) (notes : V → List Note) (old new : Parts) (c : ℕ) → IsEngine old → Stays old new → CanDeliver (broker_of old.broker) c
-    → IfOk r (λ v. LinksPumped (topology_of old.broker) (broker_of old.broker) c old.links (notes v) (broker_of new.broker) new.links)
+    → IfOk r (λ v. LinksPumped (topology_kept old.broker) (broker_of old.broker) c old.links (notes v) (broker_of new.broker) new.links)
     → OnErr r (LinksNotPumped (broker_of old.broker) c old.links (broker_of new.broker) new.links) → IsEngine new
 pumped_engine (Ok v) notes old new c e st made ok err = pumps_engine old new c (notes v) e st ok
 pumped_engine (Err x) notes old new c e st made ok err = not_pumped_engine old new c e st made err
@@ -198,7 +198,7 @@ picked_engine : (old : Parts) (b : Kept) → b ≡ old.broker → IsEngine old �
 picked_engine old b same e = subst (λ (k : Kept). IsEngine (record old { broker = k })) (sym same) e
 
 pub picked_pumps : (old new : Parts) (b : Kept) (c : ℕ) (notes : List Note) → IsEngine old → b ≡ old.broker → Stays (record old { broker = b }) new
-    → LinksPumped (topology_of b) (broker_of b) c old.links notes (broker_of new.broker) new.links → IsPump (world_of old) notes (world_of new)
+    → LinksPumped (topology_kept b) (broker_of b) c old.links notes (broker_of new.broker) new.links → IsPump (world_of old) notes (world_of new)
 picked_pumps old new b c notes e same st p =
     subst (λ (k : Kept). IsPump (world_of (record old { broker = k })) notes (world_of new)) same (pumps (record old { broker = b }) new c notes (picked_engine old b same e) st p)
 
@@ -209,11 +209,11 @@ picked_not old new b c e same st made p =
     (not_pumped (record old { broker = b }) new c (picked_engine old b same e) st (subst (λ (k : Kept). CanDeliver (broker_of k) c) (sym same) made) p)
 
 pub picked_stays : {V E : Type 0} (r : Result V E) (notes : V → List Note) (old new : Parts) (b : Kept) (c : ℕ) → IsEngine old → b ≡ old.broker → Stays (record old { broker = b }) new → CanDeliver (broker_of old.broker) c
-    → IfOk r (λ v. LinksPumped (topology_of b) (broker_of b) c old.links (notes v) (broker_of new.broker) new.links)
+    → IfOk r (λ v. LinksPumped (topology_kept b) (broker_of b) c old.links (notes v) (broker_of new.broker) new.links)
     → OnErr r (LinksNotPumped (broker_of b) c old.links (broker_of new.broker) new.links) → IsEngine new
 picked_stays r notes old new b c e same st made ok err =
     pumped_engine r notes (record old { broker = b }) new c (picked_engine old b same e) st (subst (λ (k : Kept). CanDeliver (broker_of k) c) (sym same) made) ok err
 
 -- nothing can be delivered, and the engine is as before
 pub picked_none : (old : Parts) (b : Kept) → b ≡ old.broker → NoneCanDeliver (world_of old) → Idles (world_of old) (world_of (record old { broker = b }))
-picked_none old b same none = (none, world_stays old (record old { broker = b }) (record { topology = ap topology_of same; guarantees = refl; users = refl; given = refl }) (ap broker_of same) refl)
+picked_none old b same none = (none, world_stays old (record old { broker = b }) (record { topology = ap topology_kept same; guarantees = refl; users = refl; given = refl }) (ap broker_of same) refl)

@@ -25,17 +25,17 @@ use Rattle.model.specs.declared.events.Command.TheVariants.{Head, Plain, Full, T
 use Rattle.model.specs.declared.events.Event.{Event}
 use Rattle.model.specs.declared.events.Event.TheVariants as event
 use Rattle.assembly.specs.Held.{stream_of}
-use Rattle.broker_core.specs.State.{topology_of, broker_of}
+use Rattle.broker_core.specs.State.{topology_kept, broker_of}
 use Rattle.engine.specs.Performing.{rules_of, DecidesByPhase, ByBroker, ByPhase, session_after, PausesOr}
 use Rattle.engine.specs.Reading.{kept_of}
 use Rattle.engine.specs.Turning.{LinkDid, LinkWaits}
-use Rattle.outputs.specs.Waiting.{Waiting}
+use Rattle.outputs.specs.Waiting.{WaitingBytes}
 use Rattle.engine.specs.World.{Parts, link_in, session_of, wire_in, wire_of, config_of, state_of, world_of}
 use Rattle.engine.specs.Engines.{Becomes, LinkSent, LinkFed}
 use Rattle.engine.proofs.Changed.{either}
 use Rattle.runs.proofs.Worlds.{world_same}
 use Rattle.runs.specs.Opened.{Hears}
-use Rattle.engine.specs.declared.link.Link.{Link}
+use Rattle.engine.specs.declared.connected.Connected.{Connected}
 
 -- ---- what one connection does is a step
 
@@ -138,28 +138,28 @@ at_own f n a = ap (λ (b : Bool). cond b a (f n)) (eq-eqb n n refl)
 pub at_others : {A : Type 0} (f : ℕ → A) (n d : ℕ) (a : A) → d ≢ n → with_one f n a d ≡ f d
 at_others f n d a ne = ap (λ (b : Bool). cond b a (f d)) (Rattle.engine.proofs.Numbered.other_false d n ne)
 
-pub same_config : (old new : Parts) (l l' : Link) → Becomes old l l' new → config_of new ≡ config_of old
+pub same_config : (old new : Parts) (l l' : Connected) → Becomes old l l' new → config_of new ≡ config_of old
 same_config old new l l' b = λ i. record { topology = b.topology i; guarantees = b.guarantees i; users = b.users i }
 
 -- of one that is awake, the connection's own fields are what its world shows
-wire_open : (b : Bool) (l : Link) → b ≡ false → wire_in b l ≡ record { kept = kept_of l.kept; stream = stream_of l.stream; output = l.output.bytes }
+wire_open : (b : Bool) (l : Connected) → b ≡ false → wire_in b l ≡ record { kept = kept_of l.kept; stream = stream_of l.stream; output = l.output.bytes }
 wire_open false l e = refl
 wire_open true l e = absurd (Rattle.std.proofs.lemmas.Bool.false≢true (sym e))
 
-pub output_in : (b : Bool) (l : Link) → (wire_in b l).output ≡ l.output.bytes
+pub output_in : (b : Bool) (l : Connected) → (wire_in b l).output ≡ l.output.bytes
 output_in true l = refl
 output_in false l = refl
 
 -- after a turn nothing is kept, and the stream is what follows, unless the connection is over
-wire_left : (b : Bool) (l : Link) (next : Stream) → l.kept ≡ None → (stream_of l.stream ≡ next) ⊎ (b ≡ true)
+wire_left : (b : Bool) (l : Connected) (next : Stream) → l.kept ≡ None → (stream_of l.stream ≡ next) ⊎ (b ≡ true)
     → wire_in b l ≡ (if b then record new_wire { output = l.output.bytes } else record { kept = None; stream = next; output = l.output.bytes })
 wire_left true l next k f = refl
 wire_left false l next k (inl f) = λ i. record { kept = kept_of (k i); stream = f i; output = l.output.bytes }
 wire_left false l next k (inr f) = absurd (Rattle.std.proofs.lemmas.Bool.false≢true f)
 
-pub turned : (old new : Parts) (l l' : Link) (notes : List Note) → Becomes old l l' new → link_in old.links l.number ≡ Some l
+pub turned : (old new : Parts) (l l' : Connected) (notes : List Note) → Becomes old l l' new → link_in old.links l.number ≡ Some l
     → is_ended l.session.phase ≡ false → is_past_bound l.output.bytes ≡ false
-    → LinkDid (rules_of (topology_of old.broker) old.users) (broker_of old.broker) l notes (broker_of new.broker) l'
+    → LinkDid (rules_of (topology_kept old.broker) old.users) (broker_of old.broker) l notes (broker_of new.broker) l'
     → (hs : List Happening) × (notes ≡ notes_of hs) × Turns (world_of old) l.number hs (world_of new)
 turned old new l l' notes b found open_still below did =
     let c = l.number in
@@ -220,11 +220,11 @@ same_to_come None s = waits stays
 same_to_come (Some m) s = still
 
 -- what a connection has still to say, in the world
-coming_in : (b : Bool) (l l' : Link) → SameToCome (kept_of l.kept) (stream_of l.stream) (kept_of l'.kept) (stream_of l'.stream) → SameToCome (wire_in b l).kept (wire_in b l).stream (wire_in b l').kept (wire_in b l').stream
+coming_in : (b : Bool) (l l' : Connected) → SameToCome (kept_of l.kept) (stream_of l.stream) (kept_of l'.kept) (stream_of l'.stream) → SameToCome (wire_in b l).kept (wire_in b l).stream (wire_in b l').kept (wire_in b l').stream
 coming_in true l l' s = same_to_come None running_stream
 coming_in false l l' s = s
 
-pub waited : (old new : Parts) (l l' : Link) → Becomes old l l' new → link_in old.links l.number ≡ Some l → LinkWaits (broker_of old.broker) l (broker_of new.broker) l' → Waits (world_of old) l.number (world_of new)
+pub waited : (old new : Parts) (l l' : Connected) → Becomes old l l' new → link_in old.links l.number ≡ Some l → LinkWaits (broker_of old.broker) l (broker_of new.broker) l' → Waits (world_of old) l.number (world_of new)
 waited old new l l' b found w =
     let c = l.number in
     let sessions : (d : ℕ) → session_of (link_in new.links d) ≡ session_of (link_in old.links d) =
@@ -243,7 +243,7 @@ waited old new l l' b found w =
           (coming_in (is_ended l.session.phase) l l' w.coming));
     }
 
-pub idle : (old : Parts) (l : Link) → link_in old.links l.number ≡ Some l → l.kept ≡ None → Ends (stream_of l.stream) None → is_ended l.session.phase ≡ false → IsIdle (world_of old) l.number
+pub idle : (old : Parts) (l : Connected) → link_in old.links l.number ≡ Some l → l.kept ≡ None → Ends (stream_of l.stream) None → is_ended l.session.phase ≡ false → IsIdle (world_of old) l.number
 idle old l found none ends open_still =
     let wire_was : wire_of (link_in old.links l.number) ≡ record { kept = kept_of l.kept; stream = stream_of l.stream; output = l.output.bytes } = ap wire_of found ∙ wire_open _ l open_still in
     record {
@@ -253,8 +253,8 @@ idle old l found none ends open_still =
 
 -- ---- output was taken
 
-pub taken : (old new : Parts) (l l' : Link) (n : ℕ) → Becomes old l l' new → link_in old.links l.number ≡ Some l
-    → LinkSent (topology_of old.broker) (broker_of old.broker) l n (broker_of new.broker) l'
+pub taken : (old new : Parts) (l l' : Connected) (n : ℕ) → Becomes old l l' new → link_in old.links l.number ≡ Some l
+    → LinkSent (topology_kept old.broker) (broker_of old.broker) l n (broker_of new.broker) l'
     → (hs : List Happening) × Takes_off (world_of old) l.number n hs (world_of new)
 taken old new l l' n b found s =
     let c = l.number in
@@ -278,13 +278,13 @@ taken old new l l' n b found s =
       },
     )
   where
-    drop_in : (b : Bool) (l l' : Link) (n : ℕ) → LinkSent (topology_of old.broker) (broker_of old.broker) l n (broker_of new.broker) l' → wire_in b l' ≡ record (wire_in b l) { output = drop n (wire_in b l).output }
+    drop_in : (b : Bool) (l l' : Connected) (n : ℕ) → LinkSent (topology_kept old.broker) (broker_of old.broker) l n (broker_of new.broker) l' → wire_in b l' ≡ record (wire_in b l) { output = drop n (wire_in b l).output }
     drop_in true l l' n s = λ i. record new_wire { output = s.output i }
     drop_in false l l' n s = λ i. record { kept = kept_of (s.kept i); stream = stream_of (s.stream i); output = s.output i }
 
 -- ---- bytes were heard
 
-pub hears : (old new : Parts) (l l' : Link) (bytes : List ℕ) → Becomes old l l' new → link_in old.links l.number ≡ Some l → broker_of new.broker ≡ broker_of old.broker → LinkFed l bytes l'
+pub hears : (old new : Parts) (l l' : Connected) (bytes : List ℕ) → Becomes old l l' new → link_in old.links l.number ≡ Some l → broker_of new.broker ≡ broker_of old.broker → LinkFed l bytes l'
     → Hears (world_of old) l.number bytes (world_of new)
 hears old new l l' bytes b found same fed = go (is_ended l.session.phase) refl
   where
@@ -295,7 +295,7 @@ hears old new l l' bytes b found same fed = go (is_ended l.session.phase) refl
     phase = ap (λ (z : Session). is_ended z.phase) fed.session
 
     over_was : is_over (world_of old) l.number ≡ is_ended l.session.phase
-    over_was = ap (λ (o : Option Link). is_ended (session_of o).phase) found
+    over_was = ap (λ (o : Option Connected). is_ended (session_of o).phase) found
 
     state_same : state_of new ≡ state_of old
     state_same = λ i. record { broker = same i; session = λ d. sessions d i }
@@ -307,7 +307,7 @@ hears old new l l' bytes b found same fed = go (is_ended l.session.phase) refl
           state = state_same;
           given = b.given;
           wires = λ d. b.wires d ∙ with_same (λ k. wire_of (link_in old.links k)) l.number (wire_of (Some l'))
-              (ap (λ (v : Bool). wire_in v l') (phase ∙ e) ∙ ap (λ (z : List ℕ). record new_wire { output = z }) (ap (λ (o : Waiting). o.bytes) fed.output) ∙ sym (ap wire_of found ∙ ap (λ (v : Bool). wire_in v l) e)) d;
+              (ap (λ (v : Bool). wire_in v l') (phase ∙ e) ∙ ap (λ (z : List ℕ). record new_wire { output = z }) (ap (λ (o : WaitingBytes). o.bytes) fed.output) ∙ sym (ap wire_of found ∙ ap (λ (v : Bool). wire_in v l) e)) d;
         })
     go false e = subst (λ (v : Bool). MatchBool v (Same (world_of old) (world_of new)) (world_of new ≡ with_heard (world_of old) l.number bytes)) (sym (over_was ∙ e))
         (world_same (with_heard (world_of old) l.number bytes) (world_of new) (record {
@@ -325,8 +325,8 @@ hears old new l l' bytes b found same fed = go (is_ended l.session.phase) refl
 
 -- ---- a loss
 
-pub lost : (old new : Parts) (c : ℕ) → topology_of new.broker ≡ topology_of old.broker → new.guarantees ≡ old.guarantees → new.users ≡ old.users → new.given ≡ old.given
-    → Acts (topology_of old.broker) (broker_of old.broker) (event.Lose c) [] [] (broker_of new.broker)
+pub lost : (old new : Parts) (c : ℕ) → topology_kept new.broker ≡ topology_kept old.broker → new.guarantees ≡ old.guarantees → new.users ≡ old.users → new.given ≡ old.given
+    → Acts (topology_kept old.broker) (broker_of old.broker) (event.Lose c) [] [] (broker_of new.broker)
     → ((d : ℕ) → link_in new.links d ≡ (if c == d then None else link_in old.links d))
     → (hs : List Happening) × Loses (world_of old) c hs (world_of new)
 lost old new c t g u n acts links =
@@ -343,5 +343,5 @@ lost old new c t g u n acts links =
       },
     )
   where
-    at_or : {A : Type 0} (F : Option Link → A) (d : ℕ) → link_in new.links d ≡ cond (c == d) None (link_in old.links d) → F (link_in new.links d) ≡ with_one (λ k. F (link_in old.links k)) c (F None) d
+    at_or : {A : Type 0} (F : Option Connected → A) (d : ℕ) → link_in new.links d ≡ cond (c == d) None (link_in old.links d) → F (link_in new.links d) ≡ with_one (λ k. F (link_in old.links k)) c (F None) d
     at_or F d e = either F old.links new.links c d None e

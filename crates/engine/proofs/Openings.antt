@@ -15,21 +15,21 @@ use Rattle.model.specs.Guarantee.{Guarantee}
 use Rattle.model.specs.Arrivals.{Wire, new_wire, new_world, is_ended, can_open, standing, Same}
 use Rattle.model.specs.declared.events.Event.{Event}
 use Rattle.model.specs.declared.events.Event.TheVariants as event
-use Rattle.broker_core.specs.State.{topology_of, broker_of, nothing}
+use Rattle.broker_core.specs.State.{topology_kept, broker_of, nothing}
 use Rattle.runs.specs.Opened.{IsOpened}
 use Rattle.engine.specs.Reading.{IsKeptEvent, kept_of}
 use Rattle.engine.specs.World.{Parts, link_in, session_of, wire_in, wire_of, config_of, state_of, world_of, AreLinks, IsLink, IsNew, IsEngine}
 use Rattle.engine.specs.Opening.{Numbers, OpenedBy}
 use Rattle.engine.specs.declared.engines.Refused.{Refused}
 use Rattle.engine.specs.declared.engines.Refused.TheVariants.{Full, Spent, Memory}
-use Rattle.engine.specs.declared.link.Link.{Link}
+use Rattle.engine.specs.declared.connected.Connected.{Connected}
 use Rattle.engine.proofs.Numbered.{link_in-push, rising-push, other_false}
 use Rattle.engine.proofs.Standing.{standing_is}
 use Rattle.engine.proofs.Agreeing.{Agrees}
 use Rattle.engine.proofs.Asked.{is_same}
 use Rattle.engine.proofs.Changed.{either}
 
-pub no_connection : (p : Parts) (f : Config) → topology_of p.broker ≡ f.topology → p.guarantees ≡ f.guarantees → p.users ≡ f.users → p.given ≡ 0 → p.links ≡ [] → Is nothing (broker_of p.broker) → world_of p ≡ new_world f
+pub no_connection : (p : Parts) (f : Config) → topology_kept p.broker ≡ f.topology → p.guarantees ≡ f.guarantees → p.users ≡ f.users → p.given ≡ 0 → p.links ≡ [] → Is nothing (broker_of p.broker) → world_of p ≡ new_world f
 no_connection p f t g u n ls is = λ i. record {
   config = record { topology = t i; guarantees = g i; users = u i };
   state = record {
@@ -41,27 +41,27 @@ no_connection p f t g u n ls is = λ i. record {
 }
 
 -- numbers are at most as many as were given
-below : (given n : ℕ) (ls : List Link) → given < n → AllByRecursion (IsLink given) ls → AllByRecursion (λ (l : Link). l.number < n) ls
+below : (given n : ℕ) (ls : List Connected) → given < n → AllByRecursion (IsLink given) ls → AllByRecursion (λ (l : Connected). l.number < n) ls
 below given n [] lt a = tt
 below given n (l ∷ ls) lt a = (let w = a.0.within in omega (arith, lt, w), below given n ls lt a.1)
 
-wider : (given : ℕ) (ls : List Link) → AllByRecursion (IsLink given) ls → AllByRecursion (IsLink (given + 1)) ls
+wider : (given : ℕ) (ls : List Connected) → AllByRecursion (IsLink given) ls → AllByRecursion (IsLink (given + 1)) ls
 wider given [] a = tt
 wider given (l ∷ ls) a = (record { within = (let w = a.0.within in omega (arith, w)); here = a.0.here; kept = a.0.kept }, wider given ls a.1)
 
-all-push : (P : Link → Type 0) (ls : List Link) (x : Link) → AllByRecursion P ls → P x → AllByRecursion P (ls ++ x ∷ [])
+all-push : (P : Connected → Type 0) (ls : List Connected) (x : Connected) → AllByRecursion P ls → P x → AllByRecursion P (ls ++ x ∷ [])
 all-push P [] x a p = (p, tt)
 all-push P (y ∷ ys) x a p = (a.0, all-push P ys x a.1 p)
 
 -- no connection has a number that was not given
-none_above : (given : ℕ) (ls : List Link) (c : ℕ) → AllByRecursion (IsLink given) ls → given < c → link_in ls c ≡ None
+none_above : (given : ℕ) (ls : List Connected) (c : ℕ) → AllByRecursion (IsLink given) ls → given < c → link_in ls c ≡ None
 none_above given [] c a lt = refl
 none_above given (l ∷ ls) c a lt =
     ap (λ (b : Bool). cond b (Some l) (link_in ls c)) (other_false l.number c (λ k. let w = a.0.within in omega (arith, w, lt, k))) ∙ none_above given ls c a.1 lt
 
 -- One more connection stands, under the next number, in this session and with this stream: it is not over.
-pub record IsOneMore (old new : Parts) (l : Link) (session : Session) (stream : Stream) : Type 0 where
-  pub topology : topology_of new.broker ≡ topology_of old.broker
+pub record IsOneMore (old new : Parts) (l : Connected) (session : Session) (stream : Stream) : Type 0 where
+  pub topology : topology_kept new.broker ≡ topology_kept old.broker
   pub guarantees : new.guarantees ≡ old.guarantees
   pub users : new.users ≡ old.users
   pub given : new.given ≡ old.given + 1
@@ -69,7 +69,7 @@ pub record IsOneMore (old new : Parts) (l : Link) (session : Session) (stream : 
   pub is : IsNew l (old.given + 1) session stream
   pub awake : is_ended session.phase ≡ false
 
-links_opened : (given : ℕ) (ls : List Link) (l : Link) (sess : Session) (st : Stream) → AreLinks given ls → IsNew l (given + 1) sess st → is_ended sess.phase ≡ false → AreLinks (given + 1) (ls ++ l ∷ [])
+links_opened : (given : ℕ) (ls : List Connected) (l : Connected) (sess : Session) (st : Stream) → AreLinks given ls → IsNew l (given + 1) sess st → is_ended sess.phase ≡ false → AreLinks (given + 1) (ls ++ l ∷ [])
 links_opened given ls l sess st a is awake = record {
   rising = rising-push 0 ls l a.rising (let n = is.number_is in omega (arith, n)) (below given l.number ls (let n = is.number_is in omega (arith, n)) a.each);
   each = all-push (IsLink (given + 1)) ls l (wider given ls a.each) (record {
@@ -79,25 +79,25 @@ links_opened given ls l sess st a is awake = record {
   });
 }
 
-wire_new : (l : Link) (n : ℕ) (sess : Session) (st : Stream) → IsNew l n sess st → is_ended sess.phase ≡ false → wire_of (Some l) ≡ record new_wire { stream = st }
+wire_new : (l : Connected) (n : ℕ) (sess : Session) (st : Stream) → IsNew l n sess st → is_ended sess.phase ≡ false → wire_of (Some l) ≡ record new_wire { stream = st }
 wire_new l n sess st is awake =
     ap (λ (s : Session). wire_in (is_ended s.phase) l) is.session_is
     ∙ ap (λ (b : Bool). wire_in b l) awake
     ∙ (λ i. record { kept = kept_of (is.kept i); stream = is.stream_is i; output = is.output i })
 
 -- it is found by its number, and the others stay
-found_new : (old new : Parts) (l : Link) (sess : Session) (st : Stream) → AreLinks old.given old.links → IsOneMore old new l sess st → (d : ℕ) → link_in new.links d ≡ cond (l.number == d) (Some l) (link_in old.links d)
+found_new : (old new : Parts) (l : Connected) (sess : Session) (st : Stream) → AreLinks old.given old.links → IsOneMore old new l sess st → (d : ℕ) → link_in new.links d ≡ cond (l.number == d) (Some l) (link_in old.links d)
 found_new old new l sess st a m d =
-    ap (λ (z : List Link). link_in z d) m.links ∙ link_in-push old.links l d (below old.given l.number old.links (let e = m.is.number_is in omega (arith, e)) a.each)
+    ap (λ (z : List Connected). link_in z d) m.links ∙ link_in-push old.links l d (below old.given l.number old.links (let e = m.is.number_is in omega (arith, e)) a.each)
 
-sessions_are : (old new : Parts) (l : Link) (sess : Session) (st : Stream) → AreLinks old.given old.links → IsOneMore old new l sess st
+sessions_are : (old new : Parts) (l : Connected) (sess : Session) (st : Stream) → AreLinks old.given old.links → IsOneMore old new l sess st
     → (d : ℕ) → session_of (link_in new.links d) ≡ with_one (λ c. session_of (link_in old.links c)) (old.given + 1) sess d
 sessions_are old new l sess st a m d =
     either session_of old.links new.links l.number d (Some l) (found_new old new l sess st a m d)
     ∙ ap (λ (s : Session). with_one (λ c. session_of (link_in old.links c)) l.number s d) m.is.session_is
     ∙ ap (λ (c : ℕ). with_one (λ c. session_of (link_in old.links c)) c sess d) m.is.number_is
 
-wires_are : (old new : Parts) (l : Link) (sess : Session) (st : Stream) → AreLinks old.given old.links → IsOneMore old new l sess st
+wires_are : (old new : Parts) (l : Connected) (sess : Session) (st : Stream) → AreLinks old.given old.links → IsOneMore old new l sess st
     → (d : ℕ) → wire_of (link_in new.links d) ≡ with_one (λ c. wire_of (link_in old.links c)) (old.given + 1) (record new_wire { stream = st }) d
 wires_are old new l sess st a m d =
     either wire_of old.links new.links l.number d (Some l) (found_new old new l sess st a m d)
@@ -110,20 +110,20 @@ can_open_is p a few left = let same = standing_is p a in grind (arith, nat_tests
 -- ---- what happens then
 
 -- no byte of it has come, and the broker is as before
-pub steps_new : (old new : Parts) (l : Link) → AreLinks old.given old.links → IsOneMore old new l new_session new_stream → broker_of new.broker ≡ broker_of old.broker
+pub steps_new : (old new : Parts) (l : Connected) → AreLinks old.given old.links → IsOneMore old new l new_session new_stream → broker_of new.broker ≡ broker_of old.broker
     → Step (config_of old) (state_of old) (event.Open (old.given + 1)) [] [] (state_of new)
 steps_new old new l a m same = record {
-  free = ap (λ (o : Option Link). (session_of o).phase) (none_above old.given old.links (old.given + 1) a.each (omega arith));
+  free = ap (λ (o : Option Connected). (session_of o).phase) (none_above old.given old.links (old.given + 1) a.each (omega arith));
   steps = record { acts = record { sent = refl; noted = refl; left = subst (λ (b : Broker). Is (broker_of old.broker) b) (sym same) (is_same (broker_of old.broker)) }; session = sessions_are old new l new_session new_stream a m };
 }
 
 -- it runs at once, and is one of the broker's
-pub steps_ready : (old new : Parts) (l : Link) (k : ℕ) → AreLinks old.given old.links → IsOneMore old new l running_session running_stream
-    → Acts (topology_of old.broker) (broker_of old.broker) (event.Running (old.given + 1) 255 k) [] [] (broker_of new.broker)
+pub steps_ready : (old new : Parts) (l : Connected) (k : ℕ) → AreLinks old.given old.links → IsOneMore old new l running_session running_stream
+    → Acts (topology_kept old.broker) (broker_of old.broker) (event.Running (old.given + 1) 255 k) [] [] (broker_of new.broker)
     → Step (config_of old) (state_of old) (event.Running (old.given + 1) 255 k) [] [] (state_of new)
 steps_ready old new l k a m acts = record { acts = acts; session = sessions_are old new l running_session running_stream a m }
 
-pub opened : (old new : Parts) (l : Link) (e : Event) (sess : Session) (st : Stream) → AreLinks old.given old.links → length old.links < 1024 → old.given < 18446744073709551615 → IsOneMore old new l sess st
+pub opened : (old new : Parts) (l : Connected) (e : Event) (sess : Session) (st : Stream) → AreLinks old.given old.links → length old.links < 1024 → old.given < 18446744073709551615 → IsOneMore old new l sess st
     → Step (config_of old) (state_of old) e [] [] (state_of new) → IsOpened e st (world_of old) (Some (old.given + 1)) (world_of new)
 opened old new l e sess st a few left m stepped =
     let h : Happening = record { config = config_of old; event = e; before = state_of old; sends = []; notes = []; frame_max = 0; after = state_of new } in (
@@ -144,27 +144,27 @@ opened old new l e sess st a few left m stepped =
     )
 
 -- so it is under the number that was found
-pub opened_new : (old new : Parts) (l : Link) (n : ℕ) → AreLinks old.given old.links → Numbers old.given old.links (Ok n) → IsOneMore old new l new_session new_stream → broker_of new.broker ≡ broker_of old.broker
+pub opened_new : (old new : Parts) (l : Connected) (n : ℕ) → AreLinks old.given old.links → Numbers old.given old.links (Ok n) → IsOneMore old new l new_session new_stream → broker_of new.broker ≡ broker_of old.broker
     → IsOpened (event.Open (old.given + 1)) new_stream (world_of old) (Some n) (world_of new)
 opened_new old new l n a numbers m same =
     subst (λ (k : ℕ). IsOpened (event.Open (old.given + 1)) new_stream (world_of old) (Some k) (world_of new)) (sym numbers.0)
     (opened old new l (event.Open (old.given + 1)) new_session new_stream a numbers.1 numbers.2 m (steps_new old new l a m same))
 
-pub opened_ready : (old new : Parts) (l : Link) (n k : ℕ) → AreLinks old.given old.links → Numbers old.given old.links (Ok n) → IsOneMore old new l running_session running_stream
-    → Acts (topology_of old.broker) (broker_of old.broker) (event.Running n 255 k) [] [] (broker_of new.broker)
+pub opened_ready : (old new : Parts) (l : Connected) (n k : ℕ) → AreLinks old.given old.links → Numbers old.given old.links (Ok n) → IsOneMore old new l running_session running_stream
+    → Acts (topology_kept old.broker) (broker_of old.broker) (event.Running n 255 k) [] [] (broker_of new.broker)
     → IsOpened (event.Running (old.given + 1) 255 k) running_stream (world_of old) (Some n) (world_of new)
 opened_ready old new l n k a numbers m acts =
-    let here : Acts (topology_of old.broker) (broker_of old.broker) (event.Running (old.given + 1) 255 k) [] [] (broker_of new.broker) =
-    subst (λ (c : ℕ). Acts (topology_of old.broker) (broker_of old.broker) (event.Running c 255 k) [] [] (broker_of new.broker)) numbers.0 acts in
+    let here : Acts (topology_kept old.broker) (broker_of old.broker) (event.Running (old.given + 1) 255 k) [] [] (broker_of new.broker) =
+    subst (λ (c : ℕ). Acts (topology_kept old.broker) (broker_of old.broker) (event.Running c 255 k) [] [] (broker_of new.broker)) numbers.0 acts in
     subst (λ (c : ℕ). IsOpened (event.Running (old.given + 1) 255 k) running_stream (world_of old) (Some c) (world_of new)) (sym numbers.0)
     (opened old new l (event.Running (old.given + 1) 255 k) running_session running_stream a numbers.1 numbers.2 m (steps_ready old new l k a m here))
 
-pub engine_opened : (old new : Parts) (l : Link) (sess : Session) (st : Stream) → IsEngine old → IsOneMore old new l sess st → Agrees (world_of new) → IsEngine new
+pub engine_opened : (old new : Parts) (l : Connected) (sess : Session) (st : Stream) → IsEngine old → IsOneMore old new l sess st → Agrees (world_of new) → IsEngine new
 engine_opened old new l sess st e m k = record {
-  hold = subst (λ (gs : List Guarantee). Rattle.model.specs.Guarantee.AllHold (topology_of new.broker) gs) (sym m.guarantees)
+  hold = subst (λ (gs : List Guarantee). Rattle.model.specs.Guarantee.AllHold (topology_kept new.broker) gs) (sym m.guarantees)
       (subst (λ (x : Topology). Rattle.model.specs.Guarantee.AllHold x old.guarantees) (sym m.topology) e.hold);
   formed = subst (λ (x : Topology). Rattle.model.specs.Topology.IsWellFormed x) (sym m.topology) e.formed;
-  links = subst (λ (k : ℕ). AreLinks k new.links) (sym m.given) (subst (λ (z : List Link). AreLinks (old.given + 1) z) (sym m.links) (links_opened old.given old.links l sess st e.links m.is m.awake));
+  links = subst (λ (k : ℕ). AreLinks k new.links) (sym m.given) (subst (λ (z : List Connected). AreLinks (old.given + 1) z) (sym m.links) (links_opened old.given old.links l sess st e.links m.is m.awake));
   consistent = k.consistent;
   named = k.named;
 }

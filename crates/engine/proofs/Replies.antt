@@ -12,10 +12,10 @@ use Rattle.model.specs.declared.events.Event.{Event}
 use Rattle.model.specs.declared.events.Event.TheVariants as event
 use Rattle.laws.proofs.Sent.{sends_are_own}
 use Rattle.replies.specs.Sent.{connection_of_event}
-use Rattle.engine.specs.Performing.{IsAsked}
+use Rattle.engine.specs.Performing.{IsAskedBy}
 
 -- what is asked is asked by its own connection
-asked_by : (c : ℕ) (e : Event) → IsAsked c e → connection_of_event e ≡ c
+asked_by : (c : ℕ) (e : Event) → IsAskedBy c e → connection_of_event e ≡ c
 asked_by c (event.First d bytes) is = is
 asked_by c (event.Command d h m content) is = is
 asked_by c (event.TooLarge d h) is = is
@@ -28,7 +28,7 @@ asked_by c (event.Resume d) is = absurd is
 asked_by c (event.Deliver d) is = absurd is
 
 pub broker_sends : (t : Topology) (old new : Broker) (c : ℕ) (e : Event) (sends : List Send) (notes : List Note)
-    → IsAsked c e → IsSaid e → AreCarried old → Acts t old e sends notes new → AllByRecursion (IsAddressed (connection_of_event e)) sends → AreOwn c sends
+    → IsAskedBy c e → IsSaid e → AreCarried old → Acts t old e sends notes new → AllByRecursion (IsAddressed (connection_of_event e)) sends → AreOwn c sends
 broker_sends t old new c e sends notes is said carried acts at =
     sends_are_own t old new c e sends notes said carried acts (subst (λ (d : ℕ). AllByRecursion (IsAddressed d) sends) (asked_by c e is) at)
 

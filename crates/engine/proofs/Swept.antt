@@ -4,24 +4,24 @@ use Rattle.std.specs.Prelude.{IfOk, OnErr}
 use Rattle.engine.specs.Performing.{Rules}
 use Rattle.model.specs.Broker.{Broker}
 use Rattle.engine.specs.Reading.{IsKeptEvent}
-use Rattle.engine.specs.Turning.{LinkTook, LinkWaits, IsAwake}
+use Rattle.engine.specs.Turning.{LinkTook, LinkWaits, MayTurn}
 use Rattle.engine.specs.World.{is_link_gone}
 use Rattle.engine.specs.Engines.{Changes, IsSwept, LinkTookOr}
-use Rattle.engine.specs.declared.link.Link.{Link}
+use Rattle.engine.specs.declared.connected.Connected.{Connected}
 use Rattle.engine.specs.declared.turning.Turn.{Turn}
 
-at_set : (ls : List Link) (i : ℕ) (x d : Link) → i < length ls → get_or (set ls i x) i d ≡ x
+at_set : (ls : List Connected) (i : ℕ) (x d : Connected) → i < length ls → get_or (set ls i x) i d ≡ x
 at_set [] i x d lt = absurd (omega (arith, lt))
 at_set (y ∷ ys) zero x d lt = refl
 at_set (y ∷ ys) (suc i) x d lt = at_set ys i x d (omega (arith, lt))
 
-remove_set : (ls : List Link) (i : ℕ) (x : Link) → i < length ls → remove (set ls i x) i ≡ remove ls i
+remove_set : (ls : List Connected) (i : ℕ) (x : Connected) → i < length ls → remove (set ls i x) i ≡ remove ls i
 remove_set [] i x lt = absurd (omega (arith, lt))
 remove_set (y ∷ ys) zero x lt = refl
-remove_set (y ∷ ys) (suc i) x lt = ap (λ (z : List Link). y ∷ z) (remove_set ys i x (omega (arith, lt)))
+remove_set (y ∷ ys) (suc i) x lt = ap (λ (z : List Connected). y ∷ z) (remove_set ys i x (omega (arith, lt)))
 
-pub changes_swept : (ls : List Link) (i : ℕ) (old new : Link) (new_ls : List Link) → i < length ls → get_or ls i old ≡ old → new.number ≡ old.number → (IsKeptEvent old.number old.kept → IsKeptEvent new.number new.kept)
-    → ((l : Link) → get_or (set ls i new) i l ≡ l → IsSwept (set ls i new) i l new_ls) → Changes ls i old new new_ls
+pub changes_swept : (ls : List Connected) (i : ℕ) (old new : Connected) (new_ls : List Connected) → i < length ls → get_or ls i old ≡ old → new.number ≡ old.number → (IsKeptEvent old.number old.kept → IsKeptEvent new.number new.kept)
+    → ((l : Connected) → get_or (set ls i new) i l ≡ l → IsSwept (set ls i new) i l new_ls) → Changes ls i old new new_ls
 changes_swept ls i old new new_ls lt here number kept swept =
     let s = swept new (at_set ls i new new lt) in
     record {
@@ -29,10 +29,10 @@ changes_swept ls i old new new_ls lt here number kept swept =
       here = here;
       number = number;
       kept = kept;
-      left = s.left ∙ ap (λ (z : List Link). cond (is_link_gone new) z (set ls i new)) (remove_set ls i new lt);
+      left = s.left ∙ ap (λ (z : List Connected). cond (is_link_gone new) z (set ls i new)) (remove_set ls i new lt);
       over = s.over;
     }
 
-pub took_or : {E : Type 0} (r : Result Turn E) (t : Rules) (b : Broker) (old : Link) (new_b : Broker) (new : Link) → IfOk r (λ x. LinkTook t b old x new_b new) → OnErr r (LinkWaits b old new_b new) → OnErr r (IsAwake old) → LinkTookOr t b old r new_b new
+pub took_or : {E : Type 0} (r : Result Turn E) (t : Rules) (b : Broker) (old : Connected) (new_b : Broker) (new : Connected) → IfOk r (λ x. LinkTook t b old x new_b new) → OnErr r (LinkWaits b old new_b new) → OnErr r (MayTurn old) → LinkTookOr t b old r new_b new
 took_or (Ok x) t b old new_b new ok err awake = ok
 took_or (Err e) t b old new_b new ok err awake = record { awake = awake; waits = err }

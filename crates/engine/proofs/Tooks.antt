@@ -16,16 +16,16 @@ use Rattle.laws.proofs.Whole.{turn_keeps}
 use Rattle.runs.specs.Opened.{Hears, TakesAway, IsLost}
 use Rattle.runs.proofs.Worlds.{waits_not}
 use Rattle.assembly.specs.Held.{stream_of}
-use Rattle.broker_core.specs.State.{topology_of, broker_of}
+use Rattle.broker_core.specs.State.{topology_kept, broker_of}
 use Rattle.engine.specs.Reading.{kept_of, to_read}
 use Rattle.engine.specs.Turning.{LinkDid, LinkWaits, LinkSame}
 use Rattle.engine.specs.World.{Parts, link_in, session_of, wire_of, config_of, world_of, is_link_gone, AreLinks, AreRising, IsEngine}
-use Rattle.engine.specs.Engines.{Becomes, Changes, IsPlaceOf, LinkTookOr, LinksTook, LinksSent, LinkFed, LinksFed, Turned, OnDid, left_of, left_in}
-use Rattle.engine.specs.declared.link.Link.{Link}
+use Rattle.engine.specs.Engines.{Becomes, Changes, IsLinkPlace, LinkTookOr, LinksTook, LinksSent, LinkFed, LinksFed, Turned, OnDid, left_to_read, left_in}
+use Rattle.engine.specs.declared.connected.Connected.{Connected}
 use Rattle.engine.specs.declared.turning.Turn.{Turn}
 use Rattle.engine.specs.declared.turning.Turn.TheVariants as turn
 use Rattle.engine.proofs.Numbered.{link_in-place, link_in-remove, rising-remove, all-remove}
-use Rattle.engine.proofs.Standing.{gone_none, gone_some}
+use Rattle.engine.proofs.Standing.{gone_some}
 use Rattle.engine.proofs.Changed.{sessions_change, wires_change, links_change, left_change}
 use Rattle.engine.proofs.Turned.{same_coming}
 use Rattle.engine.proofs.Agreeing.{Agrees, agreed, same_agrees, hears_agrees, takes_off_agrees, loses_agrees, turn_agrees}
@@ -33,12 +33,12 @@ use Rattle.engine.proofs.Lifted.{turned, waited, idle, taken, hears, lost}
 
 -- all but the broker and the connections is as before
 pub record Stays (old new : Parts) : Type 0 where
-  pub topology : topology_of new.broker ≡ topology_of old.broker
+  pub topology : topology_kept new.broker ≡ topology_kept old.broker
   pub guarantees : new.guarantees ≡ old.guarantees
   pub users : new.users ≡ old.users
   pub given : new.given ≡ old.given
 
-pub becomes : (old new : Parts) (i : ℕ) (l l' : Link) → Stays old new → AreRising 0 old.links → Changes old.links i l l' new.links → Becomes old l l' new
+pub becomes : (old new : Parts) (i : ℕ) (l l' : Connected) → Stays old new → AreRising 0 old.links → Changes old.links i l l' new.links → Becomes old l l' new
 becomes old new i l l' st r ch = record {
   topology = st.topology;
   guarantees = st.guarantees;
@@ -53,7 +53,7 @@ sound p e = record { wf = e.formed; hold = e.hold }
 
 pub engine_with : (old new : Parts) → IsEngine old → Stays old new → AreLinks old.given new.links → Agrees (world_of new) → IsEngine new
 engine_with old new e st a k = record {
-  hold = subst (λ (g : List _). Rattle.model.specs.Guarantee.AllHold (topology_of new.broker) g) (sym st.guarantees)
+  hold = subst (λ (g : List _). Rattle.model.specs.Guarantee.AllHold (topology_kept new.broker) g) (sym st.guarantees)
       (subst (λ (t : Topology). Rattle.model.specs.Guarantee.AllHold t old.guarantees) (sym st.topology) e.hold);
   formed = subst (λ (t : Topology). Rattle.model.specs.Topology.IsWellFormed t) (sym st.topology) e.formed;
   links = subst (λ (n : ℕ). AreLinks n new.links) (sym st.given) a;
@@ -67,17 +67,17 @@ world_stays old new st broker links = record {
   config = λ i. record { topology = st.topology i; guarantees = st.guarantees i; users = st.users i };
   state = λ i. record { broker = broker i; session = λ c. session_of (link_in (links i) c) };
   given = st.given;
-  wires = λ d. ap (λ (z : List Link). wire_of (link_in z d)) links;
+  wires = λ d. ap (λ (z : List Connected). wire_of (link_in z d)) links;
 }
 
 -- every engine stays one
-pub engine_change : (old new : Parts) (i : ℕ) (l l' : Link) → IsEngine old → Stays old new → Changes old.links i l l' new.links → Agrees (world_of new) → IsEngine new
+pub engine_change : (old new : Parts) (i : ℕ) (l l' : Connected) → IsEngine old → Stays old new → Changes old.links i l l' new.links → Agrees (world_of new) → IsEngine new
 engine_change old new i l l' e st ch k = engine_with old new e st (links_change old.given old.links i l l' new.links e.links ch) k
 
 -- ---- turns
 
-same_waits : (b new_b : Broker) (l l' : Link) → LinkSame b l new_b l' → LinkWaits b l new_b l'
-same_waits b new_b l l' same = subst (λ (z : Link). LinkWaits b l new_b z) (sym same.link)
+same_waits : (b new_b : Broker) (l l' : Connected) → LinkSame b l new_b l' → LinkWaits b l new_b l'
+same_waits b new_b l l' same = subst (λ (z : Connected). LinkWaits b l new_b z) (sym same.link)
     (record { broker = same.broker; number = refl; session = refl; output = refl; coming = same_coming (kept_of l.kept) (stream_of l.stream) })
 
 left_less : (b : Bool) (m n : ℕ) → (m < n) ⊎ (b ≡ true) → cond b 0 (m + 1) < n + 1
@@ -85,11 +85,11 @@ left_less true m n f = omega arith
 left_less false m n (inl lt) = omega (arith, lt)
 left_less false m n (inr e) = absurd (false≢true e)
 
-did_less : (t : Rules) (b new_b : Broker) (l l' : Link) (notes : List Note) → is_ended l.session.phase ≡ false → LinkDid t b l notes new_b l' → left_of l' < left_of l
+did_less : (t : Rules) (b new_b : Broker) (l l' : Connected) (notes : List Note) → is_ended l.session.phase ≡ false → LinkDid t b l notes new_b l' → left_to_read l' < left_to_read l
 did_less t b new_b l l' notes open_still did =
     let reads : to_read (kept_of l'.kept) (stream_of l'.stream) ≡ to_read None (stream_of l'.stream) = ap (λ (k : Option Event). to_read (kept_of k) (stream_of l'.stream)) did.none_kept in
-    let was : left_of l ≡ to_read (kept_of l.kept) (stream_of l.stream) + 1 = ap (λ (v : Bool). cond v 0 (to_read (kept_of l.kept) (stream_of l.stream) + 1)) open_still in
-    subst (λ (n : ℕ). left_of l' < n) (sym was)
+    let was : left_to_read l ≡ to_read (kept_of l.kept) (stream_of l.stream) + 1 = ap (λ (v : Bool). cond v 0 (to_read (kept_of l.kept) (stream_of l.stream) + 1)) open_still in
+    subst (λ (n : ℕ). left_to_read l' < n) (sym was)
     (subst (λ (m : ℕ). cond (is_ended l'.session.phase) 0 (m + 1) < to_read (kept_of l.kept) (stream_of l.stream) + 1) (sym reads)
     (left_less (is_ended l'.session.phase) (to_read None (stream_of l'.stream)) (to_read (kept_of l.kept) (stream_of l.stream)) did.fewer))
 
@@ -100,11 +100,11 @@ pub record Outcome {E : Type 0} (old new : Parts) (c : ℕ) (what : Result Turn 
   pub err : OnErr what (Waits (world_of old) c (world_of new))
   pub awake : OnErr what (is_awake (world_of old) c ≡ true)
 
-over_is : (p : Parts) (l : Link) → link_in p.links l.number ≡ Some l → is_over (world_of p) l.number ≡ is_ended l.session.phase
-over_is p l found = ap (λ (o : Option Link). is_ended (session_of o).phase) found
+over_is : (p : Parts) (l : Connected) → link_in p.links l.number ≡ Some l → is_over (world_of p) l.number ≡ is_ended l.session.phase
+over_is p l found = ap (λ (o : Option Connected). is_ended (session_of o).phase) found
 
-paused_is : (p : Parts) (l : Link) → link_in p.links l.number ≡ Some l → is_paused (world_of p) l.number ≡ is_past_bound l.output.bytes
-paused_is p l found = ap is_past_bound (ap (λ (o : Option Link). (wire_of o).output) found ∙ Rattle.engine.proofs.Standing.output_in (is_ended l.session.phase) l)
+paused_is : (p : Parts) (l : Connected) → link_in p.links l.number ≡ Some l → is_paused (world_of p) l.number ≡ is_past_bound l.output.bytes
+paused_is p l found = ap is_past_bound (ap (λ (o : Option Connected). (wire_of o).output) found ∙ Rattle.engine.proofs.Standing.output_in (is_ended l.session.phase) l)
 
 -- a connection that is neither over nor paused is awake
 awake_is : (over paused : Bool) → over ≡ false → paused ≡ false → (not over && not paused) ≡ true
@@ -112,15 +112,15 @@ awake_is true paused e f = absurd (false≢true (sym e))
 awake_is false true e f = absurd (false≢true (sym f))
 awake_is false false e f = refl
 
-outcome : {E : Type 0} (old new : Parts) (i : ℕ) (l l' : Link) (what : Result Turn E) → IsEngine old → Stays old new → Changes old.links i l l' new.links
-    → LinkTookOr (rules_of (topology_of old.broker) old.users) (broker_of old.broker) l what (broker_of new.broker) l' → Outcome old new l.number what
+outcome : {E : Type 0} (old new : Parts) (i : ℕ) (l l' : Connected) (what : Result Turn E) → IsEngine old → Stays old new → Changes old.links i l l' new.links
+    → LinkTookOr (rules_of (topology_kept old.broker) old.users) (broker_of old.broker) l what (broker_of new.broker) l' → Outcome old new l.number what
 outcome old new i l l' (Ok (turn.Did notes)) e st ch t =
     let b = becomes old new i l l' st e.links.rising ch in
     let found = link_in-place 0 old.links i l e.links.rising ch.within ch.here in
     let done = turned old new l l' notes.items b found t.0 t.1 t.2 in
     record {
       ok = record { happenings = done.0; noted = done.1; turns = done.2; promises = turn_keeps (world_of old) (world_of new) l.number done.0 (sound old e) e.consistent done.2 };
-      fewer = left_change old.links i l l' new.links ch (did_less (rules_of (topology_of old.broker) old.users) (broker_of old.broker) (broker_of new.broker) l l' notes.items t.0 t.2);
+      fewer = left_change old.links i l l' new.links ch (did_less (rules_of (topology_kept old.broker) old.users) (broker_of old.broker) (broker_of new.broker) l l' notes.items t.0 t.2);
       err = tt;
       awake = tt;
     }
@@ -141,23 +141,23 @@ outcome old new i l l' (Err x) e st ch t =
     let found = link_in-place 0 old.links i l e.links.rising ch.within ch.here in
     record { ok = tt; fewer = tt; err = waited old new l l' b found t.waits; awake = awake_is (is_over (world_of old) l.number) (is_paused (world_of old) l.number) (over_is old l found ∙ t.awake.0) (paused_is old l found ∙ t.awake.1) }
 
-number_is : (ls : List Link) (c i : ℕ) (l : Link) → IsPlaceOf ls c (Some i) → get_or ls i l ≡ l → l.number ≡ c
-number_is ls c i l place here = sym (ap (λ (z : Link). z.number) here) ∙ place.1 l
+number_is : (ls : List Connected) (c i : ℕ) (l : Connected) → IsLinkPlace ls c (Some i) → get_or ls i l ≡ l → l.number ≡ c
+number_is ls c i l place here = sym (ap (λ (z : Connected). z.number) here) ∙ place.1 l
 
-pub took : {E : Type 0} (old new : Parts) (c i : ℕ) (what : Result Turn E) → IsEngine old → Stays old new → IsPlaceOf old.links c (Some i)
-    → LinksTook (rules_of (topology_of old.broker) old.users) (broker_of old.broker) old.links i what (broker_of new.broker) new.links → Outcome old new c what
+pub took : {E : Type 0} (old new : Parts) (c i : ℕ) (what : Result Turn E) → IsEngine old → Stays old new → IsLinkPlace old.links c (Some i)
+    → LinksTook (rules_of (topology_kept old.broker) old.users) (broker_of old.broker) old.links i what (broker_of new.broker) new.links → Outcome old new c what
 took old new c i what e st place t =
     subst (λ (n : ℕ). Outcome old new n what) (number_is old.links c i t.old place t.changes.here) (outcome old new i t.old t.new what e st t.changes t.took)
 
 pub took_engine : {E : Type 0} (old new : Parts) (i : ℕ) (what : Result Turn E) → IsEngine old → Stays old new
-    → LinksTook (rules_of (topology_of old.broker) old.users) (broker_of old.broker) old.links i what (broker_of new.broker) new.links → IsEngine new
+    → LinksTook (rules_of (topology_kept old.broker) old.users) (broker_of old.broker) old.links i what (broker_of new.broker) new.links → IsEngine new
 took_engine old new i what e st t =
     let out = outcome old new i t.old t.new what e st t.changes t.took in
     engine_change old new i t.old t.new e st t.changes (turn_agrees what (world_of old) (world_of new) t.old.number (agreed old e) out.ok out.err)
 
 -- of a connection that is not there nothing is performed
 pub not_there : (p : Parts) (c : ℕ) → link_in p.links c ≡ None → (is_over (world_of p) c ≡ true) × Waits (world_of p) c (world_of p)
-not_there p c none = (ap (λ (o : Option Link). is_ended (session_of o).phase) none, waits_not (world_of p) c)
+not_there p c none = (ap (λ (o : Option Connected). is_ended (session_of o).phase) none, waits_not (world_of p) c)
 
 on_true : (A B : Type 0) (v : Bool) → v ≡ true → A → MatchBool v A B
 on_true A B true e a = a
@@ -172,11 +172,8 @@ on_false A B false e b = b
 pub nothing_changes : (p : Parts) → Same (world_of p) (world_of p)
 nothing_changes p = record { config = refl; state = refl; given = refl; wires = λ d. refl }
 
-pub takes_none : (p : Parts) (c n : ℕ) → IsEngine p → link_in p.links c ≡ None → TakesAway (world_of p) c n (world_of p)
-takes_none p c n e none = on_true (Same (world_of p) (world_of p)) ((hs : List Happening) × Takes_off (world_of p) c n hs (world_of p)) (is_gone (world_of p) c) (gone_none p c e.links none) (nothing_changes p)
-
-pub sends : (old new : Parts) (c i n : ℕ) → IsEngine old → Stays old new → IsPlaceOf old.links c (Some i)
-    → LinksSent (topology_of old.broker) (broker_of old.broker) old.links i n (broker_of new.broker) new.links → TakesAway (world_of old) c n (world_of new)
+pub sends : (old new : Parts) (c i n : ℕ) → IsEngine old → Stays old new → IsLinkPlace old.links c (Some i)
+    → LinksSent (topology_kept old.broker) (broker_of old.broker) old.links i n (broker_of new.broker) new.links → TakesAway (world_of old) c n (world_of new)
 sends old new c i n e st place s =
     let found = link_in-place 0 old.links i s.old e.links.rising s.changes.within s.changes.here in
     let b = becomes old new i s.old s.new st e.links.rising s.changes in
@@ -185,7 +182,7 @@ sends old new c i n e st place s =
     (on_false (Same (world_of old) (world_of new)) ((hs : List Happening) × Takes_off (world_of old) s.old.number n hs (world_of new)) (is_gone (world_of old) s.old.number) gone (taken old new s.old s.new n b found s.sent))
 
 pub sends_engine : (old new : Parts) (i n : ℕ) → IsEngine old → Stays old new
-    → LinksSent (topology_of old.broker) (broker_of old.broker) old.links i n (broker_of new.broker) new.links → IsEngine new
+    → LinksSent (topology_kept old.broker) (broker_of old.broker) old.links i n (broker_of new.broker) new.links → IsEngine new
 sends_engine old new i n e st s =
     let found = link_in-place 0 old.links i s.old e.links.rising s.changes.within s.changes.here in
     let b = becomes old new i s.old s.new st e.links.rising s.changes in
@@ -194,10 +191,10 @@ sends_engine old new i n e st s =
 
 -- ---- bytes that are heard
 
-gone_same : (l l' : Link) (bytes : List ℕ) → LinkFed l bytes l' → is_link_gone l' ≡ is_link_gone l
+gone_same : (l l' : Connected) (bytes : List ℕ) → LinkFed l bytes l' → is_link_gone l' ≡ is_link_gone l
 gone_same l l' bytes fed = λ i. Rattle.std.specs.Prelude.◌&&◌ (is_ended (fed.session i).phase) (Rattle.std.specs.Prelude.not (Rattle.std.specs.Prelude.nat_lt 0 (length (fed.output i).bytes)))
 
-pub fed_changes : (given : ℕ) (ls new_ls : List Link) (i : ℕ) (bytes : List ℕ) → AreLinks given ls → (f : LinksFed ls i bytes new_ls) → Changes ls i f.old f.new new_ls
+pub fed_changes : (given : ℕ) (ls new_ls : List Connected) (i : ℕ) (bytes : List ℕ) → AreLinks given ls → (f : LinksFed ls i bytes new_ls) → Changes ls i f.old f.new new_ls
 fed_changes given ls new_ls i bytes a f =
     let here : is_link_gone f.old ≡ false = (Rattle.engine.proofs.Numbered.all_at (Rattle.engine.specs.World.IsLink given) ls i f.old a.each f.within f.here).here in
     let still : is_link_gone f.new ≡ false = gone_same f.old f.new bytes f.fed ∙ here in
@@ -210,7 +207,7 @@ fed_changes given ls new_ls i bytes a f =
       over = λ gone. absurd (false≢true (sym still ∙ gone));
     }
 
-pub feeds : (old new : Parts) (c i : ℕ) (bytes : List ℕ) → IsEngine old → Stays old new → broker_of new.broker ≡ broker_of old.broker → IsPlaceOf old.links c (Some i) → LinksFed old.links i bytes new.links
+pub feeds : (old new : Parts) (c i : ℕ) (bytes : List ℕ) → IsEngine old → Stays old new → broker_of new.broker ≡ broker_of old.broker → IsLinkPlace old.links c (Some i) → LinksFed old.links i bytes new.links
     → Hears (world_of old) c bytes (world_of new)
 feeds old new c i bytes e st same place f =
     let ch = fed_changes old.given old.links new.links i bytes e.links f in
@@ -230,25 +227,22 @@ hears_none p c bytes none = on_true (Same (world_of p) (world_of p)) (world_of p
 
 -- ---- losses
 
-pub loses_none : (p : Parts) (c : ℕ) → IsEngine p → link_in p.links c ≡ None → IsLost (world_of p) c (world_of p)
-loses_none p c e none = on_true (Same (world_of p) (world_of p)) ((hs : List Happening) × Loses (world_of p) c hs (world_of p)) (is_gone (world_of p) c) (gone_none p c e.links none) (nothing_changes p)
-
-pub loses : (old new : Parts) (c i : ℕ) → IsEngine old → Stays old new → IsPlaceOf old.links c (Some i) → new.links ≡ remove old.links i
-    → Acts (topology_of old.broker) (broker_of old.broker) (event.Lose c) [] [] (broker_of new.broker) → IsLost (world_of old) c (world_of new)
+pub loses : (old new : Parts) (c i : ℕ) → IsEngine old → Stays old new → IsLinkPlace old.links c (Some i) → new.links ≡ remove old.links i
+    → Acts (topology_kept old.broker) (broker_of old.broker) (event.Lose c) [] [] (broker_of new.broker) → IsLost (world_of old) c (world_of new)
 loses old new c i e st place left acts =
     let at = Rattle.engine.proofs.Found.element old.links i place.0 in
-    let l : Link = at.0 in
+    let l : Connected = at.0 in
     let is : l.number ≡ c = number_is old.links c i l place at.1 in
     let found : link_in old.links c ≡ Some l = subst (λ (k : ℕ). link_in old.links k ≡ Some l) is (link_in-place 0 old.links i l e.links.rising place.0 at.1) in
     let gone : is_gone (world_of old) c ≡ false = gone_some old c l e.links found in
     on_false (Same (world_of old) (world_of new)) ((hs : List Happening) × Loses (world_of old) c hs (world_of new)) (is_gone (world_of old) c) gone
     (lost old new c st.topology st.guarantees st.users st.given acts
-    (λ d. ap (λ (z : List Link). link_in z d) left ∙ link_in-remove 0 old.links i l d e.links.rising place.0 at.1 ∙ ap (λ (k : ℕ). cond (k == d) None (link_in old.links d)) is))
+    (λ d. ap (λ (z : List Connected). link_in z d) left ∙ link_in-remove 0 old.links i l d e.links.rising place.0 at.1 ∙ ap (λ (k : ℕ). cond (k == d) None (link_in old.links d)) is))
 
-pub loses_engine : (old new : Parts) (c i : ℕ) → IsEngine old → Stays old new → IsPlaceOf old.links c (Some i) → new.links ≡ remove old.links i
-    → Acts (topology_of old.broker) (broker_of old.broker) (event.Lose c) [] [] (broker_of new.broker) → IsEngine new
+pub loses_engine : (old new : Parts) (c i : ℕ) → IsEngine old → Stays old new → IsLinkPlace old.links c (Some i) → new.links ≡ remove old.links i
+    → Acts (topology_kept old.broker) (broker_of old.broker) (event.Lose c) [] [] (broker_of new.broker) → IsEngine new
 loses_engine old new c i e st place left acts = engine_with old new e st
-    (subst (λ (z : List Link). AreLinks old.given z) (sym left) (record { rising = rising-remove 0 old.links i e.links.rising; each = all-remove (Rattle.engine.specs.World.IsLink old.given) old.links i e.links.each }))
+    (subst (λ (z : List Connected). AreLinks old.given z) (sym left) (record { rising = rising-remove 0 old.links i e.links.rising; each = all-remove (Rattle.engine.specs.World.IsLink old.given) old.links i e.links.each }))
     (loses_agrees (world_of old) (world_of new) c (agreed old e) (loses old new c i e st place left acts))
 
 -- ---- bytes that are heard, or memory was wanting
@@ -256,36 +250,36 @@ loses_engine old new c i e st place left acts = engine_with old new e st
 pub fed_engine : {T E : Type 0} (r : Result T E) (old new : Parts) (i : ℕ) (bytes : List ℕ) → IsEngine old → Stays old new → broker_of new.broker ≡ broker_of old.broker → OnOk r (LinksFed old.links i bytes new.links) → OnErr r (new.links ≡ old.links) → IsEngine new
 fed_engine (Ok x) old new i bytes e st same ok err = feeds_engine old new i bytes e st same ok
 fed_engine (Err x) old new i bytes e st same ok err =
-    engine_with old new e st (subst (λ (z : List Link). AreLinks old.given z) (sym err) e.links) (same_agrees (world_of old) (world_of new) (agreed old e) (world_stays old new st same err))
+    engine_with old new e st (subst (λ (z : List Connected). AreLinks old.given z) (sym err) e.links) (same_agrees (world_of old) (world_of new) (agreed old e) (world_stays old new st same err))
 
-pub fed_ok : {T E : Type 0} (r : Result T E) (old new : Parts) (c i : ℕ) (bytes : List ℕ) → IsEngine old → Stays old new → broker_of new.broker ≡ broker_of old.broker → IsPlaceOf old.links c (Some i)
+pub fed_ok : {T E : Type 0} (r : Result T E) (old new : Parts) (c i : ℕ) (bytes : List ℕ) → IsEngine old → Stays old new → broker_of new.broker ≡ broker_of old.broker → IsLinkPlace old.links c (Some i)
     → OnOk r (LinksFed old.links i bytes new.links) → OnOk r (Hears (world_of old) c bytes (world_of new))
 fed_ok (Ok x) old new c i bytes e st same place ok = feeds old new c i bytes e st same place ok
 fed_ok (Err x) old new c i bytes e st same place ok = tt
 
-pub fed_err : {T E : Type 0} (r : Result T E) (p : Parts) (ls : List Link) → OnErr r (ls ≡ p.links) → OnErr r (record p { links = ls } ≡ p)
+pub fed_err : {T E : Type 0} (r : Result T E) (p : Parts) (ls : List Connected) → OnErr r (ls ≡ p.links) → OnErr r (record p { links = ls } ≡ p)
 fed_err (Ok x) p ls err = tt
 fed_err (Err x) p ls err = λ i. record p { links = err i }
 
 -- ---- what is asked of one connection
 
-found_at : (ls : List Link) (c i : ℕ) (l : Link) → AreRising 0 ls → IsPlaceOf ls c (Some i) → get_or ls i l ≡ l → link_in ls c ≡ Some l
+found_at : (ls : List Connected) (c i : ℕ) (l : Connected) → AreRising 0 ls → IsLinkPlace ls c (Some i) → get_or ls i l ≡ l → link_in ls c ≡ Some l
 found_at ls c i l r place here = subst (λ (k : ℕ). link_in ls k ≡ Some l) (number_is ls c i l place here) (link_in-place 0 ls i l r place.0 here)
 
-pub output_at : (p : Parts) (c i : ℕ) (l : Link) → IsEngine p → IsPlaceOf p.links c (Some i) → get_or p.links i l ≡ l → ((world_of p).wire c).output ≡ l.output.bytes
-output_at p c i l e place here = ap (λ (o : Option Link). (wire_of o).output) (found_at p.links c i l e.links.rising place here) ∙ Rattle.engine.proofs.Standing.output_in (is_ended l.session.phase) l
+pub output_at : (p : Parts) (c i : ℕ) (l : Connected) → IsEngine p → IsLinkPlace p.links c (Some i) → get_or p.links i l ≡ l → ((world_of p).wire c).output ≡ l.output.bytes
+output_at p c i l e place here = ap (λ (o : Option Connected). (wire_of o).output) (found_at p.links c i l e.links.rising place here) ∙ Rattle.engine.proofs.Standing.output_in (is_ended l.session.phase) l
 
-pub over_at : (p : Parts) (c i : ℕ) (l : Link) → IsEngine p → IsPlaceOf p.links c (Some i) → get_or p.links i l ≡ l → is_over (world_of p) c ≡ is_ended l.session.phase
-over_at p c i l e place here = ap (λ (o : Option Link). is_ended (session_of o).phase) (found_at p.links c i l e.links.rising place here)
+pub over_at : (p : Parts) (c i : ℕ) (l : Connected) → IsEngine p → IsLinkPlace p.links c (Some i) → get_or p.links i l ≡ l → is_over (world_of p) c ≡ is_ended l.session.phase
+over_at p c i l e place here = ap (λ (o : Option Connected). is_ended (session_of o).phase) (found_at p.links c i l e.links.rising place here)
 
 -- ---- of one that is over nothing is heard
 
-fed_nothing : {T E : Type 0} (r : Result T E) (p : Parts) (ls : List Link) → IsOk r × (ls ≡ p.links) → IsOk r × (record p { links = ls } ≡ p)
+fed_nothing : {T E : Type 0} (r : Result T E) (p : Parts) (ls : List Connected) → IsOk r × (ls ≡ p.links) → IsOk r × (record p { links = ls } ≡ p)
 fed_nothing r p ls both = (both.0, λ i. record p { links = both.1 i })
 
 -- the connection at this place is over, and so nothing was kept
-pub fed_over : {T E : Type 0} (r : Result T E) (p : Parts) (ls : List Link) (c i : ℕ) → IsEngine p → IsPlaceOf p.links c (Some i)
-    → ((l : Link) → get_or p.links i l ≡ l → is_ended l.session.phase ≡ true → IsOk r × (ls ≡ p.links)) → is_over (world_of p) c ≡ true → IsOk r × (record p { links = ls } ≡ p)
+pub fed_over : {T E : Type 0} (r : Result T E) (p : Parts) (ls : List Connected) (c i : ℕ) → IsEngine p → IsLinkPlace p.links c (Some i)
+    → ((l : Connected) → get_or p.links i l ≡ l → is_ended l.session.phase ≡ true → IsOk r × (ls ≡ p.links)) → is_over (world_of p) c ≡ true → IsOk r × (record p { links = ls } ≡ p)
 fed_over r p ls c i e place over is =
     let at = Rattle.engine.proofs.Found.element p.links i place.0 in
     fed_nothing r p ls (over at.0 at.1 (sym (over_at p c i at.0 e place at.1) ∙ is))

@@ -15,13 +15,13 @@ use Rattle.model.specs.declared.events.Event.{Event}
 use Rattle.model.specs.declared.events.Event.TheVariants as event
 use Rattle.model.specs.declared.notes.Note.{Note}
 use Rattle.assembly.specs.Held.{stream_of}
-use Rattle.engine.specs.Reading.{kept_of, IsMade, IsKeptEvent, Has, ComesNext, to_read}
-use Rattle.engine.specs.Performing.{Rules, IsAsked, DecidesByPhase}
+use Rattle.engine.specs.Reading.{kept_of, IsEventMade, IsKeptEvent, HasEvent, ComesNext, to_read}
+use Rattle.engine.specs.Performing.{Rules, DecidesByPhase}
 use Rattle.engine.specs.Turning.{Performed, LinkPerformed, DidEvent, LinkTook, LinkWaits, OnIdle}
 use Rattle.outputs.specs.Waiting.{HoldsNone}
 use Rattle.engine.specs.declared.reading.Next.{Next}
 use Rattle.engine.specs.declared.reading.Next.TheVariants as next
-use Rattle.engine.specs.declared.link.Link.{Link}
+use Rattle.engine.specs.declared.connected.Connected.{Connected}
 use Rattle.engine.specs.declared.turning.Turn.{Turn}
 use Rattle.engine.specs.declared.turning.Turn.TheVariants as turn
 
@@ -33,29 +33,20 @@ kept_is c (Plain h m) = refl
 kept_is c (Full h p content) = refl
 kept_is c (TooLarge h) = refl
 
-asks_command : (c : ℕ) (m : Command) → IsAsked c (event_of c m)
-asks_command c (Head bytes) = refl
-asks_command c (Plain h m) = refl
-asks_command c (Full h p content) = refl
-asks_command c (TooLarge h) = refl
-
 says_command : (c : ℕ) (m : Command) → IsCommand m → IsSaid (event_of c m)
 says_command c (Head bytes) is = tt
 says_command c (Plain h m) is = (is, tt)
 says_command c (Full h p content) is = is
 says_command c (TooLarge h) is = is
 
-pub asks_made : (c : ℕ) (e : Event) → IsMade c e → IsAsked c e
-asks_made c e is = subst (λ (x : Event). IsAsked c x) (sym is.made) (asks_command c is.command)
-
-pub says_made : (c : ℕ) (e : Event) → IsMade c e → IsSaid e
+pub says_made : (c : ℕ) (e : Event) → IsEventMade c e → IsSaid e
 says_made c e is = subst (λ (x : Event). IsSaid x) (sym is.made) (says_command c is.command is.said)
 
-kept_made : (c : ℕ) (e : Event) (is : IsMade c e) → kept_of (Some e) ≡ Some is.command
+kept_made : (c : ℕ) (e : Event) (is : IsEventMade c e) → kept_of (Some e) ≡ Some is.command
 kept_made c e is = ap (λ (x : Event). kept_of (Some x)) is.made ∙ kept_is c is.command
 
 -- a command that is kept is the next
-pub kept_has : (c : ℕ) (k : Option Event) (s : Stream) → is_some k ≡ true → IsKeptEvent c k → Has c k s k s
+pub kept_has : (c : ℕ) (k : Option Event) (s : Stream) → is_some k ≡ true → IsKeptEvent c k → HasEvent c k s k s
 kept_has c None s some is = absurd (false≢true some)
 kept_has c (Some e) s some is = record {
   event = e;
@@ -67,9 +58,9 @@ kept_has c (Some e) s some is = record {
 }
 
 -- and so is one that was read
-pub read_has : (c : ℕ) (k left : Option Event) (m : Command) (s new : Stream) → k ≡ None → left ≡ Some (event_of c m) → Yields s m new → IsCommand m → length new.unread + 8 ≤ length s.unread → Has c k s left new
+pub read_has : (c : ℕ) (k left : Option Event) (m : Command) (s new : Stream) → k ≡ None → left ≡ Some (event_of c m) → Yields s m new → IsCommand m → length new.unread + 8 ≤ length s.unread → HasEvent c k s left new
 read_has c k left m s new none is y said short =
-    subst (λ (o : Option Event). Has c o s left new) (sym none) (subst (λ (o : Option Event). Has c None s o new) (sym is) (record {
+    subst (λ (o : Option Event). HasEvent c o s left new) (sym none) (subst (λ (o : Option Event). HasEvent c None s o new) (sym is) (record {
       event = event_of c m;
       is = refl;
       made = record { command = m; made = refl; said = said };
@@ -103,12 +94,12 @@ over_after phase.Over r b s c code sends notes new_b new_s at by = ap (λ (z : M
 -- ---- the turns
 
 -- the connection that was read from: it says and keeps something else, and all else is as before
-pub record IsRead (old mid : Link) : Type 0 where
+pub record IsRead (old mid : Connected) : Type 0 where
   pub number : mid.number ≡ old.number
   pub session : mid.session ≡ old.session
   pub output : mid.output.bytes ≡ old.output.bytes
 
-performed_of : (t : Rules) (b new_b : Broker) (old mid new : Link) (e : Event) (notes : List Note) → IsRead old mid
+performed_of : (t : Rules) (b new_b : Broker) (old mid new : Connected) (e : Event) (notes : List Note) → IsRead old mid
     → Performed t b mid.number mid.session mid.output.bytes e notes new_b new.session new.output.bytes
     → Performed t b old.number old.session old.output.bytes e notes new_b new.session new.output.bytes
 performed_of t b new_b old mid new e notes read p =
@@ -116,8 +107,8 @@ performed_of t b new_b old mid new e notes read p =
     (subst (λ (s : Session). Performed t b mid.number s old.output.bytes e notes new_b new.session new.output.bytes) read.session
     (subst (λ (o : List ℕ). Performed t b mid.number mid.session o e notes new_b new.session new.output.bytes) read.output p))
 
-pub did_kept : (t : Rules) (b new_b : Broker) (old mid new : Link) (what : Turn) → is_ended old.session.phase ≡ false → is_past_bound old.output.bytes ≡ false → IsRead old mid
-    → (h : Has old.number old.kept (stream_of old.stream) mid.kept (stream_of mid.stream)) → DidEvent t b mid h.event what new_b new → LinkTook t b old what new_b new
+pub did_kept : (t : Rules) (b new_b : Broker) (old mid new : Connected) (what : Turn) → is_ended old.session.phase ≡ false → is_past_bound old.output.bytes ≡ false → IsRead old mid
+    → (h : HasEvent old.number old.kept (stream_of old.stream) mid.kept (stream_of mid.stream)) → DidEvent t b mid h.event what new_b new → LinkTook t b old what new_b new
 did_kept t b new_b old mid new (turn.Did notes) open_still below read h did = (
   open_still,
   below,
@@ -137,7 +128,7 @@ did_kept t b new_b old mid new turn.Idle open_still below read h did = absurd di
 did_kept t b new_b old mid new turn.Paused open_still below read h did = absurd did
 did_kept t b new_b old mid new turn.Over open_still below read h did = absurd did
 
-pub did_fault : (t : Rules) (b new_b : Broker) (old mid new : Link) (code : ℕ) (what : Turn) → is_ended old.session.phase ≡ false → is_past_bound old.output.bytes ≡ false → IsRead old mid
+pub did_fault : (t : Rules) (b new_b : Broker) (old mid new : Connected) (code : ℕ) (what : Turn) → is_ended old.session.phase ≡ false → is_past_bound old.output.bytes ≡ false → IsRead old mid
     → old.kept ≡ None → Ends (stream_of old.stream) (Some code) → DidEvent t b mid (event.Fault mid.number code) what new_b new → LinkTook t b old what new_b new
 did_fault t b new_b old mid new code (turn.Did notes) open_still below read none ends did =
     let over = over_after mid.session.phase t b mid.session mid.number code did.performed.sends notes.items did.performed.mid new.session refl did.performed.decides in (
@@ -160,8 +151,8 @@ did_fault t b new_b old mid new code turn.Idle open_still below read none ends d
 did_fault t b new_b old mid new code turn.Paused open_still below read none ends did = absurd did
 did_fault t b new_b old mid new code turn.Over open_still below read none ends did = absurd did
 
-pub waits_kept : (b new_b : Broker) (old mid new : Link) → IsRead old mid → SameToCome (kept_of old.kept) (stream_of old.stream) (kept_of mid.kept) (stream_of mid.stream) → new_b ≡ b → new ≡ mid → LinkWaits b old new_b new
-waits_kept b new_b old mid new read same broker is = subst (λ (z : Link). LinkWaits b old new_b z) (sym is)
+pub waits_kept : (b new_b : Broker) (old mid new : Connected) → IsRead old mid → SameToCome (kept_of old.kept) (stream_of old.stream) (kept_of mid.kept) (stream_of mid.stream) → new_b ≡ b → new ≡ mid → LinkWaits b old new_b new
+waits_kept b new_b old mid new read same broker is = subst (λ (z : Connected). LinkWaits b old new_b z) (sym is)
     (record { broker = broker; number = read.number; session = read.session; output = read.output; coming = same })
 
 pub coming_on : (k left : Option Event) (s new : Stream) → k ≡ None → left ≡ None → GoesOn s new → SameToCome (kept_of k) s (kept_of left) new
@@ -169,7 +160,7 @@ coming_on k left s new none gone on = subst (λ (o : Option Event). SameToCome (
 
 -- ---- by the answer
 
-pub comes_command : (c : ℕ) (k left : Option Event) (s new : Stream) (n : Next) → n ≡ next.Command → ComesNext c k s n left new → Has c k s left new
+pub comes_command : (c : ℕ) (k left : Option Event) (s new : Stream) (n : Next) → n ≡ next.Command → ComesNext c k s n left new → HasEvent c k s left new
 comes_command c k left s new n e h = subst (λ (x : Next). ComesNext c k s x left new) e h
 
 pub comes_fault : (c code : ℕ) (k left : Option Event) (s new : Stream) (n : Next) → n ≡ next.Fault code → ComesNext c k s n left new → (left ≡ None) × (k ≡ None) × Ends s (Some code) × GoesOn s new
@@ -179,7 +170,7 @@ pub comes_nothing : (c : ℕ) (k left : Option Event) (s new : Stream) (n : Next
 comes_nothing c k left s new n e h = subst (λ (x : Next). ComesNext c k s x left new) e h
 
 -- one turn, whatever it answered
-pub record Whole {E : Type 0} (t : Rules) (b : Broker) (old : Link) (what : Result Turn E) (new_b : Broker) (new : Link) : Type 0 where
+pub record Whole {E : Type 0} (t : Rules) (b : Broker) (old : Connected) (what : Result Turn E) (new_b : Broker) (new : Connected) : Type 0 where
   pub ok : IfOk what (λ x. LinkTook t b old x new_b new)
   pub err : OnErr what (LinkWaits b old new_b new)
   pub idle : IfOk what (λ x. OnIdle x (HoldsNone new.output))
@@ -187,20 +178,20 @@ pub record Whole {E : Type 0} (t : Rules) (b : Broker) (old : Link) (what : Resu
   pub number : new.number ≡ old.number
 
 -- nothing is kept after what was performed
-did_keeps : (t : Rules) (b new_b : Broker) (mid new : Link) (e : Event) (what : Turn) → DidEvent t b mid e what new_b new → IsKeptEvent new.number new.kept × (new.number ≡ mid.number)
+did_keeps : (t : Rules) (b new_b : Broker) (mid new : Connected) (e : Event) (what : Turn) → DidEvent t b mid e what new_b new → IsKeptEvent new.number new.kept × (new.number ≡ mid.number)
 did_keeps t b new_b mid new e (turn.Did notes) did = (subst (λ (k : Option Event). IsKeptEvent new.number k) (sym did.none_kept) tt, did.number)
 did_keeps t b new_b mid new e turn.Idle did = absurd did
 did_keeps t b new_b mid new e turn.Paused did = absurd did
 did_keeps t b new_b mid new e turn.Over did = absurd did
 
-did_something : (t : Rules) (b new_b : Broker) (mid new : Link) (e : Event) (what : Turn) → DidEvent t b mid e what new_b new → OnIdle what (HoldsNone new.output)
+did_something : (t : Rules) (b new_b : Broker) (mid new : Connected) (e : Event) (what : Turn) → DidEvent t b mid e what new_b new → OnIdle what (HoldsNone new.output)
 did_something t b new_b mid new e (turn.Did notes) did = tt
 did_something t b new_b mid new e turn.Idle did = absurd did
 did_something t b new_b mid new e turn.Paused did = absurd did
 did_something t b new_b mid new e turn.Over did = absurd did
 
-pub after_kept : {E : Type 0} (r : Result Turn E) (t : Rules) (b new_b : Broker) (old mid new : Link) → is_ended old.session.phase ≡ false → is_past_bound old.output.bytes ≡ false → IsRead old mid
-    → Has old.number old.kept (stream_of old.stream) mid.kept (stream_of mid.stream)
+pub after_kept : {E : Type 0} (r : Result Turn E) (t : Rules) (b new_b : Broker) (old mid new : Connected) → is_ended old.session.phase ≡ false → is_past_bound old.output.bytes ≡ false → IsRead old mid
+    → HasEvent old.number old.kept (stream_of old.stream) mid.kept (stream_of mid.stream)
     → IfOk r (λ x. (e : Event) → mid.kept ≡ Some e → DidEvent t b mid e x new_b new) → OnErr r (new_b ≡ b) → OnErr r (new ≡ mid) → Whole t b old r new_b new
 after_kept (Ok x) t b new_b old mid new open_still below read h did broker link =
     let d = did h.event h.is in
@@ -210,11 +201,11 @@ after_kept (Err x) t b new_b old mid new open_still below read h did broker link
   ok = tt;
   err = waits_kept b new_b old mid new read h.same broker link;
   idle = tt;
-  kept = subst (λ (z : Link). IsKeptEvent z.number z.kept) (sym link) (subst (λ (c : ℕ). IsKeptEvent c mid.kept) (sym read.number) (subst (λ (k : Option Event). IsKeptEvent old.number k) (sym h.is) h.made));
-  number = ap (λ (z : Link). z.number) link ∙ read.number;
+  kept = subst (λ (z : Connected). IsKeptEvent z.number z.kept) (sym link) (subst (λ (c : ℕ). IsKeptEvent c mid.kept) (sym read.number) (subst (λ (k : Option Event). IsKeptEvent old.number k) (sym h.is) h.made));
+  number = ap (λ (z : Connected). z.number) link ∙ read.number;
 }
 
-pub after_fault : {E : Type 0} (r : Result Turn E) (t : Rules) (b new_b : Broker) (old mid new : Link) (code : ℕ) → is_ended old.session.phase ≡ false → is_past_bound old.output.bytes ≡ false → IsRead old mid
+pub after_fault : {E : Type 0} (r : Result Turn E) (t : Rules) (b new_b : Broker) (old mid new : Connected) (code : ℕ) → is_ended old.session.phase ≡ false → is_past_bound old.output.bytes ≡ false → IsRead old mid
     → (mid.kept ≡ None) × (old.kept ≡ None) × Ends (stream_of old.stream) (Some code) × GoesOn (stream_of old.stream) (stream_of mid.stream)
     → IfOk r (λ x. DidEvent t b mid (event.Fault mid.number code) x new_b new) → OnErr r (new_b ≡ b) → OnErr r (new ≡ mid) → Whole t b old r new_b new
 after_fault (Ok x) t b new_b old mid new code open_still below read h did broker link =
@@ -224,11 +215,11 @@ after_fault (Err x) t b new_b old mid new code open_still below read h did broke
   ok = tt;
   err = waits_kept b new_b old mid new read (coming_on old.kept mid.kept (stream_of old.stream) (stream_of mid.stream) h.1 h.0 h.3) broker link;
   idle = tt;
-  kept = subst (λ (z : Link). IsKeptEvent z.number z.kept) (sym link) (subst (λ (k : Option Event). IsKeptEvent mid.number k) (sym h.0) tt);
-  number = ap (λ (z : Link). z.number) link ∙ read.number;
+  kept = subst (λ (z : Connected). IsKeptEvent z.number z.kept) (sym link) (subst (λ (k : Option Event). IsKeptEvent mid.number k) (sym h.0) tt);
+  number = ap (λ (z : Connected). z.number) link ∙ read.number;
 }
 
-pub after_nothing : (t : Rules) (b : Broker) (old mid : Link) → is_ended old.session.phase ≡ false → IsRead old mid
+pub after_nothing : (t : Rules) (b : Broker) (old mid : Connected) → is_ended old.session.phase ≡ false → IsRead old mid
     → (mid.kept ≡ None) × (old.kept ≡ None) × Ends (stream_of old.stream) None × GoesOn (stream_of old.stream) (stream_of mid.stream)
     → LinkTook t b old turn.Idle b mid
 after_nothing t b old mid open_still read h = (
@@ -241,7 +232,7 @@ after_nothing t b old mid open_still read h = (
 )
 
 -- the event is the one that is kept
-pub performed_is : (t : Rules) (b new_b : Broker) (old new : Link) (x e : Event) (notes : List Note) (k : Option Event) → k ≡ Some x → k ≡ Some e → LinkPerformed t b old x notes new_b new → LinkPerformed t b old e notes new_b new
+pub performed_is : (t : Rules) (b new_b : Broker) (old new : Connected) (x e : Event) (notes : List Note) (k : Option Event) → k ≡ Some x → k ≡ Some e → LinkPerformed t b old x notes new_b new → LinkPerformed t b old e notes new_b new
 performed_is t b new_b old new x e notes k is other p = subst (λ (z : Event). LinkPerformed t b old z notes new_b new) (some_same x e (sym is ∙ other)) p
   where
     some_same : (x y : Event) → Some x ≡ Some y → x ≡ y

@@ -10,38 +10,38 @@ use Rattle.model.specs.Arrivals.{World, Turns, Waits, IsIdle, is_over, is_paused
 use Rattle.model.specs.Headline.{KeepsEvents}
 use Rattle.model.specs.declared.notes.Note.{Note}
 use Rattle.assembly.specs.Held.{stream_of}
-use Rattle.broker_core.specs.State.{topology_of}
+use Rattle.broker_core.specs.State.{topology_kept}
 use Rattle.engine.specs.Reading.{IsKeptEvent, kept_of, to_read}
 use Rattle.engine.specs.Performing.{Rules, PausesOr}
-use Rattle.engine.specs.Turning.{LinkTook, LinkWaits, IsAwake}
+use Rattle.engine.specs.Turning.{LinkTook, LinkWaits, MayTurn}
 use Rattle.engine.specs.World.{Parts, link_in, session_of, wire_of, is_link_gone}
-use Rattle.engine.specs.declared.link.Link.{Link}
+use Rattle.engine.specs.declared.connected.Connected.{Connected}
 use Rattle.engine.specs.declared.turning.Turn.{Turn}
 use Rattle.engine.specs.declared.turning.Turn.TheVariants as turn
 
 -- ---- one connection
 
 -- how much a connection has still to read and perform
-abbrev pub left_of : Link → ℕ
-left_of l = if is_ended l.session.phase then 0 else to_read (kept_of l.kept) (stream_of l.stream) + 1
+abbrev pub left_to_read : Connected → ℕ
+left_to_read l = if is_ended l.session.phase then 0 else to_read (kept_of l.kept) (stream_of l.stream) + 1
 
 -- the same of all of them
-abbrev pub left_in : List Link → ℕ
+abbrev pub left_in : List Connected → ℕ
 left_in [] = 0
-left_in (l ∷ ls) = left_of l + left_in ls
+left_in (l ∷ ls) = left_to_read l + left_in ls
 
 -- Memory was wanting for a connection that is neither over nor paused, and nothing was performed.
-pub record LinkWants (b : Broker) (old : Link) (new_b : Broker) (new : Link) : Type 0 where
-  pub awake : IsAwake old
+pub record LinkWants (b : Broker) (old : Connected) (new_b : Broker) (new : Connected) : Type 0 where
+  pub awake : MayTurn old
   pub waits : LinkWaits b old new_b new
 
 -- The turn of one connection is right, or memory was wanting and nothing was performed.
-abbrev pub LinkTookOr : {E : Type 0} → Rules → Broker → Link → Result Turn E → Broker → Link → Type 0
+abbrev pub LinkTookOr : {E : Type 0} → Rules → Broker → Connected → Result Turn E → Broker → Connected → Type 0
 LinkTookOr r b old (Ok what) new_b new = LinkTook r b old what new_b new
 LinkTookOr r b old (Err e) new_b new = LinkWants b old new_b new
 
 -- So many bytes of the output were taken, and the resumption that this brings is known.
-pub record LinkSent (t : Topology) (b : Broker) (old : Link) (n : ℕ) (new_b : Broker) (new : Link) : Type 0 where
+pub record LinkSent (t : Topology) (b : Broker) (old : Connected) (n : ℕ) (new_b : Broker) (new : Connected) : Type 0 where
   pub number : new.number ≡ old.number
   pub session : new.session ≡ old.session
   pub kept : new.kept ≡ old.kept
@@ -50,7 +50,7 @@ pub record LinkSent (t : Topology) (b : Broker) (old : Link) (n : ℕ) (new_b : 
   pub pauses : PausesOr t old.number (is_past_bound old.output.bytes) (is_past_bound new.output.bytes) b new_b
 
 -- The bytes were heard, unless the connection is over.
-pub record LinkFed (old : Link) (bytes : List ℕ) (new : Link) : Type 0 where
+pub record LinkFed (old : Connected) (bytes : List ℕ) (new : Connected) : Type 0 where
   pub number : new.number ≡ old.number
   pub session : new.session ≡ old.session
   pub kept : new.kept ≡ old.kept
@@ -62,21 +62,21 @@ pub record LinkFed (old : Link) (bytes : List ℕ) (new : Link) : Type 0 where
 -- ---- the connections
 
 -- the connection of this number is at this place, if it is there
-abbrev pub IsPlaceOf : List Link → ℕ → Option ℕ → Type 0
-IsPlaceOf ls c None = link_in ls c ≡ None
-IsPlaceOf ls c (Some i) = (i < length ls) × ((l : Link) → (get_or ls i l).number ≡ c)
+abbrev pub IsLinkPlace : List Connected → ℕ → Option ℕ → Type 0
+IsLinkPlace ls c None = link_in ls c ≡ None
+IsLinkPlace ls c (Some i) = (i < length ls) × ((l : Connected) → (get_or ls i l).number ≡ c)
 
 -- this connection in its place; it is taken out where it is gone by now
-abbrev pub put_back : List Link → ℕ → Link → List Link
+abbrev pub put_back : List Connected → ℕ → Connected → List Connected
 put_back ls i l = if is_link_gone l then remove ls i else set ls i l
 
 -- the connection at this place is taken out where it is gone; of a gone one no limits are kept
-pub record IsSwept (ls : List Link) (i : ℕ) (l : Link) (new_ls : List Link) : Type 0 where
+pub record IsSwept (ls : List Connected) (i : ℕ) (l : Connected) (new_ls : List Connected) : Type 0 where
   pub left : new_ls ≡ (if is_link_gone l then remove ls i else ls)
   pub over : is_link_gone l ≡ true → l.session ≡ no_session
 
 -- The connection at this place became this one.
-pub record Changes (ls : List Link) (i : ℕ) (old new : Link) (new_ls : List Link) : Type 0 where
+pub record Changes (ls : List Connected) (i : ℕ) (old new : Connected) (new_ls : List Connected) : Type 0 where
   pub within : i < length ls
   pub here : get_or ls i old ≡ old
   pub number : new.number ≡ old.number
@@ -85,33 +85,33 @@ pub record Changes (ls : List Link) (i : ℕ) (old new : Link) (new_ls : List Li
   pub over : is_link_gone new ≡ true → new.session ≡ no_session
 
 -- One turn of the connection at this place.
-pub record LinksTook {E : Type 0} (r : Rules) (b : Broker) (ls : List Link) (i : ℕ) (what : Result Turn E) (new_b : Broker) (new_ls : List Link) : Type 0 where
-  pub old : Link
-  pub new : Link
+pub record LinksTook {E : Type 0} (r : Rules) (b : Broker) (ls : List Connected) (i : ℕ) (what : Result Turn E) (new_b : Broker) (new_ls : List Connected) : Type 0 where
+  pub old : Connected
+  pub new : Connected
   pub changes : Changes ls i old new new_ls
   pub took : LinkTookOr r b old what new_b new
 
 -- Output of the connection at this place was taken.
-pub record LinksSent (t : Topology) (b : Broker) (ls : List Link) (i n : ℕ) (new_b : Broker) (new_ls : List Link) : Type 0 where
-  pub old : Link
-  pub new : Link
+pub record LinksSent (t : Topology) (b : Broker) (ls : List Connected) (i n : ℕ) (new_b : Broker) (new_ls : List Connected) : Type 0 where
+  pub old : Connected
+  pub new : Connected
   pub changes : Changes ls i old new new_ls
   pub sent : LinkSent t b old n new_b new
 
 -- The connection at this place heard these bytes.
-pub record LinksFed (ls : List Link) (i : ℕ) (bytes : List ℕ) (new_ls : List Link) : Type 0 where
+pub record LinksFed (ls : List Connected) (i : ℕ) (bytes : List ℕ) (new_ls : List Connected) : Type 0 where
   pub within : i < length ls
-  pub old : Link
+  pub old : Connected
   pub here : get_or ls i old ≡ old
-  pub new : Link
+  pub new : Connected
   pub fed : LinkFed old bytes new
   pub left : new_ls ≡ set ls i new
 
 -- ---- the engine
 
 -- one connection is this link now, and all else is as before but the broker
-pub record Becomes (old : Parts) (l new_l : Link) (new : Parts) : Type 0 where
-  pub topology : topology_of new.broker ≡ topology_of old.broker
+pub record Becomes (old : Parts) (l new_l : Connected) (new : Parts) : Type 0 where
+  pub topology : topology_kept new.broker ≡ topology_kept old.broker
   pub guarantees : new.guarantees ≡ old.guarantees
   pub users : new.users ≡ old.users
   pub given : new.given ≡ old.given

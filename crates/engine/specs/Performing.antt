@@ -15,12 +15,12 @@ use Rattle.model.specs.declared.events.Event.TheVariants.{First, Command, TooLar
 use Rattle.model.specs.declared.notes.Note.{Note}
 
 -- the first eight bytes, a command or a fault of the stream, which is what a connection's bytes ask for
-abbrev pub IsAsked : ℕ → Event → Type 0
-IsAsked c (First d bytes) = d ≡ c
-IsAsked c (Command d h m content) = d ≡ c
-IsAsked c (TooLarge d h) = d ≡ c
-IsAsked c (Fault d code) = d ≡ c
-IsAsked c e = ⊥
+abbrev pub IsAskedBy : ℕ → Event → Type 0
+IsAskedBy c (First d bytes) = d ≡ c
+IsAskedBy c (Command d h m content) = d ≡ c
+IsAskedBy c (TooLarge d h) = d ≡ c
+IsAskedBy c (Fault d code) = d ≡ c
+IsAskedBy c e = ⊥
 
 -- the session after an event of the broker
 abbrev pub session_after : Session → Event → List Send → Session
@@ -51,7 +51,7 @@ pub record ByBroker (t : Topology) (b : Broker) (s : Session) (e : Event) (sends
 
 -- The phase answers the event of connection c by itself: nothing is noted, and the broker has one connection more where this one runs from now on.
 pub record ByPhase (users : List User) (c : ℕ) (p : Phase) (b : Broker) (s : Session) (e : Event) (sends : List Send) (notes : List Note) (new_b : Broker) (new_s : Session) : Type 0 where
-  pub asked : IsAsked c e
+  pub asked : IsAskedBy c e
   pub answered : IsAnswerTo users p s e (record { sends = sends; next = new_s })
   pub noted : notes ≡ []
   pub broker : Is (after_move b c new_s) new_b

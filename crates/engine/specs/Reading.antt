@@ -33,7 +33,7 @@ kept_of (Some (event.TooLarge c h)) = Some (TooLarge h)
 kept_of (Some e) = None
 
 -- the event is this command of the connection c
-pub record IsMade (c : ℕ) (e : Event) : Type 0 where
+pub record IsEventMade (c : ℕ) (e : Event) : Type 0 where
   pub command : Command
   pub made : e ≡ event_of c command
   pub said : IsCommand command
@@ -41,7 +41,7 @@ pub record IsMade (c : ℕ) (e : Event) : Type 0 where
 -- what is kept is a command of the connection c
 abbrev pub IsKeptEvent : ℕ → Option Event → Type 0
 IsKeptEvent c None = Unit {0}
-IsKeptEvent c (Some e) = IsMade c e
+IsKeptEvent c (Some e) = IsEventMade c e
 
 -- ---- what comes
 
@@ -51,16 +51,16 @@ to_read None s = length s.unread
 to_read (Some m) s = length s.unread + 1
 
 -- A command is the next, and is kept.
-pub record Has (c : ℕ) (kept : Option Event) (old : Stream) (left : Option Event) (new : Stream) : Type 0 where
+pub record HasEvent (c : ℕ) (kept : Option Event) (old : Stream) (left : Option Event) (new : Stream) : Type 0 where
   pub event : Event
   pub is : left ≡ Some event
-  pub made : IsMade c event
+  pub made : IsEventMade c event
   pub read : Reads c (kept_of kept) old event new
   pub same : SameToCome (kept_of kept) old (kept_of left) new
   pub fewer : to_read None new < to_read (kept_of kept) old
 
 -- This is what comes next of the connection c.
 abbrev pub ComesNext : ℕ → Option Event → Stream → Next → Option Event → Stream → Type 0
-ComesNext c kept old next.Command left new = Has c kept old left new
+ComesNext c kept old next.Command left new = HasEvent c kept old left new
 ComesNext c kept old (next.Fault code) left new = (left ≡ None) × (kept ≡ None) × Ends old (Some code) × GoesOn old new
 ComesNext c kept old next.Nothing left new = (left ≡ None) × (kept ≡ None) × Ends old None × GoesOn old new

@@ -17,14 +17,14 @@ ghost use Rattle.std.specs.Prelude.{
 };
 ghost use Rattle.model.specs.Arrivals.{is_ended};
 ghost use Rattle.model.specs.Sending.{AreCarried};
-ghost use Rattle.broker_core.specs.State.{topology_of, broker_of};
+ghost use Rattle.broker_core.specs.State.{topology_kept, broker_of};
 ghost use Rattle.engine.specs.Reading.{IsKeptEvent};
 ghost use Rattle.outputs.specs.Waiting.{HoldsNone};
 ghost use Rattle.engine.specs.Performing.{rules_of};
-ghost use Rattle.engine.specs.Turning.{LinkTook, LinkWaits, IsAwake, OnIdle};
+ghost use Rattle.engine.specs.Turning.{LinkTook, LinkWaits, MayTurn, OnIdle};
 ghost use Rattle.engine.specs.World.{AreRising};
 ghost use Rattle.engine.specs.Engines.{
-  IsPlaceOf,
+  IsLinkPlace,
   LinksTook,
   LinkSent,
   LinksSent,
@@ -32,9 +32,9 @@ ghost use Rattle.engine.specs.Engines.{
   LinksFed,
   IsSwept,
 };
-ghost use Rattle.engine.specs.declared.link.Link as seen_link;
+ghost use Rattle.engine.specs.declared.connected.Connected as seen_link;
 
-use crate::link::Link;
+use crate::connected::Connected;
 use crate::performing::resume_if;
 use crate::turning::{Turn, turn_awake};
 use broker::Broker;
@@ -47,9 +47,9 @@ const BOUND: usize = 1_048_576;
 
 /// The place of the connection of this number: it is found at once where every connection between it and the first still
 /// stands, and else by a search.
-pub(crate) fn place_of(links: &[Link], number: u64) -> Option<usize>
+pub(crate) fn place_of(links: &[Connected], number: u64) -> Option<usize>
     requires { AreRising 0 links.now }
-    ensures place { IsPlaceOf links.now number result }
+    ensures place { IsLinkPlace links.now number result }
     ensures within { IfSome result (λ i. i < length links.now) }
 {
     match place_at_once(links, number) {
@@ -59,8 +59,8 @@ pub(crate) fn place_of(links: &[Link], number: u64) -> Option<usize>
 }
 
 /// The place that it has where no number between the first and it is missing.
-fn place_at_once(links: &[Link], number: u64) -> Option<usize>
-    ensures place { IfSome result (λ i. IsPlaceOf links.now number (Some i)) }
+fn place_at_once(links: &[Connected], number: u64) -> Option<usize>
+    ensures place { IfSome result (λ i. IsLinkPlace links.now number (Some i)) }
 {
     let first = links.first()?;
     let place = number.checked_sub(first.number)? as usize;
@@ -73,9 +73,9 @@ fn place_at_once(links: &[Link], number: u64) -> Option<usize>
 }
 
 /// The place of the connection of this number, wherever it stands.
-fn place_by_search(links: &[Link], number: u64) -> Option<usize>
+fn place_by_search(links: &[Connected], number: u64) -> Option<usize>
     requires { AreRising 0 links.now }
-    ensures place { IsPlaceOf links.now number result }
+    ensures place { IsLinkPlace links.now number result }
     ensures within { IfSome result (λ i. i < length links.now) }
 {
     match links.binary_search_by_key(&number, |link| link.number) {
@@ -91,17 +91,17 @@ fn turn_link(
     broker: &mut Broker,
     scratch: &mut Scratch,
     spares: &mut Spares,
-    link: &mut Link,
+    link: &mut Connected,
 ) -> Result<Turn, AllocError>
     requires kept { IsKeptEvent link.old.number link.old.kept }
     requires carried { AreCarried (broker_of broker.old) }
-    ensures ok { IfOk result (λ t. LinkTook (rules_of (topology_of broker.old) users.now) (broker_of broker.old) link.old t (broker_of broker.new) link.new) }
+    ensures ok { IfOk result (λ t. LinkTook (rules_of (topology_kept broker.old) users.now) (broker_of broker.old) link.old t (broker_of broker.new) link.new) }
     ensures err { OnErr result (LinkWaits (broker_of broker.old) link.old (broker_of broker.new) link.new) }
-    ensures awake { OnErr result (IsAwake link.old) }
+    ensures awake { OnErr result (MayTurn link.old) }
     ensures idle { IfOk result (λ t. OnIdle t (HoldsNone link.new.output)) }
     ensures kept { IsKeptEvent link.new.number link.new.kept }
     ensures number { link.new.number ≡ link.old.number }
-    ensures topology { topology_of broker.new ≡ topology_of broker.old }
+    ensures topology { topology_kept broker.new ≡ topology_kept broker.old }
 {
     if link.session.is_over() {
         return Ok(Turn::Over);
@@ -113,9 +113,9 @@ fn turn_link(
 }
 
 /// Takes the connection at this place out, where it is over with no output left.
-fn sweep(links: &mut Vec<Link>, place: usize)
+fn sweep(links: &mut Vec<Connected>, place: usize)
     requires { place < length links.old.items }
-    ensures { (l : seen_link.Link) → get_or links.old.items place l ≡ l → IsSwept links.old.items place l links.new.items }
+    ensures { (l : seen_link.Connected) → get_or links.old.items place l ≡ l → IsSwept links.old.items place l links.new.items }
 {
     if links[place].is_gone() {
         links.remove(place);
@@ -129,14 +129,14 @@ pub(crate) fn turn_at(
     broker: &mut Broker,
     scratch: &mut Scratch,
     spares: &mut Spares,
-    links: &mut Vec<Link>,
+    links: &mut Vec<Connected>,
     place: usize,
 ) -> Result<Turn, AllocError>
     requires within { place < length links.old.items }
-    requires kept { (l : seen_link.Link) → get_or links.old.items place l ≡ l → IsKeptEvent l.number l.kept }
+    requires kept { (l : seen_link.Connected) → get_or links.old.items place l ≡ l → IsKeptEvent l.number l.kept }
     requires carried { AreCarried (broker_of broker.old) }
-    ensures took { LinksTook (rules_of (topology_of broker.old) users.now) (broker_of broker.old) links.old.items place result (broker_of broker.new) links.new.items }
-    ensures topology { topology_of broker.new ≡ topology_of broker.old }
+    ensures took { LinksTook (rules_of (topology_kept broker.old) users.now) (broker_of broker.old) links.old.items place result (broker_of broker.new) links.new.items }
+    ensures topology { topology_kept broker.new ≡ topology_kept broker.old }
 {
     let turn = turn_link(alloc, users, broker, scratch, spares, &mut links[place]);
     sweep(links, place);
@@ -144,10 +144,10 @@ pub(crate) fn turn_at(
 }
 
 /// Takes bytes from the front of a connection's output, and its storage where none is left.
-fn take_from(broker: &mut Broker, spares: &mut Spares, link: &mut Link, n: u64)
-    ensures sent { LinkSent (topology_of broker.old) (broker_of broker.old) link.old n (broker_of broker.new) link.new }
+fn take_from(broker: &mut Broker, spares: &mut Spares, link: &mut Connected, n: u64)
+    ensures sent { LinkSent (topology_kept broker.old) (broker_of broker.old) link.old n (broker_of broker.new) link.new }
     ensures none { HoldsNone link.new.output }
-    ensures topology { topology_of broker.new ≡ topology_of broker.old }
+    ensures topology { topology_kept broker.new ≡ topology_kept broker.old }
 {
     let was = link.output.bytes().len() >= BOUND;
     link.output.take_up_to(n);
@@ -160,20 +160,20 @@ fn take_from(broker: &mut Broker, spares: &mut Spares, link: &mut Link, n: u64)
 pub(crate) fn take_at(
     broker: &mut Broker,
     spares: &mut Spares,
-    links: &mut Vec<Link>,
+    links: &mut Vec<Connected>,
     place: usize,
     n: u64,
 )
     requires { place < length links.old.items }
-    ensures sent { LinksSent (topology_of broker.old) (broker_of broker.old) links.old.items place n (broker_of broker.new) links.new.items }
-    ensures topology { topology_of broker.new ≡ topology_of broker.old }
+    ensures sent { LinksSent (topology_kept broker.old) (broker_of broker.old) links.old.items place n (broker_of broker.new) links.new.items }
+    ensures topology { topology_kept broker.new ≡ topology_kept broker.old }
 {
     take_from(broker, spares, &mut links[place], n);
     sweep(links, place);
 }
 
 /// Puts bytes behind those that the connection has still to read, unless it is over.
-fn feed_link(link: &mut Link, bytes: &[u8]) -> Result<(), AllocError>
+fn feed_link(link: &mut Connected, bytes: &[u8]) -> Result<(), AllocError>
     ensures ok { OnOk result (LinkFed link.old bytes.now link.new) }
     ensures over { is_ended link.old.session.phase ≡ true → IsOk result × (link.new ≡ link.old) }
     ensures err { OnErr result (link.new ≡ link.old) }
@@ -185,10 +185,14 @@ fn feed_link(link: &mut Link, bytes: &[u8]) -> Result<(), AllocError>
 }
 
 /// The same of the connection at this place.
-pub(crate) fn feed_at(links: &mut Vec<Link>, place: usize, bytes: &[u8]) -> Result<(), AllocError>
+pub(crate) fn feed_at(
+    links: &mut Vec<Connected>,
+    place: usize,
+    bytes: &[u8],
+) -> Result<(), AllocError>
     requires { place < length links.old.items }
     ensures ok { OnOk result (LinksFed links.old.items place bytes.now links.new.items) }
-    ensures over { (l : seen_link.Link) → get_or links.old.items place l ≡ l → is_ended l.session.phase ≡ true → IsOk result × (links.new.items ≡ links.old.items) }
+    ensures over { (l : seen_link.Connected) → get_or links.old.items place l ≡ l → is_ended l.session.phase ≡ true → IsOk result × (links.new.items ≡ links.old.items) }
     ensures err { OnErr result (links.new.items ≡ links.old.items) }
 {
     feed_link(&mut links[place], bytes)

@@ -11,8 +11,8 @@ ghost use Rattle.engine.specs.Pumping.{IsPump};
 ghost use Rattle.engine.specs.Opening.{Numbers, OpenedNew, OpenedReady};
 ghost use Rattle.engine.specs.Certified.{in_force};
 
+use crate::connected::Connected;
 use crate::connections::{feed_at, place_of, take_at, turn_at};
-use crate::link::Link;
 use crate::pumping::pump_among;
 use crate::turning::Turn;
 use broker::Broker;
@@ -58,7 +58,7 @@ pub struct Engine {
     users: Vec<User>,
     given: u64,
     /// Those that are not gone, in the order of their numbers.
-    links: Vec<Link>,
+    links: Vec<Connected>,
     scratch: Scratch,
     spares: Spares,
 }
@@ -113,7 +113,7 @@ impl Engine {
         ensures { OpenedNew (world_of self.old) result (world_of self.new) }
     {
         let number = next_number(&mut self.links, self.given)?;
-        self.links.push_reserved(Link::new(alloc, number));
+        self.links.push_reserved(Connected::new(alloc, number));
         self.given = number;
         Ok(number)
     }
@@ -126,7 +126,7 @@ impl Engine {
     {
         let number = next_number(&mut self.links, self.given)?;
         self.broker.open(alloc, number, 255, u16::from(channels))?;
-        self.links.push_reserved(Link::running(alloc, number));
+        self.links.push_reserved(Connected::running(alloc, number));
         self.given = number;
         Ok(number)
     }
@@ -248,7 +248,7 @@ impl Engine {
 }
 
 /// The number of one more connection, where `given` were given, with room for it from now on.
-fn next_number(links: &mut Vec<Link>, given: u64) -> Result<u64, Refused>
+fn next_number(links: &mut Vec<Connected>, given: u64) -> Result<u64, Refused>
     ensures numbers { Numbers given links.old.items result }
     ensures room { OnOk result (vec_len links.new < vec_capacity links.new) }
     ensures same { links.new.items ≡ links.old.items }

@@ -4,9 +4,9 @@
 //! command that a connection's bytes spell, and puts out what the broker sends. [`run`] does all that arrives.
 #![tactic(auto)]
 
+mod connected;
 mod connections;
 mod engines;
-mod link;
 mod machines;
 mod performing;
 mod pumping;

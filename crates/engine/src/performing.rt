@@ -6,8 +6,8 @@ ghost use Rattle.model.specs.Phases.{is_running};
 ghost use Rattle.model.specs.State.{after_move};
 ghost use Rattle.model.specs.Arrivals.{IsSaid};
 ghost use Rattle.model.specs.Sending.{AreCarried, AreOwn};
-ghost use Rattle.broker_core.specs.State.{topology_of, broker_of};
-ghost use Rattle.engine.specs.Performing.{IsAsked, session_after, rules_of, IsAnswerTo, ByBroker, ByPhase, DecidesByPhase, PausesOr};
+ghost use Rattle.broker_core.specs.State.{topology_kept, broker_of};
+ghost use Rattle.engine.specs.Performing.{IsAskedBy, session_after, rules_of, IsAnswerTo, ByBroker, ByPhase, DecidesByPhase, PausesOr};
 
 use broker::{Broker, Step};
 use model::{Event, Phase, Send, User};
@@ -32,15 +32,15 @@ fn by_broker(
     session: &mut Session,
     event: &Event,
 ) -> Result<Step, AllocError>
-    requires asked { IsAsked c event.now }
+    requires asked { IsAskedBy c event.now }
     requires said { IsSaid event.now }
     requires carried { AreCarried (broker_of broker.old) }
     requires runs { is_running session.old.phase ≡ true }
-    ensures ok { IfOk result (λ d. ByBroker (topology_of broker.old) (broker_of broker.old) session.old event.now d.sends.items d.notes.items (broker_of broker.new) session.new) }
+    ensures ok { IfOk result (λ d. ByBroker (topology_kept broker.old) (broker_of broker.old) session.old event.now d.sends.items d.notes.items (broker_of broker.new) session.new) }
     ensures own { IfOk result (λ d. AreOwn c d.sends.items) }
     ensures broker_kept { OnErr result (broker.new ≡ broker.old) }
     ensures session_kept { OnErr result (session.new ≡ session.old) }
-    ensures topology { topology_of broker.new ≡ topology_of broker.old }
+    ensures topology { topology_kept broker.new ≡ topology_kept broker.old }
 {
     let step = broker.step(alloc, event)?;
     learn(session, event, &step.sends);
@@ -55,7 +55,7 @@ fn sends_of(
     session: &mut Session,
     event: &Event,
 ) -> Result<Vec<Send>, AllocError>
-    requires { IsAsked c event.now }
+    requires { IsAskedBy c event.now }
     ensures answered { IfOk result (λ sends. IsAnswerTo users.now session.old.phase session.old event.now (record { sends = sends.items; next = session.new })) }
     ensures own { IfOk result (λ sends. AreOwn c sends.items) }
 {
@@ -76,7 +76,7 @@ fn sends_of(
 fn open_if(c: u64, alloc: Global, broker: &mut Broker, session: &Session) -> Result<(), AllocError>
     ensures ok { OnOk result (Is (after_move (broker_of broker.old) c session.now) (broker_of broker.new)) }
     ensures err { OnErr result (broker.new ≡ broker.old) }
-    ensures topology { topology_of broker.new ≡ topology_of broker.old }
+    ensures topology { topology_kept broker.new ≡ topology_kept broker.old }
 {
     match session.phase() {
         Phase::Running => broker.open(alloc, c, session.channel_max(), 0),
@@ -94,12 +94,12 @@ fn by_phase(
     session: &mut Session,
     event: &Event,
 ) -> Result<Step, AllocError>
-    requires asked { IsAsked c event.now }
+    requires asked { IsAskedBy c event.now }
     ensures ok { IfOk result (λ d. ByPhase users.now c session.old.phase (broker_of broker.old) session.old event.now d.sends.items d.notes.items (broker_of broker.new) session.new) }
     ensures own { IfOk result (λ d. AreOwn c d.sends.items) }
     ensures broker_kept { OnErr result (broker.new ≡ broker.old) }
     ensures session_kept { OnErr result (session.new ≡ session.old) }
-    ensures topology { topology_of broker.new ≡ topology_of broker.old }
+    ensures topology { topology_kept broker.new ≡ topology_kept broker.old }
 {
     let mut next = session.copied();
     let sends = sends_of(c, alloc, users, &mut next, event)?;
@@ -120,14 +120,14 @@ pub(crate) fn perform(
     session: &mut Session,
     event: &Event,
 ) -> Result<Step, AllocError>
-    requires asked { IsAsked c event.now }
+    requires asked { IsAskedBy c event.now }
     requires said { IsSaid event.now }
     requires carried { AreCarried (broker_of broker.old) }
-    ensures ok { IfOk result (λ d. DecidesByPhase c session.old.phase (rules_of (topology_of broker.old) users.now) (broker_of broker.old) session.old event.now d.sends.items d.notes.items (broker_of broker.new) session.new) }
+    ensures ok { IfOk result (λ d. DecidesByPhase c session.old.phase (rules_of (topology_kept broker.old) users.now) (broker_of broker.old) session.old event.now d.sends.items d.notes.items (broker_of broker.new) session.new) }
     ensures own { IfOk result (λ d. AreOwn c d.sends.items) }
     ensures broker_kept { OnErr result (broker.new ≡ broker.old) }
     ensures session_kept { OnErr result (session.new ≡ session.old) }
-    ensures topology { topology_of broker.new ≡ topology_of broker.old }
+    ensures topology { topology_kept broker.new ≡ topology_kept broker.old }
 {
     match session.phase() {
         Phase::Running => by_broker(c, alloc, broker, session, event),
@@ -137,8 +137,8 @@ pub(crate) fn perform(
 
 /// The pause that more output brings, where it is past the bound now.
 pub(crate) fn pause_if(broker: &mut Broker, c: u64, is: bool)
-    ensures pauses { PausesOr (topology_of broker.old) c false is (broker_of broker.old) (broker_of broker.new) }
-    ensures topology { topology_of broker.new ≡ topology_of broker.old }
+    ensures pauses { PausesOr (topology_kept broker.old) c false is (broker_of broker.old) (broker_of broker.new) }
+    ensures topology { topology_kept broker.new ≡ topology_kept broker.old }
 {
     if is {
         broker.pause(c);
@@ -148,8 +148,8 @@ pub(crate) fn pause_if(broker: &mut Broker, c: u64, is: bool)
 /// The resumption that less output brings, where it was past the bound and is no more.
 pub(crate) fn resume_if(broker: &mut Broker, c: u64, was: bool, is: bool)
     requires { is ≡ true → was ≡ true }
-    ensures pauses { PausesOr (topology_of broker.old) c was is (broker_of broker.old) (broker_of broker.new) }
-    ensures topology { topology_of broker.new ≡ topology_of broker.old }
+    ensures pauses { PausesOr (topology_kept broker.old) c was is (broker_of broker.old) (broker_of broker.new) }
+    ensures topology { topology_kept broker.new ≡ topology_kept broker.old }
 {
     if !was {
         return;

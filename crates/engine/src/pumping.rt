@@ -3,13 +3,13 @@
 ghost use Rattle.std.specs.Prelude.{◌≡◌, None, IfOk, OnErr};
 ghost use Rattle.model.specs.Naming.{AreNamed};
 ghost use Rattle.model.specs.Sending.{AreCarried};
-ghost use Rattle.broker_core.specs.State.{topology_of, broker_of};
+ghost use Rattle.broker_core.specs.State.{topology_kept, broker_of};
 ghost use Rattle.broker_core.specs.Picked.{IsPick};
 ghost use Rattle.engine.specs.World.{link_in, AreRising};
 ghost use Rattle.engine.specs.Pumping.{LinkPumped, LinksPumped, LinksNotPumped};
 
+use crate::connected::Connected;
 use crate::connections::place_of;
-use crate::link::Link;
 use crate::turning::put_out;
 use broker::{Broker, Pick};
 use model::Note;
@@ -22,17 +22,17 @@ fn pump_link(
     broker: &mut Broker,
     scratch: &mut Scratch,
     spares: &mut Spares,
-    link: &mut Link,
+    link: &mut Connected,
     pick: Pick,
 ) -> Result<Vec<Note>, AllocError>
     requires picked { IsPick (broker_of broker.old) pick }
     requires carried { AreCarried (broker_of broker.old) }
-    requires named { AreNamed (topology_of broker.old) (broker_of broker.old) }
-    ensures ok { IfOk result (λ notes. LinkPumped (topology_of broker.old) (broker_of broker.old) pick.connection link.old notes.items (broker_of broker.new) link.new) }
+    requires named { AreNamed (topology_kept broker.old) (broker_of broker.old) }
+    ensures ok { IfOk result (λ notes. LinkPumped (topology_kept broker.old) (broker_of broker.old) pick.connection link.old notes.items (broker_of broker.new) link.new) }
     ensures rest { link.new ≡ record link.old { output = link.new.output } }
     ensures broker_kept { OnErr result (broker.new ≡ broker.old) }
     ensures output_kept { OnErr result (link.new.output.bytes ≡ link.old.output.bytes) }
-    ensures topology { topology_of broker.new ≡ topology_of broker.old }
+    ensures topology { topology_kept broker.new ≡ topology_kept broker.old }
 {
     spares.make_room(&mut link.output)?;
     let max = link.session.frame_max();
@@ -61,17 +61,17 @@ pub(crate) fn pump_among(
     broker: &mut Broker,
     scratch: &mut Scratch,
     spares: &mut Spares,
-    links: &mut Vec<Link>,
+    links: &mut Vec<Connected>,
     pick: Pick,
 ) -> Result<Vec<Note>, AllocError>
     requires rising { AreRising 0 links.old.items }
     requires there { link_in links.old.items pick.connection ≡ None → ⊥ }
     requires picked { IsPick (broker_of broker.old) pick }
     requires carried { AreCarried (broker_of broker.old) }
-    requires named { AreNamed (topology_of broker.old) (broker_of broker.old) }
-    ensures ok { IfOk result (λ notes. LinksPumped (topology_of broker.old) (broker_of broker.old) pick.connection links.old.items notes.items (broker_of broker.new) links.new.items) }
+    requires named { AreNamed (topology_kept broker.old) (broker_of broker.old) }
+    ensures ok { IfOk result (λ notes. LinksPumped (topology_kept broker.old) (broker_of broker.old) pick.connection links.old.items notes.items (broker_of broker.new) links.new.items) }
     ensures err { OnErr result (LinksNotPumped (broker_of broker.old) pick.connection links.old.items (broker_of broker.new) links.new.items) }
-    ensures topology { topology_of broker.new ≡ topology_of broker.old }
+    ensures topology { topology_kept broker.new ≡ topology_kept broker.old }
 {
     match place_of(links, pick.connection) {
         Some(place) => pump_link(alloc, broker, scratch, spares, &mut links[place], pick),

@@ -7,13 +7,13 @@ ghost use Rattle.model.specs.Sending.{AreCarried, AreOwn, most_sent};
 ghost use Rattle.model.specs.Spelling.{receiver, spelling, IsSpelled};
 ghost use Rattle.model.specs.declared.events.Event as event;
 ghost use Rattle.model.specs.declared.events.Event.TheVariants as happens;
-ghost use Rattle.broker_core.specs.State.{topology_of, broker_of};
-ghost use Rattle.engine.specs.Reading.{IsKeptEvent, IsMade};
-ghost use Rattle.engine.specs.Performing.{IsAsked, PausesOr, rules_of};
-ghost use Rattle.engine.specs.Turning.{Performed, DidEvent, LinkTook, LinkWaits, IsAwake, OnIdle};
+ghost use Rattle.broker_core.specs.State.{topology_kept, broker_of};
+ghost use Rattle.engine.specs.Reading.{IsKeptEvent, IsEventMade};
+ghost use Rattle.engine.specs.Performing.{IsAskedBy, PausesOr, rules_of};
+ghost use Rattle.engine.specs.Turning.{Performed, DidEvent, LinkTook, LinkWaits, MayTurn, OnIdle};
 ghost use Rattle.outputs.specs.Waiting.{HoldsNone};
 
-use crate::link::Link;
+use crate::connected::Connected;
 use crate::performing::{pause_if, perform};
 use crate::reading::{Next, forget, read_next};
 use broker::Broker;
@@ -51,8 +51,8 @@ pub(crate) fn put_out(
     ensures bytes { output.new.bytes ≡ output.old.bytes ++ spelling max sends.now }
     ensures spelled { AllByRecursion (IsSpelled max) sends.now }
     ensures own { AllByRecursion (λ s. receiver s ≡ c) sends.now }
-    ensures pauses { PausesOr (topology_of broker.old) c false (is_past_bound output.new.bytes) (broker_of broker.old) (broker_of broker.new) }
-    ensures topology { topology_of broker.new ≡ topology_of broker.old }
+    ensures pauses { PausesOr (topology_kept broker.old) c false (is_past_bound output.new.bytes) (broker_of broker.old) (broker_of broker.new) }
+    ensures topology { topology_kept broker.new ≡ topology_kept broker.old }
 {
     put_sends(c, output, scratch, max, sends);
     let is_past = output.bytes().len() >= 1_048_576;
@@ -70,15 +70,15 @@ fn do_event(
     output: &mut Output,
     event: &Event,
 ) -> Result<Vec<Note>, AllocError>
-    requires asked { IsAsked c event.now }
+    requires asked { IsAskedBy c event.now }
     requires said { IsSaid event.now }
     requires carried { AreCarried (broker_of broker.old) }
     requires room { most_sent ≤ output.old.room }
-    ensures ok { IfOk result (λ notes. Performed (rules_of (topology_of broker.old) users.now) (broker_of broker.old) c session.old output.old.bytes event.now notes.items (broker_of broker.new) session.new output.new.bytes) }
+    ensures ok { IfOk result (λ notes. Performed (rules_of (topology_kept broker.old) users.now) (broker_of broker.old) c session.old output.old.bytes event.now notes.items (broker_of broker.new) session.new output.new.bytes) }
     ensures broker_kept { OnErr result (broker.new ≡ broker.old) }
     ensures session_kept { OnErr result (session.new ≡ session.old) }
     ensures output_kept { OnErr result (output.new ≡ output.old) }
-    ensures topology { topology_of broker.new ≡ topology_of broker.old }
+    ensures topology { topology_kept broker.new ≡ topology_kept broker.old }
 {
     let max = session.frame_max();
     let step = perform(c, alloc, users, broker, session, event)?;
@@ -92,15 +92,15 @@ fn do_kept(
     users: &[User],
     broker: &mut Broker,
     scratch: &mut Scratch,
-    link: &mut Link,
+    link: &mut Connected,
 ) -> Result<Turn, AllocError>
-    requires kept { (e : event.Event) × (link.old.kept ≡ Some e) × IsAsked link.old.number e × IsSaid e }
+    requires kept { (e : event.Event) × (link.old.kept ≡ Some e) × IsAskedBy link.old.number e × IsSaid e }
     requires carried { AreCarried (broker_of broker.old) }
     requires room { most_sent ≤ link.old.output.room }
-    ensures ok { IfOk result (λ t. (e : event.Event) → link.old.kept ≡ Some e → DidEvent (rules_of (topology_of broker.old) users.now) (broker_of broker.old) link.old e t (broker_of broker.new) link.new) }
+    ensures ok { IfOk result (λ t. (e : event.Event) → link.old.kept ≡ Some e → DidEvent (rules_of (topology_kept broker.old) users.now) (broker_of broker.old) link.old e t (broker_of broker.new) link.new) }
     ensures broker_kept { OnErr result (broker.new ≡ broker.old) }
     ensures link_kept { OnErr result (link.new ≡ link.old) }
-    ensures topology { topology_of broker.new ≡ topology_of broker.old }
+    ensures topology { topology_kept broker.new ≡ topology_kept broker.old }
 {
     let done = match &link.kept {
         Some(event) => do_event(
@@ -131,16 +131,16 @@ fn do_fault(
     users: &[User],
     broker: &mut Broker,
     scratch: &mut Scratch,
-    link: &mut Link,
+    link: &mut Connected,
     code: u16,
 ) -> Result<Turn, AllocError>
     requires kept { link.old.kept ≡ None }
     requires carried { AreCarried (broker_of broker.old) }
     requires room { most_sent ≤ link.old.output.room }
-    ensures ok { IfOk result (λ t. DidEvent (rules_of (topology_of broker.old) users.now) (broker_of broker.old) link.old (happens.Fault link.old.number code) t (broker_of broker.new) link.new) }
+    ensures ok { IfOk result (λ t. DidEvent (rules_of (topology_kept broker.old) users.now) (broker_of broker.old) link.old (happens.Fault link.old.number code) t (broker_of broker.new) link.new) }
     ensures broker_kept { OnErr result (broker.new ≡ broker.old) }
     ensures link_kept { OnErr result (link.new ≡ link.old) }
-    ensures topology { topology_of broker.new ≡ topology_of broker.old }
+    ensures topology { topology_kept broker.new ≡ topology_kept broker.old }
 {
     let connection = link.number;
     let event = Event::Fault { connection, code };
@@ -171,19 +171,19 @@ pub(crate) fn turn_awake(
     broker: &mut Broker,
     scratch: &mut Scratch,
     spares: &mut Spares,
-    link: &mut Link,
+    link: &mut Connected,
 ) -> Result<Turn, AllocError>
     requires kept { IsKeptEvent link.old.number link.old.kept }
     requires carried { AreCarried (broker_of broker.old) }
     requires open { is_ended link.old.session.phase ≡ false }
     requires below { is_past_bound link.old.output.bytes ≡ false }
-    ensures ok { IfOk result (λ t. LinkTook (rules_of (topology_of broker.old) users.now) (broker_of broker.old) link.old t (broker_of broker.new) link.new) }
+    ensures ok { IfOk result (λ t. LinkTook (rules_of (topology_kept broker.old) users.now) (broker_of broker.old) link.old t (broker_of broker.new) link.new) }
     ensures err { OnErr result (LinkWaits (broker_of broker.old) link.old (broker_of broker.new) link.new) }
-    ensures awake { OnErr result (IsAwake link.old) }
+    ensures awake { OnErr result (MayTurn link.old) }
     ensures idle { IfOk result (λ t. OnIdle t (HoldsNone link.new.output)) }
     ensures kept { IsKeptEvent link.new.number link.new.kept }
     ensures number { link.new.number ≡ link.old.number }
-    ensures topology { topology_of broker.new ≡ topology_of broker.old }
+    ensures topology { topology_kept broker.new ≡ topology_kept broker.old }
 {
     match read_next(link.number, &mut link.stream, &mut link.kept)? {
         Next::Command => {

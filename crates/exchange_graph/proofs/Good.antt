@@ -1,5 +1,5 @@
 -- What can be built is well formed.
-use Rattle.std.proofs.Common.{◌≡◌, ◌≤◌, [], length, sym, subst, Some, inl, inr, ◌⊎◌, arith}
+use Rattle.std.proofs.Common.{◌≡◌, ◌≤◌, [], length, sym, subst, inl, inr, ◌⊎◌, arith}
 use Rattle.std.specs.Prelude.{Contains}
 use Rattle.std.proofs.lemmas.List.Elements.{All-contains}
 use Rattle.model.specs.Words.{Text}
@@ -9,9 +9,9 @@ use Rattle.model.specs.declared.topologies.DeclaredQueue.{DeclaredQueue}
 use Rattle.model.specs.declared.topologies.Binding.{Binding}
 use Rattle.model.specs.declared.topologies.Place.{Place}
 use Rattle.model.specs.declared.topologies.Place.TheVariants as place
-use Rattle.topology_drafts.specs.declared.bad.Bad.{Bad}
-use Rattle.topology_drafts.specs.declared.bad.Bad.TheVariants.{Repeated, Absent, Argument, Worded, TooMany, NoExchange, Memory}
-use Rattle.topology_drafts.specs.Causes.{IsBuildable, StandsAgainst, IsRefused, IsNamed, IsWorded, IsPlace, Joins, AlternateIsThere, DeadLettersLead}
+use Rattle.topology_drafts.specs.declared.bad.BadTopology.{BadTopology}
+use Rattle.topology_drafts.specs.declared.bad.BadTopology.TheVariants.{Repeated, Absent, Argument, Worded, TooMany, NoExchange, Memory}
+use Rattle.topology_drafts.specs.Causes.{IsBuildable, StandsAgainst, IsTopologyRefused, IsNamed, IsWorded, IsPlace, Joins, AlternateIsThere, DeadLettersLead}
 use Rattle.topology_drafts.proofs.Members.{map_in, contains_in}
 
 none_unnamed : (t : Topology) → IsBuildable t → IsIn [] (exchange_names t.exchanges) → ⊥
@@ -50,7 +50,7 @@ well_formed t b =
     }
 
 -- what stands against a topology is why it is refused
-pub refused : (e : Bad) (t : Topology) → StandsAgainst e t → IsRefused e t
+pub refused : (e : BadTopology) (t : Topology) → StandsAgainst e t → IsTopologyRefused e t
 refused Repeated t h = h
 refused Absent t h = h
 refused Argument t h = h

@@ -6,9 +6,9 @@ use Rattle.std.specs.Str.{bytes_eq}
 use Rattle.std.specs.List.{position_or_len}
 use Rattle.model.specs.Words.{Text}
 use Rattle.model.specs.Topology.{IsIn}
-use Rattle.topology_drafts.specs.Naming.{Enters}
+use Rattle.topology_drafts.specs.Naming.{EntersName}
 use Rattle.exchange_graph.specs.declared.ends.End.{End}
-use Rattle.exchange_graph.specs.declared.ends.Way.{Way}
+use Rattle.exchange_graph.specs.declared.ends.Branch.{Branch}
 use Rattle.exchange_graph.specs.Fans.{ends_by_key}
 use Rattle.exchange_graph.specs.declared.ends.KeyedEnds.{KeyedEnds}
 use Rattle.exchange_graph.specs.Keyed.{ends_beside, IsEven, PutsUnder}
@@ -137,7 +137,7 @@ pub absent : (key : Text) (ks : List Text) → position (λ (k : Text). bytes_eq
 absent key ks p h = absent_at key ks (place_if_none (λ (k : Text). bytes_eq key k) ks p) h
 
 -- the key was entered, since it was not there
-pub entered : (key : Text) (ks ks' : List Text) (added : Bool) → (IsIn key ks → ⊥) → Enters key ks ks' added → ks' ≡ ks ++ key ∷ []
+pub entered : (key : Text) (ks ks' : List Text) (added : Bool) → (IsIn key ks → ⊥) → EntersName key ks ks' added → ks' ≡ ks ++ key ∷ []
 entered key ks ks' true p n = n.behind refl
 entered key ks ks' false p n = absurd (p (n.was_there refl))
 
@@ -166,24 +166,24 @@ puts_new key e old new l p q r = record {
 
 -- ---- the ways that are left
 
-one_way : (key : Text) (w : Way) (ws : List Way) → ends_by_key key (w ∷ ws) ≡ ends_by_key key (w ∷ []) ++ ends_by_key key ws
+one_way : (key : Text) (w : Branch) (ws : List Branch) → ends_by_key key (w ∷ ws) ≡ ends_by_key key (w ∷ []) ++ ends_by_key key ws
 one_way key w ws = at (bytes_eq w.key key) w.end (ends_by_key key ws)
   where
     at : (v : Bool) (e : End) (es : List End) → cond v (e ∷ es) es ≡ cond v (e ∷ []) [] ++ es
     at true e es = refl
     at false e es = refl
 
-pub none_put : (other : Text) (ws : List Way) (keyed : KeyedEnds) → keyed.keys ≡ [] → ends_beside other keyed.keys keyed.lists.items ++ ends_by_key other ws ≡ ends_by_key other ws
+pub none_put : (other : Text) (ws : List Branch) (keyed : KeyedEnds) → keyed.keys ≡ [] → ends_beside other keyed.keys keyed.lists.items ++ ends_by_key other ws ≡ ends_by_key other ws
 none_put other ws keyed e = ap (λ (ks : List Text). ends_beside other ks keyed.lists.items ++ ends_by_key other ws) e
 
-pub put_more : (other : Text) (ws : List Way) (i : ℕ) (w : Way) (key : Text) (old new : List End) → i < length ws → w ≡ get_or ws i w → key ≡ w.key
+pub put_more : (other : Text) (ws : List Branch) (i : ℕ) (w : Branch) (key : Text) (old new : List End) → i < length ws → w ≡ get_or ws i w → key ≡ w.key
     → new ≡ old ++ one_end key other w.end → old ++ ends_by_key other (drop i ws) ≡ ends_by_key other ws → new ++ ends_by_key other (drop (i + 1) ws) ≡ ends_by_key other ws
 put_more other ws i w key old new h e s n k =
-    let d : drop i ws ≡ w ∷ drop (i + 1) ws = drop_more ws i w h ∙ ap (λ (x : Way). x ∷ drop (i + 1) ws) (sym e) in
+    let d : drop i ws ≡ w ∷ drop (i + 1) ws = drop_more ws i w h ∙ ap (λ (x : Branch). x ∷ drop (i + 1) ws) (sym e) in
     let m : new ≡ old ++ ends_by_key other (w ∷ []) = n ∙ ap (λ (x : Text). old ++ one_end x other w.end) s in
     let more = ends_by_key other (drop (i + 1) ws) in
     ap (λ (es : List End). es ++ more) m ∙ append_assoc old (ends_by_key other (w ∷ [])) more ∙ ap (λ (es : List End). old ++ es) (sym (one_way other w (drop (i + 1) ws)))
-    ∙ ap (λ (vs : List Way). old ++ ends_by_key other vs) (sym d) ∙ k
+    ∙ ap (λ (vs : List Branch). old ++ ends_by_key other vs) (sym d) ∙ k
 
-pub put_all : (other : Text) (ws : List Way) (i : ℕ) (es : List End) → length ws ≤ i → es ++ ends_by_key other (drop i ws) ≡ ends_by_key other ws → es ≡ ends_by_key other ws
-put_all other ws i es h k = sym (append-nil es) ∙ ap (λ (vs : List Way). es ++ ends_by_key other vs) (sym (at_drop_all (λ (vs : List Way). vs) ws i h)) ∙ k
+pub put_all : (other : Text) (ws : List Branch) (i : ℕ) (es : List End) → length ws ≤ i → es ++ ends_by_key other (drop i ws) ≡ ends_by_key other ws → es ≡ ends_by_key other ws
+put_all other ws i es h k = sym (append-nil es) ∙ ap (λ (vs : List Branch). es ++ ends_by_key other vs) (sym (at_drop_all (λ (vs : List Branch). vs) ws i h)) ∙ k

@@ -3,19 +3,10 @@ use Rattle.std.proofs.Common.{◌≡◌, ℕ, zero, suc, ◌+◌, ◌<◌, List,
 use Rattle.std.proofs.lemmas.List.{take_more}
 use Rattle.std.specs.Prelude.{◌⊎◌}
 use Rattle.exchange_graph.specs.declared.ends.End.{End}
-use Rattle.exchange_graph.specs.Marks.{Marks, IsSet, unset}
+use Rattle.exchange_graph.specs.Marks.{MarksEnds, IsSet, unset}
 use Rattle.topology_drafts.proofs.Members.{in_append, in_left, in_right}
 
-pub marks_none : (seen found : List Bool) → Marks [] seen found seen found
-marks_none seen found = record {
-  seen_length = refl;
-  found_length = refl;
-  kept = λ e m. m;
-  all = λ e h. absurd h;
-  only = λ e m. inl m;
-}
-
-pub marks_then : (es fs : List End) (a b c d x y : List Bool) → Marks es a b c d → Marks fs c d x y → Marks (es ++ fs) a b x y
+pub marks_then : (es fs : List End) (a b c d x y : List Bool) → MarksEnds es a b c d → MarksEnds fs c d x y → MarksEnds (es ++ fs) a b x y
 marks_then es fs a b c d x y m n = record {
   seen_length = n.seen_length ∙ m.seen_length;
   found_length = n.found_length ∙ m.found_length;
@@ -29,7 +20,7 @@ marks_then es fs a b c d x y m n = record {
 
 -- one end more of those that stand in a list
 pub marks_more : (ends : List End) (i : ℕ) (d : End) (a b c f x y : List Bool) → i < length ends
-    → Marks (take i ends) a b c f → Marks (get_or ends i d ∷ []) c f x y → Marks (take (i + 1) ends) a b x y
+    → MarksEnds (take i ends) a b c f → MarksEnds (get_or ends i d ∷ []) c f x y → MarksEnds (take (i + 1) ends) a b x y
 marks_more ends i d a b c f x y h m n = rw (take_more ends i d h) (marks_then (take i ends) (get_or ends i d ∷ []) a b c f x y m n)
 
 -- ---- one mark

@@ -12,6 +12,7 @@ use Rattle.model.specs.declared.topologies.Exchange.{Exchange}
 use Rattle.model.specs.declared.topologies.DeclaredQueue.{DeclaredQueue}
 use Rattle.model.specs.declared.topologies.Place.{Place}
 use Rattle.model.specs.declared.topologies.Place.TheVariants as place
+use Rattle.exchange_graph.specs.Marks.{queue_name}
 use Rattle.exchange_graph.specs.Fans.{exchange_place, queue_place, end_of, place_of, EndsWithin}
 use Rattle.topology_drafts.proofs.Members.{in_get, in_contains, contains_in}
 
@@ -119,3 +120,16 @@ absent_if_none {A} name_of xs name None e = λ h. (
     let p = named_place name_of xs name h in
     absurd (omega (arith, s, p.within)))
 absent_if_none name_of xs name (Some i) e = tt
+
+-- a queue is known by its name
+pub same_queue : (t : Topology) (q : DeclaredQueue) (at : ℕ) → IsWellFormed t → Contains t.queues q → at < length t.queues → queue_name t at ≡ q.name → get_or t.queues at q ≡ q
+same_queue t q at w c h e =
+    let n : length (queue_names t.queues) ≡ length t.queues = length-map t.queues (λ (z : DeclaredQueue). z.name) in
+    let a : get_or (queue_names t.queues) c.0 [] ≡ q.name = get_map (λ (z : DeclaredQueue). z.name) t.queues c.0 q [] c.1 ∙ ap (λ (z : DeclaredQueue). z.name) c.2 in
+    let s : c.0 ≡ at = apart_same (queue_names t.queues) c.0 at w.queues_apart (omega (arith, n, c.1)) (omega (arith, n, h)) (a ∙ sym e) in
+    subst (λ (i : ℕ). get_or t.queues i q ≡ q) s c.2
+
+pub get_any : {A : Type 0} (xs : List A) (i : ℕ) (d e : A) → i < length xs → get_or xs i d ≡ get_or xs i e
+get_any [] i d e h = absurd (omega (arith, h))
+get_any (x ∷ xs) zero d e h = refl
+get_any (x ∷ xs) (suc i) d e h = get_any xs i d e (omega (arith, h))

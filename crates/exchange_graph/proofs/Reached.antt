@@ -2,7 +2,7 @@
 use Rattle.std.proofs.Common.{◌≡◌, ℕ, ◌<◌, List, Bool, true, sym, ap, ◌∙◌, subst, length, inl, inr, arith, None}
 use Rattle.std.proofs.lemmas.List.{length-map, length-set}
 use Rattle.model.specs.Words.{Text}
-use Rattle.model.specs.Topology.{Topology, IsIn, IsWellFormed, exchange_names, queue_names}
+use Rattle.model.specs.Topology.{Topology, IsWellFormed, exchange_names, queue_names}
 use Rattle.model.specs.Routing.{Edge, Leads, here, on, Routes, of_key}
 use Rattle.model.specs.declared.topologies.Exchange.{Exchange}
 use Rattle.model.specs.declared.topologies.DeclaredQueue.{DeclaredQueue}
@@ -10,14 +10,10 @@ use Rattle.model.specs.declared.topologies.Place.{Place}
 use Rattle.model.specs.declared.topologies.Place.TheVariants as place
 use Rattle.exchange_graph.specs.declared.ends.End.{End}
 use Rattle.exchange_graph.specs.declared.ends.End.TheVariants.{Onward, Into}
-use Rattle.exchange_graph.specs.Fans.{AreSteps, EndsWithin, place_of}
-use Rattle.exchange_graph.specs.Marks.{Marks, IsMet, IsSet, IsClosed, IsPending, Arrives, HasRoom, Reaching, Expands, AreMet, exchange_name, queue_name}
+use Rattle.exchange_graph.specs.Fans.{place_of}
+use Rattle.exchange_graph.specs.Marks.{MarksEnds, IsMet, IsSet, MarksAreClosed, IsPending, Arrives, Reaching, Expands, AreMet, exchange_name, queue_name}
 use Rattle.exchange_graph.proofs.Marking.{set_only, set_within}
 use Rattle.exchange_graph.proofs.Naming.{apart_same}
-
-pub within_room : (t : Topology) (key name : Text) (seen found : List Bool) (ends : List End) → HasRoom t seen found → AreSteps t key name ends
-    → (e : End) → IsIn e ends → EndsWithin (length seen) (length found) e
-within_room t key name seen found ends r s e h = rw (r.exchanges, r.queues) (s.within e h)
 
 -- one step more at the end
 leads_on : {t : Topology} {key x y : Text} (z : Text) → Leads t (of_key key) x y → Edge t (of_key key) y (place.Exchange z) → Leads t (of_key key) x z
@@ -28,7 +24,7 @@ arrives : (t : Topology) (key x y : Text) (to : Place) → Leads t (of_key key) 
 arrives t key x y (place.Exchange z) l s = leads_on z l s
 arrives t key x y (place.Queue q) l s = (y, l, s)
 
-still_closed : (t : Topology) (key name : Text) (ends : List End) (seen found seen' found' : List Bool) → Marks ends seen found seen' found' → IsClosed t key name seen found → IsClosed t key name seen' found'
+still_closed : (t : Topology) (key name : Text) (ends : List End) (seen found seen' found' : List Bool) → MarksEnds ends seen found seen' found' → MarksAreClosed t key name seen found → MarksAreClosed t key name seen' found'
 still_closed t key name ends seen found seen' found' m c to s = let p = c to s in (p.0, m.kept p.0 p.1, p.2)
 
 -- one exchange more is done

@@ -12,7 +12,7 @@ use Rattle.model.specs.declared.topologies.Place.{Place}
 use Rattle.model.specs.declared.topologies.Place.TheVariants as place
 use Rattle.exchange_graph.specs.declared.ends.End.{End}
 use Rattle.exchange_graph.specs.declared.ends.End.TheVariants.{Onward}
-use Rattle.exchange_graph.specs.declared.ends.Way.{Way}
+use Rattle.exchange_graph.specs.declared.ends.Branch.{Branch}
 use Rattle.exchange_graph.specs.Built.{IsBuilt}
 use Rattle.exchange_graph.specs.Marks.{exchange_name}
 use Rattle.exchange_graph.specs.Fans.{Fan, ArePassing, LeadOn, AreSteps, EndsWithin, ways_from, way_of, fan_of, end_of, place_of, or_alternate, exchange_place}
@@ -21,10 +21,10 @@ use Rattle.exchange_graph.proofs.Naming.{get_map, same_exchange, place_again, en
 
 -- ---- the ways of an exchange are its bindings
 
-abbrev Ways : Topology → Text → List Binding → List Way
+abbrev Ways : Topology → Text → List Binding → List Branch
 Ways t name bs = ways_from t.exchanges t.queues name bs
 
-way_kept : (t : Topology) (name : Text) (b : Binding) (bs : List Binding) (w : Way) (v : Bool) → IsIn w (Ways t name bs) → IsIn w (cond v (way_of t.exchanges t.queues b ∷ Ways t name bs) (Ways t name bs))
+way_kept : (t : Topology) (name : Text) (b : Binding) (bs : List Binding) (w : Branch) (v : Bool) → IsIn w (Ways t name bs) → IsIn w (cond v (way_of t.exchanges t.queues b ∷ Ways t name bs) (Ways t name bs))
 way_kept t name b bs w true h = inr h
 way_kept t name b bs w false h = h
 
@@ -38,21 +38,21 @@ way_in t name (c ∷ bs) b h e = elim h [
 ]
 
 -- the binding of a way
-record IsWayOf (t : Topology) (name : Text) (bs : List Binding) (w : Way) : Type 0 where
+record IsWayOf (t : Topology) (name : Text) (bs : List Binding) (w : Branch) : Type 0 where
   b : Binding
   is_binding : IsIn b bs
   source : b.source ≡ name
   way : w ≡ way_of t.exchanges t.queues b
 
-way_more : (t : Topology) (name : Text) (c : Binding) (bs : List Binding) (w : Way) → IsWayOf t name bs w → IsWayOf t name (c ∷ bs) w
+way_more : (t : Topology) (name : Text) (c : Binding) (bs : List Binding) (w : Branch) → IsWayOf t name bs w → IsWayOf t name (c ∷ bs) w
 way_more t name c bs w p = record { b = p.b; is_binding = inr p.is_binding; source = p.source; way = p.way }
 
-in_way_at : (t : Topology) (name : Text) (c : Binding) (bs : List Binding) (w : Way) (v : Bool) → (v ≡ true → c.source ≡ name) → (IsIn w (Ways t name bs) → IsWayOf t name bs w)
+in_way_at : (t : Topology) (name : Text) (c : Binding) (bs : List Binding) (w : Branch) (v : Bool) → (v ≡ true → c.source ≡ name) → (IsIn w (Ways t name bs) → IsWayOf t name bs w)
     → IsIn w (cond v (way_of t.exchanges t.queues c ∷ Ways t name bs) (Ways t name bs)) → IsWayOf t name (c ∷ bs) w
 in_way_at t name c bs w true d ih h = elim h [ inl q ↦ record { b = c; is_binding = inl refl; source = d refl; way = q } | inr r ↦ way_more t name c bs w (ih r) ]
 in_way_at t name c bs w false d ih h = way_more t name c bs w (ih h)
 
-in_way : (t : Topology) (name : Text) (bs : List Binding) (w : Way) → IsIn w (Ways t name bs) → IsWayOf t name bs w
+in_way : (t : Topology) (name : Text) (bs : List Binding) (w : Branch) → IsIn w (Ways t name bs) → IsWayOf t name bs w
 in_way t name [] w h = absurd h
 in_way t name (c ∷ bs) w h = in_way_at t name c bs w (bytes_eq c.source name) (bytes_eq-Decides c.source name).0 (in_way t name bs w) h
 
@@ -70,8 +70,8 @@ passing_step t key x passing w c a e h =
     let p = in_way t x.name t.bindings m.0 m.1 in
     let is : Contains t.bindings p.b = contains_in t.bindings p.b p.is_binding in
     let there : IsThere t p.b.to = w.ends p.b is in
-    let q : e ≡ end_of t.exchanges t.queues p.b.to = sym m.2 ∙ ap (λ (z : Way). z.end) p.way in
-    let passes : Passes x.kind p.b.key key = subst (λ (k : Text). Passes x.kind k key) (ap (λ (z : Way). z.key) p.way) m.3 in
+    let q : e ≡ end_of t.exchanges t.queues p.b.to = sym m.2 ∙ ap (λ (z : Branch). z.end) p.way in
+    let passes : Passes x.kind p.b.key key = subst (λ (k : Text). Passes x.kind k key) (ap (λ (z : Branch). z.key) p.way) m.3 in
     record {
       within = subst (λ (z : End). EndsWithin (length t.exchanges) (length t.queues) z) (sym q) (ends_within t p.b.to there);
       edge = subst (λ (z : End). Edge t (of_key key) x.name (place_of t z)) (sym q)
@@ -119,7 +119,7 @@ none_passes t key x (p ∷ ps) w a no' =
     let m = a.only p (inl refl) in
     let q = in_way t x.name t.bindings m.0 m.1 in
     absurd (no' q.b.to q.b (record { is_binding = contains_in t.bindings q.b q.is_binding; source = q.source; leads = refl })
-    (subst (λ (k : Text). Passes x.kind k key) (ap (λ (z : Way). z.key) q.way) m.3))
+    (subst (λ (k : Text). Passes x.kind k key) (ap (λ (z : Branch). z.key) q.way) m.3))
 
 -- the end of a step
 abbrev HasEnd : Topology → List End → Place → Type 0

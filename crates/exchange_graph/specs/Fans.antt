@@ -15,7 +15,7 @@ use Rattle.model.specs.declared.topologies.ExchangeKind.{ExchangeKind}
 use Rattle.model.specs.declared.topologies.ExchangeKind.TheVariants.{Direct, Fanout, Topic}
 use Rattle.exchange_graph.specs.declared.ends.End.{End}
 use Rattle.exchange_graph.specs.declared.ends.End.TheVariants.{Onward, Into}
-use Rattle.exchange_graph.specs.declared.ends.Way.{Way}
+use Rattle.exchange_graph.specs.declared.ends.Branch.{Branch}
 
 -- the place of the first exchange of this name, or how many there are
 abbrev pub exchange_place : List Exchange → Text → ℕ
@@ -31,28 +31,28 @@ end_of exchanges queues (place.Exchange name) = Onward (exchange_place exchanges
 end_of exchanges queues (place.Queue name) = Into (queue_place queues name)
 
 -- a binding, without its source
-abbrev pub way_of : List Exchange → List DeclaredQueue → Binding → Way
+abbrev pub way_of : List Exchange → List DeclaredQueue → Binding → Branch
 way_of exchanges queues b = record { key = b.key; end = end_of exchanges queues b.to }
 
 -- the bindings of the exchange of this name
-abbrev pub ways_from : List Exchange → List DeclaredQueue → Text → List Binding → List Way
+abbrev pub ways_from : List Exchange → List DeclaredQueue → Text → List Binding → List Branch
 ways_from exchanges queues name [] = []
 ways_from exchanges queues name (b ∷ bs) =
     if bytes_eq b.source name then way_of exchanges queues b ∷ ways_from exchanges queues name bs else ways_from exchanges queues name bs
 
 -- their keys as topic patterns
-abbrev pub patterns_of : List Way → List (List Token)
-patterns_of ways = map (λ (w : Way). tokens (words w.key)) ways
+abbrev pub patterns_of : List Branch → List (List Token)
+patterns_of ways = map (λ (w : Branch). tokens (words w.key)) ways
 
 -- the patterns of a topic exchange; another has none
-abbrev pub topics_of : ExchangeKind → List Way → List (List Token)
+abbrev pub topics_of : ExchangeKind → List Branch → List (List Token)
 topics_of Topic ways = patterns_of ways
 topics_of Direct ways = []
 topics_of Fanout ways = []
 
 -- what leads on from one exchange
 pub record Fan : Type 0 where
-  pub list : List Way
+  pub list : List Branch
   pub topics : List (List Token)
   pub alternate : Option ℕ
 
@@ -75,21 +75,21 @@ EndsWithin exchanges queues (Onward i) = i < exchanges
 EndsWithin exchanges queues (Into i) = i < queues
 
 -- These are exactly the ends of the ways whose key lets this key pass.
-pub record ArePassing (kind : ExchangeKind) (key : Text) (ways : List Way) (ends : List End) : Type 0 where
-  pub only : (e : End) → IsIn e ends → (w : Way) × IsIn w ways × (w.end ≡ e) × Passes kind w.key key
-  pub all : (w : Way) → IsIn w ways → Passes kind w.key key → IsIn w.end ends
+pub record ArePassing (kind : ExchangeKind) (key : Text) (ways : List Branch) (ends : List End) : Type 0 where
+  pub only : (e : End) → IsIn e ends → (w : Branch) × IsIn w ways × (w.end ≡ e) × Passes kind w.key key
+  pub all : (w : Branch) → IsIn w ways → Passes kind w.key key → IsIn w.end ends
 
 -- the ends of these ways
-abbrev pub ends_of : List Way → List End
-ends_of ways = map (λ (w : Way). w.end) ways
+abbrev pub ends_of : List Branch → List End
+ends_of ways = map (λ (w : Branch). w.end) ways
 
 -- the ends of the ways with this key
-abbrev pub ends_by_key : Text → List Way → List End
+abbrev pub ends_by_key : Text → List Branch → List End
 ends_by_key key [] = []
 ends_by_key key (w ∷ ws) = if bytes_eq w.key key then w.end ∷ ends_by_key key ws else ends_by_key key ws
 
 -- the ends of the ways at these places
-abbrev pub ends_at : List Way → List ℕ → List End
+abbrev pub ends_at : List Branch → List ℕ → List End
 ends_at ways places = map (λ (i : ℕ). slice_index_or (ends_of ways) i (Onward 0)) places
 
 -- the alternate exchange, where nothing else leads on

@@ -3,7 +3,7 @@ use Rattle.std.specs.Prelude.{◌≡◌, List, [], ◌∷◌, ◌++◌, Option, 
 use Rattle.std.specs.Str.{bytes_eq}
 use Rattle.model.specs.Words.{Text}
 use Rattle.exchange_graph.specs.declared.ends.End.{End}
-use Rattle.exchange_graph.specs.declared.ends.Way.{Way}
+use Rattle.exchange_graph.specs.declared.ends.Branch.{Branch}
 use Rattle.exchange_graph.specs.declared.ends.KeyedEnds.{KeyedEnds}
 use Rattle.exchange_graph.specs.Fans.{ends_by_key}
 
@@ -22,7 +22,7 @@ abbrev pub IsEven : KeyedEnds → Type 0
 IsEven keyed = length keyed.keys ≡ length keyed.lists.items
 
 -- Under each key stand the ends of the ways with this key.
-pub record AreKeyed (ways : List Way) (keyed : KeyedEnds) : Type 0 where
+pub record AreKeyed (ways : List Branch) (keyed : KeyedEnds) : Type 0 where
   pub even : IsEven keyed
   pub told : (key : Text) → ends_under key keyed ≡ ends_by_key key ways
 
@@ -32,6 +32,6 @@ pub record PutsUnder (key : Text) (end : End) (old new : KeyedEnds) : Type 0 whe
   pub told : (other : Text) → ends_under other new ≡ ends_under other old ++ (if bytes_eq key other then end ∷ [] else [])
 
 -- the index, if there is one, is that of these ways
-abbrev pub IsIndexed : List Way → Option KeyedEnds → Type 0
-IsIndexed ways None = Unit {0}
-IsIndexed ways (Some keyed) = AreKeyed ways keyed
+abbrev pub IsKeyIndex : List Branch → Option KeyedEnds → Type 0
+IsKeyIndex ways None = Unit {0}
+IsKeyIndex ways (Some keyed) = AreKeyed ways keyed

@@ -19,7 +19,7 @@ IsMet seen found (Onward i) = IsSet seen i
 IsMet seen found (Into i) = IsSet found i
 
 -- These ends were marked, and nothing else changed.
-pub record Marks (ends : List End) (seen found seen' found' : List Bool) : Type 0 where
+pub record MarksEnds (ends : List End) (seen found seen' found' : List Bool) : Type 0 where
   pub seen_length : length seen' ≡ length seen
   pub found_length : length found' ≡ length found
   pub kept : (e : End) → IsMet seen found e → IsMet seen' found' e
@@ -42,8 +42,8 @@ Arrives t start key (place.Exchange y) = Leads t (of_key key) start y
 Arrives t start key (place.Queue q) = RoutesBy t (of_key key) start q
 
 -- the step from the exchange of this name to this place ends at a mark
-abbrev pub IsClosed : Topology → Text → Text → List Bool → List Bool → Type 0
-IsClosed t key name seen found = (to : Place) → Edge t (of_key key) name to → (e : End) × IsMet seen found e × (place_of t e ≡ to)
+abbrev pub MarksAreClosed : Topology → Text → Text → List Bool → List Bool → Type 0
+MarksAreClosed t key name seen found = (to : Place) → Edge t (of_key key) name to → (e : End) × IsMet seen found e × (place_of t e ≡ to)
 
 -- the name of the exchange at this place
 abbrev pub exchange_name : Topology → ℕ → Text
@@ -54,23 +54,23 @@ abbrev pub queue_name : Topology → ℕ → Text
 queue_name t i = slice_index_or (queue_names t.queues) i []
 
 -- There is a mark for each place of a topology.
-pub record HasRoom (t : Topology) (seen found : List Bool) : Type 0 where
+pub record MarksHaveRoom (t : Topology) (seen found : List Bool) : Type 0 where
   pub exchanges : length seen ≡ length t.exchanges
   pub queues : length found ≡ length t.queues
 
 -- What is marked on the way: the first exchange, only what a way leads to, and each step from an exchange that is done.
 pub record Reaching (t : Topology) (start key : Text) (seen found done : List Bool) : Type 0 where
-  pub room : HasRoom t seen found
+  pub room : MarksHaveRoom t seen found
   pub done_room : length done ≡ length t.exchanges
   pub begun : (i : ℕ) × IsSet seen i × (exchange_name t i ≡ start)
   pub sound : (e : End) → IsMet seen found e → Arrives t start key (place_of t e)
-  pub closed : (i : ℕ) → IsSet done i → IsClosed t key (exchange_name t i) seen found
+  pub closed : (i : ℕ) → IsSet done i → MarksAreClosed t key (exchange_name t i) seen found
 
 -- One exchange is done.
 pub record Expands (t : Topology) (key : Text) (at : ℕ) (seen found done seen' found' done' : List Bool) : Type 0 where
   pub ends : List End
   pub steps : AreSteps t key (exchange_name t at) ends
-  pub marks : Marks ends seen found seen' found'
+  pub marks : MarksEnds ends seen found seen' found'
   pub ticked : done' ≡ slice_set done at true
 
 -- The queues that are marked are those that the key is routed to.

@@ -18,7 +18,7 @@ pub enum End {
 
 /// A binding of one exchange.
 #[derive(Drop)]
-pub struct Way {
+pub struct Branch {
     pub key: Text,
     pub end: End,
 }

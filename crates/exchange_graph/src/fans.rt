@@ -14,9 +14,9 @@ ghost use Rattle.exchange_graph.specs.Fans.{
   patterns_of,
   topics_of,
 };
-ghost use Rattle.exchange_graph.specs.Keyed.{IsIndexed};
+ghost use Rattle.exchange_graph.specs.Keyed.{IsKeyIndex};
 
-use crate::ends::{End, KeyedEnds, Way};
+use crate::ends::{Branch, End, KeyedEnds};
 use crate::keyed::{ends_under, keyed};
 use crate::places::{exchange_place, ways_from};
 use model::{Binding, DeclaredQueue, Exchange, ExchangeKind};
@@ -28,7 +28,7 @@ use topic_match::{Matcher, Pattern, Plain};
 /// exchange.
 #[derive(Drop)]
 pub struct Fan {
-    list: Vec<Way>,
+    list: Vec<Branch>,
     by_key: Option<KeyedEnds>,
     topics: Plain,
     alternate: Option<usize>,
@@ -36,22 +36,22 @@ pub struct Fan {
 
 impl Model for Fan {
     ghost use Rattle.exchange_graph.specs.Fans.{Fan as Leading};
-    ghost use Rattle.exchange_graph.specs.Keyed.{IsIndexed};
+    ghost use Rattle.exchange_graph.specs.Keyed.{IsKeyIndex};
 
     ghost Value = { Leading };
 
     ghost view = { λ f. record { list = f.list.items; topics = f.topics; alternate = f.alternate } };
 
-    ghost invariant = { λ f. IsIndexed f.list.items f.by_key };
+    ghost invariant = { λ f. IsKeyIndex f.list.items f.by_key };
 }
 
 /// The ends by key of a direct exchange; another has none.
 fn index_of(
     alloc: Global,
     kind: ExchangeKind,
-    ways: &[Way],
+    ways: &[Branch],
 ) -> Result<Option<KeyedEnds>, AllocError>
-    ensures { IfOk result (IsIndexed ways.now) }
+    ensures { IfOk result (IsKeyIndex ways.now) }
 {
     match kind {
         ExchangeKind::Direct => Ok(Some(keyed(alloc, ways)?)),
@@ -61,7 +61,7 @@ fn index_of(
 }
 
 /// The keys of these ways as topic patterns.
-fn patterns_of(alloc: Global, ways: &[Way]) -> Result<Vec<Pattern>, AllocError>
+fn patterns_of(alloc: Global, ways: &[Branch]) -> Result<Vec<Pattern>, AllocError>
     ensures { IfOk result (λ found. found.items ≡ patterns_of ways.now) }
 {
     let mut found = Vec::new(alloc);
@@ -75,7 +75,7 @@ fn patterns_of(alloc: Global, ways: &[Way]) -> Result<Vec<Pattern>, AllocError>
 }
 
 /// The patterns of a topic exchange; another has none.
-fn topics_of(alloc: Global, kind: ExchangeKind, ways: &[Way]) -> Result<Plain, AllocError>
+fn topics_of(alloc: Global, kind: ExchangeKind, ways: &[Branch]) -> Result<Plain, AllocError>
     ensures { IfOk result (λ made. made ≡ topics_of kind ways.now) }
 {
     match kind {
@@ -133,7 +133,7 @@ pub fn all_fans(
 }
 
 /// The ends of the ways with this key.
-fn ends_by_key(alloc: Global, ways: &[Way], key: &[u8]) -> Result<Vec<End>, AllocError>
+fn ends_by_key(alloc: Global, ways: &[Branch], key: &[u8]) -> Result<Vec<End>, AllocError>
     ensures { IfOk result (λ ends. ends.items ≡ ends_by_key key.now ways.now) }
 {
     let mut ends = Vec::new(alloc);
@@ -149,10 +149,10 @@ fn ends_by_key(alloc: Global, ways: &[Way], key: &[u8]) -> Result<Vec<End>, Allo
 fn ends_of_key(
     alloc: Global,
     by_key: &Option<KeyedEnds>,
-    ways: &[Way],
+    ways: &[Branch],
     key: &[u8],
 ) -> Result<Vec<End>, AllocError>
-    requires { IsIndexed ways.now by_key.now }
+    requires { IsKeyIndex ways.now by_key.now }
     ensures { IfOk result (λ ends. ends.items ≡ ends_by_key key.now ways.now) }
 {
     let Some(keyed) = by_key else {
@@ -164,7 +164,7 @@ fn ends_of_key(
 }
 
 /// The ends of these ways.
-fn ends_of(alloc: Global, ways: &[Way]) -> Result<Vec<End>, AllocError>
+fn ends_of(alloc: Global, ways: &[Branch]) -> Result<Vec<End>, AllocError>
     ensures { IfOk result (λ ends. ends.items ≡ ends_of ways.now) }
 {
     let mut ends = Vec::new(alloc);
@@ -175,7 +175,7 @@ fn ends_of(alloc: Global, ways: &[Way]) -> Result<Vec<End>, AllocError>
 }
 
 /// The ends of the ways at these places.
-fn ends_at(alloc: Global, ways: &[Way], places: &[usize]) -> Result<Vec<End>, AllocError>
+fn ends_at(alloc: Global, ways: &[Branch], places: &[usize]) -> Result<Vec<End>, AllocError>
     requires { All (λ i. i < length ways.now) places.now }
     ensures { IfOk result (λ ends. ends.items ≡ ends_at ways.now places.now) }
 {
@@ -190,7 +190,7 @@ fn ends_at(alloc: Global, ways: &[Way], places: &[usize]) -> Result<Vec<End>, Al
 fn ends_by_topic(
     alloc: Global,
     topics: &Plain,
-    ways: &[Way],
+    ways: &[Branch],
     key: &[u8],
 ) -> Result<Vec<End>, AllocError>
     requires { topics.now ≡ patterns_of ways.now }
@@ -206,10 +206,10 @@ fn passing(
     kind: ExchangeKind,
     by_key: &Option<KeyedEnds>,
     topics: &Plain,
-    ways: &[Way],
+    ways: &[Branch],
     key: &[u8],
 ) -> Result<Vec<End>, AllocError>
-    requires indexed { IsIndexed ways.now by_key.now }
+    requires indexed { IsKeyIndex ways.now by_key.now }
     requires patterns { topics.now ≡ topics_of kind ways.now }
     ensures { IfOk result (λ ends. ArePassing kind key.now ways.now ends.items) }
 {

@@ -4,7 +4,7 @@ ghost use Rattle.std.specs.Prelude.{◌≡◌, ◌<◌, ◌∷◌, ◌++◌, [],
 ghost use Rattle.model.specs.Topology.{IsIn};
 ghost use Rattle.exchange_graph.specs.Keyed.{AreKeyed, IsEven, PutsUnder, ends_under};
 
-use crate::ends::{End, Ends, KeyedEnds, Way};
+use crate::ends::{Branch, End, Ends, KeyedEnds};
 use std::alloc::{AllocError, Global};
 use topology_drafts::Names;
 
@@ -41,7 +41,7 @@ fn put(keyed: &mut KeyedEnds, alloc: Global, key: &[u8], end: End) -> Result<(),
 }
 
 /// The ends of these ways by their keys.
-pub fn keyed(alloc: Global, ways: &[Way]) -> Result<KeyedEnds, AllocError>
+pub fn keyed(alloc: Global, ways: &[Branch]) -> Result<KeyedEnds, AllocError>
     ensures { IfOk result (AreKeyed ways.now) }
 {
     let mut keyed = KeyedEnds {

@@ -3,7 +3,7 @@
 ghost use Rattle.std.specs.Prelude.{◌≡◌, ◌<◌, ◌∷◌, [], length, IfOk, false, true, replicate, slice_set};
 ghost use Rattle.model.specs.Topology.{IsIn};
 ghost use Rattle.exchange_graph.specs.Fans.{EndsWithin};
-ghost use Rattle.exchange_graph.specs.Marks.{IsPending, Marks, set_places};
+ghost use Rattle.exchange_graph.specs.Marks.{IsPending, MarksEnds, set_places};
 
 use crate::ends::End;
 use std::alloc::{AllocError, Global};
@@ -29,7 +29,7 @@ pub fn one_marked(alloc: Global, count: usize, place: usize) -> Result<Vec<bool>
 /// Marks one end.
 fn mark(end: End, seen: &mut [bool], found: &mut [bool])
     requires { EndsWithin (length seen.old) (length found.old) end }
-    ensures { Marks (end ∷ []) seen.old found.old seen.new found.new }
+    ensures { MarksEnds (end ∷ []) seen.old found.old seen.new found.new }
 {
     match end {
         End::Onward(place) => seen[place] = true,
@@ -40,7 +40,7 @@ fn mark(end: End, seen: &mut [bool], found: &mut [bool])
 /// Marks these ends.
 pub fn mark_all(ends: &[End], seen: &mut [bool], found: &mut [bool])
     requires { (e : End) → IsIn e ends.now → EndsWithin (length seen.old) (length found.old) e }
-    ensures { Marks ends.now seen.old found.old seen.new found.new }
+    ensures { MarksEnds ends.now seen.old found.old seen.new found.new }
 {
     for end in ends {
         mark(*end, seen, found);

@@ -4,7 +4,7 @@ ghost use Rattle.std.specs.Prelude.{◌≡◌, position, IfOk};
 ghost use Rattle.std.specs.Str.{bytes_eq};
 ghost use Rattle.exchange_graph.specs.Fans.{exchange_place, queue_place, end_of, ways_from};
 
-use crate::ends::{End, Way};
+use crate::ends::{Branch, End};
 use model::{Binding, DeclaredQueue, Exchange, Place};
 use std::alloc::{AllocError, Global};
 
@@ -59,13 +59,13 @@ pub fn ways_from(
     queues: &[DeclaredQueue],
     name: &[u8],
     bindings: &[Binding],
-) -> Result<Vec<Way>, AllocError>
+) -> Result<Vec<Branch>, AllocError>
     ensures { IfOk result (λ ways. ways.items ≡ ways_from exchanges.now queues.now name.now bindings.now) }
 {
     let mut ways = Vec::new(alloc);
     for binding in bindings {
         if binding.source.as_bytes() == name {
-            ways.push(Way {
+            ways.push(Branch {
                 key: binding.key.clone()?,
                 end: end_of(exchanges, queues, &binding.to),
             })?;

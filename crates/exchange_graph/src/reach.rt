@@ -7,7 +7,7 @@ ghost use Rattle.exchange_graph.specs.Marks.{
   AreMet,
   AreSeen,
   Expands,
-  HasRoom,
+  MarksHaveRoom,
   Reaching,
   exchange_name,
 };
@@ -18,7 +18,7 @@ use std::alloc::{AllocError, Global};
 
 /// A mark for each exchange and for each queue that a way leads to.
 #[derive(Drop)]
-struct Met {
+struct MetEnds {
     seen: Vec<bool>,
     found: Vec<bool>,
 }
@@ -34,7 +34,7 @@ fn expand(
     done: &mut [bool],
 ) -> Result<(), AllocError>
     requires within { place < length topology.now.exchanges }
-    requires room { HasRoom topology.now seen.old found.old }
+    requires room { MarksHaveRoom topology.now seen.old found.old }
     requires done { length done.old ≡ length topology.now.exchanges }
     ensures { OnOk result (Expands topology.now key.now place seen.old found.old done.old seen.new found.new done.new) }
 {
@@ -71,7 +71,7 @@ fn met_from(
     place: usize,
     exchange: &[u8],
     key: &[u8],
-) -> Result<Met, AllocError>
+) -> Result<MetEnds, AllocError>
     requires within { place < length topology.now.exchanges }
     requires named { exchange_name topology.now place ≡ exchange.now }
     ensures { IfOk result (λ met. AreMet topology.now exchange.now key.now met.seen.items met.found.items) }
@@ -88,7 +88,7 @@ fn met_from(
         found.as_mut_slice(),
         done.as_mut_slice(),
     )?;
-    Ok(Met { seen, found })
+    Ok(MetEnds { seen, found })
 }
 
 /// What the default exchange leads to: the queue of this name.

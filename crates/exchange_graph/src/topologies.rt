@@ -28,7 +28,7 @@ use crate::reach::{found, seen};
 use model::{Binding, DeclaredQueue, Exchange};
 use std::alloc::{AllocError, Global};
 use std::marker::Model;
-use topology_drafts::{Bad, Names, judge};
+use topology_drafts::{BadTopology, Names, judge};
 
 /// Exchanges, queues and bindings, each in the order of the file.
 pub struct Topology {
@@ -73,7 +73,7 @@ impl Topology {
         exchanges: Vec<Exchange>,
         queues: Vec<DeclaredQueue>,
         bindings: Vec<Binding>,
-    ) -> Result<Topology, Bad>
+    ) -> Result<Topology, BadTopology>
         ensures { Builds result (record { exchanges = exchanges.items; queues = queues.items; bindings = bindings.items }) }
     {
         match judge(

@@ -6,7 +6,8 @@ use Rattle.std.proofs.lemmas.Bool.{cases_lt, ltb-false, ltb-true, le-ltb, lt-ltb
 use Rattle.std.proofs.lemmas.List.{take_at, drop_at, take-append-drop, length-append, length-take, get_or-drop, get_or-take, get_or_past}
 use Rattle.std.proofs.lemmas.Nat.{be_bytes_2, be_bytes_4, be_bytes_8, from_be_bytes-to_be_bytes_2, from_be_bytes-to_be_bytes_4, from_be_bytes-to_be_bytes_8}
 use Rattle.model.specs.Grammar.{Argument, Octet, Short, Long, Long_long, Short_text, Long_text, Field_table, Bits, octet, argument, IsArgument}
-use Rattle.field_table.specs.Arguments.{IsSized, IsWhole, Kind, an_octet, a_short, a_long, a_long_long, a_short_text, a_long_text, a_field_table, some_bits, kind_of, ◌>>=◌, Front, number_at, text_at, short_text_at, long_text_at, octets, bits_of, bits_at, argument_at, arguments_at}
+use Rattle.field_table.specs.Arguments.{IsSized, IsArgumentWhole, Kind, an_octet, a_short, a_long, a_long_long, a_short_text, a_long_text, a_field_table, some_bits, kind_of, Front, number_at, text_at, short_text_at, long_text_at, octets, bits_of, bits_at, argument_at, arguments_at}
+use Rattle.model.specs.Options.{◌>>=◌}
 
 abbrev pub IsBytes : List ℕ → Type 0
 IsBytes bytes = (i : ℕ) → get_or bytes i 0 < 256
@@ -47,7 +48,7 @@ pub record Takes (k : Kind) (bytes : List ℕ) (x : Argument × List ℕ) : Type
   pub fits : IsSized x.0
 
 -- an argument whose tables are tables
-pub whole : (a : Argument) → IsSized a → IsWhole a → IsArgument a
+pub whole : (a : Argument) → IsSized a → IsArgumentWhole a → IsArgument a
 whole (Field_table pairs) sized table = table
 whole (Octet n) sized table = sized
 whole (Short n) sized table = sized
@@ -67,7 +68,7 @@ sized_of (Short_text t) fits = fits
 sized_of (Long_text t) fits = fits
 sized_of (Bits bs) fits = fits
 
-pub whole_of : (a : Argument) → IsArgument a → IsWhole a
+pub whole_of : (a : Argument) → IsArgument a → IsArgumentWhole a
 whole_of (Field_table pairs) fits = fits
 whole_of (Octet n) fits = tt
 whole_of (Short n) fits = tt
@@ -78,7 +79,7 @@ whole_of (Long_text t) fits = tt
 whole_of (Bits bs) fits = tt
 
 -- the same of several arguments
-pub all_fit : (given : List Argument) → AllByRecursion IsSized given → AllByRecursion IsWhole given → AllByRecursion IsArgument given
+pub all_fit : (given : List Argument) → AllByRecursion IsSized given → AllByRecursion IsArgumentWhole given → AllByRecursion IsArgument given
 all_fit [] sized wholes = tt
 all_fit (a ∷ given) sized wholes = (whole a sized.0 wholes.0, all_fit given sized.1 wholes.1)
 
@@ -86,7 +87,7 @@ pub all_sized : (given : List Argument) → AllByRecursion IsArgument given → 
 all_sized [] fits = tt
 all_sized (a ∷ given) fits = (sized_of a fits.0, all_sized given fits.1)
 
-pub all_whole : (given : List Argument) → AllByRecursion IsArgument given → AllByRecursion IsWhole given
+pub all_whole : (given : List Argument) → AllByRecursion IsArgument given → AllByRecursion IsArgumentWhole given
 all_whole [] fits = tt
 all_whole (a ∷ given) fits = (whole_of a fits.0, all_whole given fits.1)
 

@@ -2,15 +2,14 @@
 use Rattle.std.proofs.Common.{◌≡◌, ℕ, Bool, true, false, eqb, List, [], ◌∷◌, ◌++◌, length, Option, Some, None, refl, sym, ap, subst, ◌∙◌, arith}
 use Rattle.std.specs.Prelude.{MatchBool}
 use Rattle.std.proofs.lemmas.Bool.{eqb-true, eqb-false, false≢true}
-use Rattle.model.specs.Grammar.{Argument, Short_text, Long_text}
+use Rattle.model.specs.Grammar.{Long_text}
 use Rattle.model.specs.Tables.{Value, Values, Pairs, Truth, Byte, Short, Long, Long_long, Float, Double, Decimal, Long_string, Field_array, Timestamp, Inner_table, Byte_array, Void, no_values, value, no_pairs, pair, letter, content, values_bytes, pairs_bytes, IsValue}
-use Rattle.field_table.specs.Arguments.{a_short_text, argument_at}
-use Rattle.field_table.specs.Leaves.{Unread, unread, seen, read_leaf}
+use Rattle.field_table.specs.Leaves.{Unread, unread, leaf_seen, read_leaf}
 use Rattle.field_table.specs.Values.{unread_of}
-use Rattle.field_table.specs.Reading.{IsFirst, HasNone, IsFirstPair, HasNoPair, SpellsValues, SpellsPairs, HasValues, HasPairs, HoldsValues, Means}
+use Rattle.field_table.specs.Reading.{IsFirstValue, HasNone, IsFirstPair, HasNoPair, SpellsValues, SpellsPairs, HasValues, HasPairs, HoldsValues, Means}
 use Rattle.field_table.specs.declared.leaves.Leaf.{Leaf}
 use Rattle.field_table.specs.declared.leaves.Leaf.TheVariants as leaves
-use Rattle.field_table.proofs.Exactly.{IsBytes, argument_takes, argument_again}
+use Rattle.field_table.proofs.Exactly.{IsBytes}
 use Rattle.field_table.proofs.Letters.{leaf_takes, value_spelled, value_again}
 use Rattle.field_table.proofs.Alone.{alike, array_of, table_of, same_body, same_name}
 
@@ -22,14 +21,14 @@ none_or r x e f = cc
 same_some : {A : Type 0} (r : Option A) (x y : A) → r ≡ Some x → r ≡ Some y → x ≡ y
 same_some r x y e f = cc
 
-first_read : (depth : ℕ) (bytes : List ℕ) (v : Value) (rest : List ℕ) → IsFirst depth bytes v rest → read_leaf bytes ≡ Some (unread_of v, rest)
+first_read : (depth : ℕ) (bytes : List ℕ) (v : Value) (rest : List ℕ) → IsFirstValue depth bytes v rest → read_leaf bytes ≡ Some (unread_of v, rest)
 first_read depth bytes v rest f = ap read_leaf f.parts ∙ value_again depth v rest f.fits
 
 pub no_leaf : (depth : ℕ) (bytes : List ℕ) → read_leaf bytes ≡ None → HasNone depth bytes
 no_leaf depth bytes e v rest f = none_or (read_leaf bytes) (unread_of v, rest) e (first_read depth bytes v rest f)
 
 -- a leaf that was read, as a value
-pub first_is : (depth : ℕ) (bytes rest : List ℕ) (leaf : Leaf) (v : Value) → IsBytes bytes → read_leaf bytes ≡ Some (seen leaf, rest) → Means depth leaf v → IsFirst depth bytes v rest
+pub first_is : (depth : ℕ) (bytes rest : List ℕ) (leaf : Leaf) (v : Value) → IsBytes bytes → read_leaf bytes ≡ Some (leaf_seen leaf, rest) → Means depth leaf v → IsFirstValue depth bytes v rest
 first_is depth bytes rest leaf v are e m =
     let mine : read_leaf bytes ≡ Some (unread_of v, rest) = e ∙ ap (λ (u : Unread). Some (u, rest)) m.read in
     let b = leaf_takes bytes (unread_of v, rest) are mine in
@@ -55,7 +54,7 @@ means_some depth (leaves.Table body) h =
 means_some depth (leaves.Bytes t) h = (Byte_array t.now, record { read = refl; fits = λ f. f.0 })
 means_some depth leaves.Void h = (Void, record { read = refl; fits = λ f. tt })
 
-pub held : (depth : ℕ) (leaf : Leaf) (v : Value) → IsValue depth v → seen leaf ≡ unread_of v → HoldsValues depth leaf
+pub held : (depth : ℕ) (leaf : Leaf) (v : Value) → IsValue depth v → leaf_seen leaf ≡ unread_of v → HoldsValues depth leaf
 held depth (leaves.Array body) v fits e =
     let found = array_of v (ap (λ (u : Unread). u.letter) e) in
     let its : IsValue depth (Field_array found.0) = subst (IsValue depth) (sym found.1) fits in
@@ -68,40 +67,24 @@ held depth (leaves.Table body) v fits e =
     (its.0, (found.0, record { fits = its.2; parts = same_body body.now (pairs_bytes found.0) 70 70 bodies }))
 held depth _ v fits e = tt
 
-pub unsound : (depth : ℕ) (bytes rest : List ℕ) (leaf : Leaf) → read_leaf bytes ≡ Some (seen leaf, rest) → (HoldsValues depth leaf → ⊥) → HasNone depth bytes
+pub unsound : (depth : ℕ) (bytes rest : List ℕ) (leaf : Leaf) → read_leaf bytes ≡ Some (leaf_seen leaf, rest) → (HoldsValues depth leaf → ⊥) → HasNone depth bytes
 unsound depth bytes rest leaf e never v after f =
-    let pairs : Unread × List ℕ = (seen leaf, rest) in
+    let pairs : Unread × List ℕ = (leaf_seen leaf, rest) in
     let theirs : Unread × List ℕ = (unread_of v, after) in
     let same : pairs ≡ theirs = same_some (read_leaf bytes) pairs theirs e (first_read depth bytes v after f) in
     never (held depth leaf v f.fits (ap (λ (p : Unread × List ℕ). p.0) same))
 
 -- ---- one pair
 
-pub first_pair : (depth : ℕ) (bytes name rest after : List ℕ) (v : Value) → IsBytes bytes → argument_at a_short_text bytes ≡ Some (Short_text name, rest) → IsFirst depth rest v after → IsFirstPair depth bytes name v after
-first_pair depth bytes name rest after v are e f =
-    let t = argument_takes a_short_text bytes (Short_text name, rest) tt are e in
-    record { short = t.fits; fits = f.fits; parts = t.parts ∙ ap (λ (z : List ℕ). (length name ∷ name) ++ z) f.parts }
-
-name_read : (depth : ℕ) (bytes name rest : List ℕ) (v : Value) → IsFirstPair depth bytes name v rest → argument_at a_short_text bytes ≡ Some (Short_text name, letter v ∷ content v ++ rest)
-name_read depth bytes name rest v p = ap (argument_at a_short_text) p.parts ∙ argument_again (Short_text name) (letter v ∷ content v ++ rest) p.short
-
-abbrev named : List ℕ → List ℕ → Argument × List ℕ
-named name rest = (Short_text name, rest)
-
-pub no_first_pair : (depth : ℕ) (bytes name rest : List ℕ) → argument_at a_short_text bytes ≡ Some (Short_text name, rest) → HasNone depth rest → HasNoPair depth bytes
-no_first_pair depth bytes name rest e none other v after p =
-    let same : named name rest ≡ named other (letter v ∷ content v ++ after) = same_some (argument_at a_short_text bytes) (named name rest) (named other (letter v ∷ content v ++ after)) e (name_read depth bytes other after v p) in
-    none v after (record { fits = p.fits; parts = ap (λ (x : Argument × List ℕ). x.1) same })
-
 -- ---- all values
 
 pub values_end : (depth : ℕ) → HasValues depth []
 values_end depth = (no_values, record { fits = tt; parts = refl })
 
-pub values_onto : (depth : ℕ) (bytes : List ℕ) (v : Value) (rest : List ℕ) → IsFirst depth bytes v rest → HasValues depth rest → HasValues depth bytes
+pub values_onto : (depth : ℕ) (bytes : List ℕ) (v : Value) (rest : List ℕ) → IsFirstValue depth bytes v rest → HasValues depth rest → HasValues depth bytes
 values_onto depth bytes v rest f h = (value v h.0, record { fits = (f.fits, h.1.fits); parts = f.parts ∙ ap (λ (z : List ℕ). letter v ∷ content v ++ z) h.1.parts })
 
-pub values_back : (depth : ℕ) (bytes : List ℕ) (v : Value) (rest : List ℕ) → IsFirst depth bytes v rest → HasValues depth bytes → HasValues depth rest
+pub values_back : (depth : ℕ) (bytes : List ℕ) (v : Value) (rest : List ℕ) → IsFirstValue depth bytes v rest → HasValues depth bytes → HasValues depth rest
 values_back depth bytes v rest f h = go h.0 h.1
   where
     go : (vs : Values) → SpellsValues depth bytes vs → HasValues depth rest

@@ -1,5 +1,5 @@
 -- Fields by their names, one pair after another.
-use Rattle.std.proofs.Common.{◌≡◌, ℕ, ◌<◌, ◌≤◌, ◌^◌, Bool, true, false, List, [], ◌∷◌, ◌++◌, length, refl, sym, ap, subst, ◌∙◌, arith, inl, inr, ◌⊎◌}
+use Rattle.std.proofs.Common.{◌≡◌, ℕ, ◌<◌, ◌^◌, Bool, true, false, List, [], ◌∷◌, ◌++◌, length, refl, sym, ap, subst, ◌∙◌, inl, inr, ◌⊎◌}
 use Rattle.std.specs.Prelude.{◌||◌, MatchBool}
 use Rattle.std.proofs.lemmas.Bool.{false≢true}
 use Rattle.std.proofs.lemmas.Slice.Eq.{bytes_eq-Decides}
@@ -31,12 +31,6 @@ pub record Back (found : Bool) (name : Text) (rest : List ℕ) (qs : Pairs) : Ty
 pub record Seen (found : Bool) (name : Text) (whole rest : List ℕ) : Type 0 where
   pub onto : (ps : Pairs) → SpellsPairs 15 rest ps → Onto found name whole ps
   pub back : (qs : Pairs) → SpellsPairs 15 whole qs → Back found name rest qs
-
-pub seen_none : (name : Text) (whole : List ℕ) → Seen false name whole whole
-seen_none name whole = record {
-  onto = λ ps s. record { pairs = ps; spelled = s; tells = λ h. elim h [ inl e ↦ absurd (false≢true e) | inr f ↦ f ] };
-  back = λ qs s. record { pairs = qs; spelled = s; tells = λ h. inr h };
-}
 
 -- one name more was looked at
 has_onto : (found : Bool) (name other : Text) (v : Value) (ps : Pairs) → Has (found || bytes_eq other name) ps name → Has found (pair other v ps) name
@@ -96,10 +90,6 @@ seen_all name whole s h =
 -- what is left begins with no pair
 pub seen_bad : (found : Bool) (name whole rest : List ℕ) → HasNoPair 15 rest → (rest ≡ [] → ⊥) → Seen found name whole rest → HasField name whole → ⊥
 seen_bad found name whole rest none some s h = let b = s.back h.pairs (spells name whole h) in no_pairs_left 15 rest none some (b.pairs, b.spelled)
-
--- too long for a table
-pub too_long : (name whole : List ℕ) → 2 ^ 32 ≤ length whole → HasField name whole → ⊥
-too_long name whole long h = let size = h.fits.size in let same = ap (λ (bytes : List ℕ). length bytes) h.spelled in absurd (omega (arith, long, size, same))
 
 -- what was found is what stands there
 pub seen_end : (found : Bool) (name whole rest : List ℕ) → rest ≡ [] → length whole < 2 ^ 32 → Seen found name whole rest → MatchBool found (HasField name whole) (HasField name whole → ⊥)

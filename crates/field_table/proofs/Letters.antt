@@ -5,7 +5,8 @@ use Rattle.std.proofs.lemmas.Bool.{ltb-false}
 use Rattle.model.specs.Grammar.{Argument, Long_text, argument}
 use Rattle.model.specs.Tables.{Value, Truth, Byte, Decimal, Long_string, Field_array, Timestamp, Inner_table, Byte_array, Void, letter, content, values_bytes, pairs_bytes, IsValue}
 use Rattle.model.specs.Tables as tables
-use Rattle.field_table.specs.Arguments.{IsSized, Kind, kind_of, ◌>>=◌, argument_at}
+use Rattle.field_table.specs.Arguments.{IsSized, Kind, kind_of, argument_at}
+use Rattle.model.specs.Options.{◌>>=◌}
 use Rattle.field_table.specs.Leaves.{Unread, unread, kinds_behind, front_at, behind, read_leaf}
 use Rattle.field_table.specs.Values.{unread_of, contents_of}
 use Rattle.field_table.proofs.Exactly.{IsBytes, IsBytes-drop, IsKind, bind_some, guard_next, one_more, first_byte, argument_takes, argument_again}

@@ -5,7 +5,7 @@ use Rattle.model.specs.Tables.{Value, Values, Pairs, value, pair, letter, conten
 use Rattle.field_table.specs.View.{Named, field_view, entry_view, array_view, pairs_view}
 use Rattle.field_table.specs.Writing.{entry_bytes}
 use Rattle.field_table.specs.declared.fields.Field.{Field}
-use Rattle.field_table.specs.declared.fields.Entry.{Entry}
+use Rattle.field_table.specs.declared.fields.TableEntry.{TableEntry}
 use Rattle.field_table.proofs.Views.{named}
 
 -- ---- what is left
@@ -13,9 +13,9 @@ use Rattle.field_table.proofs.Views.{named}
 pub value_left : (xs : List Field) (i : ℕ) (x : Field) → i < length xs → x ≡ get_or xs i x → array_view (drop i xs) ≡ value (field_view x) (array_view (drop (i + 1) xs))
 value_left xs i x lt is = ap array_view (drop_more xs i x lt) ∙ ap (λ (y : Field). value (field_view y) (array_view (drop (i + 1) xs))) (sym is)
 
-pub pair_left : (xs : List Entry) (i : ℕ) (x : Entry) → i < length xs → x ≡ get_or xs i x
+pub pair_left : (xs : List TableEntry) (i : ℕ) (x : TableEntry) → i < length xs → x ≡ get_or xs i x
     → pairs_view (drop i xs) ≡ pair (entry_view x).name (entry_view x).value (pairs_view (drop (i + 1) xs))
-pair_left xs i x lt is = ap pairs_view (drop_more xs i x lt) ∙ ap (λ (y : Entry). pair (entry_view y).name (entry_view y).value (pairs_view (drop (i + 1) xs))) (sym is)
+pair_left xs i x lt is = ap pairs_view (drop_more xs i x lt) ∙ ap (λ (y : TableEntry). pair (entry_view y).name (entry_view y).value (pairs_view (drop (i + 1) xs))) (sym is)
 
 -- ---- one more
 

@@ -3,14 +3,14 @@ use Rattle.std.proofs.Common.{◌≡◌, ℕ, ◌^◌, ◌<◌, List, [], ◌∷
 use Rattle.model.specs.Grammar.{Argument, Long_text}
 use Rattle.model.specs.Tables.{Value, Values, Pairs, value, pair, letter, content, pairs_bytes, sized, table_bytes}
 use Rattle.field_table.specs.Arguments.{a_long_text, argument_at}
-use Rattle.field_table.specs.Reading.{IsFirst, IsFirstPair, SpellsValues, SpellsPairs, HasPairs}
+use Rattle.field_table.specs.Reading.{IsFirstValue, IsFirstPair, SpellsValues, SpellsPairs, HasPairs}
 use Rattle.field_table.specs.View.{Named, field_view, entry_view, table_view, fields_view, entries_view, values_then, pairs_then}
-use Rattle.field_table.specs.Answers.{Refused, AnswersOr, SpellsTable, IsOr}
+use Rattle.field_table.specs.Answers.{TableRefused, AnswersOr, SpellsTable, IsOr}
 use Rattle.field_table.specs.declared.fields.Field.{Field}
-use Rattle.field_table.specs.declared.fields.Entry.{Entry}
-use Rattle.field_table.specs.declared.fields.Table.{Table}
-use Rattle.field_table.specs.declared.refusals.Refusal.{Refusal}
-use Rattle.field_table.specs.declared.refusals.Refusal.TheVariants.{SyntaxError, Memory}
+use Rattle.field_table.specs.declared.fields.TableEntry.{TableEntry}
+use Rattle.field_table.specs.declared.fields.FieldTable.{FieldTable}
+use Rattle.field_table.specs.declared.refusals.BadTable.{BadTable}
+use Rattle.field_table.specs.declared.refusals.BadTable.TheVariants.{SyntaxError, Memory}
 use Rattle.field_table.proofs.Exactly.{IsBytes, argument_takes, argument_again}
 use Rattle.field_table.proofs.Alone.{one_pairs}
 
@@ -23,11 +23,11 @@ one_more_value (g ∷ fs) f vs = ap (value (field_view g)) (one_more_value fs f 
 abbrev pub named : List ℕ → Value → Named
 named n v = record { name = n; value = v }
 
-pub one_more_pair : (es : List Entry) (e : Entry) (n : List ℕ) (v : Value) (ps : Pairs) → entry_view e ≡ named n v → pairs_then (entries_view (es ++ e ∷ [])) ps ≡ pairs_then (entries_view es) (pair n v ps)
+pub one_more_pair : (es : List TableEntry) (e : TableEntry) (n : List ℕ) (v : Value) (ps : Pairs) → entry_view e ≡ named n v → pairs_then (entries_view (es ++ e ∷ [])) ps ≡ pairs_then (entries_view es) (pair n v ps)
 one_more_pair [] e n v ps is = ap (λ (x : Named). pair x.name x.value ps) is
 one_more_pair (g ∷ es) e n v ps is = ap (pair (entry_view g).name (entry_view g).value) (one_more_pair es e n v ps is)
 
-pub then_values : (depth : ℕ) (bytes : List ℕ) (v : Value) (rest : List ℕ) (vs : Values) → IsFirst depth bytes v rest → SpellsValues depth rest vs → SpellsValues depth bytes (value v vs)
+pub then_values : (depth : ℕ) (bytes : List ℕ) (v : Value) (rest : List ℕ) (vs : Values) → IsFirstValue depth bytes v rest → SpellsValues depth rest vs → SpellsValues depth bytes (value v vs)
 then_values depth bytes v rest vs f s = record { fits = (f.fits, s.fits); parts = f.parts ∙ ap (λ (z : List ℕ). letter v ∷ content v ++ z) s.parts }
 
 pub then_pairs : (depth : ℕ) (bytes name : List ℕ) (v : Value) (rest : List ℕ) (ps : Pairs) → IsFirstPair depth bytes name v rest → SpellsPairs depth rest ps → SpellsPairs depth bytes (pair name v ps)
@@ -35,11 +35,11 @@ then_pairs depth bytes name v rest ps f s = record { fits = (f.short, f.fits, s.
 
 -- ---- answers
 
-pub refused_so : (e : Refusal) (P Q : Type 0) → (P → Q) → Refused e P → Refused e Q
+pub refused_so : (e : BadTable) (P Q : Type 0) → (P → Q) → TableRefused e P → TableRefused e Q
 refused_so SyntaxError P Q f p = f p
 refused_so Memory P Q f p = tt
 
-pub answers_so : {X : Type 0} (r : Result X Refusal) (F G : X → Type 0) (P Q : Type 0) → ((x : X) → F x → G x) → (P → Q) → AnswersOr r F P → AnswersOr r G Q
+pub answers_so : {X : Type 0} (r : Result X BadTable) (F G : X → Type 0) (P Q : Type 0) → ((x : X) → F x → G x) → (P → Q) → AnswersOr r F P → AnswersOr r G Q
 answers_so (Ok x) F G P Q f g a = f x a
 answers_so (Err e) F G P Q f g a = refused_so e P Q g a
 
@@ -71,7 +71,7 @@ spells bytes pairs ps are e s =
       parts = t.parts ∙ append-nil (sized pairs) ∙ ap sized s.parts;
     }
 
-pub table_read : (bytes pairs rest : List ℕ) (r : Result Table Refusal) → IsBytes bytes → argument_at a_long_text bytes ≡ Some (Long_text pairs, rest) → rest ≡ []
+pub table_read : (bytes pairs rest : List ℕ) (r : Result FieldTable BadTable) → IsBytes bytes → argument_at a_long_text bytes ≡ Some (Long_text pairs, rest) → rest ≡ []
     → AnswersOr r (λ t. SpellsPairs 15 pairs (table_view t)) (HasPairs 15 pairs → ⊥)
     → AnswersOr r (λ t. SpellsTable bytes (table_view t)) ((ps : Pairs) → SpellsTable bytes ps → ⊥)
 table_read bytes pairs rest r are e nil a =
@@ -84,7 +84,7 @@ same_spelling bytes ps qs s r =
     let e : argument_at a_long_text bytes ≡ Some (Long_text (pairs_bytes ps), []) = ap (argument_at a_long_text) (s.parts ∙ sym (append-nil (table_bytes ps))) ∙ argument_again (Long_text (pairs_bytes ps)) [] s.fits.size in
     one_pairs ps 15 15 qs s.fits.fits r.fits.fits (its_pairs bytes (pairs_bytes ps) [] qs e r)
 
-pub only_table : (bytes : List ℕ) (r : Result Table Refusal) → AnswersOr r (λ t. SpellsTable bytes (table_view t)) ((ps : Pairs) → SpellsTable bytes ps → ⊥)
+pub only_table : (bytes : List ℕ) (r : Result FieldTable BadTable) → AnswersOr r (λ t. SpellsTable bytes (table_view t)) ((ps : Pairs) → SpellsTable bytes ps → ⊥)
     → (ps : Pairs) → SpellsTable bytes ps → IsOr r (λ t. table_view t ≡ ps)
 only_table bytes (Ok t) a ps s = same_spelling bytes (table_view t) ps a s
 only_table bytes (Err SyntaxError) a ps s = a ps s

@@ -1,6 +1,7 @@
 -- Arguments by their kinds, read from left to right. Source: AMQP 0-9-1, section 4.2.5, "Data Types", and its XML.
 use Rattle.std.specs.Prelude.{◌*◌, ◌/◌, ◌%◌, ◌==◌, ℕ, zero, suc, ◌<◌, ◌^◌, List, [], ◌∷◌, length, take, drop, Bool, slice_index, nat_lt, if◌then◌else◌, Option, Some, None}
 use Rattle.std.specs.Int.{Width, w16, w32, w64, byte_len, from_be_bytes}
+use Rattle.model.specs.Options.{◌>>=◌}
 use Rattle.model.specs.Tables.{IsTable}
 use Rattle.model.specs.Grammar.{Argument, Octet, Short, Long, Long_long, Short_text, Long_text, Field_table, Bits, IsArgument}
 
@@ -25,12 +26,6 @@ kind_of (Short_text t) = a_short_text
 kind_of (Long_text t) = a_long_text
 kind_of (Field_table pairs) = a_field_table
 kind_of (Bits bs) = some_bits (length bs)
-
--- what is read by f after this, where this was read
-infixl 10 ◌>>=◌
-abbrev pub ◌>>=◌ : {A B : Type 0} → Option A → (A → Option B) → Option B
-None >>= f = None
-(Some x) >>= f = f x
 
 -- an argument, and the bytes after it
 abbrev pub Front : Type 0
@@ -88,6 +83,6 @@ IsSized (Field_table pairs) = length pairs < 2 ^ 32
 IsSized a = IsArgument a
 
 -- the bytes of a table are pairs
-abbrev pub IsWhole : Argument → Type 0
-IsWhole (Field_table pairs) = IsTable pairs
-IsWhole a = Unit {0}
+abbrev pub IsArgumentWhole : Argument → Type 0
+IsArgumentWhole (Field_table pairs) = IsTable pairs
+IsArgumentWhole a = Unit {0}

@@ -1,7 +1,8 @@
 -- Single values of tables and arrays: a type letter, and arguments behind it. Source: AMQP 0-9-1, section 4.2.5.5, "Field Tables".
 use Rattle.std.specs.Prelude.{ℕ, List, [], ◌∷◌, length, drop, slice_index, nat_lt, ◌==◌, if◌then◌else◌, Option, Some, None}
 use Rattle.model.specs.Grammar.{Argument, Octet, Short, Long, Long_long, Long_text, Bits}
-use Rattle.field_table.specs.Arguments.{Kind, an_octet, a_short, a_long, a_long_long, a_long_text, some_bits, ◌>>=◌, argument_at}
+use Rattle.field_table.specs.Arguments.{Kind, an_octet, a_short, a_long, a_long_long, a_long_text, some_bits, argument_at}
+use Rattle.model.specs.Options.{◌>>=◌}
 use Rattle.field_table.specs.declared.leaves.Leaf.{Leaf}
 use Rattle.field_table.specs.declared.leaves.Leaf.TheVariants as leaves
 
@@ -15,21 +16,21 @@ abbrev pub unread : ℕ → List Argument → Unread
 unread letter contents = record { letter = letter; contents = contents }
 
 -- what is on the wire for a leaf: its type letter, and what stands behind it; of an array or a table, its bytes
-abbrev pub seen : Leaf → Unread
-seen (leaves.Truth b) = unread 116 (Bits (b ∷ []) ∷ [])
-seen (leaves.Byte n) = unread 98 (Octet n ∷ [])
-seen (leaves.Short n) = unread 115 (Short n ∷ [])
-seen (leaves.Long n) = unread 73 (Long n ∷ [])
-seen (leaves.LongLong n) = unread 108 (Long_long n ∷ [])
-seen (leaves.Float n) = unread 102 (Long n ∷ [])
-seen (leaves.Double n) = unread 100 (Long_long n ∷ [])
-seen (leaves.Decimal scale digits) = unread 68 (Octet scale ∷ Long digits ∷ [])
-seen (leaves.Text t) = unread 83 (Long_text t.now ∷ [])
-seen (leaves.Array body) = unread 65 (Long_text body.now ∷ [])
-seen (leaves.Timestamp n) = unread 84 (Long_long n ∷ [])
-seen (leaves.Table body) = unread 70 (Long_text body.now ∷ [])
-seen (leaves.Bytes t) = unread 120 (Long_text t.now ∷ [])
-seen leaves.Void = unread 86 []
+abbrev pub leaf_seen : Leaf → Unread
+leaf_seen (leaves.Truth b) = unread 116 (Bits (b ∷ []) ∷ [])
+leaf_seen (leaves.Byte n) = unread 98 (Octet n ∷ [])
+leaf_seen (leaves.Short n) = unread 115 (Short n ∷ [])
+leaf_seen (leaves.Long n) = unread 73 (Long n ∷ [])
+leaf_seen (leaves.LongLong n) = unread 108 (Long_long n ∷ [])
+leaf_seen (leaves.Float n) = unread 102 (Long n ∷ [])
+leaf_seen (leaves.Double n) = unread 100 (Long_long n ∷ [])
+leaf_seen (leaves.Decimal scale digits) = unread 68 (Octet scale ∷ Long digits ∷ [])
+leaf_seen (leaves.Text t) = unread 83 (Long_text t.now ∷ [])
+leaf_seen (leaves.Array body) = unread 65 (Long_text body.now ∷ [])
+leaf_seen (leaves.Timestamp n) = unread 84 (Long_long n ∷ [])
+leaf_seen (leaves.Table body) = unread 70 (Long_text body.now ∷ [])
+leaf_seen (leaves.Bytes t) = unread 120 (Long_text t.now ∷ [])
+leaf_seen leaves.Void = unread 86 []
 
 -- the kinds of what stands behind a letter
 abbrev pub kinds_behind : ℕ → Option (List Kind)

@@ -4,19 +4,19 @@ use Rattle.model.specs.Words.{Text}
 use Rattle.model.specs.Tables.{Value, Values, Pairs, letter, content, values_bytes, pairs_bytes, IsValue, AreValues, ArePairs}
 use Rattle.std.specs.List.{AllByRecursion}
 use Rattle.field_table.specs.Arguments.{IsSized}
-use Rattle.field_table.specs.Leaves.{seen}
+use Rattle.field_table.specs.Leaves.{leaf_seen}
 use Rattle.field_table.specs.Values.{unread_of, contents_of}
 use Rattle.field_table.specs.declared.leaves.Leaf.{Leaf}
 use Rattle.field_table.specs.declared.leaves.Leaf.TheVariants as leaves
 
 -- this value stands at the front, where arrays and tables may stand inside one another so many levels deep
-pub record IsFirst (depth : ℕ) (bytes : List ℕ) (v : Value) (rest : List ℕ) : Type 0 where
+pub record IsFirstValue (depth : ℕ) (bytes : List ℕ) (v : Value) (rest : List ℕ) : Type 0 where
   pub fits : IsValue depth v
   pub parts : bytes ≡ letter v ∷ content v ++ rest
 
 -- no value stands at the front
 abbrev pub HasNone : ℕ → List ℕ → Type 0
-HasNone depth bytes = (v : Value) (rest : List ℕ) → IsFirst depth bytes v rest → ⊥
+HasNone depth bytes = (v : Value) (rest : List ℕ) → IsFirstValue depth bytes v rest → ⊥
 
 -- this name and this value stand at the front
 pub record IsFirstPair (depth : ℕ) (bytes : List ℕ) (name : Text) (v : Value) (rest : List ℕ) : Type 0 where
@@ -54,5 +54,5 @@ HoldsValues depth _ = Unit {0}
 
 -- what is read of the value is the leaf, and it fits where its numbers do
 pub record Means (depth : ℕ) (leaf : Leaf) (v : Value) : Type 0 where
-  pub read : seen leaf ≡ unread_of v
+  pub read : leaf_seen leaf ≡ unread_of v
   pub fits : AllByRecursion IsSized (contents_of v) → IsValue depth v

@@ -1,11 +1,11 @@
--- The table or value that a `Table` or a `Field` stands for.
+-- The table or value that a `FieldTable` or a `Field` stands for.
 use Rattle.std.specs.Prelude.{List, [], ◌∷◌, map}
 use Rattle.model.specs.Words.{Text}
 use Rattle.model.specs.Tables.{Value, Values, Pairs, Truth, Byte, Short, Long, Long_long, Float, Double, Decimal, Long_string, Field_array, Timestamp, Inner_table, Byte_array, Void, no_values, value, no_pairs, pair}
 use Rattle.field_table.specs.declared.fields.Field.{Field, fold-Field}
 use Rattle.field_table.specs.declared.fields.Field.TheOpen as fields
-use Rattle.field_table.specs.declared.fields.Entry.{Entry, fold-Entry}
-use Rattle.field_table.specs.declared.fields.Table.{Table, fold-Table}
+use Rattle.field_table.specs.declared.fields.TableEntry.{TableEntry, fold-TableEntry}
+use Rattle.field_table.specs.declared.fields.FieldTable.{FieldTable, fold-FieldTable}
 
 -- a name and its value
 pub record Named : Type 0 where
@@ -23,7 +23,7 @@ pairs_then [] ps = ps
 pairs_then (x ∷ xs) ps = pair x.name x.value (pairs_then xs ps)
 
 -- one level, with each value inside already seen
-abbrev pub field_step : fields.Field-F Value Named Pairs → Value
+abbrev pub field_step : fields.Field-F Value Pairs Named → Value
 field_step (fields.Truth b) = Truth b
 field_step (fields.Byte n) = Byte n
 field_step (fields.Short n) = Short n
@@ -40,31 +40,31 @@ field_step (fields.Bytes t) = Byte_array t
 field_step fields.Void = Void
 
 -- a name with its value, which is already seen
-abbrev pub entry_step : fields.Entry-F Value Named Pairs → Named
+abbrev pub entry_step : fields.TableEntry-F Value Pairs Named → Named
 entry_step e = record { name = e.name; value = e.value }
 
 -- the pairs of a table, whose values are already seen
-abbrev pub table_step : fields.Table-F Value Named Pairs → Pairs
+abbrev pub table_step : fields.FieldTable-F Value Pairs Named → Pairs
 table_step t = pairs_then t.entries.items no_pairs
 
 -- the value that a `Field` stands for, with all that stands inside it
 abbrev pub field_view : Field → Value
-field_view = fold-Field Value Named Pairs field_step entry_step table_step
+field_view = fold-Field Value Pairs Named field_step table_step entry_step
 
--- the name and the value that an `Entry` stands for
-abbrev pub entry_view : Entry → Named
-entry_view = fold-Entry Value Named Pairs field_step entry_step table_step
+-- the name and the value that a `TableEntry` stands for
+abbrev pub entry_view : TableEntry → Named
+entry_view = fold-TableEntry Value Pairs Named field_step table_step entry_step
 
--- the pairs that a `Table` stands for, in their order
-abbrev pub table_view : Table → Pairs
-table_view = fold-Table Value Named Pairs field_step entry_step table_step
+-- the pairs that a `FieldTable` stands for, in their order
+abbrev pub table_view : FieldTable → Pairs
+table_view = fold-FieldTable Value Pairs Named field_step table_step entry_step
 
 -- the values of an array, and the pairs of a table
 abbrev pub fields_view : List Field → List Value
 fields_view fs = map field_view fs
 
 -- the names and values of these entries, in their order
-abbrev pub entries_view : List Entry → List Named
+abbrev pub entries_view : List TableEntry → List Named
 entries_view es = map entry_view es
 
 -- the values of an array of these fields
@@ -72,5 +72,5 @@ abbrev pub array_view : List Field → Values
 array_view fs = values_then (fields_view fs) no_values
 
 -- the pairs of a table of these entries
-abbrev pub pairs_view : List Entry → Pairs
+abbrev pub pairs_view : List TableEntry → Pairs
 pairs_view es = pairs_then (entries_view es) no_pairs

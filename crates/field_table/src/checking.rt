@@ -2,7 +2,7 @@
 
 ghost use Rattle.std.specs.Prelude.{MatchBool, MatchOption};
 ghost use Rattle.model.specs.Tables.{Value, IsTable};
-ghost use Rattle.field_table.specs.Reading.{IsFirst, HasNone, IsFirstPair, HasNoPair, HasValues, HasPairs, HoldsValues};
+ghost use Rattle.field_table.specs.Reading.{IsFirstValue, HasNone, IsFirstPair, HasNoPair, HasValues, HasPairs, HoldsValues};
 
 use crate::leaves::{Leaf, leaf_at};
 use crate::takes::short_text_at;
@@ -67,7 +67,7 @@ fn are_values(bytes: &[u8], depth: usize) -> bool
 /// What follows the value at the front.
 #[cycle(check)]
 fn value_end(bytes: &[u8], depth: usize) -> Option<&[u8]>
-    ensures { MatchOption result (HasNone depth bytes.now) (λ rest. (v : Value) × IsFirst depth bytes.now v rest.now) }
+    ensures { MatchOption result (HasNone depth bytes.now) (λ rest. (v : Value) × IsFirstValue depth bytes.now v rest.now) }
 {
     let Some((leaf, rest)) = leaf_at(bytes) else {
         return None;

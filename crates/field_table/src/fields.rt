@@ -10,14 +10,14 @@ use model::Text;
 /// Source: AMQP 0-9-1, section 4.2.5.5, "Field Tables".
 #[cycle(fields)]
 #[derive(Drop)]
-pub struct Table {
-    pub entries: Vec<Entry>,
+pub struct FieldTable {
+    pub entries: Vec<TableEntry>,
 }
 
 /// A name and its value.
 #[cycle(fields)]
 #[derive(Drop)]
-pub struct Entry {
+pub struct TableEntry {
     pub name: Text,
     pub value: Field,
 }
@@ -51,7 +51,7 @@ pub enum Field {
     /// `T`: seconds since 1970.
     Timestamp(u64),
     /// `F`.
-    Table(Table),
+    Table(FieldTable),
     /// `x`.
     Bytes(Text),
     /// `V`: no value.

@@ -2,7 +2,7 @@
 
 ghost use Rattle.std.specs.Prelude.{◌≡◌, [], ◌∷◌, Some, option_map};
 ghost use Rattle.field_table.specs.Arguments.{a_long, a_long_long, a_long_text};
-ghost use Rattle.field_table.specs.Leaves.{seen, kinds_behind, read_leaf, behind};
+ghost use Rattle.field_table.specs.Leaves.{leaf_seen, kinds_behind, read_leaf, behind};
 
 use crate::takes::{long_at, long_long_at, long_text_at, octet_at, one_bit_at, short_at};
 
@@ -27,7 +27,7 @@ pub enum Leaf<'a> {
 
 /// The value at the front, and the bytes after it.
 pub fn leaf_at(bytes: &[u8]) -> Option<(Leaf<'_>, &[u8])>
-    ensures { option_map (λ x. (seen x.0, x.1.now)) result ≡ read_leaf bytes.now }
+    ensures { option_map (λ x. (leaf_seen x.0, x.1.now)) result ≡ read_leaf bytes.now }
 {
     let Some((letter, rest)) = octet_at(bytes) else {
         return None;
@@ -37,7 +37,7 @@ pub fn leaf_at(bytes: &[u8]) -> Option<(Leaf<'_>, &[u8])>
 
 /// The value behind this letter, and the bytes after it.
 fn leaf_behind(letter: u8, bytes: &[u8]) -> Option<(Leaf<'_>, &[u8])>
-    ensures { option_map (λ x. (seen x.0, x.1.now)) result ≡ behind letter bytes.now }
+    ensures { option_map (λ x. (leaf_seen x.0, x.1.now)) result ≡ behind letter bytes.now }
 {
     match letter {
         b't' => truth_behind(bytes),
@@ -55,7 +55,7 @@ fn leaf_behind(letter: u8, bytes: &[u8]) -> Option<(Leaf<'_>, &[u8])>
 // ---- what stands behind each letter
 
 fn truth_behind(bytes: &[u8]) -> Option<(Leaf<'_>, &[u8])>
-    ensures { option_map (λ x. (seen x.0, x.1.now)) result ≡ behind 116 bytes.now }
+    ensures { option_map (λ x. (leaf_seen x.0, x.1.now)) result ≡ behind 116 bytes.now }
 {
     let Some((truth, rest)) = one_bit_at(bytes) else {
         return None;
@@ -64,7 +64,7 @@ fn truth_behind(bytes: &[u8]) -> Option<(Leaf<'_>, &[u8])>
 }
 
 fn byte_behind(bytes: &[u8]) -> Option<(Leaf<'_>, &[u8])>
-    ensures { option_map (λ x. (seen x.0, x.1.now)) result ≡ behind 98 bytes.now }
+    ensures { option_map (λ x. (leaf_seen x.0, x.1.now)) result ≡ behind 98 bytes.now }
 {
     let Some((number, rest)) = octet_at(bytes) else {
         return None;
@@ -73,7 +73,7 @@ fn byte_behind(bytes: &[u8]) -> Option<(Leaf<'_>, &[u8])>
 }
 
 fn short_behind(bytes: &[u8]) -> Option<(Leaf<'_>, &[u8])>
-    ensures { option_map (λ x. (seen x.0, x.1.now)) result ≡ behind 115 bytes.now }
+    ensures { option_map (λ x. (leaf_seen x.0, x.1.now)) result ≡ behind 115 bytes.now }
 {
     let Some((number, rest)) = short_at(bytes) else {
         return None;
@@ -84,7 +84,7 @@ fn short_behind(bytes: &[u8]) -> Option<(Leaf<'_>, &[u8])>
 /// `I` or `f`.
 fn long_behind(letter: u8, bytes: &[u8]) -> Option<(Leaf<'_>, &[u8])>
     requires { kinds_behind letter ≡ Some (a_long ∷ []) }
-    ensures { option_map (λ x. (seen x.0, x.1.now)) result ≡ behind letter bytes.now }
+    ensures { option_map (λ x. (leaf_seen x.0, x.1.now)) result ≡ behind letter bytes.now }
 {
     let Some((number, rest)) = long_at(bytes) else {
         return None;
@@ -99,7 +99,7 @@ fn long_behind(letter: u8, bytes: &[u8]) -> Option<(Leaf<'_>, &[u8])>
 /// `l`, `d` or `T`.
 fn long_long_behind(letter: u8, bytes: &[u8]) -> Option<(Leaf<'_>, &[u8])>
     requires { kinds_behind letter ≡ Some (a_long_long ∷ []) }
-    ensures { option_map (λ x. (seen x.0, x.1.now)) result ≡ behind letter bytes.now }
+    ensures { option_map (λ x. (leaf_seen x.0, x.1.now)) result ≡ behind letter bytes.now }
 {
     let Some((number, rest)) = long_long_at(bytes) else {
         return None;
@@ -113,7 +113,7 @@ fn long_long_behind(letter: u8, bytes: &[u8]) -> Option<(Leaf<'_>, &[u8])>
 }
 
 fn decimal_behind(bytes: &[u8]) -> Option<(Leaf<'_>, &[u8])>
-    ensures { option_map (λ x. (seen x.0, x.1.now)) result ≡ behind 68 bytes.now }
+    ensures { option_map (λ x. (leaf_seen x.0, x.1.now)) result ≡ behind 68 bytes.now }
 {
     let Some((scale, rest)) = octet_at(bytes) else {
         return None;
@@ -127,7 +127,7 @@ fn decimal_behind(bytes: &[u8]) -> Option<(Leaf<'_>, &[u8])>
 /// `S`, `A`, `F` or `x`.
 fn text_behind(letter: u8, bytes: &[u8]) -> Option<(Leaf<'_>, &[u8])>
     requires { kinds_behind letter ≡ Some (a_long_text ∷ []) }
-    ensures { option_map (λ x. (seen x.0, x.1.now)) result ≡ behind letter bytes.now }
+    ensures { option_map (λ x. (leaf_seen x.0, x.1.now)) result ≡ behind letter bytes.now }
 {
     let Some((body, rest)) = long_text_at(bytes) else {
         return None;

@@ -16,10 +16,10 @@ mod takes;
 mod writing;
 
 pub use checking::is_table;
-pub use fields::{Entry, Field, Table};
+pub use fields::{Field, FieldTable, TableEntry};
 pub use lookups::has_field;
 pub use reading::read_table;
-pub use refusals::Refusal;
+pub use refusals::BadTable;
 pub use takes::{
     five_bits_at, four_bits_at, long_at, long_long_at, long_text_at, octet_at, one_bit_at,
     pairs_at, short_at, short_text_at, two_bits_at,

@@ -5,14 +5,14 @@ ghost use Rattle.model.specs.Tables.{letter, content, values_bytes, pairs_bytes,
 ghost use Rattle.field_table.specs.View.{field_view, entry_view, array_view, pairs_view};
 ghost use Rattle.field_table.specs.Writing.{AreValuesWithin, ArePairsWithin, IsEntry, entry_bytes};
 
-use crate::fields::{Entry, Field};
+use crate::fields::{Field, TableEntry};
 
 /// A length that 4 bytes cannot hold.
 const LIMIT: usize = 0x1_0000_0000;
 
 /// How many bytes the pairs of a table have, in which arrays and tables may stand `depth` levels deep.
 #[cycle(measure)]
-pub(crate) fn pairs_len(entries: &[Entry], depth: usize) -> Option<usize>
+pub(crate) fn pairs_len(entries: &[TableEntry], depth: usize) -> Option<usize>
     ensures cases { MatchOption result (ArePairsWithin depth (pairs_view entries.now) → ⊥) (λ n. ArePairsWithin depth (pairs_view entries.now) × (n ≡ length (pairs_bytes (pairs_view entries.now)))) }
     ensures bound { IfSome result (λ n. n < 2 ^ 32) }
 {
@@ -28,7 +28,7 @@ pub(crate) fn pairs_len(entries: &[Entry], depth: usize) -> Option<usize>
 
 /// How many bytes a name and its value have.
 #[cycle(measure)]
-fn entry_len(entry: &Entry, depth: usize) -> Option<usize>
+fn entry_len(entry: &TableEntry, depth: usize) -> Option<usize>
     ensures cases { MatchOption result (IsEntry depth (entry_view entry.now) → ⊥) (λ n. IsEntry depth (entry_view entry.now) × (n ≡ length (entry_bytes (entry_view entry.now)))) }
     ensures bound { IfSome result (λ n. n < 2 ^ 34) }
 {

@@ -3,13 +3,13 @@
 ghost use Rattle.std.specs.Prelude.{◌≡◌, ◌+◌};
 ghost use Rattle.model.specs.Tables.{Pairs, no_values};
 ghost use Rattle.field_table.specs.View.{table_view, fields_view, field_view, values_then};
-ghost use Rattle.field_table.specs.Reading.{IsFirst, HasNone, IsFirstPair, HasNoPair, SpellsValues, SpellsPairs, HasValues, HasPairs, HoldsValues, Means};
+ghost use Rattle.field_table.specs.Reading.{IsFirstValue, HasNone, IsFirstPair, HasNoPair, SpellsValues, SpellsPairs, HasValues, HasPairs, HoldsValues, Means};
 ghost use Rattle.field_table.specs.Answers.{AnswersOr, SpellsTable, IsOr};
 
 use crate::checking::DEPTH;
-use crate::fields::{Entry, Field, Table};
+use crate::fields::{Field, FieldTable, TableEntry};
 use crate::leaves::{Leaf, leaf_at};
-use crate::refusals::Refusal;
+use crate::refusals::BadTable;
 use crate::takes::{long_text_at, short_text_at};
 use model::Text;
 use std::alloc::Global;
@@ -18,21 +18,21 @@ use std::alloc::Global;
 ///
 /// Bytes that are left over, a length that is not filled exactly, a letter or a truth octet that no value has, and
 /// tables and arrays inside one another more than 16 levels deep are `SyntaxError`.
-pub fn read_table(alloc: Global, bytes: &[u8]) -> Result<Table, Refusal>
+pub fn read_table(alloc: Global, bytes: &[u8]) -> Result<FieldTable, BadTable>
     ensures tells { AnswersOr result (λ t. SpellsTable bytes.now (table_view t)) ((ps : Pairs) → SpellsTable bytes.now ps → ⊥) }
     // A table that is spelled so is read, unless memory was refused.
     ensures only { (ps : Pairs) → SpellsTable bytes.now ps → IsOr result (λ t. table_view t ≡ ps) }
 {
-    let (pairs, rest) = long_text_at(bytes).ok_or(Refusal::SyntaxError)?;
+    let (pairs, rest) = long_text_at(bytes).ok_or(BadTable::SyntaxError)?;
     if !rest.is_empty() {
-        return Err(Refusal::SyntaxError);
+        return Err(BadTable::SyntaxError);
     }
     table_in(alloc, pairs, DEPTH)
 }
 
 /// The table of these pairs, in which arrays and tables may stand `depth` levels deep.
 #[cycle(read)]
-fn table_in(alloc: Global, bytes: &[u8], depth: usize) -> Result<Table, Refusal>
+fn table_in(alloc: Global, bytes: &[u8], depth: usize) -> Result<FieldTable, BadTable>
     ensures { AnswersOr result (λ t. SpellsPairs depth bytes.now (table_view t)) (HasPairs depth bytes.now → ⊥) }
 {
     let mut entries = Vec::new(alloc);
@@ -42,27 +42,27 @@ fn table_in(alloc: Global, bytes: &[u8], depth: usize) -> Result<Table, Refusal>
         entries.push(entry)?;
         rest = after;
     }
-    Ok(Table { entries })
+    Ok(FieldTable { entries })
 }
 
 /// The name and the value at the front, and what follows them.
 #[cycle(read)]
-fn entry_at(alloc: Global, bytes: &[u8], depth: usize) -> Result<(Entry, &[u8]), Refusal>
+fn entry_at(alloc: Global, bytes: &[u8], depth: usize) -> Result<(TableEntry, &[u8]), BadTable>
     ensures { AnswersOr result (λ x. IsFirstPair depth bytes.now x.0.name (field_view x.0.value) x.1.now) (HasNoPair depth bytes.now) }
 {
     let Some((name, rest)) = short_text_at(bytes) else {
-        return Err(Refusal::SyntaxError);
+        return Err(BadTable::SyntaxError);
     };
     let name = Text::from_slice(alloc, name)?;
     match field_at(alloc, rest, depth) {
-        Ok((value, rest)) => Ok((Entry { name, value }, rest)),
+        Ok((value, rest)) => Ok((TableEntry { name, value }, rest)),
         Err(why) => Err(why),
     }
 }
 
 /// The values of an array, in which arrays and tables may stand `depth` levels deep.
 #[cycle(read)]
-fn values_in(alloc: Global, bytes: &[u8], depth: usize) -> Result<Vec<Field>, Refusal>
+fn values_in(alloc: Global, bytes: &[u8], depth: usize) -> Result<Vec<Field>, BadTable>
     ensures { AnswersOr result (λ v. SpellsValues depth bytes.now (values_then (fields_view v.items) no_values)) (HasValues depth bytes.now → ⊥) }
 {
     let mut values = Vec::new(alloc);
@@ -77,11 +77,11 @@ fn values_in(alloc: Global, bytes: &[u8], depth: usize) -> Result<Vec<Field>, Re
 
 /// The value at the front, and what follows it.
 #[cycle(read)]
-fn field_at(alloc: Global, bytes: &[u8], depth: usize) -> Result<(Field, &[u8]), Refusal>
-    ensures { AnswersOr result (λ x. IsFirst depth bytes.now (field_view x.0) x.1.now) (HasNone depth bytes.now) }
+fn field_at(alloc: Global, bytes: &[u8], depth: usize) -> Result<(Field, &[u8]), BadTable>
+    ensures { AnswersOr result (λ x. IsFirstValue depth bytes.now (field_view x.0) x.1.now) (HasNone depth bytes.now) }
 {
     let Some((leaf, rest)) = leaf_at(bytes) else {
-        return Err(Refusal::SyntaxError);
+        return Err(BadTable::SyntaxError);
     };
     match field_of(alloc, leaf, depth) {
         Ok(field) => Ok((field, rest)),
@@ -91,7 +91,7 @@ fn field_at(alloc: Global, bytes: &[u8], depth: usize) -> Result<(Field, &[u8]),
 
 /// The value itself, with what its array or table holds.
 #[cycle(read)]
-fn field_of(alloc: Global, leaf: Leaf<'_>, depth: usize) -> Result<Field, Refusal>
+fn field_of(alloc: Global, leaf: Leaf<'_>, depth: usize) -> Result<Field, BadTable>
     ensures { AnswersOr result (λ f. Means depth leaf.entry (field_view f)) (HoldsValues depth leaf.entry → ⊥) }
 {
     match leaf {
@@ -113,11 +113,11 @@ fn field_of(alloc: Global, leaf: Leaf<'_>, depth: usize) -> Result<Field, Refusa
 }
 
 /// One level less, where there is one.
-fn less(depth: usize) -> Result<usize, Refusal>
+fn less(depth: usize) -> Result<usize, BadTable>
     ensures { AnswersOr result (λ n. n + 1 ≡ depth) (depth ≡ 0) }
 {
     if depth == 0 {
-        return Err(Refusal::SyntaxError);
+        return Err(BadTable::SyntaxError);
     }
     Ok(depth - 1)
 }

@@ -3,30 +3,30 @@
 ghost use Rattle.std.specs.Prelude.{◌≡◌, ◌<◌, ◌≤◌, ◌+◌, ◌-◌, ◌^◌, [], ◌∷◌, ◌++◌, length, vec_len, vec_capacity, OnOk, IfErr, IfSome, IsSome, Err};
 ghost use Rattle.std.specs.Int.{w32, to_be_bytes};
 ghost use Rattle.model.specs.Tables.{letter, content, sized, values_bytes, pairs_bytes, table_bytes, HavePairsSpelling, IsValue};
-ghost use Rattle.field_table.specs.declared.refusals.Refusal.TheVariants.{Memory};
+ghost use Rattle.field_table.specs.declared.refusals.BadTable.TheVariants.{Memory};
 ghost use Rattle.field_table.specs.View.{field_view, entry_view, array_view, pairs_view, table_view};
-ghost use Rattle.field_table.specs.Answers.{Refused};
+ghost use Rattle.field_table.specs.Answers.{TableRefused};
 ghost use Rattle.field_table.specs.Writing.{AreValuesWithin, ArePairsWithin, IsEntry, entry_bytes};
 
 use crate::checking::DEPTH;
-use crate::fields::{Entry, Field, Table};
+use crate::fields::{Field, FieldTable, TableEntry};
 use crate::measuring::{pairs_len, values_len};
-use crate::refusals::Refusal;
+use crate::refusals::BadTable;
 
 /// Appends the spelling of the table to `out`, its length (4 bytes) first.
 ///
 /// A table that has no spelling is `SyntaxError`. On an error `out` is as it was.
-pub fn write_table(out: &mut Vec<u8>, table: &Table) -> Result<(), Refusal>
+pub fn write_table(out: &mut Vec<u8>, table: &FieldTable) -> Result<(), BadTable>
     ensures ok { OnOk result (HavePairsSpelling (table_view table.now) × (out.new.items ≡ out.old.items ++ table_bytes (table_view table.now))) }
-    ensures err { IfErr result (λ e. Refused e (HavePairsSpelling (table_view table.now) → ⊥) × (out.new.items ≡ out.old.items)) }
+    ensures err { IfErr result (λ e. TableRefused e (HavePairsSpelling (table_view table.now) → ⊥) × (out.new.items ≡ out.old.items)) }
     // Memory was really wanted.
     ensures full { result ≡ Err Memory → vec_capacity out.old < vec_len out.old + length (table_bytes (table_view table.now)) }
 {
     match pairs_len(&table.entries, DEPTH) {
-        None => Err(Refusal::SyntaxError),
+        None => Err(BadTable::SyntaxError),
         Some(len) => {
             if out.reserve(4 + len).is_err() {
-                return Err(Refusal::Memory);
+                return Err(BadTable::Memory);
             }
             put_bytes(out, &(len as u32).to_be_bytes());
             put_pairs(out, &table.entries, DEPTH);
@@ -37,7 +37,7 @@ pub fn write_table(out: &mut Vec<u8>, table: &Table) -> Result<(), Refusal>
 
 /// Appends the pairs of a table, in which arrays and tables may stand `depth` levels deep.
 #[cycle(put)]
-fn put_pairs(out: &mut Vec<u8>, entries: &[Entry], depth: usize)
+fn put_pairs(out: &mut Vec<u8>, entries: &[TableEntry], depth: usize)
     requires fits { ArePairsWithin depth (pairs_view entries.now) }
     requires room { vec_len out.old + length (pairs_bytes (pairs_view entries.now)) ≤ vec_capacity out.old }
     ensures items { out.new.items ≡ out.old.items ++ pairs_bytes (pairs_view entries.now) }
@@ -51,7 +51,7 @@ fn put_pairs(out: &mut Vec<u8>, entries: &[Entry], depth: usize)
 
 /// Appends a name and its value.
 #[cycle(put)]
-fn put_entry(out: &mut Vec<u8>, entry: &Entry, depth: usize)
+fn put_entry(out: &mut Vec<u8>, entry: &TableEntry, depth: usize)
     requires fits { IsEntry depth (entry_view entry.now) }
     requires room { vec_len out.old + length (entry_bytes (entry_view entry.now)) ≤ vec_capacity out.old }
     ensures items { out.new.items ≡ out.old.items ++ entry_bytes (entry_view entry.now) }

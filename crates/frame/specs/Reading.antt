@@ -3,8 +3,8 @@ use Rattle.std.specs.Prelude.{◌≡◌, ◌<◌, ◌⊎◌, ℕ, List, ◌++◌
 use Rattle.model.specs.Frames
 use Rattle.model.specs.Frames.{frame_bytes, Begins, IsBroken}
 use Rattle.frame.specs.declared.frames.Frame.{Frame}
-use Rattle.frame.specs.declared.frames.Read.{Read}
-use Rattle.frame.specs.declared.frames.Read.TheVariants.{Whole, More, Fault}
+use Rattle.frame.specs.declared.frames.ReadFrame.{ReadFrame}
+use Rattle.frame.specs.declared.frames.ReadFrame.TheVariants.{Whole, More, Fault}
 
 -- the frame, apart from where its payload lies
 abbrev pub seen : Frame → Frames.Frame
@@ -29,18 +29,18 @@ pub record IsUnfinished (max : ℕ) (bytes : List ℕ) : Type 0 where
   pub unbroken : IsBroken max bytes → ⊥
 
 -- this frame of so many bytes stands at the front
-pub record IsFront (max : ℕ) (bytes : List ℕ) (f : Frame) (size : ℕ) : Type 0 where
+pub record IsFrontFrame (max : ℕ) (bytes : List ℕ) (f : Frame) (size : ℕ) : Type 0 where
   pub front : Begins max bytes (seen f) (drop size bytes)
   pub whole : size ≡ length (frame_bytes (seen f))
 
 -- the answer is right for these bytes
-abbrev pub TellsFrame : ℕ → List ℕ → Read → Type 0
-TellsFrame max bytes (Whole f len) = IsFront max bytes f len
+abbrev pub TellsFrame : ℕ → List ℕ → ReadFrame → Type 0
+TellsFrame max bytes (Whole f len) = IsFrontFrame max bytes f len
 TellsFrame max bytes More = IsUnfinished max bytes
 TellsFrame max bytes (Fault code) = (code ≡ 501) × IsBroken max bytes
 
 -- the answer is this frame, and these bytes stand after it
-abbrev pub IsWhole : List ℕ → Read → Frames.Frame → List ℕ → Type 0
-IsWhole bytes (Whole f len) g rest = (seen f ≡ g) × (drop len bytes ≡ rest)
-IsWhole bytes More g rest = ⊥
-IsWhole bytes (Fault code) g rest = ⊥
+abbrev pub IsWholeFrame : List ℕ → ReadFrame → Frames.Frame → List ℕ → Type 0
+IsWholeFrame bytes (Whole f len) g rest = (seen f ≡ g) × (drop len bytes ≡ rest)
+IsWholeFrame bytes More g rest = ⊥
+IsWholeFrame bytes (Fault code) g rest = ⊥

@@ -1,6 +1,6 @@
 //! Bytes that are put in at the back and taken from the front.
 
-ghost use Rattle.std.specs.Prelude.{◌≡◌, ◌≤◌, ◌+◌, ◌^◌, [], ◌++◌, length, take, drop, true, OnOk, vec_len, vec_capacity};
+ghost use Rattle.std.specs.Prelude.{◌≡◌, ◌≤◌, ◌+◌, ◌^◌, ◌<◌, [], ◌++◌, length, take, drop, true, OnOk, OnErr, Decides, vec_len, vec_capacity};
 ghost use Rattle.model.specs.Frames.{frame_bytes};
 ghost use Rattle.frame.specs.Reading.{seen};
 
@@ -22,11 +22,11 @@ pub struct Buffer {
 
 impl Model for Buffer {
     ghost use Rattle.std.specs.Prelude.{◌≤◌, ◌-◌, drop, vec_len, vec_capacity};
-    ghost use Rattle.frame.specs.Waiting.{Waiting};
+    ghost use Rattle.frame.specs.Waiting.{WaitingBytes};
 
-    ghost Value = { Waiting };
+    ghost Value = { WaitingBytes };
 
-    ghost view = { λ o. record { bytes = drop o.start o.bytes.items; room = vec_capacity o.bytes - vec_len o.bytes } };
+    ghost view = { λ o. record { bytes = drop o.start o.bytes.items; room = vec_capacity o.bytes - vec_len o.bytes; storage = vec_capacity o.bytes } };
 
     ghost invariant = { λ o. o.start ≤ vec_len o.bytes };
 }
@@ -36,6 +36,7 @@ impl Buffer {
     pub fn new(alloc: Global) -> Buffer
         ensures bytes { result.bytes ≡ [] }
         ensures room { result.room ≡ 0 }
+        ensures storage { result.storage ≡ 0 }
     {
         Buffer {
             bytes: Vec::new(alloc),
@@ -52,6 +53,7 @@ impl Buffer {
 
     /// Whether it has no storage.
     pub fn has_none(&self) -> bool
+        ensures storage { Decides result (self.now.storage ≡ 0) }
         ensures bytes { result ≡ true → self.now.bytes ≡ [] }
         ensures room { result ≡ true → self.now.room ≡ 0 }
     {
@@ -63,16 +65,21 @@ impl Buffer {
         requires { self.old.bytes ≡ [] }
         ensures bytes { self.new.bytes ≡ [] }
         ensures room { self.new.room ≡ vec_capacity storage }
+        ensures storage { self.new.storage ≡ vec_capacity storage }
+        ensures given_back { vec_capacity result ≡ self.old.storage }
     {
         storage.clear();
         self.start = 0;
         mem::replace(&mut self.bytes, storage)
     }
 
-    /// Makes room for `n` more bytes.
+    /// Makes room for `n` more bytes. Where memory is refused, which was wanted then, all stays as it was.
     pub fn reserve(&mut self, n: usize) -> Result<(), AllocError>
         ensures bytes { self.new.bytes ≡ self.old.bytes }
         ensures ok { OnOk result (n ≤ self.new.room) }
+        ensures kept { self.old.room ≤ self.new.room }
+        ensures full { OnErr result (self.old.room < n) }
+        ensures err { OnErr result (self.new ≡ self.old) }
     {
         self.bytes.reserve(n)
     }
@@ -82,6 +89,7 @@ impl Buffer {
         requires { length more.now ≤ self.old.room }
         ensures bytes { self.new.bytes ≡ self.old.bytes ++ more.now }
         ensures room { self.old.room ≤ self.new.room + length more.now }
+        ensures storage { self.old.storage ≤ self.new.storage }
     {
         put_bytes(&mut self.bytes, more);
     }
@@ -92,6 +100,7 @@ impl Buffer {
         requires room { length frame.now.payload.now + 8 ≤ self.old.room }
         ensures bytes { self.new.bytes ≡ self.old.bytes ++ frame_bytes (seen frame.now) }
         ensures room { self.old.room ≤ self.new.room + (length frame.now.payload.now + 8) }
+        ensures storage { self.old.storage ≤ self.new.storage }
     {
         put_frame(&mut self.bytes, frame);
     }
@@ -100,7 +109,9 @@ impl Buffer {
     /// were taken since it last moved, and no less than what is left.
     pub fn take(&mut self, n: usize)
         requires { n ≤ length self.old.bytes }
-        ensures { self.new.bytes ≡ drop n self.old.bytes }
+        ensures bytes { self.new.bytes ≡ drop n self.old.bytes }
+        ensures room { self.old.room ≤ self.new.room }
+        ensures storage { self.new.storage ≡ self.old.storage }
     {
         self.start += n;
         let left = self.bytes.len() - self.start;
@@ -116,7 +127,9 @@ impl Buffer {
 
     /// Takes `n` bytes, or all if there are fewer.
     pub fn take_up_to(&mut self, n: u64)
-        ensures { self.new.bytes ≡ drop n self.old.bytes }
+        ensures bytes { self.new.bytes ≡ drop n self.old.bytes }
+        ensures room { self.old.room ≤ self.new.room }
+        ensures storage { self.new.storage ≡ self.old.storage }
     {
         let waiting = self.bytes().len();
         if n < waiting as u64 {
@@ -131,7 +144,9 @@ impl Buffer {
 fn drop_front(bytes: &mut Vec<u8>, n: usize)
     requires within { n ≤ vec_len bytes.old }
     requires half { vec_len bytes.old ≤ n + n }
-    ensures { bytes.new.items ≡ drop n bytes.old.items }
+    ensures items { bytes.new.items ≡ drop n bytes.old.items }
+    ensures len { vec_len bytes.new ≤ vec_len bytes.old }
+    ensures capacity { vec_capacity bytes.new ≡ vec_capacity bytes.old }
 {
     let left = bytes.len() - n;
     move_to_front(bytes, n, left);

@@ -11,7 +11,7 @@ pub struct Frame<'a> {
 
 /// What stands at the front of a buffer.
 #[derive(Clone, Copy, PartialEq, Eq, Debug, Drop)]
-pub enum Read<'a> {
+pub enum ReadFrame<'a> {
     /// This frame, of so many bytes.
     Whole(Frame<'a>, usize),
     /// No whole frame yet.

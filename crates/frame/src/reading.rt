@@ -4,48 +4,48 @@ ghost use Rattle.std.specs.Prelude.{◌≡◌, ◌≤◌, ◌⊎◌, ℕ, List, 
 ghost use Rattle.std.specs.Int.{w16, w32, from_be_bytes};
 ghost use Rattle.model.specs.Frames;
 ghost use Rattle.model.specs.Frames.{Begins};
-ghost use Rattle.frame.specs.Reading.{TellsFrame, IsWhole, IsKind};
+ghost use Rattle.frame.specs.Reading.{TellsFrame, IsWholeFrame, IsKind};
 
-use crate::frames::{Frame, Read};
+use crate::frames::{Frame, ReadFrame};
 use byteorder::{BigEndian, ByteOrder};
 
 /// The frame at the front of `input`, where a whole frame has at most `max` bytes.
 ///
 /// `More` where no whole frame stands there but one may still come, `Fault(501)` where none can.
-pub fn read_frame(input: &[u8], max: u32) -> Read<'_>
+pub fn read_frame(input: &[u8], max: u32) -> ReadFrame<'_>
     requires { 4096 ≤ max }
     ensures tells { TellsFrame max input.now result }
     // A frame that stands there is read.
-    ensures only { (f : Frames.Frame) (rest : List ℕ) → Begins max input.now f rest → IsWhole input.now result f rest }
+    ensures only { (f : Frames.Frame) (rest : List ℕ) → Begins max input.now f rest → IsWholeFrame input.now result f rest }
 {
     front_of(input, max)
 }
 
-fn front_of(input: &[u8], max: u32) -> Read<'_>
+fn front_of(input: &[u8], max: u32) -> ReadFrame<'_>
     requires { 4096 ≤ max }
     ensures { TellsFrame max input.now result }
 {
     if input.len() < 7 {
-        return Read::More;
+        return ReadFrame::More;
     }
     let kind = input[0];
     if !is_kind(kind) {
-        return Read::Fault(501);
+        return ReadFrame::Fault(501);
     }
     let size = size_at(input);
     if max - 8 < size {
-        return Read::Fault(501);
+        return ReadFrame::Fault(501);
     }
     let end = size as usize + 7;
     if input.len() <= end {
-        return Read::More;
+        return ReadFrame::More;
     }
     if input[end] != 0xCE {
-        return Read::Fault(501);
+        return ReadFrame::Fault(501);
     }
     let channel = channel_at(input);
     let payload = &input[7..end];
-    Read::Whole(
+    ReadFrame::Whole(
         Frame {
             kind,
             channel,

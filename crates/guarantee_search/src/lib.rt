@@ -7,4 +7,4 @@ mod states;
 mod verdicts;
 
 pub use searching::search;
-pub use verdicts::{Cause, Verdict};
+pub use verdicts::{UndecidedCause, Verdict};

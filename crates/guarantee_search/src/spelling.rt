@@ -6,7 +6,7 @@ ghost use Rattle.std.specs.Fmt.{decimal};
 ghost use Rattle.std.specs.Str.{bytes_eq};
 ghost use Rattle.model.specs.Topology.{IsIn};
 ghost use Rattle.model.specs.Positions.{named_words};
-ghost use Rattle.guarantee_search.specs.Spellings.{SpellsLetters, after, key_of};
+ghost use Rattle.guarantee_search.specs.Spellings.{SpellsLetters, followed_by, spelled_key};
 ghost use Rattle.model.specs.Searches.{IsWord};
 
 use model::Text;
@@ -98,7 +98,7 @@ pub fn spellings(alloc: Global, letters: &Letters) -> Result<Vec<Text>, AllocErr
 
 /// Adds a word to a key.
 fn add_word(key: &mut Vec<u8>, word: &[u8]) -> Result<(), AllocError>
-    ensures { OnOk result (key.new.items ≡ after key.old.items word.now) }
+    ensures { OnOk result (key.new.items ≡ followed_by key.old.items word.now) }
 {
     if !key.is_empty() {
         key.push(b'.')?;
@@ -108,9 +108,9 @@ fn add_word(key: &mut Vec<u8>, word: &[u8]) -> Result<(), AllocError>
 }
 
 /// The key of these letters, the last one first.
-pub fn key_of(alloc: Global, words: &[Text], letters: &[usize]) -> Result<Vec<u8>, AllocError>
+pub fn spelled_key(alloc: Global, words: &[Text], letters: &[usize]) -> Result<Vec<u8>, AllocError>
     requires { AllByRecursion (λ a. a < length words.now) letters.now }
-    ensures { IfOk result (λ key. key.items ≡ key_of words.now letters.now) }
+    ensures { IfOk result (λ key. key.items ≡ spelled_key words.now letters.now) }
 {
     let mut key = Vec::new(alloc);
     let mut left = letters.len();

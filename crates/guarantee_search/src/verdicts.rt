@@ -5,7 +5,7 @@ use certificate_check::Certificate;
 
 /// Why a guarantee is not decided.
 #[derive(Clone, Copy, PartialEq, Eq, Debug, Drop)]
-pub enum Cause {
+pub enum UndecidedCause {
     /// There are more than 64 tracked patterns, or more than 65,536 states.
     TooManyStates,
     /// The key that breaks it has more than 255 bytes.
@@ -21,5 +21,5 @@ pub enum Verdict {
     Yes(Certificate),
     /// It doesn't, as this shows.
     No(Refutation),
-    Undecided(Cause),
+    Undecided(UndecidedCause),
 }

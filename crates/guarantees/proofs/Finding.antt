@@ -1,5 +1,5 @@
 -- What is there of a topology.
-use Rattle.std.proofs.Common.{◌≡◌, ℕ, List, [], ◌∷◌, Bool, true, false, ◌&&◌, cond, Bor, Option, Some, None, inl, inr, refl, sym, ap, ◌∙◌, subst}
+use Rattle.std.proofs.Common.{◌≡◌, List, [], ◌∷◌, Bool, true, false, ◌&&◌, cond, Bor, Option, Some, None, inl, inr, refl, sym, ap, ◌∙◌, subst}
 use Rattle.std.specs.Prelude.{◌⊎◌, Decides, find, is_some, option_copied}
 use Rattle.std.proofs.lemmas.Slice.Eq.{bytes_eq-Decides}
 use Rattle.std.specs.Str.{bytes_eq}
@@ -7,7 +7,7 @@ use Rattle.model.specs.Words.{Text}
 use Rattle.model.specs.Topology.{Topology, IsIn, exchange_names, queue_names}
 use Rattle.model.specs.Guarantee.{Guarantee}
 use Rattle.model.specs.declared.topologies.Exchange.{Exchange}
-use Rattle.guarantees.specs.Causes.{IsExchange, NamesAreThere}
+use Rattle.guarantees.specs.Causes.{IsExchangeOrDefault, NamesAreThere}
 
 find_at : (x : Exchange) (name : Text) (v : Bool) (found : Option Exchange) (P : Type 0) → Decides v (x.name ≡ name) → Decides (is_some found) P → Decides (is_some (cond v (Some x) found)) ((name ≡ x.name) ⊎ P)
 find_at x name true found P d e = (λ h. inl (sym (d.0 refl)), λ h. refl)
@@ -25,6 +25,6 @@ pub found_tells : (o : Option (Bor Exchange)) (b : Bool) (xs : List Exchange) (n
     → Decides b (IsIn name (exchange_names xs))
 found_tells o b xs name e f = subst (λ (v : Bool). Decides v (IsIn name (exchange_names xs))) (sym (e ∙ some_copied o ∙ ap is_some f)) (finds xs name)
 
-pub both_there : (t : Topology) (g : Guarantee) (a b : Bool) → Decides a (IsExchange t g.exchange) → Decides b (IsIn g.queue (queue_names t.queues)) → Decides (a && b) (NamesAreThere t g)
+pub both_there : (t : Topology) (g : Guarantee) (a b : Bool) → Decides a (IsExchangeOrDefault t g.exchange) → Decides b (IsIn g.queue (queue_names t.queues)) → Decides (a && b) (NamesAreThere t g)
 both_there t g true b d e = (λ h. record { exchange = d.0 refl; queue = e.0 h }, λ h. e.1 h.queue)
 both_there t g false b d e = (λ h. absurd (cc), λ h. (let z = d.1 h.exchange in absurd (cc)))

@@ -1,17 +1,13 @@
 -- The guarantees that a JSON value states (own).
-use Rattle.std.specs.Prelude.{codes, ◌≡◌, ℕ, List, Option, Some, None, option_and_then, if◌then◌else◌}
+use Rattle.std.specs.Prelude.{codes, List, Option, Some, None, option_and_then, if◌then◌else◌}
 use Rattle.std.specs.Str.{bytes_eq}
+use Rattle.model.specs.Options.{◌>>=◌}
 use Rattle.serde_json.specs.Data.{Data}
 use Rattle.json_file.specs.Members.{array_at, each, text_at}
 use Rattle.model.specs.Words.{Text}
 use Rattle.model.specs.Guarantee.{Guarantee}
 use Rattle.model.specs.declared.topologies.Mode.{Mode}
 use Rattle.model.specs.declared.topologies.Mode.TheVariants.{Reaches, Never}
-
--- what `←` means below: where one member is missing or of another kind, there is no guarantee
-infixl 10 ◌>>=◌
-abbrev pub ◌>>=◌ : {A B : Type 0} → Option A → (A → Option B) → Option B
-o >>= f = option_and_then f o
 
 -- the mode of this name
 abbrev pub mode_named : Text → Option Mode

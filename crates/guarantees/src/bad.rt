@@ -1,14 +1,14 @@
 //! Why a guarantees file is refused.
 
 ghost use Rattle.std.specs.Prelude.{◌≡◌};
-ghost use Rattle.guarantees.specs.Numbers.{number};
+ghost use Rattle.guarantees.specs.Numbers.{guarantees_cause};
 
-use json_file::Fault;
+use json_file::BadJson;
 use std::alloc::{AllocError, AllocFailed};
 
 /// A cause that stands in a file, under its number in a definitions file. Of several the one of the least number is told.
 #[derive(Clone, Copy, PartialEq, Eq, Debug, Drop)]
-pub enum Bad {
+pub enum BadGuarantees {
     /// 1: the file is not JSON.
     NotJson,
     /// 2: the list of guarantees or a member of one is missing or of the wrong kind, or a mode is neither `reaches`
@@ -25,56 +25,56 @@ pub enum Bad {
     Memory,
 }
 
-impl Bad {
+impl BadGuarantees {
     /// The number of the cause.
     pub fn number(self) -> u8
-        ensures { result ≡ number self }
+        ensures { result ≡ guarantees_cause self }
     {
         match self {
-            Bad::NotJson => 1,
-            Bad::Malformed => 2,
-            Bad::Absent => 5,
-            Bad::Worded => 9,
-            Bad::TooMany => 10,
-            Bad::Memory => 14,
+            BadGuarantees::NotJson => 1,
+            BadGuarantees::Malformed => 2,
+            BadGuarantees::Absent => 5,
+            BadGuarantees::Worded => 9,
+            BadGuarantees::TooMany => 10,
+            BadGuarantees::Memory => 14,
         }
     }
 }
 
-impl From<AllocError> for Bad {
+impl From<AllocError> for BadGuarantees {
     ghost use Rattle.std.specs.Prelude.{◌≡◌};
-    ghost use Rattle.guarantees.specs.declared.bad.Bad.TheVariants.{Memory};
+    ghost use Rattle.guarantees.specs.declared.bad.BadGuarantees.TheVariants.{Memory};
 
     ghost from_gives = { λ _ r. r ≡ Memory };
 
-    fn from(_: AllocError) -> Bad {
-        Bad::Memory
+    fn from(_: AllocError) -> BadGuarantees {
+        BadGuarantees::Memory
     }
 }
 
-impl<T: Drop> From<AllocFailed<T>> for Bad {
+impl<T: Drop> From<AllocFailed<T>> for BadGuarantees {
     ghost use Rattle.std.specs.Prelude.{◌≡◌};
-    ghost use Rattle.guarantees.specs.declared.bad.Bad.TheVariants.{Memory};
+    ghost use Rattle.guarantees.specs.declared.bad.BadGuarantees.TheVariants.{Memory};
 
     ghost from_gives = { λ _ r. r ≡ Memory };
 
-    fn from(_: AllocFailed<T>) -> Bad {
-        Bad::Memory
+    fn from(_: AllocFailed<T>) -> BadGuarantees {
+        BadGuarantees::Memory
     }
 }
 
-impl From<Fault> for Bad {
+impl From<BadJson> for BadGuarantees {
     ghost use Rattle.std.specs.Prelude.{◌≡◌};
-    ghost use Rattle.guarantees.specs.Faults.{bad_of};
+    ghost use Rattle.guarantees.specs.Faults.{bad_guarantees};
 
-    ghost from_gives = { λ fault r. r ≡ bad_of fault };
+    ghost from_gives = { λ fault r. r ≡ bad_guarantees fault };
 
-    fn from(fault: Fault) -> Bad {
+    fn from(fault: BadJson) -> BadGuarantees {
         match fault {
-            Fault::TooLong => Bad::TooMany,
-            Fault::NotJson => Bad::NotJson,
-            Fault::Malformed => Bad::Malformed,
-            Fault::Memory => Bad::Memory,
+            BadJson::TooLong => BadGuarantees::TooMany,
+            BadJson::NotJson => BadGuarantees::NotJson,
+            BadJson::Malformed => BadGuarantees::Malformed,
+            BadJson::Memory => BadGuarantees::Memory,
         }
     }
 }

@@ -5,6 +5,6 @@ mod bad;
 mod promises;
 mod reading;
 
-pub use bad::Bad;
+pub use bad::BadGuarantees;
 pub use promises::Guarantee;
 pub use reading::read_guarantees;

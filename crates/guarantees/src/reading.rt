@@ -3,15 +3,15 @@
 ghost use Rattle.std.specs.Prelude.{◌≡◌, All, Decides};
 ghost use Rattle.model.specs.Topology.{IsIn, exchange_names, queue_names};
 ghost use Rattle.serde_json.specs.View.{view};
-ghost use Rattle.json_file.specs.Outcomes.{Gives};
+ghost use Rattle.json_file.specs.Outcomes.{GivesValue};
 ghost use Rattle.guarantees.specs.Stated.{mode_at};
-ghost use Rattle.guarantees.specs.Causes.{IsExchange, NamesAreThere, IsWorded, Judges};
+ghost use Rattle.guarantees.specs.Causes.{IsExchangeOrDefault, NamesAreThere, IsGuaranteeWorded, JudgesGuarantees};
 ghost use Rattle.guarantees.specs.Reads.{OpensGuarantees, ReadsGuarantees};
 
-use crate::bad::Bad;
+use crate::bad::BadGuarantees;
 use crate::promises::Guarantee;
 use exchange_graph::Topology;
-use json_file::{Entry, Fault, entries, parse, text};
+use json_file::{BadJson, FromValue, entries, parse, text};
 use model::Mode;
 use serde_json::Value;
 use std::alloc::Global;
@@ -19,8 +19,8 @@ use topic_match::is_pattern;
 
 /// The mode that a value states.
 #[tactic(auto, unfolding(crate::specs::Stated::mode_at))]
-fn mode(alloc: Global, value: &Value) -> Result<Mode, Fault>
-    ensures { Gives result (mode_at (view value.now)) }
+fn mode(alloc: Global, value: &Value) -> Result<Mode, BadJson>
+    ensures { GivesValue result (mode_at (view value.now)) }
 {
     let name = text(alloc, value, "mode")?;
     if name.as_bytes() == b"reaches".as_slice() {
@@ -29,16 +29,16 @@ fn mode(alloc: Global, value: &Value) -> Result<Mode, Fault>
     if name.as_bytes() == b"never".as_slice() {
         return Ok(Mode::Never);
     }
-    Err(Fault::Malformed)
+    Err(BadJson::Malformed)
 }
 
-impl Entry for Guarantee {
+impl FromValue for Guarantee {
     ghost use Rattle.guarantees.specs.Stated.{guarantee_at};
 
     ghost states = { guarantee_at };
 
     #[tactic(auto, unfolding(crate::specs::Stated::guarantee_at))]
-    fn read(alloc: Global, value: &Value) -> Result<Guarantee, Fault> {
+    fn read(alloc: Global, value: &Value) -> Result<Guarantee, BadJson> {
         let mode = mode(alloc, value)?;
         let exchange = text(alloc, value, "exchange")?;
         let pattern = text(alloc, value, "pattern")?;
@@ -56,7 +56,7 @@ fn has_exchange(topology: &Topology, name: &[u8]) -> bool
 
 /// Whether the exchange is there, or is the default one.
 fn is_exchange(topology: &Topology, name: &[u8]) -> bool
-    ensures { Decides result (IsExchange topology.now name.now) }
+    ensures { Decides result (IsExchangeOrDefault topology.now name.now) }
 {
     name.is_empty() || has_exchange(topology, name)
 }
@@ -91,7 +91,7 @@ fn all_there(topology: &Topology, guarantees: &[Guarantee]) -> bool
 
 /// Whether a guarantee's pattern and names have their form.
 fn is_worded(guarantee: &Guarantee) -> bool
-    ensures { Decides result (IsWorded guarantee.now) }
+    ensures { Decides result (IsGuaranteeWorded guarantee.now) }
 {
     is_pattern(guarantee.pattern().as_bytes())
         && guarantee.exchange().len() <= 255
@@ -101,29 +101,29 @@ fn is_worded(guarantee: &Guarantee) -> bool
 
 /// Whether all patterns and names have their form.
 fn all_worded(guarantees: &[Guarantee]) -> bool
-    ensures { Decides result (All IsWorded guarantees.now) }
+    ensures { Decides result (All IsGuaranteeWorded guarantees.now) }
 {
     guarantees.iter().all(|guarantee| is_worded(guarantee))
 }
 
 /// Tells the least cause that stands in the guarantees.
-fn judge(topology: &Topology, guarantees: &[Guarantee]) -> Result<(), Bad>
-    ensures { Judges result topology.now guarantees.now }
+fn judge(topology: &Topology, guarantees: &[Guarantee]) -> Result<(), BadGuarantees>
+    ensures { JudgesGuarantees result topology.now guarantees.now }
 {
     if !all_there(topology, guarantees) {
-        return Err(Bad::Absent);
+        return Err(BadGuarantees::Absent);
     }
     if !all_worded(guarantees) {
-        return Err(Bad::Worded);
+        return Err(BadGuarantees::Worded);
     }
     if guarantees.len() > 64 {
-        return Err(Bad::TooMany);
+        return Err(BadGuarantees::TooMany);
     }
     Ok(())
 }
 
 /// The guarantees of a file, or why it has none.
-fn open(alloc: Global, bytes: &[u8]) -> Result<Vec<Guarantee>, Bad>
+fn open(alloc: Global, bytes: &[u8]) -> Result<Vec<Guarantee>, BadGuarantees>
     ensures { OpensGuarantees result bytes.now }
 {
     let value = parse(alloc, bytes)?;
@@ -139,7 +139,7 @@ pub fn read_guarantees(
     alloc: Global,
     bytes: &[u8],
     topology: &Topology,
-) -> Result<Vec<Guarantee>, Bad>
+) -> Result<Vec<Guarantee>, BadGuarantees>
     ensures { ReadsGuarantees result topology.now bytes.now }
 {
     let guarantees = open(alloc, bytes)?;

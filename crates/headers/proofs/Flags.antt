@@ -1,14 +1,15 @@
 -- Properties that are read are flagged and spelled so, and those that are spelled so are read.
 use Rattle.std.proofs.Common.{◌≡◌, ℕ, zero, suc, ◌+◌, ◌*◌, ◌/◌, ◌%◌, ◌^◌, ◌<◌, ◌≤◌, Bool, true, false, cond, eqb, List, [], ◌∷◌, ◌++◌, length, Option, Some, None, refl, sym, ap, subst, ◌∙◌, append_assoc, arith}
-use Rattle.std.specs.Prelude.{is_some, IfSome}
+use Rattle.std.specs.Prelude.{is_some}
 use Rattle.std.specs.List.{AllByRecursion, flat_map}
 use Rattle.std.proofs.lemmas.Nat.{mod-pow-add, div-mul-add, mod-mul-add}
 use Rattle.std.proofs.Math.Nat.{pow-suc, mod-lt}
-use Rattle.model.specs.Grammar.{Argument, argument, IsArgument}
-use Rattle.model.specs.Headers.{flags, value_of, IsValue}
-use Rattle.field_table.specs.Arguments.{Kind, kind_of, ◌>>=◌, argument_at, IsSized, IsWhole}
-use Rattle.field_table.proofs.Exactly.{IsBytes, IsKind, Takes, bind_some, argument_takes, argument_again}
-use Rattle.headers.specs.Properties.{Row, has, option_at, options_at}
+use Rattle.model.specs.Grammar.{Argument, argument}
+use Rattle.model.specs.Headers.{flags, value_of}
+use Rattle.field_table.specs.Arguments.{Kind, kind_of, argument_at, IsSized}
+use Rattle.model.specs.Options.{◌>>=◌}
+use Rattle.field_table.proofs.Exactly.{IsBytes, IsKind, bind_some, argument_takes, argument_again}
+use Rattle.headers.specs.Properties.{Row, has_flag, option_at, options_at}
 
 -- ---- one property
 
@@ -92,16 +93,16 @@ options_take f [] bytes y down kinds are e =
     let same : nothing ≡ y = cc in
     subst (λ (z : List (Option Argument) × List ℕ). TakesOptions f [] bytes z) same (record { parts = refl; rest_fits = are; fits = tt; len = refl; flagged = omega arith })
 options_take f (r ∷ rs) bytes y down kinds are e =
-    let a = bind_some (option_at (has f r.bit) r.kind bytes) (λ x. options_at f rs x.1 >>= λ z. Some (x.0 ∷ z.0, z.1)) y e in
+    let a = bind_some (option_at (has_flag f r.bit) r.kind bytes) (λ x. options_at f rs x.1 >>= λ z. Some (x.0 ∷ z.0, z.1)) y e in
     let x : Option Argument × List ℕ = a.0 in
-    let t = option_takes (has f r.bit) r.kind bytes x kinds.0 are a.1 in
+    let t = option_takes (has_flag f r.bit) r.kind bytes x kinds.0 are a.1 in
     let b = bind_some (options_at f rs x.1) (λ z. Some (x.0 ∷ z.0, z.1)) y a.2 in
     let s : TakesOptions f rs x.1 b.0 = options_take f rs x.1 b.0 down.1 kinds.1 t.rest_fits b.1 in
     let all : List (Option Argument) × List ℕ = (x.0 ∷ b.0.0, b.0.1) in
     let end : Some all ≡ Some y = b.2 in
     let same : all ≡ y = cc in
     let n : ℕ = length rs in
-    let bit : is_some x.0 ≡ eqb (f / 2 ^ (n + 2) % 2) 1 = t.flagged ∙ ap (λ (i : ℕ). has f i) down.0 in
+    let bit : is_some x.0 ≡ eqb (f / 2 ^ (n + 2) % 2) 1 = t.flagged ∙ ap (λ (i : ℕ). has_flag f i) down.0 in
     let number : cond (is_some x.0) 1 0 ≡ f / 2 ^ (n + 2) % 2 = number_of (is_some x.0) (f / 2 ^ (n + 2) % 2) (omega arith) (sym bit) in
     let top : flags (x.0 ∷ b.0.0) ≡ (f / 2 ^ (n + 2) % 2) * 2 ^ (n + 2) + flags b.0.0 =
     ap (λ (i : ℕ). cond (is_some x.0) 1 0 * 2 ^ (i + 2) + flags b.0.0) s.len ∙ ap (λ (i : ℕ). i * 2 ^ (n + 2) + flags b.0.0) number in
@@ -185,8 +186,8 @@ options_again f (r ∷ rs) (o ∷ os) rest down kinds fits e =
     let sum : (f / w % 2) * w + f % w ≡ cond (is_some o) 1 0 * w + flags os =
     sym (split_flags f n) ∙ ap (λ (i : ℕ). f % 2 ^ i) (sym width) ∙ e ∙ ap (λ (i : ℕ). cond (is_some o) 1 0 * 2 ^ (i + 2) + flags os) len in
     let d : Digits f w (cond (is_some o) 1 0) (flags os) = digits f w (cond (is_some o) 1 0) (flags os) (omega (arith, below)) (mod-lt f (omega (arith, below))) sum in
-    let flagged : has f r.bit ≡ is_some o = ap (λ (i : ℕ). has f i) down.0 ∙ ap (λ (i : ℕ). eqb i 1) d.high ∙ bit_is (is_some o) in
-    let one : option_at (has f r.bit) r.kind (value_of o ++ (flat_map value_of os ++ rest)) ≡ Some (o, flat_map value_of os ++ rest) =
+    let flagged : has_flag f r.bit ≡ is_some o = ap (λ (i : ℕ). has_flag f i) down.0 ∙ ap (λ (i : ℕ). eqb i 1) d.high ∙ bit_is (is_some o) in
+    let one : option_at (has_flag f r.bit) r.kind (value_of o ++ (flat_map value_of os ++ rest)) ≡ Some (o, flat_map value_of os ++ rest) =
     ap (λ (b : Bool). option_at b r.kind (value_of o ++ (flat_map value_of os ++ rest))) flagged ∙ option_again o r.kind (flat_map value_of os ++ rest) kinds.0 fits.0 in
     ap (λ (z : List ℕ). options_at f (r ∷ rs) z) (append_assoc (value_of o) (flat_map value_of os) rest)
     ∙ ap (λ z. z >>= λ x. options_at f rs x.1 >>= λ y. Some (x.0 ∷ y.0, y.1)) one

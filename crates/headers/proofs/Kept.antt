@@ -1,18 +1,18 @@
 -- All fourteen properties: what is read is spelled so, and what is spelled so is read.
-use Rattle.std.proofs.Common.{◌≡◌, ℕ, suc, ◌+◌, ◌*◌, ◌/◌, ◌%◌, ◌^◌, ◌<◌, ◌≤◌, Bool, true, false, cond, eqb, List, [], ◌∷◌, ◌++◌, length, take, drop, Option, Some, None, Result, Ok, Err, refl, sym, ap, subst, ◌∙◌, append_assoc, append-nil, arith, inl, inr}
-use Rattle.std.specs.Prelude.{is_some, ◌==◌, if◌then◌else◌}
+use Rattle.std.proofs.Common.{◌≡◌, ℕ, ◌+◌, ◌%◌, ◌^◌, ◌<◌, Bool, true, false, cond, eqb, List, [], ◌∷◌, ◌++◌, length, Option, Some, None, refl, sym, ap, subst, ◌∙◌, append-nil, arith}
+use Rattle.std.specs.Prelude.{◌==◌, if◌then◌else◌}
 use Rattle.std.specs.List.{AllByRecursion, flat_map}
 use Rattle.std.proofs.lemmas.Bool.{eqb-true, eq-eqb}
 use Rattle.std.proofs.Math.Nat.{mod-eq_of_lt}
 use Rattle.model.specs.Words.{Text}
-use Rattle.model.specs.Tables.{IsTable}
-use Rattle.model.specs.Grammar.{Argument, Octet, Long_long, Short_text, Field_table, argument, IsArgument}
+use Rattle.model.specs.Grammar.{Argument, Octet, Long_long, Short_text, Field_table}
 use Rattle.model.specs.Headers.{no_properties, text_of, octet_of, time_of, table_of, properties_of, flags, value_of, IsValue, AreProperties}
 use Rattle.model.specs.declared.contents.Fields.{Fields as Properties}
-use Rattle.field_table.specs.Arguments.{Kind, an_octet, a_short_text, a_long_long, a_field_table, ◌>>=◌, argument_at, IsSized, IsWhole}
+use Rattle.field_table.specs.Arguments.{an_octet, a_short_text, a_long_long, a_field_table, IsArgumentWhole}
+use Rattle.model.specs.Options.{◌>>=◌}
 use Rattle.field_table.proofs.Exactly.{IsBytes, bind_some, whole, sized_of}
-use Rattle.headers.specs.Properties.{Row, front_rows, back_rows, has, option_at, options_at, properties_at}
-use Rattle.headers.specs.Unread.{AreWhole, headers_in}
+use Rattle.headers.specs.Properties.{Row, front_rows, back_rows, has_flag, option_at, options_at, properties_at}
+use Rattle.headers.specs.Unread.{HeadersAreWhole, headers_in}
 use Rattle.headers.proofs.Flags.{IsSizedOption, HasKind, HaveKinds, Descend, AreKinds, TakesOptions, options_take, options_again, flags-below, flags-fours}
 
 abbrev rows : List Row
@@ -53,7 +53,7 @@ step (Some x) whole part more same = ap (λ (z : Read). z >>= onto x.0) (same x.
 
 options_append : (f : ℕ) (rs qs : List Row) (bytes : List ℕ) → options_at f (rs ++ qs) bytes ≡ options_at f rs bytes >>= on (options_at f qs)
 options_append f [] qs bytes = itself (options_at f qs bytes)
-options_append f (r ∷ rs) qs bytes = step (option_at (has f r.bit) r.kind bytes) (options_at f (rs ++ qs)) (options_at f rs) (options_at f qs) (options_append f rs qs)
+options_append f (r ∷ rs) qs bytes = step (option_at (has_flag f r.bit) r.kind bytes) (options_at f (rs ++ qs)) (options_at f rs) (options_at f qs) (options_append f rs qs)
 
 -- all of the bytes
 abbrev end : Found → Option (List (Option Argument))
@@ -180,7 +180,7 @@ have_kinds p = (
 -- the bytes of a table are pairs
 abbrev IsWholeOption : Option Argument → Type 0
 IsWholeOption None = Unit {0}
-IsWholeOption (Some a) = IsWhole a
+IsWholeOption (Some a) = IsArgumentWhole a
 
 text_whole : (t : Option Text) → IsWholeOption (text_of t)
 text_whole None = tt
@@ -194,11 +194,11 @@ time_whole : (n : Option ℕ) → IsWholeOption (time_of n)
 time_whole None = tt
 time_whole (Some n) = tt
 
-table_whole : (t : Option (List ℕ)) → AreWhole t → IsWholeOption (table_of t)
+table_whole : (t : Option (List ℕ)) → HeadersAreWhole t → IsWholeOption (table_of t)
 table_whole None h = tt
 table_whole (Some t) h = h
 
-all_whole : (p : Properties) → AreWhole p.headers → AllByRecursion IsWholeOption (properties_of p)
+all_whole : (p : Properties) → HeadersAreWhole p.headers → AllByRecursion IsWholeOption (properties_of p)
 all_whole p h = (
   text_whole p.content_type,
   (
@@ -241,10 +241,10 @@ all_sized [] fits = tt
 all_sized (None ∷ os) fits = (tt, all_sized os fits.1)
 all_sized (Some a ∷ os) fits = (sized_of a fits.0, all_sized os fits.1)
 
-pub its_table : (p : Properties) → AreProperties p → AreWhole p.headers
+pub its_table : (p : Properties) → AreProperties p → HeadersAreWhole p.headers
 its_table p fits = go p.headers fits.1.1.0
   where
-    go : (t : Option (List ℕ)) → IsValue (table_of t) → AreWhole t
+    go : (t : Option (List ℕ)) → IsValue (table_of t) → HeadersAreWhole t
     go None h = tt
     go (Some t) h = h
 
@@ -256,7 +256,7 @@ its_headers p = go p.headers _
     go (Some t) os = refl
 
 -- what was read is these properties
-pub properties_are : (f : ℕ) (bytes : List ℕ) (p : Properties) → f < 2 ^ 16 → IsBytes bytes → properties_at f bytes ≡ Some (properties_of p) → AreWhole p.headers
+pub properties_are : (f : ℕ) (bytes : List ℕ) (p : Properties) → f < 2 ^ 16 → IsBytes bytes → properties_at f bytes ≡ Some (properties_of p) → HeadersAreWhole p.headers
     → AreProperties p × (flags (properties_of p) ≡ f) × (bytes ≡ flat_map value_of (properties_of p))
 properties_are f bytes p small are e table =
     let k = kept f bytes (properties_of p) small are e in

@@ -1,5 +1,5 @@
 -- What the fields and the properties of a payload say tells what the payload says.
-use Rattle.std.proofs.Common.{◌≡◌, ◌≢◌, ℕ, ◌^◌, ◌%◌, ◌<◌, ◌+◌, ◌≤◌, List, [], ◌∷◌, ◌++◌, length, Option, Some, None, Result, Ok, Err, refl, sym, ap, subst, ◌∙◌, arith, inl, inr}
+use Rattle.std.proofs.Common.{◌≡◌, ◌≢◌, ℕ, ◌^◌, ◌%◌, ◌<◌, ◌+◌, ◌≤◌, List, [], ◌++◌, length, Option, Some, None, Ok, Err, refl, sym, ap, subst, ◌∙◌, arith, inl, inr}
 use Rattle.std.specs.List.{flat_map}
 use Rattle.model.specs.Tables.{IsTable}
 use Rattle.model.specs.Grammar.{Argument, class_at}
@@ -8,12 +8,12 @@ use Rattle.model.specs.Headers.{properties_of, flags, value_of, AreProperties, h
 use Rattle.model.specs.declared.contents.Fields.{Fields as Properties}
 use Rattle.field_table.proofs.Exactly.{IsBytes}
 use Rattle.headers.specs.Properties.{properties_at}
-use Rattle.headers.specs.Unread.{AreWhole, headers_in, Gives}
+use Rattle.headers.specs.Unread.{HeadersAreWhole, headers_in, GivesProperties}
 use Rattle.headers.specs.Laws.{OneHeader}
-use Rattle.headers.specs.Reading.{Fields, TellsHeader, HeaderIsRefused, IsHeaderOr}
+use Rattle.headers.specs.Reading.{Fields, HeaderIsRefused, IsHeaderOr}
 use Rattle.headers.specs.declared.contents.Header.{Header}
-use Rattle.headers.specs.declared.contents.Refusal.{Refusal}
-use Rattle.headers.specs.declared.contents.Refusal.TheVariants.{FrameError, SyntaxError, Memory}
+use Rattle.headers.specs.declared.contents.BadHeader.{BadHeader}
+use Rattle.headers.specs.declared.contents.BadHeader.TheVariants.{FrameError, SyntaxError, Memory}
 use Rattle.headers.proofs.Flags.{flags-below, flags-fours}
 use Rattle.headers.proofs.Kept.{its_table, its_headers, properties_are, properties_again, same_properties, no_more, sized_again}
 use Rattle.headers.proofs.Parts.{headed, spelled, size_below, flags_below, rest_bytes, its_size, its_flags, its_rest, fields_of, not_header}
@@ -24,7 +24,7 @@ made size p = record { size = size; properties = p }
 small_flags : (p : Properties) → flags (properties_of p) < 2 ^ 16
 small_flags p = let h = flags-below (properties_of p) in omega (arith, h)
 
-pub header_said : (payload rest : List ℕ) (size f : ℕ) (p : Properties) → IsBytes payload → Fields payload size f rest → properties_at f rest ≡ Some (properties_of p) → AreWhole p.headers → SaysHeader payload (Ok (made size p))
+pub header_said : (payload rest : List ℕ) (size f : ℕ) (p : Properties) → IsBytes payload → Fields payload size f rest → properties_at f rest ≡ Some (properties_of p) → HeadersAreWhole p.headers → SaysHeader payload (Ok (made size p))
 header_said payload rest size f p are fields read table =
     let k = properties_are f rest p (flags_below payload rest size f are fields) (rest_bytes payload rest size f are fields) read table in
     said {h = made size p} (size_below payload rest size f are fields) k.0
@@ -38,10 +38,10 @@ its_read payload rest size f h fields fits e =
     ∙ ap (λ (z : List ℕ). properties_at (flags (properties_of p)) z) (its_rest payload rest (flat_map value_of (properties_of p)) size f h.size (flags (properties_of p)) fields e)
     ∙ properties_again p fits
 
-whole_headers : (p : Properties) → AreProperties p → AreWhole (headers_in (properties_of p))
-whole_headers p fits = subst AreWhole (sym (its_headers p)) (its_table p fits)
+whole_headers : (p : Properties) → AreProperties p → HeadersAreWhole (headers_in (properties_of p))
+whole_headers p fits = subst HeadersAreWhole (sym (its_headers p)) (its_table p fits)
 
-pub header_refused : (payload rest : List ℕ) (size f : ℕ) (e : Refusal) → Fields payload size f rest → Gives (Err e) (properties_at f rest) → HeaderIsRefused payload e
+pub header_refused : (payload rest : List ℕ) (size f : ℕ) (e : BadHeader) → Fields payload size f rest → GivesProperties (Err e) (properties_at f rest) → HeaderIsRefused payload e
 header_refused payload rest size f FrameError fields g = absurd g
 header_refused payload rest size f SyntaxError fields g =
     bad_properties fields.long fields.class_is fields.weight_is
@@ -59,7 +59,7 @@ header_only payload rest size f p h fields read lt fits e =
     let same : p ≡ q = same_properties p q (some_same (properties_at f rest) (properties_of p) (properties_of q) read (its_read payload rest size f h fields fits e)) in
     ap (λ (n : ℕ). made n p) sizes ∙ ap (λ (x : Properties). made h.size x) same
 
-pub header_none : (payload rest : List ℕ) (size f : ℕ) (e : Refusal) (h : Headers.Header) → Fields payload size f rest → Gives (Err e) (properties_at f rest)
+pub header_none : (payload rest : List ℕ) (size f : ℕ) (e : BadHeader) (h : Headers.Header) → Fields payload size f rest → GivesProperties (Err e) (properties_at f rest)
     → h.size < 2 ^ 64 → AreProperties h.properties → payload ≡ header_bytes h.size h.properties → IsHeaderOr h (Err e)
 header_none payload rest size f FrameError h fields g lt fits e = g
 header_none payload rest size f SyntaxError h fields g lt fits e = g (properties_of h.properties) (its_read payload rest size f h fields fits e) (whole_headers h.properties fits)
@@ -144,5 +144,5 @@ bad_table h pairs lt fits is small none =
     bad_properties fields.long fields.class_is fields.weight_is
     (λ g below also f.
     let same : properties_of h.properties ≡ properties_of g.properties = some_same (properties_at n rest) (properties_of h.properties) (properties_of g.properties) mine (its_read payload rest h.size n g fields also f) in
-    let whole : AreWhole (headers_in (properties_of h.properties)) = subst (λ (z : List (Option Argument)). AreWhole (headers_in z)) (sym same) (whole_headers g.properties also) in
-    none (subst AreWhole (its_headers h.properties ∙ is) whole))
+    let whole : HeadersAreWhole (headers_in (properties_of h.properties)) = subst (λ (z : List (Option Argument)). HeadersAreWhole (headers_in z)) (sym same) (whole_headers g.properties also) in
+    none (subst HeadersAreWhole (its_headers h.properties ∙ is) whole))

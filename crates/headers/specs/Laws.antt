@@ -1,5 +1,5 @@
 -- What holds of all payloads of header frames.
-use Rattle.std.specs.Prelude.{◌≡◌, ◌≢◌, ◌<◌, ◌≤◌, ◌%◌, ◌^◌, ℕ, List, [], ◌++◌, length, Option, Some, None, Result, Err}
+use Rattle.std.specs.Prelude.{◌≡◌, ◌≢◌, ◌<◌, ◌≤◌, ◌%◌, ◌^◌, ℕ, List, [], ◌++◌, length, Some, None, Result, Err}
 use Rattle.model.specs.Tables.{IsTable}
 use Rattle.model.specs.Grammar.{class_at}
 use Rattle.model.specs.Headers.{Header, AreProperties, header_bytes, weight_at, flags_at, SaysHeader}

@@ -1,7 +1,8 @@
 -- Properties, read by their flags from left to right. Source: AMQP 0-9-1, section 4.2.6.1, "The Content Header", and the basic class of its XML.
 use Rattle.std.specs.Prelude.{◌/◌, ◌%◌, ◌^◌, ◌==◌, ℕ, List, [], ◌∷◌, ◌++◌, length, Bool, if◌then◌else◌, Option, Some, None}
 use Rattle.model.specs.Grammar.{Argument}
-use Rattle.field_table.specs.Arguments.{Kind, an_octet, a_short_text, a_long_long, a_field_table, ◌>>=◌, argument_at}
+use Rattle.field_table.specs.Arguments.{Kind, an_octet, a_short_text, a_long_long, a_field_table, argument_at}
+use Rattle.model.specs.Options.{◌>>=◌}
 
 -- ---- the table
 
@@ -25,8 +26,8 @@ back_rows = row 8 a_short_text ∷ row 7 a_short_text ∷ row 6 a_long_long ∷ 
 -- ---- reading
 
 -- the flags have this bit
-abbrev pub has : ℕ → ℕ → Bool
-has flags bit = flags / 2 ^ bit % 2 == 1
+abbrev pub has_flag : ℕ → ℕ → Bool
+has_flag flags bit = flags / 2 ^ bit % 2 == 1
 
 -- a property that is there where it is flagged, and the bytes after it
 abbrev pub option_at : Bool → Kind → List ℕ → Option (Option Argument × List ℕ)
@@ -35,7 +36,7 @@ option_at is k bytes = if is then (argument_at k bytes >>= λ x. Some (Some x.0,
 -- a property for each row, there or not, and the bytes after them
 abbrev pub options_at : ℕ → List Row → List ℕ → Option (List (Option Argument) × List ℕ)
 options_at flags [] bytes = Some ([], bytes)
-options_at flags (r ∷ rs) bytes = option_at (has flags r.bit) r.kind bytes >>= λ x. options_at flags rs x.1 >>= λ y. Some (x.0 ∷ y.0, y.1)
+options_at flags (r ∷ rs) bytes = option_at (has_flag flags r.bit) r.kind bytes >>= λ x. options_at flags rs x.1 >>= λ y. Some (x.0 ∷ y.0, y.1)
 
 -- all of the bytes are the properties of these flags, whose two lowest bits are 0
 abbrev pub properties_at : ℕ → List ℕ → Option (List (Option Argument))

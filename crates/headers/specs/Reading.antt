@@ -4,12 +4,12 @@ use Rattle.model.specs.Grammar.{class_at}
 use Rattle.model.specs.Headers
 use Rattle.model.specs.Headers.{weight_at, size_at, flags_at, SaysSize, SaysHeader}
 use Rattle.headers.specs.declared.contents.Header.{Header}
-use Rattle.headers.specs.declared.contents.Refusal.{Refusal}
-use Rattle.headers.specs.declared.contents.Refusal.TheVariants.{FrameError, SyntaxError, Memory}
+use Rattle.headers.specs.declared.contents.BadHeader.{BadHeader}
+use Rattle.headers.specs.declared.contents.BadHeader.TheVariants.{FrameError, SyntaxError, Memory}
 
 -- the header, as the definitions have it
-abbrev pub seen : Header → Headers.Header
-seen h = record { size = h.size; properties = h.properties }
+abbrev pub header_seen : Header → Headers.Header
+header_seen h = record { size = h.size; properties = h.properties }
 
 -- what the fixed fields of a header say, and what follows them
 pub record Fields (payload : List ℕ) (size flags : ℕ) (rest : List ℕ) : Type 0 where
@@ -21,26 +21,26 @@ pub record Fields (payload : List ℕ) (size flags : ℕ) (rest : List ℕ) : Ty
   pub rest_is : drop 14 payload ≡ rest
 
 -- the declared size, or the one refusal
-abbrev pub TellsSize : List ℕ → Result ℕ Refusal → Type 0
+abbrev pub TellsSize : List ℕ → Result ℕ BadHeader → Type 0
 TellsSize payload (Ok n) = SaysSize payload (Ok n)
 TellsSize payload (Err FrameError) = SaysSize payload (Err 501)
 TellsSize payload (Err SyntaxError) = ⊥
 TellsSize payload (Err Memory) = ⊥
 
 -- the payload is refused for this reason, or memory was
-abbrev pub HeaderIsRefused : List ℕ → Refusal → Type 0
+abbrev pub HeaderIsRefused : List ℕ → BadHeader → Type 0
 HeaderIsRefused payload FrameError = SaysHeader payload (Err 501)
 HeaderIsRefused payload SyntaxError = SaysHeader payload (Err 502)
 HeaderIsRefused payload Memory = ⊤
 
 -- the answer is right for this payload
-abbrev pub TellsHeader : List ℕ → Result Header Refusal → Type 0
-TellsHeader payload (Ok h) = SaysHeader payload (Ok (seen h))
+abbrev pub TellsHeader : List ℕ → Result Header BadHeader → Type 0
+TellsHeader payload (Ok h) = SaysHeader payload (Ok (header_seen h))
 TellsHeader payload (Err e) = HeaderIsRefused payload e
 
 -- the answer is this header, or memory was refused
-abbrev pub IsHeaderOr : Headers.Header → Result Header Refusal → Type 0
-IsHeaderOr h (Ok g) = seen g ≡ h
+abbrev pub IsHeaderOr : Headers.Header → Result Header BadHeader → Type 0
+IsHeaderOr h (Ok g) = header_seen g ≡ h
 IsHeaderOr h (Err FrameError) = ⊥
 IsHeaderOr h (Err SyntaxError) = ⊥
 IsHeaderOr h (Err Memory) = ⊤

@@ -1,13 +1,13 @@
 -- Properties that were read and are still bytes.
-use Rattle.std.specs.Prelude.{◌≡◌, ℕ, List, [], ◌∷◌, ◌++◌, Option, Some, None, IfSome, Result, Ok, Err, ⊤}
+use Rattle.std.specs.Prelude.{◌≡◌, ℕ, List, [], ◌∷◌, ◌++◌, Option, Some, None, Result, Ok, Err, ⊤}
 use Rattle.std.specs.Borrow.{Bor}
 use Rattle.model.specs.Tables.{IsTable}
 use Rattle.model.specs.Grammar.{Argument, Short_text, Field_table}
 use Rattle.model.specs.Headers.{octet_of, time_of, properties_of}
 use Rattle.model.specs.declared.contents.Fields.{Fields as Properties}
 use Rattle.headers.specs.Writing.{front_of, back_of}
-use Rattle.headers.specs.declared.contents.Refusal.{Refusal}
-use Rattle.headers.specs.declared.contents.Refusal.TheVariants.{FrameError, SyntaxError, Memory}
+use Rattle.headers.specs.declared.contents.BadHeader.{BadHeader}
+use Rattle.headers.specs.declared.contents.BadHeader.TheVariants.{FrameError, SyntaxError, Memory}
 use Rattle.headers.specs.declared.optional.Front.{Front}
 use Rattle.headers.specs.declared.optional.Back.{Back}
 
@@ -36,9 +36,9 @@ back_in b =
 -- ---- tables
 
 -- the bytes of a table, if there is one, are pairs
-abbrev pub AreWhole : Option (List ℕ) → Type 0
-AreWhole None = ⊤
-AreWhole (Some pairs) = IsTable pairs
+abbrev pub HeadersAreWhole : Option (List ℕ) → Type 0
+HeadersAreWhole None = ⊤
+HeadersAreWhole (Some pairs) = IsTable pairs
 
 -- the bytes of a table that is present
 abbrev pub pairs_in : Option (Bor (List ℕ)) → Option (List ℕ)
@@ -46,27 +46,27 @@ pairs_in None = None
 pairs_in (Some t) = Some t.now
 
 -- the bytes of the table are no pairs, or memory was refused
-abbrev pub NoTable : Option (List ℕ) → Refusal → Type 0
-NoTable pairs FrameError = ⊥
-NoTable pairs SyntaxError = AreWhole pairs → ⊥
-NoTable pairs Memory = ⊤
+abbrev pub NoHeaders : Option (List ℕ) → BadHeader → Type 0
+NoHeaders pairs FrameError = ⊥
+NoHeaders pairs SyntaxError = HeadersAreWhole pairs → ⊥
+NoHeaders pairs Memory = ⊤
 
 -- a copy of the table, or why there is none
-abbrev pub IsTableOr : Option (Bor (List ℕ)) → Result (Option (List ℕ)) Refusal → Type 0
-IsTableOr pairs (Ok t) = (t ≡ pairs_in pairs) × AreWhole t
-IsTableOr pairs (Err e) = NoTable (pairs_in pairs) e
+abbrev pub IsHeadersOr : Option (Bor (List ℕ)) → Result (Option (List ℕ)) BadHeader → Type 0
+IsHeadersOr pairs (Ok t) = (t ≡ pairs_in pairs) × HeadersAreWhole t
+IsHeadersOr pairs (Err e) = NoHeaders (pairs_in pairs) e
 
 -- ---- what becomes of what was read
 
 -- the same properties, with a table that is one
-abbrev pub Copies : Front → Back → Result Properties Refusal → Type 0
-Copies front back (Ok p) = (properties_of p ≡ front_in front ++ back_in back) × AreWhole p.headers
-Copies front back (Err e) = NoTable (pairs_in front.headers) e
+abbrev pub Copies : Front → Back → Result Properties BadHeader → Type 0
+Copies front back (Ok p) = (properties_of p ≡ front_in front ++ back_in back) × HeadersAreWhole p.headers
+Copies front back (Err e) = NoHeaders (pairs_in front.headers) e
 
 -- the first seven are these, with a table that is one
-abbrev pub CopiesFront : Front → Properties → Result ⊤ Refusal → Type 0
-CopiesFront front p (Ok _) = (front_of p ≡ front_in front) × AreWhole p.headers
-CopiesFront front p (Err e) = NoTable (pairs_in front.headers) e
+abbrev pub CopiesFront : Front → Properties → Result ⊤ BadHeader → Type 0
+CopiesFront front p (Ok _) = (front_of p ≡ front_in front) × HeadersAreWhole p.headers
+CopiesFront front p (Err e) = NoHeaders (pairs_in front.headers) e
 
 -- the other seven are these, and the first are as they were
 abbrev pub CopiesBack : Back → Properties → Properties → Type 0
@@ -78,16 +78,16 @@ headers_in (a ∷ b ∷ Some (Field_table pairs) ∷ os) = Some pairs
 headers_in _ = None
 
 -- there are no properties, or their table is none
-abbrev pub Lacks : Option (List (Option Argument)) → Type 0
-Lacks read = (given : List (Option Argument)) → read ≡ Some given → AreWhole (headers_in given) → ⊥
+abbrev pub LacksHeaders : Option (List (Option Argument)) → Type 0
+LacksHeaders read = (given : List (Option Argument)) → read ≡ Some given → HeadersAreWhole (headers_in given) → ⊥
 
 -- no properties were read for this reason, or memory was refused
-abbrev pub Wants : Option (List (Option Argument)) → Refusal → Type 0
-Wants read FrameError = ⊥
-Wants read SyntaxError = Lacks read
-Wants read Memory = ⊤
+abbrev pub WantsHeaders : Option (List (Option Argument)) → BadHeader → Type 0
+WantsHeaders read FrameError = ⊥
+WantsHeaders read SyntaxError = LacksHeaders read
+WantsHeaders read Memory = ⊤
 
 -- what was read is these properties
-abbrev pub Gives : Result Properties Refusal → Option (List (Option Argument)) → Type 0
-Gives (Ok p) read = (read ≡ Some (properties_of p)) × AreWhole p.headers
-Gives (Err e) read = Wants read e
+abbrev pub GivesProperties : Result Properties BadHeader → Option (List (Option Argument)) → Type 0
+GivesProperties (Ok p) read = (read ≡ Some (properties_of p)) × HeadersAreWhole p.headers
+GivesProperties (Err e) read = WantsHeaders read e

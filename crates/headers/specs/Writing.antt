@@ -5,8 +5,8 @@ use Rattle.std.specs.Int.{w16, w64, to_be_bytes}
 use Rattle.model.specs.Grammar.{Argument}
 use Rattle.model.specs.Headers.{text_of, octet_of, time_of, table_of, value_of, IsValue, AreProperties, header_bytes}
 use Rattle.model.specs.declared.contents.Fields.{Fields as Properties}
-use Rattle.headers.specs.declared.contents.WriteError.{WriteError}
-use Rattle.headers.specs.declared.contents.WriteError.TheVariants.{SyntaxError, Memory}
+use Rattle.headers.specs.declared.contents.UnwrittenHeader.{UnwrittenHeader}
+use Rattle.headers.specs.declared.contents.UnwrittenHeader.TheVariants.{SyntaxError, Memory}
 
 -- the first seven properties in the order of their flags
 abbrev pub front_of : Properties → List (Option Argument)
@@ -51,11 +51,11 @@ fixed size flags = to_be_bytes w16 60 ++ to_be_bytes w16 0 ++ to_be_bytes w64 si
 -- ---- the answer
 
 -- the header is not written for this reason, or memory was refused
-abbrev pub Refused : Properties → WriteError → Type 0
-Refused p SyntaxError = AreProperties p → ⊥
-Refused p Memory = ⊤
+abbrev pub PropertiesRefused : Properties → UnwrittenHeader → Type 0
+PropertiesRefused p SyntaxError = AreProperties p → ⊥
+PropertiesRefused p Memory = ⊤
 
 -- a header has so many bytes, for a body of any size, or there is none
-abbrev pub Counts : Properties → Option ℕ → Type 0
-Counts p (Some n) = AreProperties p × ((size : ℕ) → n ≡ length (header_bytes size p))
-Counts p None = AreProperties p → ⊥
+abbrev pub CountsHeader : Properties → Option ℕ → Type 0
+CountsHeader p (Some n) = AreProperties p × ((size : ℕ) → n ≡ length (header_bytes size p))
+CountsHeader p None = AreProperties p → ⊥

@@ -13,7 +13,7 @@ pub struct Header {
 
 /// Why no header was read.
 #[derive(Clone, Copy, PartialEq, Eq, Debug, Drop, Error)]
-pub enum Refusal {
+pub enum BadHeader {
     /// The payload is shorter than 14 bytes, or of another class or weight. Reply code 501, frame-error.
     #[error("frame-error: no header of a content of the basic class")]
     FrameError,
@@ -26,20 +26,20 @@ pub enum Refusal {
     Memory,
 }
 
-impl From<AllocError> for Refusal {
+impl From<AllocError> for BadHeader {
     ghost use Rattle.std.specs.Prelude.{◌≡◌};
-    ghost use Rattle.headers.specs.declared.contents.Refusal.TheVariants.{Memory};
+    ghost use Rattle.headers.specs.declared.contents.BadHeader.TheVariants.{Memory};
 
     ghost from_gives = { λ _ e. e ≡ Memory };
 
-    fn from(_e: AllocError) -> Refusal {
-        Refusal::Memory
+    fn from(_e: AllocError) -> BadHeader {
+        BadHeader::Memory
     }
 }
 
 /// Why no header was written.
 #[derive(Clone, Copy, PartialEq, Eq, Debug, Drop, Error)]
-pub enum WriteError {
+pub enum UnwrittenHeader {
     /// The properties have no spelling: a text is too long, or the table is none. Reply code 502, syntax-error.
     #[error("syntax-error: a text that is too long, or headers that are no table")]
     SyntaxError,

@@ -14,7 +14,7 @@ mod putting;
 mod reading;
 mod writing;
 
-pub use contents::{Header, Refusal, WriteError};
+pub use contents::{BadHeader, Header, UnwrittenHeader};
 pub use laws::{one_header, syntax_errors};
 pub use reading::{read_header, read_size};
 pub use writing::{put_header, spelled_len, write_header};

@@ -110,7 +110,7 @@ pub(crate) fn back_at(flags: u16, bytes: &[u8]) -> Option<(Back<'_>, &[u8])>
 /// The flags have this bit.
 fn has(flags: u16, bit: u32) -> bool
     requires { bit < 16 }
-    ensures { result ≡ Properties.has flags bit }
+    ensures { result ≡ Properties.has_flag flags bit }
 {
     flags >> bit & 1 == 1
 }

@@ -3,17 +3,21 @@
 ghost use Rattle.std.specs.Prelude.{◌≡◌, IfOk};
 ghost use Rattle.model.specs.Headers.{text_of, properties_of};
 ghost use Rattle.headers.specs.Properties.{properties_at};
-ghost use Rattle.headers.specs.Unread.{text_in, front_in, back_in, Gives, Copies, CopiesFront, CopiesBack, IsTableOr};
+ghost use Rattle.headers.specs.Unread.{text_in, front_in, back_in, GivesProperties, Copies, CopiesFront, CopiesBack, IsHeadersOr};
 
-use crate::contents::Refusal;
+use crate::contents::BadHeader;
 use crate::optional::{Back, Front, back_at, front_at};
 use field_table::is_table;
 use model::{Fields, Properties, Table, Text};
 use std::alloc::{AllocError, Global};
 
 /// All of the bytes, as the properties of these flags.
-pub(crate) fn properties_in(alloc: Global, flags: u16, bytes: &[u8]) -> Result<Properties, Refusal>
-    ensures { Gives result (properties_at flags bytes.now) }
+pub(crate) fn properties_in(
+    alloc: Global,
+    flags: u16,
+    bytes: &[u8],
+) -> Result<Properties, BadHeader>
+    ensures { GivesProperties result (properties_at flags bytes.now) }
 {
     if flags == 0 && bytes.is_empty() {
         return Ok(Properties::none());
@@ -22,26 +26,26 @@ pub(crate) fn properties_in(alloc: Global, flags: u16, bytes: &[u8]) -> Result<P
 }
 
 /// The same, where there may be some.
-fn flagged_in(alloc: Global, flags: u16, bytes: &[u8]) -> Result<Properties, Refusal>
-    ensures { Gives result (properties_at flags bytes.now) }
+fn flagged_in(alloc: Global, flags: u16, bytes: &[u8]) -> Result<Properties, BadHeader>
+    ensures { GivesProperties result (properties_at flags bytes.now) }
 {
     if flags % 4 != 0 {
-        return Err(Refusal::SyntaxError);
+        return Err(BadHeader::SyntaxError);
     }
     let Some((front, rest)) = front_at(flags, bytes) else {
-        return Err(Refusal::SyntaxError);
+        return Err(BadHeader::SyntaxError);
     };
     let Some((back, rest)) = back_at(flags, rest) else {
-        return Err(Refusal::SyntaxError);
+        return Err(BadHeader::SyntaxError);
     };
     if !rest.is_empty() {
-        return Err(Refusal::SyntaxError);
+        return Err(BadHeader::SyntaxError);
     }
     copied(alloc, front, back)
 }
 
 /// The properties of their own.
-fn copied(alloc: Global, front: Front<'_>, back: Back<'_>) -> Result<Properties, Refusal>
+fn copied(alloc: Global, front: Front<'_>, back: Back<'_>) -> Result<Properties, BadHeader>
     ensures { Copies front.entry back.entry result }
 {
     let mut fields = Fields::none();
@@ -49,12 +53,12 @@ fn copied(alloc: Global, front: Front<'_>, back: Back<'_>) -> Result<Properties,
     copy_back(alloc, &mut fields, &back)?;
     match Properties::new(alloc, fields) {
         Ok(properties) => Ok(properties),
-        Err(_) => Err(Refusal::Memory),
+        Err(_) => Err(BadHeader::Memory),
     }
 }
 
 /// Copies the first seven properties.
-fn copy_front(alloc: Global, fields: &mut Fields, front: &Front<'_>) -> Result<(), Refusal>
+fn copy_front(alloc: Global, fields: &mut Fields, front: &Front<'_>) -> Result<(), BadHeader>
     ensures { CopiesFront front.now fields.new result }
 {
     fields.content_type = text(alloc, front.content_type)?;
@@ -95,18 +99,18 @@ fn text(alloc: Global, bytes: Option<&[u8]>) -> Result<Option<Text>, AllocError>
 }
 
 /// A copy of the table, if there is one.
-fn table(alloc: Global, pairs: Option<&[u8]>) -> Result<Option<Table>, Refusal>
-    ensures { IsTableOr pairs.entry result }
+fn table(alloc: Global, pairs: Option<&[u8]>) -> Result<Option<Table>, BadHeader>
+    ensures { IsHeadersOr pairs.entry result }
 {
     match pairs {
         None => Ok(None),
         Some(pairs) => {
             if !is_table(pairs) {
-                return Err(Refusal::SyntaxError);
+                return Err(BadHeader::SyntaxError);
             }
             match Text::from_slice(alloc, pairs) {
                 Ok(pairs) => Ok(Some(Table::from_pairs(pairs))),
-                Err(_) => Err(Refusal::Memory),
+                Err(_) => Err(BadHeader::Memory),
             }
         }
     }

@@ -2,27 +2,31 @@
 
 ghost use Rattle.std.specs.Prelude.{◌≡◌, ◌+◌, ◌<◌, ◌≤◌, ◌++◌, length, vec_len, vec_capacity, OnOk, IfErr, Err};
 ghost use Rattle.model.specs.Headers.{header_bytes, AreProperties};
-ghost use Rattle.headers.specs.declared.contents.WriteError.TheVariants.{Memory};
-ghost use Rattle.headers.specs.Writing.{Counts, Refused};
+ghost use Rattle.headers.specs.declared.contents.UnwrittenHeader.TheVariants.{Memory};
+ghost use Rattle.headers.specs.Writing.{CountsHeader, PropertiesRefused};
 
-use crate::contents::WriteError;
+use crate::contents::UnwrittenHeader;
 use crate::measuring::{back_flags, back_len, front_flags, front_len};
 use crate::putting::{put_back, put_fixed, put_front};
 use model::{Fields, Properties};
 
 /// Appends the payload of the header frame of a body of `size` bytes to `out`. On an error `out` is as it was.
-pub fn write_header(out: &mut Vec<u8>, size: u64, properties: &Properties) -> Result<(), WriteError>
+pub fn write_header(
+    out: &mut Vec<u8>,
+    size: u64,
+    properties: &Properties,
+) -> Result<(), UnwrittenHeader>
     ensures ok { OnOk result (AreProperties properties.now × (out.new.items ≡ out.old.items ++ header_bytes size properties.now)) }
-    ensures err { IfErr result (λ e. Refused properties.now e × (out.new.items ≡ out.old.items)) }
+    ensures err { IfErr result (λ e. PropertiesRefused properties.now e × (out.new.items ≡ out.old.items)) }
     // Memory was really wanted.
     ensures full { result ≡ Err Memory → vec_capacity out.old < vec_len out.old + length (header_bytes size properties.now) }
 {
     match spelled_len(properties) {
-        None => Err(WriteError::SyntaxError),
+        None => Err(UnwrittenHeader::SyntaxError),
         Some(len) => {
             match out.reserve(len) {
                 Ok(()) => {}
-                Err(_) => return Err(WriteError::Memory),
+                Err(_) => return Err(UnwrittenHeader::Memory),
             }
             put_header(out, size, properties);
             Ok(())
@@ -32,7 +36,7 @@ pub fn write_header(out: &mut Vec<u8>, size: u64, properties: &Properties) -> Re
 
 /// How many bytes the header of a body with these properties has, whatever the body's size, if they have a spelling.
 pub fn spelled_len(properties: &Properties) -> Option<usize>
-    ensures { Counts properties.now result }
+    ensures { CountsHeader properties.now result }
 {
     match properties.fields() {
         None => Some(14),
@@ -42,7 +46,7 @@ pub fn spelled_len(properties: &Properties) -> Option<usize>
 
 /// The same of the properties one by one.
 fn fields_len(fields: &Fields) -> Option<usize>
-    ensures { Counts fields.now result }
+    ensures { CountsHeader fields.now result }
 {
     let front = front_len(fields)?;
     let back = back_len(fields)?;

@@ -9,13 +9,13 @@ use Rattle.serde_json.specs.Data.{Data, null, boolean, number, string, array, ob
 use Rattle.serde_json.specs.Find.{as_object}
 use Rattle.serde_json.specs.View.{view, items_view, members_view}
 use Rattle.serde_json.specs.declared.value.Value.{Value}
-use Rattle.json_file.specs.Outcomes.{Fails}
-use Rattle.json_file.specs.declared.faults.Fault.{Fault}
-use Rattle.json_file.specs.declared.faults.Fault.TheVariants.{TooLong, NotJson, Malformed, Memory}
+use Rattle.json_file.specs.Outcomes.{FailsJson}
+use Rattle.json_file.specs.declared.faults.BadJson.{BadJson}
+use Rattle.json_file.specs.declared.faults.BadJson.TheVariants.{TooLong, NotJson, Malformed, Memory}
 use Rattle.json_file.specs.Members.{each, fills, has_only, named_among}
 
 -- a reason that follows from another
-pub fails_then : (e : Fault) (P Q : Type 0) → (P → Q) → Fails e P → Fails e Q
+pub fails_then : (e : BadJson) (P Q : Type 0) → (P → Q) → FailsJson e P → FailsJson e Q
 fails_then TooLong P Q f h = h
 fails_then NotJson P Q f h = h
 fails_then Malformed P Q f h = f h

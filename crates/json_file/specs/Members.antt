@@ -12,6 +12,10 @@ pub record IsJson (bytes : List ℕ) (d : Data) : Type 0 where
   pub text : IsUtf8 bytes
   pub value : read bytes ≡ Some d
 
+-- a file of at most 16,777,216 bytes is JSON
+abbrev pub IsJsonFile : List ℕ → Type 0
+IsJsonFile bytes = length bytes ≤ 16777216 → (d : Data) × IsJson bytes d
+
 -- the text at this member
 unfoldable pub text_at : List ℕ → Data → Option (List ℕ)
 text_at name d = option_and_then as_str (get name d)

@@ -6,33 +6,33 @@ use Rattle.serde_json.specs.Data.{Data}
 use Rattle.serde_json.specs.View.{view}
 use Rattle.serde_json.specs.declared.value.Value.{Value}
 use Rattle.json_file.specs.Members.{IsJson}
-use Rattle.json_file.specs.declared.faults.Fault.{Fault}
-use Rattle.json_file.specs.declared.faults.Fault.TheVariants.{TooLong, NotJson, Malformed, Memory}
+use Rattle.json_file.specs.declared.faults.BadJson.{BadJson}
+use Rattle.json_file.specs.declared.faults.BadJson.TheVariants.{TooLong, NotJson, Malformed, Memory}
 
 -- a member is not read for this reason alone
-abbrev pub Fails : Fault → Type 0 → Type 0
-Fails TooLong why = ⊥
-Fails NotJson why = ⊥
-Fails Malformed why = why
-Fails Memory why = Unit {0}
+abbrev pub FailsJson : BadJson → Type 0 → Type 0
+FailsJson TooLong why = ⊥
+FailsJson NotJson why = ⊥
+FailsJson Malformed why = why
+FailsJson Memory why = Unit {0}
 
 -- what stands there is given, or it is refused where nothing does
-abbrev pub Gives : {A : Type 0} → Result A Fault → Option A → Type 0
-Gives (Ok x) o = o ≡ Some x
-Gives (Err e) o = Fails e (o ≡ None)
+abbrev pub GivesValue : {A : Type 0} → Result A BadJson → Option A → Type 0
+GivesValue (Ok x) o = o ≡ Some x
+GivesValue (Err e) o = FailsJson e (o ≡ None)
 
 -- the same of a value that is lent
-abbrev pub GivesView : Result (Bor Value) Fault → Option Data → Type 0
+abbrev pub GivesView : Result (Bor Value) BadJson → Option Data → Type 0
 GivesView (Ok v) o = o ≡ Some (view v.now)
-GivesView (Err e) o = Fails e (o ≡ None)
+GivesView (Err e) o = FailsJson e (o ≡ None)
 
 -- the same of a list
-abbrev pub GivesItems : {A : Type 0} → Result (Vec A Global) Fault → Option (List A) → Type 0
+abbrev pub GivesItems : {A : Type 0} → Result (Vec A Global) BadJson → Option (List A) → Type 0
 GivesItems (Ok v) o = o ≡ Some v.items
-GivesItems (Err e) o = Fails e (o ≡ None)
+GivesItems (Err e) o = FailsJson e (o ≡ None)
 
 -- a file is parsed, or refused
-abbrev pub Parses : Result Value Fault → List ℕ → Type 0
+abbrev pub Parses : Result Value BadJson → List ℕ → Type 0
 Parses (Ok v) bytes = IsJson bytes (view v)
 Parses (Err TooLong) bytes = 16777216 < length bytes
 Parses (Err NotJson) bytes = (length bytes ≤ 16777216) × ((d : Data) → IsJson bytes d → ⊥)

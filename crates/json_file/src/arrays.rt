@@ -4,26 +4,26 @@ ghost use Rattle.std.specs.Prelude.{◌≡◌, Option, option_and_then};
 ghost use Rattle.serde_json.specs.Data.{Data};
 ghost use Rattle.serde_json.specs.View.{view, items_view};
 ghost use Rattle.json_file.specs.Members.{array_at, each};
-ghost use Rattle.json_file.specs.Outcomes.{Gives, GivesItems};
+ghost use Rattle.json_file.specs.Outcomes.{GivesValue, GivesItems};
 
-use crate::faults::Fault;
+use crate::faults::BadJson;
 use serde_json::Value;
 use std::alloc::Global;
 
 /// What is read from an element of an array.
-pub trait Entry: Drop {
+pub trait FromValue: Drop {
     /// What a value states, if it states one.
     ghost states: { Data → Option Self };
 
     /// The entry that the value states.
-    fn read(alloc: Global, value: &Value) -> Result<Self, Fault>
+    fn read(alloc: Global, value: &Value) -> Result<Self, BadJson>
     where
         Self: Sized,
-        ensures { Gives result (states (view value.now)) };
+        ensures { GivesValue result (states (view value.now)) };
 }
 
 /// The entries that these values state.
-fn entries_of<E: Entry>(alloc: Global, values: &[Value]) -> Result<Vec<E>, Fault>
+fn entries_of<E: FromValue>(alloc: Global, values: &[Value]) -> Result<Vec<E>, BadJson>
     ensures { GivesItems result (each E.states (items_view values.now)) }
 {
     let mut found = Vec::new(alloc);
@@ -35,11 +35,11 @@ fn entries_of<E: Entry>(alloc: Global, values: &[Value]) -> Result<Vec<E>, Fault
 
 /// The entries of the array at this member.
 #[tactic(auto, unfolding(crate::specs::Members::array_at))]
-pub fn entries<E: Entry>(alloc: Global, value: &Value, name: &str) -> Result<Vec<E>, Fault>
+pub fn entries<E: FromValue>(alloc: Global, value: &Value, name: &str) -> Result<Vec<E>, BadJson>
     ensures { GivesItems result (option_and_then (each E.states) (array_at name.now (view value.now))) }
 {
     match value.get(name).and_then(Value::as_array) {
         Some(array) => entries_of(alloc, array.as_slice()),
-        None => Err(Fault::Malformed),
+        None => Err(BadJson::Malformed),
     }
 }

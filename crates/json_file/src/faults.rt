@@ -4,7 +4,7 @@ use std::alloc::{AllocError, AllocFailed};
 
 /// Why a JSON file, or a member of it, is not read.
 #[derive(Clone, Copy, PartialEq, Eq, Debug, Drop)]
-pub enum Fault {
+pub enum BadJson {
     /// The file has over 16,777,216 bytes.
     TooLong,
     /// It is not JSON.
@@ -15,24 +15,24 @@ pub enum Fault {
     Memory,
 }
 
-impl From<AllocError> for Fault {
+impl From<AllocError> for BadJson {
     ghost use Rattle.std.specs.Prelude.{◌≡◌};
-    ghost use Rattle.json_file.specs.declared.faults.Fault.TheVariants.{Memory};
+    ghost use Rattle.json_file.specs.declared.faults.BadJson.TheVariants.{Memory};
 
     ghost from_gives = { λ _ r. r ≡ Memory };
 
-    fn from(_: AllocError) -> Fault {
-        Fault::Memory
+    fn from(_: AllocError) -> BadJson {
+        BadJson::Memory
     }
 }
 
-impl<T: Drop> From<AllocFailed<T>> for Fault {
+impl<T: Drop> From<AllocFailed<T>> for BadJson {
     ghost use Rattle.std.specs.Prelude.{◌≡◌};
-    ghost use Rattle.json_file.specs.declared.faults.Fault.TheVariants.{Memory};
+    ghost use Rattle.json_file.specs.declared.faults.BadJson.TheVariants.{Memory};
 
     ghost from_gives = { λ _ r. r ≡ Memory };
 
-    fn from(_: AllocFailed<T>) -> Fault {
-        Fault::Memory
+    fn from(_: AllocFailed<T>) -> BadJson {
+        BadJson::Memory
     }
 }

@@ -5,8 +5,8 @@ mod arrays;
 mod faults;
 mod members;
 
-pub use arrays::{Entry, entries};
-pub use faults::Fault;
+pub use arrays::{FromValue, entries};
+pub use faults::BadJson;
 pub use members::{
     arguments, has_only, is_filled, optional_number, optional_text, parse, text, truth,
 };

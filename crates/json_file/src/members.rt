@@ -15,9 +15,9 @@ ghost use Rattle.json_file.specs.Members.{
   text_at,
   truth_at,
 };
-ghost use Rattle.json_file.specs.Outcomes.{Gives, GivesView, Parses};
+ghost use Rattle.json_file.specs.Outcomes.{GivesValue, GivesView, Parses};
 
-use crate::faults::Fault;
+use crate::faults::BadJson;
 use model::Text;
 use serde_json::{Map, Value};
 use std::alloc::Global;
@@ -26,19 +26,19 @@ use std::alloc::Global;
 const LIMIT: usize = 16_777_216;
 
 /// The value that a file states, where it is JSON of at most 16,777,216 bytes and nests at most 127 deep.
-pub fn parse(alloc: Global, bytes: &[u8]) -> Result<Value, Fault>
+pub fn parse(alloc: Global, bytes: &[u8]) -> Result<Value, BadJson>
     ensures { Parses result bytes.now }
 {
     if bytes.len() > LIMIT {
-        return Err(Fault::TooLong);
+        return Err(BadJson::TooLong);
     }
     match Value::from_slice(alloc, bytes) {
         Ok(value) => Ok(value),
         Err(error) => {
             if error.is_memory() {
-                Err(Fault::Memory)
+                Err(BadJson::Memory)
             } else {
-                Err(Fault::NotJson)
+                Err(BadJson::NotJson)
             }
         }
     }
@@ -46,75 +46,75 @@ pub fn parse(alloc: Global, bytes: &[u8]) -> Result<Value, Fault>
 
 /// The text at this member.
 #[tactic(auto, unfolding(crate::specs::Members::text_at))]
-pub fn text(alloc: Global, value: &Value, name: &str) -> Result<Text, Fault>
-    ensures { Gives result (text_at name.now (view value.now)) }
+pub fn text(alloc: Global, value: &Value, name: &str) -> Result<Text, BadJson>
+    ensures { GivesValue result (text_at name.now (view value.now)) }
 {
     match value.get(name).and_then(Value::as_str) {
         Some(text) => Ok(Text::from_slice(alloc, text.as_bytes())?),
-        None => Err(Fault::Malformed),
+        None => Err(BadJson::Malformed),
     }
 }
 
 /// The truth value at this member.
 #[tactic(auto, unfolding(crate::specs::Members::truth_at))]
-pub fn truth(value: &Value, name: &str) -> Result<bool, Fault>
-    ensures { Gives result (truth_at name.now (view value.now)) }
+pub fn truth(value: &Value, name: &str) -> Result<bool, BadJson>
+    ensures { GivesValue result (truth_at name.now (view value.now)) }
 {
     match value.get(name).and_then(Value::as_bool) {
         Some(truth) => Ok(truth),
-        None => Err(Fault::Malformed),
+        None => Err(BadJson::Malformed),
     }
 }
 
 /// The object at the member `arguments`.
 #[tactic(auto, unfolding(crate::specs::Members::arguments_at))]
-pub fn arguments(value: &Value) -> Result<&Value, Fault>
+pub fn arguments(value: &Value) -> Result<&Value, BadJson>
     ensures { GivesView result (arguments_at (view value.now)) }
 {
     match value.get("arguments") {
         Some(found) if found.is_object() => Ok(found),
-        _ => Err(Fault::Malformed),
+        _ => Err(BadJson::Malformed),
     }
 }
 
 /// The text at this member, where it is there.
 #[tactic(auto, unfolding(crate::specs::Members::optional_text_at))]
-pub fn optional_text(alloc: Global, value: &Value, name: &str) -> Result<Option<Text>, Fault>
-    ensures { Gives result (optional_text_at name.now (view value.now)) }
+pub fn optional_text(alloc: Global, value: &Value, name: &str) -> Result<Option<Text>, BadJson>
+    ensures { GivesValue result (optional_text_at name.now (view value.now)) }
 {
     match value.get(name) {
         None => Ok(None),
         Some(found) => match found.as_str() {
             Some(text) => Ok(Some(Text::from_slice(alloc, text.as_bytes())?)),
-            None => Err(Fault::Malformed),
+            None => Err(BadJson::Malformed),
         },
     }
 }
 
 /// The whole number below 2^32 at this member, where it is there.
 #[tactic(auto, unfolding(crate::specs::Members::optional_number_at))]
-pub fn optional_number(value: &Value, name: &str) -> Result<Option<u32>, Fault>
-    ensures { Gives result (optional_number_at name.now (view value.now)) }
+pub fn optional_number(value: &Value, name: &str) -> Result<Option<u32>, BadJson>
+    ensures { GivesValue result (optional_number_at name.now (view value.now)) }
 {
     match value.get(name) {
         None => Ok(None),
         Some(found) => match found.as_u64() {
             Some(number) if number <= 4_294_967_295 => Ok(Some(number as u32)),
-            _ => Err(Fault::Malformed),
+            _ => Err(BadJson::Malformed),
         },
     }
 }
 
 /// Whether there is an array at this member with an element, where it is there.
 #[tactic(auto, unfolding(crate::specs::Members::is_filled))]
-pub fn is_filled(value: &Value, name: &str) -> Result<bool, Fault>
-    ensures { Gives result (is_filled name.now (view value.now)) }
+pub fn is_filled(value: &Value, name: &str) -> Result<bool, BadJson>
+    ensures { GivesValue result (is_filled name.now (view value.now)) }
 {
     match value.get(name) {
         None => Ok(false),
         Some(found) => match found.as_array() {
             Some(array) => Ok(!array.is_empty()),
-            None => Err(Fault::Malformed),
+            None => Err(BadJson::Malformed),
         },
     }
 }

@@ -11,22 +11,22 @@ use Rattle.model.specs.declared.methods.Method.TheVariants as method
 use Rattle.model.specs.declared.events.Event.{Event}
 use Rattle.model.specs.declared.events.Event.TheVariants as event
 use Rattle.exchange_graph.specs.Marks.{queue_name}
-use Rattle.depot.specs.Store.{Store, queue_of}
+use Rattle.depot.specs.Store.{Store, entries_named}
 use Rattle.judging.specs.declared.refusals.Refusal.{Refusal}
 use Rattle.judging.specs.declared.refusals.Refusal.TheVariants as refused
 use Rattle.judging.specs.declared.refusals.Act.{Act}
 use Rattle.judging.specs.declared.refusals.Act.TheVariants as act
 
 -- a refusal of the code, as one of the model
-abbrev pub seen : Refusal → step.Refusal
-seen refused.Ignored = step.Ignored
-seen (refused.Channel code) = Of_channel code
-seen (refused.Connection code) = Of_connection code
+abbrev pub refusal_seen : Refusal → step.Refusal
+refusal_seen refused.Ignored = step.Ignored
+refusal_seen (refused.Channel code) = Of_channel code
+refusal_seen (refused.Connection code) = Of_connection code
 
 -- a refusal, if there is one
 abbrev pub seen_if : Option Refusal → Option step.Refusal
 seen_if None = None
-seen_if (Some r) = Some (seen r)
+seen_if (Some r) = Some (refusal_seen r)
 
 -- a channel that a refusal closes is there
 abbrev pub HasChannel : Refusal → Option Channel → Type 0
@@ -80,49 +80,49 @@ IsAsked (event.Deliver c) = ⊥
 IsAsked e = Unit {0}
 
 -- the queue of this name stands at this place of the file
-pub record IsPlaceOf (t : Topology) (name : Text) (place : ℕ) : Type 0 where
+pub record IsQueuePlace (t : Topology) (name : Text) (place : ℕ) : Type 0 where
   pub within : place < length t.queues
   pub named : queue_name t place ≡ name
 
 -- The state has the queues of this depot, and its count of publishes.
 pub record HasStore (b : Broker) (s : Store) : Type 0 where
   pub counted : b.published ≡ s.published
-  pub queues : (q : Text) → b.queue q ≡ queue_of s q
+  pub queues : (q : Text) → b.queue q ≡ entries_named s q
 
 -- the method asks for this act on the channel, which is there where it needs to be
-abbrev pub Asks : Topology → Broker → Option Channel → Method → Act → Type 0
-Asks t b ch m act.OpenChannel = (reserved : Text) × (m ≡ method.ChannelOpen reserved)
-Asks t b ch m act.Flow = (m ≡ method.ChannelFlow true) × IsSome ch
-Asks t b ch m (act.FindExchange d) = (m ≡ method.ExchangeDeclare d.now) × IsSome ch
-Asks t b ch m (act.FindQueue place d) = (m ≡ method.QueueDeclare d.now) × IsSome ch × IsPlaceOf t d.now.queue place
-Asks t b ch m (act.Select no_wait) = (m ≡ method.ConfirmSelect no_wait) × IsSome ch
-Asks t b ch m (act.Publish p) = (m ≡ method.BasicPublish p.now) × IsSome ch × (refusal_of_publish t b (channel_or_new ch) p.now ≡ None)
-Asks t b ch m (act.Purge place p) = (m ≡ method.QueuePurge p.now) × IsSome ch × IsPlaceOf t p.now.queue place
-Asks t b ch m (act.Get place g) = (m ≡ method.BasicGet g.now) × IsSome ch × IsPlaceOf t g.now.queue place × (refusal_of_get t b (channel_or_new ch) g.now ≡ None)
-Asks t b ch m (act.Consume place k) = (m ≡ method.BasicConsume k.now) × IsSome ch × IsPlaceOf t k.now.queue place
-Asks t b ch m (act.Cancel k) = (m ≡ method.BasicCancel k.now) × IsSome ch
-Asks t b ch m (act.Limit q) = (m ≡ method.BasicQos q.now) × IsSome ch
-Asks t b ch m (act.Acknowledge a) = (m ≡ method.BasicAck a.now) × IsSome ch × (refusal_of_settling (channel_or_new ch) a.now.delivery_tag a.now.multiple ≡ None)
-Asks t b ch m (act.Reject r) = (m ≡ method.BasicReject r.now) × IsSome ch × (refusal_of_settling (channel_or_new ch) r.now.delivery_tag false ≡ None)
-Asks t b ch m (act.Nack n) = (m ≡ method.BasicNack n.now) × IsSome ch × (refusal_of_settling (channel_or_new ch) n.now.delivery_tag n.now.multiple ≡ None)
-Asks t b ch m act.Recover = (m ≡ method.BasicRecover true) × IsSome ch
-Asks t b ch m (act.CloseChannel is_closing) = (x : Close) × (m ≡ method.ChannelClose x) × IsSome ch × ((channel_or_new ch).is_closing ≡ is_closing)
-Asks t b ch m act.EndChannel = (m ≡ method.ChannelCloseOk) × IsSome ch
-Asks t b ch m act.CloseConnection = (x : Close) × (m ≡ method.ConnectionClose x)
+abbrev pub AsksAct : Topology → Broker → Option Channel → Method → Act → Type 0
+AsksAct t b ch m act.OpenChannel = (reserved : Text) × (m ≡ method.ChannelOpen reserved)
+AsksAct t b ch m act.Flow = (m ≡ method.ChannelFlow true) × IsSome ch
+AsksAct t b ch m (act.FindExchange d) = (m ≡ method.ExchangeDeclare d.now) × IsSome ch
+AsksAct t b ch m (act.FindQueue place d) = (m ≡ method.QueueDeclare d.now) × IsSome ch × IsQueuePlace t d.now.queue place
+AsksAct t b ch m (act.Select no_wait) = (m ≡ method.ConfirmSelect no_wait) × IsSome ch
+AsksAct t b ch m (act.Publish p) = (m ≡ method.BasicPublish p.now) × IsSome ch × (refusal_of_publish t b (channel_or_new ch) p.now ≡ None)
+AsksAct t b ch m (act.Purge place p) = (m ≡ method.QueuePurge p.now) × IsSome ch × IsQueuePlace t p.now.queue place
+AsksAct t b ch m (act.Get place g) = (m ≡ method.BasicGet g.now) × IsSome ch × IsQueuePlace t g.now.queue place × (refusal_of_get t b (channel_or_new ch) g.now ≡ None)
+AsksAct t b ch m (act.Consume place k) = (m ≡ method.BasicConsume k.now) × IsSome ch × IsQueuePlace t k.now.queue place
+AsksAct t b ch m (act.Cancel k) = (m ≡ method.BasicCancel k.now) × IsSome ch
+AsksAct t b ch m (act.Limit q) = (m ≡ method.BasicQos q.now) × IsSome ch
+AsksAct t b ch m (act.Acknowledge a) = (m ≡ method.BasicAck a.now) × IsSome ch × (refusal_of_settling (channel_or_new ch) a.now.delivery_tag a.now.multiple ≡ None)
+AsksAct t b ch m (act.Reject r) = (m ≡ method.BasicReject r.now) × IsSome ch × (refusal_of_settling (channel_or_new ch) r.now.delivery_tag false ≡ None)
+AsksAct t b ch m (act.Nack n) = (m ≡ method.BasicNack n.now) × IsSome ch × (refusal_of_settling (channel_or_new ch) n.now.delivery_tag n.now.multiple ≡ None)
+AsksAct t b ch m act.Recover = (m ≡ method.BasicRecover true) × IsSome ch
+AsksAct t b ch m (act.CloseChannel is_closing) = (x : Close) × (m ≡ method.ChannelClose x) × IsSome ch × ((channel_or_new ch).is_closing ≡ is_closing)
+AsksAct t b ch m act.EndChannel = (m ≡ method.ChannelCloseOk) × IsSome ch
+AsksAct t b ch m act.CloseConnection = (x : Close) × (m ≡ method.ConnectionClose x)
 
 -- the act can be done: some method asks for it
 abbrev pub CanAct : Topology → Broker → Option Channel → Act → Type 0
-CanAct t b ch asked = (m : Method) × Asks t b ch m asked
+CanAct t b ch asked = (m : Method) × AsksAct t b ch m asked
 
 -- what is still to be said against an act on a channel of this record: of one consumer more the channel decides
-abbrev pub left_of : Channel → Act → Option step.Refusal
-left_of ch (act.Consume place m) = refusal_of_seat ch m.now
-left_of ch _ = None
+abbrev pub refusal_left : Channel → Act → Option step.Refusal
+refusal_left ch (act.Consume place m) = refusal_of_seat ch m.now
+refusal_left ch _ = None
 
 -- Either the method is refused as the model says, or it asks for this act, and nothing is said against it but what is left to say.
 abbrev pub Judges : Topology → Broker → Option Channel → Method → Option step.Refusal → Result Act Refusal → Type 0
-Judges t b ch m r (Ok asked) = (r ≡ left_of (channel_or_new ch) asked) × Asks t b ch m asked
-Judges t b ch m r (Err e) = (r ≡ Some (seen e)) × HasChannel e ch
+Judges t b ch m r (Ok asked) = (r ≡ refusal_left (channel_or_new ch) asked) × AsksAct t b ch m asked
+Judges t b ch m r (Err e) = (r ≡ Some (refusal_seen e)) × HasChannel e ch
 
 -- The same of a command on a connection, which is silent where that doesn't run.
 abbrev pub JudgesOn : Topology → Broker → ℕ → ℕ → Method → Option (Result Act Refusal) → Type 0
@@ -132,4 +132,4 @@ JudgesOn t b c h m (Some r) = (conn : Connection) × (b.connection c ≡ Some co
 -- The same of a publish whose content is too large: it is refused as the model says.
 abbrev pub JudgesLarge : Broker → ℕ → ℕ → Option Refusal → Type 0
 JudgesLarge b c h None = b.connection c ≡ None
-JudgesLarge b c h (Some r) = (conn : Connection) × (b.connection c ≡ Some conn) × (seen r ≡ refusal_of_large conn h (b.channel c h)) × HasChannel r (b.channel c h)
+JudgesLarge b c h (Some r) = (conn : Connection) × (b.connection c ≡ Some conn) × (refusal_seen r ≡ refusal_of_large conn h (b.channel c h)) × HasChannel r (b.channel c h)

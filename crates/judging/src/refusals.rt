@@ -14,7 +14,7 @@ ghost use Rattle.model.specs.Prefetch.{has_tag_left};
 ghost use Rattle.model.specs.Deliveries.{first_ready};
 ghost use Rattle.depot.specs.Store.{queue_at};
 ghost use Rattle.model.specs.declared.methods.Method.TheVariants.{BasicPublish, QueuePurge, BasicQos, BasicGet};
-ghost use Rattle.judging.specs.Judged.{seen, seen_if, HasChannel, HasStore, Judges};
+ghost use Rattle.judging.specs.Judged.{refusal_seen, seen_if, HasChannel, HasStore, Judges};
 ghost use Rattle.channel.specs.Open.{open_in};
 ghost use Rattle.links.specs.Links.{limits_of, channel_seen};
 
@@ -329,7 +329,7 @@ pub fn judge<'a>(
 
 /// A publish whose content is too large, of a connection that runs: no channel takes it, and one that is open is closed.
 pub fn judge_large(link: &Link, number: u16) -> Refusal
-    ensures is { (names : List Name) → seen result ≡ said.refusal_of_large (limits_of link.now) number (channel_seen names link.now number) }
+    ensures is { (names : List Name) → refusal_seen result ≡ said.refusal_of_large (limits_of link.now) number (channel_seen names link.now number) }
     ensures channel { (names : List Name) → HasChannel result (channel_seen names link.now number) }
 {
     if is_awaiting(link.channel(number)) {

@@ -1,5 +1,5 @@
 -- Whether clients may publish to an exchange, by its name, and slots with no route.
-use Rattle.std.proofs.Common.{◌≡◌, ◌∙◌, ℕ, zero, suc, ◌<◌, List, [], ◌∷◌, Option, Some, None, false, refl, sym, ap, subst, length, ◌==◌, find, get_or, replicate, arith}
+use Rattle.std.proofs.Common.{◌≡◌, ◌∙◌, ℕ, zero, suc, ◌<◌, List, [], ◌∷◌, Option, None, false, refl, sym, ap, subst, length, ◌==◌, find, get_or, replicate, arith}
 use Rattle.std.specs.Str.{bytes_eq}
 use Rattle.std.specs.declared.sync.Arc.{Arc}
 use Rattle.std.proofs.lemmas.List.{length-replicate}

@@ -17,7 +17,7 @@ use Rattle.model.specs.declared.messages.Mark.TheVariants.{Ready, Held}
 use Rattle.model.specs.declared.notes.Cause.{Cause}
 use Rattle.model.specs.declared.notes.Note.{Note}
 use Rattle.laws.proofs.Counts.{count-cons, count-cons_yes}
-use Rattle.laws.proofs.Leaving.{at_queue}
+use Rattle.laws.proofs.Leaving.{at_queue, in_without}
 
 -- ---- marks
 
@@ -99,15 +99,6 @@ shrinks_on old mid new a b = record {
 }
 
 -- ---- single lists
-
-in_without : (p : Entry → Bool) (x : Entry) (xs : List Entry) → IsIn x (without_first p xs) → IsIn x xs
-in_without p x [] i = i
-in_without p x (y ∷ ys) i = go (p y) (in_without p x ys) i
-  where
-    go : (v : Bool) → (IsIn x (without_first p ys) → IsIn x ys) → IsIn x (cond v ys (y ∷ without_first p ys)) → IsIn x (y ∷ ys)
-    go true more i = inr i
-    go false more (inl e) = inl e
-    go false more (inr i) = inr (more i)
 
 count_without : (f p : Entry → Bool) (xs : List Entry) → count_by f (without_first p xs) ≤ count_by f xs
 count_without f p [] = omega arith

@@ -25,7 +25,7 @@ use Rattle.model.specs.declared.texts.Token.TheVariants.{Any}
 use Rattle.model.specs.declared.topologies.ExchangeKind.TheVariants.{Fanout}
 use Rattle.model.specs.declared.topologies.Place.{Place}
 use Rattle.model.specs.declared.topologies.Place.TheVariants as place
-use Rattle.laws.specs.Deaths.{deaths, circle, crowded, EndsIn, first_publish, got_from, while_held, DiesTo, in_q1, in_q, WorkedDeaths, DeathsRefuse}
+use Rattle.laws.specs.Deaths.{deaths, circle, full_topology, EndsIn, first_publish, got_from, while_held, DiesTo, in_q1, in_q, WorkedDeaths, DeathsRefuse}
 use Rattle.laws.proofs.Counts.{in_from_contains}
 use Rattle.laws.proofs.Marking.{added_tells}
 
@@ -225,38 +225,38 @@ goes_round headers marked = record {
 
 -- ---- a full queue
 
-crowded_plain : HaveNoAlternate crowded
+crowded_plain : HaveNoAlternate full_topology
 crowded_plain x (inl e) = ap (λ (z : Exchange). z.alternate) e
 crowded_plain x (inr none_left) = absurd none_left
 
-crowded_edge : (name : Text) (to : Place) → Leading crowded name to → (to ≡ place.Queue (codes "billing")) ⊎ (to ≡ place.Queue (codes "full"))
+crowded_edge : (name : Text) (to : Place) → Leading full_topology name to → (to ≡ place.Queue (codes "billing")) ⊎ (to ≡ place.Queue (codes "full"))
 crowded_edge name to l = by l.there
   where
-    by : IsIn l.binding crowded.bindings → (to ≡ place.Queue (codes "billing")) ⊎ (to ≡ place.Queue (codes "full"))
+    by : IsIn l.binding full_topology.bindings → (to ≡ place.Queue (codes "billing")) ⊎ (to ≡ place.Queue (codes "full"))
     by (inl e) = inl (sym l.leads ∙ ap (λ (b : Binding). b.to) e)
     by (inr (inl e)) = inr (sym l.leads ∙ ap (λ (b : Binding). b.to) e)
     by (inr (inr none_left)) = absurd none_left
 
-crowded_here : (r : Reading) (x y : Text) → (x ≡ [] → ⊥) → Leads crowded r x y → y ≡ x
+crowded_here : (r : Reading) (x y : Text) → (x ≡ [] → ⊥) → Leads full_topology r x y → y ≡ x
 crowded_here r x y named here = refl
-crowded_here r x y named (on {y = z} e more) = elim (edge_leads crowded r x (place.Exchange z) crowded_plain e) [
+crowded_here r x y named (on {y = z} e more) = elim (edge_leads full_topology r x (place.Exchange z) crowded_plain e) [
   | inl l ↦ elim (crowded_edge x (place.Exchange z) l) [ inl is ↦ absurd (false≢true (ap is_queue is)) | inr is ↦ absurd (false≢true (ap is_queue is)) ]
   | inr is ↦ absurd (named is)
 ]
 
-not_to_q1 : (key : Text) → Routes crowded (codes "D") key (codes "q1") → ⊥
-not_to_q1 key (y, leads, edge) = elim (edge_leads crowded (of_key key) y (place.Queue (codes "q1")) crowded_plain edge) [
+not_to_q1 : (key : Text) → Routes full_topology (codes "D") key (codes "q1") → ⊥
+not_to_q1 key (y, leads, edge) = elim (edge_leads full_topology (of_key key) y (place.Queue (codes "q1")) crowded_plain edge) [
   | inl l ↦ elim (crowded_edge y (place.Queue (codes "q1")) l) [ inl is ↦ differ (codes "q1") (codes "billing") refl (ap queue_in is) | inr is ↦ differ (codes "q1") (codes "full") refl (ap queue_in is) ]
   | inr is ↦ differ (codes "D") [] refl (sym (crowded_here (of_key key) (codes "D") y (differ (codes "D") [] refl) leads) ∙ is)
 ]
 
-to_billing_there : (key : Text) → Routes crowded (codes "D") key (codes "billing")
+to_billing_there : (key : Text) → Routes full_topology (codes "D") key (codes "billing")
 to_billing_there key = (codes "D", here, bound _ _ (0, lit≤ tt, refl) refl (record { is_binding = (0, lit≤ tt, refl); source = refl; leads = refl }) tt)
 
-to_full : (key : Text) → Routes crowded (codes "D") key (codes "full")
+to_full : (key : Text) → Routes full_topology (codes "D") key (codes "full")
 to_full key = (codes "D", here, bound _ _ (0, lit≤ tt, refl) refl (record { is_binding = (1, lit≤ tt, refl); source = refl; leads = refl }) tt)
 
-is_refused : EndsIn crowded (codes "q1") (codes "billing") (first_publish (codes "Y") (codes "Y") (codes "a") None) (first_publish (codes "Y") (codes "D") (codes "a") in_q1) (Refused 1 (codes "full") ∷ Entered 1 (codes "billing") Dead ∷ [])
+is_refused : EndsIn full_topology (codes "q1") (codes "billing") (first_publish (codes "Y") (codes "Y") (codes "a") None) (first_publish (codes "Y") (codes "D") (codes "a") in_q1) (Refused 1 (codes "full") ∷ Entered 1 (codes "billing") Dead ∷ [])
 is_refused = record {
   after = after;
   rejected = (after, Left 1 (codes "q1") Rejected ∷ notes, [], (notes, refl, record { headers = in_q1; marked = alone; targets = codes "full" ∷ codes "billing" ∷ []; routed = pass (not_to_q1 (codes "a")) (take (to_full (codes "a")) (take (to_billing_there (codes "a")) none)); noted = refl; left = λ q. refl }), refl, (refl, λ q. refl));
@@ -267,7 +267,7 @@ is_refused = record {
     before = without_given 1 1 (while_held (codes "q1") (first_publish (codes "Y") (codes "Y") (codes "a") None)) (got_from (codes "q1"))
 
     after : Text → List Entry
-    after q = before q ++ comes_to crowded before (first_publish (codes "Y") (codes "D") (codes "a") in_q1) q (codes "full" ∷ codes "billing" ∷ [])
+    after q = before q ++ comes_to full_topology before (first_publish (codes "Y") (codes "D") (codes "a") in_q1) q (codes "full" ∷ codes "billing" ∷ [])
 
     notes : List Note
     notes = Refused 1 (codes "full") ∷ Entered 1 (codes "billing") Dead ∷ []

@@ -1,7 +1,7 @@
 -- What leaves a queue by its notes, and what stays: for messages given out, settled and purged.
 use Rattle.std.proofs.Common.{◌≡◌, ℕ, ◌+◌, List, [], ◌∷◌, Bool, true, false, cond, eqb, refl, sym, ap, subst, ◌∙◌, filter, not, arith, Option, Some, None, inl, inr}
 use Rattle.std.specs.Prelude.{count_by, find, ◌==◌, ◌&&◌, if◌then◌else◌}
-use Rattle.std.specs.List.{AllByRecursion, list_any}
+use Rattle.std.specs.List.{AllByRecursion}
 use Rattle.std.specs.Str.{bytes_eq}
 use Rattle.std.proofs.lemmas.Slice.Eq.{bytes_eq-Decides}
 use Rattle.std.proofs.lemmas.Option.{same_Some}
@@ -9,7 +9,7 @@ use Rattle.std.proofs.lemmas.Bool.{false≢true}
 use Rattle.model.specs.Words.{Text}
 use Rattle.model.specs.Topology.{IsIn}
 use Rattle.model.specs.Broker.{Outstanding, is_ready}
-use Rattle.model.specs.Entries.{is_under, is_held_as, freed, held_as, change_first, without_first}
+use Rattle.model.specs.Entries.{is_under, is_held_as, freed, change_first, without_first}
 use Rattle.model.specs.Settling.{is_refused, settled, takes}
 use Rattle.model.specs.Deliveries.{with_queue, holder_of, given_in, without_given, left_note, AreLeft, AreReturned, purge_notes}
 use Rattle.model.specs.Run.{has_number, is_left}
@@ -82,7 +82,7 @@ none_without {A = A} p (y ∷ ys) e = go (p y) (none_without p ys) e
     go true more e = absurd (false≢true (sym (ap Rattle.std.specs.Prelude.is_some e)))
     go false more e = ap (λ (zs : List A). y ∷ zs) (more e)
 
-in_without : {A : Type 0} (p : A → Bool) (x : A) (xs : List A) → IsIn x (without_first p xs) → IsIn x xs
+pub in_without : {A : Type 0} (p : A → Bool) (x : A) (xs : List A) → IsIn x (without_first p xs) → IsIn x xs
 in_without p x [] i = i
 in_without p x (y ∷ ys) i = go (p y) (in_without p x ys) i
   where
@@ -125,9 +125,6 @@ in_filter {A = A} p x (y ∷ ys) i = go (p y) refl (in_filter p x ys) i
     go false q more i = (inr (more i).0, (more i).1)
 
 -- ---- numbers stay
-
-pub held_number : (n : ℕ) (holder : Holder) (e : Entry) → has_number n (held_as holder e) ≡ has_number n e
-held_number n holder e = refl
 
 pub freed_number : (n : ℕ) (mine : Holder → Bool) (e : Entry) → has_number n (freed mine e) ≡ has_number n e
 freed_number n mine e = go e.message e.mark

@@ -3,6 +3,8 @@ pub mod Keys
 pub mod Leaving
 pub mod Entering
 pub mod Dying
+pub mod Targets
+pub mod Letters
 pub mod Agreement
 pub mod Given
 pub mod Agreed

@@ -33,6 +33,14 @@ in_fewer p k (x ∷ xs) i = go (p x) (in_fewer p k xs) i
     go true more (inr j) = inr (more j)
     go false more j = inr (more j)
 
+-- a channel that is there from the first on has no consumer
+pub row_new : (max l : ℕ) (ch : Channel) → channels_up_to max l ≡ Some ch → ch.consumers ≡ []
+row_new max l ch e = by (nat_le 1 l && nat_le l max) e
+  where
+    by : (v : Bool) → (if v then Some new_channel else None) ≡ Some ch → ch.consumers ≡ []
+    by true e = ap (λ (z : Channel). z.consumers) (sym (same_Some new_channel ch e))
+    by false e = absurd (false≢true (ap is_some e))
+
 -- ---- all cases
 
 module _ (t : Topology) (old new : Broker) (e : Event) (sends : List Send) (notes : List Note) where
@@ -142,13 +150,6 @@ module _ (t : Topology) (old new : Broker) (e : Event) (sends : List Send) (note
   too_large : (c h : ℕ) (o : Option Connection) → OnLarge old c h sends notes new o → AllCame
   too_large c h None p = same p.left.channels
   too_large c h (Some conn) p = refuses c h (ids_of empty_publish) (refusal_of_large conn h (old.channel c h)) p
-
-  row_new : (max l : ℕ) (ch : Channel) → channels_up_to max l ≡ Some ch → ch.consumers ≡ []
-  row_new max l ch e = by (nat_le 1 l && nat_le l max) e
-    where
-      by : (v : Bool) → (if v then Some new_channel else None) ≡ Some ch → ch.consumers ≡ []
-      by true e = ap (λ (z : Channel). z.consumers) (sym (same_Some new_channel ch e))
-      by false e = absurd (false≢true (ap is_some e))
 
   came : (x : Event) → e ≡ x → Acts t old x sends notes new → AllCame
   came (Open c) is p = same p.left.channels

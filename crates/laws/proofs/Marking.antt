@@ -60,10 +60,6 @@ added_tells ps queue exchange q x fits small = record {
 
 -- ---- headers
 
--- how long a header is, with and without its table of headers
-abbrev table_length : Option Text → ℕ
-table_length o = length (value_of (table_of o))
-
 pub header_splits : (size : ℕ) (p : Properties) → length (header_bytes size p) ≡ length (header_bytes size (record p { headers = None })) + length (value_of (table_of p.headers))
 header_splits size p = grind (arith, common_steps, length-append)
 

@@ -42,7 +42,7 @@ use Rattle.laws.proofs.Tags.{next_is_free}
 -- ---- tags of the server
 
 -- a tag of the server is short
-server_short : (n : ℕ) → n < 18446744073709551615 → length (server_tag n) < 256
+pub server_short : (n : ℕ) → n < 18446744073709551615 → length (server_tag n) < 256
 server_short n lt =
     let digits = length-decimal-le 20 n (omega arith) (omega (arith, lt)) (omega (arith, lt)) in
     let all = length-append (codes "amq.ctag-") (decimal n) in

@@ -6,7 +6,7 @@ use Rattle.model.specs.Phases.{is_running}
 use Rattle.model.specs.Run.{Happening, Run}
 use Rattle.model.specs.Naming.{AreNamed}
 use Rattle.model.specs.Arrivals.{World, Waits, IsSaid}
-use Rattle.laws.specs.Consumers.{IsNamed, WorldsStayNamed, PlaysStayNamed}
+use Rattle.laws.specs.Consumers.{IsWorldNamed, WorldsStayNamed, PlaysStayNamed}
 use Rattle.laws.proofs.View.{connection_of, goes}
 use Rattle.laws.proofs.Plays.{IsTold, Told, told_turns, told_taken, told_opens, told_loses, told_pumps, told_plays}
 use Rattle.laws.proofs.Named.{onward, moved, stay_named}
@@ -23,10 +23,10 @@ run_named f (h ∷ hs) old new told (e, s, r) a =
     let here : AreNamed h.config.topology h.before.broker = subst (λ (g : Config). AreNamed g.topology h.before.broker) (sym told.0.under) (subst (λ (z : State). AreNamed f.topology z.broker) (sym e) a) in
     run_named f hs h.after new told.1 r (subst (λ (g : Config). AreNamed g.topology h.after.broker) told.0.under (step_named h told.0.said s here))
 
-told_named : (old new : World) (hs : List Happening) → Told old hs new → IsNamed old → IsNamed new
+told_named : (old new : World) (hs : List Happening) → Told old hs new → IsWorldNamed old → IsWorldNamed new
 told_named old new hs t a = subst (λ (f : Config). AreNamed f.topology new.state.broker) (sym t.config) (run_named old.config hs old.state new.state t.each t.run a)
 
-waits_named : (old new : World) (c : ℕ) → IsNamed old → Waits old c new → IsNamed new
+waits_named : (old new : World) (c : ℕ) → IsWorldNamed old → Waits old c new → IsWorldNamed new
 waits_named old new c a w = subst (λ (f : Config). AreNamed f.topology new.state.broker) (sym w.config) (subst (λ (z : State). AreNamed old.config.topology z.broker) (sym w.state) a)
 
 pub worlds_named : WorldsStayNamed

@@ -12,7 +12,7 @@ use Rattle.model.specs.Guarantee.{Covers}
 use Rattle.model.specs.State.{Config, State, Step}
 use Rattle.model.specs.Arrivals.{IsSaid}
 use Rattle.model.specs.Run.{Happening, Run, AreCounted, has_number, notes_of}
-use Rattle.model.specs.Headline.{IsSound, IsNoted, WasSentTo, IsAllowed, AreAllowed, AreAllowedIn, IsCauseAt, HasCause, HaveCauses, IsPublishedAt, HasOrigin, HaveOrigins, KeepsEvents}
+use Rattle.model.specs.Headline.{IsSound, IsNoted, WasSentTo, IsAllowed, AreAllowed, AreAllowedIn, IsCauseAt, HasCause, HaveCauses, IsPublishedAt, HasOrigin, HaveOrigins, DieOnce, is_dead_into, KeepsEvents}
 use Rattle.model.specs.declared.messages.Entry.{Entry}
 use Rattle.model.specs.declared.notes.Note.{Note}
 use Rattle.model.specs.declared.notes.Note.TheVariants.{Published, Entered, Left}
@@ -25,7 +25,7 @@ use Rattle.laws.proofs.Entering.{picked}
 use Rattle.laws.proofs.Safe.{come_here}
 use Rattle.laws.proofs.Traced.{Rooted, before, now, rooted, exchange_of, key_of, step_came, step_traced}
 use Rattle.laws.proofs.Leaving.{OfLeft}
-use Rattle.laws.proofs.Counts.{all_each, all_in, in-append, count-cons, count-cons_yes}
+use Rattle.laws.proofs.Counts.{all_each, all_in, in-append, count-cons, count-cons_yes, count_none}
 use Rattle.laws.proofs.View.{Publishes, Seen, CountsNone, seen_at, quiet_notes}
 use Rattle.laws.proofs.Balance.{number, confirm, first_note, entry_part, answer_part, noted, others_all, run_stays, counted_at, stands_counted}
 use Rattle.laws.proofs.Once.{is_of_publish, AreOfOthers, Placed, places, key_is_short, run_of_others, run_entered_once}
@@ -231,6 +231,20 @@ pub run_origins : (hs : List Happening) (old new : State) → Run old hs new →
 run_origins [] old new r = tt
 run_origins (h ∷ hs) old new (e, s, r) = (step_origins h (seen_at h s), run_origins hs h.after new r)
 
+-- ---- dead letters
+
+-- what a publish enters is no dead letter
+step_letters : (h : Happening) → IsSound h.config → Seen h.config.topology h.before.broker h.after.broker h.event h.sends h.notes → DieOnce h
+step_letters h sound (inl q) n r = q.letters sound.wf.queues_apart n r
+step_letters h sound (inr p) n r =
+    let none = ap (count_by (is_dead_into n r)) (noted p) ∙ count_none (is_dead_into n r) (first_note p ∷ _) (refl, others_all p _ (λ s. refl) (λ s i. refl) refl (λ a. refl)) in
+    omega (arith, none)
+
+-- In every run no message that was rejected came to a queue as two dead letters.
+pub run_letters : (hs : List Happening) (old new : State) → AreSound hs → Run old hs new → AllByRecursion DieOnce hs
+run_letters [] old new sound r = tt
+run_letters (h ∷ hs) old new sound (e, s, r) = (step_letters h sound.0 (seen_at h s), run_letters hs h.after new sound.1 r)
+
 -- ---- all of it
 
 sound_each : (f : Config) (hs : List Happening) → IsSound f → AreUnder f hs → AreSound hs
@@ -246,4 +260,5 @@ run_keeps f hs old new sound under said begun r = record {
   stays = run_stays hs old new r;
   causes = run_causes hs old new r;
   come = run_origins hs old new r;
+  once = run_letters hs old new (sound_each f hs sound under) r;
 }

@@ -1,14 +1,12 @@
 -- A publish that was confirmed by ack entered each queue of its route exactly once.
 use Rattle.std.proofs.Common.{◌≡◌, ℕ, ◌+◌, ◌<◌, ◌≤◌, ◌⊎◌, List, [], ◌∷◌, ◌++◌, Bool, true, false, cond, eqb, length, refl, sym, ap, ◌∙◌, subst, arith, append_assoc, Option, Some, None, inl, inr}
 use Rattle.std.specs.Prelude.{◌==◌, count_by, ◌&&◌, ◌||◌, if◌then◌else◌, filter_map}
-use Rattle.std.specs.Str.{bytes_eq}
 use Rattle.std.specs.List.{list_any, AllByRecursion, cons_option}
-use Rattle.std.proofs.lemmas.Slice.Eq.{bytes_eq-Decides}
 use Rattle.std.proofs.lemmas.Bool.{eq-eqb, ne_eqb, or_parts}
 use Rattle.std.proofs.lemmas.List.Folds.{list_any-append}
 use Rattle.model.specs.Words.{Text}
-use Rattle.model.specs.Topology.{Topology, queue_names, IsIn, AreApart, IsThere, IsWellFormed}
-use Rattle.model.specs.Routing.{Picks, none, take, pass, of_key, Routes, Edge, bound, default}
+use Rattle.model.specs.Topology.{Topology, queue_names, IsIn, IsThere, IsWellFormed}
+use Rattle.model.specs.Routing.{of_key, Routes, Edge, bound, default}
 use Rattle.model.specs.Guarantee.{Guarantee, Covers, Keeps, Holds}
 use Rattle.model.specs.Grammar.{IsMethod}
 use Rattle.model.specs.Broker.{Broker, is_full}
@@ -29,7 +27,8 @@ use Rattle.model.specs.declared.notes.Note.{Note}
 use Rattle.model.specs.declared.notes.Note.TheVariants.{Published, Entered}
 use Rattle.model.specs.declared.notes.Way.TheVariants as way
 use Rattle.laws.specs.Promises.{AreSound, AreSaid}
-use Rattle.laws.proofs.Counts.{count-append, count-cons, count-cons_yes, count-cons_no, count_none, any_none, filter_map_none, all-append, all_each, in_from_contains, in-map}
+use Rattle.laws.proofs.Counts.{count-append, count-cons, count-cons_no, count_none, any_none, filter_map_none, all-append, all_each, in_from_contains, in-map}
+use Rattle.laws.proofs.Targets.{same_as, count_target}
 use Rattle.laws.proofs.View.{Publishes, Seen, seen_at, CountsNone, quiet_notes}
 use Rattle.laws.proofs.Balance.{number, content, confirm, some_full, is_returned, first_note, entry_part, answer_part, noted, returned_all, entry_all, answers_all, others_all}
 
@@ -133,35 +132,7 @@ acked_by_answer p =
     ∙ list_any-append (is_ack_of n) returned confirms
     ∙ ap (λ b. b || list_any (is_ack_of n) confirms) (any_none (is_ack_of n) returned (returned_all _ n (is_returned p) refl))
 
--- ---- targets
-
-abbrev same_as : Text → Text → Bool
-same_as q r = bytes_eq r q
-
-same_yes : (q r : Text) → q ≡ r → same_as q r ≡ true
-same_yes q r e = (bytes_eq-Decides r q).1 (sym e)
-
-same_no : (q r : Text) → (q ≡ r → ⊥) → same_as q r ≡ false
-same_no q r ne = go (same_as q r) refl
-  where
-    go : (b : Bool) → same_as q r ≡ b → b ≡ false
-    go true e = absurd (ne (sym ((bytes_eq-Decides r q).0 e)))
-    go false e = refl
-
-count_absent : {P : Text → Type 0} {xs ys : List Text} (q : Text) → Picks P xs ys → (IsIn q xs → ⊥) → count_by (same_as q) ys ≡ 0
-count_absent q none out = refl
-count_absent q (take {x = x} {ys = ys} p r) out = count-cons_no (same_as q) x ys (same_no q x (λ e. out (inl e))) ∙ count_absent q r (λ i. out (inr i))
-count_absent q (pass np r) out = count_absent q r (λ i. out (inr i))
-
--- names are apart, and so a picked one is picked once
-count_target : {P : Text → Type 0} {xs ys : List Text} (q : Text) → Picks P xs ys → AreApart xs → IsIn q xs → P q → count_by (same_as q) ys ≡ 1
-count_target q none apart i p = absurd i
-count_target q (take {x = x} {xs = xs} {ys = ys} px r) apart (inl e) p =
-    count-cons_yes (same_as q) x ys (same_yes q x e) ∙ ap (λ n. 1 + n) (count_absent q r (λ i. apart.0 (subst (λ (z : Text). IsIn z xs) e i)))
-count_target q (take {x = x} {xs = xs} {ys = ys} px r) apart (inr i) p =
-    count-cons_no (same_as q) x ys (same_no q x (λ e. apart.0 (subst (λ (z : Text). IsIn z xs) e i))) ∙ count_target q r apart.1 i p
-count_target {P} q (pass np r) apart (inl e) p = absurd (np (subst P e p))
-count_target q (pass np r) apart (inr i) p = count_target q r apart.1 i p
+-- ---- routes
 
 -- the queue of a route is there
 routed_is_there : (t : Topology) (x key q : Text) → IsWellFormed t → Routes t x key q → IsIn q (queue_names t.queues)

@@ -1,7 +1,6 @@
 -- The worked examples.
-use Rattle.std.proofs.Common.{◌≡◌, ℕ, suc, ◌+◌, ◌-◌, Bool, true, false, List, [], ◌∷◌, ◌++◌, refl, sym, ap, ◌∙◌, arith, get_or, drop, lit≤, inl, inr, length}
+use Rattle.std.proofs.Common.{◌≡◌, ◌≤◌, ℕ, suc, ◌+◌, ◌-◌, Bool, true, false, List, [], ◌∷◌, ◌++◌, refl, sym, ap, ◌∙◌, arith, get_or, drop, lit≤, inl, inr, length}
 use Rattle.std.specs.Prelude.{codes, decimal, if◌then◌else◌}
-use Rattle.std.specs.List.{AllByRecursion}
 use Rattle.std.specs.Str.{bytes_eq}
 use Rattle.std.proofs.lemmas.Bool.{false≢true}
 use Rattle.std.proofs.lemmas.Fmt.{decimal_digit}
@@ -15,7 +14,7 @@ use Rattle.model.specs.Consuming.{is_in_use, server_tag, first_free}
 use Rattle.model.specs.Broker.{Consumer, Broker}
 use Rattle.model.specs.State.{State}
 use Rattle.model.specs.Run.{Stays}
-use Rattle.model.specs.Headline.{Ack, acks_in, HasAcksOf, IsReading, EnteredOnce, AreAllowed, HaveOrigins, DiesAt, ack_for}
+use Rattle.model.specs.Headline.{Ack, acks_in, HasAcksOf, IsReading, EnteredOnce, AreAllowed, HaveOrigins, DieOnce, DiesAt, ack_for}
 use Rattle.model.specs.declared.notes.Note.{Note}
 use Rattle.model.specs.declared.notes.Note.TheVariants.{Entered, Left}
 use Rattle.model.specs.declared.notes.Way.TheVariants.{Publish, Dead}
@@ -138,6 +137,10 @@ none_stood d = nowhere (bytes_eq d.queue (codes "audit")) d.stood
 none_left : DiesAt (event_of_notes [] (with_entries (first_entry ∷ [])) (Entered 1 (codes "bin") Dead ∷ []) (with_entries (first_entry ∷ []))) 1 → ⊥
 none_left d = elim d.left [ inl is ↦ cc | inr i ↦ i ]
 
+-- one was rejected, and two came
+two_of_one : DieOnce (event_of_notes [] (with_entries (first_entry ∷ [])) (Left 1 (codes "audit") Rejected ∷ Entered 1 (codes "bin") Dead ∷ Entered 1 (codes "bin") Dead ∷ []) (with_entries [])) → ⊥
+two_of_one once = let most : 2 ≤ 1 = once 1 (codes "bin") in omega (arith, most)
+
 pub headline_refuses : HeadlineRefuses
 headline_refuses = record {
   output_without_ack = no_ack_there;
@@ -152,6 +155,7 @@ headline_refuses = record {
   entered_by_no_publish = no_publish_there;
   dead_letter_of_none = λ has. none_stood has.1.0;
   dead_letter_of_one_that_stays = λ has. none_left has.0;
+  two_letters_of_one = two_of_one;
 }
 
 -- ---- consumers

@@ -5,14 +5,14 @@ use Rattle.std.proofs.lemmas.Bool.{false≢true}
 use Rattle.model.specs.Words.{Text}
 use Rattle.model.specs.Frames.{Frame, frame_bytes, Begins, IsBroken}
 use Rattle.model.specs.Headers.{Header}
-use Rattle.model.specs.Commands.{Pending, Nothing, Wants_header, Wants_body, Drops, Taken, Goes_on, Makes, Breaks, Stream, TakesFirst, Takes, TakesOn, TakesPayload, TakesSized, Yields, first, now, later, Ends, early, short, broken, faulty, beyond, Commands, heard, with_max, awaited, is_on_wrong_channel, is_too_large, taken_body, taken_dropped, taken_header, taken_heartbeat, taken_method}
+use Rattle.model.specs.Commands.{Pending, Nothing, Wants_header, Wants_body, Drops, Taken, Goes_on, Makes, Breaks, Stream, TakesFirst, Takes, TakesOn, TakesPayload, TakesSized, Yields, first, now, later, Ends, early, short, broken, faulty, beyond, Commands, heard, with_max, awaited, is_on_wrong_channel, is_too_large, taken_body, taken_dropped, taken_header, taken_heartbeat, taken_method, GoesOn, stays, goes}
 use Rattle.model.specs.declared.contents.Fields.{Fields as Properties}
 use Rattle.model.specs.declared.methods.Publish.{Publish}
 use Rattle.model.specs.declared.methods.Method.{Method}
 use Rattle.model.specs.declared.methods.Method.TheVariants.{BasicPublish}
 use Rattle.model.specs.declared.events.Command.TheVariants.{Full, TooLarge}
 use Rattle.model.specs.declared.events.Command.{Command}
-use Rattle.laws.specs.Streams.{YieldsAll, Performed, YieldsTuned, is_head, ReadsHead, ReadsFrames, FirstBytesComeFirst}
+use Rattle.laws.specs.Streams.{YieldsAll, CommandUnder, YieldsTuned, is_head, ReadsHead, ReadsFrames, FirstBytesComeFirst}
 use Rattle.laws.proofs.Counts.{from_either}
 
 begins_more : (max : ℕ) (bytes rest more : List ℕ) (f : Frame) → Begins max bytes f rest → Begins max (bytes ++ more) f (rest ++ more)
@@ -42,6 +42,10 @@ yields_more more (first {s = s} {next = next} {bytes = bytes} t) = first (first_
 yields_more more (now {s = s} {next = next} {c = c} t) = now (takes_more s next (Makes c) more t)
 yields_more more (later {s = s} {mid = mid} {p = p} t y) = later (takes_more s mid (Goes_on p) more t) (yields_more more y)
 
+pub goes_more : (s next : Stream) (more : List ℕ) → GoesOn s next → GoesOn (heard s more) (heard next more)
+goes_more s next more stays = stays
+goes_more s next more (goes {mid = mid} {p = p} t g) = goes (takes_more s mid (Goes_on p) more t) (goes_more mid next more g)
+
 broken_more : (max : ℕ) (bytes more : List ℕ) → IsBroken max bytes → IsBroken max (bytes ++ more)
 broken_more max bytes more b = record {
   long = let l = b.long in omega (arith, length-append bytes more);
@@ -63,7 +67,7 @@ pub cutting : (s last : Stream) (done rest : List Command) (more : List ℕ) (en
 cutting s last [] rest more end e c = subst (λ (z : Stream). Commands (heard z more) rest end) e c
 cutting s last (d ∷ done) rest more end (next, y, r) c = (heard next more, yields_more more y, cutting next last done rest more end r c)
 
-pub tuning : (s last : Stream) (done : List Performed) (more : List ℕ) → YieldsTuned s done last → YieldsTuned (heard s more) done (heard last more)
+pub tuning : (s last : Stream) (done : List CommandUnder) (more : List ℕ) → YieldsTuned s done last → YieldsTuned (heard s more) done (heard last more)
 tuning s last [] more e = ap (λ (z : Stream). heard z more) e
 tuning s last (d ∷ done) more (next, y, r) = (heard next more, yields_more more y, tuning (with_max d.frame_max next) last done more r)
 

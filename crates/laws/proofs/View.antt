@@ -1,21 +1,21 @@
 -- The ways in which a step can go. Here alone all cases of `Step` are walked over: a new command is a new line here.
-use Rattle.std.proofs.Common.{◌≡◌, ℕ, ◌+◌, append-nil, filter, arith, ◌⊎◌, List, [], ◌∷◌, ◌++◌, Bool, true, false, cond, refl, sym, ap, subst, ◌∙◌, map, Option, Some, None, inl, inr}
+use Rattle.std.proofs.Common.{◌≡◌, ℕ, ◌+◌, ◌≤◌, append-nil, filter, arith, ◌⊎◌, List, [], ◌∷◌, ◌++◌, Bool, true, false, cond, refl, sym, ap, subst, ◌∙◌, map, Option, Some, None, inl, inr}
 use Rattle.std.specs.Prelude.{codes, count_by, ◌==◌, if◌then◌else◌}
 use Rattle.std.specs.Str.{bytes_eq}
 use Rattle.std.specs.List.{AllByRecursion}
 use Rattle.std.proofs.lemmas.Bool.{eqb-true, false≢true}
 use Rattle.model.specs.Words.{Text}
-use Rattle.model.specs.Topology.{Topology, IsIn}
+use Rattle.model.specs.Topology.{Topology, IsIn, AreApart, queue_names}
 use Rattle.model.specs.Broker.{Outstanding, Channel, Connection, Broker, is_ready, with_one}
 use Rattle.model.specs.Step.{Refusal, Ignored, Of_channel, Of_connection, Does, Makes, Gets, Settles, tag_of, get_ok, purge_sends, declare_sends, IsPublish, Performs, Refuses, Decides, OnConnection, OnLarge, Acts, empty_publish, refusal_of_large, with_channel, with_freed, reply, content_or_none, returned_sends, confirm_sends, is_some_full, next_of, answer_of, refusal, channel_or_new, opened, paused, consume_sends, cancel_sends, deliver}
 use Rattle.model.specs.Entries.{freed, by_channel, by_connection, is_held_as}
 use Rattle.model.specs.Grammar.{Ids, ids_of}
 use Rattle.model.specs.Phases.{Session, Move, running_session, no_session, is_running, after_sends, stays_in, to_phase, while_closing, faulted}
-use Rattle.model.specs.Opening.{IsAnswered, Opens, new_session, first_move, start, opening_move, on_zero, or_closed, at_start, at_tune, at_open, answers_with, closes_with, is_taken, tuned, tune, open_ok}
+use Rattle.model.specs.Opening.{IsAnswered, MovesInOpening, new_session, first_move, start, opening_move, on_zero, or_closed, at_start, at_tune, at_open, answers_with, closes_with, is_taken, tuned, tune, open_ok}
 use Rattle.model.specs.State.{Config, State, Moves, OfFirst, OfCommand, OfLarge, OfFault, Step}
 use Rattle.model.specs.declared.messages.User.{User}
 use Rattle.model.specs.Run.{Happening, Balances, has_number, is_entered, is_left}
-use Rattle.model.specs.Headline.{WasGiven, IsCauseIn, IsCauseAt}
+use Rattle.model.specs.Headline.{WasGiven, IsCauseIn, IsCauseAt, is_dead_into, is_rejected}
 use Rattle.model.specs.Settling.{takes}
 use Rattle.model.specs.Deliveries.{Settlement, Leaves, Rejects, Returns, of_rejected, AreSettled, first_ready, ready_in, holder_of, after_delivery, delivery_notes, after_purge, purge_notes}
 use Rattle.model.specs.Consuming.{CanDeliver}
@@ -47,6 +47,7 @@ use Rattle.model.specs.Arrivals.{is_ended}
 use Rattle.laws.proofs.Counts.{count-map, count_none, all_each, all-append}
 use Rattle.laws.specs.Openings.{is_header, is_first}
 use Rattle.laws.proofs.Speaking.{IsCommandSend, AreCommandSends, Spoken, spoken_commands, spoken_on, spoken_still}
+use Rattle.laws.proofs.Letters.{no_letters, letters_once}
 use Rattle.laws.proofs.Dying.{HasDied, IsQuiet, leaving_quiet, leaving_enters, rejected_quiet, rejected_balances, rejected_causes}
 use Rattle.laws.proofs.Leaving.{is_leaving, OfLeft, at_queue, count_change, freed_number, taken_balances, left_balances, are_leaving, left_causes, returned_counts, settled_are, purge_balances, purge_leaving, purge_causes}
 
@@ -133,6 +134,7 @@ pub record CountsNone (t : Topology) (old new : Broker) (e : Event) (sends : Lis
   pub noted : AllByRecursion (IsQuiet t old.queue notes) notes
   pub balances : Balances old notes new
   pub caused : AllByRecursion (OfLeft (IsCauseAt old e)) notes
+  pub letters : AreApart (queue_names t.queues) → (n : ℕ) (q : Text) → count_by (is_dead_into n q) notes ≤ count_by (is_rejected n) notes
   pub few : IsAnswerAtMost sends
 
 -- of what is true of each note of a leaving, of a refusal, and of a dead letter's entering, each of these notes is
@@ -246,6 +248,7 @@ noting t old new made e c after sends wanted notes left d few alone same leaving
     noted = all_each _ _ (leaving_quiet t old.queue notes) notes all_leaving;
     balances = leaving_balances old new notes all_leaving (λ n q. kept n q ∙ sym (ap (λ (ns : List Note). count_by (is_left n q) ns + count_by (has_number n) (new.queue q)) d.noted ∙ ap (λ (es : List Entry). count_by (is_left n q) left + count_by (has_number n) es) (d.left.queues q)));
     caused = subst (AllByRecursion (OfLeft (IsCauseAt old e))) (sym d.noted) caused;
+    letters = λ apart n q. let none = no_letters n q notes all_leaving in omega (arith, none);
     few = reply_answers sends (subst IsReplyAtMost (sym d.sent) few);
   };
   few = subst IsReplyAtMost (sym d.sent) few;
@@ -339,6 +342,7 @@ module _ (t : Topology) (old new : Broker) (sends : List Send) (notes : List Not
       noted = quiet_ones how p.queues;
       balances = balances how p.queues;
       caused = caused how (λ why is. is) p.queues;
+      letters = λ apart. letters how apart p.queues;
       few = reply_answers sends (subst IsReplyAtMost (sym p.sent) few);
     };
     few = subst IsReplyAtMost (sym p.sent) few;
@@ -358,6 +362,11 @@ module _ (t : Topology) (old new : Broker) (sends : List Send) (notes : List Not
           let entered : count_by (is_entered n q) notes ≡ 0 = ap (count_by (is_entered n q)) a.0 in
           let same = returned_counts c h p.gone old.queue new.queue a.1 n q in
           omega (arith, left, entered, same)
+
+      letters : (s : Settlement) → AreApart (queue_names t.queues) → AreSettled t s c h p.gone old.queue notes new.queue → (n : ℕ) (q : Text) → count_by (is_dead_into n q) notes ≤ count_by (is_rejected n) notes
+      letters (Leaves why) apart a n q = let none = no_letters n q notes (are_leaving why c h p.gone old.queue notes new.queue a) in omega (arith, none)
+      letters Rejects apart a n q = letters_once t c h p.gone old.queue notes new.queue apart a n q
+      letters Returns apart a n q = let none : count_by (is_dead_into n q) notes ≡ 0 = ap (count_by (is_dead_into n q)) a.0 in omega (arith, none)
 
       each : (why : Cause) → IsBy how why → (o : Outstanding) (entry : Entry) → IsIn o p.gone → IsIn entry (old.queue o.queue) → is_held_as (holder_of c h o) entry ≡ true → IsCauseAt old e entry.message.number o.queue why
       each why is o entry i there held = let at = settled_are tag_of tag multiple ch.outstanding p.gone p.settled_are o i in cause why is o entry at.0 at.1 there held
@@ -596,7 +605,7 @@ opening_replies c is_user s phase.Tune h m = zero_replies c s h m (at_tune c s m
 opening_replies c is_user s phase.Open h m = zero_replies c s h m (at_open c s m) (open_replies c s m)
 opening_replies c is_user s _ h m = stays_replies s
 
-opens_replies : (users : List User) (c : ℕ) (s : Session) (h : ℕ) (m : Method) (move : Move) → Opens users c s h m move → Replies s move
+opens_replies : (users : List User) (c : ℕ) (s : Session) (h : ℕ) (m : Method) (move : Move) → MovesInOpening users c s h m move → Replies s move
 opens_replies users c s h m move o = subst (Replies s) (sym o.moved) (opening_replies c o.is_user s s.phase h m)
 
 answer_replies : (users : List User) (c : ℕ) (s : Session) (p : Phase) (h : ℕ) (m : Method) (move : Move) → s.phase ≡ p → IsAnswered users c s p h m move → Replies s move
@@ -688,6 +697,7 @@ module _ (f : Config) (old new : State) (sends : List Send) (notes : List Note) 
         let same : count_by (has_number n) (new.broker.queue q) ≡ count_by (has_number n) (old.broker.queue q) = ap (count_by (has_number n)) (a.moves.broker.queues q) ∙ moved n q (is_running a.move.next.phase) in
         omega (arith, left, entered, same);
     caused = subst (AllByRecursion (OfLeft (IsCauseAt old.broker e))) (sym a.moves.noted) tt;
+    letters = λ apart n q. let none : count_by (is_dead_into n q) notes ≡ 0 = ap (count_by (is_dead_into n q)) a.moves.noted in omega (arith, none);
     few = subst IsAnswerAtMost (sym a.moves.sent) a.few;
   }
     where

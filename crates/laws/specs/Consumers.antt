@@ -31,23 +31,23 @@ pub record ConsumersStayNamed : Type 0 where
   pub fresh : (t : Topology) (ch : Channel) → AreNamedOn t ch → count_to taker_of ch.next_number ch.outstanding ≡ 0
 
 -- in this world the consumers are named as they should be under what is in force
-abbrev pub IsNamed : World → Type 0
-IsNamed w = AreNamed w.config.topology w.state.broker
+abbrev pub IsWorldNamed : World → Type 0
+IsWorldNamed w = AreNamed w.config.topology w.state.broker
 
 -- So it is where no connection is, and each single thing that is done leaves it so.
 pub record WorldsStayNamed : Type 0 where
-  pub new_worlds : (f : Config) → IsNamed (new_world f)
-  pub turns : (old new : World) (c : ℕ) (hs : List Happening) → IsNamed old → Turns old c hs new → IsNamed new
-  pub waits : (old new : World) (c : ℕ) → IsNamed old → Waits old c new → IsNamed new
-  pub hears : (w : World) (c : ℕ) (bytes : List ℕ) → IsNamed w → IsNamed (with_heard w c bytes)
-  pub takes : (old new : World) (c n : ℕ) (hs : List Happening) → IsNamed old → Takes_off old c n hs new → IsNamed new
-  pub opens : (old new : World) (e : Event) (s : Stream) (hs : List Happening) → IsSaid e → IsNamed old → Opens old e s hs new → IsNamed new
-  pub loses : (old new : World) (c : ℕ) (hs : List Happening) → IsNamed old → Loses old c hs new → IsNamed new
-  pub pumps : (old new : World) (hs : List Happening) → IsNamed old → Pumps old hs new → IsNamed new
+  pub new_worlds : (f : Config) → IsWorldNamed (new_world f)
+  pub turns : (old new : World) (c : ℕ) (hs : List Happening) → IsWorldNamed old → Turns old c hs new → IsWorldNamed new
+  pub waits : (old new : World) (c : ℕ) → IsWorldNamed old → Waits old c new → IsWorldNamed new
+  pub hears : (w : World) (c : ℕ) (bytes : List ℕ) → IsWorldNamed w → IsWorldNamed (with_heard w c bytes)
+  pub takes : (old new : World) (c n : ℕ) (hs : List Happening) → IsWorldNamed old → Takes_off old c n hs new → IsWorldNamed new
+  pub opens : (old new : World) (e : Event) (s : Stream) (hs : List Happening) → IsSaid e → IsWorldNamed old → Opens old e s hs new → IsWorldNamed new
+  pub loses : (old new : World) (c : ℕ) (hs : List Happening) → IsWorldNamed old → Loses old c hs new → IsWorldNamed new
+  pub pumps : (old new : World) (hs : List Happening) → IsWorldNamed old → Pumps old hs new → IsWorldNamed new
 
 -- And so it is after any arrivals.
 abbrev pub PlaysStayNamed : Type 0
-PlaysStayNamed = (old new : World) (arrivals : List Arrival) (hs : List Happening) → IsNamed old → Plays old arrivals hs new → IsNamed new
+PlaysStayNamed = (old new : World) (arrivals : List Arrival) (hs : List Happening) → IsWorldNamed old → Plays old arrivals hs new → IsWorldNamed new
 
 -- ---- consumers that come
 

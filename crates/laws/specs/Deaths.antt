@@ -28,39 +28,39 @@ use Rattle.laws.specs.Rows.{one_queue}
 -- ---- two topologies
 
 -- an exchange of this name and kind, without an alternate exchange
-abbrev pub exchange_of : Text → ExchangeKind → Exchange
-exchange_of name kind = record { name = name; kind = kind; internal = false; alternate = None }
+abbrev pub one_exchange : Text → ExchangeKind → Exchange
+one_exchange name kind = record { name = name; kind = kind; internal = false; alternate = None }
 
 -- a queue of this name, whose messages die to this exchange under this key
-abbrev pub queue_of : Text → Option Text → Option Text → DeclaredQueue
-queue_of name exchange key = record { name = name; limit = None; dead_letter_exchange = exchange; dead_letter_key = key }
+abbrev pub queue_with : Text → Option Text → Option Text → DeclaredQueue
+queue_with name exchange key = record { name = name; limit = None; dead_letter_exchange = exchange; dead_letter_key = key }
 
 -- a binding of the exchange of this name under this key to the queue of this name
-abbrev pub binding_of : Text → Text → Text → Binding
-binding_of source key queue = record { source = source; to = place.Queue queue; key = key }
+abbrev pub binding_to_queue : Text → Text → Text → Binding
+binding_to_queue source key queue = record { source = source; to = place.Queue queue; key = key }
 
 -- Y leads to q1, whose messages die to D under the key `pay`; D leads from there to billing, whose messages die to E under their own key; and E leads to q3
 abbrev pub deaths : Topology
 deaths = record {
-  exchanges = exchange_of (codes "Y") Fanout ∷ exchange_of (codes "D") Direct ∷ exchange_of (codes "E") Fanout ∷ [];
-  queues = queue_of (codes "q1") (Some (codes "D")) (Some (codes "pay")) ∷ queue_of (codes "billing") (Some (codes "E")) None ∷ queue_of (codes "q3") None None ∷ [];
-  bindings = binding_of (codes "Y") [] (codes "q1") ∷ binding_of (codes "D") (codes "pay") (codes "billing") ∷ binding_of (codes "E") [] (codes "q3") ∷ [];
+  exchanges = one_exchange (codes "Y") Fanout ∷ one_exchange (codes "D") Direct ∷ one_exchange (codes "E") Fanout ∷ [];
+  queues = queue_with (codes "q1") (Some (codes "D")) (Some (codes "pay")) ∷ queue_with (codes "billing") (Some (codes "E")) None ∷ queue_with (codes "q3") None None ∷ [];
+  bindings = binding_to_queue (codes "Y") [] (codes "q1") ∷ binding_to_queue (codes "D") (codes "pay") (codes "billing") ∷ binding_to_queue (codes "E") [] (codes "q3") ∷ [];
 }
 
 -- X leads to q under keys whose first word is `a`, and q back to X; to q2 nothing leads
 abbrev pub circle : Topology
 circle = record {
-  exchanges = exchange_of (codes "X") Topic ∷ [];
-  queues = queue_of (codes "q") (Some (codes "X")) None ∷ queue_of (codes "q2") None None ∷ [];
-  bindings = binding_of (codes "X") (codes "a.#") (codes "q") ∷ [];
+  exchanges = one_exchange (codes "X") Topic ∷ [];
+  queues = queue_with (codes "q") (Some (codes "X")) None ∷ queue_with (codes "q2") None None ∷ [];
+  bindings = binding_to_queue (codes "X") (codes "a.#") (codes "q") ∷ [];
 }
 
 -- D leads to full, which takes nothing, and to billing; and the messages of q1 die to D
-abbrev pub crowded : Topology
-crowded = record {
-  exchanges = exchange_of (codes "D") Fanout ∷ [];
-  queues = queue_of (codes "q1") (Some (codes "D")) None ∷ record (queue_of (codes "full") None None) { limit = Some 0 } ∷ queue_of (codes "billing") None None ∷ [];
-  bindings = binding_of (codes "D") [] (codes "billing") ∷ binding_of (codes "D") [] (codes "full") ∷ [];
+abbrev pub full_topology : Topology
+full_topology = record {
+  exchanges = one_exchange (codes "D") Fanout ∷ [];
+  queues = queue_with (codes "q1") (Some (codes "D")) None ∷ record (queue_with (codes "full") None None) { limit = Some 0 } ∷ queue_with (codes "billing") None None ∷ [];
+  bindings = binding_to_queue (codes "D") [] (codes "billing") ∷ binding_to_queue (codes "D") [] (codes "full") ∷ [];
 }
 
 -- ---- messages
@@ -112,7 +112,7 @@ pub record WorkedDeaths : Type 0 where
   pub header : header_bytes 2 (content_with in_q1).properties ≡ (0 ∷ 60 ∷ 0 ∷ 0 ∷ 0 ∷ 0 ∷ 0 ∷ 0 ∷ 0 ∷ 0 ∷ 0 ∷ 2 ∷ 32 ∷ 0 ∷ 0 ∷ 0 ∷ 0 ∷ 90 ∷ []) ++ first_death (codes "q1") (codes "Y")
   pub whole : length (header_bytes 2 (content_with in_q1).properties) ≡ 108
   -- a full queue refuses it, and another takes it, in the order of the file
-  pub refused : EndsIn crowded (codes "q1") (codes "billing") (first_publish (codes "Y") (codes "Y") (codes "a") None) (first_publish (codes "Y") (codes "D") (codes "a") in_q1) (Refused 1 (codes "full") ∷ Entered 1 (codes "billing") Dead ∷ [])
+  pub refused : EndsIn full_topology (codes "q1") (codes "billing") (first_publish (codes "Y") (codes "Y") (codes "a") None) (first_publish (codes "Y") (codes "D") (codes "a") in_q1) (Refused 1 (codes "full") ∷ Entered 1 (codes "billing") Dead ∷ [])
   -- where an exchange leads back, it enters its queue again, and the next time round nothing else changes
   pub round : DiesTo circle (codes "q") (codes "q") (first_publish (codes "X") (codes "X") (codes "a") None) (first_publish (codes "X") (codes "X") (codes "a") in_q)
   pub round_again : DiesTo circle (codes "q") (codes "q") (first_publish (codes "X") (codes "X") (codes "a") in_q) (first_publish (codes "X") (codes "X") (codes "a") in_q)

@@ -6,7 +6,7 @@ use Rattle.model.specs.Topology.{Topology}
 use Rattle.model.specs.Broker.{is_full}
 use Rattle.model.specs.Entering.{comes_to}
 use Rattle.model.specs.Message.{Message}
-use Rattle.model.specs.Phases.{after_sends}
+use Rattle.model.specs.Phases.{after_method, after_sends}
 use Rattle.model.specs.Spelling.{pieces_of}
 use Rattle.model.specs.declared.messages.Entry.{Entry}
 use Rattle.model.specs.declared.messages.Mark.TheVariants.{Ready}
@@ -54,15 +54,9 @@ abbrev pub tells_phase : Send → Bool
 tells_phase (Greeting c) = false
 tells_phase (Command c h m content) = is_telling m
 
--- the phase that a method tells: a close awaits close-ok, a close-ok ends the connection
-abbrev pub told_by : Method → Phase
-told_by (ConnectionClose m) = phase.Closing
-told_by ConnectionCloseOk = phase.Over
-told_by m = phase.Running
-
 -- the phase that the first such send tells, and Running where there is none
 abbrev pub phase_told : Option Send → Phase
-phase_told (Some (Command c h m content)) = told_by m
+phase_told (Some (Command c h m content)) = after_method m phase.Running
 phase_told (Some (Greeting c)) = phase.Running
 phase_told None = phase.Running
 

@@ -16,7 +16,7 @@ use Rattle.model.specs.Step.{channel_close, connection_close, select_sends, conf
 use Rattle.model.specs.Phases.{no_session}
 use Rattle.model.specs.State.{Config, State}
 use Rattle.model.specs.Run.{Happening, Stays, empty_broker}
-use Rattle.model.specs.Headline.{Acked as AckedPublish, HasAcksOf, EnteredOnce, AreAllowed, HaveCauses, HaveOrigins}
+use Rattle.model.specs.Headline.{Acked as AckedPublish, HasAcksOf, EnteredOnce, AreAllowed, HaveCauses, HaveOrigins, DieOnce}
 use Rattle.model.specs.declared.contents.Content.{Content}
 use Rattle.model.specs.declared.messages.Entry.{Entry}
 use Rattle.model.specs.declared.messages.Taker.TheVariants as taker
@@ -174,6 +174,8 @@ pub record HeadlineRefuses : Type 0 where
   pub dead_letter_of_none : HaveOrigins (event_of_notes [] (with_entries []) (Left 1 (codes "audit") Rejected ∷ Entered 1 (codes "bin") Dead ∷ []) (with_entries [])) → ⊥
   -- and one of a message that stays where it stood
   pub dead_letter_of_one_that_stays : HaveOrigins (event_of_notes [] (with_entries (first_entry ∷ [])) (Entered 1 (codes "bin") Dead ∷ []) (with_entries (first_entry ∷ []))) → ⊥
+  -- two dead letters of one message, in one queue
+  pub two_letters_of_one : DieOnce (event_of_notes [] (with_entries (first_entry ∷ [])) (Left 1 (codes "audit") Rejected ∷ Entered 1 (codes "bin") Dead ∷ Entered 1 (codes "bin") Dead ∷ []) (with_entries [])) → ⊥
 
 -- ---- consumers
 
@@ -222,8 +224,8 @@ abbrev pub audit_alone : Topology
 audit_alone = record { exchanges = []; queues = record { name = codes "audit"; limit = None; dead_letter_exchange = None; dead_letter_key = None } ∷ []; bindings = [] }
 
 -- a channel with so many consumers, under the tag `mine`
-abbrev pub crowded : ℕ → Channel
-crowded n = record new_channel { consumers = replicate n (consumer_under (codes "mine")) }
+abbrev pub full_channel : ℕ → Channel
+full_channel n = record new_channel { consumers = replicate n (consumer_under (codes "mine")) }
 
 -- a consume that asks to be the only one
 abbrev pub exclusive_consume : Consume
@@ -231,9 +233,9 @@ exclusive_consume = record (consume_of (codes "mine")) { exclusive = true }
 
 -- What stands against a consume, in the order in which it is looked for.
 pub record RefusedConsumes : Type 0 where
-  pub no_queue : refusal_of_consume (under []).topology (crowded 256) exclusive_consume ≡ Some (Of_channel 404)
-  pub exclusive : refusal_of_consume audit_alone (crowded 256) exclusive_consume ≡ Some (Of_connection 540)
-  pub in_use : refusal_of_consume audit_alone (crowded 256) (consume_of (codes "mine")) ≡ Some (Of_connection 530)
-  pub too_many : refusal_of_consume audit_alone (record (crowded 256) { next_number = greatest }) (consume_of (codes "other")) ≡ Some (Of_connection 506)
-  pub spent : refusal_of_consume audit_alone (record (crowded 255) { next_number = greatest }) (consume_of (codes "other")) ≡ Some (Of_connection 541)
-  pub none : refusal_of_consume audit_alone (crowded 255) (consume_of (codes "other")) ≡ None
+  pub no_queue : refusal_of_consume (under []).topology (full_channel 256) exclusive_consume ≡ Some (Of_channel 404)
+  pub exclusive : refusal_of_consume audit_alone (full_channel 256) exclusive_consume ≡ Some (Of_connection 540)
+  pub in_use : refusal_of_consume audit_alone (full_channel 256) (consume_of (codes "mine")) ≡ Some (Of_connection 530)
+  pub too_many : refusal_of_consume audit_alone (record (full_channel 256) { next_number = greatest }) (consume_of (codes "other")) ≡ Some (Of_connection 506)
+  pub spent : refusal_of_consume audit_alone (record (full_channel 255) { next_number = greatest }) (consume_of (codes "other")) ≡ Some (Of_connection 541)
+  pub none : refusal_of_consume audit_alone (full_channel 255) (consume_of (codes "other")) ≡ None

@@ -1,7 +1,7 @@
 -- What a stream says: over any pieces in which its bytes come, and before all frames.
 use Rattle.std.specs.Prelude.{◌≡◌, ◌<◌, ℕ, List, [], ◌∷◌, ◌++◌, length, Bool, true, false, Option, Some, None}
 use Rattle.model.specs.Words.{Text}
-use Rattle.model.specs.Commands.{Stream, TakesFirst, Yields, Ends, Commands, heard, with_max}
+use Rattle.model.specs.Commands.{Stream, TakesFirst, Yields, Ends, GoesOn, Commands, heard, with_max}
 use Rattle.model.specs.declared.events.Command.{Command}
 use Rattle.model.specs.declared.events.Command.TheVariants.{Head}
 
@@ -18,22 +18,26 @@ CuttingDoesNotMatter = (s last : Stream) (done rest : List Command) (more : List
     → YieldsAll s done last → Commands (heard last more) rest end → Commands (heard s more) (done ++ rest) end
 
 -- a command, and the greatest frame that is agreed on once it is performed
-pub record Performed : Type 0 where
+pub record CommandUnder : Type 0 where
   pub command : Command
   pub frame_max : ℕ
 
 -- these commands come first, one after another, each behind frames of the size that was agreed on before it, and this is still to come
-abbrev pub YieldsTuned : Stream → List Performed → Stream → Type 0
+abbrev pub YieldsTuned : Stream → List CommandUnder → Stream → Type 0
 YieldsTuned s [] last = last ≡ s
 YieldsTuned s (p ∷ ps) last = (next : Stream) × Yields s p.command next × YieldsTuned (with_max p.frame_max next) ps last
 
 -- What was yielded before more bytes came is yielded with these behind, whatever was agreed on meanwhile, and what was still to come goes on by them.
 abbrev pub TuningDoesNotMatter : Type 0
-TuningDoesNotMatter = (s last : Stream) (done : List Performed) (more : List ℕ) → YieldsTuned s done last → YieldsTuned (heard s more) done (heard last more)
+TuningDoesNotMatter = (s last : Stream) (done : List CommandUnder) (more : List ℕ) → YieldsTuned s done last → YieldsTuned (heard s more) done (heard last more)
 
 -- a fault of a stream stays, whatever bytes come behind it
 abbrev pub FaultsStay : Type 0
 FaultsStay = (s : Stream) (code : ℕ) (more : List ℕ) → Ends s (Some code) → Ends (heard s more) (Some code)
+
+-- frames that end no command are put together alike, whatever bytes come behind them
+abbrev pub GoingOnStays : Type 0
+GoingOnStays = (s next : Stream) (more : List ℕ) → GoesOn s next → GoesOn (heard s more) (heard next more)
 
 -- ---- the first eight bytes
 

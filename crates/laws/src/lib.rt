@@ -16,10 +16,10 @@ ghost use Rattle.laws.specs.OneStep.{EveryRunBalances, EveryRunCounts, EveryRunS
 ghost use Rattle.laws.specs.Forms.{BodiesAreCut, FirstTells, MessagesCome};
 ghost use Rattle.laws.specs.Openings.{OpeningsReadByPhase};
 ghost use Rattle.laws.specs.Order.{GivenAfterThoseAhead, GivenInOrder, HeldAreGiven};
-ghost use Rattle.laws.specs.Promises.{AckedEnterOnce, AcksAreAcked, CausesAreShown, ForbiddenAreNotEntered, ForbiddenAreNotEnteredAtEvents, OriginsAreShown, RunsKeepEvents};
+ghost use Rattle.laws.specs.Promises.{AckedEnterOnce, AcksAreAcked, CausesAreShown, ForbiddenAreNotEntered, ForbiddenAreNotEnteredAtEvents, LettersComeOnce, OriginsAreShown, RunsKeepEvents};
 ghost use Rattle.laws.specs.Rows.{WordsOfKeys, FirstInput, FirstOutput, BadEnd, TooLargeContent, HeadlineRefuses, FirstConsumer, RefusedConsumes};
 ghost use Rattle.laws.specs.Tracing.{MessagesStayTraced, TracedAreSafe};
-ghost use Rattle.laws.specs.Streams.{CuttingDoesNotMatter, FaultsStay, FirstBytesComeFirst, TuningDoesNotMatter};
+ghost use Rattle.laws.specs.Streams.{CuttingDoesNotMatter, FaultsStay, GoingOnStays, FirstBytesComeFirst, TuningDoesNotMatter};
 ghost use Rattle.model.specs.Guarantee.{Guarantee};
 ghost use Rattle.model.specs.State.{Config};
 ghost use Rattle.model.specs.Topology.{Topology};
@@ -80,6 +80,11 @@ pub fn what_enters_has_an_origin()
     ensures { OriginsAreShown }
 {}
 
+/// In every run no message that was rejected came to a queue as two dead letters.
+pub fn a_rejection_makes_one_letter()
+    ensures { LettersComeOnce }
+{}
+
 /// All of this at once: what happens keeps the promises.
 pub fn runs_keep_events()
     ensures { RunsKeepEvents }
@@ -98,6 +103,11 @@ pub fn tuning_does_not_matter()
 /// A fault of a stream stays, whatever bytes come behind it.
 pub fn faults_stay()
     ensures { FaultsStay }
+{}
+
+/// Frames that end no command are put together alike, whatever bytes come behind them.
+pub fn going_on_stays()
+    ensures { GoingOnStays }
 {}
 
 /// A connection that awaits its first eight bytes reads them before all else, and then, as one that awaits none, frames

@@ -2,7 +2,7 @@
 
 /// What a line asks, and what it wants as an answer.
 #[derive(Clone, Copy, Drop)]
-pub struct Parts<'a> {
+pub struct LineParts<'a> {
     /// The first word of the line.
     pub kind: &'a str,
     /// What stands between that word and the arrow.
@@ -12,10 +12,10 @@ pub struct Parts<'a> {
 }
 
 /// The parts of a line, unless it has no arrow. The last arrow counts.
-pub fn parts_of(line: &str) -> Option<Parts<'_>> {
+pub fn parts_of(line: &str) -> Option<LineParts<'_>> {
     let (question, wanted) = line.rsplit_once(" -> ")?;
     let (kind, asked) = question.split_once(' ').unwrap_or((question, ""));
-    Some(Parts {
+    Some(LineParts {
         kind,
         asked,
         wanted,

@@ -1,14 +1,14 @@
 //! Files of lines are answered, and the answers compared.
 
 use crate::counts::Count;
-use crate::parts::{Parts, is_silent, parts_of};
+use crate::parts::{LineParts, is_silent, parts_of};
 use crate::wire;
-use line_words::{Answer, Unanswered};
+use line_words::{LineAnswer, Unanswered};
 use std::process::ExitCode;
 use std::{fs, io};
 
 /// Answers a line of this kind. One that is neither about routing nor about certificates is about the wire.
-fn put_answer(out: &mut Answer, rt: &HostRuntime, kind: &str, asked: &str) {
+fn put_answer(out: &mut LineAnswer, rt: &HostRuntime, kind: &str, asked: &str) {
     if !routing_lines::answer(out, rt, kind, asked)
         && !certificate_lines::answer(out, rt, kind, asked)
     {
@@ -38,8 +38,8 @@ fn is_wanted(
 }
 
 /// Whether a line with these parts is answered as it wants.
-fn is_answered(rt: &HostRuntime, file: &str, line: &str, parts: Parts<'_>) -> io::Result<bool> {
-    let mut answer = Answer::new(rt.alloc());
+fn is_answered(rt: &HostRuntime, file: &str, line: &str, parts: LineParts<'_>) -> io::Result<bool> {
+    let mut answer = LineAnswer::new(rt.alloc());
     put_answer(&mut answer, rt, parts.kind, parts.asked);
     match answer.lack() {
         None => is_wanted(rt, file, line, answer.text(), parts.wanted),

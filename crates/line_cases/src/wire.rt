@@ -14,10 +14,10 @@ mod segments;
 mod streams;
 mod tables;
 
-use line_words::{Answer, Unanswered, bytes_of};
+use line_words::{LineAnswer, Unanswered, bytes_of};
 
 /// Answers a line that asks about bytes alone.
-fn answer_of_bytes(out: &mut Answer, kind: &str, bytes: &[u8]) {
+fn answer_of_bytes(out: &mut LineAnswer, kind: &str, bytes: &[u8]) {
     match kind {
         "table" => tables::put_table(out, bytes),
         "pairs" => out.put_yes_or_no(field_table::is_table(bytes)),
@@ -34,7 +34,7 @@ fn answer_of_bytes(out: &mut Answer, kind: &str, bytes: &[u8]) {
 }
 
 /// Answers a line about the wire.
-pub fn answer(out: &mut Answer, kind: &str, asked: &str) {
+pub fn answer(out: &mut LineAnswer, kind: &str, asked: &str) {
     match kind {
         "write" => segments::put_written(out, asked),
         "stream" => streams::put_stream(out, asked),
@@ -46,7 +46,7 @@ pub fn answer(out: &mut Answer, kind: &str, asked: &str) {
 }
 
 /// Appends `read`, where the same bytes were written as were read, and else what was written.
-fn put_again(out: &mut Answer, read: &[u8], written: &[u8]) {
+fn put_again(out: &mut LineAnswer, read: &[u8], written: &[u8]) {
     if read == written {
         out.put("read");
     } else {

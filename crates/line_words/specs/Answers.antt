@@ -10,13 +10,13 @@ pub record Answering : Type 0 where
   pub lack : Option Unanswered
 
 -- the first of two reasons
-abbrev pub first_of : Option Unanswered → Unanswered → Unanswered
-first_of None why = why
-first_of (Some first) why = first
+abbrev pub first_unanswered : Option Unanswered → Unanswered → Unanswered
+first_unanswered None why = why
+first_unanswered (Some first) why = first
 
 -- there is no answer, for this reason if it is the first
 abbrev pub failed : Unanswered → Answering → Answering
-failed why a = record a { lack = Some (first_of a.lack why) }
+failed why a = record a { lack = Some (first_unanswered a.lack why) }
 
 -- a piece was appended, where nothing is lacking; memory may have been refused for it
 abbrev pub PutsAt : Option Unanswered → Text → Answering → Answering → Type 0

@@ -24,13 +24,13 @@ pub enum Unanswered {
 /// Once there is such a reason nothing more is appended. So no piece says whether it was appended, and what could not be
 /// made for it is empty.
 #[derive(Drop)]
-pub struct Answer {
+pub struct LineAnswer {
     alloc: Global,
     text: String,
     lack: Option<Unanswered>,
 }
 
-impl Model for Answer {
+impl Model for LineAnswer {
     ghost use Rattle.std.specs.Prelude.{string_bytes};
     ghost use Rattle.line_words.specs.Answers.{Answering};
 
@@ -39,12 +39,12 @@ impl Model for Answer {
     ghost view = { λ a. record { text = string_bytes a.text; lack = a.lack } };
 }
 
-impl Answer {
+impl LineAnswer {
     /// An answer without a piece.
-    pub fn new(alloc: Global) -> Answer
+    pub fn new(alloc: Global) -> LineAnswer
         ensures { result ≡ record { text = []; lack = None } }
     {
-        Answer {
+        LineAnswer {
             alloc,
             text: String::new(alloc),
             lack: None,
@@ -157,7 +157,7 @@ impl Answer {
     }
 
     /// The text, as a part of another answer: that has none where this has none.
-    pub fn into_part_of(self, whole: &mut Answer) -> String
+    pub fn into_part_of(self, whole: &mut LineAnswer) -> String
         ensures part { string_bytes result ≡ self.text }
         ensures lack { (why : Unanswered) → self.lack ≡ Some why → whole.new ≡ failed why whole.old }
         ensures whole { self.lack ≡ None → whole.new ≡ whole.old }

@@ -3,12 +3,12 @@
 //! A line `repeat FROM TO TEXT` of a file stands for TEXT once for each number from FROM up to TO, which is not among them,
 //! with commas between and the number in place of the first `%`, if it has one.
 
-use crate::answers::{Answer, Unanswered};
+use crate::answers::{LineAnswer, Unanswered};
 use crate::words::{cut, number_of};
 use std::fs;
 
 /// Appends a text with a number in it, if it has a place for one.
-fn put_numbered(file: &mut Answer, text: &str, number: u32) {
+fn put_numbered(file: &mut LineAnswer, text: &str, number: u32) {
     match text.split_once('%') {
         Some((before, after)) => {
             file.put(before);
@@ -20,7 +20,7 @@ fn put_numbered(file: &mut Answer, text: &str, number: u32) {
 }
 
 /// Appends what `FROM TO TEXT` stands for.
-fn put_repeated(file: &mut Answer, repeat: &str) {
+fn put_repeated(file: &mut LineAnswer, repeat: &str) {
     let (from, rest) = cut(file, repeat);
     let (to, text) = cut(file, rest);
     let from = number_of(file, from);
@@ -33,7 +33,7 @@ fn put_repeated(file: &mut Answer, repeat: &str) {
 }
 
 /// Appends a line, written out if it is a repeat.
-fn put_line(file: &mut Answer, line: &str) {
+fn put_line(file: &mut LineAnswer, line: &str) {
     match line.strip_prefix("repeat ") {
         Some(repeat) => put_repeated(file, repeat),
         None => file.put(line),
@@ -42,8 +42,8 @@ fn put_line(file: &mut Answer, line: &str) {
 }
 
 /// The text with its repeats written out.
-fn written_out(out: &mut Answer, text: &str) -> String {
-    let mut file = Answer::new(out.alloc());
+fn written_out(out: &mut LineAnswer, text: &str) -> String {
+    let mut file = LineAnswer::new(out.alloc());
     for line in text.lines() {
         put_line(&mut file, line);
     }
@@ -51,7 +51,7 @@ fn written_out(out: &mut Answer, text: &str) -> String {
 }
 
 /// The file of this name, its repeats written out. `File` says that it is not there.
-pub fn file_of(out: &mut Answer, rt: &HostRuntime, name: &str) -> String {
+pub fn file_of(out: &mut LineAnswer, rt: &HostRuntime, name: &str) -> String {
     match fs::read_to_string(rt, name) {
         Ok(text) => written_out(out, text.as_str()),
         Err(_) => {
@@ -62,7 +62,7 @@ pub fn file_of(out: &mut Answer, rt: &HostRuntime, name: &str) -> String {
 }
 
 /// What an edit takes out, and what it puts in its place.
-fn old_and_new<'a>(out: &mut Answer, edit: &'a str) -> (&'a str, &'a str) {
+fn old_and_new<'a>(out: &mut LineAnswer, edit: &'a str) -> (&'a str, &'a str) {
     match edit.split_once(" =>") {
         Some((old, new)) => (old, new.strip_prefix(' ').unwrap_or(new)),
         None => {
@@ -73,7 +73,7 @@ fn old_and_new<'a>(out: &mut Answer, edit: &'a str) -> (&'a str, &'a str) {
 }
 
 /// Appends the text with `new` at the first place where `old` stands. `File` says that it stands nowhere.
-fn put_edited(file: &mut Answer, text: &str, old: &str, new: &str) {
+fn put_edited(file: &mut LineAnswer, text: &str, old: &str, new: &str) {
     match text.split_once(old) {
         Some((before, after)) => {
             file.put(before);
@@ -85,15 +85,15 @@ fn put_edited(file: &mut Answer, text: &str, old: &str, new: &str) {
 }
 
 /// The text with `OLD => NEW` done at the first place where OLD stands.
-fn edited_once(out: &mut Answer, text: &str, edit: &str) -> String {
+fn edited_once(out: &mut LineAnswer, text: &str, edit: &str) -> String {
     let (old, new) = old_and_new(out, edit);
-    let mut file = Answer::new(out.alloc());
+    let mut file = LineAnswer::new(out.alloc());
     put_edited(&mut file, text, old, new);
     file.into_part_of(out)
 }
 
 /// The text with these edits, one after another.
-fn edited(out: &mut Answer, text: String, edits: &str) -> String {
+fn edited(out: &mut LineAnswer, text: String, edits: &str) -> String {
     let mut text = text;
     for edit in edits.split(" | ") {
         text = edited_once(out, text.as_str(), edit);
@@ -103,7 +103,7 @@ fn edited(out: &mut Answer, text: String, edits: &str) -> String {
 
 /// The file that `FILE | OLD => NEW | OLD => NEW` names, with its edits. `File` says that it is not there, or has no place
 /// where an edit's OLD stands.
-pub fn source_of(out: &mut Answer, rt: &HostRuntime, asked: &str) -> String {
+pub fn source_of(out: &mut LineAnswer, rt: &HostRuntime, asked: &str) -> String {
     match asked.split_once(" | ") {
         None => file_of(out, rt, asked),
         Some((name, edits)) => {
@@ -114,7 +114,7 @@ pub fn source_of(out: &mut Answer, rt: &HostRuntime, asked: &str) -> String {
 }
 
 /// Does an edit in the last text in which its OLD stands.
-fn edit_last(out: &mut Answer, texts: &mut [String], edit: &str) {
+fn edit_last(out: &mut LineAnswer, texts: &mut [String], edit: &str) {
     let (old, _) = old_and_new(out, edit);
     for text in texts.iter_mut().rev() {
         if text.contains(old) {
@@ -126,7 +126,7 @@ fn edit_last(out: &mut Answer, texts: &mut [String], edit: &str) {
 }
 
 /// Appends the file of this name.
-fn put_file(out: &mut Answer, rt: &HostRuntime, files: &mut Vec<String>, name: &str) {
+fn put_file(out: &mut LineAnswer, rt: &HostRuntime, files: &mut Vec<String>, name: &str) {
     let file = file_of(out, rt, name);
     if files.push(file).is_err() {
         out.fail(Unanswered::Memory);
@@ -135,7 +135,7 @@ fn put_file(out: &mut Answer, rt: &HostRuntime, files: &mut Vec<String>, name: &
 
 /// The files of these names, with edits if there are some, each of the last file in which its OLD stands.
 pub fn sources_of(
-    out: &mut Answer,
+    out: &mut LineAnswer,
     rt: &HostRuntime,
     names: &[&str],
     edits: Option<&str>,
@@ -151,7 +151,7 @@ pub fn sources_of(
 }
 
 /// Does edits one after another.
-fn edit_all(out: &mut Answer, texts: &mut [String], edits: &str) {
+fn edit_all(out: &mut LineAnswer, texts: &mut [String], edits: &str) {
     for edit in edits.split(" | ") {
         edit_last(out, texts, edit);
     }

@@ -1,10 +1,10 @@
 //! Bytes that are spelled in hex.
 
-use crate::answers::{Answer, Unanswered};
+use crate::answers::{LineAnswer, Unanswered};
 use crate::words::number_of;
 
 /// Appends these bytes so many times.
-fn put_times(out: &mut Answer, bytes: &mut Vec<u8>, part: &[u8], count: u32) {
+fn put_times(out: &mut LineAnswer, bytes: &mut Vec<u8>, part: &[u8], count: u32) {
     for _ in 0..count {
         if bytes.extend_from_slice(part).is_err() {
             out.fail(Unanswered::Memory);
@@ -13,7 +13,7 @@ fn put_times(out: &mut Answer, bytes: &mut Vec<u8>, part: &[u8], count: u32) {
 }
 
 /// Appends the bytes of one word, as often as they stand there.
-fn put_word(out: &mut Answer, bytes: &mut Vec<u8>, word: &str) {
+fn put_word(out: &mut LineAnswer, bytes: &mut Vec<u8>, word: &str) {
     let (digits, count) = word.split_once('*').unwrap_or((word, "1"));
     let count = number_of(out, count);
     match hex::decode(out.alloc(), digits.as_bytes()) {
@@ -24,7 +24,7 @@ fn put_word(out: &mut Answer, bytes: &mut Vec<u8>, word: &str) {
 
 /// The bytes that words of hex digits spell, one after another. A word `HEX*COUNT` stands for its bytes so many times.
 /// `Form` says that a word is none of these.
-pub fn bytes_of(out: &mut Answer, text: &str) -> Vec<u8> {
+pub fn bytes_of(out: &mut LineAnswer, text: &str) -> Vec<u8> {
     let mut bytes = Vec::new(out.alloc());
     for word in text.split(' ') {
         put_word(out, &mut bytes, word);

@@ -1,9 +1,9 @@
 //! The words and numbers of a line.
 
-use crate::answers::{Answer, Unanswered};
+use crate::answers::{LineAnswer, Unanswered};
 
 /// The number that a word spells. `Form` says that it spells none.
-pub fn number_of(out: &mut Answer, word: &str) -> u32 {
+pub fn number_of(out: &mut LineAnswer, word: &str) -> u32 {
     match word.parse::<u32>() {
         Ok(number) => number,
         Err(_) => {
@@ -14,7 +14,7 @@ pub fn number_of(out: &mut Answer, word: &str) -> u32 {
 }
 
 /// What stands before the first space and behind it. `Form` says that there is none.
-pub fn cut<'a>(out: &mut Answer, text: &'a str) -> (&'a str, &'a str) {
+pub fn cut<'a>(out: &mut LineAnswer, text: &'a str) -> (&'a str, &'a str) {
     match text.split_once(' ') {
         Some(parts) => parts,
         None => {
@@ -33,7 +33,7 @@ fn first_word(text: &str) -> Option<(&str, &str)> {
 }
 
 /// Takes the first word of a text, unless there is none: what follows it.
-fn take_word<'a>(out: &mut Answer, words: &mut Vec<&'a str>, text: &'a str) -> &'a str {
+fn take_word<'a>(out: &mut LineAnswer, words: &mut Vec<&'a str>, text: &'a str) -> &'a str {
     if text.is_empty() {
         return text;
     }
@@ -48,7 +48,7 @@ fn take_word<'a>(out: &mut Answer, words: &mut Vec<&'a str>, text: &'a str) -> &
 }
 
 /// The words of a line, with spaces between them. `Form` says that a word has only one quote.
-pub fn words_of<'a>(out: &mut Answer, text: &'a str) -> Vec<&'a str> {
+pub fn words_of<'a>(out: &mut LineAnswer, text: &'a str) -> Vec<&'a str> {
     let mut words = Vec::new(out.alloc());
     let mut rest = text;
     for _ in 0..text.len() {

@@ -11,7 +11,7 @@ use Rattle.model.specs.Step.{greatest}
 use Rattle.model.specs.Declaring.{ChannelName}
 use Rattle.channel.specs.Open.{Open}
 use Rattle.links.specs.Links.{Linked, channel_at, channel_of}
-use Rattle.links.specs.Counting.{consumers_at, consumers_of, CountsConsumers}
+use Rattle.links.specs.Counting.{consumers_at, consumers_counted, CountsConsumers}
 
 -- ---- one of a list
 
@@ -155,23 +155,23 @@ on_head queue e es k =
     let zero : 0 + k ≡ k = omega arith in
     ap (λ (h : ℕ). on queue (e ∷ es) (name e.0 h)) zero ∙ ap (λ (o : Option Linked). consumers_at queue (channel_at o k)) (found e.1 es e.0)
 
-all_sum : (queue : ℕ) (es : List (ℕ × Linked)) → IsDistinct nat_eq (keys_of es) → sum_by (on queue es) (names_in es) ≡ sum_by (consumers_of queue) (values_of es)
+all_sum : (queue : ℕ) (es : List (ℕ × Linked)) → IsDistinct nat_eq (keys_of es) → sum_by (on queue es) (names_in es) ≡ sum_by (consumers_counted queue) (values_of es)
 all_sum queue [] apart = refl
 all_sum queue (e ∷ es) apart =
     let head = names_at e.0 0 e.1.channels in
     sum_by-append (on queue (e ∷ es)) head (names_in es)
     ∙ ap (λ (n : ℕ). n + sum_by (on queue (e ∷ es)) (names_in es)) (sum_at (on queue (e ∷ es)) (consumers_at queue) e.0 0 e.1.channels (on_head queue e es))
-    ∙ ap (λ (n : ℕ). consumers_of queue e.1 + n)
+    ∙ ap (λ (n : ℕ). consumers_counted queue e.1 + n)
     (same_sum (on queue (e ∷ es)) (on queue es) (names_in es) (λ x i. ap (λ (o : Option Linked). consumers_at queue (channel_at o x.number)) (missed e es x.connection (none_of x e.0 es (IsDistinct-head nat_eq e.0 (keys_of es) apart) i)))
     ∙ all_sum queue es (IsDistinct-tail nat_eq e.0 (keys_of es) apart))
-    ∙ sym (sum_by-cons (consumers_of queue) e.1 (values_of es))
+    ∙ sym (sum_by-cons (consumers_counted queue) e.1 (values_of es))
 
 -- where nothing is left to be counted, the count is the whole
 pub no_more : (count left : ℕ) → left ≡ 0 → count ≤ greatest → count ≡ min (count + left) greatest
 no_more count left none most = omega (arith, none, most)
 
 -- the sum over all connections is the count of all channels
-pub counts_all : (es : List (ℕ × Linked)) (queue count : ℕ) → IsDistinct nat_eq (keys_of es) → count ≡ min (sum_by (consumers_of queue) (values_of es)) greatest → CountsConsumers es queue count
+pub counts_all : (es : List (ℕ × Linked)) (queue count : ℕ) → IsDistinct nat_eq (keys_of es) → count ≡ min (sum_by (consumers_counted queue) (values_of es)) greatest → CountsConsumers es queue count
 counts_all es queue count apart is = record {
   channels = names_in es;
   all = all_there es;

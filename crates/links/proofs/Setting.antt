@@ -5,7 +5,7 @@ use Rattle.std.proofs.lemmas.List.{get_or-set_same, get_or-set_other}
 use Rattle.std.proofs.lemmas.Option.{same_Some}
 use Rattle.std.specs.Map.{lookup, set_value}
 use Rattle.channel.specs.Open.{Open}
-use Rattle.links.specs.Links.{IsSet}
+use Rattle.links.specs.Links.{IsChannelSet}
 
 -- within a list it is the same whatever stands past its end
 pub same_default : {A : Type 0} (xs : List A) (i : ℕ) (a b : A) → i < length xs → get_or xs i a ≡ get_or xs i b
@@ -14,7 +14,7 @@ same_default (x ∷ xs) zero a b lt = refl
 same_default (x ∷ xs) (suc i) a b lt = same_default xs i a b (omega (arith, lt))
 
 -- a channel is set at its number
-pub set_is : (xs : List (Option Open)) (n : ℕ) (x : Option Open) → n < length xs → IsSet xs n x (set xs n x)
+pub set_is : (xs : List (Option Open)) (n : ℕ) (x : Option Open) → n < length xs → IsChannelSet xs n x (set xs n x)
 set_is xs n x lt k = go (k == n) refl
   where
     go : (b : Bool) → (k == n) ≡ b → get_or (set xs n x) k None ≡ (if b then x else get_or xs k None)

@@ -12,8 +12,8 @@ consumers_at queue None = 0
 consumers_at queue (Some ch) = consumers_from queue ch
 
 -- how many on all channels of a connection do
-abbrev pub consumers_of : ℕ → Linked → ℕ
-consumers_of queue l = sum_by (consumers_at queue) l.channels
+abbrev pub consumers_counted : ℕ → Linked → ℕ
+consumers_counted queue l = sum_by (consumers_at queue) l.channels
 
 -- So many consumers take from the queue at this place, on all channels together; the greatest 64-bit number stands for any above it.
 pub record CountsConsumers (links : List (ℕ × Linked)) (queue count : ℕ) : Type 0 where

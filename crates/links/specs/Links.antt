@@ -23,8 +23,8 @@ abbrev pub channel_seen : List Text → Linked → ℕ → Option Channel
 channel_seen names l h = option_map (open_in names) (channel_in l h)
 
 -- the connection of this number, where each stands beside its number
-abbrev pub link_in : List (ℕ × Linked) → ℕ → Option Linked
-link_in links c = lookup (nat_eq c) links
+abbrev pub linked_in : List (ℕ × Linked) → ℕ → Option Linked
+linked_in links c = lookup (nat_eq c) links
 
 -- the greatest channel number of a connection, and whether it is paused
 abbrev pub limits_of : Linked → Connection
@@ -42,11 +42,11 @@ channel_at (Some l) h = channel_in l h
 
 -- what the model says of these connections
 abbrev pub connection_of : List (ℕ × Linked) → ℕ → Option Connection
-connection_of links c = connection_at (link_in links c)
+connection_of links c = connection_at (linked_in links c)
 
 -- their channels
 abbrev pub channel_of : List (ℕ × Linked) → ℕ → ℕ → Option Open
-channel_of links c h = channel_at (link_in links c) h
+channel_of links c h = channel_at (linked_in links c) h
 
 -- and what the model says of those
 abbrev pub seen_in : List Text → List (ℕ × Linked) → ℕ → ℕ → Option Channel
@@ -71,8 +71,8 @@ pub record SetsRoom (ch : Open) (new : Option Open) : Type 0 where
   pub some : 0 < room
 
 -- this channel stands at h now, and the others as before
-abbrev pub IsSet : List (Option Open) → ℕ → Option Open → List (Option Open) → Type 0
-IsSet old h ch new = (k : ℕ) → slice_index_or new k None ≡ with_one (λ (i : ℕ). slice_index_or old i None) h ch k
+abbrev pub IsChannelSet : List (Option Open) → ℕ → Option Open → List (Option Open) → Type 0
+IsChannelSet old h ch new = (k : ℕ) → slice_index_or new k None ≡ with_one (λ (i : ℕ). slice_index_or old i None) h ch k
 
 -- the same in a connection, of which all else stays
 pub record PutsIn (old : Linked) (h : ℕ) (ch : Option Open) (new : Linked) : Type 0 where
@@ -101,7 +101,7 @@ pub record PutsChannel (old : List (ℕ × Linked)) (c h : ℕ) (ch : Option Ope
   pub channels : (d k : ℕ) → channel_of new d k ≡ with_pair (channel_of old) c h ch d k
 
 -- These connections and channels are there now.
-pub record AreLinks (new : List (ℕ × Linked)) (connections : ℕ → Option Connection) (channels : ℕ → ℕ → Option Open) : Type 0 where
+pub record HoldsConnections (new : List (ℕ × Linked)) (connections : ℕ → Option Connection) (channels : ℕ → ℕ → Option Open) : Type 0 where
   pub connections_are : (d : ℕ) → connection_of new d ≡ connections d
   pub channels_are : (d k : ℕ) → channel_of new d k ≡ channels d k
 

@@ -1,13 +1,13 @@
 -- What is outstanding was given out from queues that are there, and consumers take from such queues.
-use Rattle.std.specs.Prelude.{◌<◌, ℕ, List, length, All}
+use Rattle.std.specs.Prelude.{◌<◌, List, length, All}
 use Rattle.model.specs.Topology.{Topology}
 use Rattle.channel.specs.Open.{Open}
 use Rattle.channel.specs.declared.pending.Outstanding.{Outstanding}
 use Rattle.channel.specs.declared.consumers.Consumer.{Consumer}
 
 -- each of these was given out from a queue at a place of the file
-abbrev pub AreWithin : Topology → List Outstanding → Type 0
-AreWithin t given = All (λ (o : Outstanding). o.queue < length t.queues) given
+abbrev pub OutstandingAreWithin : Topology → List Outstanding → Type 0
+OutstandingAreWithin t given = All (λ (o : Outstanding). o.queue < length t.queues) given
 
 -- each of these takes from a queue at a place of the file
 abbrev pub TakeWithin : Topology → List Consumer → Type 0
@@ -15,5 +15,5 @@ TakeWithin t consumers = All (λ (k : Consumer). k.queue < length t.queues) cons
 
 -- So it is with what is outstanding on this channel, and with its consumers.
 pub record IsPlaced (t : Topology) (ch : Open) : Type 0 where
-  pub outstanding : AreWithin t ch.given.outstanding
+  pub outstanding : OutstandingAreWithin t ch.given.outstanding
   pub consumers : TakeWithin t ch.given.consumers

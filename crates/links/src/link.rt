@@ -4,7 +4,7 @@ use crate::slots::{
     cancel_at, consume_at, count_at, count_consumers, forget_at, give_at, give_settled_at,
     limit_at, number_of, open_at, open_channels, put_at, reserve_at, select_at, taker_of,
 };
-use channel::{Channel, Consumer, Outstanding, Refusal};
+use channel::{Channel, Consumer, Outstanding, SeatRefusal};
 use model::{Consume, Qos, Taker, Text};
 use std::alloc::{AllocError, Global};
 use std::marker::Model;
@@ -37,10 +37,10 @@ impl Link {
     ghost use Rattle.model.specs.declared.methods.Qos.{Qos as Limit};
     ghost use Rattle.model.specs.Settling.{settled};
     ghost use Rattle.channel.specs.Outstanding.{tag_of};
-    ghost use Rattle.channel.specs.Open.{Open, open_in, with_qos, given_on, settled_on, without_settled, without_named, Seats};
+    ghost use Rattle.channel.specs.Open.{Open, open_in, with_qos, given_on, settled_on, without_settled, without_named, SeatsConsumer};
     ghost use Rattle.links.specs.Consumers.{TellsOn};
     ghost use Rattle.links.specs.Consumers.{next_number};
-    ghost use Rattle.links.specs.Counting.{consumers_of};
+    ghost use Rattle.links.specs.Counting.{consumers_counted};
     ghost use Rattle.links.specs.Links.{channel_in, outstanding_on, room_in, seats_in, PutsIn, CanCount, CanGive, HasRoom, SetsRoom};
 
     /// A connection with channels 1 to `channels` open and new.
@@ -117,7 +117,7 @@ impl Link {
 
     /// How many consumers on its channels take from the queue at this place, at most the greatest number.
     pub(crate) fn count_consumers(&self, queue: usize) -> usize
-        ensures { result ≡ min (consumers_of queue self.now) greatest }
+        ensures { result ≡ min (consumers_counted queue self.now) greatest }
     {
         count_consumers(&self.channels, queue)
     }
@@ -172,9 +172,9 @@ impl Link {
         alloc: Global,
         queue: usize,
         consume: &Consume,
-    ) -> Result<Text, Refusal>
+    ) -> Result<Text, SeatRefusal>
         requires { IsSome (channel_in self.old number) }
-        ensures seats { (ch : Open) → channel_in self.old number ≡ Some ch → (new : Open) × Seats ch queue consume.now result new × PutsIn self.old number (Some new) self.new }
+        ensures seats { (ch : Open) → channel_in self.old number ≡ Some ch → (new : Open) × SeatsConsumer ch queue consume.now result new × PutsIn self.old number (Some new) self.new }
         ensures err { OnErr result (self.new ≡ self.old) }
     {
         consume_at(&mut self.channels, number, alloc, queue, consume)

@@ -5,7 +5,7 @@
 ghost use Rattle.links.specs.Counting.{CountsConsumers};
 
 use crate::link::Link;
-use channel::{Channel, Outstanding, Refusal};
+use channel::{Channel, Outstanding, SeatRefusal};
 use model::{Consume, Qos, Taker, Text};
 use std::alloc::{AllocError, Global};
 use std::collections::HashMap;
@@ -50,9 +50,9 @@ impl Links {
     ghost use Rattle.model.specs.declared.methods.Qos.{Qos as Limit};
     ghost use Rattle.model.specs.Settling.{settled};
     ghost use Rattle.channel.specs.Outstanding.{tag_of};
-    ghost use Rattle.channel.specs.Open.{Open, with_qos, given_on, settled_on, without_settled, without_named, Seats};
+    ghost use Rattle.channel.specs.Open.{Open, with_qos, given_on, settled_on, without_settled, without_named, SeatsConsumer};
     ghost use Rattle.links.specs.Counting.{CountsConsumers};
-    ghost use Rattle.links.specs.Links.{link_in, connection_of, channel_of, outstanding_on, room_in, seats_in, CanCount, CanGive, HasRoom, SetsRoom, PutsChannel, OpensLink, AreLinks};
+    ghost use Rattle.links.specs.Links.{linked_in, connection_of, channel_of, outstanding_on, room_in, seats_in, CanCount, CanGive, HasRoom, SetsRoom, PutsChannel, OpensLink, HoldsConnections};
 
     /// No connection runs. It takes no memory.
     pub fn new(alloc: Global) -> Links
@@ -65,7 +65,7 @@ impl Links {
 
     /// The connection of this number, if it runs.
     pub fn get(&self, connection: u64) -> Option<&Link>
-        ensures { option_copied result ≡ link_in self.now connection }
+        ensures { option_copied result ≡ linked_in self.now connection }
     {
         self.links.get(&connection)
     }
@@ -118,14 +118,14 @@ impl Links {
 
     /// The connection runs no more, and its channels are gone with it.
     pub fn remove(&mut self, connection: u64)
-        ensures { AreLinks self.new (with_one (connection_of self.old) connection None) (with_row (channel_of self.old) connection (λ h. None)) }
+        ensures { HoldsConnections self.new (with_one (connection_of self.old) connection None) (with_row (channel_of self.old) connection (λ h. None)) }
     {
         self.links.remove(&connection);
     }
 
     /// The connection is paused from now on, or is not, if it runs.
     pub fn set_paused(&mut self, connection: u64, is_paused: bool)
-        ensures { AreLinks self.new (with_one (connection_of self.old) connection (paused is_paused (connection_of self.old connection))) (channel_of self.old) }
+        ensures { HoldsConnections self.new (with_one (connection_of self.old) connection (paused is_paused (connection_of self.old connection))) (channel_of self.old) }
     {
         if let Some(link) = self.links.get_mut(&connection) {
             link.set_paused(is_paused);
@@ -192,9 +192,9 @@ impl Links {
         alloc: Global,
         queue: usize,
         consume: &Consume,
-    ) -> Result<Text, Refusal>
+    ) -> Result<Text, SeatRefusal>
         requires { IsSome (channel_of self.old connection channel) }
-        ensures seats { (ch : Open) → channel_of self.old connection channel ≡ Some ch → (new : Open) × Seats ch queue consume.now result new × PutsChannel self.old connection channel (Some new) self.new }
+        ensures seats { (ch : Open) → channel_of self.old connection channel ≡ Some ch → (new : Open) × SeatsConsumer ch queue consume.now result new × PutsChannel self.old connection channel (Some new) self.new }
         ensures err { OnErr result (self.new ≡ self.old) }
     {
         match self.links.get_mut(&connection) {
@@ -282,7 +282,7 @@ impl Links {
         number: u16,
         channel: Channel,
     ) -> Result<(), AllocError>
-        requires { IsSome (link_in self.old connection) }
+        requires { IsSome (linked_in self.old connection) }
         ensures ok { OnOk result (PutsChannel self.old connection number (Some channel) self.new) }
         ensures err { OnErr result (self.new ≡ self.old) }
     {

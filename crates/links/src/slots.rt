@@ -29,12 +29,12 @@ ghost use Rattle.model.specs.Words.{Text as Name};
 ghost use Rattle.model.specs.Broker.{new_channel};
 ghost use Rattle.model.specs.Step.{started, next_of, greatest};
 ghost use Rattle.model.specs.declared.methods.Qos.{Qos as Limit};
-ghost use Rattle.channel.specs.Open.{Open, open_in, with_qos, given_on, settled_on, without_settled, without_named, Seats, IsTaker, HasNoTaker};
-ghost use Rattle.links.specs.Links.{CanCount, CanGive, HasRoom, IsSet, SetsRoom, room_in, seats_in};
+ghost use Rattle.channel.specs.Open.{Open, open_in, with_qos, given_on, settled_on, without_settled, without_named, SeatsConsumer, IsTaker, HasNoTaker};
+ghost use Rattle.links.specs.Links.{CanCount, CanGive, HasRoom, IsChannelSet, SetsRoom, room_in, seats_in};
 ghost use Rattle.links.specs.Consumers.{next_number};
 ghost use Rattle.links.specs.Counting.{consumers_at};
 
-use channel::{Channel, Consumer, Refusal};
+use channel::{Channel, Consumer, SeatRefusal};
 use model::{Consume, Qos, Taker, Text};
 use std::alloc::{AllocError, Global};
 
@@ -85,9 +85,9 @@ fn consume_in(
     alloc: Global,
     queue: usize,
     consume: &Consume,
-) -> Result<Text, Refusal>
+) -> Result<Text, SeatRefusal>
     requires { IsSome slot.old }
-    ensures seats { (ch : Open) → slot.old ≡ Some ch → (new : Open) × (slot.new ≡ Some new) × Seats ch queue consume.now result new }
+    ensures seats { (ch : Open) → slot.old ≡ Some ch → (new : Open) × (slot.new ≡ Some new) × SeatsConsumer ch queue consume.now result new }
     ensures err { OnErr result (slot.new ≡ slot.old) }
 {
     match slot {
@@ -148,7 +148,7 @@ fn forget_in(slot: &mut Option<Channel>, tag: u64, multiple: bool)
 
 /// The same of the channel of this number.
 pub(crate) fn select_at(channels: &mut [Option<Channel>], number: u16)
-    ensures { (ch : Open) → slice_index_or channels.old number None ≡ Some ch → IsSet channels.old number (Some (record ch { confirm = started ch.confirm })) channels.new }
+    ensures { (ch : Open) → slice_index_or channels.old number None ≡ Some ch → IsChannelSet channels.old number (Some (record ch { confirm = started ch.confirm })) channels.new }
 {
     let at = number as usize;
     if at < channels.len() {
@@ -159,7 +159,7 @@ pub(crate) fn select_at(channels: &mut [Option<Channel>], number: u16)
 /// The same of the channel of this number.
 pub(crate) fn count_at(channels: &mut [Option<Channel>], number: u16)
     requires { CanCount (slice_index_or channels.old number None) }
-    ensures { (ch : Open) → slice_index_or channels.old number None ≡ Some ch → IsSet channels.old number (Some (record ch { confirm = next_of ch.confirm })) channels.new }
+    ensures { (ch : Open) → slice_index_or channels.old number None ≡ Some ch → IsChannelSet channels.old number (Some (record ch { confirm = next_of ch.confirm })) channels.new }
 {
     let at = number as usize;
     if at < channels.len() {
@@ -169,7 +169,7 @@ pub(crate) fn count_at(channels: &mut [Option<Channel>], number: u16)
 
 /// The same of the channel of this number.
 pub(crate) fn limit_at(channels: &mut [Option<Channel>], number: u16, qos: &Qos)
-    ensures { (ch : Open) → slice_index_or channels.old number None ≡ Some ch → IsSet channels.old number (Some (with_qos ch qos.now)) channels.new }
+    ensures { (ch : Open) → slice_index_or channels.old number None ≡ Some ch → IsChannelSet channels.old number (Some (with_qos ch qos.now)) channels.new }
 {
     let at = number as usize;
     if at < channels.len() {
@@ -184,9 +184,9 @@ pub(crate) fn consume_at(
     alloc: Global,
     queue: usize,
     consume: &Consume,
-) -> Result<Text, Refusal>
+) -> Result<Text, SeatRefusal>
     requires { IsSome (slice_index_or channels.old number None) }
-    ensures seats { (ch : Open) → slice_index_or channels.old number None ≡ Some ch → (new : Open) × Seats ch queue consume.now result new × IsSet channels.old number (Some new) channels.new }
+    ensures seats { (ch : Open) → slice_index_or channels.old number None ≡ Some ch → (new : Open) × SeatsConsumer ch queue consume.now result new × IsChannelSet channels.old number (Some new) channels.new }
     ensures err { OnErr result (channels.new ≡ channels.old) }
 {
     let at = number as usize;
@@ -199,7 +199,7 @@ pub(crate) fn consume_at(
 
 /// The same of the channel of this number.
 pub(crate) fn cancel_at(channels: &mut [Option<Channel>], number: u16, tag: &[u8])
-    ensures { (ch : Open) → slice_index_or channels.old number None ≡ Some ch → IsSet channels.old number (Some (without_named ch tag.now (seats_in (slice_index_or channels.new number None)))) channels.new }
+    ensures { (ch : Open) → slice_index_or channels.old number None ≡ Some ch → IsChannelSet channels.old number (Some (without_named ch tag.now (seats_in (slice_index_or channels.new number None)))) channels.new }
 {
     let at = number as usize;
     if at < channels.len() {
@@ -209,7 +209,7 @@ pub(crate) fn cancel_at(channels: &mut [Option<Channel>], number: u16, tag: &[u8
 
 /// The same of the channel of this number.
 pub(crate) fn reserve_at(channels: &mut [Option<Channel>], number: u16) -> Result<(), AllocError>
-    ensures ok { OnOk result ((ch : Open) → slice_index_or channels.old number None ≡ Some ch → (new : Option Open) × SetsRoom ch new × IsSet channels.old number new channels.new) }
+    ensures ok { OnOk result ((ch : Open) → slice_index_or channels.old number None ≡ Some ch → (new : Option Open) × SetsRoom ch new × IsChannelSet channels.old number new channels.new) }
     ensures err { OnErr result (channels.new ≡ channels.old) }
 {
     let at = number as usize;
@@ -230,7 +230,7 @@ pub(crate) fn give_at(
 )
     requires tag { CanGive (slice_index_or channels.old number None) }
     requires room { HasRoom (slice_index_or channels.old number None) }
-    ensures { (ch : Open) → slice_index_or channels.old number None ≡ Some ch → IsSet channels.old number (Some (given_on ch queue arrival by)) channels.new }
+    ensures { (ch : Open) → slice_index_or channels.old number None ≡ Some ch → IsChannelSet channels.old number (Some (given_on ch queue arrival by)) channels.new }
 {
     let at = number as usize;
     if at < channels.len() {
@@ -241,7 +241,7 @@ pub(crate) fn give_at(
 /// The same of the channel of this number.
 pub(crate) fn give_settled_at(channels: &mut [Option<Channel>], number: u16)
     requires { CanGive (slice_index_or channels.old number None) }
-    ensures { (ch : Open) → slice_index_or channels.old number None ≡ Some ch → IsSet channels.old number (Some (settled_on ch)) channels.new }
+    ensures { (ch : Open) → slice_index_or channels.old number None ≡ Some ch → IsChannelSet channels.old number (Some (settled_on ch)) channels.new }
 {
     let at = number as usize;
     if at < channels.len() {
@@ -251,7 +251,7 @@ pub(crate) fn give_settled_at(channels: &mut [Option<Channel>], number: u16)
 
 /// The same of the channel of this number.
 pub(crate) fn forget_at(channels: &mut [Option<Channel>], number: u16, tag: u64, multiple: bool)
-    ensures { (ch : Open) → slice_index_or channels.old number None ≡ Some ch → IsSet channels.old number (Some (without_settled ch tag multiple (room_in (slice_index_or channels.new number None)))) channels.new }
+    ensures { (ch : Open) → slice_index_or channels.old number None ≡ Some ch → IsChannelSet channels.old number (Some (without_settled ch tag multiple (room_in (slice_index_or channels.new number None)))) channels.new }
 {
     let at = number as usize;
     if at < channels.len() {
@@ -278,7 +278,7 @@ pub(crate) fn open_at(
     number: u16,
     channel: Channel,
 ) -> Result<(), AllocError>
-    ensures ok { OnOk result (IsSet channels.old.items number (Some channel) channels.new.items) }
+    ensures ok { OnOk result (IsChannelSet channels.old.items number (Some channel) channels.new.items) }
     ensures err { OnErr result (channels.new.items ≡ channels.old.items) }
     ensures few { vec_len channels.old ≤ 2 ^ 16 → vec_len channels.new ≤ 2 ^ 16 }
 {
@@ -292,7 +292,7 @@ pub(crate) fn open_at(
 /// This stands at the channel of this number from now on.
 pub(crate) fn put_at(channels: &mut [Option<Channel>], number: u16, channel: Option<Channel>)
     requires { IsSome (slice_index_or channels.old number None) }
-    ensures { IsSet channels.old number channel channels.new }
+    ensures { IsChannelSet channels.old number channel channels.new }
 {
     let at = number as usize;
     if at < channels.len() {

@@ -1,9 +1,9 @@
 -- What the test of a hash, and the test of a user, tells.
-use Rattle.std.proofs.Common.{codes, IsTrue, IsFalse, ◌≡◌, ℕ, ◌+◌, ◌≤◌, ◌<◌, List, [], ◌∷◌, ◌++◌, Bool, true, false, ◌&&◌, ◌||◌, not, length, take, drop, get_or, refl, sym, ap, ◌∙◌, subst, arith, inl, inr, length-append, Decides, true≢false}
+use Rattle.std.proofs.Common.{codes, IsTrue, IsFalse, ◌≡◌, ◌+◌, ◌≤◌, List, [], ◌∷◌, ◌++◌, Bool, true, false, ◌||◌, not, length, take, refl, sym, ap, ◌∙◌, subst, arith, inl, inr, length-append, Decides, true≢false}
 use Rattle.std.specs.Str.{bytes_eq}
 use Rattle.std.specs.List.{list_any}
-use Rattle.std.proofs.lemmas.Bool.Decides.{Decides-and, Decides-like}
-use Rattle.std.proofs.lemmas.List.{take_at, length-take-le, drop_more}
+use Rattle.std.proofs.lemmas.Bool.Decides.{Decides-and}
+use Rattle.std.proofs.lemmas.List.{take_at, length-take-le}
 use Rattle.std.proofs.lemmas.Slice.Eq.{bytes_eq-Decides}
 use Rattle.sha2.specs.Sha256.{sha256}
 use Rattle.sha2.proofs.Facts256.{length-sha256}
@@ -97,20 +97,6 @@ known_then (first ∷ users) name password user (inr i) u =
     or_right (is_user name password first) (list_any (is_user name password) users) (known_then users name password user i u)
 
 -- ---- the pass over the users
-
--- one user more was looked at
-pub one_more : (users : List User) (i : ℕ) (user : User) (name password : Text) (right : Bool) → i < length users → user ≡ get_or users i user
-    → ((right || is_user name password user) || list_any (is_user name password) (drop (i + 1) users)) ≡ (right || list_any (is_user name password) (drop i users))
-one_more users i user name password right l e =
-    or_assoc right (is_user name password user) (list_any (is_user name password) (drop (i + 1) users))
-    ∙ ap (λ (us : List User). right || list_any (is_user name password) us) (more users i user l e)
-  where
-    or_assoc : (a b c : Bool) → ((a || b) || c) ≡ (a || (b || c))
-    or_assoc true b c = refl
-    or_assoc false b c = refl
-
-    more : (users : List User) (i : ℕ) (user : User) → i < length users → user ≡ get_or users i user → user ∷ drop (i + 1) users ≡ drop i users
-    more users i user l e = ap (λ (u : User). u ∷ drop (i + 1) users) e ∙ sym (drop_more users i user l)
 
 -- ---- logins
 

@@ -1,5 +1,5 @@
 -- The tests of a login, one by one.
-use Rattle.std.specs.Prelude.{◌≡◌, ℕ, Bool, List, ◌∷◌, ◌++◌, take, ◌&&◌}
+use Rattle.std.specs.Prelude.{◌≡◌, Bool, ◌∷◌, ◌++◌, take, ◌&&◌}
 use Rattle.std.specs.Str.{bytes_eq}
 use Rattle.sha2.specs.Sha256.{sha256}
 use Rattle.model.specs.Words.{Text}

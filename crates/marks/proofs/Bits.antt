@@ -1,10 +1,10 @@
 -- Bits of words by place.
-use Rattle.std.proofs.Common.{◌≡◌, ℕ, ◌+◌, ◌-◌, ◌*◌, ◌/◌, ◌%◌, ◌^◌, ◌<◌, ◌≤◌, List, length, get_or, refl, sym, ap, ◌∙◌, subst, arith, inl, inr}
+use Rattle.std.proofs.Common.{◌≡◌, ℕ, ◌+◌, ◌-◌, ◌*◌, ◌/◌, ◌%◌, ◌^◌, ◌<◌, ◌≤◌, List, get_or, sym, ap, ◌∙◌, arith, inl, inr}
 use Rattle.std.specs.Prelude.{◌⊎◌}
 use Rattle.std.specs.Int.{bit_at}
 use Rattle.std.proofs.lemmas.Nat.{shr-shr}
 use Rattle.std.proofs.lemmas.Nat.Bits.{bit_at-zero}
-use Rattle.marks.specs.Places.{bit_of, IsNext}
+use Rattle.marks.specs.Places.{bit_of, IsNextMark}
 
 -- a bit of what is shifted out of a word
 pub shifted : (n a i : ℕ) → bit_at (n / 2 ^ a) i ≡ bit_at n (a + i)
@@ -17,7 +17,7 @@ none_above n a e k le =
     ap (bit_at n) s ∙ sym (shifted n a (k - a)) ∙ ap (λ (m : ℕ). bit_at m (k - a)) e ∙ bit_at-zero (k - a)
 
 -- the lowest bit of what is left of the word
-pub next_above : (n a b : ℕ) → bit_at (n / 2 ^ a) b ≡ 1 → ((k : ℕ) → k < b → bit_at (n / 2 ^ a) k ≡ 0) → IsNext (bit_at n) a (a + b)
+pub next_above : (n a b : ℕ) → bit_at (n / 2 ^ a) b ≡ 1 → ((k : ℕ) → k < b → bit_at (n / 2 ^ a) k ≡ 0) → IsNextMark (bit_at n) a (a + b)
 next_above n a b there before = record {
   least = omega arith;
   there = sym (shifted n a b) ∙ there;
@@ -42,7 +42,7 @@ bit_in words i b small =
 
 -- the first bit of the first word that is not zero is the next place
 pub first_here : (words : List ℕ) (start i b : ℕ) → b < 64 → bit_at (get_or words i 0) b ≡ 1 → ((k : ℕ) → k < b → bit_at (get_or words i 0) k ≡ 0)
-    → AreZero words start i → IsNext (bit_of words) (start * 64) (i * 64 + b)
+    → AreZero words start i → IsNextMark (bit_of words) (start * 64) (i * 64 + b)
 first_here words start i b small there before h = record {
   least = let o = h.order in omega arith;
   there = bit_in words i b small ∙ there;

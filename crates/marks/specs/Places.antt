@@ -12,7 +12,7 @@ pub record Differs (old new : ℕ → ℕ) (place now : ℕ) : Type 0 where
   pub others : (k : ℕ) → (k ≡ place → ⊥) → new k ≡ old k
 
 -- This is the first place of the set, of those from `from` on.
-pub record IsNext (set : ℕ → ℕ) (from place : ℕ) : Type 0 where
+pub record IsNextMark (set : ℕ → ℕ) (from place : ℕ) : Type 0 where
   pub least : from ≤ place
   pub there : set place ≡ 1
   pub before : (k : ℕ) → from ≤ k → k < place → set k ≡ 0

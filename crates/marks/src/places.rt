@@ -1,7 +1,7 @@
 //! What a set of places does.
 
 ghost use Rattle.std.specs.Prelude.{◌≡◌, ◌<◌, ◌≤◌, ℕ, OnOk, OnErr, IfSome, IfNone};
-ghost use Rattle.marks.specs.Places.{Differs, IsNext};
+ghost use Rattle.marks.specs.Places.{Differs, IsNextMark};
 
 use std::alloc::{AllocError, Global};
 
@@ -39,13 +39,13 @@ pub trait Places: Drop {
 
     /// The first place in the set, of those from `from` on.
     fn next(&self, from: usize) -> Option<usize>
-        ensures some { IfSome result (λ place. IsNext (bit self.now) from place) }
+        ensures some { IfSome result (λ place. IsNextMark (bit self.now) from place) }
         ensures within { IfSome result (λ place. place < size self.now) }
         ensures none { IfNone result ((k : ℕ) → from ≤ k → bit self.now k ≡ 0) };
 
     /// The first place in the set.
     fn first(&self) -> Option<usize>
-        ensures some { IfSome result (λ place. IsNext (bit self.now) 0 place) }
+        ensures some { IfSome result (λ place. IsNextMark (bit self.now) 0 place) }
         ensures within { IfSome result (λ place. place < size self.now) }
         ensures none { IfNone result ((k : ℕ) → bit self.now k ≡ 0) };
 }

@@ -2,7 +2,7 @@
 
 ghost use Rattle.std.specs.Prelude.{◌≡◌, ◌+◌, ◌*◌, ◌/◌, ◌<◌, ◌≤◌, ◌^◌, ◌==◌, ℕ, length, get_or, OnOk, OnErr, IfSome, IfNone};
 ghost use Rattle.std.specs.Int.{bit_at};
-ghost use Rattle.marks.specs.Places.{bit_of, Differs, IsNext};
+ghost use Rattle.marks.specs.Places.{bit_of, Differs, IsNextMark};
 
 use std::alloc::AllocError;
 
@@ -38,7 +38,7 @@ pub(crate) fn lowest_bit(word: u64) -> usize
 /// The lowest bit that is set, of those from `from` on.
 fn next_bit(word: u64, from: usize) -> Option<usize>
     requires { from < 64 }
-    ensures some { IfSome result (λ b. IsNext (bit_at word) from b) }
+    ensures some { IfSome result (λ b. IsNextMark (bit_at word) from b) }
     ensures within { IfSome result (λ b. b < 64) }
     ensures none { IfNone result ((k : ℕ) → from ≤ k → bit_at word k ≡ 0) }
 {
@@ -94,7 +94,7 @@ pub(crate) fn clear_in(words: &mut Vec<u64>, place: usize) -> bool
 /// The first place in the set, of those from `from` on in the same word.
 pub(crate) fn next_here(words: &[u64], from: usize) -> Option<usize>
     requires { length words.now ≤ 2 ^ 58 }
-    ensures some { IfSome result (λ p. IsNext (bit_of words.now) from p) }
+    ensures some { IfSome result (λ p. IsNextMark (bit_of words.now) from p) }
     ensures within { IfSome result (λ p. p < length words.now * 64) }
     ensures none { IfNone result ((k : ℕ) → from ≤ k → k / 64 ≡ from / 64 → bit_of words.now k ≡ 0) }
 {
@@ -110,7 +110,7 @@ pub(crate) fn next_here(words: &[u64], from: usize) -> Option<usize>
 /// The first place in the set, of those in the words from `start` on.
 pub(crate) fn first_from(words: &[u64], start: usize) -> Option<usize>
     requires { length words.now ≤ 2 ^ 58 }
-    ensures some { IfSome result (λ p. IsNext (bit_of words.now) (start * 64) p) }
+    ensures some { IfSome result (λ p. IsNextMark (bit_of words.now) (start * 64) p) }
     ensures within { IfSome result (λ p. p < length words.now * 64) }
     ensures none { IfNone result ((k : ℕ) → start * 64 ≤ k → bit_of words.now k ≡ 0) }
 {

@@ -5,7 +5,7 @@ use Rattle.model.specs.Grammar.{Argument}
 use Rattle.field_table.specs.Arguments.{arguments_at}
 use Rattle.method_arguments.specs.declared.pieces.Kind.{Kind}
 use Rattle.method_arguments.specs.declared.pieces.Pieces.{Pieces}
-use Rattle.method_arguments.specs.Pieces.{seen, onto, first_of, others_of, AreOf, kinds_in}
+use Rattle.method_arguments.specs.Pieces.{piece_seen, onto_arguments, first_kind, others_of, AreOf, kinds_in}
 use Rattle.method_arguments.specs.Taking.{IsTaken, AreRead}
 
 none_left : (ks : List Kind) → length ks ≤ 5 → others_of (others_of (others_of (others_of (others_of ks)))) ≡ []
@@ -20,7 +20,7 @@ none_left (a ∷ b ∷ c ∷ d ∷ e ∷ f ∷ ks) h = absurd (omega arith)
 -- what was read, from what was read behind the five
 abbrev chain : Pieces → Option (List Argument) → Option (List Argument)
 chain p given =
-    option_map (onto (seen p.first)) (option_map (onto (seen p.second)) (option_map (onto (seen p.third)) (option_map (onto (seen p.fourth)) (option_map (onto (seen p.fifth)) given))))
+    option_map (onto_arguments (piece_seen p.first)) (option_map (onto_arguments (piece_seen p.second)) (option_map (onto_arguments (piece_seen p.third)) (option_map (onto_arguments (piece_seen p.fourth)) (option_map (onto_arguments (piece_seen p.fifth)) given))))
 
 pub record AreTaken (ks : List Kind) (bytes : List ℕ) (p : Pieces) (rest : List ℕ) : Type 0 where
   pub kinds : AreOf ks p
@@ -37,14 +37,14 @@ five {k0 = k0} {k1 = k1} {k2 = k2} {k3 = k3} {k4 = k4} {k5 = k5} {b5 = b5} p few
     record {
       kinds = record {
         first = t1.kind_is;
-        second = t2.kind_is ∙ ap first_of t1.others_are;
-        third = t3.kind_is ∙ ap first_of two;
-        fourth = t4.kind_is ∙ ap first_of three;
-        fifth = t5.kind_is ∙ ap first_of four;
+        second = t2.kind_is ∙ ap first_kind t1.others_are;
+        third = t3.kind_is ∙ ap first_kind two;
+        fourth = t4.kind_is ∙ ap first_kind three;
+        fifth = t5.kind_is ∙ ap first_kind four;
       };
       read =
-          t1.read ∙ ap (option_map (onto (seen p.first))) (t2.read ∙ ap (option_map (onto (seen p.second))) (t3.read ∙ ap (option_map (onto (seen p.third)))
-          (t4.read ∙ ap (option_map (onto (seen p.fourth))) (t5.read ∙ ap (option_map (onto (seen p.fifth))) (ap (λ (ks : List Kind). arguments_at (kinds_in ks) b5) none)))));
+          t1.read ∙ ap (option_map (onto_arguments (piece_seen p.first))) (t2.read ∙ ap (option_map (onto_arguments (piece_seen p.second))) (t3.read ∙ ap (option_map (onto_arguments (piece_seen p.third)))
+          (t4.read ∙ ap (option_map (onto_arguments (piece_seen p.fourth))) (t5.read ∙ ap (option_map (onto_arguments (piece_seen p.fifth))) (ap (λ (ks : List Kind). arguments_at (kinds_in ks) b5) none)))));
     }
 
 -- no bytes are left over

@@ -23,28 +23,28 @@ kind kinds.FourBits = arguments.some_bits 4
 kind kinds.FiveBits = arguments.some_bits 5
 
 -- the argument, if it is one
-abbrev pub seen : Piece → Option Argument
-seen pieces.Nothing = None
-seen (pieces.Octet n) = Some (Octet n)
-seen (pieces.Short n) = Some (Short n)
-seen (pieces.Long n) = Some (Long n)
-seen (pieces.LongLong n) = Some (Long_long n)
-seen (pieces.ShortText t) = Some (Short_text t.now)
-seen (pieces.LongText t) = Some (Long_text t.now)
-seen (pieces.Table t) = Some (Field_table t.now)
-seen (pieces.Bit b) = Some (Bits (b ∷ []))
-seen (pieces.TwoBits a b) = Some (Bits (a ∷ b ∷ []))
-seen (pieces.FourBits a b c d) = Some (Bits (a ∷ b ∷ c ∷ d ∷ []))
-seen (pieces.FiveBits a b c d e) = Some (Bits (a ∷ b ∷ c ∷ d ∷ e ∷ []))
+abbrev pub piece_seen : Piece → Option Argument
+piece_seen pieces.Nothing = None
+piece_seen (pieces.Octet n) = Some (Octet n)
+piece_seen (pieces.Short n) = Some (Short n)
+piece_seen (pieces.Long n) = Some (Long n)
+piece_seen (pieces.LongLong n) = Some (Long_long n)
+piece_seen (pieces.ShortText t) = Some (Short_text t.now)
+piece_seen (pieces.LongText t) = Some (Long_text t.now)
+piece_seen (pieces.Table t) = Some (Field_table t.now)
+piece_seen (pieces.Bit b) = Some (Bits (b ∷ []))
+piece_seen (pieces.TwoBits a b) = Some (Bits (a ∷ b ∷ []))
+piece_seen (pieces.FourBits a b c d) = Some (Bits (a ∷ b ∷ c ∷ d ∷ []))
+piece_seen (pieces.FiveBits a b c d e) = Some (Bits (a ∷ b ∷ c ∷ d ∷ e ∷ []))
 
 -- an argument, if it is one, before others
-abbrev pub onto : Option Argument → List Argument → List Argument
-onto None others = others
-onto (Some a) others = a ∷ others
+abbrev pub onto_arguments : Option Argument → List Argument → List Argument
+onto_arguments None others = others
+onto_arguments (Some a) others = a ∷ others
 
 -- all of them
 abbrev pub given : Pieces → List Argument
-given p = onto (seen p.first) (onto (seen p.second) (onto (seen p.third) (onto (seen p.fourth) (onto (seen p.fifth) []))))
+given p = onto_arguments (piece_seen p.first) (onto_arguments (piece_seen p.second) (onto_arguments (piece_seen p.third) (onto_arguments (piece_seen p.fourth) (onto_arguments (piece_seen p.fifth) []))))
 
 -- the kind of a piece, if it is an argument
 abbrev pub kind_in : Piece → Option arguments.Kind
@@ -66,9 +66,9 @@ abbrev pub IsOfKind : arguments.Kind → Piece → Type 0
 IsOfKind k p = kind_in p ≡ Some k
 
 -- the first kind, if there is one
-abbrev pub first_of : List Kind → Option arguments.Kind
-first_of [] = None
-first_of (k ∷ ks) = Some (kind k)
+abbrev pub first_kind : List Kind → Option arguments.Kind
+first_kind [] = None
+first_kind (k ∷ ks) = Some (kind k)
 
 -- the kinds after it
 abbrev pub others_of : List Kind → List Kind
@@ -77,11 +77,11 @@ others_of (k ∷ ks) = ks
 
 -- the pieces are of these kinds, of which there are at most five
 pub record AreOf (ks : List Kind) (p : Pieces) : Type 0 where
-  pub first : kind_in p.first ≡ first_of ks
-  pub second : kind_in p.second ≡ first_of (others_of ks)
-  pub third : kind_in p.third ≡ first_of (others_of (others_of ks))
-  pub fourth : kind_in p.fourth ≡ first_of (others_of (others_of (others_of ks)))
-  pub fifth : kind_in p.fifth ≡ first_of (others_of (others_of (others_of (others_of ks))))
+  pub first : kind_in p.first ≡ first_kind ks
+  pub second : kind_in p.second ≡ first_kind (others_of ks)
+  pub third : kind_in p.third ≡ first_kind (others_of (others_of ks))
+  pub fourth : kind_in p.fourth ≡ first_kind (others_of (others_of (others_of ks)))
+  pub fifth : kind_in p.fifth ≡ first_kind (others_of (others_of (others_of (others_of ks))))
 
 -- the kinds, as the grammar of arguments has them
 abbrev pub kinds_in : List Kind → List arguments.Kind

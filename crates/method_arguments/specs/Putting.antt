@@ -2,16 +2,16 @@
 use Rattle.std.specs.Prelude.{ℕ, List, ◌++◌}
 use Rattle.model.specs.Headers.{value_of, IsValue}
 use Rattle.method_arguments.specs.declared.pieces.Pieces.{Pieces}
-use Rattle.method_arguments.specs.Pieces.{seen}
+use Rattle.method_arguments.specs.Pieces.{piece_seen}
 
 -- how arguments are spelled, one after another
 abbrev pub pieces_bytes : Pieces → List ℕ
-pieces_bytes p = value_of (seen p.first) ++ (value_of (seen p.second) ++ (value_of (seen p.third) ++ (value_of (seen p.fourth) ++ value_of (seen p.fifth))))
+pieces_bytes p = value_of (piece_seen p.first) ++ (value_of (piece_seen p.second) ++ (value_of (piece_seen p.third) ++ (value_of (piece_seen p.fourth) ++ value_of (piece_seen p.fifth))))
 
 -- each of them has a spelling
 pub record AreSpelled (p : Pieces) : Type 0 where
-  pub first : IsValue (seen p.first)
-  pub second : IsValue (seen p.second)
-  pub third : IsValue (seen p.third)
-  pub fourth : IsValue (seen p.fourth)
-  pub fifth : IsValue (seen p.fifth)
+  pub first : IsValue (piece_seen p.first)
+  pub second : IsValue (piece_seen p.second)
+  pub third : IsValue (piece_seen p.third)
+  pub fourth : IsValue (piece_seen p.fourth)
+  pub fifth : IsValue (piece_seen p.fifth)

@@ -6,7 +6,7 @@ use Rattle.field_table.specs.Arguments.{arguments_at}
 use Rattle.method_arguments.specs.declared.pieces.Kind.{Kind}
 use Rattle.method_arguments.specs.declared.pieces.Piece.{Piece}
 use Rattle.method_arguments.specs.declared.pieces.Pieces.{Pieces}
-use Rattle.method_arguments.specs.Pieces.{seen, onto, given, kind_in, first_of, others_of, AreOf, kinds_in}
+use Rattle.method_arguments.specs.Pieces.{piece_seen, onto_arguments, given, kind_in, first_kind, others_of, AreOf, kinds_in}
 
 -- an argument that is there, and the bytes after it
 abbrev pub found : Option (Argument × List ℕ) → Option (Option Argument × List ℕ)
@@ -15,9 +15,9 @@ found (Some x) = Some (Some x.0, x.1)
 
 -- a piece was taken off the front: the kinds of the others and the bytes after it are left
 pub record IsTaken (ks : List Kind) (bytes : List ℕ) (p : Piece) (others : List Kind) (rest : List ℕ) : Type 0 where
-  pub kind_is : kind_in p ≡ first_of ks
+  pub kind_is : kind_in p ≡ first_kind ks
   pub others_are : others ≡ others_of ks
-  pub read : arguments_at (kinds_in ks) bytes ≡ option_map (onto (seen p)) (arguments_at (kinds_in others) rest)
+  pub read : arguments_at (kinds_in ks) bytes ≡ option_map (onto_arguments (piece_seen p)) (arguments_at (kinds_in others) rest)
 
 -- a piece was taken off the front, or there are no arguments of these kinds
 abbrev pub TakesArgument : List Kind → List ℕ → Option (Piece × Bor (List Kind) × Bor (List ℕ)) → Type 0

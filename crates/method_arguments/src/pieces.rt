@@ -60,11 +60,11 @@ pub const NOTHING: Pieces<'static> = Pieces {
 };
 
 impl<'a> Piece<'a> {
-    ghost use Rattle.method_arguments.specs.Pieces.{seen, IsOfKind};
+    ghost use Rattle.method_arguments.specs.Pieces.{piece_seen, IsOfKind};
 
     pub fn octet(&self) -> u8
         requires { IsOfKind an_octet self.now }
-        ensures { seen self.now ≡ Some (said.Octet result) }
+        ensures { piece_seen self.now ≡ Some (said.Octet result) }
     {
         match self {
             Piece::Octet(number) => *number,
@@ -74,7 +74,7 @@ impl<'a> Piece<'a> {
 
     pub fn short(&self) -> u16
         requires { IsOfKind a_short self.now }
-        ensures { seen self.now ≡ Some (said.Short result) }
+        ensures { piece_seen self.now ≡ Some (said.Short result) }
     {
         match self {
             Piece::Short(number) => *number,
@@ -84,7 +84,7 @@ impl<'a> Piece<'a> {
 
     pub fn long(&self) -> u32
         requires { IsOfKind a_long self.now }
-        ensures { seen self.now ≡ Some (said.Long result) }
+        ensures { piece_seen self.now ≡ Some (said.Long result) }
     {
         match self {
             Piece::Long(number) => *number,
@@ -94,7 +94,7 @@ impl<'a> Piece<'a> {
 
     pub fn long_long(&self) -> u64
         requires { IsOfKind a_long_long self.now }
-        ensures { seen self.now ≡ Some (said.Long_long result) }
+        ensures { piece_seen self.now ≡ Some (said.Long_long result) }
     {
         match self {
             Piece::LongLong(number) => *number,
@@ -104,7 +104,7 @@ impl<'a> Piece<'a> {
 
     pub fn short_text(&self, alloc: Global) -> Result<Text, AllocError>
         requires { IsOfKind a_short_text self.now }
-        ensures { IfOk result (λ text. seen self.now ≡ Some (said.Short_text text)) }
+        ensures { IfOk result (λ text. piece_seen self.now ≡ Some (said.Short_text text)) }
     {
         match self {
             Piece::ShortText(text) => Text::from_slice(alloc, text),
@@ -114,7 +114,7 @@ impl<'a> Piece<'a> {
 
     pub fn long_text(&self, alloc: Global) -> Result<Text, AllocError>
         requires { IsOfKind a_long_text self.now }
-        ensures { IfOk result (λ text. seen self.now ≡ Some (said.Long_text text)) }
+        ensures { IfOk result (λ text. piece_seen self.now ≡ Some (said.Long_text text)) }
     {
         match self {
             Piece::LongText(text) => Text::from_slice(alloc, text),
@@ -125,7 +125,7 @@ impl<'a> Piece<'a> {
     /// The bytes of a table's pairs, which need not be pairs.
     pub fn pairs(&self) -> &'a [u8]
         requires { IsOfKind a_field_table self.now }
-        ensures { seen self.now ≡ Some (said.Field_table result.now) }
+        ensures { piece_seen self.now ≡ Some (said.Field_table result.now) }
     {
         match self {
             Piece::Table(pairs) => pairs,
@@ -135,7 +135,7 @@ impl<'a> Piece<'a> {
 
     pub fn bit(&self) -> bool
         requires { IsOfKind (some_bits 1) self.now }
-        ensures { seen self.now ≡ Some (said.Bits (result ∷ [])) }
+        ensures { piece_seen self.now ≡ Some (said.Bits (result ∷ [])) }
     {
         match self {
             Piece::Bit(bit) => *bit,
@@ -145,7 +145,7 @@ impl<'a> Piece<'a> {
 
     pub fn two_bits(&self) -> (bool, bool)
         requires { IsOfKind (some_bits 2) self.now }
-        ensures { seen self.now ≡ Some (said.Bits (result.0 ∷ result.1 ∷ [])) }
+        ensures { piece_seen self.now ≡ Some (said.Bits (result.0 ∷ result.1 ∷ [])) }
     {
         match self {
             Piece::TwoBits(a, b) => (*a, *b),
@@ -155,7 +155,7 @@ impl<'a> Piece<'a> {
 
     pub fn four_bits(&self) -> (bool, bool, bool, bool)
         requires { IsOfKind (some_bits 4) self.now }
-        ensures { seen self.now ≡ Some (said.Bits (result.0 ∷ result.1 ∷ result.2 ∷ result.3 ∷ [])) }
+        ensures { piece_seen self.now ≡ Some (said.Bits (result.0 ∷ result.1 ∷ result.2 ∷ result.3 ∷ [])) }
     {
         match self {
             Piece::FourBits(a, b, c, d) => (*a, *b, *c, *d),
@@ -165,7 +165,7 @@ impl<'a> Piece<'a> {
 
     pub fn five_bits(&self) -> (bool, bool, bool, bool, bool)
         requires { IsOfKind (some_bits 5) self.now }
-        ensures { seen self.now ≡ Some (said.Bits (result.0 ∷ result.1 ∷ result.2 ∷ result.3 ∷ result.4 ∷ [])) }
+        ensures { piece_seen self.now ≡ Some (said.Bits (result.0 ∷ result.1 ∷ result.2 ∷ result.3 ∷ result.4 ∷ [])) }
     {
         match self {
             Piece::FiveBits(a, b, c, d, e) => (*a, *b, *c, *d, *e),

@@ -4,7 +4,7 @@ ghost use Rattle.std.specs.Prelude.{◌≡◌, ◌+◌, ◌≤◌, ◌<◌, ◌^
 ghost use Rattle.model.specs.Grammar.{octet as octet_of};
 ghost use Rattle.model.specs.Headers.{value_of, IsValue};
 ghost use Rattle.model.specs.Tables.{sized};
-ghost use Rattle.method_arguments.specs.Pieces.{seen};
+ghost use Rattle.method_arguments.specs.Pieces.{piece_seen};
 ghost use Rattle.method_arguments.specs.Putting.{pieces_bytes, AreSpelled};
 
 use crate::pieces::{Piece, Pieces};
@@ -35,7 +35,7 @@ pub fn pieces_len(pieces: &Pieces<'_>) -> Option<usize>
 
 // How many bytes a piece has, if its text is not too long.
 fn piece_len(piece: &Piece<'_>) -> Option<usize>
-    ensures cases { MatchOption result (IsValue (seen piece.now) → ⊥) (λ n. IsValue (seen piece.now) × (n ≡ length (value_of (seen piece.now)))) }
+    ensures cases { MatchOption result (IsValue (piece_seen piece.now) → ⊥) (λ n. IsValue (piece_seen piece.now) × (n ≡ length (value_of (piece_seen piece.now)))) }
     ensures bound { IfSome result (λ n. n < 2 ^ 33) }
 {
     match piece {
@@ -94,10 +94,10 @@ pub fn put_pieces(out: &mut Vec<u8>, pieces: &Pieces<'_>)
 }
 
 fn put_piece(out: &mut Vec<u8>, piece: &Piece<'_>)
-    requires fits { IsValue (seen piece.now) }
-    requires room { vec_len out.old + length (value_of (seen piece.now)) ≤ vec_capacity out.old }
-    ensures items { out.new.items ≡ out.old.items ++ value_of (seen piece.now) }
-    ensures len { vec_len out.new ≡ vec_len out.old + length (value_of (seen piece.now)) }
+    requires fits { IsValue (piece_seen piece.now) }
+    requires room { vec_len out.old + length (value_of (piece_seen piece.now)) ≤ vec_capacity out.old }
+    ensures items { out.new.items ≡ out.old.items ++ value_of (piece_seen piece.now) }
+    ensures len { vec_len out.new ≡ vec_len out.old + length (value_of (piece_seen piece.now)) }
     ensures capacity { vec_capacity out.old ≤ vec_capacity out.new }
 {
     match piece {

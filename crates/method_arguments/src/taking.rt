@@ -2,7 +2,7 @@
 
 ghost use Rattle.std.specs.Prelude.{◌≡◌, ◌≤◌, length, option_map, None, Some, IfSome, MatchOption};
 ghost use Rattle.field_table.specs.Arguments.{argument_at, arguments_at, an_octet, a_short, a_long, a_long_long, a_short_text, a_long_text, a_field_table, some_bits};
-ghost use Rattle.method_arguments.specs.Pieces.{kind as as_kind, kind_in, kinds_in, seen};
+ghost use Rattle.method_arguments.specs.Pieces.{kind as as_kind, kind_in, kinds_in, piece_seen};
 ghost use Rattle.method_arguments.specs.Taking.{TakesArgument, AreRead, found};
 
 use crate::pieces::{Kind, Piece, Pieces};
@@ -60,7 +60,7 @@ fn take<'k, 'a>(kinds: &'k [Kind], bytes: &'a [u8]) -> Option<(Piece<'a>, &'k [K
 
 /// The argument of this kind, and the bytes after it.
 fn piece_at(kind: Kind, bytes: &[u8]) -> Option<(Piece<'_>, &[u8])>
-    ensures read { option_map (λ x. (seen x.0, x.1.now)) result ≡ found (argument_at (as_kind kind) bytes.now) }
+    ensures read { option_map (λ x. (piece_seen x.0, x.1.now)) result ≡ found (argument_at (as_kind kind) bytes.now) }
     ensures kind { IfSome result (λ x. kind_in x.0 ≡ Some (as_kind kind)) }
 {
     match kind {
@@ -81,7 +81,7 @@ fn piece_at(kind: Kind, bytes: &[u8]) -> Option<(Piece<'_>, &[u8])>
 // ---- an argument of each kind
 
 fn octet_piece(bytes: &[u8]) -> Option<(Piece<'_>, &[u8])>
-    ensures read { option_map (λ x. (seen x.0, x.1.now)) result ≡ found (argument_at an_octet bytes.now) }
+    ensures read { option_map (λ x. (piece_seen x.0, x.1.now)) result ≡ found (argument_at an_octet bytes.now) }
     ensures kind { IfSome result (λ x. kind_in x.0 ≡ Some an_octet) }
 {
     let Some((number, rest)) = octet_at(bytes) else {
@@ -91,7 +91,7 @@ fn octet_piece(bytes: &[u8]) -> Option<(Piece<'_>, &[u8])>
 }
 
 fn short_piece(bytes: &[u8]) -> Option<(Piece<'_>, &[u8])>
-    ensures read { option_map (λ x. (seen x.0, x.1.now)) result ≡ found (argument_at a_short bytes.now) }
+    ensures read { option_map (λ x. (piece_seen x.0, x.1.now)) result ≡ found (argument_at a_short bytes.now) }
     ensures kind { IfSome result (λ x. kind_in x.0 ≡ Some a_short) }
 {
     let Some((number, rest)) = short_at(bytes) else {
@@ -101,7 +101,7 @@ fn short_piece(bytes: &[u8]) -> Option<(Piece<'_>, &[u8])>
 }
 
 fn long_piece(bytes: &[u8]) -> Option<(Piece<'_>, &[u8])>
-    ensures read { option_map (λ x. (seen x.0, x.1.now)) result ≡ found (argument_at a_long bytes.now) }
+    ensures read { option_map (λ x. (piece_seen x.0, x.1.now)) result ≡ found (argument_at a_long bytes.now) }
     ensures kind { IfSome result (λ x. kind_in x.0 ≡ Some a_long) }
 {
     let Some((number, rest)) = long_at(bytes) else {
@@ -111,7 +111,7 @@ fn long_piece(bytes: &[u8]) -> Option<(Piece<'_>, &[u8])>
 }
 
 fn long_long_piece(bytes: &[u8]) -> Option<(Piece<'_>, &[u8])>
-    ensures read { option_map (λ x. (seen x.0, x.1.now)) result ≡ found (argument_at a_long_long bytes.now) }
+    ensures read { option_map (λ x. (piece_seen x.0, x.1.now)) result ≡ found (argument_at a_long_long bytes.now) }
     ensures kind { IfSome result (λ x. kind_in x.0 ≡ Some a_long_long) }
 {
     let Some((number, rest)) = long_long_at(bytes) else {
@@ -121,7 +121,7 @@ fn long_long_piece(bytes: &[u8]) -> Option<(Piece<'_>, &[u8])>
 }
 
 fn short_text_piece(bytes: &[u8]) -> Option<(Piece<'_>, &[u8])>
-    ensures read { option_map (λ x. (seen x.0, x.1.now)) result ≡ found (argument_at a_short_text bytes.now) }
+    ensures read { option_map (λ x. (piece_seen x.0, x.1.now)) result ≡ found (argument_at a_short_text bytes.now) }
     ensures kind { IfSome result (λ x. kind_in x.0 ≡ Some a_short_text) }
 {
     let Some((text, rest)) = short_text_at(bytes) else {
@@ -131,7 +131,7 @@ fn short_text_piece(bytes: &[u8]) -> Option<(Piece<'_>, &[u8])>
 }
 
 fn long_text_piece(bytes: &[u8]) -> Option<(Piece<'_>, &[u8])>
-    ensures read { option_map (λ x. (seen x.0, x.1.now)) result ≡ found (argument_at a_long_text bytes.now) }
+    ensures read { option_map (λ x. (piece_seen x.0, x.1.now)) result ≡ found (argument_at a_long_text bytes.now) }
     ensures kind { IfSome result (λ x. kind_in x.0 ≡ Some a_long_text) }
 {
     let Some((text, rest)) = long_text_at(bytes) else {
@@ -141,7 +141,7 @@ fn long_text_piece(bytes: &[u8]) -> Option<(Piece<'_>, &[u8])>
 }
 
 fn table_piece(bytes: &[u8]) -> Option<(Piece<'_>, &[u8])>
-    ensures read { option_map (λ x. (seen x.0, x.1.now)) result ≡ found (argument_at a_field_table bytes.now) }
+    ensures read { option_map (λ x. (piece_seen x.0, x.1.now)) result ≡ found (argument_at a_field_table bytes.now) }
     ensures kind { IfSome result (λ x. kind_in x.0 ≡ Some a_field_table) }
 {
     let Some((pairs, rest)) = pairs_at(bytes) else {
@@ -151,7 +151,7 @@ fn table_piece(bytes: &[u8]) -> Option<(Piece<'_>, &[u8])>
 }
 
 fn bit_piece(bytes: &[u8]) -> Option<(Piece<'_>, &[u8])>
-    ensures read { option_map (λ x. (seen x.0, x.1.now)) result ≡ found (argument_at (some_bits 1) bytes.now) }
+    ensures read { option_map (λ x. (piece_seen x.0, x.1.now)) result ≡ found (argument_at (some_bits 1) bytes.now) }
     ensures kind { IfSome result (λ x. kind_in x.0 ≡ Some (some_bits 1)) }
 {
     let Some((bit, rest)) = one_bit_at(bytes) else {
@@ -161,7 +161,7 @@ fn bit_piece(bytes: &[u8]) -> Option<(Piece<'_>, &[u8])>
 }
 
 fn two_bits_piece(bytes: &[u8]) -> Option<(Piece<'_>, &[u8])>
-    ensures read { option_map (λ x. (seen x.0, x.1.now)) result ≡ found (argument_at (some_bits 2) bytes.now) }
+    ensures read { option_map (λ x. (piece_seen x.0, x.1.now)) result ≡ found (argument_at (some_bits 2) bytes.now) }
     ensures kind { IfSome result (λ x. kind_in x.0 ≡ Some (some_bits 2)) }
 {
     let (first, second, rest) = two_bits_at(bytes)?;
@@ -169,7 +169,7 @@ fn two_bits_piece(bytes: &[u8]) -> Option<(Piece<'_>, &[u8])>
 }
 
 fn four_bits_piece(bytes: &[u8]) -> Option<(Piece<'_>, &[u8])>
-    ensures read { option_map (λ x. (seen x.0, x.1.now)) result ≡ found (argument_at (some_bits 4) bytes.now) }
+    ensures read { option_map (λ x. (piece_seen x.0, x.1.now)) result ≡ found (argument_at (some_bits 4) bytes.now) }
     ensures kind { IfSome result (λ x. kind_in x.0 ≡ Some (some_bits 4)) }
 {
     let ([a, b, c, d], rest) = four_bits_at(bytes)?;
@@ -177,7 +177,7 @@ fn four_bits_piece(bytes: &[u8]) -> Option<(Piece<'_>, &[u8])>
 }
 
 fn five_bits_piece(bytes: &[u8]) -> Option<(Piece<'_>, &[u8])>
-    ensures read { option_map (λ x. (seen x.0, x.1.now)) result ≡ found (argument_at (some_bits 5) bytes.now) }
+    ensures read { option_map (λ x. (piece_seen x.0, x.1.now)) result ≡ found (argument_at (some_bits 5) bytes.now) }
     ensures kind { IfSome result (λ x. kind_in x.0 ≡ Some (some_bits 5)) }
 {
     let ([a, b, c, d, e], rest) = five_bits_at(bytes)?;

@@ -7,21 +7,21 @@ use Rattle.model.specs.Grammar.{Argument, argument, IsArgument, ids_of, argument
 use Rattle.model.specs.Headers.{value_of, IsValue}
 use Rattle.model.specs.declared.methods.Method.{Method}
 use Rattle.method_arguments.specs.declared.pieces.Pieces.{Pieces}
-use Rattle.method_arguments.specs.Pieces.{seen, onto, given}
+use Rattle.method_arguments.specs.Pieces.{piece_seen, onto_arguments, given}
 use Rattle.method_arguments.specs.Putting.{pieces_bytes, AreSpelled}
 
 abbrev Fit : List Argument → Type 0
 Fit all = AllByRecursion IsArgument all
 
-bytes_onto : (a : Option Argument) (others : List Argument) (bytes : List ℕ) → flat_map argument others ≡ bytes → flat_map argument (onto a others) ≡ value_of a ++ bytes
+bytes_onto : (a : Option Argument) (others : List Argument) (bytes : List ℕ) → flat_map argument others ≡ bytes → flat_map argument (onto_arguments a others) ≡ value_of a ++ bytes
 bytes_onto None others bytes e = e
 bytes_onto (Some x) others bytes e = ap (λ (z : List ℕ). argument x ++ z) e
 
-fit_onto : (a : Option Argument) (others : List Argument) → IsValue a → Fit others → Fit (onto a others)
+fit_onto : (a : Option Argument) (others : List Argument) → IsValue a → Fit others → Fit (onto_arguments a others)
 fit_onto None others fits rest = rest
 fit_onto (Some x) others fits rest = (fits, rest)
 
-fit_first : (a : Option Argument) (others : List Argument) → Fit (onto a others) → IsValue a × Fit others
+fit_first : (a : Option Argument) (others : List Argument) → Fit (onto_arguments a others) → IsValue a × Fit others
 fit_first None others fit = (tt, fit)
 fit_first (Some x) others fit = (fit.0, fit.1)
 
@@ -35,15 +35,15 @@ pub are : (p : Pieces) (m : Method) → given p ≡ arguments m → Are p m
 are p m e = record {
   bytes = ap (λ (z : List ℕ). to_be_bytes w16 (ids_of m).class ++ to_be_bytes w16 (ids_of m).method ++ z) (sym all ∙ ap (λ (z : List Argument). flat_map argument z) e);
   fits = λ i. subst (λ (z : List Argument). Fit z) e
-      (fit_onto (seen p.first) _ i.first (fit_onto (seen p.second) _ i.second (fit_onto (seen p.third) _ i.third (fit_onto (seen p.fourth) _ i.fourth (fit_onto (seen p.fifth) [] i.fifth tt)))));
+      (fit_onto (piece_seen p.first) _ i.first (fit_onto (piece_seen p.second) _ i.second (fit_onto (piece_seen p.third) _ i.third (fit_onto (piece_seen p.fourth) _ i.fourth (fit_onto (piece_seen p.fifth) [] i.fifth tt)))));
   back = λ i.
-      let a = fit_first (seen p.first) _ (subst (λ (z : List Argument). Fit z) (sym e) i) in
-      let b = fit_first (seen p.second) _ a.1 in
-      let c = fit_first (seen p.third) _ b.1 in
-      let d = fit_first (seen p.fourth) _ c.1 in
-      let f = fit_first (seen p.fifth) [] d.1 in
+      let a = fit_first (piece_seen p.first) _ (subst (λ (z : List Argument). Fit z) (sym e) i) in
+      let b = fit_first (piece_seen p.second) _ a.1 in
+      let c = fit_first (piece_seen p.third) _ b.1 in
+      let d = fit_first (piece_seen p.fourth) _ c.1 in
+      let f = fit_first (piece_seen p.fifth) [] d.1 in
       record { first = a.0; second = b.0; third = c.0; fourth = d.0; fifth = f.0 };
 }
   where
     all : flat_map argument (given p) ≡ pieces_bytes p
-    all = bytes_onto (seen p.first) _ _ (bytes_onto (seen p.second) _ _ (bytes_onto (seen p.third) _ _ (bytes_onto (seen p.fourth) _ _ (bytes_onto (seen p.fifth) [] [] refl ∙ append-nil (value_of (seen p.fifth))))))
+    all = bytes_onto (piece_seen p.first) _ _ (bytes_onto (piece_seen p.second) _ _ (bytes_onto (piece_seen p.third) _ _ (bytes_onto (piece_seen p.fourth) _ _ (bytes_onto (piece_seen p.fifth) [] [] refl ∙ append-nil (value_of (piece_seen p.fifth))))))

@@ -11,10 +11,10 @@ use Rattle.model.specs.declared.methods.Method.{Method}
 use Rattle.model.specs.declared.methods.Method.TheVariants.{ConnectionCloseOk, ExchangeDelete, ExchangeBind, ExchangeUnbind, QueueBind, QueueDelete, QueueUnbind}
 use Rattle.field_table.specs.Arguments.{Kind, kind_of, arguments_at}
 use Rattle.field_table.proofs.Exactly.{IsBytes, IsBytes-drop, IsKind, arguments_take, arguments_again, all_fit, all_sized, all_whole}
-use Rattle.methods.specs.declared.refusals.Refusal.{Refusal}
-use Rattle.methods.specs.declared.refusals.Refusal.TheVariants.{FrameError, SyntaxError, CommandInvalid, NotImplemented, Memory}
+use Rattle.methods.specs.declared.refusals.BadMethod.{BadMethod}
+use Rattle.methods.specs.declared.refusals.BadMethod.TheVariants.{FrameError, SyntaxError, CommandInvalid, NotImplemented, Memory}
 use Rattle.methods.specs.Kinds.{close_kinds, declare_exchange_kinds, tag_kinds, connection_kinds, channel_kinds, exchange_kinds, queue_class_kinds, basic_kinds, confirm_kinds, kinds_of}
-use Rattle.methods.specs.Reading.{MethodIsRefused, TellsMethod, IsMethodOr, Starts, IsRead, Fails, ReadsArguments}
+use Rattle.methods.specs.Reading.{MethodIsRefused, TellsMethod, IsMethodOr, BeginsMethod, IsRead, FailsToRead, ReadsArguments}
 use Rattle.methods.proofs.Rebuilt.{same_method}
 
 -- ---- the table
@@ -126,7 +126,7 @@ not_both : (b : Bool) → b ≡ true → b ≡ false → ⊥
 not_both b e f = let h : false ≡ true = sym f ∙ e in cc
 
 -- the ids at the front are those of the method
-front : (payload rest tail : List ℕ) (c m : ℕ) (x : Method) → Starts payload c m rest → payload ≡ method_bytes x ++ tail
+front : (payload rest tail : List ℕ) (c m : ℕ) (x : Method) → BeginsMethod payload c m rest → payload ≡ method_bytes x ++ tail
     → (c ≡ (ids_of x).class) × (m ≡ (ids_of x).method) × (rest ≡ flat_map argument (arguments x) ++ tail)
 front payload rest tail c m x starts e =
     let small = ids_fit x in (
@@ -135,7 +135,7 @@ front payload rest tail c m x starts e =
       sym (ap (λ (z : List ℕ). drop 4 z) starts.parts) ∙ ap (λ (z : List ℕ). drop 4 z) e,
     )
 
-found : (payload rest : List ℕ) (c m : ℕ) (x : Method) → Starts payload c m rest → IsMethod x → Spells payload x → Found x c m rest
+found : (payload rest : List ℕ) (c m : ℕ) (x : Method) → BeginsMethod payload c m rest → IsMethod x → Spells payload x → Found x c m rest
 found payload rest c m x starts fits (exact e) =
     let f = front payload rest [] c m x starts (e ∙ sym (append-nil (method_bytes x))) in
     let same : rest ≡ flat_map argument (arguments x) = f.2 ∙ append-nil (flat_map argument (arguments x)) in
@@ -156,10 +156,10 @@ found payload rest c m x starts fits (any_rest tail u e) =
     }
 
 -- the facts of the ids of a payload are those of its class and method
-at_ids : (payload rest : List ℕ) (c m : ℕ) (F : ℕ → ℕ → Bool) (b : Bool) → Starts payload c m rest → F c m ≡ b → F (class_at payload) (method_at payload) ≡ b
+at_ids : (payload rest : List ℕ) (c m : ℕ) (F : ℕ → ℕ → Bool) (b : Bool) → BeginsMethod payload c m rest → F c m ≡ b → F (class_at payload) (method_at payload) ≡ b
 at_ids payload rest c m F b starts e = ap (λ (i : ℕ). F i (method_at payload)) starts.class_is ∙ ap (λ (i : ℕ). F c i) starts.method_is ∙ e
 
-refuses : (payload rest : List ℕ) (c m : ℕ) (r : Refusal) → Starts payload c m rest → Fails c m rest r → MethodIsRefused payload r
+refuses : (payload rest : List ℕ) (c m : ℕ) (r : BadMethod) → BeginsMethod payload c m rest → FailsToRead c m rest r → MethodIsRefused payload r
 refuses payload rest c m FrameError starts f = absurd f
 refuses payload rest c m SyntaxError starts f =
     bad_arguments starts.long (at_ids payload rest c m is_known true starts f.known)
@@ -169,7 +169,7 @@ refuses payload rest c m NotImplemented starts f = left_out starts.long (at_ids 
 refuses payload rest c m Memory starts f = tt
 
 -- the front of a payload, by the ids of a method
-its_front : (payload rest : List ℕ) (c m : ℕ) (x : Method) → Starts payload c m rest → ids_of x ≡ ids c m
+its_front : (payload rest : List ℕ) (c m : ℕ) (x : Method) → BeginsMethod payload c m rest → ids_of x ≡ ids c m
     → payload ≡ to_be_bytes w16 (ids_of x).class ++ to_be_bytes w16 (ids_of x).method ++ rest
 its_front payload rest c m x starts e =
     starts.parts
@@ -177,7 +177,7 @@ its_front payload rest c m x starts e =
     ∙ ap (λ (i : ℕ). to_be_bytes w16 (ids_of x).class ++ to_be_bytes w16 i ++ rest) (sym (ap (λ (i : Ids). i.method) e))
 
 -- a method whose arguments were read, or are not read
-said_read : (payload rest : List ℕ) (c m : ℕ) (x : Method) (b : Bool) → is_unread c m ≡ b → IsBytes payload → Starts payload c m rest → IsRead c m rest x → SaysMethod payload (Ok x)
+said_read : (payload rest : List ℕ) (c m : ℕ) (x : Method) (b : Bool) → is_unread c m ≡ b → IsBytes payload → BeginsMethod payload c m rest → IsRead c m rest x → SaysMethod payload (Ok x)
 said_read payload rest c m x false u are starts reads =
     let given = reads.given u in
     let rest_fits : IsBytes rest = subst (λ (z : List ℕ). IsBytes z) (ap (λ (z : List ℕ). drop 4 z) starts.parts) (IsBytes-drop 4 payload are) in
@@ -192,7 +192,7 @@ said_read payload rest c m x true u are starts reads =
     let ends : method_bytes x ≡ head = ap (λ (z : List Argument). to_be_bytes w16 (ids_of x).class ++ to_be_bytes w16 (ids_of x).method ++ flat_map argument z) none ∙ append-nil head in
     said {m = x} fits (any_rest rest mine (its_front payload rest c m x starts reads.ids_are ∙ ap (λ (z : List ℕ). z ++ rest) (sym ends)))
 
-pub tells : (payload rest : List ℕ) (c m : ℕ) (r : Result Method Refusal) → IsBytes payload → Starts payload c m rest → ReadsArguments c m rest r → TellsMethod payload r
+pub tells : (payload rest : List ℕ) (c m : ℕ) (r : Result Method BadMethod) → IsBytes payload → BeginsMethod payload c m rest → ReadsArguments c m rest r → TellsMethod payload r
 tells payload rest c m (Err e) are starts reads = refuses payload rest c m e starts reads
 tells payload rest c m (Ok x) are starts reads = said_read payload rest c m x (is_unread c m) refl are starts reads
 
@@ -211,13 +211,13 @@ same_found rest c m n x true u g f =
 same_read : (rest : List ℕ) (c m : ℕ) (n x : Method) → IsRead c m rest n → Found x c m rest → n ≡ x
 same_read rest c m n x reads f = same_found rest c m n x (is_unread c m) refl (record { ids_are = reads.ids_are; read = λ u. (reads.given u).0 }) f
 
-pub only : (payload rest : List ℕ) (c m : ℕ) (r : Result Method Refusal) (x : Method) → Starts payload c m rest → ReadsArguments c m rest r → IsMethod x → Spells payload x → IsMethodOr x r
+pub only : (payload rest : List ℕ) (c m : ℕ) (r : Result Method BadMethod) (x : Method) → BeginsMethod payload c m rest → ReadsArguments c m rest r → IsMethod x → Spells payload x → IsMethodOr x r
 only payload rest c m r x starts reads fits s = go r reads
   where
     f : Found x c m rest
     f = found payload rest c m x starts fits s
 
-    go : (r : Result Method Refusal) → ReadsArguments c m rest r → IsMethodOr x r
+    go : (r : Result Method BadMethod) → ReadsArguments c m rest r → IsMethodOr x r
     go (Ok n) reads = same_read rest c m n x reads f
     go (Err FrameError) reads = reads
     go (Err SyntaxError) reads = reads.lacks (arguments x) (f.read reads.read) (all_whole (arguments x) fits)
@@ -228,7 +228,7 @@ only payload rest c m r x starts reads fits s = go r reads
 -- ---- a payload says one thing
 
 -- the ids at the front, and what follows them
-begins : (payload tail : List ℕ) (x : Method) → payload ≡ method_bytes x ++ tail → Starts payload (ids_of x).class (ids_of x).method (flat_map argument (arguments x) ++ tail)
+begins : (payload tail : List ℕ) (x : Method) → payload ≡ method_bytes x ++ tail → BeginsMethod payload (ids_of x).class (ids_of x).method (flat_map argument (arguments x) ++ tail)
 begins payload tail x e =
     let small = ids_fit x in
     let c : ℕ = (ids_of x).class in
@@ -244,7 +244,7 @@ begins payload tail x e =
 -- a method that is spelled, with what follows its ids
 record Spelled (payload : List ℕ) (x : Method) : Type 0 where
   rest : List ℕ
-  starts : Starts payload (ids_of x).class (ids_of x).method rest
+  starts : BeginsMethod payload (ids_of x).class (ids_of x).method rest
 
 spelled_so : (payload : List ℕ) (x : Method) → Spells payload x → Spelled payload x
 spelled_so payload x (exact e) = record { rest = flat_map argument (arguments x) ++ []; starts = begins payload [] x (e ∙ sym (append-nil (method_bytes x))) }

@@ -1,19 +1,19 @@
 -- What a reading of method payloads tells. Source: AMQP 0-9-1, section 4.2.4, "Method Payloads", and its XML.
-use Rattle.std.specs.Prelude.{◌≡◌, ◌≤◌, ℕ, List, ◌++◌, length, true, false, Option, Some, None, Result, Ok, Err, ⊤}
+use Rattle.std.specs.Prelude.{◌≡◌, ◌≤◌, ℕ, List, ◌++◌, length, true, false, Option, Some, Result, Ok, Err, ⊤}
 use Rattle.std.specs.Int.{w16, to_be_bytes}
 use Rattle.std.specs.List.{AllByRecursion}
 use Rattle.model.specs.Tables.{IsTable}
 use Rattle.model.specs.Grammar.{Argument, Field_table, ids, ids_of, arguments, class_at, method_at, is_known, is_left_out, is_unread, SaysMethod}
 use Rattle.model.specs.declared.methods.Method.{Method}
-use Rattle.field_table.specs.Arguments.{IsWhole, arguments_at}
-use Rattle.methods.specs.declared.refusals.Refusal.{Refusal}
-use Rattle.methods.specs.declared.refusals.Refusal.TheVariants.{FrameError, SyntaxError, CommandInvalid, NotImplemented, Memory}
+use Rattle.field_table.specs.Arguments.{IsArgumentWhole, arguments_at}
+use Rattle.methods.specs.declared.refusals.BadMethod.{BadMethod}
+use Rattle.methods.specs.declared.refusals.BadMethod.TheVariants.{FrameError, SyntaxError, CommandInvalid, NotImplemented, Memory}
 use Rattle.methods.specs.Kinds.{kinds_of}
 
 -- ---- the answer
 
 -- the payload is refused for this reason, or memory was
-abbrev pub MethodIsRefused : List ℕ → Refusal → Type 0
+abbrev pub MethodIsRefused : List ℕ → BadMethod → Type 0
 MethodIsRefused payload FrameError = SaysMethod payload (Err 501)
 MethodIsRefused payload SyntaxError = SaysMethod payload (Err 502)
 MethodIsRefused payload CommandInvalid = SaysMethod payload (Err 503)
@@ -21,12 +21,12 @@ MethodIsRefused payload NotImplemented = SaysMethod payload (Err 540)
 MethodIsRefused payload Memory = ⊤
 
 -- the answer is right for this payload
-abbrev pub TellsMethod : List ℕ → Result Method Refusal → Type 0
+abbrev pub TellsMethod : List ℕ → Result Method BadMethod → Type 0
 TellsMethod payload (Ok m) = SaysMethod payload (Ok m)
 TellsMethod payload (Err e) = MethodIsRefused payload e
 
 -- the answer is this method, or memory was refused
-abbrev pub IsMethodOr : Method → Result Method Refusal → Type 0
+abbrev pub IsMethodOr : Method → Result Method BadMethod → Type 0
 IsMethodOr m (Ok n) = n ≡ m
 IsMethodOr m (Err Memory) = ⊤
 IsMethodOr m (Err FrameError) = ⊥
@@ -37,7 +37,7 @@ IsMethodOr m (Err NotImplemented) = ⊥
 -- ---- the way there
 
 -- class and method, and the arguments behind them
-pub record Starts (payload : List ℕ) (class method : ℕ) (rest : List ℕ) : Type 0 where
+pub record BeginsMethod (payload : List ℕ) (class method : ℕ) (rest : List ℕ) : Type 0 where
   pub long : 4 ≤ length payload
   pub class_is : class_at payload ≡ class
   pub method_is : method_at payload ≡ method
@@ -45,22 +45,22 @@ pub record Starts (payload : List ℕ) (class method : ℕ) (rest : List ℕ) : 
 
 -- the tables among the arguments are tables
 abbrev pub AreWhole : List Argument → Type 0
-AreWhole given = AllByRecursion IsWhole given
+AreWhole given = AllByRecursion IsArgumentWhole given
 
 -- there are no arguments, or a table among them is none
-abbrev pub Lacks : Option (List Argument) → Type 0
-Lacks read = (given : List Argument) → read ≡ Some given → AreWhole given → ⊥
+abbrev pub LacksArguments : Option (List Argument) → Type 0
+LacksArguments read = (given : List Argument) → read ≡ Some given → AreWhole given → ⊥
 
 -- what was read is refused for this reason: arguments lack, a table among them is none, or memory was refused
-abbrev pub Wants : Option (List Argument) → Refusal → Type 0
-Wants read FrameError = ⊥
-Wants read SyntaxError = Lacks read
-Wants read CommandInvalid = ⊥
-Wants read NotImplemented = ⊥
-Wants read Memory = ⊤
+abbrev pub WantsArguments : Option (List Argument) → BadMethod → Type 0
+WantsArguments read FrameError = ⊥
+WantsArguments read SyntaxError = LacksArguments read
+WantsArguments read CommandInvalid = ⊥
+WantsArguments read NotImplemented = ⊥
+WantsArguments read Memory = ⊤
 
 -- the pairs are no table, or memory was refused
-abbrev pub NoTable : List ℕ → Refusal → Type 0
+abbrev pub NoTable : List ℕ → BadMethod → Type 0
 NoTable pairs FrameError = ⊥
 NoTable pairs SyntaxError = IsTable pairs → ⊥
 NoTable pairs CommandInvalid = ⊥
@@ -68,19 +68,19 @@ NoTable pairs NotImplemented = ⊥
 NoTable pairs Memory = ⊤
 
 -- the table of these pairs, if they are pairs
-abbrev pub MakesTable : List ℕ → Result (List ℕ) Refusal → Type 0
+abbrev pub MakesTable : List ℕ → Result (List ℕ) BadMethod → Type 0
 MakesTable pairs (Ok t) = (t ≡ pairs) × IsTable pairs
 MakesTable pairs (Err e) = NoTable pairs e
 
 -- the same of an argument that is a table
-abbrev pub IsTableOr : Option Argument → Result (List ℕ) Refusal → Type 0
+abbrev pub IsTableOr : Option Argument → Result (List ℕ) BadMethod → Type 0
 IsTableOr argument (Ok t) = (argument ≡ Some (Field_table t)) × IsTable t
 IsTableOr argument (Err e) = (pairs : List ℕ) × (argument ≡ Some (Field_table pairs)) × NoTable pairs e
 
 -- what was read is these arguments
-abbrev pub Gives : {X : Type 0} → (X → List Argument) → Result X Refusal → Option (List Argument) → Type 0
-Gives view (Ok x) read = (read ≡ Some (view x)) × AreWhole (view x)
-Gives view (Err e) read = Wants read e
+abbrev pub GivesArguments : {X : Type 0} → (X → List Argument) → Result X BadMethod → Option (List Argument) → Type 0
+GivesArguments view (Ok x) read = (read ≡ Some (view x)) × AreWhole (view x)
+GivesArguments view (Err e) read = WantsArguments read e
 
 -- a method of this class and method with these arguments
 pub record IsRead (c m : ℕ) (bytes : List ℕ) (x : Method) : Type 0 where
@@ -92,17 +92,17 @@ pub record IsRead (c m : ℕ) (bytes : List ℕ) (x : Method) : Type 0 where
 pub record IsWithout (c m : ℕ) (bytes : List ℕ) : Type 0 where
   pub known : is_known c m ≡ true
   pub read : is_unread c m ≡ false
-  pub lacks : Lacks (arguments_at (kinds_of c m) bytes)
+  pub lacks : LacksArguments (arguments_at (kinds_of c m) bytes)
 
 -- behind these ids no method was read: there is none, it is left out, its arguments lack, or memory was refused
-abbrev pub Fails : ℕ → ℕ → List ℕ → Refusal → Type 0
-Fails c m bytes FrameError = ⊥
-Fails c m bytes SyntaxError = IsWithout c m bytes
-Fails c m bytes CommandInvalid = (is_known c m ≡ false) × (is_left_out c m ≡ false)
-Fails c m bytes NotImplemented = is_left_out c m ≡ true
-Fails c m bytes Memory = ⊤
+abbrev pub FailsToRead : ℕ → ℕ → List ℕ → BadMethod → Type 0
+FailsToRead c m bytes FrameError = ⊥
+FailsToRead c m bytes SyntaxError = IsWithout c m bytes
+FailsToRead c m bytes CommandInvalid = (is_known c m ≡ false) × (is_left_out c m ≡ false)
+FailsToRead c m bytes NotImplemented = is_left_out c m ≡ true
+FailsToRead c m bytes Memory = ⊤
 
 -- what was read behind these ids: the method, or why there is none
-abbrev pub ReadsArguments : ℕ → ℕ → List ℕ → Result Method Refusal → Type 0
+abbrev pub ReadsArguments : ℕ → ℕ → List ℕ → Result Method BadMethod → Type 0
 ReadsArguments c m bytes (Ok x) = IsRead c m bytes x
-ReadsArguments c m bytes (Err e) = Fails c m bytes e
+ReadsArguments c m bytes (Err e) = FailsToRead c m bytes e

@@ -5,11 +5,11 @@ ghost use Rattle.model.specs.Grammar.{is_left_out};
 ghost use Rattle.methods.specs.Reading.{ReadsArguments};
 
 use crate::fields::*;
-use crate::refusals::Refusal;
+use crate::refusals::BadMethod;
 use model::Method;
 use std::alloc::Global;
 
-pub(crate) fn connection(alloc: Global, method: u16, arguments: &[u8]) -> Result<Method, Refusal>
+pub(crate) fn connection(alloc: Global, method: u16, arguments: &[u8]) -> Result<Method, BadMethod>
     ensures { ReadsArguments 10 method arguments.now result }
 {
     match method {
@@ -27,11 +27,11 @@ pub(crate) fn connection(alloc: Global, method: u16, arguments: &[u8]) -> Result
             nothing_in(arguments)?;
             Ok(Method::ConnectionCloseOk)
         }
-        _ => Err(Refusal::CommandInvalid),
+        _ => Err(BadMethod::CommandInvalid),
     }
 }
 
-pub(crate) fn channel(alloc: Global, method: u16, arguments: &[u8]) -> Result<Method, Refusal>
+pub(crate) fn channel(alloc: Global, method: u16, arguments: &[u8]) -> Result<Method, BadMethod>
     ensures { ReadsArguments 20 method arguments.now result }
 {
     match method {
@@ -56,11 +56,11 @@ pub(crate) fn channel(alloc: Global, method: u16, arguments: &[u8]) -> Result<Me
             nothing_in(arguments)?;
             Ok(Method::ChannelCloseOk)
         }
-        _ => Err(Refusal::CommandInvalid),
+        _ => Err(BadMethod::CommandInvalid),
     }
 }
 
-pub(crate) fn exchange(alloc: Global, method: u16, arguments: &[u8]) -> Result<Method, Refusal>
+pub(crate) fn exchange(alloc: Global, method: u16, arguments: &[u8]) -> Result<Method, BadMethod>
     ensures { ReadsArguments 40 method arguments.now result }
 {
     match method {
@@ -72,11 +72,11 @@ pub(crate) fn exchange(alloc: Global, method: u16, arguments: &[u8]) -> Result<M
         20 => Ok(Method::ExchangeDelete),
         30 => Ok(Method::ExchangeBind),
         40 => Ok(Method::ExchangeUnbind),
-        _ => Err(Refusal::CommandInvalid),
+        _ => Err(BadMethod::CommandInvalid),
     }
 }
 
-pub(crate) fn queue(alloc: Global, method: u16, arguments: &[u8]) -> Result<Method, Refusal>
+pub(crate) fn queue(alloc: Global, method: u16, arguments: &[u8]) -> Result<Method, BadMethod>
     ensures { ReadsArguments 50 method arguments.now result }
 {
     match method {
@@ -90,11 +90,11 @@ pub(crate) fn queue(alloc: Global, method: u16, arguments: &[u8]) -> Result<Meth
         }
         40 => Ok(Method::QueueDelete),
         50 => Ok(Method::QueueUnbind),
-        _ => Err(Refusal::CommandInvalid),
+        _ => Err(BadMethod::CommandInvalid),
     }
 }
 
-pub(crate) fn basic(alloc: Global, method: u16, arguments: &[u8]) -> Result<Method, Refusal>
+pub(crate) fn basic(alloc: Global, method: u16, arguments: &[u8]) -> Result<Method, BadMethod>
     requires { is_left_out 60 method ≡ false }
     ensures { ReadsArguments 60 method arguments.now result }
 {
@@ -105,7 +105,7 @@ pub(crate) fn basic(alloc: Global, method: u16, arguments: &[u8]) -> Result<Meth
     }
 }
 
-fn basic_consuming(alloc: Global, method: u16, arguments: &[u8]) -> Result<Method, Refusal>
+fn basic_consuming(alloc: Global, method: u16, arguments: &[u8]) -> Result<Method, BadMethod>
     requires { method < 40 }
     ensures { ReadsArguments 60 method arguments.now result }
 {
@@ -125,11 +125,11 @@ fn basic_consuming(alloc: Global, method: u16, arguments: &[u8]) -> Result<Metho
             let consumer_tag = short_text_in(alloc, arguments)?;
             Ok(Method::BasicCancelOk { consumer_tag })
         }
-        _ => Err(Refusal::CommandInvalid),
+        _ => Err(BadMethod::CommandInvalid),
     }
 }
 
-fn basic_contents(alloc: Global, method: u16, arguments: &[u8]) -> Result<Method, Refusal>
+fn basic_contents(alloc: Global, method: u16, arguments: &[u8]) -> Result<Method, BadMethod>
     requires before { 40 ≤ method }
     requires behind { method < 80 }
     ensures { ReadsArguments 60 method arguments.now result }
@@ -144,11 +144,11 @@ fn basic_contents(alloc: Global, method: u16, arguments: &[u8]) -> Result<Method
             let reserved = short_text_in(alloc, arguments)?;
             Ok(Method::BasicGetEmpty { reserved })
         }
-        _ => Err(Refusal::CommandInvalid),
+        _ => Err(BadMethod::CommandInvalid),
     }
 }
 
-fn basic_settling(method: u16, arguments: &[u8]) -> Result<Method, Refusal>
+fn basic_settling(method: u16, arguments: &[u8]) -> Result<Method, BadMethod>
     requires high { 80 ≤ method }
     requires not_left_out { is_left_out 60 method ≡ false }
     ensures { ReadsArguments 60 method arguments.now result }
@@ -165,11 +165,11 @@ fn basic_settling(method: u16, arguments: &[u8]) -> Result<Method, Refusal>
             Ok(Method::BasicRecoverOk)
         }
         120 => Ok(Method::BasicNack(nack_in(arguments)?)),
-        _ => Err(Refusal::CommandInvalid),
+        _ => Err(BadMethod::CommandInvalid),
     }
 }
 
-pub(crate) fn confirm(method: u16, arguments: &[u8]) -> Result<Method, Refusal>
+pub(crate) fn confirm(method: u16, arguments: &[u8]) -> Result<Method, BadMethod>
     ensures { ReadsArguments 85 method arguments.now result }
 {
     match method {
@@ -181,6 +181,6 @@ pub(crate) fn confirm(method: u16, arguments: &[u8]) -> Result<Method, Refusal>
             nothing_in(arguments)?;
             Ok(Method::ConfirmSelectOk)
         }
-        _ => Err(Refusal::CommandInvalid),
+        _ => Err(BadMethod::CommandInvalid),
     }
 }

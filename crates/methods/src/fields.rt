@@ -5,9 +5,9 @@ ghost use Rattle.model.specs.Grammar.{arguments, Long, Short_text, Long_text, Bi
 ghost use Rattle.model.specs.declared.methods.Method.TheVariants.{ConnectionStart, ConnectionStartOk, ConnectionTune, ConnectionOpen, ConnectionClose, ExchangeDeclare, QueueDeclare, QueueDeclareOk, QueuePurge, BasicQos, BasicConsume, BasicCancel, BasicPublish, BasicReturn, BasicDeliver, BasicGet, BasicGetOk, BasicAck, BasicReject, BasicNack};
 ghost use Rattle.field_table.specs.Arguments.{arguments_at, a_long, a_short_text, a_long_text, some_bits};
 ghost use Rattle.methods.specs.Kinds.{start_kinds, start_ok_kinds, tuning_kinds, open_kinds, close_kinds, declare_exchange_kinds, declare_queue_kinds, declared_kinds, queue_kinds, qos_kinds, consume_kinds, cancel_kinds, publish_kinds, return_kinds, deliver_kinds, get_ok_kinds, tag_kinds};
-ghost use Rattle.methods.specs.Reading.{Gives};
+ghost use Rattle.methods.specs.Reading.{GivesArguments};
 
-use crate::refusals::Refusal;
+use crate::refusals::BadMethod;
 use crate::tables::table_in;
 use method_arguments::{Kind, pieces_at};
 use model::{
@@ -96,17 +96,17 @@ const TAG_AND_TWO_BITS: [Kind; 2] = [Kind::LongLong, Kind::TwoBits];
 
 // ---- methods with several arguments
 
-pub(crate) fn start_in(alloc: Global, bytes: &[u8]) -> Result<Start, Refusal>
-    ensures { Gives (λ x. arguments (ConnectionStart x)) result (arguments_at start_kinds bytes.now) }
+pub(crate) fn start_in(alloc: Global, bytes: &[u8]) -> Result<Start, BadMethod>
+    ensures { GivesArguments (λ x. arguments (ConnectionStart x)) result (arguments_at start_kinds bytes.now) }
 {
     let Some(pieces) = pieces_at(&START, bytes) else {
-        return Err(Refusal::SyntaxError);
+        return Err(BadMethod::SyntaxError);
     };
     let Ok(mechanisms) = pieces.fourth.long_text(alloc) else {
-        return Err(Refusal::Memory);
+        return Err(BadMethod::Memory);
     };
     let Ok(locales) = pieces.fifth.long_text(alloc) else {
-        return Err(Refusal::Memory);
+        return Err(BadMethod::Memory);
     };
     match table_in(alloc, &pieces.third) {
         Ok(server_properties) => Ok(Start {
@@ -120,20 +120,20 @@ pub(crate) fn start_in(alloc: Global, bytes: &[u8]) -> Result<Start, Refusal>
     }
 }
 
-pub(crate) fn start_ok_in(alloc: Global, bytes: &[u8]) -> Result<StartOk, Refusal>
-    ensures { Gives (λ x. arguments (ConnectionStartOk x)) result (arguments_at start_ok_kinds bytes.now) }
+pub(crate) fn start_ok_in(alloc: Global, bytes: &[u8]) -> Result<StartOk, BadMethod>
+    ensures { GivesArguments (λ x. arguments (ConnectionStartOk x)) result (arguments_at start_ok_kinds bytes.now) }
 {
     let Some(pieces) = pieces_at(&START_OK, bytes) else {
-        return Err(Refusal::SyntaxError);
+        return Err(BadMethod::SyntaxError);
     };
     let Ok(mechanism) = pieces.second.short_text(alloc) else {
-        return Err(Refusal::Memory);
+        return Err(BadMethod::Memory);
     };
     let Ok(response) = pieces.third.long_text(alloc) else {
-        return Err(Refusal::Memory);
+        return Err(BadMethod::Memory);
     };
     let Ok(locale) = pieces.fourth.short_text(alloc) else {
-        return Err(Refusal::Memory);
+        return Err(BadMethod::Memory);
     };
     match table_in(alloc, &pieces.first) {
         Ok(client_properties) => Ok(StartOk {
@@ -146,11 +146,11 @@ pub(crate) fn start_ok_in(alloc: Global, bytes: &[u8]) -> Result<StartOk, Refusa
     }
 }
 
-pub(crate) fn tuning_in(bytes: &[u8]) -> Result<Tuning, Refusal>
-    ensures { Gives (λ x. arguments (ConnectionTune x)) result (arguments_at tuning_kinds bytes.now) }
+pub(crate) fn tuning_in(bytes: &[u8]) -> Result<Tuning, BadMethod>
+    ensures { GivesArguments (λ x. arguments (ConnectionTune x)) result (arguments_at tuning_kinds bytes.now) }
 {
     let Some(pieces) = pieces_at(&TUNING, bytes) else {
-        return Err(Refusal::SyntaxError);
+        return Err(BadMethod::SyntaxError);
     };
     Ok(Tuning {
         channel_max: pieces.first.short(),
@@ -159,17 +159,17 @@ pub(crate) fn tuning_in(bytes: &[u8]) -> Result<Tuning, Refusal>
     })
 }
 
-pub(crate) fn open_in(alloc: Global, bytes: &[u8]) -> Result<Open, Refusal>
-    ensures { Gives (λ x. arguments (ConnectionOpen x)) result (arguments_at open_kinds bytes.now) }
+pub(crate) fn open_in(alloc: Global, bytes: &[u8]) -> Result<Open, BadMethod>
+    ensures { GivesArguments (λ x. arguments (ConnectionOpen x)) result (arguments_at open_kinds bytes.now) }
 {
     let Some(pieces) = pieces_at(&OPEN, bytes) else {
-        return Err(Refusal::SyntaxError);
+        return Err(BadMethod::SyntaxError);
     };
     let Ok(virtual_host) = pieces.first.short_text(alloc) else {
-        return Err(Refusal::Memory);
+        return Err(BadMethod::Memory);
     };
     let Ok(reserved_text) = pieces.second.short_text(alloc) else {
-        return Err(Refusal::Memory);
+        return Err(BadMethod::Memory);
     };
     Ok(Open {
         virtual_host,
@@ -178,14 +178,14 @@ pub(crate) fn open_in(alloc: Global, bytes: &[u8]) -> Result<Open, Refusal>
     })
 }
 
-pub(crate) fn close_in(alloc: Global, bytes: &[u8]) -> Result<Close, Refusal>
-    ensures { Gives (λ x. arguments (ConnectionClose x)) result (arguments_at close_kinds bytes.now) }
+pub(crate) fn close_in(alloc: Global, bytes: &[u8]) -> Result<Close, BadMethod>
+    ensures { GivesArguments (λ x. arguments (ConnectionClose x)) result (arguments_at close_kinds bytes.now) }
 {
     let Some(pieces) = pieces_at(&CLOSE, bytes) else {
-        return Err(Refusal::SyntaxError);
+        return Err(BadMethod::SyntaxError);
     };
     let Ok(reply_text) = pieces.second.short_text(alloc) else {
-        return Err(Refusal::Memory);
+        return Err(BadMethod::Memory);
     };
     Ok(Close {
         reply_code: pieces.first.short(),
@@ -198,17 +198,17 @@ pub(crate) fn close_in(alloc: Global, bytes: &[u8]) -> Result<Close, Refusal>
 pub(crate) fn exchange_declare_in(
     alloc: Global,
     bytes: &[u8],
-) -> Result<model::ExchangeDeclare, Refusal>
-    ensures { Gives (λ x. arguments (ExchangeDeclare x)) result (arguments_at declare_exchange_kinds bytes.now) }
+) -> Result<model::ExchangeDeclare, BadMethod>
+    ensures { GivesArguments (λ x. arguments (ExchangeDeclare x)) result (arguments_at declare_exchange_kinds bytes.now) }
 {
     let Some(pieces) = pieces_at(&DECLARE_EXCHANGE, bytes) else {
-        return Err(Refusal::SyntaxError);
+        return Err(BadMethod::SyntaxError);
     };
     let Ok(exchange) = pieces.second.short_text(alloc) else {
-        return Err(Refusal::Memory);
+        return Err(BadMethod::Memory);
     };
     let Ok(kind) = pieces.third.short_text(alloc) else {
-        return Err(Refusal::Memory);
+        return Err(BadMethod::Memory);
     };
     let (passive, durable, auto_delete, internal, no_wait) = pieces.fourth.five_bits();
     match table_in(alloc, &pieces.fifth) {
@@ -227,15 +227,18 @@ pub(crate) fn exchange_declare_in(
     }
 }
 
-pub(crate) fn queue_declare_in(alloc: Global, bytes: &[u8]) -> Result<model::QueueDeclare, Refusal>
-    ensures { Gives (λ x. arguments (QueueDeclare x)) result (arguments_at declare_queue_kinds bytes.now) }
+pub(crate) fn queue_declare_in(
+    alloc: Global,
+    bytes: &[u8],
+) -> Result<model::QueueDeclare, BadMethod>
+    ensures { GivesArguments (λ x. arguments (QueueDeclare x)) result (arguments_at declare_queue_kinds bytes.now) }
 {
     let Some(pieces) = pieces_at(&DECLARE_QUEUE, bytes) else {
-        return Err(Refusal::SyntaxError);
+        return Err(BadMethod::SyntaxError);
     };
     let (passive, durable, exclusive, auto_delete, no_wait) = pieces.third.five_bits();
     let Ok(queue) = pieces.second.short_text(alloc) else {
-        return Err(Refusal::Memory);
+        return Err(BadMethod::Memory);
     };
     match table_in(alloc, &pieces.fourth) {
         Ok(arguments) => Ok(model::QueueDeclare {
@@ -252,14 +255,14 @@ pub(crate) fn queue_declare_in(alloc: Global, bytes: &[u8]) -> Result<model::Que
     }
 }
 
-pub(crate) fn queue_declared_in(alloc: Global, bytes: &[u8]) -> Result<QueueDeclared, Refusal>
-    ensures { Gives (λ x. arguments (QueueDeclareOk x)) result (arguments_at declared_kinds bytes.now) }
+pub(crate) fn queue_declared_in(alloc: Global, bytes: &[u8]) -> Result<QueueDeclared, BadMethod>
+    ensures { GivesArguments (λ x. arguments (QueueDeclareOk x)) result (arguments_at declared_kinds bytes.now) }
 {
     let Some(pieces) = pieces_at(&DECLARED, bytes) else {
-        return Err(Refusal::SyntaxError);
+        return Err(BadMethod::SyntaxError);
     };
     let Ok(queue) = pieces.first.short_text(alloc) else {
-        return Err(Refusal::Memory);
+        return Err(BadMethod::Memory);
     };
     Ok(QueueDeclared {
         queue,
@@ -268,14 +271,14 @@ pub(crate) fn queue_declared_in(alloc: Global, bytes: &[u8]) -> Result<QueueDecl
     })
 }
 
-pub(crate) fn purge_in(alloc: Global, bytes: &[u8]) -> Result<Purge, Refusal>
-    ensures { Gives (λ x. arguments (QueuePurge x)) result (arguments_at queue_kinds bytes.now) }
+pub(crate) fn purge_in(alloc: Global, bytes: &[u8]) -> Result<Purge, BadMethod>
+    ensures { GivesArguments (λ x. arguments (QueuePurge x)) result (arguments_at queue_kinds bytes.now) }
 {
     let Some(pieces) = pieces_at(&QUEUE, bytes) else {
-        return Err(Refusal::SyntaxError);
+        return Err(BadMethod::SyntaxError);
     };
     let Ok(queue) = pieces.second.short_text(alloc) else {
-        return Err(Refusal::Memory);
+        return Err(BadMethod::Memory);
     };
     Ok(Purge {
         reserved: pieces.first.short(),
@@ -284,11 +287,11 @@ pub(crate) fn purge_in(alloc: Global, bytes: &[u8]) -> Result<Purge, Refusal>
     })
 }
 
-pub(crate) fn qos_in(bytes: &[u8]) -> Result<Qos, Refusal>
-    ensures { Gives (λ x. arguments (BasicQos x)) result (arguments_at qos_kinds bytes.now) }
+pub(crate) fn qos_in(bytes: &[u8]) -> Result<Qos, BadMethod>
+    ensures { GivesArguments (λ x. arguments (BasicQos x)) result (arguments_at qos_kinds bytes.now) }
 {
     let Some(pieces) = pieces_at(&QOS, bytes) else {
-        return Err(Refusal::SyntaxError);
+        return Err(BadMethod::SyntaxError);
     };
     Ok(Qos {
         prefetch_size: pieces.first.long(),
@@ -297,18 +300,18 @@ pub(crate) fn qos_in(bytes: &[u8]) -> Result<Qos, Refusal>
     })
 }
 
-pub(crate) fn consume_in(alloc: Global, bytes: &[u8]) -> Result<Consume, Refusal>
-    ensures { Gives (λ x. arguments (BasicConsume x)) result (arguments_at consume_kinds bytes.now) }
+pub(crate) fn consume_in(alloc: Global, bytes: &[u8]) -> Result<Consume, BadMethod>
+    ensures { GivesArguments (λ x. arguments (BasicConsume x)) result (arguments_at consume_kinds bytes.now) }
 {
     let Some(pieces) = pieces_at(&CONSUME, bytes) else {
-        return Err(Refusal::SyntaxError);
+        return Err(BadMethod::SyntaxError);
     };
     let (no_local, no_ack, exclusive, no_wait) = pieces.fourth.four_bits();
     let Ok(queue) = pieces.second.short_text(alloc) else {
-        return Err(Refusal::Memory);
+        return Err(BadMethod::Memory);
     };
     let Ok(consumer_tag) = pieces.third.short_text(alloc) else {
-        return Err(Refusal::Memory);
+        return Err(BadMethod::Memory);
     };
     match table_in(alloc, &pieces.fifth) {
         Ok(arguments) => Ok(Consume {
@@ -325,14 +328,14 @@ pub(crate) fn consume_in(alloc: Global, bytes: &[u8]) -> Result<Consume, Refusal
     }
 }
 
-pub(crate) fn cancel_in(alloc: Global, bytes: &[u8]) -> Result<Cancel, Refusal>
-    ensures { Gives (λ x. arguments (BasicCancel x)) result (arguments_at cancel_kinds bytes.now) }
+pub(crate) fn cancel_in(alloc: Global, bytes: &[u8]) -> Result<Cancel, BadMethod>
+    ensures { GivesArguments (λ x. arguments (BasicCancel x)) result (arguments_at cancel_kinds bytes.now) }
 {
     let Some(pieces) = pieces_at(&CANCEL, bytes) else {
-        return Err(Refusal::SyntaxError);
+        return Err(BadMethod::SyntaxError);
     };
     let Ok(consumer_tag) = pieces.first.short_text(alloc) else {
-        return Err(Refusal::Memory);
+        return Err(BadMethod::Memory);
     };
     Ok(Cancel {
         consumer_tag,
@@ -340,18 +343,18 @@ pub(crate) fn cancel_in(alloc: Global, bytes: &[u8]) -> Result<Cancel, Refusal>
     })
 }
 
-pub(crate) fn publish_in(alloc: Global, bytes: &[u8]) -> Result<Publish, Refusal>
-    ensures { Gives (λ x. arguments (BasicPublish x)) result (arguments_at publish_kinds bytes.now) }
+pub(crate) fn publish_in(alloc: Global, bytes: &[u8]) -> Result<Publish, BadMethod>
+    ensures { GivesArguments (λ x. arguments (BasicPublish x)) result (arguments_at publish_kinds bytes.now) }
 {
     let Some(pieces) = pieces_at(&PUBLISH, bytes) else {
-        return Err(Refusal::SyntaxError);
+        return Err(BadMethod::SyntaxError);
     };
     let (mandatory, immediate) = pieces.fourth.two_bits();
     let Ok(exchange) = pieces.second.short_text(alloc) else {
-        return Err(Refusal::Memory);
+        return Err(BadMethod::Memory);
     };
     let Ok(routing_key) = pieces.third.short_text(alloc) else {
-        return Err(Refusal::Memory);
+        return Err(BadMethod::Memory);
     };
     Ok(Publish {
         reserved: pieces.first.short(),
@@ -362,20 +365,20 @@ pub(crate) fn publish_in(alloc: Global, bytes: &[u8]) -> Result<Publish, Refusal
     })
 }
 
-pub(crate) fn return_in(alloc: Global, bytes: &[u8]) -> Result<Return, Refusal>
-    ensures { Gives (λ x. arguments (BasicReturn x)) result (arguments_at return_kinds bytes.now) }
+pub(crate) fn return_in(alloc: Global, bytes: &[u8]) -> Result<Return, BadMethod>
+    ensures { GivesArguments (λ x. arguments (BasicReturn x)) result (arguments_at return_kinds bytes.now) }
 {
     let Some(pieces) = pieces_at(&RETURN, bytes) else {
-        return Err(Refusal::SyntaxError);
+        return Err(BadMethod::SyntaxError);
     };
     let Ok(reply_text) = pieces.second.short_text(alloc) else {
-        return Err(Refusal::Memory);
+        return Err(BadMethod::Memory);
     };
     let Ok(exchange) = pieces.third.short_text(alloc) else {
-        return Err(Refusal::Memory);
+        return Err(BadMethod::Memory);
     };
     let Ok(routing_key) = pieces.fourth.short_text(alloc) else {
-        return Err(Refusal::Memory);
+        return Err(BadMethod::Memory);
     };
     Ok(Return {
         reply_code: pieces.first.short(),
@@ -385,20 +388,20 @@ pub(crate) fn return_in(alloc: Global, bytes: &[u8]) -> Result<Return, Refusal>
     })
 }
 
-pub(crate) fn deliver_in(alloc: Global, bytes: &[u8]) -> Result<Deliver, Refusal>
-    ensures { Gives (λ x. arguments (BasicDeliver x)) result (arguments_at deliver_kinds bytes.now) }
+pub(crate) fn deliver_in(alloc: Global, bytes: &[u8]) -> Result<Deliver, BadMethod>
+    ensures { GivesArguments (λ x. arguments (BasicDeliver x)) result (arguments_at deliver_kinds bytes.now) }
 {
     let Some(pieces) = pieces_at(&DELIVER, bytes) else {
-        return Err(Refusal::SyntaxError);
+        return Err(BadMethod::SyntaxError);
     };
     let Ok(consumer_tag) = pieces.first.short_text(alloc) else {
-        return Err(Refusal::Memory);
+        return Err(BadMethod::Memory);
     };
     let Ok(exchange) = pieces.fourth.short_text(alloc) else {
-        return Err(Refusal::Memory);
+        return Err(BadMethod::Memory);
     };
     let Ok(routing_key) = pieces.fifth.short_text(alloc) else {
-        return Err(Refusal::Memory);
+        return Err(BadMethod::Memory);
     };
     Ok(Deliver {
         consumer_tag,
@@ -409,14 +412,14 @@ pub(crate) fn deliver_in(alloc: Global, bytes: &[u8]) -> Result<Deliver, Refusal
     })
 }
 
-pub(crate) fn get_in(alloc: Global, bytes: &[u8]) -> Result<Get, Refusal>
-    ensures { Gives (λ x. arguments (BasicGet x)) result (arguments_at queue_kinds bytes.now) }
+pub(crate) fn get_in(alloc: Global, bytes: &[u8]) -> Result<Get, BadMethod>
+    ensures { GivesArguments (λ x. arguments (BasicGet x)) result (arguments_at queue_kinds bytes.now) }
 {
     let Some(pieces) = pieces_at(&QUEUE, bytes) else {
-        return Err(Refusal::SyntaxError);
+        return Err(BadMethod::SyntaxError);
     };
     let Ok(queue) = pieces.second.short_text(alloc) else {
-        return Err(Refusal::Memory);
+        return Err(BadMethod::Memory);
     };
     Ok(Get {
         reserved: pieces.first.short(),
@@ -425,17 +428,17 @@ pub(crate) fn get_in(alloc: Global, bytes: &[u8]) -> Result<Get, Refusal>
     })
 }
 
-pub(crate) fn get_ok_in(alloc: Global, bytes: &[u8]) -> Result<GetOk, Refusal>
-    ensures { Gives (λ x. arguments (BasicGetOk x)) result (arguments_at get_ok_kinds bytes.now) }
+pub(crate) fn get_ok_in(alloc: Global, bytes: &[u8]) -> Result<GetOk, BadMethod>
+    ensures { GivesArguments (λ x. arguments (BasicGetOk x)) result (arguments_at get_ok_kinds bytes.now) }
 {
     let Some(pieces) = pieces_at(&GET_OK, bytes) else {
-        return Err(Refusal::SyntaxError);
+        return Err(BadMethod::SyntaxError);
     };
     let Ok(exchange) = pieces.third.short_text(alloc) else {
-        return Err(Refusal::Memory);
+        return Err(BadMethod::Memory);
     };
     let Ok(routing_key) = pieces.fourth.short_text(alloc) else {
-        return Err(Refusal::Memory);
+        return Err(BadMethod::Memory);
     };
     Ok(GetOk {
         delivery_tag: pieces.first.long_long(),
@@ -446,11 +449,11 @@ pub(crate) fn get_ok_in(alloc: Global, bytes: &[u8]) -> Result<GetOk, Refusal>
     })
 }
 
-pub(crate) fn ack_in(bytes: &[u8]) -> Result<Ack, Refusal>
-    ensures { Gives (λ x. arguments (BasicAck x)) result (arguments_at (tag_kinds 1) bytes.now) }
+pub(crate) fn ack_in(bytes: &[u8]) -> Result<Ack, BadMethod>
+    ensures { GivesArguments (λ x. arguments (BasicAck x)) result (arguments_at (tag_kinds 1) bytes.now) }
 {
     let Some(pieces) = pieces_at(&TAG_AND_BIT, bytes) else {
-        return Err(Refusal::SyntaxError);
+        return Err(BadMethod::SyntaxError);
     };
     Ok(Ack {
         delivery_tag: pieces.first.long_long(),
@@ -458,11 +461,11 @@ pub(crate) fn ack_in(bytes: &[u8]) -> Result<Ack, Refusal>
     })
 }
 
-pub(crate) fn reject_in(bytes: &[u8]) -> Result<Reject, Refusal>
-    ensures { Gives (λ x. arguments (BasicReject x)) result (arguments_at (tag_kinds 1) bytes.now) }
+pub(crate) fn reject_in(bytes: &[u8]) -> Result<Reject, BadMethod>
+    ensures { GivesArguments (λ x. arguments (BasicReject x)) result (arguments_at (tag_kinds 1) bytes.now) }
 {
     let Some(pieces) = pieces_at(&TAG_AND_BIT, bytes) else {
-        return Err(Refusal::SyntaxError);
+        return Err(BadMethod::SyntaxError);
     };
     Ok(Reject {
         delivery_tag: pieces.first.long_long(),
@@ -470,11 +473,11 @@ pub(crate) fn reject_in(bytes: &[u8]) -> Result<Reject, Refusal>
     })
 }
 
-pub(crate) fn nack_in(bytes: &[u8]) -> Result<Nack, Refusal>
-    ensures { Gives (λ x. arguments (BasicNack x)) result (arguments_at (tag_kinds 2) bytes.now) }
+pub(crate) fn nack_in(bytes: &[u8]) -> Result<Nack, BadMethod>
+    ensures { GivesArguments (λ x. arguments (BasicNack x)) result (arguments_at (tag_kinds 2) bytes.now) }
 {
     let Some(pieces) = pieces_at(&TAG_AND_TWO_BITS, bytes) else {
-        return Err(Refusal::SyntaxError);
+        return Err(BadMethod::SyntaxError);
     };
     let (multiple, requeue) = pieces.second.two_bits();
     Ok(Nack {
@@ -486,54 +489,54 @@ pub(crate) fn nack_in(bytes: &[u8]) -> Result<Nack, Refusal>
 
 // ---- methods with one argument, or none
 
-pub(crate) fn short_text_in(alloc: Global, bytes: &[u8]) -> Result<Text, Refusal>
-    ensures { Gives (λ t. Short_text t ∷ []) result (arguments_at (a_short_text ∷ []) bytes.now) }
+pub(crate) fn short_text_in(alloc: Global, bytes: &[u8]) -> Result<Text, BadMethod>
+    ensures { GivesArguments (λ t. Short_text t ∷ []) result (arguments_at (a_short_text ∷ []) bytes.now) }
 {
     let Some(pieces) = pieces_at(&[Kind::ShortText], bytes) else {
-        return Err(Refusal::SyntaxError);
+        return Err(BadMethod::SyntaxError);
     };
     let Ok(text) = pieces.first.short_text(alloc) else {
-        return Err(Refusal::Memory);
+        return Err(BadMethod::Memory);
     };
     Ok(text)
 }
 
-pub(crate) fn long_text_in(alloc: Global, bytes: &[u8]) -> Result<Text, Refusal>
-    ensures { Gives (λ t. Long_text t ∷ []) result (arguments_at (a_long_text ∷ []) bytes.now) }
+pub(crate) fn long_text_in(alloc: Global, bytes: &[u8]) -> Result<Text, BadMethod>
+    ensures { GivesArguments (λ t. Long_text t ∷ []) result (arguments_at (a_long_text ∷ []) bytes.now) }
 {
     let Some(pieces) = pieces_at(&[Kind::LongText], bytes) else {
-        return Err(Refusal::SyntaxError);
+        return Err(BadMethod::SyntaxError);
     };
     let Ok(text) = pieces.first.long_text(alloc) else {
-        return Err(Refusal::Memory);
+        return Err(BadMethod::Memory);
     };
     Ok(text)
 }
 
-pub(crate) fn long_in(bytes: &[u8]) -> Result<u32, Refusal>
-    ensures { Gives (λ n. Long n ∷ []) result (arguments_at (a_long ∷ []) bytes.now) }
+pub(crate) fn long_in(bytes: &[u8]) -> Result<u32, BadMethod>
+    ensures { GivesArguments (λ n. Long n ∷ []) result (arguments_at (a_long ∷ []) bytes.now) }
 {
     let Some(pieces) = pieces_at(&[Kind::Long], bytes) else {
-        return Err(Refusal::SyntaxError);
+        return Err(BadMethod::SyntaxError);
     };
     Ok(pieces.first.long())
 }
 
-pub(crate) fn bit_in(bytes: &[u8]) -> Result<bool, Refusal>
-    ensures { Gives (λ b. Bits (b ∷ []) ∷ []) result (arguments_at (some_bits 1 ∷ []) bytes.now) }
+pub(crate) fn bit_in(bytes: &[u8]) -> Result<bool, BadMethod>
+    ensures { GivesArguments (λ b. Bits (b ∷ []) ∷ []) result (arguments_at (some_bits 1 ∷ []) bytes.now) }
 {
     let Some(pieces) = pieces_at(&[Kind::Bit], bytes) else {
-        return Err(Refusal::SyntaxError);
+        return Err(BadMethod::SyntaxError);
     };
     Ok(pieces.first.bit())
 }
 
-pub(crate) fn nothing_in(bytes: &[u8]) -> Result<(), Refusal>
-    ensures { Gives (λ _. []) result (arguments_at [] bytes.now) }
+pub(crate) fn nothing_in(bytes: &[u8]) -> Result<(), BadMethod>
+    ensures { GivesArguments (λ _. []) result (arguments_at [] bytes.now) }
 {
     if bytes.is_empty() {
         Ok(())
     } else {
-        Err(Refusal::SyntaxError)
+        Err(BadMethod::SyntaxError)
     }
 }

@@ -16,5 +16,5 @@ mod writing;
 
 pub use laws::one_method;
 pub use reading::read_method;
-pub use refusals::{Refusal, WriteError};
+pub use refusals::{BadMethod, UnwrittenMethod};
 pub use writing::{put_method, spelled_len, write_method};

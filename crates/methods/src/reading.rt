@@ -3,29 +3,29 @@
 ghost use Rattle.std.specs.Prelude.{◌≡◌, ◌<◌, ℕ, List, false, length, MatchOption};
 ghost use Rattle.model.specs.Grammar;
 ghost use Rattle.model.specs.Grammar.{IsMethod, Spells};
-ghost use Rattle.methods.specs.Reading.{Fails, TellsMethod, IsMethodOr, Starts, ReadsArguments};
+ghost use Rattle.methods.specs.Reading.{FailsToRead, TellsMethod, IsMethodOr, BeginsMethod, ReadsArguments};
 
 use crate::classes::{basic, channel, confirm, connection, exchange, queue};
-use crate::refusals::Refusal;
+use crate::refusals::BadMethod;
 use byteorder::{BigEndian, ByteOrder};
 use model::Method;
 use std::alloc::Global;
 
 /// The method that the payload of a method frame spells.
-pub fn read_method(alloc: Global, payload: &[u8]) -> Result<Method, Refusal>
+pub fn read_method(alloc: Global, payload: &[u8]) -> Result<Method, BadMethod>
     ensures tells { TellsMethod payload.now result }
     // A method that is spelled so is read, unless memory was refused.
     ensures only { (m : Method) → IsMethod m → Spells payload.now m → IsMethodOr m result }
 {
     match ids_at(payload) {
-        None => Err(Refusal::FrameError),
+        None => Err(BadMethod::FrameError),
         Some((class, method, arguments)) => with_ids(alloc, class, method, arguments),
     }
 }
 
 // Class and method, and the arguments after them.
 fn ids_at(payload: &[u8]) -> Option<(u16, u16, &[u8])>
-    ensures { MatchOption result (length payload.now < 4) (λ x. Starts payload.now x.0 x.1 x.2.now) }
+    ensures { MatchOption result (length payload.now < 4) (λ x. BeginsMethod payload.now x.0 x.1 x.2.now) }
 {
     if payload.len() < 4 {
         return None;
@@ -36,11 +36,11 @@ fn ids_at(payload: &[u8]) -> Option<(u16, u16, &[u8])>
     Some((class, method, rest))
 }
 
-fn with_ids(alloc: Global, class: u16, method: u16, arguments: &[u8]) -> Result<Method, Refusal>
+fn with_ids(alloc: Global, class: u16, method: u16, arguments: &[u8]) -> Result<Method, BadMethod>
     ensures { ReadsArguments class method arguments.now result }
 {
     if is_left_out(class, method) {
-        return Err(Refusal::NotImplemented);
+        return Err(BadMethod::NotImplemented);
     }
     of_class(alloc, class, method, arguments)
 }
@@ -52,7 +52,7 @@ fn is_left_out(class: u16, method: u16) -> bool
     class == 90 || class == 60 && method == 100
 }
 
-fn of_class(alloc: Global, class: u16, method: u16, arguments: &[u8]) -> Result<Method, Refusal>
+fn of_class(alloc: Global, class: u16, method: u16, arguments: &[u8]) -> Result<Method, BadMethod>
     requires { Grammar.is_left_out class method ≡ false }
     ensures { ReadsArguments class method arguments.now result }
 {
@@ -63,6 +63,6 @@ fn of_class(alloc: Global, class: u16, method: u16, arguments: &[u8]) -> Result<
         50 => queue(alloc, method, arguments),
         60 => basic(alloc, method, arguments),
         85 => confirm(method, arguments),
-        _ => Err(Refusal::CommandInvalid),
+        _ => Err(BadMethod::CommandInvalid),
     }
 }

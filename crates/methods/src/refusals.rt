@@ -1,14 +1,14 @@
 //! Why a payload is refused, and why a method is not written.
 
 ghost use Rattle.std.specs.Prelude.{◌≡◌};
-ghost use Rattle.methods.specs.declared.refusals.Refusal.TheVariants.{Memory};
+ghost use Rattle.methods.specs.declared.refusals.BadMethod.TheVariants.{Memory};
 
 use std::alloc::AllocError;
 use thiserror::Error;
 
 /// Why no method was read.
 #[derive(Clone, Copy, PartialEq, Eq, Debug, Drop, Error)]
-pub enum Refusal {
+pub enum BadMethod {
     /// The payload is too short for class and method. Reply code 501, frame-error.
     #[error("frame-error: a payload too short for a class and a method")]
     FrameError,
@@ -27,17 +27,17 @@ pub enum Refusal {
     Memory,
 }
 
-impl From<AllocError> for Refusal {
+impl From<AllocError> for BadMethod {
     ghost from_gives = { λ _ e. e ≡ Memory };
 
-    fn from(_e: AllocError) -> Refusal {
-        Refusal::Memory
+    fn from(_e: AllocError) -> BadMethod {
+        BadMethod::Memory
     }
 }
 
 /// Why no method was written.
 #[derive(Clone, Copy, PartialEq, Eq, Debug, Drop, Error)]
-pub enum WriteError {
+pub enum UnwrittenMethod {
     /// The method has no spelling: a text is too long, or a table is none. Reply code 502, syntax-error.
     #[error("syntax-error: a text that is too long, or a table that is none")]
     SyntaxError,

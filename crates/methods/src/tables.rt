@@ -1,29 +1,29 @@
 //! Tables among the arguments.
 
 ghost use Rattle.field_table.specs.Arguments.{a_field_table};
-ghost use Rattle.method_arguments.specs.Pieces.{seen, IsOfKind};
+ghost use Rattle.method_arguments.specs.Pieces.{piece_seen, IsOfKind};
 ghost use Rattle.methods.specs.Reading.{IsTableOr, MakesTable};
 
-use crate::refusals::Refusal;
+use crate::refusals::BadMethod;
 use field_table::is_table;
 use method_arguments::Piece;
 use model::{Table, Text};
 use std::alloc::Global;
 
 /// The table of these pairs, if they are pairs.
-fn table_of(alloc: Global, pairs: &[u8]) -> Result<Table, Refusal>
+fn table_of(alloc: Global, pairs: &[u8]) -> Result<Table, BadMethod>
     ensures { MakesTable pairs.now result }
 {
     if !is_table(pairs) {
-        return Err(Refusal::SyntaxError);
+        return Err(BadMethod::SyntaxError);
     }
     Ok(Table::from_pairs(Text::from_slice(alloc, pairs)?))
 }
 
 /// The table of an argument, if its pairs are pairs.
-pub(crate) fn table_in(alloc: Global, piece: &Piece<'_>) -> Result<Table, Refusal>
+pub(crate) fn table_in(alloc: Global, piece: &Piece<'_>) -> Result<Table, BadMethod>
     requires { IsOfKind a_field_table piece.now }
-    ensures { IsTableOr (seen piece.now) result }
+    ensures { IsTableOr (piece_seen piece.now) result }
 {
     table_of(alloc, piece.pairs())
 }

@@ -2,28 +2,28 @@
 
 ghost use Rattle.std.specs.Prelude.{◌≡◌, ◌+◌, ◌<◌, ◌≤◌, ◌++◌, length, vec_len, vec_capacity, OnOk, IfErr, Err};
 ghost use Rattle.model.specs.Grammar.{method_bytes, IsMethod};
-ghost use Rattle.methods.specs.declared.refusals.WriteError.TheVariants.{Memory};
-ghost use Rattle.methods.specs.Writing.{Counts, Refused};
+ghost use Rattle.methods.specs.declared.refusals.UnwrittenMethod.TheVariants.{Memory};
+ghost use Rattle.methods.specs.Writing.{CountsMethod, MethodRefused};
 
 use crate::lines::arguments_of;
-use crate::refusals::WriteError;
+use crate::refusals::UnwrittenMethod;
 use field_table::put_bytes;
 use method_arguments::{pieces_len, put_pieces};
 use model::Method;
 
 /// Appends the payload of a method frame that spells `m` to `out`. On an error `out` is as it was.
-pub fn write_method(out: &mut Vec<u8>, m: &Method) -> Result<(), WriteError>
+pub fn write_method(out: &mut Vec<u8>, m: &Method) -> Result<(), UnwrittenMethod>
     ensures ok { OnOk result (IsMethod m.now × (out.new.items ≡ out.old.items ++ method_bytes m.now)) }
-    ensures err { IfErr result (λ e. Refused m.now e × (out.new.items ≡ out.old.items)) }
+    ensures err { IfErr result (λ e. MethodRefused m.now e × (out.new.items ≡ out.old.items)) }
     // Memory was really wanted.
     ensures full { result ≡ Err Memory → vec_capacity out.old < vec_len out.old + length (method_bytes m.now) }
 {
     match spelled_len(m) {
-        None => Err(WriteError::SyntaxError),
+        None => Err(UnwrittenMethod::SyntaxError),
         Some(len) => {
             match out.reserve(len) {
                 Ok(()) => {}
-                Err(_) => return Err(WriteError::Memory),
+                Err(_) => return Err(UnwrittenMethod::Memory),
             }
             put_method(out, m);
             Ok(())
@@ -33,7 +33,7 @@ pub fn write_method(out: &mut Vec<u8>, m: &Method) -> Result<(), WriteError>
 
 /// How many bytes the spelling of `m` has, if it has one: no text is too long, and each table is one.
 pub fn spelled_len(m: &Method) -> Option<usize>
-    ensures { Counts m.now result }
+    ensures { CountsMethod m.now result }
 {
     let len = pieces_len(&arguments_of(m))?;
     Some(4 + len)

@@ -1,5 +1,5 @@
 -- Certified delivery: what is promised of a whole run, in the words of a client and of the topology's owner (own).
-use Rattle.std.specs.Prelude.{◌≡◌, ◌+◌, ◌%◌, ◌⊎◌, ℕ, List, [], ◌∷◌, take, drop, map, filter_map, flat_map, ◌≢◌, count_by, Bool, true, false, Option, Some, None, ◌==◌, ◌&&◌, if◌then◌else◌, Contains, slice_get, slice_index_or}
+use Rattle.std.specs.Prelude.{◌≡◌, ◌≤◌, ◌+◌, ◌%◌, ◌⊎◌, ℕ, List, [], ◌∷◌, take, drop, map, filter_map, flat_map, ◌≢◌, count_by, Bool, true, false, Option, Some, None, ◌==◌, ◌&&◌, if◌then◌else◌, Contains, slice_get, slice_index_or}
 use Rattle.std.specs.Int.{w64, from_be_bytes}
 use Rattle.std.specs.List.{list_any, AllByRecursion}
 use Rattle.std.specs.Str.{bytes_eq}
@@ -251,6 +251,20 @@ HasOrigin h note = Unit {0}
 abbrev pub HaveOrigins : Happening → Type 0
 HaveOrigins h = AllByRecursion (HasOrigin h) h.notes
 
+-- the note says that a dead letter of this number entered this queue
+abbrev pub is_dead_into : ℕ → Text → Note → Bool
+is_dead_into n q (Entered m r way.Dead) = (m == n) && bytes_eq r q
+is_dead_into n q note = false
+
+-- the note says that a message of this number left a queue by a rejection
+abbrev pub is_rejected : ℕ → Note → Bool
+is_rejected n (Left m q Rejected) = m == n
+is_rejected n note = false
+
+-- of the messages of a number no more dead letters entered a queue than were rejected, at the same event
+abbrev pub DieOnce : Happening → Type 0
+DieOnce h = (n : ℕ) (q : Text) → count_by (is_dead_into n q) h.notes ≤ count_by (is_rejected n) h.notes
+
 -- ---- the promises
 
 -- Of what happened between these two states of the broker:
@@ -267,6 +281,8 @@ pub record KeepsEvents (old : Broker) (hs : List Happening) (new : Broker) : Typ
   pub causes : AllByRecursion HaveCauses hs
   -- each message that entered a queue came by its own publish, noted at this event, or, as a dead letter, from a queue where it stood before the event and which it left there
   pub come : AllByRecursion HaveOrigins hs
+  -- and no message that was rejected came to a queue as two dead letters
+  pub once : AllByRecursion DieOnce hs
 
 -- Of all that happened from the empty broker to this one, and of the outputs of the connections:
 pub record KeepsPromises (hs : List Happening) (last : Broker) (connections : List Shown) : Type 0 where

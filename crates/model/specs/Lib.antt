@@ -1,3 +1,4 @@
+pub mod Options
 pub mod Words
 pub mod Tables
 pub mod Topology
@@ -12,6 +13,7 @@ pub mod Frames
 pub mod Grammar
 pub mod Headers
 pub mod Message
+pub mod Sharing
 pub mod Broker
 pub mod Entries
 pub mod Entering

@@ -1,6 +1,6 @@
 -- The phases of a connection before it runs: what each awaits, and what it answers.
 -- Source: AMQP 0-9-1, section 2.2.4, "The Connection Class", and its XML; RabbitMQ, "Capabilities"; the server's limits are own.
-use Rattle.std.specs.Prelude.{codes, ◌≡◌, ℕ, List, [], ◌∷◌, Bool, true, false, nat_le, ◌==◌, ◌&&◌, ◌||◌, if◌then◌else◌, MatchBool}
+use Rattle.std.specs.Prelude.{codes, ◌≡◌, ℕ, List, [], ◌∷◌, Bool, true, nat_le, ◌==◌, ◌&&◌, ◌||◌, if◌then◌else◌, MatchBool}
 use Rattle.std.specs.Str.{bytes_eq}
 use Rattle.model.specs.Words.{Text}
 use Rattle.model.specs.Tables.{Pairs, pair, no_pairs, Truth, Inner_table, Long_string, pairs_bytes}
@@ -112,7 +112,7 @@ LogsIn users phase.Start (ConnectionStartOk m) = IsLogin users m.mechanism m.res
 LogsIn users p m = ⊥
 
 -- A method before Running is answered by this move, where these are the users.
-pub record Opens (users : List User) (c : ℕ) (s : Session) (h : ℕ) (m : Method) (move : Move) : Type 0 where
+pub record MovesInOpening (users : List User) (c : ℕ) (s : Session) (h : ℕ) (m : Method) (move : Move) : Type 0 where
   pub is_user : Bool
   pub login : MatchBool is_user (LogsIn users s.phase m) (LogsIn users s.phase m → ⊥)
   pub moved : move ≡ opening_move c is_user s s.phase h m
@@ -120,4 +120,4 @@ pub record Opens (users : List User) (c : ℕ) (s : Session) (h : ℕ) (m : Meth
 -- What a phase other than Running answers to a method: in Closing, and before Running, where these are the users. When all is over nothing comes.
 abbrev pub IsAnswered : List User → ℕ → Session → Phase → ℕ → Method → Move → Type 0
 IsAnswered users c s phase.Closing h m move = move ≡ while_closing c s h m
-IsAnswered users c s p h m move = Opens users c s h m move
+IsAnswered users c s p h m move = MovesInOpening users c s h m move

@@ -1,6 +1,6 @@
 -- What an acknowledgement or a rejection settles (AMQP 0-9-1, basic.ack and basic.reject; RabbitMQ, basic.nack). What is
 -- outstanding on a channel stands in the order of its delivery tags; `tag_of` gives the tag of each.
-use Rattle.std.specs.Prelude.{◌≡◌, ◌<◌, ℕ, List, Bool, true, false, nat_le, ◌==◌, ◌&&◌, not, if◌then◌else◌, Option, Some, None, filter}
+use Rattle.std.specs.Prelude.{◌<◌, ℕ, List, Bool, true, false, nat_le, ◌==◌, ◌&&◌, not, if◌then◌else◌, Option, Some, None, filter}
 use Rattle.std.specs.List.{list_any, AllPairs}
 
 -- this delivery has the tag

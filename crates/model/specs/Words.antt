@@ -13,10 +13,14 @@ abbrev pub onto_first : ℕ → List Text → List Text
 onto_first b [] = (b ∷ []) ∷ []
 onto_first b (w ∷ ws) = (b ∷ w) ∷ ws
 
--- the pieces between dots; empty pieces are kept (own)
+-- the parts of a text between its bytes that are the separator; empty parts are kept (own)
+abbrev pub parted : ℕ → Text → List Text
+parted separator [] = [] ∷ []
+parted separator (b ∷ bs) = if b == separator then [] ∷ parted separator bs else onto_first b (parted separator bs)
+
+-- the pieces of a key, between dots (own)
 abbrev pub pieces : Text → List Text
-pieces [] = [] ∷ []
-pieces (b ∷ bs) = if b == 46 then [] ∷ pieces bs else onto_first b (pieces bs)
+pieces key = parted 46 key
 
 -- the words of a key: the empty key has none (own)
 abbrev pub words : Text → List Text

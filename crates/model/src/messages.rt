@@ -56,12 +56,12 @@ impl Drop for Message {
 }
 
 impl Model for Message {
-    ghost use Rattle.std.specs.Prelude.{Some, None};
     ghost use Rattle.model.specs.Message.{Message as Seen};
+    ghost use Rattle.model.specs.Sharing.{message_of};
 
     ghost Value = { Seen };
 
-    ghost view = { λ m. record { number = m.shared.value.number; first_exchange = elim m.shared.value.first [ None ↦ m.shared.value.exchange | Some sent ↦ sent.value.exchange ]; first_key = elim m.shared.value.first [ None ↦ m.shared.value.key | Some sent ↦ sent.value.key ]; exchange = m.shared.value.exchange; key = m.shared.value.key; content = m.shared.value.content; redelivered = m.redelivered } };
+    ghost view = { λ m. message_of m.shared.value m.redelivered };
 }
 
 impl Message {

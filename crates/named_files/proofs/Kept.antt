@@ -4,10 +4,10 @@ use Rattle.model.specs.Words.{Text}
 use Rattle.model.specs.Topology.{Topology}
 use Rattle.model.specs.Guarantee.{Guarantee}
 use Rattle.model.specs.Certificates.{Certificate}
-use Rattle.guarantees.specs.declared.bad.Bad.TheVariants.{TooMany}
-use Rattle.named_files.specs.declared.refusals.Refusal.{Refusal}
+use Rattle.guarantees.specs.declared.bad.BadGuarantees.TheVariants.{TooMany}
+use Rattle.named_files.specs.declared.refusals.FileRefusal.{FileRefusal}
 use Rattle.named_files.specs.Files.{Known, AreKept, AreKeptBut}
-use Rattle.named_files.specs.Stated.{PromisesAt, Certifies, CertifiesAt, IsWhyNone}
+use Rattle.named_files.specs.Stated.{PromisesAt, HoldsCertificates, CertifiesAt, IsWhyNone}
 
 -- ---- files
 
@@ -23,9 +23,9 @@ kept_but_then file a b c p q name other = q name other ∙ p name
 
 pub certifies_kept : (a b : Text → Known) (named : Option Text) (cs : List Certificate) → AreKept a b → CertifiesAt b named cs → CertifiesAt a named cs
 certifies_kept a b None cs k h = h
-certifies_kept a b (Some file) cs k h = subst (λ (x : Known). Certifies x cs) (k file) h
+certifies_kept a b (Some file) cs k h = subst (λ (x : Known). HoldsCertificates x cs) (k file) h
 
-pub why_kept : (a b : Text → Known) (IsReason : Refusal → Known → Type 0) (named : Option Text) (file : Text) (why : Refusal) → AreKept a b
+pub why_kept : (a b : Text → Known) (IsReason : FileRefusal → Known → Type 0) (named : Option Text) (file : Text) (why : FileRefusal) → AreKept a b
     → IsWhyNone b IsReason named file why → IsWhyNone a IsReason named file why
 why_kept a b IsReason named file why k h = elim h [ inl p ↦ inl (p.0, subst (λ (x : Known). IsReason why x) (k file) p.1) | inr m ↦ inr m ]
 

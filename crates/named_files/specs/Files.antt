@@ -35,17 +35,17 @@ IsTooLong Absent = ⊥
 IsTooLong (Holds known) = most_bytes < length known
 
 -- the file is not there, or cannot be read
-abbrev pub IsClosed : Known → Type 0
-IsClosed (Holds known) = ⊥
-IsClosed other = ⊤
+abbrev pub IsUnreadable : Known → Type 0
+IsUnreadable (Holds known) = ⊥
+IsUnreadable other = ⊤
 
 -- What is read is the text of the file, whole.
-pub record IsRead (known : Known) (text : Text) : Type 0 where
+pub record IsFileRead (known : Known) (text : Text) : Type 0 where
   pub whole : HasText known text
   pub short : length text ≤ most_bytes
 
 -- why it is not; want of memory says nothing
 abbrev pub IsUnread : Known → Unread → Type 0
-IsUnread known unread.Failed = IsClosed known
+IsUnread known unread.Failed = IsUnreadable known
 IsUnread known unread.TooLong = IsTooLong known
 IsUnread known unread.Memory = ⊤

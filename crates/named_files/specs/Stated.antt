@@ -7,18 +7,18 @@ use Rattle.model.specs.Guarantee.{Guarantee}
 use Rattle.model.specs.Certificates.{Certificate}
 use Rattle.model.specs.declared.topologies.ExchangeKind.TheVariants.{Direct}
 use Rattle.model.specs.declared.topologies.Place.TheVariants as place
-use Rattle.definitions.specs.declared.bad.Bad.{Bad}
-use Rattle.definitions.specs.Numbers.{number}
+use Rattle.definitions.specs.declared.bad.BadDefinitions.{BadDefinitions}
+use Rattle.definitions.specs.Numbers.{definitions_cause}
 use Rattle.definitions.specs.Reads.{Stated, ReadsDefinitions, IsFirst}
-use Rattle.guarantees.specs.declared.bad.Bad.{Bad as GuaranteeBad}
-use Rattle.guarantees.specs.Numbers.{number as guarantee_number}
-use Rattle.guarantees.specs.Reads.{IsAccepted, IsFirst as IsFirstOfGuarantees}
-use Rattle.certificate_files.specs.declared.bad.Bad.{Bad as CertificateBad}
-use Rattle.certificate_files.specs.Numbers.{number as certificate_number}
-use Rattle.certificate_files.specs.Reads.{IsFile, ReadsCertificateFile}
-use Rattle.named_files.specs.declared.refusals.Refusal.{Refusal}
-use Rattle.named_files.specs.declared.refusals.Refusal.TheVariants.{Refused, TooLong, Unread, Memory}
-use Rattle.named_files.specs.Files.{Known, HasText, IsTooLong, IsClosed}
+use Rattle.guarantees.specs.declared.bad.BadGuarantees.{BadGuarantees}
+use Rattle.guarantees.specs.Numbers.{guarantees_cause}
+use Rattle.guarantees.specs.Reads.{AreAccepted, IsFirstAgainst}
+use Rattle.certificate_files.specs.declared.bad.BadCertificates.{BadCertificates}
+use Rattle.certificate_files.specs.Numbers.{certificates_cause}
+use Rattle.certificate_files.specs.Reads.{IsCertificatesFile, ReadsCertificateFile}
+use Rattle.named_files.specs.declared.refusals.FileRefusal.{FileRefusal}
+use Rattle.named_files.specs.declared.refusals.FileRefusal.TheVariants.{Refused, TooLong, Unread, Memory}
+use Rattle.named_files.specs.Files.{Known, HasText, IsTooLong, IsUnreadable}
 
 -- the name of a file that is given, where one is
 abbrev pub file_named : Option (Bor Text) → Option Text
@@ -47,7 +47,7 @@ StatesAt holds (Some file) stated = States (holds file) stated
 
 -- the file has guarantees of this topology in which no cause stands, and these are they
 abbrev pub Promises : Known → Topology → List Guarantee → Type 0
-Promises known t gs = (text : Text) × HasText known text × IsAccepted gs t text
+Promises known t gs = (text : Text) × HasText known text × AreAccepted gs t text
 
 -- the guarantees of a file, or where no file is named none
 abbrev pub PromisesAt : (Text → Known) → Option Text → Topology → List Guarantee → Type 0
@@ -57,61 +57,61 @@ PromisesAt holds (Some file) t gs = Promises (holds file) t gs
 -- ---- certificates
 
 -- the file has these certificates
-abbrev pub Certifies : Known → List Certificate → Type 0
-Certifies known cs = (text : Text) × HasText known text × IsFile text cs
+abbrev pub HoldsCertificates : Known → List Certificate → Type 0
+HoldsCertificates known cs = (text : Text) × HasText known text × IsCertificatesFile text cs
 
 -- the certificates of a file, or where no file is named none
 abbrev pub CertifiesAt : (Text → Known) → Option Text → List Certificate → Type 0
 CertifiesAt holds None cs = cs ≡ []
-CertifiesAt holds (Some file) cs = Certifies (holds file) cs
+CertifiesAt holds (Some file) cs = HoldsCertificates (holds file) cs
 
 -- ---- refusals
 
 -- Why a file of which this is known is refused: the cause of a number stands in it, it is too long, or it cannot be read.
-abbrev pub IsWhyNot : (ℕ → Text → Type 0) → Refusal → Known → Type 0
+abbrev pub IsWhyNot : (ℕ → Text → Type 0) → FileRefusal → Known → Type 0
 IsWhyNot Stands (Refused n) known = (text : Text) × HasText known text × Stands n text
 IsWhyNot Stands TooLong known = IsTooLong known
-IsWhyNot Stands Unread known = IsClosed known
+IsWhyNot Stands Unread known = IsUnreadable known
 IsWhyNot Stands Memory known = ⊤
 
 -- the cause of this number stands in the definitions, and none of a smaller number
 abbrev pub NamesCause : ℕ → Text → Type 0
-NamesCause n text = (cause : Bad) × (n ≡ number cause) × IsFirst cause text
+NamesCause n text = (cause : BadDefinitions) × (n ≡ definitions_cause cause) × IsFirst cause text
 
 -- why definitions are refused
-abbrev pub IsWhyUnstated : Refusal → Known → Type 0
+abbrev pub IsWhyUnstated : FileRefusal → Known → Type 0
 IsWhyUnstated why known = IsWhyNot NamesCause why known
 
 -- the cause of this number stands in the guarantees of this topology, and none of a smaller number
 abbrev pub HasGuaranteeCause : Topology → ℕ → Text → Type 0
-HasGuaranteeCause t n text = (cause : GuaranteeBad) × (n ≡ guarantee_number cause) × IsFirstOfGuarantees cause t text
+HasGuaranteeCause t n text = (cause : BadGuarantees) × (n ≡ guarantees_cause cause) × IsFirstAgainst cause t text
 
 -- why guarantees of this topology are refused
-abbrev pub IsWhyUnpromised : Topology → Refusal → Known → Type 0
+abbrev pub IsWhyUnpromised : Topology → FileRefusal → Known → Type 0
 IsWhyUnpromised t why known = IsWhyNot (HasGuaranteeCause t) why known
 
 -- the one cause that stands in the certificates file has this number
 abbrev pub HasCertificateCause : ℕ → Text → Type 0
-HasCertificateCause n text = (cause : CertificateBad) × (n ≡ certificate_number cause) × ReadsCertificateFile (Err cause) text
+HasCertificateCause n text = (cause : BadCertificates) × (n ≡ certificates_cause cause) × ReadsCertificateFile (Err cause) text
 
 -- why a certificates file is refused
-abbrev pub IsWhyUncertified : Refusal → Known → Type 0
+abbrev pub IsWhyUncertified : FileRefusal → Known → Type 0
 IsWhyUncertified why known = IsWhyNot HasCertificateCause why known
 
 -- Why no file of this kind is had, and the file of which this is told: the named one is refused, or memory was wanting.
-abbrev pub IsWhyNone : (holds : Text → Known) → (Refusal → Known → Type 0) → Option Text → Text → Refusal → Type 0
+abbrev pub IsWhyNone : (holds : Text → Known) → (FileRefusal → Known → Type 0) → Option Text → Text → FileRefusal → Type 0
 IsWhyNone holds IsWhy named file why = ((named ≡ Some file) × IsWhy why (holds file)) ⊎ (why ≡ Memory)
 
 -- why no definitions are had
-abbrev pub FailsToState : (Text → Known) → Option Text → Text → Refusal → Type 0
+abbrev pub FailsToState : (Text → Known) → Option Text → Text → FileRefusal → Type 0
 FailsToState holds named file why = IsWhyNone holds IsWhyUnstated named file why
 
 -- why no guarantees of this topology are had
-abbrev pub FailsToPromise : (Text → Known) → Option Text → Topology → Text → Refusal → Type 0
+abbrev pub FailsToPromise : (Text → Known) → Option Text → Topology → Text → FileRefusal → Type 0
 FailsToPromise holds named t file why = IsWhyNone holds (IsWhyUnpromised t) named file why
 
 -- why no certificates are had
-abbrev pub FailsToCertify : (Text → Known) → Option Text → Text → Refusal → Type 0
+abbrev pub FailsToCertify : (Text → Known) → Option Text → Text → FileRefusal → Type 0
 FailsToCertify holds named file why = IsWhyNone holds IsWhyUncertified named file why
 
 -- ---- definitions with guarantees
@@ -122,7 +122,7 @@ pub record SetsUp (holds : Text → Known) (definitions guarantees : Option Text
   pub promises : PromisesAt holds guarantees stated.topology gs
 
 -- Why definitions and guarantees are refused, and the file of which this is told: the definitions are judged first.
-pub data FailsToSetUp (holds : Text → Known) (definitions guarantees : Option Text) (file : Text) (why : Refusal) : Type 0 where
+pub data FailsToSetUp (holds : Text → Known) (definitions guarantees : Option Text) (file : Text) (why : FileRefusal) : Type 0 where
   -- the definitions are refused
   unstated : FailsToState holds definitions file why → FailsToSetUp holds definitions guarantees file why
   -- the guarantees are refused, over definitions that are good

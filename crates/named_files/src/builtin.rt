@@ -6,7 +6,7 @@ ghost use Rattle.named_files.specs.Stated.{built_in};
 use exchange_graph::Topology;
 use model::{Binding, DeclaredQueue, Exchange, ExchangeKind, Place, Text};
 use std::alloc::{AllocError, Global};
-use topology_drafts::Bad;
+use topology_drafts::BadTopology;
 
 /// The direct exchange `orders`.
 fn orders(alloc: Global) -> Result<Vec<Exchange>, AllocError>
@@ -55,7 +55,7 @@ pub fn builtin(alloc: Global) -> Result<Topology, AllocError>
 {
     match Topology::build(alloc, orders(alloc)?, audit(alloc)?, new_orders(alloc)?) {
         Ok(topology) => Ok(topology),
-        Err(Bad::Memory) => Err(AllocError),
+        Err(BadTopology::Memory) => Err(AllocError),
         Err(_) => unreachable!(),
     }
 }

@@ -6,6 +6,6 @@ mod refusals;
 mod stated;
 mod storage;
 
-pub use refusals::{Refusal, RefusedFile};
+pub use refusals::{FileRefusal, RefusedFile};
 pub use stated::{Setup, certificates_of, definitions_of, set_up};
-pub use storage::{Files, Unread, Unwritten};
+pub use storage::{Files, NotWritten, Unread};

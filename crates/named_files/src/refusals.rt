@@ -1,12 +1,12 @@
 //! Why a file is refused.
 
 use crate::storage;
-use definitions::Bad;
+use definitions::BadDefinitions;
 use std::alloc::AllocError;
 
 /// Why a file is refused.
 #[derive(Clone, Copy, PartialEq, Eq, Debug, Drop)]
-pub enum Refusal {
+pub enum FileRefusal {
     /// The cause of this number stands in the file, and none of a smaller one.
     Refused(u8),
     /// The file is too long.
@@ -22,76 +22,76 @@ pub enum Refusal {
 pub struct RefusedFile<'a> {
     /// The name of the file; empty where memory was wanting and no file is named.
     pub file: &'a str,
-    pub why: Refusal,
+    pub why: FileRefusal,
 }
 
-impl From<storage::Unread> for Refusal {
+impl From<storage::Unread> for FileRefusal {
     ghost use Rattle.std.specs.Prelude.{◌≡◌};
     ghost use Rattle.named_files.specs.Refusals.{of_file};
 
     ghost from_gives = { λ why r. r ≡ of_file why };
 
-    fn from(why: storage::Unread) -> Refusal {
+    fn from(why: storage::Unread) -> FileRefusal {
         match why {
-            storage::Unread::Failed => Refusal::Unread,
-            storage::Unread::TooLong => Refusal::TooLong,
-            storage::Unread::Memory => Refusal::Memory,
+            storage::Unread::Failed => FileRefusal::Unread,
+            storage::Unread::TooLong => FileRefusal::TooLong,
+            storage::Unread::Memory => FileRefusal::Memory,
         }
     }
 }
 
-impl From<Bad> for Refusal {
+impl From<BadDefinitions> for FileRefusal {
     ghost use Rattle.std.specs.Prelude.{◌≡◌};
     ghost use Rattle.named_files.specs.Refusals.{of_cause};
 
     ghost from_gives = { λ cause r. r ≡ of_cause cause };
 
-    fn from(cause: Bad) -> Refusal {
+    fn from(cause: BadDefinitions) -> FileRefusal {
         match cause.number() {
-            14 => Refusal::Memory,
-            number => Refusal::Refused(number),
+            14 => FileRefusal::Memory,
+            number => FileRefusal::Refused(number),
         }
     }
 }
 
-impl From<guarantees::Bad> for Refusal {
+impl From<guarantees::BadGuarantees> for FileRefusal {
     ghost use Rattle.std.specs.Prelude.{◌≡◌};
     ghost use Rattle.named_files.specs.Refusals.{of_guarantees};
 
     ghost from_gives = { λ cause r. r ≡ of_guarantees cause };
 
-    fn from(cause: guarantees::Bad) -> Refusal {
+    fn from(cause: guarantees::BadGuarantees) -> FileRefusal {
         match cause.number() {
-            14 => Refusal::Memory,
-            number => Refusal::Refused(number),
+            14 => FileRefusal::Memory,
+            number => FileRefusal::Refused(number),
         }
     }
 }
 
-impl From<certificate_files::Bad> for Refusal {
+impl From<certificate_files::BadCertificates> for FileRefusal {
     ghost use Rattle.std.specs.Prelude.{◌≡◌};
     ghost use Rattle.named_files.specs.Refusals.{of_certificates};
 
     ghost from_gives = { λ cause r. r ≡ of_certificates cause };
 
-    fn from(cause: certificate_files::Bad) -> Refusal {
+    fn from(cause: certificate_files::BadCertificates) -> FileRefusal {
         match cause.number() {
-            14 => Refusal::Memory,
-            number => Refusal::Refused(number),
+            14 => FileRefusal::Memory,
+            number => FileRefusal::Refused(number),
         }
     }
 }
 
 impl<'a> From<AllocError> for RefusedFile<'a> {
     ghost use Rattle.std.specs.Prelude.{◌≡◌};
-    ghost use Rattle.named_files.specs.declared.refusals.Refusal.TheVariants.{Memory};
+    ghost use Rattle.named_files.specs.declared.refusals.FileRefusal.TheVariants.{Memory};
 
     ghost from_gives = { λ _ r. r.why ≡ Memory };
 
     fn from(_: AllocError) -> RefusedFile<'a> {
         RefusedFile {
             file: "",
-            why: Refusal::Memory,
+            why: FileRefusal::Memory,
         }
     }
 }

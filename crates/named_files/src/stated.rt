@@ -3,7 +3,7 @@
 ghost use Rattle.std.specs.Prelude.{◌≡◌, MatchResult};
 ghost use Rattle.named_files.specs.Files.{AreKept};
 ghost use Rattle.named_files.specs.Stated.{
-  Certifies,
+  HoldsCertificates,
   CertifiesAt,
   FailsToCertify,
   FailsToPromise,
@@ -21,7 +21,7 @@ ghost use Rattle.named_files.specs.Stated.{
 };
 
 use crate::builtin::builtin;
-use crate::refusals::{Refusal, RefusedFile};
+use crate::refusals::{FileRefusal, RefusedFile};
 use crate::storage::Files;
 use certificate_check::Certificate;
 use certificate_files::read_certificates;
@@ -44,7 +44,7 @@ fn read_definitions_of<F: Files>(
     alloc: Global,
     file: &str,
     files: &mut F,
-) -> Result<Definitions, Refusal>
+) -> Result<Definitions, FileRefusal>
     ensures states { MatchResult result (λ stated. States (F.holds files.old file.now) stated) (λ why. IsWhyUnstated why (F.holds files.old file.now)) }
     ensures files { AreKept (F.holds files.old) (F.holds files.new) }
 {
@@ -76,7 +76,7 @@ fn read_guarantees_of<F: Files>(
     file: &str,
     topology: &Topology,
     files: &mut F,
-) -> Result<Vec<Guarantee>, Refusal>
+) -> Result<Vec<Guarantee>, FileRefusal>
     ensures states { MatchResult result (λ gs. Promises (F.holds files.old file.now) topology.now gs.items) (λ why. IsWhyUnpromised topology.now why (F.holds files.old file.now)) }
     ensures files { AreKept (F.holds files.old) (F.holds files.new) }
 {
@@ -152,8 +152,8 @@ fn read_certificates_of<F: Files>(
     alloc: Global,
     file: &str,
     files: &mut F,
-) -> Result<Vec<Certificate>, Refusal>
-    ensures states { MatchResult result (λ cs. Certifies (F.holds files.old file.now) cs.items) (λ why. IsWhyUncertified why (F.holds files.old file.now)) }
+) -> Result<Vec<Certificate>, FileRefusal>
+    ensures states { MatchResult result (λ cs. HoldsCertificates (F.holds files.old file.now) cs.items) (λ why. IsWhyUncertified why (F.holds files.old file.now)) }
     ensures files { AreKept (F.holds files.old) (F.holds files.new) }
 {
     let text = files.read(alloc, file)?;

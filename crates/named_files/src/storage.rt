@@ -1,7 +1,7 @@
 //! Files, as the program reads and writes them.
 
 ghost use Rattle.std.specs.Prelude.{◌≡◌, List, ℕ, MatchResult, OnOk};
-ghost use Rattle.named_files.specs.Files.{Known, IsRead, IsUnread, HasText};
+ghost use Rattle.named_files.specs.Files.{Known, IsFileRead, IsUnread, HasText};
 
 use std::alloc::Global;
 
@@ -18,7 +18,7 @@ pub enum Unread {
 
 /// That a file was not written.
 #[derive(Clone, Copy, PartialEq, Eq, Debug, Drop)]
-pub struct Unwritten;
+pub struct NotWritten;
 
 /// What reads and writes files by their names.
 pub trait Files {
@@ -27,11 +27,11 @@ pub trait Files {
 
     /// The bytes of the file, all of them: at most 16,777,216.
     fn read(&mut self, alloc: Global, name: &str) -> Result<Vec<u8>, Unread>
-        ensures read { MatchResult result (λ bytes. IsRead (holds self.old name.now) bytes.items) (λ why. IsUnread (holds self.old name.now) why) }
+        ensures read { MatchResult result (λ bytes. IsFileRead (holds self.old name.now) bytes.items) (λ why. IsUnread (holds self.old name.now) why) }
         ensures stays { (other : List ℕ) → holds self.new other ≡ holds self.old other };
 
     /// Makes the file have these bytes, and no others. What a failed write leaves in it is not said.
-    fn write(&mut self, name: &str, bytes: &[u8]) -> Result<(), Unwritten>
+    fn write(&mut self, name: &str, bytes: &[u8]) -> Result<(), NotWritten>
         ensures written { OnOk result (HasText (holds self.new name.now) bytes.now) }
         ensures others { (other : List ℕ) → (other ≡ name.now → ⊥) → holds self.new other ≡ holds self.old other };
 }

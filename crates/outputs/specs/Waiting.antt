@@ -1,2 +1,2 @@
 -- Bytes that wait to be taken.
-pub use Rattle.frame.specs.Waiting.{Waiting, PutsBytes, HoldsNone}
+pub use Rattle.frame.specs.Waiting.{WaitingBytes, PutsBytes, HoldsNone}

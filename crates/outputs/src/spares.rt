@@ -1,6 +1,6 @@
 //! Storages that no output holds: those of outputs that were wholly taken, for outputs in which something is to wait next.
 
-ghost use Rattle.std.specs.Prelude.{◌≡◌, ◌≤◌, ◌<◌, ◌+◌, IfOk, OnOk};
+ghost use Rattle.std.specs.Prelude.{◌≡◌, ◌≤◌, ◌<◌, ◌+◌, [], IfOk, OnOk, OnErr};
 ghost use Rattle.model.specs.Sending.{most_sent};
 ghost use Rattle.outputs.specs.Waiting.{HoldsNone};
 
@@ -43,19 +43,26 @@ impl Spares {
     }
 
     /// Makes room in an output for all that one event sends. One without storage gets a spare one, or a new one where none is
-    /// spare.
+    /// spare. Where memory is refused there was less room than that.
     pub fn make_room(&mut self, output: &mut Output) -> Result<(), AllocError>
         ensures bytes { output.new.bytes ≡ output.old.bytes }
         ensures ok { OnOk result (most_sent ≤ output.new.room) }
+        ensures kept { output.old.room ≤ output.new.room }
+        ensures full { OnErr result (output.old.room < most_sent) }
+        // a spare one is used before a new one is made
+        ensures spent { output.old.storage ≡ 0 → 0 < self.old → self.old ≡ self.new + 1 }
+        ensures rest { 0 < output.old.storage → self.new ≡ self.old }
     {
         self.furnish(output);
         output.reserve(MOST_SENT)
     }
 
-    /// Takes the storage of an output in which nothing waits.
+    /// Takes the storage of an output in which nothing waits. It is spare from now on, or freed where 256 are.
     pub fn take_back(&mut self, output: &mut Output)
         ensures bytes { output.new.bytes ≡ output.old.bytes }
         ensures none { HoldsNone output.new }
+        ensures kept { output.old.bytes ≡ [] → 0 < output.old.storage → self.old < 256 → self.new ≡ self.old + 1 }
+        ensures rest { output.old.storage ≡ 0 → self.new ≡ self.old }
     {
         if output.has_none() || !output.bytes().is_empty() {
             return;
@@ -66,7 +73,10 @@ impl Spares {
 
     /// Gives an output that has no storage a spare one, if there is one.
     fn furnish(&mut self, output: &mut Output)
-        ensures { output.new.bytes ≡ output.old.bytes }
+        ensures bytes { output.new.bytes ≡ output.old.bytes }
+        ensures room { output.old.room ≤ output.new.room }
+        ensures spent { output.old.storage ≡ 0 → 0 < self.old → self.old ≡ self.new + 1 }
+        ensures rest { 0 < output.old.storage → self.new ≡ self.old }
     {
         if !output.has_none() {
             return;

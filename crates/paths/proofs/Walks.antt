@@ -9,9 +9,9 @@ use Rattle.model.specs.Routing.{of_key, Edge, reading_after, fixed_after, key_af
 use Rattle.model.specs.Refutations.{Walk, ends, edge, dies, name_of}
 use Rattle.model.specs.declared.topologies.Place.{Place}
 use Rattle.model.specs.declared.topologies.Place.TheVariants as place
-use Rattle.paths.specs.declared.stands.Stand.{Stand}
-use Rattle.paths.specs.declared.stands.Stand.TheVariants.{Exchange, Queue}
-use Rattle.paths.specs.Stands.{WalksOn, SomeGoesOn, Next, on, into, dies as dead, AreNext, is_queue}
+use Rattle.paths.specs.declared.stands.KeyedPlace.{KeyedPlace}
+use Rattle.paths.specs.declared.stands.KeyedPlace.TheVariants.{Exchange, Queue}
+use Rattle.paths.specs.Stands.{WalksOn, SomeGoesOn, NextStand, on, into, dies as dead, AreOneOn, is_queue}
 
 -- ---- a walk goes by the key alone
 
@@ -36,15 +36,15 @@ same_key (Some c) k = refl
 
 -- ---- one step
 
-pub step_on : (t : Topology) (q name next : Text) (rest : List Text) (s s' : Stand) → Next t name next s s' → WalksOn t q next rest s' → WalksOn t q name (next ∷ rest) s
+pub step_on : (t : Topology) (q name next : Text) (rest : List Text) (s s' : KeyedPlace) → NextStand t name next s s' → WalksOn t q next rest s' → WalksOn t q name (next ∷ rest) s
 step_on t q name next rest s s' (on l) w = edge (place.Exchange next) l w next refl
 step_on t q name next rest s s' (into l) w = edge (place.Queue next) l w next refl
 step_on t q name next rest s s' (dead {key} last d) w = dies last d (by_key (key_after last.dead_letter_key key) key (fixed_after last.dead_letter_key None) (sym (same_key last.dead_letter_key key)) w)
 
 -- what a walk does first
-pub record Goes (t : Topology) (q name next : Text) (rest : List Text) (s : Stand) : Type 0 where
-  pub to : Stand
-  pub is_next : Next t name next s to
+pub record Goes (t : Topology) (q name next : Text) (rest : List Text) (s : KeyedPlace) : Type 0 where
+  pub to : KeyedPlace
+  pub is_next : NextStand t name next s to
   pub goes : WalksOn t q next rest to
 
 from_exchange : (t : Topology) (q name next key : Text) (rest : List Text) (to : Place) → next ≡ name_of to → Edge t (of_key key) name to → Walk t (of_key key) q None to rest → Goes t q name next rest (Exchange key)
@@ -53,7 +53,7 @@ from_exchange t q name next key rest (place.Exchange y) n s w =
 from_exchange t q name next key rest (place.Queue y) n s w =
     record { to = Queue key; is_next = into (subst (λ (z : Text). Edge t (of_key key) name (place.Queue z)) (sym n) s); goes = subst (λ (z : Text). Walk t (of_key key) q None (place.Queue z) rest) (sym n) w }
 
-pub first_step : (t : Topology) (q name next : Text) (rest : List Text) (s : Stand) → WalksOn t q name (next ∷ rest) s → Goes t q name next rest s
+pub first_step : (t : Topology) (q name next : Text) (rest : List Text) (s : KeyedPlace) → WalksOn t q name (next ∷ rest) s → Goes t q name next rest s
 first_step t q name next rest (Exchange key) (edge to s w n e) = from_exchange t q name next key rest to e s w
 first_step t q name next rest (Queue key) (dies last d w) = record {
   to = Exchange (key_after last.dead_letter_key key);
@@ -63,7 +63,7 @@ first_step t q name next rest (Queue key) (dies last d w) = record {
 
 -- ---- all at once
 
-pub all_on : (t : Topology) (q name next : Text) (rest : List Text) (old new : List Stand) → AreNext t name next old new → SomeGoesOn t q name (next ∷ rest) old ↔ SomeGoesOn t q next rest new
+pub all_on : (t : Topology) (q name next : Text) (rest : List Text) (old new : List KeyedPlace) → AreOneOn t name next old new → SomeGoesOn t q name (next ∷ rest) old ↔ SomeGoesOn t q next rest new
 all_on t q name next rest old new a = (
   λ m. (let g = first_step t q name next rest m.0 m.2 in (g.to, (a g.to).1 (m.0, m.1, g.is_next), g.goes)),
   λ m. (let f = (a m.0).0 m.1 in (f.0, f.1, step_on t q name next rest f.0 m.0 f.2 m.2)),
@@ -77,19 +77,19 @@ last_place (edge to s w name n) e = absurd (cc)
 last_place (dies last d w) e = absurd (cc)
 
 -- one that is in the queue of that name
-pub ends_here : (t : Topology) (q name : Text) (s : Stand) → WalksOn t q name [] s → (name ≡ q) × (is_queue s ≡ true)
+pub ends_here : (t : Topology) (q name : Text) (s : KeyedPlace) → WalksOn t q name [] s → (name ≡ q) × (is_queue s ≡ true)
 ends_here t q name (Exchange key) w = absurd (let e = last_place w refl in cc)
 ends_here t q name (Queue key) w = let e = last_place w refl in (cc, refl)
 
-pub here_ends : (t : Topology) (q name : Text) (s : Stand) → name ≡ q → is_queue s ≡ true → WalksOn t q name [] s
+pub here_ends : (t : Topology) (q name : Text) (s : KeyedPlace) → name ≡ q → is_queue s ≡ true → WalksOn t q name [] s
 here_ends t q name (Exchange key) e h = absurd (cc)
 here_ends t q name (Queue key) e h = subst (λ (z : Text). Walk t (of_key key) q None (place.Queue z) []) (sym e) ends
 
-any_queued : (s : Stand) (ss : List Stand) (v w : Bool) → (v || w) ≡ true → (v ≡ true → is_queue s ≡ true) → (w ≡ true → (x : Stand) × IsIn x ss × (is_queue x ≡ true)) → (x : Stand) × IsIn x (s ∷ ss) × (is_queue x ≡ true)
+any_queued : (s : KeyedPlace) (ss : List KeyedPlace) (v w : Bool) → (v || w) ≡ true → (v ≡ true → is_queue s ≡ true) → (w ≡ true → (x : KeyedPlace) × IsIn x ss × (is_queue x ≡ true)) → (x : KeyedPlace) × IsIn x (s ∷ ss) × (is_queue x ≡ true)
 any_queued s ss true w h a b = (s, inl refl, a refl)
 any_queued s ss false w h a b = let m = b h in (m.0, inr m.1, m.2)
 
-pub some_queued : (ss : List Stand) → list_any is_queue ss ≡ true → (x : Stand) × IsIn x ss × (is_queue x ≡ true)
+pub some_queued : (ss : List KeyedPlace) → list_any is_queue ss ≡ true → (x : KeyedPlace) × IsIn x ss × (is_queue x ≡ true)
 some_queued [] h = absurd (cc)
 some_queued (s ∷ ss) h = any_queued s ss (is_queue s) (list_any is_queue ss) h (λ e. e) (some_queued ss)
 
@@ -101,16 +101,16 @@ or_left : (v w : Bool) → v ≡ true → (v || w) ≡ true
 or_left true w h = refl
 or_left false w h = absurd (cc)
 
-pub queued_some : (x : Stand) (ss : List Stand) → IsIn x ss → is_queue x ≡ true → list_any is_queue ss ≡ true
+pub queued_some : (x : KeyedPlace) (ss : List KeyedPlace) → IsIn x ss → is_queue x ≡ true → list_any is_queue ss ≡ true
 queued_some x [] m h = absurd m
 queued_some x (s ∷ ss) m h = elim m [
-  | inl e ↦ or_left (is_queue s) (list_any is_queue ss) (subst (λ (z : Stand). is_queue z ≡ true) e h)
+  | inl e ↦ or_left (is_queue s) (list_any is_queue ss) (subst (λ (z : KeyedPlace). is_queue z ≡ true) e h)
   | inr r ↦ or_right (is_queue s) (list_any is_queue ss) (queued_some x ss r h)
 ]
 
 -- ---- the rest of the path
 
-pub goes_more : (t : Topology) (q name : Text) (rest : List Text) (i : ℕ) (x : Text) (old new : List Stand) (G : Type 0) → i < length rest → x ≡ get_or rest i x → AreNext t name x old new
+pub goes_more : (t : Topology) (q name : Text) (rest : List Text) (i : ℕ) (x : Text) (old new : List KeyedPlace) (G : Type 0) → i < length rest → x ≡ get_or rest i x → AreOneOn t name x old new
     → SomeGoesOn t q name (drop i rest) old ↔ G → SomeGoesOn t q x (drop (i + 1) rest) new ↔ G
 goes_more t q name rest i x old new G h e a inv =
     let d : drop i rest ≡ x ∷ drop (i + 1) rest = drop_more rest i x h ∙ ap (λ (z : Text). z ∷ drop (i + 1) rest) (sym e) in (
@@ -118,7 +118,7 @@ goes_more t q name rest i x old new G h e a inv =
       λ g. (all_on t q name x (drop (i + 1) rest) old new a).0 (subst (λ (ns : List Text). SomeGoesOn t q name ns old) d (inv.1 g)),
     )
 
-pub goes_to_end : (t : Topology) (q name : Text) (ss : List Stand) (v : Bool) (G : Type 0) → Decides v (name ≡ q) → SomeGoesOn t q name [] ss ↔ G → Decides (v && list_any is_queue ss) G
+pub goes_to_end : (t : Topology) (q name : Text) (ss : List KeyedPlace) (v : Bool) (G : Type 0) → Decides v (name ≡ q) → SomeGoesOn t q name [] ss ↔ G → Decides (v && list_any is_queue ss) G
 goes_to_end t q name ss true G d inv = (
   λ h. (let m = some_queued ss h in inv.0 (m.0, m.1, here_ends t q name m.0 (d.0 refl) m.2)),
   λ g. (let m = inv.1 g in queued_some m.0 ss m.1 (ends_here t q name m.0 m.2).1),

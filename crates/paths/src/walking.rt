@@ -3,10 +3,10 @@
 ghost use Rattle.std.specs.Prelude.{Decides, IfOk, OnOk, ◌≡◌};
 ghost use Rattle.std.specs.List.{list_any};
 ghost use Rattle.model.specs.Routing.{key_after};
-ghost use Rattle.paths.specs.Stands.{AddsAll, AreNext, WalksOn, IsPath, LeadsDead, Next, is_queue};
-ghost use Rattle.paths.specs.declared.stands.Stand.TheVariants.{Exchange, Queue};
+ghost use Rattle.paths.specs.Stands.{AddsAll, AreOneOn, WalksOn, IsPath, LeadsDead, NextStand, is_queue};
+ghost use Rattle.paths.specs.declared.stands.KeyedPlace.TheVariants.{Exchange, Queue};
 
-use crate::stands::{Stand, add_if};
+use crate::stands::{KeyedPlace, add_if};
 use exchange_graph::Topology;
 use model::{DeclaredQueue, Text};
 use std::alloc::{AllocError, Global};
@@ -18,14 +18,14 @@ fn go_on(
     name: &[u8],
     key: &Text,
     next: &[u8],
-    stands: &mut Vec<Stand>,
+    stands: &mut Vec<KeyedPlace>,
 ) -> Result<(), AllocError>
-    ensures { OnOk result (AddsAll (Next topology.now name.now next.now (Exchange key.now)) stands.old.items stands.new.items) }
+    ensures { OnOk result (AddsAll (NextStand topology.now name.now next.now (Exchange key.now)) stands.old.items stands.new.items) }
 {
     let on = topology.leads_on(alloc, name, key.as_bytes(), next)?;
     let into = topology.leads_in(alloc, name, key.as_bytes(), next)?;
-    add_if(stands, on, Stand::Exchange(key.clone()?))?;
-    add_if(stands, into, Stand::Queue(key.clone()?))
+    add_if(stands, on, KeyedPlace::Exchange(key.clone()?))?;
+    add_if(stands, into, KeyedPlace::Queue(key.clone()?))
 }
 
 /// Whether this is the queue's dead-letter exchange.
@@ -54,9 +54,9 @@ fn die(
     name: &[u8],
     key: &Text,
     next: &[u8],
-    stands: &mut Vec<Stand>,
+    stands: &mut Vec<KeyedPlace>,
 ) -> Result<(), AllocError>
-    ensures { OnOk result (AddsAll (Next topology.now name.now next.now (Queue key.now)) stands.old.items stands.new.items) }
+    ensures { OnOk result (AddsAll (NextStand topology.now name.now next.now (Queue key.now)) stands.old.items stands.new.items) }
 {
     topology.is_well_formed();
     let Some(place) = topology.queue_at(name) else {
@@ -66,7 +66,7 @@ fn die(
     add_if(
         stands,
         leads_dead(queue, next),
-        Stand::Exchange(dead_key(queue, key)?),
+        KeyedPlace::Exchange(dead_key(queue, key)?),
     )
 }
 
@@ -75,15 +75,15 @@ fn step(
     topology: &Topology,
     alloc: Global,
     name: &[u8],
-    stand: &Stand,
+    stand: &KeyedPlace,
     next: &[u8],
-    stands: &mut Vec<Stand>,
+    stands: &mut Vec<KeyedPlace>,
 ) -> Result<(), AllocError>
-    ensures { OnOk result (AddsAll (Next topology.now name.now next.now stand.now) stands.old.items stands.new.items) }
+    ensures { OnOk result (AddsAll (NextStand topology.now name.now next.now stand.now) stands.old.items stands.new.items) }
 {
     match stand {
-        Stand::Exchange(key) => go_on(topology, alloc, name, key, next, stands),
-        Stand::Queue(key) => die(topology, name, key, next, stands),
+        KeyedPlace::Exchange(key) => go_on(topology, alloc, name, key, next, stands),
+        KeyedPlace::Queue(key) => die(topology, name, key, next, stands),
     }
 }
 
@@ -92,10 +92,10 @@ fn advance(
     topology: &Topology,
     alloc: Global,
     name: &[u8],
-    stands: &[Stand],
+    stands: &[KeyedPlace],
     next: &[u8],
-) -> Result<Vec<Stand>, AllocError>
-    ensures { IfOk result (λ found. AreNext topology.now name.now next.now stands.now found.items) }
+) -> Result<Vec<KeyedPlace>, AllocError>
+    ensures { IfOk result (λ found. AreOneOn topology.now name.now next.now stands.now found.items) }
 {
     let mut found = Vec::new(alloc);
     for stand in stands {
@@ -105,12 +105,12 @@ fn advance(
 }
 
 /// Whether a message stands in a queue.
-fn is_queued(stands: &[Stand]) -> bool
+fn is_queued(stands: &[KeyedPlace]) -> bool
     ensures { result ≡ list_any is_queue stands.now }
 {
     stands.iter().any(|stand| match stand {
-        Stand::Exchange(_) => false,
-        Stand::Queue(_) => true,
+        KeyedPlace::Exchange(_) => false,
+        KeyedPlace::Queue(_) => true,
     })
 }
 
@@ -126,7 +126,7 @@ fn goes_on(
     ensures { IfOk result (λ yes. Decides yes (WalksOn topology.now queue.now exchange.now rest.now (Exchange key.now))) }
 {
     let mut stands = Vec::new(alloc);
-    stands.push(Stand::Exchange(key.clone()?))?;
+    stands.push(KeyedPlace::Exchange(key.clone()?))?;
     let mut name = exchange;
     for next in rest {
         stands = advance(topology, alloc, name, stands.as_slice(), next.as_bytes())?;

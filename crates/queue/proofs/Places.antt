@@ -3,7 +3,7 @@ use Rattle.std.proofs.Common.{◌≡◌, ℕ, zero, suc, ◌+◌, ◌<◌, ◌�
 use Rattle.std.proofs.lemmas.Bool.{false≢true}
 use Rattle.std.proofs.Math.ListN.{set}
 use Rattle.model.specs.Entries.{change_first, without_first}
-use Rattle.queue.specs.Slots.{somes, has, changed, num, tally}
+use Rattle.queue.specs.Slots.{somes, slot_has, changed, num, tally}
 
 pub num-some : (b : Bool) → num b ≡ 1 → b ≡ true
 num-some true e = refl
@@ -14,7 +14,7 @@ num-none true e = absurd (cc)
 num-none false e = refl
 
 -- a slot in which something stands that passes is there
-pub within : {X : Type 0} (p : X → Bool) (slots : List (Option X)) (i : ℕ) → has p (get_or slots i None) ≡ true → i < length slots
+pub within : {X : Type 0} (p : X → Bool) (slots : List (Option X)) (i : ℕ) → slot_has p (get_or slots i None) ≡ true → i < length slots
 within p [] i h = absurd (false≢true h)
 within p (x ∷ xs) zero h = omega arith
 within p (x ∷ xs) (suc i) h = let r = within p xs i h in omega arith
@@ -23,8 +23,8 @@ within p (x ∷ xs) (suc i) h = let r = within p xs i h in omega arith
 
 -- The first slot that passes.
 pub record FirstAt {X : Type 0} (p : X → Bool) (slots : List (Option X)) (i : ℕ) : Type 0 where
-  pub there : has p (get_or slots i None) ≡ true
-  pub before : (k : ℕ) → k < i → has p (get_or slots k None) ≡ false
+  pub there : slot_has p (get_or slots i None) ≡ true
+  pub before : (k : ℕ) → k < i → slot_has p (get_or slots k None) ≡ false
 
 later : {X : Type 0} {p : X → Bool} {x : Option X} {xs : List (Option X)} {i : ℕ} → FirstAt p (x ∷ xs) (suc i) → FirstAt p xs i
 later f = record { there = f.there; before = λ k lt. f.before (suc k) (omega arith) }
@@ -51,7 +51,7 @@ find_at p (Some x ∷ xs) zero h = rw h.there refl
 find_at p (None ∷ xs) (suc i) h = find_at p xs i (later h)
 find_at p (Some x ∷ xs) (suc i) h = rw (h.before 0 (omega arith)) (find_at p xs i (later h))
 
-some_there : {X : Type 0} (p : X → Bool) (o : Option X) → has p o ≡ true → is_some o ≡ true
+some_there : {X : Type 0} (p : X → Bool) (o : Option X) → slot_has p o ≡ true → is_some o ≡ true
 some_there p None h = absurd (false≢true h)
 some_there p (Some x) h = refl
 
@@ -61,7 +61,7 @@ some_at p slots i f = ap is_some (find_at p slots i f) ∙ some_there p (get_or 
 -- ---- none passes
 
 pub record NonePasses {X : Type 0} (p : X → Bool) (slots : List (Option X)) : Type 0 where
-  pub no : (k : ℕ) → has p (get_or slots k None) ≡ false
+  pub no : (k : ℕ) → slot_has p (get_or slots k None) ≡ false
 
 none_later : {X : Type 0} {p : X → Bool} {x : Option X} {xs : List (Option X)} → NonePasses p (x ∷ xs) → NonePasses p xs
 none_later n = record { no = λ k. n.no (suc k) }
@@ -109,7 +109,7 @@ tally-filter p (x ∷ xs) = go (p x) (tally-filter p xs)
     go true e = omega arith
     go false e = omega arith
 
-pub counted : {X : Type 0} (p : X → Bool) (slots : List (Option X)) (i : ℕ) → has p (get_or slots i None) ≡ true → 1 ≤ tally p (somes slots)
+pub counted : {X : Type 0} (p : X → Bool) (slots : List (Option X)) (i : ℕ) → slot_has p (get_or slots i None) ≡ true → 1 ≤ tally p (somes slots)
 counted p [] i h = absurd (false≢true h)
 counted p (None ∷ xs) zero h = absurd (false≢true h)
 counted p (Some x ∷ xs) zero h = let n = ap num h in omega arith
@@ -117,15 +117,15 @@ counted p (None ∷ xs) (suc i) h = counted p xs i h
 counted p (Some x ∷ xs) (suc i) h = let r = counted p xs i h in omega arith
 
 pub uncounted : {X : Type 0} (p : X → Bool) (slots : List (Option X)) → tally p (somes slots) ≡ 0 → NonePasses p slots
-uncounted p slots e = record { no = λ k. go k (has p (get_or slots k None)) refl }
+uncounted p slots e = record { no = λ k. go k (slot_has p (get_or slots k None)) refl }
   where
-    go : (k : ℕ) (b : Bool) → has p (get_or slots k None) ≡ b → has p (get_or slots k None) ≡ false
+    go : (k : ℕ) (b : Bool) → slot_has p (get_or slots k None) ≡ b → slot_has p (get_or slots k None) ≡ false
     go k true h = absurd (let c = counted p slots k h in omega arith)
     go k false h = h
 
 -- one slot is written
 pub count-set : {X : Type 0} (p : X → Bool) (slots : List (Option X)) (i : ℕ) (v : Option X) → i < length slots
-    → tally p (somes (set slots i v)) + num (has p (get_or slots i None)) ≡ tally p (somes slots) + num (has p v)
+    → tally p (somes (set slots i v)) + num (slot_has p (get_or slots i None)) ≡ tally p (somes slots) + num (slot_has p v)
 count-set p [] i v lt = absurd (omega arith)
 count-set p (None ∷ xs) zero None lt = refl
 count-set p (None ∷ xs) zero (Some y) lt = omega arith
@@ -155,7 +155,7 @@ somes-most (None ∷ xs) = let r = somes-most xs in omega arith
 somes-most (Some x ∷ xs) = let r = somes-most xs in omega arith
 
 -- fewer pass than there are slots, where one does not
-pub count-fewer : {X : Type 0} (p : X → Bool) (slots : List (Option X)) (i : ℕ) → i < length slots → has p (get_or slots i None) ≡ false → tally p (somes slots) < length slots
+pub count-fewer : {X : Type 0} (p : X → Bool) (slots : List (Option X)) (i : ℕ) → i < length slots → slot_has p (get_or slots i None) ≡ false → tally p (somes slots) < length slots
 count-fewer p [] i lt h = absurd (omega arith)
 count-fewer p (None ∷ xs) zero lt h = let a = tally-most p (somes xs) in let b = somes-most xs in omega arith
 count-fewer p (Some x ∷ xs) zero lt h = let a = tally-most p (somes xs) in let b = somes-most xs in let n = ap num h in omega arith
@@ -165,7 +165,7 @@ count-fewer p (Some x ∷ xs) (suc i) lt h = let r = count-fewer p xs i (omega a
 -- ---- the only one that passes
 
 pub record OnlyAt {X : Type 0} (p : X → Bool) (slots : List (Option X)) (i : ℕ) : Type 0 where
-  pub there : has p (get_or slots i None) ≡ true
+  pub there : slot_has p (get_or slots i None) ≡ true
   pub only : tally p (somes slots) ≤ 1
 
 rest_none : {X : Type 0} (p : X → Bool) (x : X) (xs : List (Option X)) → p x ≡ true → tally p (somes (Some x ∷ xs)) ≤ 1 → NonePasses p xs
@@ -180,7 +180,7 @@ only_later p None xs i h = record { there = h.there; only = h.only }
 only_later p (Some x) xs i h = record { there = h.there; only = (let o = h.only in omega arith) }
 
 -- it is the first
-before_only : {X : Type 0} (p : X → Bool) (x : Option X) (xs : List (Option X)) (i k : ℕ) → k < suc i → OnlyAt p (x ∷ xs) (suc i) → FirstAt p xs i → has p (get_or (x ∷ xs) k None) ≡ false
+before_only : {X : Type 0} (p : X → Bool) (x : Option X) (xs : List (Option X)) (i k : ℕ) → k < suc i → OnlyAt p (x ∷ xs) (suc i) → FirstAt p xs i → slot_has p (get_or (x ∷ xs) k None) ≡ false
 before_only p None xs i zero lt h f = refl
 before_only p (Some x) xs i zero lt h f = not_yet p x xs i (p x) refl h
 before_only p x xs i (suc k) lt h f = f.before k (omega arith)

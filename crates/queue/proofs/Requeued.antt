@@ -7,8 +7,8 @@ use Rattle.model.specs.Broker.{is_ready}
 use Rattle.model.specs.Entries.{freed, is_held_by, is_held_as, freed_now}
 use Rattle.model.specs.declared.messages.Entry.{Entry}
 use Rattle.model.specs.declared.messages.Holder.{Holder}
-use Rattle.marks.specs.Places.{IsNext, bit_of}
-use Rattle.queue.specs.Slots.{somes, has, changed, num, tally, is_held, Bits, AreSigned, BitsShow}
+use Rattle.marks.specs.Places.{IsNextMark, bit_of}
+use Rattle.queue.specs.Slots.{somes, slot_has, changed, num, tally, is_held, SlotBits, AreSigned, BitsShow}
 use Rattle.queue.proofs.Places.{num-some, num-none, within, count-set}
 use Rattle.queue.proofs.Slotted.{freed_there, freed_same, slot_same, unheld, held_not_ready, now_free}
 
@@ -25,29 +25,19 @@ slot_again : (mine : Holder → Bool) (o : Option Entry) → changed (freed mine
 slot_again mine None = refl
 slot_again mine (Some e) = ap Some (freed_again mine e)
 
-mapped_again : {X : Type 0} (g : X → X) → ((x : X) → g (g x) ≡ g x) → (xs : List X) (i : ℕ) (d : X) → map g (set xs i (g (get_or xs i d))) ≡ map g xs
+pub mapped_again : {X : Type 0} (g : X → X) → ((x : X) → g (g x) ≡ g x) → (xs : List X) (i : ℕ) (d : X) → map g (set xs i (g (get_or xs i d))) ≡ map g xs
 mapped_again g again [] i d = refl
 mapped_again g again (x ∷ xs) zero d = ap (λ (y : _). y ∷ map g xs) (again x)
 mapped_again g again (x ∷ xs) (suc i) d = ap (λ (ys : List _). g x ∷ ys) (mapped_again g again xs i d)
 
-mapped_same : {X : Type 0} (g : X → X) (xs : List X) (d : X) → ((k : ℕ) → k < length xs → g (get_or xs k d) ≡ get_or xs k d) → map g xs ≡ xs
+pub mapped_same : {X : Type 0} (g : X → X) (xs : List X) (d : X) → ((k : ℕ) → k < length xs → g (get_or xs k d) ≡ get_or xs k d) → map g xs ≡ xs
 mapped_same g [] d h = refl
 mapped_same g (x ∷ xs) d h = ap (λ (y : _). y ∷ map g xs) (h 0 (omega arith)) ∙ ap (λ (ys : List _). x ∷ ys) (mapped_same g xs d (λ k lt. h (suc k) (omega arith)))
 
-set_own : {X : Type 0} (xs : List X) (i : ℕ) (d : X) → set xs i (get_or xs i d) ≡ xs
-set_own [] i d = refl
-set_own (x ∷ xs) zero d = refl
-set_own (x ∷ xs) (suc i) d = ap (λ (ys : List _). x ∷ ys) (set_own xs i d)
-
 -- ---- one slot
 
--- nothing there is to be freed
-pub slot_kept : (mine : Holder → Bool) (slots : List (Option Entry)) (i : ℕ) → has (is_held_by mine) (get_or slots i None) ≡ false
-    → slots ≡ set slots i (changed (freed mine) (get_or slots i None))
-slot_kept mine slots i h = sym (ap (set slots i) (slot_same mine (get_or slots i None) h) ∙ set_own slots i None)
-
 -- one more is ready
-pub one_freed : (mine : Holder → Bool) (slots : List (Option Entry)) (i : ℕ) → has (is_held_by mine) (get_or slots i None) ≡ true
+pub one_freed : (mine : Holder → Bool) (slots : List (Option Entry)) (i : ℕ) → slot_has (is_held_by mine) (get_or slots i None) ≡ true
     → tally is_ready (somes (set slots i (changed freed_now (get_or slots i None)))) ≡ tally is_ready (somes slots) + 1
 one_freed mine slots i h =
     let c = count-set is_ready slots i (changed freed_now (get_or slots i None)) (within (is_held_by mine) slots i h) in
@@ -63,17 +53,14 @@ pub record FreedUpTo (mine : Holder → Bool) (start slots : List (Option Entry)
   pub done : (k : ℕ) → k < place → changed (freed mine) (get_or slots k None) ≡ get_or slots k None
   pub counted : tally is_ready (somes slots) ≡ tally is_ready (somes start) + count
 
-pub none_freed : (mine : Holder → Bool) (start : List (Option Entry)) → FreedUpTo mine start start 0 0
-none_freed mine start = record { whole = refl; done = λ k lt. absurd (omega arith); counted = omega arith }
-
 -- slots that are not held stay
-not_marked : (mine : Holder → Bool) (slots : List (Option Entry)) (bits : Bits) (k : ℕ) → AreSigned slots bits → bit_of bits.held k ≡ 0 → changed (freed mine) (get_or slots k None) ≡ get_or slots k None
+not_marked : (mine : Holder → Bool) (slots : List (Option Entry)) (bits : SlotBits) (k : ℕ) → AreSigned slots bits → bit_of bits.held k ≡ 0 → changed (freed mine) (get_or slots k None) ≡ get_or slots k None
 not_marked mine slots bits k s z = slot_same mine (get_or slots k None) (unheld mine (get_or slots k None) (num-none _ (sym (s.held k) ∙ z)))
 
-pub held_within : (slots : List (Option Entry)) (bits : Bits) (from i : ℕ) → AreSigned slots bits → IsNext (bit_of bits.held) from i → i < length slots
+pub held_within : (slots : List (Option Entry)) (bits : SlotBits) (from i : ℕ) → AreSigned slots bits → IsNextMark (bit_of bits.held) from i → i < length slots
 held_within slots bits from i s n = within is_held slots i (num-some _ (sym (s.held i) ∙ n.there))
 
-pub next_freed : (mine : Holder → Bool) (start slots now : List (Option Entry)) (bits : Bits) (from i count more total : ℕ) → AreSigned slots bits → IsNext (bit_of bits.held) from i
+pub next_freed : (mine : Holder → Bool) (start slots now : List (Option Entry)) (bits : SlotBits) (from i count more total : ℕ) → AreSigned slots bits → IsNextMark (bit_of bits.held) from i
     → now ≡ set slots i (changed (freed mine) (get_or slots i None)) → tally is_ready (somes now) ≡ tally is_ready (somes slots) + more
     → total ≡ count + more → FreedUpTo mine start slots from count → FreedUpTo mine start now (i + 1) total
 next_freed mine start slots now bits from i count more total s n e t add f = record {
@@ -100,7 +87,7 @@ next_freed mine start slots now bits from i count more total s n e t add f = rec
       | inr p ↦ (let ne = p.1 in let e : get_or (set slots i v) k None ≡ get_or slots k None = get_or-set_other slots i k v None p.1 in ap g e ∙ before k (omega arith) ∙ sym e)
     ]
 
-pub all_freed : (mine : Holder → Bool) (start slots : List (Option Entry)) (bits : Bits) (from count : ℕ) → AreSigned slots bits → ((k : ℕ) → from ≤ k → bit_of bits.held k ≡ 0)
+pub all_freed : (mine : Holder → Bool) (start slots : List (Option Entry)) (bits : SlotBits) (from count : ℕ) → AreSigned slots bits → ((k : ℕ) → from ≤ k → bit_of bits.held k ≡ 0)
     → FreedUpTo mine start slots from count → slots ≡ map (changed (freed mine)) start
 all_freed mine start slots bits from count s z f = sym (mapped_same (changed (freed mine)) slots None (λ k lt. go k)) ∙ f.whole
   where
@@ -129,7 +116,7 @@ held_fewer : (h : Holder) (mine : Holder → Bool) (es : List Entry) → tally (
 held_fewer h mine [] = omega arith
 held_fewer h mine (e ∷ es) = let a = held_less h mine e in let b = held_fewer h mine es in omega arith
 
-pub requeue_shows : (mine : Holder → Bool) (slots now : List (Option Entry)) (bits bits' : Bits) (ready ready' live more : ℕ) → BitsShow slots bits ready live
+pub requeue_shows : (mine : Holder → Bool) (slots now : List (Option Entry)) (bits bits' : SlotBits) (ready ready' live more : ℕ) → BitsShow slots bits ready live
     → now ≡ map (changed (freed mine)) slots → tally is_ready (somes now) ≡ tally is_ready (somes slots) + more → ready' ≡ ready + more → AreSigned now bits' → BitsShow now bits' ready' live
 requeue_shows mine slots now bits bits' ready ready' live more s e t r signed =
     let m : somes now ≡ map (freed mine) (somes slots) = ap somes e ∙ somes-changed (freed mine) slots in record {

@@ -12,15 +12,15 @@ use Rattle.model.specs.Message.{Message}
 use Rattle.model.specs.declared.messages.Holder.{Holder}
 use Rattle.model.specs.declared.messages.Mark.{Mark}
 use Rattle.model.specs.declared.messages.Mark.TheVariants.{Ready, Held}
-use Rattle.marks.specs.Places.{IsNext, Differs, bit_of}
+use Rattle.marks.specs.Places.{IsNextMark, Differs, bit_of}
 use Rattle.queue.specs.Line.{ready_count}
 use Rattle.queue.specs.declared.slots.Slot.{Slot}
-use Rattle.queue.specs.Slots.{somes, has, changed, num, tally, is_held, Bits, Turned, SlotsAreMarked, AreSigned, BitsShow, HasPlaces, contents}
+use Rattle.queue.specs.Slots.{somes, slot_has, changed, num, tally, is_held, SlotBits, BitsTurned, SlotsAreMarked, AreSigned, BitsShow, HasPlaces, contents}
 use Rattle.queue.proofs.Places.{num-some, num-none, within, FirstAt, NonePasses, counted, tally-most, somes-most, count-set, length-set, count-fewer, OnlyAt}
 
 -- ---- one entry
 
-pub ready_not_held : (mine : Holder → Bool) (o : Option Entry) → has is_ready o ≡ true → has (is_held_by mine) o ≡ false
+pub ready_not_held : (mine : Holder → Bool) (o : Option Entry) → slot_has is_ready o ≡ true → slot_has (is_held_by mine) o ≡ false
 ready_not_held mine None r = refl
 ready_not_held mine (Some e) r = go e.mark r
   where
@@ -28,7 +28,7 @@ ready_not_held mine (Some e) r = go e.mark r
     go Ready r = refl
     go (Held g) r = absurd (false≢true r)
 
-pub held_not_ready : (mine : Holder → Bool) (o : Option Entry) → has (is_held_by mine) o ≡ true → has is_ready o ≡ false
+pub held_not_ready : (mine : Holder → Bool) (o : Option Entry) → slot_has (is_held_by mine) o ≡ true → slot_has is_ready o ≡ false
 held_not_ready mine None r = refl
 held_not_ready mine (Some e) r = go e.mark r
   where
@@ -37,7 +37,7 @@ held_not_ready mine (Some e) r = go e.mark r
     go (Held g) r = refl
 
 -- what is not held by anyone is not held by these
-pub unheld : (mine : Holder → Bool) (o : Option Entry) → has is_held o ≡ false → has (is_held_by mine) o ≡ false
+pub unheld : (mine : Holder → Bool) (o : Option Entry) → slot_has is_held o ≡ false → slot_has (is_held_by mine) o ≡ false
 unheld mine None h = refl
 unheld mine (Some e) h = ready_not_held mine (Some e) (go (is_ready e) h)
   where
@@ -45,7 +45,7 @@ unheld mine (Some e) h = ready_not_held mine (Some e) (go (is_ready e) h)
     go true h = refl
     go false h = absurd (false≢true (sym h))
 
-some_of : {X : Type 0} (p : X → Bool) (o : Option X) → has p o ≡ true → is_some o ≡ true
+some_of : {X : Type 0} (p : X → Bool) (o : Option X) → slot_has p o ≡ true → is_some o ≡ true
 some_of p None h = absurd (false≢true h)
 some_of p (Some x) h = refl
 
@@ -53,23 +53,23 @@ still_some : {X : Type 0} (f : X → X) (o : Option X) → is_some (changed f o)
 still_some f None = refl
 still_some f (Some x) = refl
 
-held_is : (h holder : Holder) (o : Option Entry) → has is_ready o ≡ true → has (is_held_as h) (changed (held_as holder) o) ≡ is_under h holder
+held_is : (h holder : Holder) (o : Option Entry) → slot_has is_ready o ≡ true → slot_has (is_held_as h) (changed (held_as holder) o) ≡ is_under h holder
 held_is h holder None r = absurd (false≢true r)
 held_is h holder (Some e) r = refl
 
-held_not_free : (holder : Holder) (o : Option Entry) → has is_ready (changed (held_as holder) o) ≡ false
+held_not_free : (holder : Holder) (o : Option Entry) → slot_has is_ready (changed (held_as holder) o) ≡ false
 held_not_free holder None = refl
 held_not_free holder (Some e) = refl
 
-now_held : (holder : Holder) (o : Option Entry) → has is_ready o ≡ true → has is_held (changed (held_as holder) o) ≡ true
+now_held : (holder : Holder) (o : Option Entry) → slot_has is_ready o ≡ true → slot_has is_held (changed (held_as holder) o) ≡ true
 now_held holder None r = absurd (false≢true r)
 now_held holder (Some e) r = refl
 
-pub now_free : (p : Entry → Bool) (o : Option Entry) → has p o ≡ true → has is_ready (changed freed_now o) ≡ true
+pub now_free : (p : Entry → Bool) (o : Option Entry) → slot_has p o ≡ true → slot_has is_ready (changed freed_now o) ≡ true
 now_free p None h = absurd (false≢true h)
 now_free p (Some e) h = refl
 
-pub freed_not_held : (o : Option Entry) → has is_held (changed freed_now o) ≡ false
+pub freed_not_held : (o : Option Entry) → slot_has is_held (changed freed_now o) ≡ false
 freed_not_held None = refl
 freed_not_held (Some e) = refl
 
@@ -88,11 +88,11 @@ freed_same mine e h = go e.mark h
     go (Held g) h = rw h refl
 
 -- what stands in a slot is freed, or stays
-pub slot_freed : (mine : Holder → Bool) (o : Option Entry) → has (is_held_by mine) o ≡ true → changed (freed mine) o ≡ changed freed_now o
+pub slot_freed : (mine : Holder → Bool) (o : Option Entry) → slot_has (is_held_by mine) o ≡ true → changed (freed mine) o ≡ changed freed_now o
 slot_freed mine None h = absurd (false≢true h)
 slot_freed mine (Some e) h = ap Some (freed_there mine e h)
 
-pub slot_same : (mine : Holder → Bool) (o : Option Entry) → has (is_held_by mine) o ≡ false → changed (freed mine) o ≡ o
+pub slot_same : (mine : Holder → Bool) (o : Option Entry) → slot_has (is_held_by mine) o ≡ false → changed (freed mine) o ≡ o
 slot_same mine None h = refl
 slot_same mine (Some e) h = ap Some (freed_same mine e h)
 
@@ -135,21 +135,21 @@ not_found p (x ∷ xs) e = go (p x) refl (not_found p xs) e
 
 -- ---- the marks
 
-pub first_by_marks : (p : Entry → Bool) (slots : List (Option Entry)) (bit : ℕ → ℕ) (i : ℕ) → SlotsAreMarked p slots bit → IsNext bit 0 i → FirstAt p slots i
+pub first_by_marks : (p : Entry → Bool) (slots : List (Option Entry)) (bit : ℕ → ℕ) (i : ℕ) → SlotsAreMarked p slots bit → IsNextMark bit 0 i → FirstAt p slots i
 first_by_marks p slots bit i m n = record { there = num-some _ (sym (m i) ∙ n.there); before = λ k lt. num-none _ (sym (m k) ∙ n.before k (omega arith) lt) }
 
 pub none_by_marks : (p : Entry → Bool) (slots : List (Option Entry)) (bit : ℕ → ℕ) → SlotsAreMarked p slots bit → ((k : ℕ) → bit k ≡ 0) → NonePasses p slots
 none_by_marks p slots bit m z = record { no = λ k. num-none _ (sym (m k) ∙ z k) }
 
 marked_set : (p : Entry → Bool) (slots : List (Option Entry)) (v : Option Entry) (bit bit' : ℕ → ℕ) (i : ℕ) → i < length slots → SlotsAreMarked p slots bit
-    → Differs bit bit' i (num (has p v)) → SlotsAreMarked p (set slots i v) bit'
+    → Differs bit bit' i (num (slot_has p v)) → SlotsAreMarked p (set slots i v) bit'
 marked_set p slots v bit bit' i lt m d j = elim (eqb_tells j i) [
-  | inl q ↦ ap bit' q.1 ∙ d.there ∙ ap (λ (o : Option Entry). num (has p o)) (sym (get_or-set_same slots i v None lt) ∙ ap (λ (k : ℕ). get_or (set slots i v) k None) (sym q.1))
-  | inr q ↦ d.others j q.1 ∙ m j ∙ ap (λ (o : Option Entry). num (has p o)) (sym (get_or-set_other slots i j v None q.1))
+  | inl q ↦ ap bit' q.1 ∙ d.there ∙ ap (λ (o : Option Entry). num (slot_has p o)) (sym (get_or-set_same slots i v None lt) ∙ ap (λ (k : ℕ). get_or (set slots i v) k None) (sym q.1))
+  | inr q ↦ d.others j q.1 ∙ m j ∙ ap (λ (o : Option Entry). num (slot_has p o)) (sym (get_or-set_other slots i j v None q.1))
 ]
 
-pub signed_set : (slots : List (Option Entry)) (v : Option Entry) (bits bits' : Bits) (i : ℕ) → i < length slots → AreSigned slots bits
-    → Turned bits bits' i (num (has is_ready v)) (num (has is_held v)) → AreSigned (set slots i v) bits'
+pub signed_set : (slots : List (Option Entry)) (v : Option Entry) (bits bits' : SlotBits) (i : ℕ) → i < length slots → AreSigned slots bits
+    → BitsTurned bits bits' i (num (slot_has is_ready v)) (num (slot_has is_held v)) → AreSigned (set slots i v) bits'
 signed_set slots v bits bits' i lt s t = record { ready = marked_set is_ready slots v _ _ i lt s.ready t.ready_bit; held = marked_set is_held slots v _ _ i lt s.held t.held_bit }
 
 at_end : (xs : List (Option Entry)) (v : Option Entry) → get_or (xs ++ v ∷ []) (length xs) None ≡ v
@@ -163,23 +163,23 @@ not_end (x ∷ xs) v zero h = refl
 not_end (x ∷ xs) v (suc j) h = not_end xs v j (λ e. h (ap suc e))
 
 marked_push : (p : Entry → Bool) (slots : List (Option Entry)) (v : Option Entry) (bit bit' : ℕ → ℕ) → SlotsAreMarked p slots bit
-    → Differs bit bit' (length slots) (num (has p v)) → SlotsAreMarked p (slots ++ v ∷ []) bit'
+    → Differs bit bit' (length slots) (num (slot_has p v)) → SlotsAreMarked p (slots ++ v ∷ []) bit'
 marked_push p slots v bit bit' m d j = elim (eqb_tells j (length slots)) [
-  | inl q ↦ ap bit' q.1 ∙ d.there ∙ ap (λ (o : Option Entry). num (has p o)) (sym (at_end slots v) ∙ ap (λ (k : ℕ). get_or (slots ++ v ∷ []) k None) (sym q.1))
-  | inr q ↦ d.others j q.1 ∙ m j ∙ ap (λ (o : Option Entry). num (has p o)) (sym (not_end slots v j q.1))
+  | inl q ↦ ap bit' q.1 ∙ d.there ∙ ap (λ (o : Option Entry). num (slot_has p o)) (sym (at_end slots v) ∙ ap (λ (k : ℕ). get_or (slots ++ v ∷ []) k None) (sym q.1))
+  | inr q ↦ d.others j q.1 ∙ m j ∙ ap (λ (o : Option Entry). num (slot_has p o)) (sym (not_end slots v j q.1))
 ]
 
 -- ---- one slot is written
 
 -- What was written, and how the counts changed.
-record Written (slots : List (Option Entry)) (v : Option Entry) (bits bits' : Bits) (ready ready' live live' i : ℕ) : Type 0 where
+record Written (slots : List (Option Entry)) (v : Option Entry) (bits bits' : SlotBits) (ready ready' live live' i : ℕ) : Type 0 where
   there : i < length slots
-  turned : Turned bits bits' i (num (has is_ready v)) (num (has is_held v))
-  ready_count : ready' + num (has is_ready (get_or slots i None)) ≡ ready + num (has is_ready v)
+  turned : BitsTurned bits bits' i (num (slot_has is_ready v)) (num (slot_has is_held v))
+  ready_count : ready' + num (slot_has is_ready (get_or slots i None)) ≡ ready + num (slot_has is_ready v)
   live_count : live' + num (is_some (get_or slots i None)) ≡ live + num (is_some v)
   apart : (h : Holder) → tally (is_held_as h) (somes (set slots i v)) ≤ 1
 
-shows_set : (slots : List (Option Entry)) (v : Option Entry) (bits bits' : Bits) (ready ready' live live' i : ℕ) → BitsShow slots bits ready live
+shows_set : (slots : List (Option Entry)) (v : Option Entry) (bits bits' : SlotBits) (ready ready' live live' i : ℕ) → BitsShow slots bits ready live
     → Written slots v bits bits' ready ready' live live' i → BitsShow (set slots i v) bits' ready' live'
 shows_set slots v bits bits' ready ready' live live' i s w = record {
   signed = signed_set slots v bits bits' i w.there s.signed w.turned;
@@ -190,11 +190,11 @@ shows_set slots v bits bits' ready ready' live live' i s w = record {
 
 -- no more are held so than before
 apart_less : (slots : List (Option Entry)) (v : Option Entry) (i : ℕ) (h : Holder) → i < length slots → tally (is_held_as h) (somes slots) ≤ 1
-    → has (is_held_as h) v ≡ false → tally (is_held_as h) (somes (set slots i v)) ≤ 1
+    → slot_has (is_held_as h) v ≡ false → tally (is_held_as h) (somes (set slots i v)) ≤ 1
 apart_less slots v i h lt le e = let a = count-set (is_held_as h) slots i v lt in let n = ap num e in omega arith
 
 -- one more is held, under a tag under which none was
-apart_held : (slots : List (Option Entry)) (i : ℕ) (holder h : Holder) (b : Bool) → is_under h holder ≡ b → i < length slots → has is_ready (get_or slots i None) ≡ true
+apart_held : (slots : List (Option Entry)) (i : ℕ) (holder h : Holder) (b : Bool) → is_under h holder ≡ b → i < length slots → slot_has is_ready (get_or slots i None) ≡ true
     → find (is_held_as holder) (somes slots) ≡ None → tally (is_held_as h) (somes slots) ≤ 1
     → tally (is_held_as h) (somes (set slots i (changed (held_as holder) (get_or slots i None)))) ≤ 1
 apart_held slots i holder h false e lt r f le = apart_less slots (changed (held_as holder) (get_or slots i None)) i h lt le (held_is h holder (get_or slots i None) r ∙ e)
@@ -207,12 +207,12 @@ apart_held slots i holder h true e lt r f le =
 -- ---- the calls
 
 -- the bits of a slot whose entry is ready again
-pub freed_turned : (o : Option Entry) (bits bits' : Bits) (i : ℕ) → has is_ready (changed freed_now o) ≡ true → Turned bits bits' i 1 0
-    → Turned bits bits' i (num (has is_ready (changed freed_now o))) (num (has is_held (changed freed_now o)))
-freed_turned o bits bits' i f t = subst (λ (b : Bool). Turned bits bits' i (num b) (num (has is_held (changed freed_now o)))) (sym f) (subst (λ (b : Bool). Turned bits bits' i 1 (num b)) (sym (freed_not_held o)) t)
+pub freed_turned : (o : Option Entry) (bits bits' : SlotBits) (i : ℕ) → slot_has is_ready (changed freed_now o) ≡ true → BitsTurned bits bits' i 1 0
+    → BitsTurned bits bits' i (num (slot_has is_ready (changed freed_now o))) (num (slot_has is_held (changed freed_now o)))
+freed_turned o bits bits' i f t = subst (λ (b : Bool). BitsTurned bits bits' i (num b) (num (slot_has is_held (changed freed_now o)))) (sym f) (subst (λ (b : Bool). BitsTurned bits bits' i 1 (num b)) (sym (freed_not_held o)) t)
 
-pub hold_shows : (slots now : List (Option Entry)) (bits bits' : Bits) (ready ready' live i : ℕ) (holder : Holder) → BitsShow slots bits ready live → IsNext (bit_of bits.ready) 0 i
-    → Turned bits bits' i 0 1 → now ≡ set slots i (changed (held_as holder) (get_or slots i None)) → find (is_held_as holder) (somes slots) ≡ None → ready' + 1 ≡ ready
+pub hold_shows : (slots now : List (Option Entry)) (bits bits' : SlotBits) (ready ready' live i : ℕ) (holder : Holder) → BitsShow slots bits ready live → IsNextMark (bit_of bits.ready) 0 i
+    → BitsTurned bits bits' i 0 1 → now ≡ set slots i (changed (held_as holder) (get_or slots i None)) → find (is_held_as holder) (somes slots) ≡ None → ready' + 1 ≡ ready
     → BitsShow now bits' ready' live
 hold_shows slots now bits bits' ready ready' live i holder s n t e f r =
     let o : Option Entry = get_or slots i None in
@@ -221,14 +221,14 @@ hold_shows slots now bits bits' ready ready' live i holder s n t e f r =
     let lt : i < length slots = within is_ready slots i p.there in
     subst (λ (xs : List (Option Entry)). BitsShow xs bits' ready' live) (sym e) (shows_set slots v bits bits' ready ready' live live i s (record {
       there = lt;
-      turned = subst (λ (b : Bool). Turned bits bits' i (num b) (num (has is_held v))) (sym (held_not_free holder o)) (subst (λ (b : Bool). Turned bits bits' i 0 (num b)) (sym (now_held holder o p.there)) t);
+      turned = subst (λ (b : Bool). BitsTurned bits bits' i (num b) (num (slot_has is_held v))) (sym (held_not_free holder o)) (subst (λ (b : Bool). BitsTurned bits bits' i 0 (num b)) (sym (now_held holder o p.there)) t);
       ready_count = (let a = ap num p.there in let b = ap num (held_not_free holder o) in omega arith);
       live_count = ap (λ (b : Bool). live + num b) (sym (still_some (held_as holder) o));
       apart = λ h. apart_held slots i holder h (is_under h holder) refl lt p.there f (s.apart h);
     }))
 
-pub take_shows : (slots now : List (Option Entry)) (bits bits' : Bits) (ready ready' live live' i : ℕ) → BitsShow slots bits ready live → IsNext (bit_of bits.ready) 0 i
-    → Turned bits bits' i 0 0 → now ≡ set slots i None → ready' + 1 ≡ ready → live' + 1 ≡ live → BitsShow now bits' ready' live'
+pub take_shows : (slots now : List (Option Entry)) (bits bits' : SlotBits) (ready ready' live live' i : ℕ) → BitsShow slots bits ready live → IsNextMark (bit_of bits.ready) 0 i
+    → BitsTurned bits bits' i 0 0 → now ≡ set slots i None → ready' + 1 ≡ ready → live' + 1 ≡ live → BitsShow now bits' ready' live'
 take_shows slots now bits bits' ready ready' live live' i s n t e r l =
     let p : FirstAt is_ready slots i = first_by_marks is_ready slots (bit_of bits.ready) i s.signed.ready n in
     let lt : i < length slots = within is_ready slots i p.there in
@@ -240,14 +240,14 @@ take_shows slots now bits bits' ready ready' live live' i s n t e r l =
       apart = λ h. apart_less slots None i h lt (s.apart h) refl;
     }))
 
-pub release_shows : (slots now : List (Option Entry)) (bits bits' : Bits) (ready ready' live i : ℕ) (holder : Holder) → BitsShow slots bits ready live
-    → has (is_held_as holder) (get_or slots i None) ≡ true → Turned bits bits' i 1 0 → now ≡ set slots i (changed freed_now (get_or slots i None)) → ready' ≡ ready + 1
+pub release_shows : (slots now : List (Option Entry)) (bits bits' : SlotBits) (ready ready' live i : ℕ) (holder : Holder) → BitsShow slots bits ready live
+    → slot_has (is_held_as holder) (get_or slots i None) ≡ true → BitsTurned bits bits' i 1 0 → now ≡ set slots i (changed freed_now (get_or slots i None)) → ready' ≡ ready + 1
     → BitsShow now bits' ready' live
 release_shows slots now bits bits' ready ready' live i holder s h t e r =
     let o : Option Entry = get_or slots i None in
     let v : Option Entry = changed freed_now o in
     let lt : i < length slots = within (is_held_as holder) slots i h in
-    let f : has is_ready v ≡ true = now_free (is_held_as holder) o h in
+    let f : slot_has is_ready v ≡ true = now_free (is_held_as holder) o h in
     subst (λ (xs : List (Option Entry)). BitsShow xs bits' ready' live) (sym e) (shows_set slots v bits bits' ready ready' live live i s (record {
       there = lt;
       turned = freed_turned o bits bits' i f t;
@@ -256,8 +256,8 @@ release_shows slots now bits bits' ready ready' live i holder s h t e r =
       apart = λ g. apart_less slots v i g lt (s.apart g) (ready_not_held (is_under g) v f);
     }))
 
-pub remove_shows : (slots now : List (Option Entry)) (bits bits' : Bits) (ready live live' i : ℕ) (holder : Holder) → BitsShow slots bits ready live
-    → has (is_held_as holder) (get_or slots i None) ≡ true → Turned bits bits' i 0 0 → now ≡ set slots i None → live' + 1 ≡ live → BitsShow now bits' ready live'
+pub remove_shows : (slots now : List (Option Entry)) (bits bits' : SlotBits) (ready live live' i : ℕ) (holder : Holder) → BitsShow slots bits ready live
+    → slot_has (is_held_as holder) (get_or slots i None) ≡ true → BitsTurned bits bits' i 0 0 → now ≡ set slots i None → live' + 1 ≡ live → BitsShow now bits' ready live'
 remove_shows slots now bits bits' ready live live' i holder s h t e l =
     let lt : i < length slots = within (is_held_as holder) slots i h in
     subst (λ (xs : List (Option Entry)). BitsShow xs bits' ready live') (sym e) (shows_set slots None bits bits' ready ready live live' i s (record {
@@ -268,8 +268,8 @@ remove_shows slots now bits bits' ready live live' i holder s h t e l =
       apart = λ g. apart_less slots None i g lt (s.apart g) refl;
     }))
 
-pub push_shows : (slots now : List (Option Entry)) (bits bits' : Bits) (ready ready' live live' : ℕ) (m : Message) → BitsShow slots bits ready live
-    → Turned bits bits' (length slots) 1 0 → now ≡ slots ++ Some (record { message = m; mark = Ready }) ∷ [] → ready' ≡ ready + 1 → live' ≡ live + 1 → BitsShow now bits' ready' live'
+pub push_shows : (slots now : List (Option Entry)) (bits bits' : SlotBits) (ready ready' live live' : ℕ) (m : Message) → BitsShow slots bits ready live
+    → BitsTurned bits bits' (length slots) 1 0 → now ≡ slots ++ Some (record { message = m; mark = Ready }) ∷ [] → ready' ≡ ready + 1 → live' ≡ live + 1 → BitsShow now bits' ready' live'
 push_shows slots now bits bits' ready ready' live live' m s t e r l =
     let v : Entry = record { message = m; mark = Ready } in
     subst (λ (xs : List (Option Entry)). BitsShow xs bits' ready' live') (sym e) (record {
@@ -290,7 +290,7 @@ push_shows slots now bits bits' ready ready' live live' m s t e r l =
     length_end (Some y ∷ xs) x = let r = length_end xs x in omega arith
 
 -- the counts have room for a step
-pub ready_least : (slots : List (Option Entry)) (bits : Bits) (ready live i : ℕ) → BitsShow slots bits ready live → IsNext (bit_of bits.ready) 0 i → (1 ≤ ready) × (1 ≤ live)
+pub ready_least : (slots : List (Option Entry)) (bits : SlotBits) (ready live i : ℕ) → BitsShow slots bits ready live → IsNextMark (bit_of bits.ready) 0 i → (1 ≤ ready) × (1 ≤ live)
 ready_least slots bits ready live i s n =
     let p : FirstAt is_ready slots i = first_by_marks is_ready slots (bit_of bits.ready) i s.signed.ready n in
     let c = counted is_ready slots i p.there in
@@ -298,8 +298,8 @@ ready_least slots bits ready live i s n =
     let a = s.ready_count in let b = s.live_count in
     (omega arith, omega arith)
 
-pub held_least : (slots : List (Option Entry)) (bits : Bits) (ready live i : ℕ) (holder : Holder) → BitsShow slots bits ready live
-    → has (is_held_as holder) (get_or slots i None) ≡ true → (1 ≤ live) × (ready < length slots)
+pub held_least : (slots : List (Option Entry)) (bits : SlotBits) (ready live i : ℕ) (holder : Holder) → BitsShow slots bits ready live
+    → slot_has (is_held_as holder) (get_or slots i None) ≡ true → (1 ≤ live) × (ready < length slots)
 held_least slots bits ready live i holder s t =
     let c = counted (is_held_as holder) slots i t in
     let m = tally-most (is_held_as holder) (somes slots) in
@@ -308,12 +308,12 @@ held_least slots bits ready live i holder s t =
     (omega arith, omega arith)
 
 -- what is held under a tag is the only such entry
-pub only_held : (slots : List (Option Entry)) (bits : Bits) (ready live i : ℕ) (holder : Holder) → BitsShow slots bits ready live
-    → has (is_held_as holder) (get_or slots i None) ≡ true → OnlyAt (is_held_as holder) slots i
+pub only_held : (slots : List (Option Entry)) (bits : SlotBits) (ready live i : ℕ) (holder : Holder) → BitsShow slots bits ready live
+    → slot_has (is_held_as holder) (get_or slots i None) ≡ true → OnlyAt (is_held_as holder) slots i
 only_held slots bits ready live i holder s t = record { there = t; only = s.apart holder }
 
 -- the counts are at most what there is
-pub counts_most : (slots : List (Option Entry)) (bits : Bits) (ready live : ℕ) → BitsShow slots bits ready live → (ready ≤ live) × (live ≤ length slots)
+pub counts_most : (slots : List (Option Entry)) (bits : SlotBits) (ready live : ℕ) → BitsShow slots bits ready live → (ready ≤ live) × (live ≤ length slots)
 counts_most slots bits ready live s =
     let m = tally-most is_ready (somes slots) in let n = somes-most slots in
     let a = s.ready_count in let b = s.live_count in
@@ -333,7 +333,7 @@ pub contents-length : (slots : List Slot) → length (contents slots) ≡ length
 contents-length [] = refl
 contents-length (s ∷ ss) = ap suc (contents-length ss)
 
-pub contents-past : (p : Entry → Bool) (slots : List Slot) (k : ℕ) → length slots ≤ k → has p (get_or (contents slots) k None) ≡ false
+pub contents-past : (p : Entry → Bool) (slots : List Slot) (k : ℕ) → length slots ≤ k → slot_has p (get_or (contents slots) k None) ≡ false
 contents-past p [] k h = refl
 contents-past p (s ∷ ss) zero h = absurd (omega arith)
 contents-past p (s ∷ ss) (suc k) h = contents-past p ss k (omega arith)
@@ -374,14 +374,14 @@ somes-dropped (s ∷ ss) = go (is_some s.entry) refl (somes-dropped ss)
 
 -- The bits below a place are as their slots are, and those from `places` on are 0.
 pub record MarkedBelow (p : Entry → Bool) (slots : List (Option Entry)) (bit : ℕ → ℕ) (place places : ℕ) : Type 0 where
-  pub below : (k : ℕ) → k < place → bit k ≡ num (has p (get_or slots k None))
+  pub below : (k : ℕ) → k < place → bit k ≡ num (slot_has p (get_or slots k None))
   pub above : (k : ℕ) → places ≤ k → bit k ≡ 0
 
 marked_more : (p : Entry → Bool) (slots : List (Option Entry)) (bit bit' : ℕ → ℕ) (place places : ℕ) → place < places → MarkedBelow p slots bit place places
-    → Differs bit bit' place (num (has p (get_or slots place None))) → MarkedBelow p slots bit' (place + 1) places
+    → Differs bit bit' place (num (slot_has p (get_or slots place None))) → MarkedBelow p slots bit' (place + 1) places
 marked_more p slots bit bit' place places lt m d = record {
   below = λ k l. elim (eqb_tells k place) [
-    | inl q ↦ ap bit' q.1 ∙ d.there ∙ ap (λ (j : ℕ). num (has p (get_or slots j None))) (sym q.1)
+    | inl q ↦ ap bit' q.1 ∙ d.there ∙ ap (λ (j : ℕ). num (slot_has p (get_or slots j None))) (sym q.1)
     | inr q ↦ let ne = q.1 in d.others k q.1 ∙ m.below k (omega arith)
   ];
   above = λ k ge. d.others k (λ e. absurd (omega arith)) ∙ m.above k ge;
@@ -394,15 +394,15 @@ marked_done p slots bit place places le len m k = elim (leb_tells places k) [
 ]
 
 -- so it is with both bits
-pub record SignedBelow (slots : List (Option Entry)) (bits : Bits) (place places : ℕ) : Type 0 where
+pub record SignedBelow (slots : List (Option Entry)) (bits : SlotBits) (place places : ℕ) : Type 0 where
   pub ready : MarkedBelow is_ready slots (bit_of bits.ready) place places
   pub held : MarkedBelow is_held slots (bit_of bits.held) place places
 
-pub signed_more : (slots : List (Option Entry)) (bits bits' : Bits) (place places : ℕ) → place < places → SignedBelow slots bits place places
-    → Turned bits bits' place (num (has is_ready (get_or slots place None))) (num (has is_held (get_or slots place None))) → SignedBelow slots bits' (place + 1) places
+pub signed_more : (slots : List (Option Entry)) (bits bits' : SlotBits) (place places : ℕ) → place < places → SignedBelow slots bits place places
+    → BitsTurned bits bits' place (num (slot_has is_ready (get_or slots place None))) (num (slot_has is_held (get_or slots place None))) → SignedBelow slots bits' (place + 1) places
 signed_more slots bits bits' place places lt s t = record { ready = marked_more is_ready slots _ _ place places lt s.ready t.ready_bit; held = marked_more is_held slots _ _ place places lt s.held t.held_bit }
 
-pub signed_done : (slots : List Slot) (bits : Bits) (place places : ℕ) → places ≤ place → length slots ≤ places → SignedBelow (contents slots) bits place places → AreSigned (contents slots) bits
+pub signed_done : (slots : List Slot) (bits : SlotBits) (place places : ℕ) → places ≤ place → length slots ≤ places → SignedBelow (contents slots) bits place places → AreSigned (contents slots) bits
 signed_done slots bits place places le len s = record { ready = marked_done is_ready slots _ place places le len s.ready; held = marked_done is_held slots _ place places le len s.held }
 
 -- ---- the ready ones taken out one by one

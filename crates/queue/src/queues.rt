@@ -5,7 +5,7 @@ ghost use Rattle.model.specs.Broker.{is_ready};
 ghost use Rattle.queue.specs.Line.{ready_count};
 ghost use Rattle.model.specs.Entries.{number_of};
 
-use crate::signs::Signs;
+use crate::signs::SlotSigns;
 use crate::slots::{
     Slot, append, close_gaps, entry_at, free_at, hold_at, place_held, requeue_in, take_at,
 };
@@ -20,7 +20,7 @@ use std::marker::Model;
 #[derive(Drop)]
 pub struct Queue {
     slots: Vec<Slot>,
-    signs: Signs,
+    signs: SlotSigns,
     ready_count: usize,
     live: usize,
     /// How many messages came so far.
@@ -73,7 +73,7 @@ impl Queue {
     {
         Queue {
             slots: Vec::new(alloc),
-            signs: Signs::empty(alloc),
+            signs: SlotSigns::empty(alloc),
             ready_count: 0,
             live: 0,
             arrived: 0,

@@ -7,40 +7,40 @@ use std::alloc::{AllocError, Global};
 use std::marker::Model;
 
 /// A bit for each slot.
-type Marks = Over<Over<Flat>>;
+type SlotMarks = Over<Over<Flat>>;
 
 /// Two sets of slots: those with a ready message, and those with one that is held.
 #[derive(Drop)]
-pub(crate) struct Signs {
-    ready: Marks,
-    held: Marks,
+pub(crate) struct SlotSigns {
+    ready: SlotMarks,
+    held: SlotMarks,
     /// Both sets have room for the slots below this.
     places: usize,
 }
 
-impl Model for Signs {
+impl Model for SlotSigns {
     ghost use Rattle.std.specs.Prelude.{◌≤◌, ◌*◌, length};
-    ghost use Rattle.queue.specs.Slots.{Bits};
+    ghost use Rattle.queue.specs.Slots.{SlotBits};
 
-    ghost Value = { Bits };
+    ghost Value = { SlotBits };
 
     ghost view = { λ s. record { ready = s.ready; held = s.held; places = s.places } };
 
     ghost invariant = { λ s. (s.places ≤ length s.ready * 64) × (s.places ≤ length s.held * 64) };
 }
 
-impl Signs {
+impl SlotSigns {
     ghost use Rattle.std.specs.Prelude.{◌≡◌, ◌<◌, ◌≤◌, ℕ, OnOk, OnErr, IfSome, IfNone};
-    ghost use Rattle.marks.specs.Places.{bit_of, IsNext};
-    ghost use Rattle.queue.specs.Slots.{SameBits, Turned};
+    ghost use Rattle.marks.specs.Places.{bit_of, IsNextMark};
+    ghost use Rattle.queue.specs.Slots.{SameBits, BitsTurned};
 
     /// Two empty sets, with room for no slot. It takes no memory.
-    pub(crate) fn empty(alloc: Global) -> Signs
+    pub(crate) fn empty(alloc: Global) -> SlotSigns
         ensures ready { (k : ℕ) → bit_of result.ready k ≡ 0 }
         ensures held { (k : ℕ) → bit_of result.held k ≡ 0 }
         ensures places { result.places ≡ 0 }
     {
-        Signs {
+        SlotSigns {
             ready: <Over<Over<Flat>>>::empty(alloc),
             held: <Over<Over<Flat>>>::empty(alloc),
             places: 0,
@@ -68,7 +68,7 @@ impl Signs {
 
     /// The first slot with a ready message.
     pub(crate) fn first_ready(&self) -> Option<usize>
-        ensures some { IfSome result (λ place. IsNext (bit_of self.now.ready) 0 place) }
+        ensures some { IfSome result (λ place. IsNextMark (bit_of self.now.ready) 0 place) }
         ensures none { IfNone result ((k : ℕ) → bit_of self.now.ready k ≡ 0) }
     {
         self.ready.first()
@@ -76,7 +76,7 @@ impl Signs {
 
     /// The first slot with a message that is held, of those from `from` on.
     pub(crate) fn next_held(&self, from: usize) -> Option<usize>
-        ensures some { IfSome result (λ place. IsNext (bit_of self.now.held) from place) }
+        ensures some { IfSome result (λ place. IsNextMark (bit_of self.now.held) from place) }
         ensures none { IfNone result ((k : ℕ) → from ≤ k → bit_of self.now.held k ≡ 0) }
     {
         self.held.next(from)
@@ -85,7 +85,7 @@ impl Signs {
     /// A ready message stands in the slot.
     pub(crate) fn set_ready(&mut self, place: usize)
         requires { place < self.old.places }
-        ensures { Turned self.old self.new place 1 0 }
+        ensures { BitsTurned self.old self.new place 1 0 }
     {
         self.ready.set(place);
         self.held.clear(place);
@@ -94,7 +94,7 @@ impl Signs {
     /// A message that is held stands in the slot.
     pub(crate) fn set_held(&mut self, place: usize)
         requires { place < self.old.places }
-        ensures { Turned self.old self.new place 0 1 }
+        ensures { BitsTurned self.old self.new place 0 1 }
     {
         self.ready.clear(place);
         self.held.set(place);
@@ -103,7 +103,7 @@ impl Signs {
     /// Nothing stands in the slot.
     pub(crate) fn clear(&mut self, place: usize)
         requires { place < self.old.places }
-        ensures { Turned self.old self.new place 0 0 }
+        ensures { BitsTurned self.old self.new place 0 0 }
     {
         self.ready.clear(place);
         self.held.clear(place);

@@ -4,10 +4,10 @@ ghost use Rattle.std.specs.Prelude.{◌≡◌, ◌+◌, ◌<◌, ◌≤◌, ◌+
 ghost use Rattle.model.specs.Broker.{is_ready};
 ghost use Rattle.model.specs.Entries.{by_connection, freed, is_held_as, is_held_by, held_as, freed_now};
 ghost use Rattle.marks.specs.Places.{bit_of};
-ghost use Rattle.queue.specs.Slots.{contents, somes, has, changed, num, tally, is_held, AreSigned, Turned};
+ghost use Rattle.queue.specs.Slots.{contents, somes, slot_has, changed, num, tally, is_held, AreSigned, BitsTurned};
 
 use crate::entries::{free, is_free, is_held_on, is_held_under};
-use crate::signs::Signs;
+use crate::signs::SlotSigns;
 use model::{Entry, Holder, Mark};
 
 /// One place of a queue: the number of the arrival there, and what arrived, until it goes.
@@ -47,7 +47,7 @@ pub(crate) fn entry_at(slots: &[Slot], place: usize) -> Option<&Entry>
 
 /// Whether an entry that is held so stands at this place.
 fn is_held_at(slots: &[Slot], place: usize, holder: &Holder) -> bool
-    ensures { result ≡ has (is_held_as holder.now) (get_or (contents slots.now) place None) }
+    ensures { result ≡ slot_has (is_held_as holder.now) (get_or (contents slots.now) place None) }
 {
     match entry_at(slots, place) {
         Some(entry) => is_held_under(entry, holder),
@@ -57,7 +57,7 @@ fn is_held_at(slots: &[Slot], place: usize, holder: &Holder) -> bool
 
 /// Whether an entry stands at this place that is held on this connection.
 fn is_on_at(slots: &[Slot], place: usize, connection: u64) -> bool
-    ensures { result ≡ has (is_held_by (by_connection connection)) (get_or (contents slots.now) place None) }
+    ensures { result ≡ slot_has (is_held_by (by_connection connection)) (get_or (contents slots.now) place None) }
 {
     match entry_at(slots, place) {
         Some(entry) => is_held_on(entry, connection),
@@ -89,8 +89,8 @@ fn place_of(slots: &[Slot], arrival: u64) -> usize {
 
 /// The first place of an entry that is held so.
 fn search(slots: &[Slot], holder: &Holder) -> Option<usize>
-    ensures some { IfSome result (λ i. has (is_held_as holder.now) (get_or (contents slots.now) i None) ≡ true) }
-    ensures none { IfNone result ((k : ℕ) → has (is_held_as holder.now) (get_or (contents slots.now) k None) ≡ false) }
+    ensures some { IfSome result (λ i. slot_has (is_held_as holder.now) (get_or (contents slots.now) i None) ≡ true) }
+    ensures none { IfNone result ((k : ℕ) → slot_has (is_held_as holder.now) (get_or (contents slots.now) k None) ≡ false) }
 {
     for place in 0..slots.len() {
         if is_held_at(slots, place, holder) {
@@ -102,8 +102,8 @@ fn search(slots: &[Slot], holder: &Holder) -> Option<usize>
 
 /// The place of the entry that is held so. It is found at once where `arrival` is the number of its arrival.
 pub(crate) fn place_held(slots: &[Slot], holder: &Holder, arrival: u64) -> Option<usize>
-    ensures some { IfSome result (λ i. has (is_held_as holder.now) (get_or (contents slots.now) i None) ≡ true) }
-    ensures none { IfNone result ((k : ℕ) → has (is_held_as holder.now) (get_or (contents slots.now) k None) ≡ false) }
+    ensures some { IfSome result (λ i. slot_has (is_held_as holder.now) (get_or (contents slots.now) i None) ≡ true) }
+    ensures none { IfNone result ((k : ℕ) → slot_has (is_held_as holder.now) (get_or (contents slots.now) k None) ≡ false) }
 {
     let place = place_of(slots, arrival);
     if is_held_at(slots, place, holder) {
@@ -167,9 +167,9 @@ fn drop_empty(slots: &mut Vec<Slot>)
 }
 
 /// Sets the bits of this place as its slot is.
-fn sign(slots: &[Slot], signs: &mut Signs, place: usize)
+fn sign(slots: &[Slot], signs: &mut SlotSigns, place: usize)
     requires { place < signs.old.places }
-    ensures { Turned signs.old signs.new place (num (has is_ready (get_or (contents slots.now) place None))) (num (has is_held (get_or (contents slots.now) place None))) }
+    ensures { BitsTurned signs.old signs.new place (num (slot_has is_ready (get_or (contents slots.now) place None))) (num (slot_has is_held (get_or (contents slots.now) place None))) }
 {
     match entry_at(slots, place) {
         None => signs.clear(place),
@@ -184,7 +184,7 @@ fn sign(slots: &[Slot], signs: &mut Signs, place: usize)
 }
 
 /// Sets the bits below `places` as their slots are.
-fn sign_all(slots: &[Slot], signs: &mut Signs, places: usize)
+fn sign_all(slots: &[Slot], signs: &mut SlotSigns, places: usize)
     requires within { places ≤ signs.old.places }
     requires slots { length slots.now ≤ places }
     requires ready { (k : ℕ) → places ≤ k → bit_of signs.old.ready k ≡ 0 }
@@ -198,7 +198,7 @@ fn sign_all(slots: &[Slot], signs: &mut Signs, places: usize)
 }
 
 /// Closes the gaps, where more than half of the slots are empty: then none is empty any more. Each has its bits.
-pub(crate) fn close_gaps(slots: &mut Vec<Slot>, signs: &mut Signs, live: usize)
+pub(crate) fn close_gaps(slots: &mut Vec<Slot>, signs: &mut SlotSigns, live: usize)
     requires within { vec_len slots.old ≤ signs.old.places }
     requires signed { AreSigned (contents slots.old.items) signs.old }
     ensures signed { AreSigned (contents slots.new.items) signs.new }
@@ -216,7 +216,7 @@ pub(crate) fn close_gaps(slots: &mut Vec<Slot>, signs: &mut Signs, live: usize)
 }
 
 /// Makes what stands at this place ready again, if it is held there. Tells whether it is.
-fn free_on(slots: &mut Vec<Slot>, signs: &mut Signs, place: usize, connection: u64) -> bool
+fn free_on(slots: &mut Vec<Slot>, signs: &mut SlotSigns, place: usize, connection: u64) -> bool
     requires within { vec_len slots.old ≤ signs.old.places }
     requires signed { AreSigned (contents slots.old.items) signs.old }
     ensures contents { contents slots.new.items ≡ slice_set (contents slots.old.items) place (changed (freed (by_connection connection)) (get_or (contents slots.old.items) place None)) }
@@ -236,7 +236,7 @@ fn free_on(slots: &mut Vec<Slot>, signs: &mut Signs, place: usize, connection: u
 
 /// Makes all ready again that is held on this connection. Tells how many there are. It
 /// takes time for each entry that is held by anyone, and none for those that are ready.
-pub(crate) fn requeue_in(slots: &mut Vec<Slot>, signs: &mut Signs, connection: u64) -> usize
+pub(crate) fn requeue_in(slots: &mut Vec<Slot>, signs: &mut SlotSigns, connection: u64) -> usize
     requires within { vec_len slots.old ≤ signs.old.places }
     requires signed { AreSigned (contents slots.old.items) signs.old }
     ensures contents { contents slots.new.items ≡ map (changed (freed (by_connection connection))) (contents slots.old.items) }

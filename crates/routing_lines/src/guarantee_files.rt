@@ -3,11 +3,11 @@
 use definitions::read_definitions;
 use exchange_graph::Topology;
 use guarantees::{Guarantee, read_guarantees};
-use line_words::{Answer, Unanswered, bytes_of, file_of, number_of, source_of, words_of};
+use line_words::{LineAnswer, Unanswered, bytes_of, file_of, number_of, source_of, words_of};
 use model::Mode;
 
 /// Appends how many guarantees a file has, or why it is refused.
-fn put_outcome(out: &mut Answer, topology: &Topology, bytes: &[u8]) {
+fn put_outcome(out: &mut LineAnswer, topology: &Topology, bytes: &[u8]) {
     match read_guarantees(out.alloc(), bytes, topology) {
         Ok(read) => {
             out.put("read ");
@@ -21,7 +21,7 @@ fn put_outcome(out: &mut Answer, topology: &Topology, bytes: &[u8]) {
 }
 
 /// Appends the parts of a guarantee.
-fn put_parts(out: &mut Answer, guarantee: &Guarantee) {
+fn put_parts(out: &mut LineAnswer, guarantee: &Guarantee) {
     out.put(match guarantee.mode() {
         Mode::Reaches => "reaches",
         Mode::Never => "never",
@@ -32,7 +32,7 @@ fn put_parts(out: &mut Answer, guarantee: &Guarantee) {
 }
 
 /// Appends whether a guarantee covers what is sent to an exchange under a key.
-fn put_covered(out: &mut Answer, guarantee: &Guarantee, exchange: &str, key: &str) {
+fn put_covered(out: &mut LineAnswer, guarantee: &Guarantee, exchange: &str, key: &str) {
     match guarantee.covers(out.alloc(), exchange.as_bytes(), key.as_bytes()) {
         Ok(yes) => out.put_yes_or_no(yes),
         Err(_) => out.fail(Unanswered::Memory),
@@ -40,7 +40,7 @@ fn put_covered(out: &mut Answer, guarantee: &Guarantee, exchange: &str, key: &st
 }
 
 /// Appends whether a clone of a guarantee, and so the guarantee, covers what is sent to an exchange under a key.
-fn put_covers(out: &mut Answer, guarantee: &Guarantee, exchange: &str, key: &str) {
+fn put_covers(out: &mut LineAnswer, guarantee: &Guarantee, exchange: &str, key: &str) {
     match guarantee.clone() {
         Ok(same) => put_covered(out, &same, exchange, key),
         Err(_) => out.fail(Unanswered::Memory),
@@ -48,7 +48,7 @@ fn put_covers(out: &mut Answer, guarantee: &Guarantee, exchange: &str, key: &str
 }
 
 /// Answers what is asked about a guarantee.
-fn answer_of_words(out: &mut Answer, kind: &str, guarantee: &Guarantee, words: &[&str]) {
+fn answer_of_words(out: &mut LineAnswer, kind: &str, guarantee: &Guarantee, words: &[&str]) {
     match words {
         [] if kind == "guarantee" => put_parts(out, guarantee),
         [exchange, key] if kind == "covers" => put_covers(out, guarantee, exchange, key),
@@ -57,7 +57,7 @@ fn answer_of_words(out: &mut Answer, kind: &str, guarantee: &Guarantee, words: &
 }
 
 /// Answers what is asked about the guarantee at the place that the first word spells.
-fn answer_at(out: &mut Answer, kind: &str, guarantees: &[Guarantee], words: &[&str]) {
+fn answer_at(out: &mut LineAnswer, kind: &str, guarantees: &[Guarantee], words: &[&str]) {
     let Some((place, rest)) = words.split_first() else {
         return out.fail(Unanswered::Form);
     };
@@ -70,7 +70,7 @@ fn answer_at(out: &mut Answer, kind: &str, guarantees: &[Guarantee], words: &[&s
 
 /// Answers a line about a file of guarantees.
 fn answer_of_file(
-    out: &mut Answer,
+    out: &mut LineAnswer,
     rt: &HostRuntime,
     kind: &str,
     topology: &Topology,
@@ -86,7 +86,13 @@ fn answer_of_file(
 }
 
 /// Answers a line about guarantees over a topology.
-fn answer_over(out: &mut Answer, rt: &HostRuntime, kind: &str, topology: &Topology, asked: &str) {
+fn answer_over(
+    out: &mut LineAnswer,
+    rt: &HostRuntime,
+    kind: &str,
+    topology: &Topology,
+    asked: &str,
+) {
     match kind {
         "guarantees" => {
             let file = source_of(out, rt, asked);
@@ -101,7 +107,7 @@ fn answer_over(out: &mut Answer, rt: &HostRuntime, kind: &str, topology: &Topolo
 }
 
 /// Answers a line about guarantees, which names a definitions file first.
-pub fn answer(out: &mut Answer, rt: &HostRuntime, kind: &str, asked: &str) {
+pub fn answer(out: &mut LineAnswer, rt: &HostRuntime, kind: &str, asked: &str) {
     let (name, rest) = asked.split_once(' ').unwrap_or((asked, ""));
     let file = file_of(out, rt, name);
     match read_definitions(out.alloc(), file.as_bytes()) {

@@ -1,19 +1,19 @@
 //! Lines about topic patterns and keys.
 
-use line_words::{Answer, Unanswered, words_of};
-use topic_match::{Bad, Matcher, Pattern, Plain, covers_key, split};
+use line_words::{LineAnswer, Unanswered, words_of};
+use topic_match::{BadPattern, Matcher, Pattern, Plain, covers_key, split};
 
 /// Appends whether a text is a pattern.
-fn put_pattern(out: &mut Answer, text: &str) {
+fn put_pattern(out: &mut LineAnswer, text: &str) {
     match Pattern::read(out.alloc(), text.as_bytes()) {
         Ok(_) => out.put("read"),
-        Err(Bad::Malformed) => out.put("refused"),
-        Err(Bad::Memory) => out.fail(Unanswered::Memory),
+        Err(BadPattern::Malformed) => out.put("refused"),
+        Err(BadPattern::Memory) => out.fail(Unanswered::Memory),
     }
 }
 
 /// Appends whether a key matches a pattern.
-fn put_matched(out: &mut Answer, pattern: &str, key: &str) {
+fn put_matched(out: &mut LineAnswer, pattern: &str, key: &str) {
     match covers_key(out.alloc(), pattern.as_bytes(), key.as_bytes()) {
         Ok(yes) => out.put_yes_or_no(yes),
         Err(_) => out.fail(Unanswered::Memory),
@@ -21,7 +21,7 @@ fn put_matched(out: &mut Answer, pattern: &str, key: &str) {
 }
 
 /// Appends the words of a key, each in quotes.
-fn put_words(out: &mut Answer, key: &str) {
+fn put_words(out: &mut LineAnswer, key: &str) {
     let Ok(words) = split(out.alloc(), key.as_bytes()) else {
         return out.fail(Unanswered::Memory);
     };
@@ -33,7 +33,7 @@ fn put_words(out: &mut Answer, key: &str) {
 }
 
 /// Appends a pattern. `Form` says that the text is none.
-fn push_pattern(out: &mut Answer, patterns: &mut Vec<Pattern>, text: &str) {
+fn push_pattern(out: &mut LineAnswer, patterns: &mut Vec<Pattern>, text: &str) {
     match Pattern::read(out.alloc(), text.as_bytes()) {
         Ok(pattern) => {
             if patterns.push(pattern).is_err() {
@@ -45,7 +45,7 @@ fn push_pattern(out: &mut Answer, patterns: &mut Vec<Pattern>, text: &str) {
 }
 
 /// The patterns that these texts spell.
-fn patterns_of(out: &mut Answer, texts: &[&str]) -> Vec<Pattern> {
+fn patterns_of(out: &mut LineAnswer, texts: &[&str]) -> Vec<Pattern> {
     let mut patterns = Vec::new(out.alloc());
     for text in texts {
         push_pattern(out, &mut patterns, text);
@@ -54,7 +54,7 @@ fn patterns_of(out: &mut Answer, texts: &[&str]) -> Vec<Pattern> {
 }
 
 /// Appends places.
-fn put_places(out: &mut Answer, places: &[usize]) {
+fn put_places(out: &mut LineAnswer, places: &[usize]) {
     for place in places {
         out.put_space();
         out.put_number(*place as u64);
@@ -63,7 +63,7 @@ fn put_places(out: &mut Answer, places: &[usize]) {
 }
 
 /// Appends the places of the patterns that match the key.
-fn put_matching(out: &mut Answer, matcher: &Plain, key: &str) {
+fn put_matching(out: &mut LineAnswer, matcher: &Plain, key: &str) {
     match matcher.matches(out.alloc(), key.as_bytes()) {
         Ok(places) => put_places(out, places.as_slice()),
         Err(_) => out.fail(Unanswered::Memory),
@@ -71,7 +71,7 @@ fn put_matching(out: &mut Answer, matcher: &Plain, key: &str) {
 }
 
 /// Appends the places of the texts that are patterns which match the key.
-fn put_places_of(out: &mut Answer, key: &str, texts: &[&str]) {
+fn put_places_of(out: &mut LineAnswer, key: &str, texts: &[&str]) {
     let patterns = patterns_of(out, texts);
     match Plain::new(out.alloc(), patterns) {
         Ok(matcher) => put_matching(out, &matcher, key),
@@ -80,7 +80,7 @@ fn put_places_of(out: &mut Answer, key: &str, texts: &[&str]) {
 }
 
 /// Answers a line about patterns, which is stated by words.
-fn answer_of_words(out: &mut Answer, kind: &str, words: &[&str]) {
+fn answer_of_words(out: &mut LineAnswer, kind: &str, words: &[&str]) {
     match words {
         [text] if kind == "pattern" => put_pattern(out, text),
         [pattern, key] if kind == "match" => put_matched(out, pattern, key),
@@ -91,7 +91,7 @@ fn answer_of_words(out: &mut Answer, kind: &str, words: &[&str]) {
 }
 
 /// Answers a line about patterns.
-pub fn answer(out: &mut Answer, kind: &str, asked: &str) {
+pub fn answer(out: &mut LineAnswer, kind: &str, asked: &str) {
     let words = words_of(out, asked);
     answer_of_words(out, kind, words.as_slice());
 }

@@ -14,7 +14,7 @@ mod keys;
 mod routes;
 mod stated;
 
-use line_words::Answer;
+use line_words::LineAnswer;
 pub use routes::put_route;
 
 /// The kinds of lines about patterns.
@@ -36,7 +36,7 @@ const OF_DEFINITIONS: [&str; 8] = [
 ];
 
 /// Answers a line about routing. Tells whether its kind is one of these.
-pub fn answer(out: &mut Answer, rt: &HostRuntime, kind: &str, asked: &str) -> bool {
+pub fn answer(out: &mut LineAnswer, rt: &HostRuntime, kind: &str, asked: &str) -> bool {
     if OF_PATTERNS.contains(&kind) {
         keys::answer(out, kind, asked);
     } else if OF_DEFINITIONS.contains(&kind) {

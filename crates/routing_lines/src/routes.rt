@@ -1,7 +1,7 @@
 //! Lines about the ways of a key.
 
 use exchange_graph::Topology;
-use line_words::{Answer, Unanswered};
+use line_words::{LineAnswer, Unanswered};
 use std::alloc::{AllocError, Global};
 
 /// The places to which a clone of the topology routes.
@@ -16,7 +16,7 @@ fn route_of_clone(
 }
 
 /// Appends the names of the queues at these places, or `none`.
-fn put_queues(out: &mut Answer, topology: &Topology, places: &[usize]) {
+fn put_queues(out: &mut LineAnswer, topology: &Topology, places: &[usize]) {
     for place in places {
         match topology.queues().get(*place) {
             Some(queue) => out.put_name(&queue.name),
@@ -27,7 +27,7 @@ fn put_queues(out: &mut Answer, topology: &Topology, places: &[usize]) {
 }
 
 /// Appends the names of the exchanges at these places, or `none`.
-fn put_exchanges(out: &mut Answer, topology: &Topology, places: &[usize]) {
+fn put_exchanges(out: &mut LineAnswer, topology: &Topology, places: &[usize]) {
     for place in places {
         match topology.exchanges().get(*place) {
             Some(exchange) => out.put_name(&exchange.name),
@@ -38,7 +38,13 @@ fn put_exchanges(out: &mut Answer, topology: &Topology, places: &[usize]) {
 }
 
 /// Appends the queues at these places, unless a clone of the topology leads the key elsewhere.
-fn put_same(out: &mut Answer, topology: &Topology, exchange: &str, key: &str, places: &[usize]) {
+fn put_same(
+    out: &mut LineAnswer,
+    topology: &Topology,
+    exchange: &str,
+    key: &str,
+    places: &[usize],
+) {
     match route_of_clone(out.alloc(), topology, exchange, key) {
         Ok(others) if others.as_slice() == places => put_queues(out, topology, places),
         Ok(_) => out.put("elsewhere by a clone"),
@@ -47,7 +53,7 @@ fn put_same(out: &mut Answer, topology: &Topology, exchange: &str, key: &str, pl
 }
 
 /// Appends the queues to which a key leads, or `none`. A clone of the topology has to lead it there too.
-pub fn put_route(out: &mut Answer, topology: &Topology, exchange: &str, key: &str) {
+pub fn put_route(out: &mut LineAnswer, topology: &Topology, exchange: &str, key: &str) {
     match topology.route(out.alloc(), exchange.as_bytes(), key.as_bytes()) {
         Ok(places) => put_same(out, topology, exchange, key, places.as_slice()),
         Err(_) => out.fail(Unanswered::Memory),
@@ -55,7 +61,7 @@ pub fn put_route(out: &mut Answer, topology: &Topology, exchange: &str, key: &st
 }
 
 /// Appends the exchanges that a key passes, or `none`.
-pub fn put_visited(out: &mut Answer, topology: &Topology, exchange: &str, key: &str) {
+pub fn put_visited(out: &mut LineAnswer, topology: &Topology, exchange: &str, key: &str) {
     match topology.visited(out.alloc(), exchange.as_bytes(), key.as_bytes()) {
         Ok(places) => put_exchanges(out, topology, places.as_slice()),
         Err(_) => out.fail(Unanswered::Memory),

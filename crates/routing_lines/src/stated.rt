@@ -3,11 +3,11 @@
 use super::routes::{put_route, put_visited};
 use definitions::{Definitions, read_definitions};
 use exchange_graph::Topology;
-use line_words::{Answer, Unanswered, bytes_of, file_of, number_of, source_of, words_of};
+use line_words::{LineAnswer, Unanswered, bytes_of, file_of, number_of, source_of, words_of};
 use model::{DeclaredQueue, Exchange, ExchangeKind, Text, User};
 
 /// Appends `read`, or why the file is refused.
-fn put_outcome(out: &mut Answer, bytes: &[u8]) {
+fn put_outcome(out: &mut LineAnswer, bytes: &[u8]) {
     match read_definitions(out.alloc(), bytes) {
         Ok(_) => out.put("read"),
         Err(bad) => {
@@ -17,7 +17,7 @@ fn put_outcome(out: &mut Answer, bytes: &[u8]) {
     }
 }
 
-fn put_counts(out: &mut Answer, topology: &Topology, users: &[User]) {
+fn put_counts(out: &mut LineAnswer, topology: &Topology, users: &[User]) {
     out.put_number(topology.exchanges().len() as u64);
     out.put(" exchanges, ");
     out.put_number(topology.queues().len() as u64);
@@ -29,7 +29,7 @@ fn put_counts(out: &mut Answer, topology: &Topology, users: &[User]) {
 }
 
 /// Appends a label and a name in quotes, if there is one.
-fn put_labelled(out: &mut Answer, label: &str, name: &Option<Text>) {
+fn put_labelled(out: &mut LineAnswer, label: &str, name: &Option<Text>) {
     if let Some(name) = name {
         out.put(label);
         out.put_quoted(name);
@@ -37,7 +37,7 @@ fn put_labelled(out: &mut Answer, label: &str, name: &Option<Text>) {
 }
 
 /// Appends the limit of a queue, if it has one.
-fn put_limit(out: &mut Answer, limit: Option<u32>) {
+fn put_limit(out: &mut LineAnswer, limit: Option<u32>) {
     if let Some(limit) = limit {
         out.put(", limit ");
         out.put_number(u64::from(limit));
@@ -45,7 +45,7 @@ fn put_limit(out: &mut Answer, limit: Option<u32>) {
 }
 
 /// Appends place, limit and dead lettering of a queue.
-fn put_declared(out: &mut Answer, place: usize, queue: &DeclaredQueue) {
+fn put_declared(out: &mut LineAnswer, place: usize, queue: &DeclaredQueue) {
     out.put_number(place as u64);
     out.put_name(&queue.name);
     put_limit(out, queue.limit);
@@ -53,7 +53,7 @@ fn put_declared(out: &mut Answer, place: usize, queue: &DeclaredQueue) {
     put_labelled(out, ", under ", &queue.dead_letter_key);
 }
 
-fn put_queue(out: &mut Answer, topology: &Topology, name: &str) {
+fn put_queue(out: &mut LineAnswer, topology: &Topology, name: &str) {
     match topology.queue_at(name.as_bytes()) {
         None => out.put("none"),
         Some(place) => put_declared(out, place, topology.queue(place)),
@@ -69,7 +69,7 @@ fn kind_of(kind: ExchangeKind) -> &'static str {
 }
 
 /// Appends type and alternate of an exchange.
-fn put_typed(out: &mut Answer, exchange: &Exchange) {
+fn put_typed(out: &mut LineAnswer, exchange: &Exchange) {
     out.put(kind_of(exchange.kind));
     if exchange.internal {
         out.put(", internal");
@@ -77,7 +77,7 @@ fn put_typed(out: &mut Answer, exchange: &Exchange) {
     put_labelled(out, ", else to ", &exchange.alternate);
 }
 
-fn put_exchange(out: &mut Answer, topology: &Topology, name: &str) {
+fn put_exchange(out: &mut LineAnswer, topology: &Topology, name: &str) {
     match topology.exchange(name.as_bytes()) {
         None => out.put("none"),
         Some(exchange) => put_typed(out, exchange),
@@ -85,7 +85,7 @@ fn put_exchange(out: &mut Answer, topology: &Topology, name: &str) {
 }
 
 /// Appends name and hash of the user at a place.
-fn put_user(out: &mut Answer, users: &[User], place: &str) {
+fn put_user(out: &mut LineAnswer, users: &[User], place: &str) {
     let place = number_of(out, place);
     match users.get(place as usize) {
         Some(user) => {
@@ -98,7 +98,7 @@ fn put_user(out: &mut Answer, users: &[User], place: &str) {
 }
 
 /// Answers what is asked by words about what was read.
-fn answer_of_words(out: &mut Answer, kind: &str, read: &Definitions, words: &[&str]) {
+fn answer_of_words(out: &mut LineAnswer, kind: &str, read: &Definitions, words: &[&str]) {
     let topology = read.topology();
     match words {
         [] if kind == "counts" => put_counts(out, topology, read.users()),
@@ -112,7 +112,7 @@ fn answer_of_words(out: &mut Answer, kind: &str, read: &Definitions, words: &[&s
 }
 
 /// Answers a line about what a file sets up.
-fn answer_of_file(out: &mut Answer, rt: &HostRuntime, kind: &str, asked: &str) {
+fn answer_of_file(out: &mut LineAnswer, rt: &HostRuntime, kind: &str, asked: &str) {
     let (name, rest) = asked.split_once(' ').unwrap_or((asked, ""));
     let file = file_of(out, rt, name);
     let words = words_of(out, rest);
@@ -123,7 +123,7 @@ fn answer_of_file(out: &mut Answer, rt: &HostRuntime, kind: &str, asked: &str) {
 }
 
 /// Answers a line about a definitions file.
-pub fn answer(out: &mut Answer, rt: &HostRuntime, kind: &str, asked: &str) {
+pub fn answer(out: &mut LineAnswer, rt: &HostRuntime, kind: &str, asked: &str) {
     match kind {
         "definitions" => {
             let file = source_of(out, rt, asked);

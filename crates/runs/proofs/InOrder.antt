@@ -1,5 +1,5 @@
 -- Whatever arrives, messages are given out in order.
-use Rattle.std.proofs.Common.{◌≡◌, ℕ, List, [], ◌∷◌}
+use Rattle.std.proofs.Common.{List, [], ◌∷◌}
 use Rattle.std.specs.List.{AllByRecursion}
 use Rattle.model.specs.State.{Config, State}
 use Rattle.model.specs.Run.{Happening, Run}

@@ -115,9 +115,6 @@ pub record Played (start : World) (s0 : Seen) (arrivals : List Arrival) (now : W
   pub tells : TellsEvents start s0 done now seen
   pub goes_on : (rest : List Happening) (w : World) → Plays now left rest w → Plays start arrivals (done ++ rest) w
 
-pub played_not : (w : World) (s : Seen) (arrivals : List Arrival) → Played w s arrivals w s arrivals
-played_not w s arrivals = record { done = []; tells = tells_not w s; goes_on = λ rest last p. p }
-
 pub played_more : (start now next : World) (s0 s t : Seen) (arrivals : List Arrival) (i : ℕ) (a : Arrival) → i < length arrivals → a ≡ get_or arrivals i a
     → Played start s0 arrivals now s (drop i arrivals) → AnswersAndTells now a s next t → Played start s0 arrivals next t (drop (i + 1) arrivals)
 played_more start now next s0 s t arrivals i a lt at p answers =

@@ -63,11 +63,6 @@ taken_other ss c i bytes ne = go (eqb c 0) refl
         let not : c ≢ 0 = Rattle.std.proofs.lemmas.Bool.eqb-false c 0 e in
         ap (λ (z : List Shown). taken_at z i) (gathered_some ss c bytes not) ∙ at_other ss i (c - 1) bytes (λ q. ne (omega arith))
 
-pub taken_past : (ss : List Shown) (i : ℕ) → length ss ≤ i → taken_at ss i ≡ []
-taken_past [] i le = refl
-taken_past (s ∷ ss) zero le = absurd (omega arith)
-taken_past (s ∷ ss) (suc i) le = taken_past ss i (omega arith)
-
 -- a connection that is opened adds no bytes
 pub taken_opened : (ss : List Shown) (i : ℕ) → taken_at (with_opened ss) i ≡ taken_at ss i
 taken_opened [] zero = refl

@@ -1,5 +1,5 @@
 -- What each happening adds to what is written down.
-use Rattle.std.proofs.Common.{◌≡◌, ◌≢◌, ℕ, zero, suc, ◌+◌, ◌-◌, ◌<◌, ◌≤◌, List, [], ◌∷◌, ◌++◌, Bool, true, false, cond, not, eqb, length, take, drop, refl, sym, ap, subst, ◌∙◌, arith, append-nil, append_assoc, eq-eqb, ne_eqb}
+use Rattle.std.proofs.Common.{◌≡◌, ◌≢◌, ℕ, ◌+◌, ◌-◌, ◌≤◌, List, [], ◌∷◌, ◌++◌, Bool, true, false, cond, not, eqb, length, take, drop, refl, sym, ap, subst, ◌∙◌, arith, append-nil, append_assoc, eq-eqb, ne_eqb}
 use Rattle.std.specs.Prelude.{◌&&◌, is_some}
 use Rattle.std.specs.List.{AllByRecursion}
 use Rattle.std.proofs.lemmas.Bool.{eqb-true, eqb-false, false≢true}
@@ -35,9 +35,6 @@ pub tells_then : (a b d : World) (s t u : Seen) (hs ks : List Happening) → Tel
 tells_then a b d s t u hs ks p q = record {
   keeps = λ done r. subst (λ (z : List Happening). Records z d u) (append_assoc done hs ks) (q.keeps (done ++ hs) (p.keeps done r));
 }
-
-pub tells_at : (a b : World) (s t : Seen) (hs ks : List Happening) → hs ≡ ks → TellsEvents a s ks b t → TellsEvents a s hs b t
-tells_at a b s t hs ks e p = subst (λ (z : List Happening). TellsEvents a s z b t) (sym e) p
 
 pub tells_not : (a : World) (s : Seen) → TellsEvents a s [] a s
 tells_not a s = record { keeps = λ done r. subst (λ (z : List Happening). Records z a s) (sym (append-nil done)) r }

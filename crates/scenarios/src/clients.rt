@@ -2,7 +2,7 @@
 //! files of the broker that serves it.
 
 use engine::Engine;
-use server::{Files, Unread, Unwritten, started};
+use server::{Files, NotWritten, Unread, started};
 use std::alloc::Global;
 
 /// The protocol header, start-ok of bob by PLAIN, tune-ok, open of `/`, and channel.open of channel 1.
@@ -56,8 +56,8 @@ impl Files for Shop {
         }
     }
 
-    fn write(&mut self, _name: &str, _bytes: &[u8]) -> Result<(), Unwritten> {
-        Err(Unwritten)
+    fn write(&mut self, _name: &str, _bytes: &[u8]) -> Result<(), NotWritten> {
+        Err(NotWritten)
     }
 }
 

@@ -1,6 +1,6 @@
 //! Streams that take no byte.
 
-use server::{Files, Unread, Unwritten, program};
+use server::{Files, NotWritten, Unread, program};
 use std::alloc::Global;
 use std::io;
 use std::io::{ErrorKind, Write};
@@ -10,11 +10,11 @@ const LIMIT: usize = 16_777_216;
 
 /// A disk on which each file has this text.
 #[derive(Drop)]
-struct Disk<'a> {
+struct TestDisk<'a> {
     text: &'a [u8],
 }
 
-impl Files for Disk<'_> {
+impl Files for TestDisk<'_> {
     ghost use Rattle.server.specs.Files.{Unknown};
 
     ghost holds = { λ _ _. Unknown };
@@ -27,8 +27,8 @@ impl Files for Disk<'_> {
         }
     }
 
-    fn write(&mut self, _name: &str, _bytes: &[u8]) -> Result<(), Unwritten> {
-        Err(Unwritten)
+    fn write(&mut self, _name: &str, _bytes: &[u8]) -> Result<(), NotWritten> {
+        Err(NotWritten)
     }
 }
 
@@ -52,7 +52,7 @@ const REPLAY: [&str; 3] = ["warren", "replay", "script"];
 #[test]
 fn output_that_is_not_taken_has_status_four(rt: HostRuntime) {
     let alloc = rt.alloc();
-    let mut files = Disk { text: b"ready 1" };
+    let mut files = TestDisk { text: b"ready 1" };
     let mut err: Vec<u8> = Vec::new(alloc);
     let status = program(alloc, REPLAY.as_slice(), &mut files, &mut Closed, &mut err);
     assert_eq!(rt; status, 4);
@@ -62,7 +62,7 @@ fn output_that_is_not_taken_has_status_four(rt: HostRuntime) {
 #[test]
 fn a_complaint_that_is_not_taken_has_status_four(rt: HostRuntime) {
     let alloc = rt.alloc();
-    let mut files = Disk { text: b"begin" };
+    let mut files = TestDisk { text: b"begin" };
     let mut out: Vec<u8> = Vec::new(alloc);
     let status = program(alloc, REPLAY.as_slice(), &mut files, &mut out, &mut Closed);
     assert_eq!(rt; status, 4);

@@ -5,18 +5,14 @@ use Rattle.std.specs.Str.{bytes_eq}
 use Rattle.std.proofs.lemmas.List.{append-nil}
 use Rattle.std.proofs.lemmas.Bool.Decides.{nat_tests}
 use Rattle.model.specs.Words.{Text}
+use Rattle.splitting.proofs.Left.{left}
 use Rattle.model.specs.declared.events.Arrival.{Arrival}
 use Rattle.model.specs.declared.events.Arrival.TheVariants.{Open, Ready, In, Sent, Pump, Lose}
-use Rattle.scripts.specs.Script.{cut, piece, number, connection, opening, ready, bytes_in, sent, lost, by_word, arrival_of, line_of, arrivals_from, opened_after, onto, with_line}
-
--- how much is left, counting one for a text that has no bytes
-abbrev pub left : Option Text → ℕ
-left None = 0
-left (Some rest) = length rest + 1
+use Rattle.scripts.specs.Script.{cut, piece, number, connection, opening, ready, bytes_in, sent, lost, by_word, arrival_of, line_of, arrivals_from, opened_after, onto_arrivals, with_line}
 
 -- what was found, put before what a line brings and the rest
 onto_line : (found : List Arrival) (number : ℕ) (a : Option Arrival) (rest : Result (List Arrival) ℕ)
-    → onto found (with_line number (Some a) rest) ≡ onto (found ++ option_to_list a) rest
+    → onto_arrivals found (with_line number (Some a) rest) ≡ onto_arrivals (found ++ option_to_list a) rest
 onto_line found number None (Ok rest) = rw append-nil refl
 onto_line found number None (Err n) = refl
 onto_line found number (Some a) (Ok rest) = rw append_assoc refl
@@ -25,16 +21,11 @@ onto_line found number (Some a) (Err n) = refl
 -- one line more was taken
 pub taken : (number opened after : ℕ) (found new : List Arrival) (line : Text) (rest : List Text) (a : Option Arrival)
     → line_of opened line ≡ Some a → new ≡ found ++ option_to_list a → after ≡ opened_after opened (line_of opened line)
-    → onto new (arrivals_from (number + 1) after rest) ≡ onto found (arrivals_from number opened (line ∷ rest))
+    → onto_arrivals new (arrivals_from (number + 1) after rest) ≡ onto_arrivals found (arrivals_from number opened (line ∷ rest))
 taken number opened after found new line rest a said n o =
-    let h : onto found (with_line number (line_of opened line) (arrivals_from (number + 1) after rest)) ≡ onto (found ++ option_to_list a) (arrivals_from (number + 1) after rest)
+    let h : onto_arrivals found (with_line number (line_of opened line) (arrivals_from (number + 1) after rest)) ≡ onto_arrivals (found ++ option_to_list a) (arrivals_from (number + 1) after rest)
     = rw said (onto_line found number a (arrivals_from (number + 1) after rest)) in
     rw (n, ← o) (sym h)
-
--- this line is at fault
-pub stopped : (number opened : ℕ) (found : List Arrival) (line : Text) (rest : List Text)
-    → line_of opened line ≡ None → onto found (arrivals_from number opened (line ∷ rest)) ≡ Err number
-stopped number opened found line rest said = rw said refl
 
 -- ---- at most 1,024 are opened
 

@@ -2,11 +2,11 @@
 use Rattle.std.specs.Prelude.{◌≡◌, ◌+◌, ◌-◌, ◌*◌, ◌^◌, ◌++◌, ◌==◌, ◌&&◌, nat_lt, nat_le, ℕ, List, [], ◌∷◌, length, take, drop, position, codes, Option, Some, None, option_map, option_and_then, Result, Ok, Err, if◌then◌else◌}
 use Rattle.std.specs.Str.{bytes_eq}
 use Rattle.hex.specs.Hex.{decode_of}
-use Rattle.model.specs.Words.{Text, onto_first}
+use Rattle.model.specs.Words.{Text, parted}
 use Rattle.model.specs.declared.events.Arrival.{Arrival}
 use Rattle.model.specs.declared.events.Arrival.TheVariants.{Open, Ready, In, Sent, Pump, Lose}
-use Rattle.scripts.specs.declared.script.Fault.{Fault}
-use Rattle.scripts.specs.declared.script.Fault.TheVariants.{Line, Memory}
+use Rattle.scripts.specs.declared.script.BadScript.{BadScript}
+use Rattle.scripts.specs.declared.script.BadScript.TheVariants.{Line, Memory}
 
 -- ---- fields
 
@@ -97,8 +97,7 @@ line_of opened (b ∷ bs) = if b == 35 then Some None else option_map (λ a. Som
 
 -- the lines of a text, which LF ends
 abbrev pub lines : Text → List Text
-lines [] = [] ∷ []
-lines (b ∷ bs) = if b == 10 then [] ∷ lines bs else onto_first b (lines bs)
+lines text = parted 10 text
 
 -- how many were opened, after a line
 abbrev pub opened_after : ℕ → Option (Option Arrival) → ℕ
@@ -107,15 +106,15 @@ opened_after opened (Some (Some (Ready k))) = opened + 1
 opened_after opened line = opened
 
 -- these arrivals, and then the others
-abbrev pub onto : List Arrival → Result (List Arrival) ℕ → Result (List Arrival) ℕ
-onto found (Ok rest) = Ok (found ++ rest)
-onto found (Err number) = Err number
+abbrev pub onto_arrivals : List Arrival → Result (List Arrival) ℕ → Result (List Arrival) ℕ
+onto_arrivals found (Ok rest) = Ok (found ++ rest)
+onto_arrivals found (Err number) = Err number
 
 -- a line with its number, and what the lines after it are
 abbrev pub with_line : ℕ → Option (Option Arrival) → Result (List Arrival) ℕ → Result (List Arrival) ℕ
 with_line number None rest = Err number
 with_line number (Some None) rest = rest
-with_line number (Some (Some a)) rest = onto (a ∷ []) rest
+with_line number (Some (Some a)) rest = onto_arrivals (a ∷ []) rest
 
 -- the arrivals of these lines, of which the first has this number; or the number of the first line at fault
 abbrev pub arrivals_from : ℕ → ℕ → List Text → Result (List Arrival) ℕ
@@ -129,6 +128,6 @@ script text = arrivals_from 1 0 (lines text)
 -- ---- what a reader answers
 
 -- why nothing was read; want of memory says nothing
-abbrev pub RefusesScript : Fault → Result (List Arrival) ℕ → Type 0
+abbrev pub RefusesScript : BadScript → Result (List Arrival) ℕ → Type 0
 RefusesScript (Line n) said = said ≡ Err n
 RefusesScript Memory said = Unit {0}

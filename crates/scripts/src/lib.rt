@@ -5,5 +5,5 @@ mod lines;
 mod script;
 mod transcript;
 
-pub use script::{Fault, read_script};
+pub use script::{BadScript, read_script};
 pub use transcript::{name_word, put_line, transcript_text};

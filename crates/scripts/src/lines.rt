@@ -1,9 +1,8 @@
 //! One line of a script.
 
 ghost use Rattle.std.specs.Prelude.{◌≡◌, ◌∷◌, ◌<◌, ◌≤◌, ◌==◌, length, IfSome, option_copied, option_map, position};
-ghost use Rattle.std.specs.List.{position_from};
-ghost use Rattle.scripts.specs.Script.{lines, cut, with_digit, digits_after, number, piece, opening, ready, connection, bytes_in, sent, lost, by_word, arrival_of, line_of};
-ghost use Rattle.scripts.specs.Lines.{TellsIfThere, lines_left};
+ghost use Rattle.scripts.specs.Script.{cut, with_digit, digits_after, number, piece, opening, ready, connection, bytes_in, sent, lost, by_word, arrival_of, line_of};
+ghost use Rattle.scripts.specs.Lines.{TellsIfThere};
 
 use hex::FromHexError;
 use model::{Arrival, Text};
@@ -17,32 +16,32 @@ const MOST_READY: u64 = 255;
 
 /// Why a line is not read.
 #[derive(Clone, Copy, PartialEq, Eq, Debug, Drop)]
-pub enum Bad {
+pub enum BadLine {
     /// It has another form.
     Malformed,
     /// A growth was refused.
     Memory,
 }
 
-impl From<AllocError> for Bad {
+impl From<AllocError> for BadLine {
     ghost use Rattle.std.specs.Prelude.{◌≡◌};
-    ghost use Rattle.scripts.specs.declared.lines.Bad.TheVariants.{Memory};
+    ghost use Rattle.scripts.specs.declared.lines.BadLine.TheVariants.{Memory};
 
     ghost from_gives = { λ _ r. r ≡ Memory };
 
-    fn from(_: AllocError) -> Bad {
-        Bad::Memory
+    fn from(_: AllocError) -> BadLine {
+        BadLine::Memory
     }
 }
 
-impl<T: Drop> From<AllocFailed<T>> for Bad {
+impl<T: Drop> From<AllocFailed<T>> for BadLine {
     ghost use Rattle.std.specs.Prelude.{◌≡◌};
-    ghost use Rattle.scripts.specs.declared.lines.Bad.TheVariants.{Memory};
+    ghost use Rattle.scripts.specs.declared.lines.BadLine.TheVariants.{Memory};
 
     ghost from_gives = { λ _ r. r ≡ Memory };
 
-    fn from(_: AllocFailed<T>) -> Bad {
-        Bad::Memory
+    fn from(_: AllocFailed<T>) -> BadLine {
+        BadLine::Memory
     }
 }
 
@@ -97,16 +96,16 @@ fn number(text: &[u8]) -> Option<u64>
 }
 
 /// The bytes of hex text, at least one.
-fn piece(alloc: Global, text: &[u8]) -> Result<Text, Bad>
+fn piece(alloc: Global, text: &[u8]) -> Result<Text, BadLine>
     ensures { TellsIfThere result (piece text.now) }
 {
     if text.is_empty() {
-        return Err(Bad::Malformed);
+        return Err(BadLine::Malformed);
     }
     match hex::decode(alloc, text) {
         Ok(bytes) => Ok(Text::from_vec(bytes)?),
-        Err(FromHexError::OutOfMemory) => Err(Bad::Memory),
-        Err(_) => Err(Bad::Malformed),
+        Err(FromHexError::OutOfMemory) => Err(BadLine::Memory),
+        Err(_) => Err(BadLine::Malformed),
     }
 }
 
@@ -143,12 +142,12 @@ fn connection(opened: u64, field: &[u8]) -> Option<u64>
 }
 
 /// The fields of `in C HEX` behind the word.
-fn bytes_in(alloc: Global, opened: u64, c: &[u8], hex: &[u8]) -> Result<Arrival, Bad>
+fn bytes_in(alloc: Global, opened: u64, c: &[u8], hex: &[u8]) -> Result<Arrival, BadLine>
     ensures { TellsIfThere result (bytes_in opened (c.now, hex.now)) }
 {
     match connection(opened, c) {
         Some(c) => Ok(Arrival::In(c, piece(alloc, hex)?)),
-        None => Err(Bad::Malformed),
+        None => Err(BadLine::Malformed),
     }
 }
 
@@ -170,49 +169,49 @@ fn lost(opened: u64, c: &[u8]) -> Option<Arrival>
 }
 
 /// A line of more than one field, by its first.
-fn by_word(alloc: Global, opened: u64, word: &[u8], rest: &[u8]) -> Result<Arrival, Bad>
+fn by_word(alloc: Global, opened: u64, word: &[u8], rest: &[u8]) -> Result<Arrival, BadLine>
     ensures { TellsIfThere result (by_word opened (word.now, rest.now)) }
 {
     if word == b"ready".as_slice() {
-        return ready(opened, rest).ok_or(Bad::Malformed);
+        return ready(opened, rest).ok_or(BadLine::Malformed);
     }
     if word == b"in".as_slice() {
         return match cut(rest) {
             Some((c, hex)) => bytes_in(alloc, opened, c, hex),
-            None => Err(Bad::Malformed),
+            None => Err(BadLine::Malformed),
         };
     }
     if word == b"sent".as_slice() {
         return match cut(rest) {
-            Some((c, count)) => sent(opened, c, count).ok_or(Bad::Malformed),
-            None => Err(Bad::Malformed),
+            Some((c, count)) => sent(opened, c, count).ok_or(BadLine::Malformed),
+            None => Err(BadLine::Malformed),
         };
     }
     if word == b"lose".as_slice() {
-        return lost(opened, rest).ok_or(Bad::Malformed);
+        return lost(opened, rest).ok_or(BadLine::Malformed);
     }
-    Err(Bad::Malformed)
+    Err(BadLine::Malformed)
 }
 
 /// The arrival of a line that is not skipped.
-fn arrival_of(alloc: Global, opened: u64, line: &[u8]) -> Result<Arrival, Bad>
+fn arrival_of(alloc: Global, opened: u64, line: &[u8]) -> Result<Arrival, BadLine>
     ensures { TellsIfThere result (arrival_of opened line.now) }
 {
     if line == b"open".as_slice() {
-        return opening(opened).ok_or(Bad::Malformed);
+        return opening(opened).ok_or(BadLine::Malformed);
     }
     if line == b"pump".as_slice() {
         return Ok(Arrival::Pump);
     }
     match cut(line) {
         Some((word, rest)) => by_word(alloc, opened, word, rest),
-        None => Err(Bad::Malformed),
+        None => Err(BadLine::Malformed),
     }
 }
 
 /// The arrival of a line, where `opened` connections were opened before it. An empty line and one that begins with
 /// `#` have none.
-pub fn line_of(alloc: Global, opened: u64, line: &[u8]) -> Result<Option<Arrival>, Bad>
+pub fn line_of(alloc: Global, opened: u64, line: &[u8]) -> Result<Option<Arrival>, BadLine>
     ensures { TellsIfThere result (line_of opened line.now) }
 {
     match line.first() {
@@ -221,23 +220,4 @@ pub fn line_of(alloc: Global, opened: u64, line: &[u8]) -> Result<Option<Arrival
         Some(_) => {}
     }
     Ok(Some(arrival_of(alloc, opened, line)?))
-}
-
-/// The place of the first LF.
-fn first_end(text: &[u8]) -> Option<usize>
-    ensures place { result ≡ position_from (λ b. b == 10) 0 text.now }
-    ensures within { IfSome result (λ end. end < length text.now) }
-{
-    text.iter().position(|b| *b == b'\n')
-}
-
-/// The bytes up to the first LF, and those after it.
-pub fn first_line(text: &[u8]) -> (&[u8], Option<&[u8]>)
-    ensures lines { lines text.now ≡ result.0.now ∷ lines_left (option_copied result.1) }
-    ensures shorter { IfSome result.1 (λ rest. length rest.now < length text.now) }
-{
-    match first_end(text) {
-        Some(end) => (text.split_at(end).0, Some(text.split_at(end + 1).1)),
-        None => (text, None),
-    }
 }

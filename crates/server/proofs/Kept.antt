@@ -9,21 +9,21 @@ use Rattle.certificate_check.specs.declared.faults.CertFault.{CertFault}
 use Rattle.certificate.specs.Certified.{FailsFirst}
 use Rattle.definitions.specs.Reads.{Stated}
 use Rattle.guarantee_search.specs.declared.verdicts.Verdict.{Verdict}
-use Rattle.server.specs.declared.refusals.Refusal.{Refusal}
-use Rattle.server.specs.declared.refusals.Refusal.TheVariants.{Line, Refused, TooLong, Unread, Unwritten, NoExchange, Certificate as OfCertificate, NotListening, Memory}
-use Rattle.command_line.specs.CommandLine.{Wanted, Check, Replay, Serve}
+use Rattle.server.specs.declared.refusals.CommandRefusal.{CommandRefusal}
+use Rattle.server.specs.declared.refusals.CommandRefusal.TheVariants.{Line, Refused, TooLong, Unread, Unwritten, NoExchange, Certificate as OfCertificate, NotListening, Memory}
+use Rattle.command_line.specs.CommandLine.{Wanted, Check}
 use Rattle.named_files.specs.Files.{Known, AreKept}
 use Rattle.named_files.specs.Stated.{SetsUp, FailsToSetUp, FailsToCertify, IsWhyUncertified}
 use Rattle.named_files.proofs.Kept.{kept_then, kept_but_then, why_kept}
-use Rattle.verdicts.specs.Verdicts.{AreFound, status_of_verdicts}
-use Rattle.named_files.specs.declared.refusals.Refusal.{Refusal as FileRefusal}
+use Rattle.verdicts.specs.Verdicts.{FindsVerdicts, status_of_verdicts}
+use Rattle.named_files.specs.declared.refusals.FileRefusal.{FileRefusal}
 use Rattle.server.specs.Refusals.{of_refused, IsOfFile}
 use Rattle.server.specs.Program.{Fails, RunsOver, replays, serves, unset, uncertified, unwritten, wanting, IsNotAnswered, FilesAreLeft, IsUnfiled, IsFiled, WritesOut, unnamed, doubtful, filed}
 
 -- ---- files
 
 -- where all files are kept, they are left so for any reason
-pub left_of_kept : (before after : Text → Known) (file : Text) (why : Refusal) → AreKept before after → FilesAreLeft before after file why
+pub left_of_kept : (before after : Text → Known) (file : Text) (why : CommandRefusal) → AreKept before after → FilesAreLeft before after file why
 left_of_kept before after file (Line n) h = h
 left_of_kept before after file (Refused n) h = h
 left_of_kept before after file TooLong h = h
@@ -35,25 +35,25 @@ left_of_kept before after file NotListening h = h
 left_of_kept before after file Memory h = h
 
 -- the refusal of a file, as the command tells it
-pub told_as : (IsRefused : Text → FileRefusal → Type 0) (file told : Text) (cause : FileRefusal) (why : Refusal)
+pub told_as : (IsRefused : Text → FileRefusal → Type 0) (file told : Text) (cause : FileRefusal) (why : CommandRefusal)
     → told ≡ file → why ≡ of_refused cause → IsRefused file cause → IsOfFile IsRefused told why
 told_as IsRefused file told cause why same is h = (cause, is, subst (λ (name : Text). IsRefused name cause) (sym same) h)
 
 -- the same of a certificates file, which is read after files that were kept
-pub told_uncertified : (a b : Text → Known) (named : Option Text) (file told : Text) (cause : FileRefusal) (why : Refusal) → AreKept a b
+pub told_uncertified : (a b : Text → Known) (named : Option Text) (file told : Text) (cause : FileRefusal) (why : CommandRefusal) → AreKept a b
     → told ≡ file → why ≡ of_refused cause → FailsToCertify b named file cause → IsOfFile (FailsToCertify a named) told why
 told_uncertified a b named file told cause why k same is h = told_as (FailsToCertify a named) file told cause why same is (why_kept a b IsWhyUncertified named file cause k h)
 
 -- ---- brokers
 
 -- what is not set up, nothing runs over
-pub unset_over : (holds : Text → Known) (wanted : Wanted) (d g c : Option Text) (file : Text) (why : Refusal) → RunsOver wanted d g c
+pub unset_over : (holds : Text → Known) (wanted : Wanted) (d g c : Option Text) (file : Text) (why : CommandRefusal) → RunsOver wanted d g c
     → IsOfFile (FailsToSetUp holds d g) file why → Fails holds wanted file why
 unset_over holds wanted d g c file why replays h = unset h
 unset_over holds wanted d g c file why serves h = unset h
 
 -- nor over what has no certificates
-pub uncertified_over : (holds : Text → Known) (wanted : Wanted) (d g c : Option Text) (file : Text) (why : Refusal) (stated : Stated) (gs : List Guarantee) → RunsOver wanted d g c
+pub uncertified_over : (holds : Text → Known) (wanted : Wanted) (d g c : Option Text) (file : Text) (why : CommandRefusal) (stated : Stated) (gs : List Guarantee) → RunsOver wanted d g c
     → SetsUp holds d g stated gs → IsOfFile (FailsToCertify holds c) file why → Fails holds wanted file why
 uncertified_over holds wanted d g c file why stated gs replays s h = uncertified stated gs s h
 uncertified_over holds wanted d g c file why stated gs serves s h = uncertified stated gs s h
@@ -78,8 +78,8 @@ writes_then a b c out vs k (doubtful n h) = doubtful n (kept_then a b c k h)
 writes_then a b c out vs k (filed z h) = filed z (filed_then a b c _ _ k h)
 
 -- all guarantees hold, and their certificates are not written
-pub unfiled : (a b c : Text → Known) (definitions guarantees : Text) (out : Option Text) (file : Text) (why : Refusal) (stated : Stated) (gs : List Guarantee) (vs : List Verdict)
-    → SetsUp a (Some definitions) (Some guarantees) stated gs → AreFound stated.topology gs vs → out ≡ Some file → status_of_verdicts vs ≡ 0
+pub unfiled : (a b c : Text → Known) (definitions guarantees : Text) (out : Option Text) (file : Text) (why : CommandRefusal) (stated : Stated) (gs : List Guarantee) (vs : List Verdict)
+    → SetsUp a (Some definitions) (Some guarantees) stated gs → FindsVerdicts stated.topology gs vs → out ≡ Some file → status_of_verdicts vs ≡ 0
     → AreKept a b → IsUnfiled b c file why → IsNotAnswered a c (Check definitions guarantees out) file why
 unfiled a b c d g out file (Line n) stated gs vs s f o z k h = absurd h.0
 unfiled a b c d g out file (Refused n) stated gs vs s f o z k h = absurd h.0
@@ -92,5 +92,5 @@ unfiled a b c d g out file NotListening stated gs vs s f o z k h = absurd h.0
 unfiled a b c d g out file Memory stated gs vs s f o z k h = (wanting, kept_then a b c k h.1)
 
 -- memory was wanting
-pub wants : (a b : Text → Known) (wanted : Wanted) (file : Text) (why : Refusal) → why ≡ Memory → AreKept a b → IsNotAnswered a b wanted file why
+pub wants : (a b : Text → Known) (wanted : Wanted) (file : Text) (why : CommandRefusal) → why ≡ Memory → AreKept a b → IsNotAnswered a b wanted file why
 wants a b wanted file why e k = (rw e wanting, left_of_kept a b file why k)

@@ -3,11 +3,11 @@ use Rattle.std.proofs.Common.{◌≡◌, ◌++◌, ℕ, Bool, true, false, List,
 use Rattle.std.specs.Io.KnownBytes.{Appends, Keeps}
 use Rattle.clap.specs.Words.{kind_of}
 use Rattle.clap.specs.declared.error.Error.{Error}
-use Rattle.command_line.specs.CommandLine.{Wanted, AsksFor, IsRefused}
+use Rattle.command_line.specs.CommandLine.{Wanted, AsksFor, AreWordsRefused}
 use Rattle.model.specs.Words.{Text}
 use Rattle.named_files.specs.Files.{Known, AreKept}
-use Rattle.server.specs.Streams.{OutputStream, GetsNothing, Tries, tried}
-use Rattle.server.specs.declared.refusals.Refusal.{Refusal}
+use Rattle.server.specs.Streams.{OutputStream, GetsNothing, TriesPut, tried}
+use Rattle.server.specs.declared.refusals.CommandRefusal.{CommandRefusal}
 use Rattle.server.specs.Program.{RunsAs, printed, told_of, untold, unasked, unread, IsCommandAnswered, IsNotAnswered, RefusesWith, ShowsError, status_of}
 
 -- ---- streams
@@ -55,11 +55,11 @@ four true = refl
 four false = refl
 
 pub prints : (words : List Text) (before after : Text → Known) (out err : OutputStream) (wanted : Wanted) (text : Text) (status n : ℕ)
-    → AsksFor words wanted → IsCommandAnswered before after wanted text status → GetsNothing err → Tries out text status n → RunsAs words before after out err n
+    → AsksFor words wanted → IsCommandAnswered before after wanted text status → GetsNothing err → TriesPut out text status n → RunsAs words before after out err n
 prints words before after out err wanted text status n asks is quiet put =
     at_status words before after out err (tried put.0 status) n put.2 (printed wanted text status put.0 asks is put.1 quiet)
 
-pub tells : (words : List Text) (before after : Text → Known) (out err : OutputStream) (wanted : Wanted) (file : Text) (why : Refusal) (n : ℕ)
+pub tells : (words : List Text) (before after : Text → Known) (out err : OutputStream) (wanted : Wanted) (file : Text) (why : CommandRefusal) (n : ℕ)
     → AsksFor words wanted → IsNotAnswered before after wanted file why → GetsNothing out → RefusesWith err file why n → RunsAs words before after out err n
 tells words before after out err wanted file why n asks fails quiet put =
     elim put [
@@ -68,7 +68,7 @@ tells words before after out err wanted file why n asks fails quiet put =
     ]
 
 pub shows : (words : List Text) (before after : Text → Known) (out err : OutputStream) (e : Error) (n : ℕ)
-    → IsRefused words e → GetsNothing out → AreKept before after → ShowsError (kind_of e) err n → RunsAs words before after out err n
+    → AreWordsRefused words e → GetsNothing out → AreKept before after → ShowsError (kind_of e) err n → RunsAs words before after out err n
 shows words before after out err e n is quiet kept shown =
     elim shown [
       | inl (kind, told) ↦ at_status words before after out err 4 n (told.2 ∙ four told.0) (unread told.0 quiet told.1 kept)

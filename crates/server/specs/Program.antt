@@ -11,21 +11,21 @@ use Rattle.clap.specs.declared.error.kind.ErrorKind.{ErrorKind}
 use Rattle.clap.specs.declared.error.kind.ErrorKind.TheVariants.{OutOfMemory}
 use Rattle.definitions.specs.Reads.{Stated}
 use Rattle.certificate_check.specs.declared.faults.CertFault.{CertFault}
-use Rattle.certificate_files.specs.Reads.{IsFile}
+use Rattle.certificate_files.specs.Reads.{IsCertificatesFile}
 use Rattle.certificate.specs.Certified.{AreCertified, FailsFirst}
 use Rattle.guarantee_search.specs.declared.verdicts.Verdict.{Verdict}
 use Rattle.engine.specs.Certified.{IsCertified}
 use Rattle.command_line.specs.CommandLine.{Wanted, Check, Verify, Replay, Serve, Route, AsksFor, AsksNothing}
-use Rattle.server.specs.declared.refusals.Refusal.{Refusal}
-use Rattle.server.specs.declared.refusals.Refusal.TheVariants.{Line, Refused, TooLong, Unread, Unwritten, NoExchange, Certificate, NotListening, Memory}
+use Rattle.server.specs.declared.refusals.CommandRefusal.{CommandRefusal}
+use Rattle.server.specs.declared.refusals.CommandRefusal.TheVariants.{Line, Refused, TooLong, Unread, Unwritten, NoExchange, Certificate, NotListening, Memory}
 use Rattle.server.specs.Refusals.{IsOfFile}
 use Rattle.scripts.specs.Script.{script}
 use Rattle.scripts.specs.Transcript.{transcript_text}
-use Rattle.server.specs.Routes.{Lists}
-use Rattle.named_files.specs.Files.{Known, HasText, IsTooLong, IsClosed, AreKept, AreKeptBut, most_bytes}
-use Rattle.server.specs.Streams.{OutputStream, GetsNothing, PutsOut, Tries, tried}
-use Rattle.named_files.specs.Stated.{States, Certifies, CertifiesAt, SetsUp, FailsToSetUp, FailsToCertify}
-use Rattle.verdicts.specs.Verdicts.{AreFound, Judges, certificates_in, status_of_verdicts}
+use Rattle.server.specs.Routes.{ListsExchange}
+use Rattle.named_files.specs.Files.{Known, HasText, IsTooLong, IsUnreadable, AreKept, AreKeptBut, most_bytes}
+use Rattle.server.specs.Streams.{OutputStream, GetsNothing, PutsOut, TriesPut, tried}
+use Rattle.named_files.specs.Stated.{States, HoldsCertificates, CertifiesAt, SetsUp, FailsToSetUp, FailsToCertify}
+use Rattle.verdicts.specs.Verdicts.{FindsVerdicts, JudgesAll, certificates_in, status_of_verdicts}
 use Rattle.verdicts.specs.Outcomes.{Verifies, fault_number}
 
 -- ---- what is in force
@@ -65,14 +65,14 @@ PrintsFile force known printed = (text : Text) × HasText known text × Prints f
 
 -- the queues to which the key leads from the exchange, over the topology of a file; none where the exchange is not there
 abbrev pub ListsFile : Known → Text → Text → Option Text → Type 0
-ListsFile known exchange key listed = (stated : Stated) × States known stated × Lists stated.topology exchange key listed
+ListsFile known exchange key listed = (stated : Stated) × States known stated × ListsExchange stated.topology exchange key listed
 
 -- ---- certificates that are written
 
 -- a text that is read back as exactly these certificates: it states them, and is no longer than any that is read
 pub record ReadsBack (text : Text) (cs : List Shown) : Type 0 where
   pub short : length text ≤ most_bytes
-  pub states : IsFile text cs
+  pub states : IsCertificatesFile text cs
 
 -- the file is read back as exactly these certificates, and no other file is known to have changed
 pub record IsFiled (before after : Text → Known) (file : Text) (cs : List Shown) : Type 0 where
@@ -82,7 +82,7 @@ pub record IsFiled (before after : Text → Known) (file : Text) (cs : List Show
   pub others : AreKeptBut file before after
 
 -- a command that prints nothing leaves all files as they are, but one that it could not write
-abbrev pub FilesAreLeft : (Text → Known) → (Text → Known) → Text → Refusal → Type 0
+abbrev pub FilesAreLeft : (Text → Known) → (Text → Known) → Text → CommandRefusal → Type 0
 FilesAreLeft before after file (Line n) = AreKept before after
 FilesAreLeft before after file (Refused n) = AreKept before after
 FilesAreLeft before after file TooLong = AreKept before after
@@ -94,7 +94,7 @@ FilesAreLeft before after file NotListening = AreKept before after
 FilesAreLeft before after file Memory = AreKept before after
 
 -- why certificates are not written: the write failed, their file would be too long, or memory was wanting
-abbrev pub IsUnwritten : Refusal → Type 0
+abbrev pub IsUnwritten : CommandRefusal → Type 0
 IsUnwritten (Line n) = ⊥
 IsUnwritten (Refused n) = ⊥
 IsUnwritten TooLong = ⊥
@@ -106,7 +106,7 @@ IsUnwritten NotListening = ⊥
 IsUnwritten Memory = ⊤
 
 -- .. and then no file is known to have changed but the one that could not be written
-abbrev pub IsUnfiled : (Text → Known) → (Text → Known) → Text → Refusal → Type 0
+abbrev pub IsUnfiled : (Text → Known) → (Text → Known) → Text → CommandRefusal → Type 0
 IsUnfiled before after file why = IsUnwritten why × FilesAreLeft before after file why
 
 -- What `check` leaves of the files: where one is named and all guarantees hold, it has their certificates; else all are as they were.
@@ -137,7 +137,7 @@ abbrev pub not_listening : Text
 not_listening = codes "warren: cannot listen\n"
 
 -- what tells of a refusal
-abbrev pub refusal_line : Text → Refusal → Text
+abbrev pub refusal_line : Text → CommandRefusal → Text
 refusal_line file (Line n) = told file (codes "line " ++ decimal n)
 refusal_line file (Refused n) = told file (codes "refused " ++ decimal n)
 refusal_line file TooLong = told file (codes "refused 10")
@@ -149,7 +149,7 @@ refusal_line file NotListening = not_listening
 refusal_line file Memory = out_of_memory
 
 -- the exit status: 3 for a file or a certificate that is refused, or an exchange that is not there, 4 for memory, input or output, sockets among them
-abbrev pub status_of : Refusal → ℕ
+abbrev pub status_of : CommandRefusal → ℕ
 status_of (Line n) = 3
 status_of (Refused n) = 3
 status_of TooLong = 3
@@ -161,25 +161,25 @@ status_of NotListening = 4
 status_of Memory = 4
 
 -- Why a script of which this is known is not replayed: its first line at fault, its length, or that it cannot be read.
-abbrev pub IsWhy : Refusal → Known → Type 0
-IsWhy (Line n) known = (text : Text) × HasText known text × (script text ≡ Err n)
-IsWhy (Refused n) known = ⊥
-IsWhy TooLong known = IsTooLong known
-IsWhy Unread known = IsClosed known
-IsWhy Unwritten known = ⊥
-IsWhy NoExchange known = ⊥
-IsWhy (Certificate n fault) known = ⊥
-IsWhy NotListening known = ⊥
-IsWhy Memory known = ⊤
+abbrev pub IsWhyOfFile : CommandRefusal → Known → Type 0
+IsWhyOfFile (Line n) known = (text : Text) × HasText known text × (script text ≡ Err n)
+IsWhyOfFile (Refused n) known = ⊥
+IsWhyOfFile TooLong known = IsTooLong known
+IsWhyOfFile Unread known = IsUnreadable known
+IsWhyOfFile Unwritten known = ⊥
+IsWhyOfFile NoExchange known = ⊥
+IsWhyOfFile (Certificate n fault) known = ⊥
+IsWhyOfFile NotListening known = ⊥
+IsWhyOfFile Memory known = ⊤
 
 -- the same of a script that was read
-abbrev pub IsRefusalOf : Refusal → Text → Type 0
+abbrev pub IsRefusalOf : CommandRefusal → Text → Type 0
 IsRefusalOf (Line n) text = script text ≡ Err n
 IsRefusalOf Memory text = ⊤
 IsRefusalOf other text = ⊥
 
 -- Why the guarantees are not admitted: the certificate of the least number at fault, counted from 1, has this fault first.
-abbrev pub IsWhyUnadmitted : Topology → List Guarantee → List Shown → Refusal → Type 0
+abbrev pub IsWhyUnadmitted : Topology → List Guarantee → List Shown → CommandRefusal → Type 0
 IsWhyUnadmitted t gs cs (Line n) = ⊥
 IsWhyUnadmitted t gs cs (Refused n) = ⊥
 IsWhyUnadmitted t gs cs TooLong = ⊥
@@ -198,7 +198,7 @@ pub record IsJudged (before after : Text → Known) (definitions guarantees : Te
   pub promised : List Guarantee
   pub set_up : SetsUp before (Some definitions) (Some guarantees) stated promised
   pub verdicts : List Verdict
-  pub judged : Judges stated.topology promised verdicts text status
+  pub judged : JudgesAll stated.topology promised verdicts text status
   pub written : WritesOut before after out verdicts
 
 -- `verify`: whether the certificate of each guarantee is accepted
@@ -207,7 +207,7 @@ pub record IsVerified (holds : Text → Known) (definitions guarantees certifica
   pub promised : List Guarantee
   pub set_up : SetsUp holds (Some definitions) (Some guarantees) stated promised
   pub shown : List Shown
-  pub certifies : Certifies (holds certificates) shown
+  pub certifies : HoldsCertificates (holds certificates) shown
   pub verified : Verifies stated.topology promised shown text status
 
 -- `replay`: what the script prints over what is in force
@@ -261,22 +261,22 @@ pub data RunsOver : Wanted → (definitions guarantees certificates : Option Tex
       → RunsOver (Serve definitions guarantees certificates listen turns) (Some definitions) (Some guarantees) (Some certificates)
 
 -- Why a command prints nothing, and the file of which this is told. The files are judged in this order.
-pub data Fails (holds : Text → Known) : Wanted → Text → Refusal → Type 0 where
+pub data Fails (holds : Text → Known) : Wanted → Text → CommandRefusal → Type 0 where
   -- the definitions are refused, or the guarantees over them
-  unset : {wanted : Wanted} {file : Text} {why : Refusal} → IsOfFile (FailsToSetUp holds (definitions_of wanted) (guarantees_of wanted)) file why → Fails holds wanted file why
+  unset : {wanted : Wanted} {file : Text} {why : CommandRefusal} → IsOfFile (FailsToSetUp holds (definitions_of wanted) (guarantees_of wanted)) file why → Fails holds wanted file why
   -- the certificates file is refused
-  uncertified : {wanted : Wanted} {file : Text} {why : Refusal} (stated : Stated) (gs : List Guarantee) → SetsUp holds (definitions_of wanted) (guarantees_of wanted) stated gs
+  uncertified : {wanted : Wanted} {file : Text} {why : CommandRefusal} (stated : Stated) (gs : List Guarantee) → SetsUp holds (definitions_of wanted) (guarantees_of wanted) stated gs
       → IsOfFile (FailsToCertify holds (certificates_of wanted)) file why → Fails holds wanted file why
   -- a certificate is not accepted for its guarantee, or one of them has no partner
-  unadmitted : {wanted : Wanted} {file : Text} {definitions guarantees certificates : Option Text} (stated : Stated) (gs : List Guarantee) (cs : List Shown) (why : Refusal)
+  unadmitted : {wanted : Wanted} {file : Text} {definitions guarantees certificates : Option Text} (stated : Stated) (gs : List Guarantee) (cs : List Shown) (why : CommandRefusal)
       → RunsOver wanted definitions guarantees certificates → SetsUp holds definitions guarantees stated gs → CertifiesAt holds certificates cs
       → IsWhyUnadmitted stated.topology gs cs why → Fails holds wanted file why
   -- the script is refused, over what is in force
-  unplayed : {script : Text} {definitions guarantees certificates : Option Text} (force : Config) (why : Refusal) → IsInForce holds definitions guarantees certificates force
-      → IsWhy why (holds script) → Fails holds (Replay script definitions guarantees certificates) script why
+  unplayed : {script : Text} {definitions guarantees certificates : Option Text} (force : Config) (why : CommandRefusal) → IsInForce holds definitions guarantees certificates force
+      → IsWhyOfFile why (holds script) → Fails holds (Replay script definitions guarantees certificates) script why
   -- all guarantees hold, and their certificates are not written
   unwritten : {definitions guarantees file : Text} (stated : Stated) (gs : List Guarantee) (verdicts : List Verdict)
-      → SetsUp holds (Some definitions) (Some guarantees) stated gs → AreFound stated.topology gs verdicts → status_of_verdicts verdicts ≡ 0
+      → SetsUp holds (Some definitions) (Some guarantees) stated gs → FindsVerdicts stated.topology gs verdicts → status_of_verdicts verdicts ≡ 0
       → Fails holds (Check definitions guarantees (Some file)) file Unwritten
   -- the exchange is not there
   unrouted : {file exchange key : Text} → ListsFile (holds file) exchange key None → Fails holds (Route file exchange key) file NoExchange
@@ -286,18 +286,18 @@ pub data Fails (holds : Text → Known) : Wanted → Text → Refusal → Type 0
   wanting : {wanted : Wanted} {file : Text} → Fails holds wanted file Memory
 
 -- it prints nothing for this reason, and leaves the files so
-abbrev pub IsNotAnswered : (Text → Known) → (Text → Known) → Wanted → Text → Refusal → Type 0
+abbrev pub IsNotAnswered : (Text → Known) → (Text → Known) → Wanted → Text → CommandRefusal → Type 0
 IsNotAnswered before after wanted file why = Fails before wanted file why × FilesAreLeft before after file why
 
 -- ---- the program
 
 -- this refusal of the file was told, or want of memory for telling it
-abbrev pub RefusesWith : OutputStream → Text → Refusal → ℕ → Type 0
-RefusesWith err file why status = Tries err (refusal_line file why) (status_of why) status ⊎ Tries err out_of_memory 4 status
+abbrev pub RefusesWith : OutputStream → Text → CommandRefusal → ℕ → Type 0
+RefusesWith err file why status = TriesPut err (refusal_line file why) (status_of why) status ⊎ TriesPut err out_of_memory 4 status
 
 -- a command line that was refused for this was shown: want of memory by our own line, any other by clap's text
 abbrev pub ShowsError : ErrorKind → OutputStream → ℕ → Type 0
-ShowsError kind err status = ((kind ≡ OutOfMemory) × Tries err out_of_memory 4 status) ⊎ ((kind ≡ OutOfMemory → ⊥) × ((done : Bool) × (status ≡ tried done 3)))
+ShowsError kind err status = ((kind ≡ OutOfMemory) × TriesPut err out_of_memory 4 status) ⊎ ((kind ≡ OutOfMemory → ⊥) × ((done : Bool) × (status ≡ tried done 3)))
 
 -- What a call comes to, by its words, the files as they are known before it and after it, what standard output and
 -- standard error got, and the status. Where a stream took no more, `done` is false and the status 4.
@@ -306,10 +306,10 @@ pub data RunsAs (words : List Text) (before after : Text → Known) (out err : O
   printed : (wanted : Wanted) (text : Text) (status : ℕ) (done : Bool) → AsksFor words wanted → IsCommandAnswered before after wanted text status → PutsOut out text done → GetsNothing err
       → RunsAs words before after out err (tried done status)
   -- why it prints nothing was told
-  told_of : {wanted : Wanted} {file : Text} (why : Refusal) (done : Bool) → AsksFor words wanted → IsNotAnswered before after wanted file why → GetsNothing out → PutsOut err (refusal_line file why) done
+  told_of : {wanted : Wanted} {file : Text} (why : CommandRefusal) (done : Bool) → AsksFor words wanted → IsNotAnswered before after wanted file why → GetsNothing out → PutsOut err (refusal_line file why) done
       → RunsAs words before after out err (tried done (status_of why))
   -- .. or that there was no memory to tell it
-  untold : {wanted : Wanted} {file : Text} (why : Refusal) (done : Bool) → AsksFor words wanted → IsNotAnswered before after wanted file why → GetsNothing out → PutsOut err out_of_memory done
+  untold : {wanted : Wanted} {file : Text} (why : CommandRefusal) (done : Bool) → AsksFor words wanted → IsNotAnswered before after wanted file why → GetsNothing out → PutsOut err out_of_memory done
       → RunsAs words before after out err 4
   -- the words ask for nothing, and clap's own text was shown
   unasked : (done : Bool) → AsksNothing words → GetsNothing out → AreKept before after → RunsAs words before after out err (tried done 3)

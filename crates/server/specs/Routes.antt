@@ -21,6 +21,6 @@ pub record ListsRoutes (t : Topology) (exchange key text : Text) : Type 0 where
   pub shown : text ≡ name_lines queues
 
 -- the routed queues are listed where the exchange is there, and only there
-abbrev pub Lists : Topology → Text → Text → Option Text → Type 0
-Lists t exchange key (Some text) = HasExchange t exchange × ListsRoutes t exchange key text
-Lists t exchange key None = HasExchange t exchange → ⊥
+abbrev pub ListsExchange : Topology → Text → Text → Option Text → Type 0
+ListsExchange t exchange key (Some text) = HasExchange t exchange × ListsRoutes t exchange key text
+ListsExchange t exchange key None = HasExchange t exchange → ⊥

@@ -38,5 +38,5 @@ abbrev pub tried : Bool → ℕ → ℕ
 tried done status = if done then status else 4
 
 -- the text was put on the stream, with this status if all of it was taken
-abbrev pub Tries : OutputStream → Text → ℕ → ℕ → Type 0
-Tries s text wanted status = (done : Bool) × PutsOut s text done × (status ≡ tried done wanted)
+abbrev pub TriesPut : OutputStream → Text → ℕ → ℕ → Type 0
+TriesPut s text wanted status = (done : Bool) × PutsOut s text done × (status ≡ tried done wanted)

@@ -19,8 +19,8 @@ ghost use Rattle.server.specs.Program.{
 };
 
 use crate::filing::write_out;
-use crate::refusals::{Refusal, Told, refuse_memory, tell, told_of};
-use crate::replaying::{Named, replay};
+use crate::refusals::{CommandRefusal, Told, refuse_memory, tell, told_of};
+use crate::replaying::{BrokerFiles, replay};
 use crate::routes::routed;
 use crate::streams::{put, tried};
 use clap::Error;
@@ -128,7 +128,7 @@ fn route<'a, F: Files>(
         Ok(Some(text)) => Ok(Output { text, status: 0 }),
         Ok(None) => Err(Told {
             file: definitions,
-            why: Refusal::NoExchange,
+            why: CommandRefusal::NoExchange,
         }),
         Err(refused) => Err(told_of(refused)),
     }
@@ -161,7 +161,7 @@ pub fn answer<'a, F: Files>(
         } => replay(
             alloc,
             script,
-            Named {
+            BrokerFiles {
                 definitions,
                 guarantees,
                 certificates,
@@ -170,7 +170,7 @@ pub fn answer<'a, F: Files>(
         ),
         Asked::Serve { .. } => Err(Told {
             file: "",
-            why: Refusal::NotListening,
+            why: CommandRefusal::NotListening,
         }),
         Asked::Route {
             definitions,

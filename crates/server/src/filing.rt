@@ -5,7 +5,7 @@ ghost use Rattle.named_files.specs.Stated.{file_named};
 ghost use Rattle.server.specs.Program.{IsFiled, WritesOut, IsUnwritten, IsUnfiled, ReadsBack};
 ghost use Rattle.verdicts.specs.Verdicts.{certificates_in, status_of_verdicts};
 
-use crate::refusals::{Refusal, Told};
+use crate::refusals::{CommandRefusal, Told};
 use certificate_check::Certificate;
 use certificate_files::{Unwritten, write_certificates};
 use guarantee_search::Verdict;
@@ -17,14 +17,14 @@ use verdicts::certificates_in;
 const LIMIT: usize = 16_777_216;
 
 /// The file of these certificates, where one may be that long to be read back.
-fn text_of(alloc: Global, certificates: &[Certificate]) -> Result<Vec<u8>, Refusal>
+fn text_of(alloc: Global, certificates: &[Certificate]) -> Result<Vec<u8>, CommandRefusal>
     ensures { MatchResult result (λ text. ReadsBack text.items certificates.now) IsUnwritten }
 {
     match write_certificates(alloc, certificates) {
         Ok(text) if text.len() <= LIMIT => Ok(text),
-        Ok(_) => Err(Refusal::Unwritten),
-        Err(Unwritten::NotText) => Err(Refusal::Unwritten),
-        Err(Unwritten::Memory) => Err(Refusal::Memory),
+        Ok(_) => Err(CommandRefusal::Unwritten),
+        Err(Unwritten::NotText) => Err(CommandRefusal::Unwritten),
+        Err(Unwritten::Memory) => Err(CommandRefusal::Memory),
     }
 }
 
@@ -34,7 +34,7 @@ fn write_file<F: Files>(
     file: &str,
     certificates: &[Certificate],
     files: &mut F,
-) -> Result<(), Refusal>
+) -> Result<(), CommandRefusal>
     ensures { MatchResult result (λ _. IsFiled (F.holds files.old) (F.holds files.new) file.now certificates.now) (λ why. IsUnfiled (F.holds files.old) (F.holds files.new) file.now why) }
 {
     let text = match text_of(alloc, certificates) {
@@ -43,7 +43,7 @@ fn write_file<F: Files>(
     };
     match files.write(file, text.as_slice()) {
         Ok(_) => Ok(()),
-        Err(_) => Err(Refusal::Unwritten),
+        Err(_) => Err(CommandRefusal::Unwritten),
     }
 }
 
@@ -53,12 +53,12 @@ fn write_verdicts<F: Files>(
     file: &str,
     verdicts: Vec<Verdict>,
     files: &mut F,
-) -> Result<(), Refusal>
+) -> Result<(), CommandRefusal>
     ensures { MatchResult result (λ _. IsFiled (F.holds files.old) (F.holds files.new) file.now (certificates_in verdicts.items)) (λ why. IsUnfiled (F.holds files.old) (F.holds files.new) file.now why) }
 {
     match certificates_in(alloc, verdicts) {
         Ok(certificates) => write_file(alloc, file, certificates.as_slice(), files),
-        Err(_) => Err(Refusal::Memory),
+        Err(_) => Err(CommandRefusal::Memory),
     }
 }
 

@@ -10,8 +10,8 @@ mod starting;
 mod streams;
 
 pub use commands::program;
-pub use named_files::{Files, Unread, Unwritten};
-pub use refusals::{Refusal, Told, refuse_memory, tell};
+pub use named_files::{Files, NotWritten, Unread};
+pub use refusals::{CommandRefusal, Told, refuse_memory, tell};
 pub use replaying::replayed;
 pub use routes::routed;
 pub use starting::started;

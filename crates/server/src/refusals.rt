@@ -3,7 +3,7 @@
 ghost use Rattle.std.specs.Prelude.{◌≡◌, ◌++◌, ◌∷◌, [], codes, decimal, IfOk, string_bytes};
 ghost use Rattle.server.specs.Refusals.{of_refused};
 ghost use Rattle.server.specs.Program.{refusal_line, out_of_memory, status_of, told, RefusesWith};
-ghost use Rattle.server.specs.Streams.{Tries, change};
+ghost use Rattle.server.specs.Streams.{TriesPut, change};
 
 use crate::streams::{put, tried};
 use named_files::{RefusedFile, Unread};
@@ -21,7 +21,7 @@ const NOT_LISTENING: &str = "warren: cannot listen\n";
 
 /// Why a command is not done.
 #[derive(Clone, Copy, PartialEq, Eq, Debug, Drop)]
-pub enum Refusal {
+pub enum CommandRefusal {
     /// This line of the script is at fault. Lines count from 1.
     Line(u64),
     /// The cause of this number stands in the file, and none of a smaller one.
@@ -48,61 +48,61 @@ pub enum Refusal {
 pub struct Told<'a> {
     /// The name of the file.
     pub file: &'a str,
-    pub why: Refusal,
+    pub why: CommandRefusal,
 }
 
-impl From<AllocError> for Refusal {
+impl From<AllocError> for CommandRefusal {
     ghost use Rattle.std.specs.Prelude.{◌≡◌};
-    ghost use Rattle.server.specs.declared.refusals.Refusal.TheVariants.{Memory};
+    ghost use Rattle.server.specs.declared.refusals.CommandRefusal.TheVariants.{Memory};
 
     ghost from_gives = { λ _ r. r ≡ Memory };
 
-    fn from(_: AllocError) -> Refusal {
-        Refusal::Memory
+    fn from(_: AllocError) -> CommandRefusal {
+        CommandRefusal::Memory
     }
 }
 
-impl From<Unread> for Refusal {
+impl From<Unread> for CommandRefusal {
     ghost use Rattle.std.specs.Prelude.{◌≡◌};
-    ghost use Rattle.server.specs.Refusals.{of_file};
+    ghost use Rattle.server.specs.Refusals.{of_unread};
 
-    ghost from_gives = { λ why r. r ≡ of_file why };
+    ghost from_gives = { λ why r. r ≡ of_unread why };
 
-    fn from(why: Unread) -> Refusal {
+    fn from(why: Unread) -> CommandRefusal {
         match why {
-            Unread::Failed => Refusal::Unread,
-            Unread::TooLong => Refusal::TooLong,
-            Unread::Memory => Refusal::Memory,
+            Unread::Failed => CommandRefusal::Unread,
+            Unread::TooLong => CommandRefusal::TooLong,
+            Unread::Memory => CommandRefusal::Memory,
         }
     }
 }
 
-impl From<named_files::Refusal> for Refusal {
+impl From<named_files::FileRefusal> for CommandRefusal {
     ghost use Rattle.std.specs.Prelude.{◌≡◌};
     ghost use Rattle.server.specs.Refusals.{of_refused};
 
     ghost from_gives = { λ why r. r ≡ of_refused why };
 
-    fn from(why: named_files::Refusal) -> Refusal {
+    fn from(why: named_files::FileRefusal) -> CommandRefusal {
         match why {
-            named_files::Refusal::Refused(number) => Refusal::Refused(number),
-            named_files::Refusal::TooLong => Refusal::TooLong,
-            named_files::Refusal::Unread => Refusal::Unread,
-            named_files::Refusal::Memory => Refusal::Memory,
+            named_files::FileRefusal::Refused(number) => CommandRefusal::Refused(number),
+            named_files::FileRefusal::TooLong => CommandRefusal::TooLong,
+            named_files::FileRefusal::Unread => CommandRefusal::Unread,
+            named_files::FileRefusal::Memory => CommandRefusal::Memory,
         }
     }
 }
 
 impl<'a> From<AllocError> for Told<'a> {
     ghost use Rattle.std.specs.Prelude.{◌≡◌};
-    ghost use Rattle.server.specs.declared.refusals.Refusal.TheVariants.{Memory};
+    ghost use Rattle.server.specs.declared.refusals.CommandRefusal.TheVariants.{Memory};
 
     ghost from_gives = { λ _ r. r.why ≡ Memory };
 
     fn from(_: AllocError) -> Told<'a> {
         Told {
             file: "",
-            why: Refusal::Memory,
+            why: CommandRefusal::Memory,
         }
     }
 }
@@ -114,7 +114,7 @@ pub fn told_of(refused: RefusedFile<'_>) -> Told<'_>
 {
     Told {
         file: refused.file,
-        why: Refusal::from(refused.why),
+        why: CommandRefusal::from(refused.why),
     }
 }
 
@@ -140,42 +140,42 @@ fn certificate_message(alloc: Global, number: u64, fault: u8) -> Result<String, 
 }
 
 /// What is wrong with a file, as it is told.
-fn message(alloc: Global, file: &str, refusal: Refusal) -> Result<String, AllocError>
+fn message(alloc: Global, file: &str, refusal: CommandRefusal) -> Result<String, AllocError>
     ensures { IfOk result (λ text. string_bytes text ≡ refusal_line file.now refusal) }
 {
     match refusal {
-        Refusal::Line(n) => numbered_message(alloc, file, "line", n),
-        Refusal::Refused(n) => numbered_message(alloc, file, "refused", u64::from(n)),
-        Refusal::TooLong => file_message(alloc, file, "refused 10"),
-        Refusal::Unread => file_message(alloc, file, "cannot read"),
-        Refusal::Unwritten => file_message(alloc, file, "cannot write"),
-        Refusal::NoExchange => String::from_str(alloc, NO_EXCHANGE),
-        Refusal::Certificate { number, fault } => certificate_message(alloc, number, fault),
-        Refusal::NotListening => String::from_str(alloc, NOT_LISTENING),
-        Refusal::Memory => String::from_str(alloc, OUT_OF_MEMORY),
+        CommandRefusal::Line(n) => numbered_message(alloc, file, "line", n),
+        CommandRefusal::Refused(n) => numbered_message(alloc, file, "refused", u64::from(n)),
+        CommandRefusal::TooLong => file_message(alloc, file, "refused 10"),
+        CommandRefusal::Unread => file_message(alloc, file, "cannot read"),
+        CommandRefusal::Unwritten => file_message(alloc, file, "cannot write"),
+        CommandRefusal::NoExchange => String::from_str(alloc, NO_EXCHANGE),
+        CommandRefusal::Certificate { number, fault } => certificate_message(alloc, number, fault),
+        CommandRefusal::NotListening => String::from_str(alloc, NOT_LISTENING),
+        CommandRefusal::Memory => String::from_str(alloc, OUT_OF_MEMORY),
     }
 }
 
 /// The status of a refusal: 3 for a file that is refused, 4 for memory, input or output.
-fn status_of(refusal: Refusal) -> u8
+fn status_of(refusal: CommandRefusal) -> u8
     ensures { result ≡ status_of refusal }
 {
     match refusal {
-        Refusal::Line(_) => 3,
-        Refusal::Refused(_) => 3,
-        Refusal::TooLong => 3,
-        Refusal::Unread => 4,
-        Refusal::Unwritten => 4,
-        Refusal::NoExchange => 3,
-        Refusal::Certificate { .. } => 3,
-        Refusal::NotListening => 4,
-        Refusal::Memory => 4,
+        CommandRefusal::Line(_) => 3,
+        CommandRefusal::Refused(_) => 3,
+        CommandRefusal::TooLong => 3,
+        CommandRefusal::Unread => 4,
+        CommandRefusal::Unwritten => 4,
+        CommandRefusal::NoExchange => 3,
+        CommandRefusal::Certificate { .. } => 3,
+        CommandRefusal::NotListening => 4,
+        CommandRefusal::Memory => 4,
     }
 }
 
 /// Tells that a growth was refused, and gives the status.
 pub fn refuse_memory<E: Write>(err: &mut E) -> u8
-    ensures { Tries (change (E.contents err.old) (E.contents err.new)) out_of_memory 4 result }
+    ensures { TriesPut (change (E.contents err.old) (E.contents err.new)) out_of_memory 4 result }
 {
     tried(put(err, OUT_OF_MEMORY.as_bytes()), 4)
 }

@@ -12,21 +12,21 @@ ghost use Rattle.server.specs.Program.{
   IsInForce,
   IsRefusalOf,
   IsReplayed,
-  IsWhy,
+  IsWhyOfFile,
   IsWhyUnadmitted,
   Prints,
   PrintsFile,
   RunsOver,
 };
 
-use crate::refusals::{Refusal, Told, told_of};
+use crate::refusals::{CommandRefusal, Told, told_of};
 use certificate::{Checked, admit};
 use certificate_check::{CertFault, Certificate};
 use exchange_graph::Topology;
 use guarantees::Guarantee;
 use model::User;
 use named_files::{Files, Setup, certificates_of, set_up};
-use scripts::{Fault, read_script, transcript_text};
+use scripts::{BadScript, read_script, transcript_text};
 use std::alloc::Global;
 use verdicts::Output;
 
@@ -36,13 +36,13 @@ pub fn replayed(
     checked: Checked,
     users: Vec<User>,
     text: &[u8],
-) -> Result<Vec<u8>, Refusal>
+) -> Result<Vec<u8>, CommandRefusal>
     ensures { MatchResult result (λ printed. Prints (in_force checked users.items) text.now printed.items) (λ refusal. IsRefusalOf refusal text.now) }
 {
     let arrivals = match read_script(alloc, text) {
         Ok(arrivals) => arrivals,
-        Err(Fault::Line(n)) => return Err(Refusal::Line(n)),
-        Err(Fault::Memory) => return Err(Refusal::Memory),
+        Err(BadScript::Line(n)) => return Err(CommandRefusal::Line(n)),
+        Err(BadScript::Memory) => return Err(CommandRefusal::Memory),
     };
     let transcript = engine::run(alloc, checked, users, arrivals.as_slice())?;
     Ok(transcript_text(alloc, &transcript)?)
@@ -55,8 +55,8 @@ fn replayed_file<F: Files>(
     checked: Checked,
     users: Vec<User>,
     files: &mut F,
-) -> Result<Vec<u8>, Refusal>
-    ensures printed { MatchResult result (λ printed. PrintsFile (in_force checked users.items) (F.holds files.old script.now) printed.items) (λ refusal. IsWhy refusal (F.holds files.old script.now)) }
+) -> Result<Vec<u8>, CommandRefusal>
+    ensures printed { MatchResult result (λ printed. PrintsFile (in_force checked users.items) (F.holds files.old script.now) printed.items) (λ refusal. IsWhyOfFile refusal (F.holds files.old script.now)) }
     ensures files { AreKept (F.holds files.old) (F.holds files.new) }
 {
     let text = files.read(alloc, script)?;
@@ -83,14 +83,14 @@ fn admitted(
     topology: Topology,
     promised: Vec<Guarantee>,
     certificates: &[Certificate],
-) -> Result<Checked, Refusal>
+) -> Result<Checked, CommandRefusal>
     requires { length promised.items ≤ 64 }
     ensures { MatchResult result (λ checked. (checked ≡ record { topology = topology; guarantees = promised.items }) × AreCertified topology promised.items certificates.now) (λ why. IsWhyUnadmitted topology promised.items certificates.now why) }
 {
     match admit(alloc, topology, promised, certificates) {
         Ok(checked) => Ok(checked),
-        Err((_, CertFault::Memory)) => Err(Refusal::Memory),
-        Err((place, fault)) => Err(Refusal::Certificate {
+        Err((_, CertFault::Memory)) => Err(CommandRefusal::Memory),
+        Err((place, fault)) => Err(CommandRefusal::Certificate {
             number: place as u64 + 1,
             fault: number_of(&fault),
         }),
@@ -99,7 +99,7 @@ fn admitted(
 
 /// The files that a command names over which a broker runs.
 #[derive(Clone, Copy, Drop)]
-pub struct Named<'a> {
+pub struct BrokerFiles<'a> {
     pub definitions: Option<&'a str>,
     pub guarantees: Option<&'a str>,
     pub certificates: Option<&'a str>,
@@ -108,7 +108,7 @@ pub struct Named<'a> {
 /// What is in force by these files.
 pub(crate) fn in_force<'a, F: Files>(
     alloc: Global,
-    named: Named<'a>,
+    named: BrokerFiles<'a>,
     files: &mut F,
 ) -> Result<(Checked, Vec<User>), Told<'a>>
     ensures force { (wanted : Wanted) → RunsOver wanted (file_named named.entry.definitions) (file_named named.entry.guarantees) (file_named named.entry.certificates) → MatchResult result (λ force. IsInForce (F.holds files.old) (file_named named.entry.definitions) (file_named named.entry.guarantees) (file_named named.entry.certificates) (in_force force.0 force.1.items)) (λ told. Fails (F.holds files.old) wanted told.file.now told.why) }
@@ -136,7 +136,7 @@ pub(crate) fn in_force<'a, F: Files>(
 pub fn replay<'a, F: Files>(
     alloc: Global,
     script: &'a str,
-    named: Named<'a>,
+    named: BrokerFiles<'a>,
     files: &mut F,
 ) -> Result<Output, Told<'a>>
     ensures answers { MatchResult result (λ o. IsReplayed (F.holds files.old) script.now (file_named named.entry.definitions) (file_named named.entry.guarantees) (file_named named.entry.certificates) o.text.items o.status) (λ told. Fails (F.holds files.old) (Replay script.now (file_named named.entry.definitions) (file_named named.entry.guarantees) (file_named named.entry.certificates)) told.file.now told.why) }

@@ -19,7 +19,7 @@ ghost use Rattle.std.specs.Str.{bytes_eq};
 ghost use Rattle.model.specs.Topology.{IsIn, exchange_names, queue_names};
 ghost use Rattle.exchange_graph.specs.Targets.{names_at};
 ghost use Rattle.scripts.specs.Transcript.{line, name_word};
-ghost use Rattle.server.specs.Routes.{name_lines, HasExchange, Lists, ListsRoutes};
+ghost use Rattle.server.specs.Routes.{name_lines, HasExchange, ListsExchange, ListsRoutes};
 
 use exchange_graph::Topology;
 use model::{DeclaredQueue, Exchange};
@@ -110,7 +110,7 @@ pub fn routed(
     exchange: &[u8],
     key: &[u8],
 ) -> Result<Option<Vec<u8>>, AllocError>
-    ensures { IfOk result (λ text. Lists topology.now exchange.now key.now (option_map (λ t. t.items) text)) }
+    ensures { IfOk result (λ text. ListsExchange topology.now exchange.now key.now (option_map (λ t. t.items) text)) }
 {
     if !has_exchange(topology, exchange) {
         return Ok(None);

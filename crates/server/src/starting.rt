@@ -8,7 +8,7 @@ ghost use Rattle.named_files.specs.Files.{AreKept};
 ghost use Rattle.server.specs.Program.{Fails, IsStarted};
 
 use crate::refusals::Told;
-use crate::replaying::{Named, in_force};
+use crate::replaying::{BrokerFiles, in_force};
 use engine::Engine;
 use named_files::Files;
 use std::alloc::Global;
@@ -24,7 +24,7 @@ pub fn started<'a, F: Files>(
     ensures started { MatchResult result (λ e. IsStarted (F.holds files.old) definitions.now guarantees.now certificates.now (world_of e)) (λ told. (listen : Text) (turns : Option Text) → Fails (F.holds files.old) (Serve definitions.now guarantees.now certificates.now listen turns) told.file.now told.why) }
     ensures files { AreKept (F.holds files.old) (F.holds files.new) }
 {
-    let named = Named {
+    let named = BrokerFiles {
         definitions: Some(definitions),
         guarantees: Some(guarantees),
         certificates: Some(certificates),

@@ -4,7 +4,7 @@ use Rattle.std.proofs.lemmas.List.{length-take-le}
 use Rattle.model.specs.Run.{Happening}
 use Rattle.model.specs.Arrivals.{World, Same, can_open, is_gone, Answers, Delivers, NoneCanDeliver, delivers, idles}
 use Rattle.model.specs.declared.events.Arrival.TheVariants as arrival
-use Rattle.serving.specs.Wire.{Accepted, Not_accepted, Accept_failed, Got, Nothing_got, Read_ended, Read_failed, Took, Nothing_taken, Write_failed, Closed, Rested, To_accept, To_read, To_write, Told, after, IsFresh}
+use Rattle.serving.specs.Wire.{Accepted, Not_accepted, Accept_failed, Got, Nothing_got, Read_ended, Read_failed, Took, Nothing_taken, Write_failed, Closed, Rested, To_accept, To_read, To_write, Told, told_after, IsFresh}
 use Rattle.serving.specs.Coming.{Attempt, whole, short, Brings, FallsShort}
 use Rattle.serving.specs.Story.{Served, served, At, TakesIn, read_room, Met, Turned_away, Met_no_one, Heard, Heard_partly, Heard_nothing, Heard_end, Gave, Gave_partly, Gave_nothing, Gave_up, Pumped, Pumped_nothing, Pump_refused, Let_go, Paused, Serves, PumpsOnce}
 use Rattle.serving.specs.declared.peers.Peer.{Peer}
@@ -13,33 +13,33 @@ use Rattle.serving.proofs.Onward.{after_none, after_two, serves_one, attempt_one
 
 -- ---- accepts
 
-pub met : (a b : World) (ps qs : List (Option Peer)) (s : ℕ) (told now : Told) → TakesIn a ps s true b qs → IsFresh s told → now ≡ after told (Accepted s ∷ []) → Serves (served a ps told) (To_accept ∷ []) true (served b qs now)
+pub met : (a b : World) (ps qs : List (Option Peer)) (s : ℕ) (told now : Told) → TakesIn a ps s true b qs → IsFresh s told → now ≡ told_after told (Accepted s ∷ []) → Serves (served a ps told) (To_accept ∷ []) true (served b qs now)
 met a b ps qs s told now (can, answers, filled) fresh e =
     let p : Peer = record { connection = a.given + 1; socket = s } in
     serves_one (served a ps told) (served b qs now) _ _ (Met filled.0 p) answers.0
     (record { table = (can, refl, fresh, filled.1); brings = attempt_one a b (whole arrival.Open) answers.0 answers.1; told = e }) refl refl refl
 
-pub turned_away : (a b : World) (ps qs : List (Option Peer)) (s : ℕ) (told mid now : Told) → TakesIn a ps s false b qs → mid ≡ after told (Accepted s ∷ []) → now ≡ after mid (Closed s ∷ []) → Serves (served a ps told) (To_accept ∷ []) true (served b qs now)
+pub turned_away : (a b : World) (ps qs : List (Option Peer)) (s : ℕ) (told mid now : Told) → TakesIn a ps s false b qs → mid ≡ told_after told (Accepted s ∷ []) → now ≡ told_after mid (Closed s ∷ []) → Serves (served a ps told) (To_accept ∷ []) true (served b qs now)
 turned_away a b ps qs s told mid now t e f =
     serves_one (served a ps told) (served b qs now) _ _ (Turned_away s t.0.0) []
     (record { table = (t.0.1, t.1); brings = attempt_one a b t.0.0 [] t.0.2; told = after_two told mid now _ _ e f }) refl refl refl
 
-pub met_nothing : (a : World) (ps : List (Option Peer)) (told now : Told) → now ≡ after told (Not_accepted ∷ []) → Serves (served a ps told) (To_accept ∷ []) false (served a ps now)
+pub met_nothing : (a : World) (ps : List (Option Peer)) (told now : Told) → now ≡ told_after told (Not_accepted ∷ []) → Serves (served a ps told) (To_accept ∷ []) false (served a ps now)
 met_nothing a ps told now e = serves_one (served a ps told) (served a ps now) _ _ (Met_no_one false) [] (record { table = refl; brings = (refl, refl); told = e }) refl refl refl
 
-pub met_failure : (a : World) (ps : List (Option Peer)) (told now : Told) → now ≡ after told (Accept_failed ∷ []) → Serves (served a ps told) (To_accept ∷ []) false (served a ps now)
+pub met_failure : (a : World) (ps : List (Option Peer)) (told now : Told) → now ≡ told_after told (Accept_failed ∷ []) → Serves (served a ps told) (To_accept ∷ []) false (served a ps now)
 met_failure a ps told now e = serves_one (served a ps told) (served a ps now) _ _ (Met_no_one true) [] (record { table = refl; brings = (refl, refl); told = e }) refl refl refl
 
 -- ---- reads
 
-pub heard : (a b : World) (ps : List (Option Peer)) (i : ℕ) (p : Peer) (bytes : List ℕ) (told now : Told) → At ps i p → (hs : List Happening) × Answers a (arrival.In p.connection bytes) hs b → now ≡ after told (Got p.socket read_room bytes ∷ [])
+pub heard : (a b : World) (ps : List (Option Peer)) (i : ℕ) (p : Peer) (bytes : List ℕ) (told now : Told) → At ps i p → (hs : List Happening) × Answers a (arrival.In p.connection bytes) hs b → now ≡ told_after told (Got p.socket read_room bytes ∷ [])
     → Serves (served a ps told) (To_read p.socket read_room ∷ []) true (served b ps now)
 heard a b ps i p bytes told now at ans e =
     serves_one (served a ps told) (served b ps now) _ _ (Heard i p bytes) ans.0
     (record { table = (at, refl); brings = attempt_one a b (whole (arrival.In p.connection bytes)) ans.0 ans.1; told = e }) refl refl refl
 
 pub heard_partly : (a m b : World) (ps : List (Option Peer)) (i : ℕ) (p : Peer) (bytes : List ℕ) (told mid now : Told) → At ps i p → (hs : List Happening) × FallsShort a (arrival.In p.connection bytes) hs m
-    → (hs : List Happening) × Answers m (arrival.Lose p.connection) hs b → mid ≡ after told (Got p.socket read_room bytes ∷ []) → now ≡ after mid (Closed p.socket ∷ [])
+    → (hs : List Happening) × Answers m (arrival.Lose p.connection) hs b → mid ≡ told_after told (Got p.socket read_room bytes ∷ []) → now ≡ told_after mid (Closed p.socket ∷ [])
     → Serves (served a ps told) (To_read p.socket read_room ∷ []) true (served b (slice_set ps i None) now)
 heard_partly a m b ps i p bytes told mid now at falls lost e f =
     serves_one (served a ps told) (served b (slice_set ps i None) now) _ _ (Heard_partly i p bytes) (falls.0 ++ lost.0)
@@ -49,17 +49,17 @@ heard_partly a m b ps i p bytes told mid now at falls lost e f =
       told = after_two told mid now _ _ e f;
     }) refl refl refl
 
-pub heard_nothing : (a : World) (ps : List (Option Peer)) (i : ℕ) (p : Peer) (told now : Told) → At ps i p → now ≡ after told (Nothing_got p.socket read_room ∷ []) → Serves (served a ps told) (To_read p.socket read_room ∷ []) false (served a ps now)
+pub heard_nothing : (a : World) (ps : List (Option Peer)) (i : ℕ) (p : Peer) (told now : Told) → At ps i p → now ≡ told_after told (Nothing_got p.socket read_room ∷ []) → Serves (served a ps told) (To_read p.socket read_room ∷ []) false (served a ps now)
 heard_nothing a ps i p told now at e = serves_one (served a ps told) (served a ps now) _ _ (Heard_nothing i p) [] (record { table = (at, refl); brings = (refl, refl); told = e }) refl refl refl
 
 pub heard_end : (a b : World) (ps : List (Option Peer)) (i : ℕ) (p : Peer) (told mid now : Told) → At ps i p → (hs : List Happening) × Answers a (arrival.Lose p.connection) hs b
-    → mid ≡ after told (Read_ended p.socket read_room ∷ []) → now ≡ after mid (Closed p.socket ∷ []) → Serves (served a ps told) (To_read p.socket read_room ∷ []) true (served b (slice_set ps i None) now)
+    → mid ≡ told_after told (Read_ended p.socket read_room ∷ []) → now ≡ told_after mid (Closed p.socket ∷ []) → Serves (served a ps told) (To_read p.socket read_room ∷ []) true (served b (slice_set ps i None) now)
 heard_end a b ps i p told mid now at lost e f =
     serves_one (served a ps told) (served b (slice_set ps i None) now) _ _ (Heard_end i p false) lost.0
     (record { table = (at, refl); brings = attempt_one a b (whole (arrival.Lose p.connection)) lost.0 lost.1; told = after_two told mid now _ _ e f }) refl refl refl
 
 pub heard_failure : (a b : World) (ps : List (Option Peer)) (i : ℕ) (p : Peer) (told mid now : Told) → At ps i p → (hs : List Happening) × Answers a (arrival.Lose p.connection) hs b
-    → mid ≡ after told (Read_failed p.socket read_room ∷ []) → now ≡ after mid (Closed p.socket ∷ []) → Serves (served a ps told) (To_read p.socket read_room ∷ []) true (served b (slice_set ps i None) now)
+    → mid ≡ told_after told (Read_failed p.socket read_room ∷ []) → now ≡ told_after mid (Closed p.socket ∷ []) → Serves (served a ps told) (To_read p.socket read_room ∷ []) true (served b (slice_set ps i None) now)
 heard_failure a b ps i p told mid now at lost e f =
     serves_one (served a ps told) (served b (slice_set ps i None) now) _ _ (Heard_end i p true) lost.0
     (record { table = (at, refl); brings = attempt_one a b (whole (arrival.Lose p.connection)) lost.0 lost.1; told = after_two told mid now _ _ e f }) refl refl refl
@@ -67,7 +67,7 @@ heard_failure a b ps i p told mid now at lost e f =
 -- ---- writes
 
 pub gave : (a b : World) (ps : List (Option Peer)) (i : ℕ) (p : Peer) (n : ℕ) (told now : Told) → At ps i p → n ≤ length (a.wire p.connection).output → (hs : List Happening) × Answers a (arrival.Sent p.connection n) hs b
-    → now ≡ after told (Took p.socket (a.wire p.connection).output (take n (a.wire p.connection).output) ∷ []) → Serves (served a ps told) (To_write p.socket (a.wire p.connection).output ∷ []) true (served b ps now)
+    → now ≡ told_after told (Took p.socket (a.wire p.connection).output (take n (a.wire p.connection).output) ∷ []) → Serves (served a ps told) (To_write p.socket (a.wire p.connection).output ∷ []) true (served b ps now)
 gave a b ps i p n told now at le ans e =
     let out = (a.wire p.connection).output in
     let is : length (take n out) ≡ n = length-take-le n out le in
@@ -76,7 +76,7 @@ gave a b ps i p n told now at le ans e =
     (record { table = (refl, (n, le, refl), (at, refl)); brings = attempt_one a b (whole (arrival.Sent p.connection (length (take n out)))) ans.0 brings; told = e }) refl refl refl
 
 pub gave_partly : (a m b : World) (ps : List (Option Peer)) (i : ℕ) (p : Peer) (n : ℕ) (told mid now : Told) → At ps i p → n ≤ length (a.wire p.connection).output → (hs : List Happening) × FallsShort a (arrival.Sent p.connection n) hs m
-    → (hs : List Happening) × Answers m (arrival.Lose p.connection) hs b → mid ≡ after told (Took p.socket (a.wire p.connection).output (take n (a.wire p.connection).output) ∷ []) → now ≡ after mid (Closed p.socket ∷ [])
+    → (hs : List Happening) × Answers m (arrival.Lose p.connection) hs b → mid ≡ told_after told (Took p.socket (a.wire p.connection).output (take n (a.wire p.connection).output) ∷ []) → now ≡ told_after mid (Closed p.socket ∷ [])
     → Serves (served a ps told) (To_write p.socket (a.wire p.connection).output ∷ []) true (served b (slice_set ps i None) now)
 gave_partly a m b ps i p n told mid now at le falls lost e f =
     let out = (a.wire p.connection).output in
@@ -89,11 +89,11 @@ gave_partly a m b ps i p n told mid now at le falls lost e f =
       told = after_two told mid now _ _ e f;
     }) refl refl refl
 
-pub gave_nothing : (a : World) (ps : List (Option Peer)) (i : ℕ) (p : Peer) (told now : Told) → At ps i p → now ≡ after told (Nothing_taken p.socket (a.wire p.connection).output ∷ []) → Serves (served a ps told) (To_write p.socket (a.wire p.connection).output ∷ []) false (served a ps now)
+pub gave_nothing : (a : World) (ps : List (Option Peer)) (i : ℕ) (p : Peer) (told now : Told) → At ps i p → now ≡ told_after told (Nothing_taken p.socket (a.wire p.connection).output ∷ []) → Serves (served a ps told) (To_write p.socket (a.wire p.connection).output ∷ []) false (served a ps now)
 gave_nothing a ps i p told now at e = serves_one (served a ps told) (served a ps now) _ _ (Gave_nothing i p (a.wire p.connection).output) [] (record { table = (refl, (at, refl)); brings = (refl, refl); told = e }) refl refl refl
 
 pub gave_up : (a b : World) (ps : List (Option Peer)) (i : ℕ) (p : Peer) (told mid now : Told) → At ps i p → (hs : List Happening) × Answers a (arrival.Lose p.connection) hs b
-    → mid ≡ after told (Write_failed p.socket (a.wire p.connection).output ∷ []) → now ≡ after mid (Closed p.socket ∷ []) → Serves (served a ps told) (To_write p.socket (a.wire p.connection).output ∷ []) true (served b (slice_set ps i None) now)
+    → mid ≡ told_after told (Write_failed p.socket (a.wire p.connection).output ∷ []) → now ≡ told_after mid (Closed p.socket ∷ []) → Serves (served a ps told) (To_write p.socket (a.wire p.connection).output ∷ []) true (served b (slice_set ps i None) now)
 gave_up a b ps i p told mid now at lost e f =
     serves_one (served a ps told) (served b (slice_set ps i None) now) _ _ (Gave_up i p (a.wire p.connection).output) lost.0
     (record { table = (refl, (at, refl)); brings = attempt_one a b (whole (arrival.Lose p.connection)) lost.0 lost.1; told = after_two told mid now _ _ e f }) refl refl refl
@@ -129,11 +129,11 @@ pump_refused a b ps told same = record {
 
 -- ---- ends and rests
 
-pub let_go : (a : World) (ps : List (Option Peer)) (i : ℕ) (p : Peer) (told now : Told) → At ps i p → is_gone a p.connection ≡ true → now ≡ after told (Closed p.socket ∷ []) → Serves (served a ps told) [] true (served a (slice_set ps i None) now)
+pub let_go : (a : World) (ps : List (Option Peer)) (i : ℕ) (p : Peer) (told now : Told) → At ps i p → is_gone a p.connection ≡ true → now ≡ told_after told (Closed p.socket ∷ []) → Serves (served a ps told) [] true (served a (slice_set ps i None) now)
 let_go a ps i p told now at gone e = serves_one (served a ps told) (served a (slice_set ps i None) now) _ _ (Let_go i p) [] (record { table = (gone, (at, refl)); brings = (refl, refl); told = e }) refl refl refl
 
-pub paused : (v : Served) → Serves v [] false (record v { told = after v.told (Rested ∷ []) })
-paused v = serves_one v (record v { told = after v.told (Rested ∷ []) }) _ _ Paused [] (record { table = refl; brings = (refl, refl); told = refl }) refl refl refl
+pub paused : (v : Served) → Serves v [] false (record v { told = told_after v.told (Rested ∷ []) })
+paused v = serves_one v (record v { told = told_after v.told (Rested ∷ []) }) _ _ Paused [] (record { table = refl; brings = (refl, refl); told = refl }) refl refl refl
 
 -- ---- what is not taken in
 

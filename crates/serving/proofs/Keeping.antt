@@ -14,7 +14,7 @@ use Rattle.laws.proofs.Plays.{Told as ToldOf, told-append, told_at, told_same, t
 use Rattle.laws.proofs.Spoken.{Speaks, speaks_same, speaks_append, speaks_at, works_speaks, waits_speaks, takes_speaks, answer_speaks, spoken_from_start}
 use Rattle.laws.proofs.Whole.{promises_hold}
 use Rattle.runs.proofs.InOrder.{gives_in_order}
-use Rattle.serving.specs.Wire.{Ask, Rested, Told, after}
+use Rattle.serving.specs.Wire.{Ask, Rested, Told, told_after}
 use Rattle.serving.specs.Coming.{Attempt, WorksPartly, FallsShort, Attempts, IsWhole}
 use Rattle.serving.specs.Story.{Served, served, Deed, calls, attempts, Story, Serves, PumpsUp}
 use Rattle.serving.specs.Rounds.{RestsUnless, IsRound, Rounds}
@@ -112,10 +112,10 @@ story_arrives [] v w hs s = (s.0, ap (λ (z : Served). z.world) s.1)
 story_arrives (d ∷ ds) v w hs (mid, first, rest, e, does, s) =
     subst (λ (z : List Happening). Attempts v.world (attempts d ++ arrived ds) z w.world) (sym e) (attempts-append (attempts d) (arrived ds) v.world mid.world w.world first rest does.brings (story_arrives ds mid w rest s))
 
-story_asked : (ds : List Deed) (v w : Served) (hs : List Happening) → Story v ds hs w → w.told ≡ after v.told (flat_map calls ds)
+story_asked : (ds : List Deed) (v w : Served) (hs : List Happening) → Story v ds hs w → w.told ≡ told_after v.told (flat_map calls ds)
 story_asked [] v w hs s = ap (λ (z : Served). z.told) s.1 ∙ sym (after_none v.told)
 story_asked (d ∷ ds) v w hs (mid, first, rest, e, does, s) =
-    story_asked ds mid w rest s ∙ ap (λ (t : Told). after t (flat_map calls ds)) does.told ∙ after_then v.told (calls d) (flat_map calls ds)
+    story_asked ds mid w rest s ∙ ap (λ (t : Told). told_after t (flat_map calls ds)) does.told ∙ after_then v.told (calls d) (flat_map calls ds)
 
 -- ---- rounds
 
@@ -134,7 +134,7 @@ went_pumps n a b p s = (s.deeds, s.happenings, s.story)
 
 went_rests : (v w : Served) (acted : Bool) → RestsUnless v acted w → Went v w
 went_rests v w true e = subst (λ (z : Served). Went v z) (sym e) (went v v [] false (serves_not v))
-went_rests v w false e = subst (λ (z : Served). Went v z) (sym e) (went v (record v { told = after v.told (Rested ∷ []) }) [] false (paused v))
+went_rests v w false e = subst (λ (z : Served). Went v z) (sym e) (went v (record v { told = told_after v.told (Rested ∷ []) }) [] false (paused v))
 
 went_round : (a b : Served) → IsRound a b → Went a b
 went_round a b r =

@@ -8,7 +8,7 @@ use Rattle.std.proofs.lemmas.List.Folds.{list_any-append}
 use Rattle.std.proofs.lemmas.List.Sums.{sum_by-append}
 use Rattle.model.specs.Run.{Happening}
 use Rattle.model.specs.Arrivals.{World}
-use Rattle.serving.specs.Wire.{Call, Rested, Ask, ask, asks, Told, after, and_these, is_failed}
+use Rattle.serving.specs.Wire.{Call, Rested, Ask, ask, asks, Told, told_after, and_these, is_failed}
 use Rattle.serving.specs.Coming.{Attempt, Brings, Attempts}
 use Rattle.serving.specs.Story.{Served, served, Deed, calls, is_done, is_pump, DoesDeed, Story, Serves}
 use Rattle.serving.specs.Rounds.{RestsUnless}
@@ -28,17 +28,17 @@ failed_then n xs ys =
     let e : count_by is_failed (xs ++ ys) ≡ count_by is_failed xs + count_by is_failed ys = sum_by-append _ xs ys in
     omega (arith, e)
 
-pub after_none : (told : Told) → after told [] ≡ told
+pub after_none : (told : Told) → told_after told [] ≡ told
 after_none told =
     let none : told.failures + 0 ≡ told.failures = omega arith in
     λ i. record { calls = these_none told.calls i; failures = none i }
 
-pub after_then : (told : Told) (xs ys : List Call) → after (after told xs) ys ≡ after told (xs ++ ys)
+pub after_then : (told : Told) (xs ys : List Call) → told_after (told_after told xs) ys ≡ told_after told (xs ++ ys)
 after_then told xs ys = λ i. record { calls = these_then told.calls xs ys i; failures = failed_then told.failures xs ys i }
 
 -- two calls, one after the other
-pub after_two : (told mid now : Told) (x y : Call) → mid ≡ after told (x ∷ []) → now ≡ after mid (y ∷ []) → now ≡ after told (x ∷ y ∷ [])
-after_two told mid now x y e f = f ∙ ap (λ (z : Told). after z (y ∷ [])) e ∙ after_then told (x ∷ []) (y ∷ [])
+pub after_two : (told mid now : Told) (x y : Call) → mid ≡ told_after told (x ∷ []) → now ≡ told_after mid (y ∷ []) → now ≡ told_after told (x ∷ y ∷ [])
+after_two told mid now x y e f = f ∙ ap (λ (z : Told). told_after z (y ∷ [])) e ∙ after_then told (x ∷ []) (y ∷ [])
 
 -- ---- what a server does
 
@@ -84,9 +84,9 @@ attempt_two a b c t u hs ks br cr = (b, hs, ks, refl, br, attempt_one b c u ks c
 
 -- ---- rests
 
-pub rests_once : (v : Served) (acted : Bool) (now : Told) → acted ≡ false → now ≡ after v.told (Rested ∷ []) → RestsUnless v acted (served v.world v.peers now)
+pub rests_once : (v : Served) (acted : Bool) (now : Told) → acted ≡ false → now ≡ told_after v.told (Rested ∷ []) → RestsUnless v acted (served v.world v.peers now)
 rests_once v acted now quiet e =
-    ap (λ (t : Told). served v.world v.peers t) e ∙ ap (λ (x : Bool). if x then v else record v { told = after v.told (Rested ∷ []) }) (sym quiet)
+    ap (λ (t : Told). served v.world v.peers t) e ∙ ap (λ (x : Bool). if x then v else record v { told = told_after v.told (Rested ∷ []) }) (sym quiet)
 
 pub rests_not : (v : Served) (acted : Bool) → acted ≡ true → RestsUnless v acted v
-rests_not v acted busy = ap (λ (x : Bool). if x then v else record v { told = after v.told (Rested ∷ []) }) (sym busy)
+rests_not v acted busy = ap (λ (x : Bool). if x then v else record v { told = told_after v.told (Rested ∷ []) }) (sym busy)

@@ -6,7 +6,7 @@ use Rattle.std.specs.List.{AllByRecursion}
 use Rattle.model.specs.Topology.{IsIn}
 use Rattle.model.specs.Run.{Happening}
 use Rattle.laws.proofs.Counts.{in_front, in_back}
-use Rattle.serving.specs.Wire.{Call, Accepted, Told, after, and_these, IsFresh}
+use Rattle.serving.specs.Wire.{Call, Accepted, Told, told_after, and_these, IsFresh}
 use Rattle.serving.specs.Story.{Served, At, Filled, Deed, Met, Turned_away, Met_no_one, Heard, Heard_partly, Heard_nothing, Heard_end, Gave, Gave_partly, Gave_nothing, Gave_up, Pumped, Pumped_nothing, Pump_refused, Let_go, Paused, attempts, Table, DoesDeed, Story}
 use Rattle.serving.specs.Joined.{met_by, all_met}
 use Rattle.serving.specs.declared.peers.Peer.{Peer}
@@ -42,12 +42,12 @@ record Knows (known : List Peer) (v : Served) : Type 0 where
   pairs : (p q : Peer) → IsIn p known → IsIn q known → SamePair p q
 
 -- calls are told after those before them
-told_on : (known : List Peer) (old new : Told) (more : List Call) → new ≡ after old more → (xs : List Call) × (old.calls ≡ Some xs) × ((p : Peer) → IsIn p known → IsIn (Accepted p.socket) xs)
+told_on : (known : List Peer) (old new : Told) (more : List Call) → new ≡ told_after old more → (xs : List Call) × (old.calls ≡ Some xs) × ((p : Peer) → IsIn p known → IsIn (Accepted p.socket) xs)
     → (xs : List Call) × (new.calls ≡ Some xs) × ((p : Peer) → IsIn p known → IsIn (Accepted p.socket) xs)
 told_on known old new more e (xs, is, there) =
     (xs ++ more, ap (λ (t : Told). t.calls) e ∙ ap (λ (z : Option (List Call)). and_these z more) is, λ p i. in_front (Accepted p.socket) xs more (there p i))
 
-knows_on : (known : List Peer) (v w : Served) (more : List Call) → ((i : ℕ) (p : Peer) → At w.peers i p → At v.peers i p) → v.world.given ≤ w.world.given → w.told ≡ after v.told more → Knows known v → Knows known w
+knows_on : (known : List Peer) (v w : Served) (more : List Call) → ((i : ℕ) (p : Peer) → At w.peers i p → At v.peers i p) → v.world.given ≤ w.world.given → w.told ≡ told_after v.told more → Knows known v → Knows known w
 knows_on known v w more sub le e k = record {
   slots = λ i p at. k.slots i p (sub i p at);
   given = λ p i. let g = k.given p i in omega (arith, g, le);
@@ -55,17 +55,17 @@ knows_on known v w more sub le e k = record {
   pairs = k.pairs;
 }
 
-knows_same : (known : List Peer) (v w : Served) (more : List Call) → w.peers ≡ v.peers → v.world.given ≤ w.world.given → w.told ≡ after v.told more → Knows known v → Knows known w
+knows_same : (known : List Peer) (v w : Served) (more : List Call) → w.peers ≡ v.peers → v.world.given ≤ w.world.given → w.told ≡ told_after v.told more → Knows known v → Knows known w
 knows_same known v w more same le e k = knows_on known v w more (λ i p at. subst (λ (z : List (Option Peer)). At z i p) same at) le e k
 
-knows_freed : (known : List Peer) (v w : Served) (j : ℕ) (more : List Call) → w.peers ≡ slice_set v.peers j None → v.world.given ≤ w.world.given → w.told ≡ after v.told more → Knows known v → Knows known w
+knows_freed : (known : List Peer) (v w : Served) (j : ℕ) (more : List Call) → w.peers ≡ slice_set v.peers j None → v.world.given ≤ w.world.given → w.told ≡ told_after v.told more → Knows known v → Knows known w
 knows_freed known v w j more freed le e k = knows_on known v w more (λ i p at. freed_at v.peers j i p (subst (λ (z : List (Option Peer)). At z i p) freed at)) le e k
 
 -- one whose connection and socket both are new is paired with none before it
 new_pair : (p q : Peer) → q.connection ≢ p.connection → q.socket ≢ p.socket → SamePair p q
 new_pair p q c s = ne_eqb q.connection p.connection c ∙ sym (ne_eqb q.socket p.socket s)
 
-knows_met : (known : List Peer) (v w : Served) (i : ℕ) (p : Peer) → p.connection ≡ v.world.given + 1 → w.world.given ≡ v.world.given + 1 → IsFresh p.socket v.told → Filled v.peers i p w.peers → w.told ≡ after v.told (Accepted p.socket ∷ []) → Knows known v
+knows_met : (known : List Peer) (v w : Served) (i : ℕ) (p : Peer) → p.connection ≡ v.world.given + 1 → w.world.given ≡ v.world.given + 1 → IsFresh p.socket v.told → Filled v.peers i p w.peers → w.told ≡ told_after v.told (Accepted p.socket ∷ []) → Knows known v
     → Knows (p ∷ known) w
 knows_met known v w i p number more fresh filled e k = record {
   slots = λ j q at. slot j q (filled_at v.peers w.peers i p filled j q at);

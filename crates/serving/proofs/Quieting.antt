@@ -7,7 +7,7 @@ use Rattle.model.specs.Arrivals.{World, Same, is_over, is_gone, is_paused, has_o
 use Rattle.serving.specs.Wire.{To_write}
 use Rattle.serving.specs.Story.{At, Filled}
 use Rattle.serving.specs.Fit.{ApartFrom, IsFit}
-use Rattle.serving.specs.Quiet.{IsQuiet, IsMarked, AreQuiet}
+use Rattle.serving.specs.Quiet.{IsQuiet, IsMarkedAt, AreQuiet}
 use Rattle.serving.specs.Rounds.{HasEnded, write_of}
 use Rattle.serving.specs.declared.peers.Peer.{Peer}
 use Rattle.serving.proofs.Turning.{awake_stands}
@@ -17,19 +17,19 @@ use Rattle.serving.proofs.Fits.{freed_at}
 -- ---- marks
 
 -- what is marked after one mark was set was marked, or is that one
-marked_now : (marks : List Bool) (i j : ℕ) → IsMarked (slice_set marks i true) j → (j ≡ i) ⊎ IsMarked marks j
+marked_now : (marks : List Bool) (i j : ℕ) → IsMarkedAt (slice_set marks i true) j → (j ≡ i) ⊎ IsMarkedAt marks j
 marked_now [] i j m = inr m
 marked_now (x ∷ xs) zero zero m = inl refl
 marked_now (x ∷ xs) zero (suc j) m = inr m
 marked_now (x ∷ xs) (suc i) zero m = inr m
 marked_now (x ∷ xs) (suc i) (suc j) m = go (marked_now xs i j m)
   where
-    go : (j ≡ i) ⊎ IsMarked xs j → (suc j ≡ suc i) ⊎ IsMarked xs j
+    go : (j ≡ i) ⊎ IsMarkedAt xs j → (suc j ≡ suc i) ⊎ IsMarkedAt xs j
     go (inl e) = inl (ap suc e)
     go (inr n) = inr n
 
 -- what is marked after one mark was taken away was marked, and is another
-pub still_marked : (marks : List Bool) (i j : ℕ) → IsMarked (slice_set marks i false) j → (j ≢ i) × IsMarked marks j
+pub still_marked : (marks : List Bool) (i j : ℕ) → IsMarkedAt (slice_set marks i false) j → (j ≢ i) × IsMarkedAt marks j
 still_marked [] i j m = absurd (cc m)
 still_marked (x ∷ xs) zero zero m = absurd (false≢true m)
 still_marked (x ∷ xs) zero (suc j) m = (λ e. omega (arith, e), m)
@@ -37,7 +37,7 @@ still_marked (x ∷ xs) (suc i) zero m = (λ e. omega (arith, e), m)
 still_marked (x ∷ xs) (suc i) (suc j) m = let s = still_marked xs i j m in (λ e. s.0 (omega (arith, e)), s.1)
 
 -- where a slot has no mark, what is marked is another
-pub other_marked : (marks : List Bool) (i : ℕ) → slice_index_or marks i false ≡ false → (j : ℕ) → IsMarked marks j → (j ≢ i) × IsMarked marks j
+pub other_marked : (marks : List Bool) (i : ℕ) → slice_index_or marks i false ≡ false → (j : ℕ) → IsMarkedAt marks j → (j ≢ i) × IsMarkedAt marks j
 other_marked marks i none j m = (λ e. false≢true (sym none ∙ ap (λ (k : ℕ). slice_index_or marks k false) (sym e) ∙ m), m)
 
 -- with no mark nothing is said
@@ -94,7 +94,7 @@ at_before ps qs i (inl e) j q at = subst (λ (z : List (Option Peer)). At z j q)
 at_before ps qs i (inr e) j q at = freed_at ps i j q (subst (λ (z : List (Option Peer)). At z j q) e at)
 
 still_quiet : (a b : World) (ps qs : List (Option Peer)) (ms ns : List Bool) → AreQuiet a ps ms
-    → ((j : ℕ) (q : Peer) → At qs j q → IsMarked ns j → At ps j q × IsMarked ms j × StaysFor q.connection a b) → AreQuiet b qs ns
+    → ((j : ℕ) (q : Peer) → At qs j q → IsMarkedAt ns j → At ps j q × IsMarkedAt ms j × StaysFor q.connection a b) → AreQuiet b qs ns
 still_quiet a b ps qs ms ns quiet from = λ j q at m. let f = from j q at m in quiet_stays a b q.connection f.2 (quiet j q f.0 f.1)
 
 -- nothing happened
@@ -103,7 +103,7 @@ quiet_idle a b ps qs i ms ns same slots marks quiet = still_quiet a b ps qs ms n
 
 -- something happened for the connection of one slot, which is not marked now
 pub quiet_apart : (a b : World) (ps qs : List (Option Peer)) (i : ℕ) (p : Peer) (ms ns : List Bool) → IsFit a ps → At ps i p → ApartFrom p.connection a b → StaysOrFrees ps i qs
-    → ((j : ℕ) → IsMarked ns j → (j ≢ i) × IsMarked ms j) → AreQuiet a ps ms → AreQuiet b qs ns
+    → ((j : ℕ) → IsMarkedAt ns j → (j ≢ i) × IsMarkedAt ms j) → AreQuiet a ps ms → AreQuiet b qs ns
 quiet_apart a b ps qs i p ms ns fit here apart slots marks quiet = still_quiet a b ps qs ms ns quiet (λ j q at m.
     let before : At ps j q = at_before ps qs i slots j q at in
     let old = marks j m in
@@ -121,7 +121,7 @@ quiet_met a b ps qs i p ms fit apart filled quiet = still_quiet a b ps qs ms (sl
 pub quiet_marked : (w : World) (ps : List (Option Peer)) (i : ℕ) (p : Peer) (ms : List Bool) → At ps i p → IsQuiet w p.connection → AreQuiet w ps ms → AreQuiet w ps (slice_set ms i true)
 quiet_marked w ps i p ms here is quiet = λ j q at m. go j q at (marked_now ms i j m)
   where
-    go : (j : ℕ) (q : Peer) → At ps j q → (j ≡ i) ⊎ IsMarked ms j → IsQuiet w q.connection
+    go : (j : ℕ) (q : Peer) → At ps j q → (j ≡ i) ⊎ IsMarkedAt ms j → IsQuiet w q.connection
     go j q at (inl e) =
         let same : q ≡ p = same_Some q p (sym at ∙ ap (λ (k : ℕ). slice_index_or ps k None) e ∙ here) in
         subst (λ (x : Peer). IsQuiet w x.connection) (sym same) is
@@ -133,11 +133,11 @@ quiet_freed w ps i ms quiet = λ j q at m. quiet j q (freed_at ps i j q at) m
 -- ---- what is due of a slot that is marked
 
 -- it is not to be let go
-pub marked_ended : (w : World) (ps : List (Option Peer)) (i : ℕ) (ms : List Bool) → AreQuiet w ps ms → IsMarked ms i → HasEnded w ps i
+pub marked_ended : (w : World) (ps : List (Option Peer)) (i : ℕ) (ms : List Bool) → AreQuiet w ps ms → IsMarkedAt ms i → HasEnded w ps i
 marked_ended w ps i ms quiet m = λ p at. quiet_not_gone w p.connection (quiet i p at m)
 
 -- no write is due of it
-pub marked_silent : (w : World) (ps : List (Option Peer)) (i : ℕ) (ms : List Bool) → AreQuiet w ps ms → IsMarked ms i → write_of w (slice_index_or ps i None) ≡ []
+pub marked_silent : (w : World) (ps : List (Option Peer)) (i : ℕ) (ms : List Bool) → AreQuiet w ps ms → IsMarkedAt ms i → write_of w (slice_index_or ps i None) ≡ []
 marked_silent w ps i ms quiet m = go (slice_index_or ps i None) (λ p at. (quiet i p at m).silent)
   where
     go : (o : Option Peer) → ((p : Peer) → o ≡ Some p → has_output w p.connection ≡ false) → write_of w o ≡ []

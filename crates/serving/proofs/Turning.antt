@@ -1,17 +1,14 @@
 -- Turns, one after another, and the arrivals that they make whole.
-use Rattle.std.proofs.Common.{◌≡◌, ℕ, List, [], ◌++◌, Bool, true, false, not, refl, sym, ap, subst, ◌∙◌, append_assoc, append-nil, inr}
+use Rattle.std.proofs.Common.{◌≡◌, ℕ, List, ◌++◌, Bool, true, false, not, refl, sym, subst, inr}
 use Rattle.std.specs.Prelude.{MatchBool, ◌&&◌, Result, Ok, Err, OnOk, OnErr, is_err}
 use Rattle.std.proofs.lemmas.Bool.{false≢true}
 use Rattle.model.specs.Run.{Happening}
-use Rattle.model.specs.Arrivals.{World, Turns, Works, none_more, one_more, Same, WorksOff, Answers, Takes_off, Loses, with_heard, is_over, is_paused, is_awake, is_gone, has_output}
+use Rattle.model.specs.Arrivals.{World, Same, WorksOff, Answers, Takes_off, with_heard, is_over, is_paused, is_awake, is_gone, has_output}
 use Rattle.model.specs.declared.events.Arrival.TheVariants as arrival
-use Rattle.runs.specs.Opened.{Hears, TakesAway, IsLost}
+use Rattle.runs.specs.Opened.{Hears, TakesAway}
 use Rattle.serving.specs.Coming.{WorksPartly, FallsShort}
 
 -- ---- tests
-
-pub match_true : (b : Bool) (P Q : Type 0) → b ≡ true → P → MatchBool b P Q
-match_true b P Q e p = subst (λ (x : Bool). MatchBool x P Q) (sym e) p
 
 pub match_false : (b : Bool) (P Q : Type 0) → b ≡ false → Q → MatchBool b P Q
 match_false b P Q e q = subst (λ (x : Bool). MatchBool x P Q) (sym e) q
@@ -36,14 +33,6 @@ of_ok (Ok t) P e p = p
 of_ok (Err x) P e p = absurd (false≢true (sym e))
 
 -- ---- turns
-
-works_then : (c : ℕ) (a b d : World) (hs ks : List Happening) → Works c a hs b → Works c b ks d → Works c a (hs ++ ks) d
-works_then c a b d hs ks none_more w = w
-works_then c a b d hs ks (one_more {mid = m} {first = f} {rest = r} t rest e) w =
-    one_more t (works_then c m b d r ks rest w) (ap (λ (z : List Happening). z ++ ks) e ∙ append_assoc f r ks)
-
-pub works_one : (c : ℕ) (a b d : World) (hs ks : List Happening) → Works c a hs b → Turns b c ks d → Works c a (hs ++ ks) d
-works_one c a b d hs ks w t = works_then c a b d hs ks w (one_more t none_more (sym (append-nil ks)))
 
 -- ---- where a connection stands
 
@@ -84,10 +73,3 @@ pub takes_part : (a m b : World) (c n : ℕ) → has_output a c ≡ true → Tak
 takes_part a m b c n e took w =
     let off : (hs : List Happening) × Takes_off a c n hs m = of_false (is_gone a c) (Same a m) _ (output_stands a c e) took in
     (off.0 ++ w.0, record { first = off.0; rest = w.0; all = refl; mid = m; takes = off.1; works = w.1 })
-
-pub loses_all : (a b : World) (c : ℕ) → IsLost a c b → (hs : List Happening) × Answers a (arrival.Lose c) hs b
-loses_all a b c lost = go (is_gone a c) lost
-  where
-    go : (x : Bool) → MatchBool x (Same a b) ((hs : List Happening) × Loses a c hs b) → (hs : List Happening) × MatchBool x ((hs ≡ []) × Same a b) (Loses a c hs b)
-    go true p = ([], (refl, p))
-    go false p = p

@@ -11,12 +11,12 @@ pub record IsQuiet (w : World) (c : ℕ) : Type 0 where
   pub silent : has_output w c ≡ false
 
 -- this slot is marked
-abbrev pub IsMarked : List Bool → ℕ → Type 0
-IsMarked marks i = slice_index_or marks i false ≡ true
+abbrev pub IsMarkedAt : List Bool → ℕ → Type 0
+IsMarkedAt marks i = slice_index_or marks i false ≡ true
 
 -- each slot that is marked and holds a peer is quiet
 abbrev pub AreQuiet : World → List (Option Peer) → List Bool → Type 0
-AreQuiet w ps marks = (i : ℕ) (p : Peer) → At ps i p → IsMarked marks i → IsQuiet w p.connection
+AreQuiet w ps marks = (i : ℕ) (p : Peer) → At ps i p → IsMarkedAt marks i → IsQuiet w p.connection
 
 -- What a server keeps: each slot has a connection of its own, each that is marked is quiet, and the buffer has its room.
 pub record IsServerKept (w : World) (ps : List (Option Peer)) (marks : List Bool) (buffer : List ℕ) : Type 0 where

@@ -1,7 +1,7 @@
 -- Rounds: one accept, a read of each connection that is awake, into the whole buffer, pumps, a write of each with output, of all of it, and a rest where nothing was done (own).
 use Rattle.std.specs.Prelude.{◌≡◌, ℕ, zero, suc, List, [], ◌∷◌, flat_map, Bool, false, ◌||◌, Option, Some, None, if◌then◌else◌}
 use Rattle.model.specs.Arrivals.{World, is_awake, is_gone, has_output}
-use Rattle.serving.specs.Wire.{Ask, To_accept, To_read, To_write, Rested, after}
+use Rattle.serving.specs.Wire.{Ask, To_accept, To_read, To_write, Rested, told_after}
 use Rattle.serving.specs.Story.{Served, At, Serves, PumpsUp, read_room}
 use Rattle.serving.specs.declared.peers.Peer.{Peer}
 
@@ -53,7 +53,7 @@ pub record GoesRound (old : Served) (acted : Bool) (new : Served) : Type 0 where
 
 -- one rest where nothing was done, and else none
 abbrev pub RestsUnless : Served → Bool → Served → Type 0
-RestsUnless old acted new = new ≡ (if acted then old else record old { told = after old.told (Rested ∷ []) })
+RestsUnless old acted new = new ≡ (if acted then old else record old { told = told_after old.told (Rested ∷ []) })
 
 -- One round.
 pub record IsRound (old new : Served) : Type 0 where

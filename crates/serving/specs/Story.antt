@@ -5,7 +5,7 @@ use Rattle.model.specs.Run.{Happening}
 use Rattle.model.specs.Consuming.{CanDeliver}
 use Rattle.model.specs.Arrivals.{World, Answers, NoneCanDeliver, is_gone, can_open}
 use Rattle.model.specs.declared.events.Arrival.TheVariants as arrival
-use Rattle.serving.specs.Wire.{Call, Accepted, Not_accepted, Accept_failed, Got, Nothing_got, Read_ended, Read_failed, Took, Nothing_taken, Write_failed, Closed, Rested, Ask, asks, Told, after, IsFresh}
+use Rattle.serving.specs.Wire.{Call, Accepted, Not_accepted, Accept_failed, Got, Nothing_got, Read_ended, Read_failed, Took, Nothing_taken, Write_failed, Closed, Rested, Ask, asks, Told, told_after, IsFresh}
 use Rattle.serving.specs.Coming.{Attempt, whole, short, Brings, Attempts}
 use Rattle.serving.specs.declared.peers.Peer.{Peer}
 
@@ -124,8 +124,8 @@ abbrev pub Freed : List (Option Peer) → ℕ → Peer → List (Option Peer) �
 Freed old i p new = At old i p × (new ≡ slice_set old i None)
 
 -- this slot holds this peer, and nothing changes
-abbrev pub Kept : List (Option Peer) → ℕ → Peer → List (Option Peer) → Type 0
-Kept old i p new = At old i p × (new ≡ old)
+abbrev pub KeepsPeer : List (Option Peer) → ℕ → Peer → List (Option Peer) → Type 0
+KeepsPeer old i p new = At old i p × (new ≡ old)
 
 -- these bytes are all of c's output
 abbrev pub IsOutput : World → ℕ → List ℕ → Type 0
@@ -140,13 +140,13 @@ abbrev pub Table : Served → Deed → List (Option Peer) → Type 0
 Table v (Met i p) new = (can_open v.world ≡ true) × (p.connection ≡ v.world.given + 1) × IsFresh p.socket v.told × Filled v.peers i p new
 Table v (Turned_away s o) new = (o.arrival ≡ arrival.Open) × (new ≡ v.peers)
 Table v (Met_no_one failed) new = new ≡ v.peers
-Table v (Heard i p bytes) new = Kept v.peers i p new
+Table v (Heard i p bytes) new = KeepsPeer v.peers i p new
 Table v (Heard_partly i p bytes) new = Freed v.peers i p new
-Table v (Heard_nothing i p) new = Kept v.peers i p new
+Table v (Heard_nothing i p) new = KeepsPeer v.peers i p new
 Table v (Heard_end i p failed) new = Freed v.peers i p new
-Table v (Gave i p offered taken) new = IsOutput v.world p.connection offered × IsFront v.world p.connection taken × Kept v.peers i p new
+Table v (Gave i p offered taken) new = IsOutput v.world p.connection offered × IsFront v.world p.connection taken × KeepsPeer v.peers i p new
 Table v (Gave_partly i p offered taken) new = IsOutput v.world p.connection offered × IsFront v.world p.connection taken × Freed v.peers i p new
-Table v (Gave_nothing i p offered) new = IsOutput v.world p.connection offered × Kept v.peers i p new
+Table v (Gave_nothing i p offered) new = IsOutput v.world p.connection offered × KeepsPeer v.peers i p new
 Table v (Gave_up i p offered) new = IsOutput v.world p.connection offered × Freed v.peers i p new
 Table v Pumped new = ((c : ℕ) × CanDeliver v.world.state.broker c) × (new ≡ v.peers)
 Table v Pumped_nothing new = NoneCanDeliver v.world × (new ≡ v.peers)
@@ -163,7 +163,7 @@ TakesIn old ps s false new now = ((o : Attempt) × (o.arrival ≡ arrival.Open) 
 pub record DoesDeed (old : Served) (d : Deed) (hs : List Happening) (new : Served) : Type 0 where
   pub table : Table old d new.peers
   pub brings : Attempts old.world (attempts d) hs new.world
-  pub told : new.told ≡ after old.told (calls d)
+  pub told : new.told ≡ told_after old.told (calls d)
 
 -- These deeds, one after another.
 abbrev pub Story : Served → List Deed → List Happening → Served → Type 0

@@ -7,7 +7,7 @@ use Rattle.model.specs.Arrivals.{World, Shown, shown, new_world, Plays}
 use Rattle.model.specs.Headline.{KeepsPromises}
 use Rattle.model.specs.declared.events.Arrival.{Arrival}
 use Rattle.runs.specs.InOrder.{GivesInOrder}
-use Rattle.serving.specs.Wire.{Call, Told, after}
+use Rattle.serving.specs.Wire.{Call, Told, told_after}
 use Rattle.serving.specs.Coming.{Attempt, Attempts, IsWhole}
 use Rattle.serving.specs.Story.{Served, served, Deed, calls, attempts, Story}
 use Rattle.serving.specs.Joined.{AreJoined, AreBeginnings}
@@ -35,7 +35,7 @@ pub record IsServed (f : Config) (told : Told) (new : Served) : Type 0 where
   pub happenings : List Happening
   pub story : Story (served (new_world f) [] told) deeds happenings new
   -- the wire was asked and answered this, and no more
-  pub asked : new.told ≡ after told (flat_map calls deeds)
+  pub asked : new.told ≡ told_after told (flat_map calls deeds)
   -- this arrived, each arrival whole or as far as memory went
   pub arrives : Attempts (new_world f) (arrived deeds) happenings new.world
   -- where memory was never refused, the arrivals are played exactly

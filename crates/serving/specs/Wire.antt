@@ -60,8 +60,8 @@ and_these None more = None
 and_these (Some calls) more = Some (calls ++ more)
 
 -- what a wire tells after these calls too
-abbrev pub after : Told → List Call → Told
-after told calls = record { calls = and_these told.calls calls; failures = told.failures + count_by is_failed calls }
+abbrev pub told_after : Told → List Call → Told
+told_after told calls = record { calls = and_these told.calls calls; failures = told.failures + count_by is_failed calls }
 
 -- no socket of this name came before, as far as a wire tells
 abbrev pub IsFresh : ℕ → Told → Type 0

@@ -5,10 +5,10 @@ ghost use Rattle.model.specs.Run.{Happening};
 ghost use Rattle.model.specs.Arrivals.{Answers, Same, has_output, is_awake};
 ghost use Rattle.model.specs.declared.events.Arrival.TheVariants as arrival;
 ghost use Rattle.slab.specs.Slab.{HasRoomFor};
-ghost use Rattle.serving.specs.Wire.{Closed, To_accept, To_read, To_write, Told, after};
+ghost use Rattle.serving.specs.Wire.{Closed, To_accept, To_read, To_write, Told, told_after};
 ghost use Rattle.serving.specs.Story.{At, PumpsOnce, PumpsUp, Serves, TakesIn, read_room, served};
 ghost use Rattle.serving.specs.Fit.{ApartFrom, IsFit};
-ghost use Rattle.serving.specs.Quiet.{AreQuiet, IsMarked};
+ghost use Rattle.serving.specs.Quiet.{AreQuiet, IsMarkedAt};
 ghost use Rattle.serving.specs.Rounds.{GoesRound, HasEnded, IsRound, most_pumps, read_of, reads_due, write_of, writes_due};
 
 use crate::peers::Peer;
@@ -88,7 +88,7 @@ fn let_down<M: Machine, W: Wire>(
     requires { At peers.old.slots slot peer }
     ensures lost { (hs : List Happening) × Answers (M.world machine.old) (arrival.Lose peer.connection) hs (M.world machine.new) }
     ensures freed { peers.new.slots ≡ slice_set peers.old.slots slot None }
-    ensures closed { W.told wire.new ≡ after (W.told wire.old) (Closed peer.socket ∷ []) }
+    ensures closed { W.told wire.new ≡ told_after (W.told wire.old) (Closed peer.socket ∷ []) }
 {
     machine.lose(peer.connection);
     peers.remove(slot);
@@ -164,7 +164,7 @@ fn write_one<M: Machine, W: Wire>(
 
 /// Whether the connection of a slot is awake, which is known where the slot is marked.
 fn is_slot_awake<M: Machine>(machine: &M, quiet: &Quiet, slot: usize, c: u64) -> bool
-    requires { IsMarked quiet.now slot → is_awake (M.world machine.now) c ≡ true }
+    requires { IsMarkedAt quiet.now slot → is_awake (M.world machine.now) c ≡ true }
     ensures { result ≡ is_awake (M.world machine.now) c }
 {
     quiet.contains(slot) || is_awake(machine, c)

@@ -30,7 +30,7 @@ pub enum Write {
 /// Sockets that don't block: each call answers at once, but for `rest`.
 pub trait Wire {
     ghost use Rattle.std.specs.Prelude.{◌≡◌, ◌≤◌, [], ◌∷◌, length, ℕ};
-    ghost use Rattle.serving.specs.Wire.{Closed, IsFresh, Rested, Told, after};
+    ghost use Rattle.serving.specs.Wire.{Closed, IsFresh, Rested, Told, told_after};
     ghost use Rattle.serving.specs.Answered.{accept_call, read_call, write_call};
     ghost use Rattle.serving.specs.declared.wire.Accept.TheVariants as accept;
     ghost use Rattle.serving.specs.declared.wire.Read.TheVariants as read;
@@ -41,24 +41,24 @@ pub trait Wire {
 
     /// A socket that came, under a name that no socket had before.
     fn accept(&mut self) -> Accept
-        ensures told { told self.new ≡ after (told self.old) (accept_call result ∷ []) }
+        ensures told { told self.new ≡ told_after (told self.old) (accept_call result ∷ []) }
         ensures fresh { (s : ℕ) → result ≡ accept.Socket s → IsFresh s (told self.old) };
 
     /// Bytes that came at a socket, as many as the buffer has room for at most.
     fn read(&mut self, socket: u64, buffer: &mut [u8]) -> Read
-        ensures told { told self.new ≡ after (told self.old) (read_call socket (length buffer.old) result buffer.new ∷ []) }
+        ensures told { told self.new ≡ told_after (told self.old) (read_call socket (length buffer.old) result buffer.new ∷ []) }
         ensures within { (n : ℕ) → result ≡ read.Got n → n ≤ length buffer.new };
 
     /// Hands bytes to a socket, which takes some of them.
     fn write(&mut self, socket: u64, bytes: &[u8]) -> Write
-        ensures told { told self.new ≡ after (told self.old) (write_call socket result bytes.now ∷ []) }
+        ensures told { told self.new ≡ told_after (told self.old) (write_call socket result bytes.now ∷ []) }
         ensures within { (n : ℕ) → result ≡ write.Took n → n ≤ length bytes.now };
 
     /// Ends a socket.
     fn close(&mut self, socket: u64)
-        ensures { told self.new ≡ after (told self.old) (Closed socket ∷ []) };
+        ensures { told self.new ≡ told_after (told self.old) (Closed socket ∷ []) };
 
     /// Waits a little, or until there is something to do.
     fn rest(&mut self)
-        ensures { told self.new ≡ after (told self.old) (Rested ∷ []) };
+        ensures { told self.new ≡ told_after (told self.old) (Rested ∷ []) };
 }

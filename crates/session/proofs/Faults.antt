@@ -2,7 +2,7 @@
 use Rattle.std.proofs.Common.{◌≡◌, ◌≢◌, ℕ, [], ◌∷◌, refl}
 use Rattle.model.specs.Grammar.{ids}
 use Rattle.model.specs.Step.{connection_close}
-use Rattle.model.specs.Phases.{Session, Move, faulted, no_session}
+use Rattle.model.specs.Phases.{Session, faulted, no_session}
 use Rattle.model.specs.declared.events.Phase.{Phase}
 use Rattle.model.specs.declared.events.Phase.TheVariants as phase
 

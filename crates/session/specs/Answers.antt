@@ -6,11 +6,11 @@ use Rattle.model.specs.Opening.{answers_with, at_start, at_tune, at_open}
 use Rattle.model.specs.declared.events.Phase.{Phase}
 use Rattle.model.specs.declared.events.Phase.TheVariants as phase
 use Rattle.model.specs.declared.methods.Method.{Method}
-use Rattle.session.specs.declared.answers.Answer.{Answer}
-use Rattle.session.specs.declared.answers.Answer.TheVariants.{Nothing, Tunes, Says}
+use Rattle.session.specs.declared.answers.OpeningAnswer.{OpeningAnswer}
+use Rattle.session.specs.declared.answers.OpeningAnswer.TheVariants.{Nothing, Tunes, Says}
 
 -- the move that an answer stands for
-abbrev pub move_of : ℕ → Session → Answer → Move
+abbrev pub move_of : ℕ → Session → OpeningAnswer → Move
 move_of c s Nothing = stays_in s
 move_of c s (Tunes channel_max frame_max) = record { sends = []; next = record { phase = phase.Open; channel_max = channel_max; frame_max = frame_max } }
 move_of c s (Says m p) = answers_with c s m p
@@ -21,7 +21,7 @@ pub record Fits (m : Method) : Type 0 where
   pub size : length (method_bytes m) ≤ 4088
 
 -- limits in the server's own range; a method that can be sent
-abbrev pub IsAnswer : Answer → Type 0
+abbrev pub IsAnswer : OpeningAnswer → Type 0
 IsAnswer Nothing = ⊤
 IsAnswer (Tunes channel_max frame_max) = (4096 ≤ frame_max) × (frame_max ≤ 131072)
 IsAnswer (Says m p) = Fits m

@@ -1,5 +1,5 @@
 -- What every session keeps.
-use Rattle.std.specs.Prelude.{◌≡◌, ◌≤◌, ℕ}
+use Rattle.std.specs.Prelude.{◌≡◌, ◌≤◌}
 use Rattle.model.specs.Phases.{Session, no_session}
 use Rattle.model.specs.declared.events.Phase.TheVariants as phase
 

@@ -1,7 +1,7 @@
 -- Worked examples of an opening, that the checker computes: a definition that says something else shows at once.
 use Rattle.std.specs.Prelude.{◌≡◌, ℕ, List, [], ◌∷◌, codes, length, true, false, take, drop}
 use Rattle.model.specs.Tables.{pairs_bytes}
-use Rattle.model.specs.Grammar.{method_bytes, ids, ids_of}
+use Rattle.model.specs.Grammar.{method_bytes, ids}
 use Rattle.model.specs.Step.{connection_close}
 use Rattle.model.specs.Phases.{no_session}
 use Rattle.model.specs.Spelling.{spelling}

@@ -12,7 +12,7 @@ use model::{Method, Phase, Tuning, User};
 
 /// What is sent, and where the connection stands then.
 #[derive(Drop)]
-pub(crate) enum Answer {
+pub(crate) enum OpeningAnswer {
     /// Nothing is sent, and nothing changes.
     Nothing,
     /// Nothing is sent: connection.open is awaited, under these limits.
@@ -22,11 +22,11 @@ pub(crate) enum Answer {
 }
 
 /// A close with this reply code, for the method that caused it.
-fn refuse(code: u16, cause: &Method) -> Answer
+fn refuse(code: u16, cause: &Method) -> OpeningAnswer
     ensures is { (c : ℕ) (s : Session) → move_of c s result ≡ said.closes_with c s code cause.now }
     ensures fits { IsAnswer result }
 {
-    Answer::Says {
+    OpeningAnswer::Says {
         method: close(code, cause.ids()),
         phase: Phase::Closing,
     }
@@ -41,12 +41,12 @@ fn is_taken(tuning: &Tuning) -> bool
 }
 
 /// The limits that hold after this tune-ok, where it is taken.
-fn tune_by(tuning: &Tuning) -> Answer
+fn tune_by(tuning: &Tuning) -> OpeningAnswer
     requires { said.is_taken tuning.now ≡ true }
     ensures is { (c : ℕ) (s : Session) → move_of c s result ≡ record { sends = []; next = said.tuned tuning.now } }
     ensures fits { IsAnswer result }
 {
-    Answer::Tunes {
+    OpeningAnswer::Tunes {
         channel_max: if tuning.channel_max == 0 {
             255
         } else {
@@ -61,12 +61,12 @@ fn tune_by(tuning: &Tuning) -> Answer
 }
 
 /// What is said to a method on channel 0 in the phase that awaits start-ok.
-fn at_start(method: &Method, is_user: bool) -> Answer
+fn at_start(method: &Method, is_user: bool) -> OpeningAnswer
     ensures is { (c : ℕ) (s : Session) → move_of c s result ≡ said.at_start c is_user s method.now }
     ensures fits { IsAnswer result }
 {
     match method {
-        Method::ConnectionStartOk(_) if is_user => Answer::Says {
+        Method::ConnectionStartOk(_) if is_user => OpeningAnswer::Says {
             method: tune(),
             phase: Phase::Tune,
         },
@@ -76,7 +76,7 @@ fn at_start(method: &Method, is_user: bool) -> Answer
 }
 
 /// What is said to a method on channel 0 in the phase that awaits tune-ok.
-fn at_tune(method: &Method) -> Answer
+fn at_tune(method: &Method) -> OpeningAnswer
     ensures is { (c : ℕ) (s : Session) → move_of c s result ≡ said.at_tune c s method.now }
     ensures fits { IsAnswer result }
 {
@@ -88,13 +88,13 @@ fn at_tune(method: &Method) -> Answer
 }
 
 /// What is said to a method on channel 0 in the phase that awaits open.
-fn at_open(method: &Method) -> Answer
+fn at_open(method: &Method) -> OpeningAnswer
     ensures is { (c : ℕ) (s : Session) → move_of c s result ≡ said.at_open c s method.now }
     ensures fits { IsAnswer result }
 {
     match method {
         Method::ConnectionOpen(open) if open.virtual_host.as_bytes() == b"/".as_slice() =>
-            Answer::Says {
+            OpeningAnswer::Says {
                 method: open_ok(),
                 phase: Phase::Running,
             },
@@ -104,7 +104,7 @@ fn at_open(method: &Method) -> Answer
 }
 
 /// What is said on channel 0 where this is not what ends the connection: the row of the phase.
-fn awaited(phase: Phase, method: &Method, is_user: bool) -> Answer
+fn awaited(phase: Phase, method: &Method, is_user: bool) -> OpeningAnswer
     ensures is { (c : ℕ) (s : Session) → move_of c s result ≡ awaited_move c is_user s phase method.now }
     ensures fits { IsAnswer result }
 {
@@ -112,7 +112,7 @@ fn awaited(phase: Phase, method: &Method, is_user: bool) -> Answer
         Phase::Start => at_start(method, is_user),
         Phase::Tune => at_tune(method),
         Phase::Open => at_open(method),
-        _ => Answer::Nothing,
+        _ => OpeningAnswer::Nothing,
     }
 }
 
@@ -131,18 +131,18 @@ pub(crate) fn logs_in(users: &[User], phase: Phase, method: &Method) -> bool
 }
 
 /// What is said to a method, in the phases that await start-ok, tune-ok and open.
-pub(crate) fn answer_to(phase: Phase, channel: u16, method: &Method, is_user: bool) -> Answer
+pub(crate) fn answer_to(phase: Phase, channel: u16, method: &Method, is_user: bool) -> OpeningAnswer
     ensures is { (c : ℕ) (s : Session) → move_of c s result ≡ said.opening_move c is_user s phase channel method.now }
     ensures fits { IsAnswer result }
 {
     if !matches!(phase, Phase::Start | Phase::Tune | Phase::Open) {
-        return Answer::Nothing;
+        return OpeningAnswer::Nothing;
     }
     if channel != 0 {
         return refuse(503, method);
     }
     match method {
-        Method::ConnectionClose(_) => Answer::Says {
+        Method::ConnectionClose(_) => OpeningAnswer::Says {
             method: Method::ConnectionCloseOk,
             phase: Phase::Over,
         },

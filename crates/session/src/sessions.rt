@@ -5,7 +5,7 @@ ghost use Rattle.model.specs.Phases.{after_sends};
 ghost use Rattle.model.specs.Phases as said;
 ghost use Rattle.model.specs.declared.events.Send as sent;
 
-use crate::answers::{Answer, answer_to, logs_in};
+use crate::answers::{OpeningAnswer, answer_to, logs_in};
 use crate::sends::{close, greeting, nothing, one, start};
 use model::{Ids, Method, Phase, Publish, Send, Text, User};
 use std::alloc::{AllocError, Global};
@@ -67,7 +67,7 @@ fn phase_after(sends: &[Send]) -> Phase
 impl Session {
     ghost use Rattle.std.specs.Prelude.{◌≡◌, ◌≤◌, [], ◌∷◌, true, false, IfOk, IsOk, OnErr, OnOk, IsTrue};
     ghost use Rattle.model.specs.Phases.{Move, running_session, no_session, while_closing, faulted, after_sends, to_phase, is_running};
-    ghost use Rattle.model.specs.Opening.{new_session, first_move, Opens, IsAnswered};
+    ghost use Rattle.model.specs.Opening.{new_session, first_move, MovesInOpening, IsAnswered};
     ghost use Rattle.model.specs.Arrivals.{is_ended};
     ghost use Rattle.model.specs.Step.{empty_publish};
     ghost use Rattle.model.specs.declared.events.Phase.TheVariants as phase;
@@ -234,14 +234,14 @@ impl Session {
         users: &[User],
     ) -> Result<Vec<Send>, AllocError>
         ensures own { IfOk result (λ sends. AreOwn connection sends.items) }
-        ensures quiet { (move : Move) → Opens users.now connection self.old channel method.now move → move.sends ≡ [] → IsOk result }
-        ensures opens { IfOk result (λ sends. Opens users.now connection self.old channel method.now (record { sends = sends.items; next = self.new })) }
+        ensures quiet { (move : Move) → MovesInOpening users.now connection self.old channel method.now move → move.sends ≡ [] → IsOk result }
+        ensures opens { IfOk result (λ sends. MovesInOpening users.now connection self.old channel method.now (record { sends = sends.items; next = self.new })) }
         ensures err { OnErr result (self.new ≡ self.old) }
     {
         let is_user = logs_in(users, self.phase, method);
         match answer_to(self.phase, channel, method, is_user) {
-            Answer::Nothing => Ok(nothing(alloc)),
-            Answer::Tunes {
+            OpeningAnswer::Nothing => Ok(nothing(alloc)),
+            OpeningAnswer::Tunes {
                 channel_max,
                 frame_max,
             } => {
@@ -250,7 +250,7 @@ impl Session {
                 self.frame_max = frame_max;
                 Ok(nothing(alloc))
             }
-            Answer::Says {
+            OpeningAnswer::Says {
                 method: said,
                 phase,
             } => {

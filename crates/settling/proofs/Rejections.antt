@@ -10,14 +10,14 @@ use Rattle.model.specs.declared.notes.Note.{Note}
 use Rattle.channel.specs.Outstanding.{tag_of}
 use Rattle.channel.specs.Open.{outstanding_in}
 use Rattle.channel.specs.declared.pending.Outstanding.{Outstanding}
-use Rattle.depot.specs.Store.{Store, queue_of}
+use Rattle.depot.specs.Store.{Store, entries_named}
 use Rattle.depot.specs.Rejecting as depot
 use Rattle.depot.specs.Rejecting.{outstanding_of, AreOrdered, Rejecting}
 use Rattle.depot.specs.declared.given.Given.{Given}
-use Rattle.links.specs.Placed.{AreWithin}
+use Rattle.links.specs.Placed.{OutstandingAreWithin}
 use Rattle.settling.specs.Settled.{given_of, IsRejection}
 
-pub all_within : (t : Topology) (gone : List Outstanding) → AreWithin t gone → depot.AreWithin t (map given_of gone)
+pub all_within : (t : Topology) (gone : List Outstanding) → OutstandingAreWithin t gone → depot.GoneAreWithin t (map given_of gone)
 all_within t [] within k d lt = absurd (omega (arith, lt))
 all_within t (o ∷ os) within zero d lt = within zero o (omega arith)
 all_within t (o ∷ os) within (suc k) d lt = all_within t os (λ j e l. within (suc j) e (omega (arith, l))) k d (omega (arith, lt))
@@ -40,8 +40,8 @@ all_named t (o ∷ os) = ap (λ (xs : List seen.Outstanding). outstanding_in (qu
 pub is_rejection : (old new : Store) (c h : ℕ) (gone : List Outstanding) (given : List Given) (none notes : List Note) → given ≡ map given_of gone → none ≡ [] → Rejecting old c h given none notes new → IsRejection old c h gone notes new
 is_rejection old new c h gone given none notes is empty r = record {
   rejected =
-      subst (λ (os : List seen.Outstanding). AreRejected old.topology c h os (queue_of old) notes (queue_of new)) (ap (map (outstanding_of old.topology)) is ∙ all_named old.topology gone)
-      (subst (λ (ns : List Note). AreRejected old.topology c h (map (outstanding_of old.topology) given) (queue_of old) ns (queue_of new)) (sym (r.appended ∙ ap (λ (ns : List Note). ns ++ r.noted) empty)) r.rejected);
+      subst (λ (os : List seen.Outstanding). AreRejected old.topology c h os (entries_named old) notes (entries_named new)) (ap (map (outstanding_of old.topology)) is ∙ all_named old.topology gone)
+      (subst (λ (ns : List Note). AreRejected old.topology c h (map (outstanding_of old.topology) given) (entries_named old) ns (entries_named new)) (sym (r.appended ∙ ap (λ (ns : List Note). ns ++ r.noted) empty)) r.rejected);
   counted = r.counted;
   topology = r.topology;
 }

@@ -1,14 +1,13 @@
 -- What is settled on a channel, by the places of its queues, is settled in the model's queues.
-use Rattle.std.proofs.Common.{◌≡◌, ℕ, zero, suc, ◌+◌, ◌<◌, ◌≤◌, List, [], ◌∷◌, ◌++◌, Bool, true, false, cond, refl, sym, ap, subst, ◌∙◌, map, filter, length, get_or, set, drop, not, arith, Option, Some, None, append_assoc}
+use Rattle.std.proofs.Common.{◌≡◌, ℕ, zero, suc, ◌+◌, ◌<◌, ◌≤◌, List, [], ◌∷◌, ◌++◌, Bool, true, false, cond, refl, sym, ap, subst, ◌∙◌, map, filter, length, get_or, set, not, arith, Option, Some, None}
 use Rattle.std.specs.Prelude.{count_by, find, option_map, is_some, ◌==◌, ◌&&◌, ◌||◌, if◌then◌else◌}
 use Rattle.std.specs.List.{list_any}
 use Rattle.std.specs.Str.{bytes_eq}
-use Rattle.std.proofs.lemmas.Bool.{eqb-true, ne_eqb, false≢true}
+use Rattle.std.proofs.lemmas.Bool.{false≢true}
 use Rattle.std.proofs.lemmas.Option.{same_Some}
-use Rattle.std.proofs.lemmas.List.{at_drop_more, length-set}
+use Rattle.std.proofs.lemmas.List.{length-set}
 use Rattle.std.proofs.lemmas.List.Elements.{All-filter}
 use Rattle.std.proofs.lemmas.List.Kept.{AllPairs-filter}
-use Rattle.std.proofs.lemmas.List.Sums.{sum_by-cons}
 use Rattle.model.specs.Words.{Text}
 use Rattle.model.specs.Topology.{Topology, queue_names}
 use Rattle.model.specs.Broker as seen
@@ -19,48 +18,18 @@ use Rattle.model.specs.Deliveries as given
 use Rattle.model.specs.Deliveries.{AreLeft, AreReturned, left_note}
 use Rattle.model.specs.declared.messages.Entry.{Entry}
 use Rattle.model.specs.declared.messages.Holder.{Holder}
-use Rattle.model.specs.declared.messages.Mark.{Mark}
-use Rattle.model.specs.declared.messages.Mark.TheVariants.{Ready, Held}
 use Rattle.model.specs.declared.notes.Cause.{Cause}
 use Rattle.model.specs.declared.notes.Note.{Note}
 use Rattle.exchange_graph.specs.Marks.{queue_name}
 use Rattle.channel.specs.Outstanding.{tag_of}
 use Rattle.channel.specs.Open.{outstanding_in}
 use Rattle.channel.specs.declared.pending.Outstanding.{Outstanding}
-use Rattle.depot.specs.Store.{Store, queue_of, queue_at, with_entries_at, IsWhole, IsNamed}
+use Rattle.depot.specs.Store.{Store, entries_named, queue_at, with_entries_at, IsStoreWhole, IsQueueNamed}
 use Rattle.depot.proofs.Firsts.{one_passes, count-filter, find-filter, held_apart}
-use Rattle.links.specs.Placed.{AreWithin}
+use Rattle.links.specs.Placed.{OutstandingAreWithin}
 use Rattle.settling.specs.Settled.{holder_of_outstanding, leaving_note, leaving_notes, without_one, without_all, returned_one, returned_all}
 
 -- ---- loops over what is settled
-
-pub noted_next : (cause : Cause) (c h : ℕ) (s : Store) (gone : List Outstanding) (i : ℕ) (o : Outstanding) (before new all : List Note) → i < length gone → o ≡ get_or gone i o
-    → new ≡ before ++ leaving_note cause c h s o → before ++ leaving_notes cause c h s (drop i gone) ≡ all → new ++ leaving_notes cause c h s (drop (i + 1) gone) ≡ all
-noted_next cause c h s gone i o before new all lt is pushed done =
-    let rest = leaving_notes cause c h s (drop (i + 1) gone) in
-    ap (λ (ns : List Note). ns ++ rest) pushed
-    ∙ append_assoc before (leaving_note cause c h s o) rest
-    ∙ ap (λ (x : Outstanding). before ++ (leaving_note cause c h s x ++ rest)) is
-    ∙ ap (λ (ns : List Note). before ++ ns) (sym (at_drop_more (leaving_notes cause c h s) gone i o lt))
-    ∙ done
-
-pub removed_next : (c h : ℕ) (gone : List Outstanding) (i : ℕ) (o : Outstanding) (s new all : Store) → i < length gone → o ≡ get_or gone i o
-    → new ≡ without_one c h s o → without_all c h s (drop i gone) ≡ all → without_all c h new (drop (i + 1) gone) ≡ all
-removed_next c h gone i o s new all lt is made done =
-    let rest = drop (i + 1) gone in
-    ap (λ (z : Store). without_all c h z rest) made
-    ∙ ap (λ (x : Outstanding). without_all c h (without_one c h s x) rest) is
-    ∙ sym (at_drop_more (without_all c h s) gone i o lt)
-    ∙ done
-
-pub returned_next : (c h : ℕ) (gone : List Outstanding) (i : ℕ) (o : Outstanding) (s new all : Store) → i < length gone → o ≡ get_or gone i o
-    → new ≡ returned_one c h s o → returned_all c h s (drop i gone) ≡ all → returned_all c h new (drop (i + 1) gone) ≡ all
-returned_next c h gone i o s new all lt is made done =
-    let rest = drop (i + 1) gone in
-    ap (λ (z : Store). returned_all c h z rest) made
-    ∙ ap (λ (x : Outstanding). returned_all c h (returned_one c h s x) rest) is
-    ∙ sym (at_drop_more (returned_all c h s) gone i o lt)
-    ∙ done
 
 -- ---- what a tag settles, where queues have names
 
@@ -109,16 +78,16 @@ gone_is tag multiple os gone e = go (is_refused tag_of tag multiple os) e
     go true f = absurd (false≢true (ap is_some f))
     go false f = sym (same_Some _ gone f)
 
-pub gone_within : (t : Topology) (tag : ℕ) (multiple : Bool) (os gone : List Outstanding) → settled tag_of tag multiple os ≡ Some gone → AreWithin t os → AreWithin t gone
-gone_within t tag multiple os gone e within = subst (AreWithin t) (sym (gone_is tag multiple os gone e)) (All-filter (takes tag_of tag multiple) (λ (o : Outstanding). o.queue < length t.queues) os within)
+pub gone_within : (t : Topology) (tag : ℕ) (multiple : Bool) (os gone : List Outstanding) → settled tag_of tag multiple os ≡ Some gone → OutstandingAreWithin t os → OutstandingAreWithin t gone
+gone_within t tag multiple os gone e within = subst (OutstandingAreWithin t) (sym (gone_is tag multiple os gone e)) (All-filter (takes tag_of tag multiple) (λ (o : Outstanding). o.queue < length t.queues) os within)
 
 pub gone_rises : (tag : ℕ) (multiple : Bool) (os gone : List Outstanding) → settled tag_of tag multiple os ≡ Some gone → Rises tag_of os → Rises tag_of gone
 gone_rises tag multiple os gone e rises = subst (Rises tag_of) (sym (gone_is tag multiple os gone e)) (AllPairs-filter (λ (a b : Outstanding). a.tag < b.tag) (takes tag_of tag multiple) os rises)
 
-pub kept_within : (t : Topology) (tag : ℕ) (multiple : Bool) (os : List Outstanding) → AreWithin t os → AreWithin t (kept tag_of tag multiple os)
+pub kept_within : (t : Topology) (tag : ℕ) (multiple : Bool) (os : List Outstanding) → OutstandingAreWithin t os → OutstandingAreWithin t (kept tag_of tag multiple os)
 kept_within t tag multiple os within = go (is_refused tag_of tag multiple os)
   where
-    go : (v : Bool) → AreWithin t (if v then os else filter (λ o. not (takes tag_of tag multiple o)) os)
+    go : (v : Bool) → OutstandingAreWithin t (if v then os else filter (λ o. not (takes tag_of tag multiple o)) os)
     go true = within
     go false = All-filter (λ o. not (takes tag_of tag multiple o)) (λ (o : Outstanding). o.queue < length t.queues) os within
 
@@ -135,16 +104,16 @@ find-set p (xs ∷ xss) (suc i) (suc k) es e = find-set p xss i k es e
 
 -- what stands at a place of the file stands under its name
 abbrev pub AreNamed : Type 0
-AreNamed = (s : Store) (place : ℕ) → IsWhole s → place < length s.topology.queues → IsNamed s place
+AreNamed = (s : Store) (place : ℕ) → IsStoreWhole s → place < length s.topology.queues → IsQueueNamed s place
 
 -- at most one message of each queue is held under one tag
 abbrev pub IsApart : Store → Type 0
-IsApart s = (q : Text) (holder : Holder) → count_by (is_held_as holder) (queue_of s q) ≤ 1
+IsApart s = (q : Text) (holder : Holder) → count_by (is_held_as holder) (entries_named s q) ≤ 1
 
-whole_with : (s : Store) (place : ℕ) (es : List Entry) → IsWhole s → IsWhole (with_entries_at s place es)
+whole_with : (s : Store) (place : ℕ) (es : List Entry) → IsStoreWhole s → IsStoreWhole (with_entries_at s place es)
 whole_with s place es whole = record { formed = whole.formed; len = length-set s.queues place es ∙ whole.len }
 
-apart_with : (s : Store) (place : ℕ) (q : Entry → Bool) → IsNamed s place → IsApart s → IsApart (with_entries_at s place (filter q (queue_at s place)))
+apart_with : (s : Store) (place : ℕ) (q : Entry → Bool) → IsQueueNamed s place → IsApart s → IsApart (with_entries_at s place (filter q (queue_at s place)))
 apart_with s place q named apart name holder = go (bytes_eq (queue_name s.topology place) name) (named.changed (filter q (queue_at s place)) name)
   where
     p : Entry → Bool
@@ -153,7 +122,7 @@ apart_with s place q named apart name holder = go (bytes_eq (queue_name s.topolo
     new : Store
     new = with_entries_at s place (filter q (queue_at s place))
 
-    go : (v : Bool) → queue_of new name ≡ (if v then filter q (queue_at s place) else queue_of s name) → count_by p (queue_of new name) ≤ 1
+    go : (v : Bool) → entries_named new name ≡ (if v then filter q (queue_at s place) else entries_named s name) → count_by p (entries_named new name) ≤ 1
     go true e =
         let same = ap (count_by p) e in
         let fewer = count-filter p q (queue_at s place) in
@@ -174,8 +143,8 @@ notes_without cause c h s o (x ∷ xs) later =
     ∙ ap (λ (ns : List Note). leaving_note cause c h (without_one c h s o) x ++ ns) (notes_without cause c h s o xs (λ k d lt. later (suc k) d (omega (arith, lt))))
 
 -- what is taken out of queues by their places leaves the queues of their names
-pub left_by_names : AreNamed → (cause : Cause) (c h : ℕ) (os : List Outstanding) (s : Store) → IsWhole s → IsApart s → Rises tag_of os → AreWithin s.topology os
-    → AreLeft cause c h (map (outstanding_in (queue_names s.topology.queues)) os) (queue_of s) (leaving_notes cause c h s os) (queue_of (without_all c h s os))
+pub left_by_names : AreNamed → (cause : Cause) (c h : ℕ) (os : List Outstanding) (s : Store) → IsStoreWhole s → IsApart s → Rises tag_of os → OutstandingAreWithin s.topology os
+    → AreLeft cause c h (map (outstanding_in (queue_names s.topology.queues)) os) (entries_named s) (leaving_notes cause c h s os) (entries_named (without_all c h s os))
 left_by_names are cause c h [] s whole apart rises within = (refl, λ q. refl)
 left_by_names are cause c h (o ∷ os) s whole apart rises within =
     let lt : o.queue < length s.topology.queues = within zero o (omega arith) in
@@ -185,19 +154,19 @@ left_by_names are cause c h (o ∷ os) s whole apart rises within =
     let mid = without_one c h s o in
     let gone = filter (λ (e : Entry). not (p e)) (queue_at s o.queue) in
     let one : count_by p (queue_at s o.queue) ≤ 1 = let here = ap (count_by p) named.entries_are in let n = apart name (holder_of_outstanding c h o) in omega (arith, here, n) in
-    let first : gone ≡ without_first p (queue_of s name) = one_passes p (queue_at s o.queue) one ∙ ap (without_first p) (sym named.entries_are) in
+    let first : gone ≡ without_first p (entries_named s name) = one_passes p (queue_at s o.queue) one ∙ ap (without_first p) (sym named.entries_are) in
     let rest = leaving_notes cause c h mid os in (
-      queue_of mid,
+      entries_named mid,
       rest,
-      (λ q. named.changed gone q ∙ ap (λ (es : List Entry). given.with_queue (queue_of s) name es q) first),
+      (λ q. named.changed gone q ∙ ap (λ (es : List Entry). given.with_queue (entries_named s) name es q) first),
       ap (λ (es : List Entry). left_note cause name (find p es) ++ leaving_notes cause c h s os) (sym named.entries_are)
-          ∙ ap (λ (ns : List Note). left_note cause name (find p (queue_of s name)) ++ ns) (notes_without cause c h s o os (λ k d l. rises zero (suc k) d (omega arith) (omega (arith, l)))),
+          ∙ ap (λ (ns : List Note). left_note cause name (find p (entries_named s name)) ++ ns) (notes_without cause c h s o os (λ k d l. rises zero (suc k) d (omega arith) (omega (arith, l)))),
       left_by_names are cause c h os mid (whole_with s o.queue gone whole) (apart_with s o.queue (λ (e : Entry). not (p e)) named apart) (λ i j d l m. rises (suc i) (suc j) d (omega (arith, l)) (omega (arith, m))) (λ k d l. within (suc k) d (omega (arith, l))),
     )
 
 -- what is made ready by the places of the queues is so by their names
-pub returned_by_names : AreNamed → (c h : ℕ) (os : List Outstanding) (s : Store) → IsWhole s → AreWithin s.topology os
-    → AreReturned c h (map (outstanding_in (queue_names s.topology.queues)) os) (queue_of s) (queue_of (returned_all c h s os))
+pub returned_by_names : AreNamed → (c h : ℕ) (os : List Outstanding) (s : Store) → IsStoreWhole s → OutstandingAreWithin s.topology os
+    → AreReturned c h (map (outstanding_in (queue_names s.topology.queues)) os) (entries_named s) (entries_named (returned_all c h s os))
 returned_by_names are c h [] s whole within = λ q. refl
 returned_by_names are c h (o ∷ os) s whole within =
     let lt : o.queue < length s.topology.queues = within zero o (omega arith) in
@@ -205,7 +174,7 @@ returned_by_names are c h (o ∷ os) s whole within =
     let name = queue_name s.topology o.queue in
     let free = map (freed (is_under (holder_of_outstanding c h o))) in
     let mid = returned_one c h s o in (
-      queue_of mid,
-      (λ q. named.changed (free (queue_at s o.queue)) q ∙ ap (λ (es : List Entry). given.with_queue (queue_of s) name (free es) q) (sym named.entries_are)),
+      entries_named mid,
+      (λ q. named.changed (free (queue_at s o.queue)) q ∙ ap (λ (es : List Entry). given.with_queue (entries_named s) name (free es) q) (sym named.entries_are)),
       returned_by_names are c h os mid (whole_with s o.queue (free (queue_at s o.queue)) whole) (λ k d l. within (suc k) d (omega (arith, l))),
     )

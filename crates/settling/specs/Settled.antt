@@ -10,7 +10,7 @@ use Rattle.model.specs.declared.notes.Note.{Note}
 use Rattle.exchange_graph.specs.Marks.{queue_name}
 use Rattle.channel.specs.Open.{outstanding_in}
 use Rattle.channel.specs.declared.pending.Outstanding.{Outstanding}
-use Rattle.depot.specs.Store.{Store, queue_of, queue_at, with_entries_at}
+use Rattle.depot.specs.Store.{Store, entries_named, queue_at, with_entries_at}
 use Rattle.depot.specs.declared.given.Given.{Given}
 
 -- who holds what is outstanding there
@@ -49,6 +49,6 @@ given_of o = record { place = o.queue; arrival = o.arrival; tag = o.tag; by = o.
 
 -- These messages leave their queues by a rejection, one after another, and die there where the queue has a dead-letter exchange, with these notes.
 pub record IsRejection (old : Store) (c h : ℕ) (gone : List Outstanding) (notes : List Note) (new : Store) : Type 0 where
-  pub rejected : AreRejected old.topology c h (map (outstanding_in (queue_names old.topology.queues)) gone) (queue_of old) notes (queue_of new)
+  pub rejected : AreRejected old.topology c h (map (outstanding_in (queue_names old.topology.queues)) gone) (entries_named old) notes (entries_named new)
   pub counted : new.published ≡ old.published
   pub topology : new.topology ≡ old.topology

@@ -1,7 +1,7 @@
 //! What was given out is taken out of its queues, or is ready there again.
 
 ghost use Rattle.std.specs.Prelude.{◌≡◌, ◌+◌, ◌<◌, ◌≤◌, ◌++◌, length, IfOk, OnOk, vec_len, vec_capacity};
-ghost use Rattle.links.specs.Placed.{AreWithin};
+ghost use Rattle.links.specs.Placed.{OutstandingAreWithin};
 ghost use Rattle.settling.specs.Settled as settled;
 ghost use Rattle.settling.specs.Settled.{leaving_note, leaving_notes, without_all, returned_all};
 
@@ -57,7 +57,7 @@ pub fn notes_of(
     gone: &[Outstanding],
     cause: Cause,
 ) -> Result<Vec<Note>, AllocError>
-    requires { AreWithin depot.now.topology gone.now }
+    requires { OutstandingAreWithin depot.now.topology gone.now }
     ensures { IfOk result (λ notes. notes.items ≡ leaving_notes cause connection channel depot.now gone.now) }
 {
     let mut notes = Vec::new(alloc);
@@ -70,7 +70,7 @@ pub fn notes_of(
 
 /// These messages are taken out of their queues.
 pub fn take_out(depot: &mut Depot, connection: u64, channel: u16, gone: &[Outstanding])
-    requires { AreWithin depot.old.topology gone.now }
+    requires { OutstandingAreWithin depot.old.topology gone.now }
     ensures { depot.new ≡ without_all connection channel depot.old gone.now }
 {
     for given in gone {
@@ -81,7 +81,7 @@ pub fn take_out(depot: &mut Depot, connection: u64, channel: u16, gone: &[Outsta
 
 /// These messages are ready again, each in its place and marked redelivered.
 pub fn put_back(depot: &mut Depot, connection: u64, channel: u16, gone: &[Outstanding])
-    requires { AreWithin depot.old.topology gone.now }
+    requires { OutstandingAreWithin depot.old.topology gone.now }
     ensures { depot.new ≡ returned_all connection channel depot.old gone.now }
 {
     for given in gone {

@@ -4,7 +4,7 @@ ghost use Rattle.std.specs.Prelude.{◌≡◌, map, IfOk, OnErr};
 ghost use Rattle.model.specs.Settling.{Rises};
 ghost use Rattle.channel.specs.Outstanding.{tag_of};
 ghost use Rattle.depot.specs.Rejecting.{IsApart};
-ghost use Rattle.links.specs.Placed.{AreWithin};
+ghost use Rattle.links.specs.Placed.{OutstandingAreWithin};
 ghost use Rattle.settling.specs.Settled as settled;
 ghost use Rattle.settling.specs.Settled.{IsRejection};
 
@@ -46,7 +46,7 @@ pub fn reject(
     channel: u16,
     gone: &[Outstanding],
 ) -> Result<Vec<Note>, AllocError>
-    requires within { AreWithin depot.old.topology gone.now }
+    requires within { OutstandingAreWithin depot.old.topology gone.now }
     requires ordered { Rises tag_of gone.now }
     requires apart { IsApart depot.old }
     ensures ok { IfOk result (λ notes. IsRejection depot.old connection channel gone.now notes.items depot.new) }

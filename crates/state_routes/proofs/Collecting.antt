@@ -17,12 +17,12 @@ use Rattle.model.specs.declared.topologies.Place.TheVariants as place
 use Rattle.model.specs.declared.topologies.ExchangeKind.{ExchangeKind}
 use Rattle.model.specs.declared.topologies.ExchangeKind.TheVariants.{Direct, Fanout, Topic}
 use Rattle.exchange_graph.specs.Marks.{IsSet}
-use Rattle.state_routes.specs.declared.reach.Link.{Link}
-use Rattle.state_routes.specs.Reach.{Chain, still, along, AreWithin, AreReached}
+use Rattle.state_routes.specs.declared.reach.Hop.{Hop}
+use Rattle.state_routes.specs.Reach.{Chain, still, along, LinksAreWithin}
 use Rattle.state_routes.specs.Nodes.{node, count, end_node, link_of, links_of, alternate_links, any_links}
 use Rattle.state_routes.specs.declared.gates.Gate.{Gate}
 use Rattle.state_routes.specs.Deaths.{AreEntered, IsUnfixedEnd, dying, entry, default_entry, links_in, unfixed_end}
-use Rattle.state_routes.specs.Collected.{AreMet, onto, keys_onto, keys_by_onto, names_onto, met_onto, collected}
+use Rattle.state_routes.specs.Collected.{AreInReach, onto_tracked, keys_onto, keys_by_onto, names_onto, met_onto, collected}
 use Rattle.state_routes.proofs.Numbers.{node_same, node_default, node_above, node_within}
 use Rattle.state_routes.proofs.Known.{alternate_in, from_alternates}
 use Rattle.state_routes.proofs.DeadLetters.{FromDeath, ToDeath, from_entered, to_entered, dying_tells, dying_has, unfixed_tells, link_of_gate, gate_of_link}
@@ -36,7 +36,7 @@ link_in xs q b [] i = absurd i
 link_in xs q b (c ∷ cs) (inl e) = inl (ap (link_of xs q) e)
 link_in xs q b (c ∷ cs) (inr i) = inr (link_in xs q b cs i)
 
-from_links : (xs : List Exchange) (q : Text) (l : Link) (bs : List Binding) → IsIn l (links_of xs q bs) → (b : Binding) × IsIn b bs × (l ≡ link_of xs q b)
+from_links : (xs : List Exchange) (q : Text) (l : Hop) (bs : List Binding) → IsIn l (links_of xs q bs) → (b : Binding) × IsIn b bs × (l ≡ link_of xs q b)
 from_links xs q l [] i = absurd i
 from_links xs q l (b ∷ bs) (inl e) = (b, inl refl, e)
 from_links xs q l (b ∷ bs) (inr i) = let r = from_links xs q l bs i in (r.0, inr r.1, r.2)
@@ -49,14 +49,14 @@ end_within xs q (place.Queue name) = go (bytes_eq name q)
     go true = omega arith
     go false = omega arith
 
-pub links_within : (t : Topology) (q : Text) → AreWithin (count t) (any_links t q)
+pub links_within : (t : Topology) (q : Text) → LinksAreWithin (count t) (any_links t q)
 links_within t q l i = elim (in-append l (links_of t.exchanges q t.bindings) (alternate_links t.exchanges t.exchanges) i) [
   | inl j ↦
       let r = from_links t.exchanges q l t.bindings j in
-      subst (λ (z : Link). (z.from < length t.exchanges + 4) × (z.to < length t.exchanges + 4)) (sym r.2) (node_within t.exchanges r.0.source, end_within t.exchanges q r.0.to)
+      subst (λ (z : Hop). (z.from < length t.exchanges + 4) × (z.to < length t.exchanges + 4)) (sym r.2) (node_within t.exchanges r.0.source, end_within t.exchanges q r.0.to)
   | inr j ↦
       let r = from_alternates t.exchanges t.exchanges l j in
-      subst (λ (z : Link). (z.from < length t.exchanges + 4) × (z.to < length t.exchanges + 4)) (sym r.4) (node_within t.exchanges r.0.name, node_within t.exchanges r.1)
+      subst (λ (z : Hop). (z.from < length t.exchanges + 4) × (z.to < length t.exchanges + 4)) (sym r.4) (node_within t.exchanges r.0.name, node_within t.exchanges r.1)
 ]
 
 module _ (t : Topology) (m : Mode) (q : Text) (deaths : List Gate) (entered : AreEntered t [] (IsUnfixedEnd t) (dying m t.queues) deaths) where
@@ -72,20 +72,20 @@ module _ (t : Topology) (m : Mode) (q : Text) (deaths : List Gate) (entered : Ar
         omega (arith, e, h),
       )
 
-  pub within_as : (n : ℕ) (links : List Link) → n ≡ length t.exchanges + 4 → links ≡ any_links t q ++ links_in deaths → AreWithin n links
-  within_as n links e f = subst (λ (z : ℕ). AreWithin z links) (sym e) (λ l i. elim (in-append l (any_links t q) (links_in deaths) (subst (λ (z : List Link). IsIn l z) f i)) [
+  pub within_as : (n : ℕ) (links : List Hop) → n ≡ length t.exchanges + 4 → links ≡ any_links t q ++ links_in deaths → LinksAreWithin n links
+  within_as n links e f = subst (λ (z : ℕ). LinksAreWithin z links) (sym e) (λ l i. elim (in-append l (any_links t q) (links_in deaths) (subst (λ (z : List Hop). IsIn l z) f i)) [
     | inl j ↦ links_within t q l j
-    | inr j ↦ let r = gate_of_link l deaths j in let w = death_low r.0 r.1 in subst (λ (z : Link). (z.from < length t.exchanges + 4) × (z.to < length t.exchanges + 4)) (sym r.2) (w.1, w.2)
+    | inr j ↦ let r = gate_of_link l deaths j in let w = death_low r.0 r.1 in subst (λ (z : Hop). (z.from < length t.exchanges + 4) × (z.to < length t.exchanges + 4)) (sym r.2) (w.1, w.2)
   ])
 
 module _ (t : Topology) (g : Guarantee) (q : Text) (deaths : List Gate) (entered : AreEntered t [] (IsUnfixedEnd t) (dying g.mode t.queues) deaths) (formed : IsWellFormed t) where
   abbrev Linked : ℕ → ℕ → Type 0
-  Linked a b = (l : Link) × IsIn l (any_links t q ++ links_in deaths) × (l.from ≡ a) × (l.to ≡ b)
+  Linked a b = (l : Hop) × IsIn l (any_links t q ++ links_in deaths) × (l.from ≡ a) × (l.to ≡ b)
 
   onward : {a b c : ℕ} → Chain (any_links t q ++ links_in deaths) a b → Linked b c → Chain (any_links t q ++ links_in deaths) a c
   onward {c = c} h (l, i, f, u) = chain_on (any_links t q ++ links_in deaths) h l c i f u
 
-  any_link : (l : Link) → IsIn l (any_links t q) → Linked l.from l.to
+  any_link : (l : Hop) → IsIn l (any_links t q) → Linked l.from l.to
   any_link l i = (l, in_front l (any_links t q) (links_in deaths) i, refl, refl)
 
   death_link : (w : Gate) → IsIn w deaths → Linked w.link.from w.link.to
@@ -104,7 +104,7 @@ module _ (t : Topology) (g : Guarantee) (q : Text) (deaths : List Gate) (entered
       let r = any_link (link_of t.exchanges q b) (in_front (link_of t.exchanges q b) (links_of t.exchanges q t.bindings) (alternate_links t.exchanges t.exchanges) (link_in t.exchanges q b t.bindings (contained t.bindings b bs.is_binding))) in
       onward (met_chain m) (r.0, r.1, r.2 ∙ ap (node t.exchanges) (bs.source ∙ n), r.3 ∙ ap (end_node t.exchanges q) bs.leads)
   met_chain (by_alternate {y = y} e m c n a) =
-      let l : Link = record { from = node t.exchanges e.name; to = node t.exchanges y } in
+      let l : Hop = record { from = node t.exchanges e.name; to = node t.exchanges y } in
       let r = any_link l (in_back l (links_of t.exchanges q t.bindings) (alternate_links t.exchanges t.exchanges) (alternate_in t.exchanges t.exchanges e y (contained t.exchanges e c) a)) in
       onward (met_chain m) (r.0, r.1, r.2 ∙ ap (node t.exchanges) n, r.3)
   met_chain (by_death {x = x} {q = p} {y = y} last never m e d k) =
@@ -117,10 +117,10 @@ module _ (t : Topology) (g : Guarantee) (q : Text) (deaths : List Gate) (entered
   low_end still h y e = let k = node_above t.exchanges y in omega arith
   low_end (along l i f u rest) h y e = elim (in-append l (any_links t q) (links_in deaths) i) [
     | inl j ↦ elim (in-append l (links_of t.exchanges q t.bindings) (alternate_links t.exchanges t.exchanges) j) [
-      | inl j ↦ let r = from_links t.exchanges q l t.bindings j in let k = node_above t.exchanges r.0.source in let m : l.from ≡ node t.exchanges r.0.source = ap (λ (z : Link). z.from) r.2 in omega arith
-      | inr j ↦ let r = from_alternates t.exchanges t.exchanges l j in let k = node_above t.exchanges r.0.name in let m : l.from ≡ node t.exchanges r.0.name = ap (λ (z : Link). z.from) r.4 in omega arith
+      | inl j ↦ let r = from_links t.exchanges q l t.bindings j in let k = node_above t.exchanges r.0.source in let m : l.from ≡ node t.exchanges r.0.source = ap (λ (z : Hop). z.from) r.2 in omega arith
+      | inr j ↦ let r = from_alternates t.exchanges t.exchanges l j in let k = node_above t.exchanges r.0.name in let m : l.from ≡ node t.exchanges r.0.name = ap (λ (z : Hop). z.from) r.4 in omega arith
     ]
-    | inr j ↦ let r = gate_of_link l deaths j in let k = (death_low t g.mode q deaths entered r.0 r.1).0 in let m : l.from ≡ r.0.link.from = ap (λ (z : Link). z.from) r.2 in omega arith
+    | inr j ↦ let r = gate_of_link l deaths j in let k = (death_low t g.mode q deaths entered r.0 r.1).0 in let m : l.from ≡ r.0.link.from = ap (λ (z : Hop). z.from) r.2 in omega arith
   ]
 
   same_name : (y x : Text) → IsIn y (exchange_names t.exchanges) ⊎ (y ≡ []) → node t.exchanges y ≡ node t.exchanges x → y ≡ x
@@ -155,8 +155,8 @@ module _ (t : Topology) (g : Guarantee) (q : Text) (deaths : List Gate) (entered
     ]
     | inr j ↦
         let r = gate_of_link l deaths j in
-        let d = death_met x r.0 m r.1 (sym (ap (λ (z : Link). z.from) r.2) ∙ f ∙ e) in
-        chain_met rest d.0 (sym u ∙ ap (λ (z : Link). z.to) r.2 ∙ d.1) d.2 y k s
+        let d = death_met x r.0 m r.1 (sym (ap (λ (z : Hop). z.from) r.2) ∙ f ∙ e) in
+        chain_met rest d.0 (sym u ∙ ap (λ (z : Hop). z.to) r.2 ∙ d.1) d.2 y k s
   ]
     where
       low : (v : Bool) → b ≡ cond v zero (suc zero) → b < 2
@@ -170,20 +170,20 @@ module _ (t : Topology) (g : Guarantee) (q : Text) (deaths : List Gate) (entered
       by_link : ((c : Binding) × IsIn c t.bindings × (l ≡ link_of t.exchanges q c)) → ((z : Text) → b ≡ node t.exchanges z → Met t g z → Met t g y) → Met t g y
       by_link (c, w, p) next =
           let source = formed.sources c (has_place t.bindings c w) in
-          let same : c.source ≡ x = node_same t.exchanges c.source x formed.default_apart source (sym (ap (λ (z : Link). z.from) p) ∙ f ∙ e) in
-          to_place c w c.to refl (sym u ∙ ap (λ (z : Link). z.to) p) (from_map (λ (z : Exchange). z.name) c.source t.exchanges source) same next
+          let same : c.source ≡ x = node_same t.exchanges c.source x formed.default_apart source (sym (ap (λ (z : Hop). z.from) p) ∙ f ∙ e) in
+          to_place c w c.to refl (sym u ∙ ap (λ (z : Hop). z.to) p) (from_map (λ (z : Exchange). z.name) c.source t.exchanges source) same next
 
       by_other : ((z : Exchange) × (other : Text) × IsIn z t.exchanges × (z.alternate ≡ Some other) × (l ≡ record { from = node t.exchanges z.name; to = node t.exchanges other })) → ((z : Text) → b ≡ node t.exchanges z → Met t g z → Met t g y) → Met t g y
       by_other (z, other, w, a, p) next =
-          let same : z.name ≡ x = node_same t.exchanges z.name x formed.default_apart (in_map (λ (v : Exchange). v.name) z t.exchanges w) (sym (ap (λ (v : Link). v.from) p) ∙ f ∙ e) in
-          next other (sym u ∙ ap (λ (v : Link). v.to) p) (by_alternate z m (has_place t.exchanges z w) same a)
+          let same : z.name ≡ x = node_same t.exchanges z.name x formed.default_apart (in_map (λ (v : Exchange). v.name) z t.exchanges w) (sym (ap (λ (v : Hop). v.from) p) ∙ f ∙ e) in
+          next other (sym u ∙ ap (λ (v : Hop). v.to) p) (by_alternate z m (has_place t.exchanges z w) same a)
 
 -- ---- the list
 
 keys_fold : (ps : List Tracked) (kind : ExchangeKind) (name : Text) (bs : List Binding) → keys_onto ps kind name bs ≡ fold (once_more same_tracked) ps (keys_from kind name bs)
 keys_fold ps kind name [] = refl
-keys_fold ps kind name (b ∷ bs) = elim (bytes_eq b.source name) as (λ v. keys_onto (cond v (onto ps kind b.key) ps) kind name bs ≡ fold (once_more same_tracked) ps (cond v (record { kind = kind; text = b.key } ∷ keys_from kind name bs) (keys_from kind name bs))) [
-  | true ↦ keys_fold (onto ps kind b.key) kind name bs
+keys_fold ps kind name (b ∷ bs) = elim (bytes_eq b.source name) as (λ v. keys_onto (cond v (onto_tracked ps kind b.key) ps) kind name bs ≡ fold (once_more same_tracked) ps (cond v (record { kind = kind; text = b.key } ∷ keys_from kind name bs) (keys_from kind name bs))) [
+  | true ↦ keys_fold (onto_tracked ps kind b.key) kind name bs
   | false ↦ keys_fold ps kind name bs
 ]
 
@@ -194,7 +194,7 @@ keys_by_fold ps Fanout name bs = refl
 
 pub names_fold : (ps : List Tracked) (qs : List DeclaredQueue) → names_onto ps qs ≡ fold (once_more same_tracked) ps (map (λ (q : DeclaredQueue). record { kind = Direct; text = q.name }) qs)
 names_fold ps [] = refl
-names_fold ps (q ∷ qs) = names_fold (onto ps Direct q.name) qs
+names_fold ps (q ∷ qs) = names_fold (onto_tracked ps Direct q.name) qs
 
 -- the exchanges that are marked
 abbrev pub chosen : Topology → List Bool → List Exchange → List Exchange
@@ -219,7 +219,7 @@ selects t marks P (x ∷ xs) f = go (slice_index_or marks (node t.exchanges x.na
     go true e s = Selects.take ((f x (inl refl)).0 e) s
     go false e s = Selects.pass (λ p. false≢true (sym e ∙ (f x (inl refl)).1 p)) s
 
-pub tracked_list : (t : Topology) (g : Guarantee) (q : Text) (marks : List Bool) (ps : List Tracked) → IsWellFormed t → AreMet t g.mode g.exchange q marks
+pub tracked_list : (t : Topology) (g : Guarantee) (q : Text) (marks : List Bool) (ps : List Tracked) → IsWellFormed t → AreInReach t g.mode g.exchange q marks
     → ps ≡ met_onto t marks (cond (slice_index_or marks 2 false) (names_onto (once_more same_tracked [] (record { kind = Topic; text = g.pattern })) t.queues) (once_more same_tracked [] (record { kind = Topic; text = g.pattern }))) t.exchanges
     → IsTrackedList t g ps
 tracked_list t g q marks ps formed (deaths, entered, reached) is = go (slice_index_or marks 2 false) refl is
@@ -253,11 +253,7 @@ tracked_list t g q marks ps formed (deaths, entered, reached) is = go (slice_ind
       is = p ∙ met_fold t marks (once_more same_tracked [] first) t.exchanges;
     }
 
-pub met_as : (t : Topology) (m : Mode) (x q : Text) (deaths : List Gate) (links : List Link) (n from : ℕ) (marks : List Bool) → AreEntered t [] (IsUnfixedEnd t) (dying m t.queues) deaths → links ≡ any_links t q ++ links_in deaths → n ≡ count t → from ≡ node t.exchanges x → AreReached links n from marks → AreMet t m x q marks
-met_as t m x q deaths links n from marks entered l c f r =
-    (deaths, entered, subst (λ (z : List Link). AreReached z (count t) (node t.exchanges x) marks) l (subst (λ (z : ℕ). AreReached links z (node t.exchanges x) marks) c (subst (λ (z : ℕ). AreReached links n z marks) f r)))
-
-pub tracked_from : (t : Topology) (g : Guarantee) (m : Mode) (x q pattern : Text) (marks seen : List Bool) (ps : List Tracked) → IsWellFormed t → m ≡ g.mode → x ≡ g.exchange → pattern ≡ g.pattern → seen ≡ marks → AreMet t m x q marks → ps ≡ collected t pattern seen → IsTrackedList t g ps
+pub tracked_from : (t : Topology) (g : Guarantee) (m : Mode) (x q pattern : Text) (marks seen : List Bool) (ps : List Tracked) → IsWellFormed t → m ≡ g.mode → x ≡ g.exchange → pattern ≡ g.pattern → seen ≡ marks → AreInReach t m x q marks → ps ≡ collected t pattern seen → IsTrackedList t g ps
 tracked_from t g m x q pattern marks seen ps f mo ex pa se r is =
-    tracked_list t g q marks ps f (subst (λ (z : Mode). AreMet t z g.exchange q marks) mo (subst (λ (z : Text). AreMet t m z q marks) ex r))
+    tracked_list t g q marks ps f (subst (λ (z : Mode). AreInReach t z g.exchange q marks) mo (subst (λ (z : Text). AreInReach t m z q marks) ex r))
     (is ∙ ap (λ (z : Text). collected t z seen) pa ∙ ap (λ (z : List Bool). collected t g.pattern z) se)

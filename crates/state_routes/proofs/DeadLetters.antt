@@ -16,12 +16,12 @@ use Rattle.model.specs.declared.topologies.Binding.{Binding}
 use Rattle.model.specs.declared.topologies.Place.{Place}
 use Rattle.model.specs.declared.topologies.Place.TheVariants as place
 use Rattle.model.specs.declared.topologies.ExchangeKind.TheVariants.{Direct}
-use Rattle.state_routes.specs.declared.reach.Link.{Link}
+use Rattle.state_routes.specs.declared.reach.Hop.{Hop}
 use Rattle.state_routes.specs.declared.gates.Gate.{Gate}
 use Rattle.state_routes.specs.declared.gates.Test.TheVariants.{Pattern}
 use Rattle.state_routes.specs.Nodes.{node}
-use Rattle.state_routes.specs.Gates.{place_of, test_by, kind_at}
-use Rattle.state_routes.specs.Deaths.{is_queue, entry, default_entry, entries, entered, AreEntered, none, next, AreMore, dying, unfixed_end, GoOn, links_in}
+use Rattle.state_routes.specs.Gates.{tracked_place, test_by, kind_at}
+use Rattle.state_routes.specs.Deaths.{is_into_queue, entry, default_entry, entries, entries_through, AreEntered, none, next, AreMore, dying, unfixed_end, GoOn, links_in}
 use Rattle.dead_paths.specs.Found.{FindsPath}
 use Rattle.certificate_laws.proofs.Refutations.{walk_comes}
 use Rattle.laws.proofs.Counts.{in_front, in_back, in-append}
@@ -85,21 +85,21 @@ found_tells t x k q (Some path) f = ((λ e. walk_comes t (of_key k) q x f.2 refl
 
 -- ---- the ways into a queue
 
-is_queue_tells : (to : Place) (name : Text) → Decides (is_queue to name) (to ≡ place.Queue name)
+is_queue_tells : (to : Place) (name : Text) → Decides (is_into_queue to name) (to ≡ place.Queue name)
 is_queue_tells (place.Exchange x) name = ((λ e. absurd (false≢true e)), (λ e. absurd (let h : place.Exchange x ≡ place.Queue name = e in cc)))
 is_queue_tells (place.Queue p) name = let d = bytes_eq-Decides p name in ((λ e. ap (λ (z : Text). place.Queue z) (d.0 e)), (λ e. d.1 (let h : place.Queue p ≡ place.Queue name = e in cc)))
 
 module _ (xs : List Exchange) (ps : List Tracked) (name : Text) (to : ℕ) where
   default_in : (bs : List Binding) → IsIn (default_entry ps name to) (entries xs ps name to bs)
   default_in [] = inl refl
-  default_in (b ∷ bs) = elim (is_queue b.to name) as (λ v. IsIn (default_entry ps name to) (cond v (entry xs ps to b ∷ entries xs ps name to bs) (entries xs ps name to bs))) [
+  default_in (b ∷ bs) = elim (is_into_queue b.to name) as (λ v. IsIn (default_entry ps name to) (cond v (entry xs ps to b ∷ entries xs ps name to bs) (entries xs ps name to bs))) [
     | true ↦ inr (default_in bs)
     | false ↦ default_in bs
   ]
 
   entry_in : (b : Binding) (bs : List Binding) → IsIn b bs → b.to ≡ place.Queue name → IsIn (entry xs ps to b) (entries xs ps name to bs)
   entry_in b [] i e = absurd i
-  entry_in b (c ∷ cs) i e = go (is_queue c.to name) (is_queue_tells c.to name) i (λ j. entry_in b cs j e)
+  entry_in b (c ∷ cs) i e = go (is_into_queue c.to name) (is_queue_tells c.to name) i (λ j. entry_in b cs j e)
     where
       go : (v : Bool) → Decides v (c.to ≡ place.Queue name) → (b ≡ c) ⊎ IsIn b cs → (IsIn b cs → IsIn (entry xs ps to b) (entries xs ps name to cs)) → IsIn (entry xs ps to b) (cond v (entry xs ps to c ∷ entries xs ps name to cs) (entries xs ps name to cs))
       go true d (inl s) f = inl (ap (entry xs ps to) s)
@@ -113,7 +113,7 @@ module _ (xs : List Exchange) (ps : List Tracked) (name : Text) (to : ℕ) where
   from_entries : (g : Gate) (bs : List Binding) → IsIn g (entries xs ps name to bs) → FromEntry g bs
   from_entries g [] (inl e) = inr e
   from_entries g [] (inr i) = absurd i
-  from_entries g (b ∷ bs) i = go (is_queue b.to name) (is_queue_tells b.to name) i (λ j. from_entries g bs j)
+  from_entries g (b ∷ bs) i = go (is_into_queue b.to name) (is_queue_tells b.to name) i (λ j. from_entries g bs j)
     where
       more : FromEntry g bs → FromEntry g (b ∷ bs)
       more (inl h) = inl (h.0, inr h.1, h.2, h.3)
@@ -131,7 +131,7 @@ pub record FromDeath (t : Topology) (ps : List Tracked) (Ends : DeclaredQueue �
   pub last : DeclaredQueue
   pub is_in : IsIn last queues
   pub ends : Ends last (Some g.link.to)
-  pub way : ((b : Binding) × IsIn b t.bindings × (b.to ≡ place.Queue last.name) × (g.link.from ≡ node t.exchanges b.source) × (g.test ≡ test_by ps (kind_at t.exchanges b.source) b.key)) ⊎ ((g.link.from ≡ 2) × (g.test ≡ Pattern (place_of ps Direct last.name)))
+  pub way : ((b : Binding) × IsIn b t.bindings × (b.to ≡ place.Queue last.name) × (g.link.from ≡ node t.exchanges b.source) × (g.test ≡ test_by ps (kind_at t.exchanges b.source) b.key)) ⊎ ((g.link.from ≡ 2) × (g.test ≡ Pattern (tracked_place ps Direct last.name)))
 
 -- where the queue's dead letters lead on, and that its ways end there
 pub record ToDeath (t : Topology) (ps : List Tracked) (Ends : DeclaredQueue → Option ℕ → Type 0) (last : DeclaredQueue) (gates : List Gate) : Type 0 where
@@ -143,12 +143,12 @@ pub record ToDeath (t : Topology) (ps : List Tracked) (Ends : DeclaredQueue → 
 module _ (t : Topology) (ps : List Tracked) (Ends : DeclaredQueue → Option ℕ → Type 0) where
   pub from_entered : {queues : List DeclaredQueue} {gates : List Gate} (g : Gate) → AreEntered t ps Ends queues gates → IsIn g gates → FromDeath t ps Ends queues g
   from_entered g none i = absurd i
-  from_entered g (next {last = last} {queues = queues} {gates = gates} end ends rest) i = elim (in-append g (entered t.exchanges ps last.name t.bindings end) gates i) [
+  from_entered g (next {last = last} {queues = queues} {gates = gates} end ends rest) i = elim (in-append g (entries_through t.exchanges ps last.name t.bindings end) gates i) [
     | inl j ↦ first end ends j
     | inr j ↦ let r = from_entered g rest j in record { last = r.last; is_in = inr r.is_in; ends = r.ends; way = r.way }
   ]
     where
-      first : (end : Option ℕ) → Ends last end → IsIn g (entered t.exchanges ps last.name t.bindings end) → FromDeath t ps Ends (last ∷ queues) g
+      first : (end : Option ℕ) → Ends last end → IsIn g (entries_through t.exchanges ps last.name t.bindings end) → FromDeath t ps Ends (last ∷ queues) g
       first None ends j = absurd j
       first (Some to) ends j = elim (from_entries t.exchanges ps last.name to g t.bindings j) [
         | inl r ↦ record {
@@ -167,21 +167,21 @@ module _ (t : Topology) (ps : List Tracked) (Ends : DeclaredQueue → Option ℕ
 
   pub to_entered : {queues : List DeclaredQueue} {gates : List Gate} (p : DeclaredQueue) → AreEntered t ps Ends queues gates → IsIn p queues → ToDeath t ps Ends p gates
   to_entered p none i = absurd i
-  to_entered p (next {last = last} {gates = gates} end ends rest) (inl e) = subst (λ (z : DeclaredQueue). ToDeath t ps Ends z (entered t.exchanges ps last.name t.bindings end ++ gates)) (sym e) (record {
+  to_entered p (next {last = last} {gates = gates} end ends rest) (inl e) = subst (λ (z : DeclaredQueue). ToDeath t ps Ends z (entries_through t.exchanges ps last.name t.bindings end ++ gates)) (sym e) (record {
     end = end;
     ends = ends;
-    bound = λ to s b i h. in_front (entry t.exchanges ps to b) (entered t.exchanges ps last.name t.bindings end) gates
-        (subst (λ (z : Option ℕ). IsIn (entry t.exchanges ps to b) (entered t.exchanges ps last.name t.bindings z)) (sym s) (entry_in t.exchanges ps last.name to b t.bindings i h));
-    default = λ to s. in_front (default_entry ps last.name to) (entered t.exchanges ps last.name t.bindings end) gates
-        (subst (λ (z : Option ℕ). IsIn (default_entry ps last.name to) (entered t.exchanges ps last.name t.bindings z)) (sym s) (default_in t.exchanges ps last.name to t.bindings));
+    bound = λ to s b i h. in_front (entry t.exchanges ps to b) (entries_through t.exchanges ps last.name t.bindings end) gates
+        (subst (λ (z : Option ℕ). IsIn (entry t.exchanges ps to b) (entries_through t.exchanges ps last.name t.bindings z)) (sym s) (entry_in t.exchanges ps last.name to b t.bindings i h));
+    default = λ to s. in_front (default_entry ps last.name to) (entries_through t.exchanges ps last.name t.bindings end) gates
+        (subst (λ (z : Option ℕ). IsIn (default_entry ps last.name to) (entries_through t.exchanges ps last.name t.bindings z)) (sym s) (default_in t.exchanges ps last.name to t.bindings));
   })
   to_entered p (next {last = last} {gates = gates} end ends rest) (inr i) =
       let r = to_entered p rest i in
       record {
         end = r.end;
         ends = r.ends;
-        bound = λ to s b j h. in_back (entry t.exchanges ps to b) (entered t.exchanges ps last.name t.bindings end) gates (r.bound to s b j h);
-        default = λ to s. in_back (default_entry ps p.name to) (entered t.exchanges ps last.name t.bindings end) gates (r.default to s);
+        bound = λ to s b j h. in_back (entry t.exchanges ps to b) (entries_through t.exchanges ps last.name t.bindings end) gates (r.bound to s b j h);
+        default = λ to s. in_back (default_entry ps p.name to) (entries_through t.exchanges ps last.name t.bindings end) gates (r.default to s);
       }
 
   -- with the ways into the queues from this place on they are the ways into all
@@ -190,14 +190,14 @@ module _ (t : Topology) (ps : List Tracked) (Ends : DeclaredQueue → Option ℕ
 
   pub entered_more : (queues : List DeclaredQueue) (i : ℕ) (last : DeclaredQueue) (old new : List Gate) → i < length queues → last ≡ get_or queues i last → AreMore t ps Ends last old new → AreEnteredFrom queues i old → AreEnteredFrom queues (i + 1) new
   entered_more queues i last old new h g more f rest e =
-      let w = entered t.exchanges ps last.name t.bindings more.0 in
+      let w = entries_through t.exchanges ps last.name t.bindings more.0 in
       subst (λ (z : List Gate). AreEntered t ps Ends queues (z ++ rest)) (sym more.2)
       (subst (λ (z : List Gate). AreEntered t ps Ends queues z) (sym (append_assoc old w rest))
       (f (w ++ rest) (at queues i h g (subst (λ (n : ℕ). AreEntered t ps Ends (drop n queues) rest) (add-one i) e))))
     where
-      at : (queues : List DeclaredQueue) (i : ℕ) → i < length queues → last ≡ get_or queues i last → AreEntered t ps Ends (drop (suc i) queues) rest → AreEntered t ps Ends (drop i queues) (entered t.exchanges ps last.name t.bindings more.0 ++ rest)
+      at : (queues : List DeclaredQueue) (i : ℕ) → i < length queues → last ≡ get_or queues i last → AreEntered t ps Ends (drop (suc i) queues) rest → AreEntered t ps Ends (drop i queues) (entries_through t.exchanges ps last.name t.bindings more.0 ++ rest)
       at [] i h g e = absurd (omega (arith, h))
-      at (p ∷ qs) zero h g e = subst (λ (z : DeclaredQueue). AreEntered t ps Ends (z ∷ qs) (entered t.exchanges ps last.name t.bindings more.0 ++ rest)) g (next more.0 more.1 e)
+      at (p ∷ qs) zero h g e = subst (λ (z : DeclaredQueue). AreEntered t ps Ends (z ∷ qs) (entries_through t.exchanges ps last.name t.bindings more.0 ++ rest)) g (next more.0 more.1 e)
       at (p ∷ qs) (suc i) h g e = at qs i (let k : suc i < suc (length qs) = h in omega (arith, k)) g e
 
   pub entered_all : (queues : List DeclaredQueue) (i : ℕ) (gates : List Gate) → length queues ≤ i → AreEnteredFrom queues i gates → AreEntered t ps Ends queues gates
@@ -216,7 +216,7 @@ link_of_gate g [] i = absurd i
 link_of_gate g (h ∷ hs) (inl e) = inl (ap (λ (z : Gate). z.link) e)
 link_of_gate g (h ∷ hs) (inr i) = inr (link_of_gate g hs i)
 
-pub gate_of_link : (l : Link) (gs : List Gate) → IsIn l (links_in gs) → (g : Gate) × IsIn g gs × (l ≡ g.link)
+pub gate_of_link : (l : Hop) (gs : List Gate) → IsIn l (links_in gs) → (g : Gate) × IsIn g gs × (l ≡ g.link)
 gate_of_link l [] i = absurd i
 gate_of_link l (h ∷ hs) (inl e) = (h, inl refl, e)
 gate_of_link l (h ∷ hs) (inr i) = let r = gate_of_link l hs i in (r.0, inr r.1, r.2)

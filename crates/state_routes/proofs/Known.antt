@@ -9,7 +9,7 @@ use Rattle.model.specs.Topology.{Topology, IsIn, IsWellFormed, exchange_names}
 use Rattle.model.specs.Routing.{Reading, Binds, Edge, bound, alternate, default, Leads, here, on, RoutesBy, of_key, reading_after, fixed_after, Comes, routed, dead}
 use Rattle.model.specs.Tracking.{Tracked, same_tracked}
 use Rattle.model.specs.Positions.{is_accepted}
-use Rattle.model.specs.Certificates.{Answers, sure, possible}
+use Rattle.model.specs.Certificates.{PatternAnswers, sure, possible}
 use Rattle.model.specs.declared.topologies.Mode.{Mode}
 use Rattle.model.specs.declared.topologies.Mode.TheVariants.{Reaches, Never}
 use Rattle.model.specs.declared.topologies.Exchange.{Exchange}
@@ -19,13 +19,13 @@ use Rattle.model.specs.declared.topologies.Place.{Place}
 use Rattle.model.specs.declared.topologies.Place.TheVariants as place
 use Rattle.model.specs.declared.topologies.ExchangeKind.{ExchangeKind}
 use Rattle.model.specs.declared.topologies.ExchangeKind.TheVariants.{Direct, Fanout, Topic}
-use Rattle.state_routes.specs.declared.reach.Link.{Link}
+use Rattle.state_routes.specs.declared.reach.Hop.{Hop}
 use Rattle.state_routes.specs.declared.gates.Gate.{Gate}
 use Rattle.state_routes.specs.declared.gates.Test.{Test}
 use Rattle.state_routes.specs.declared.gates.Test.TheVariants.{Pattern}
 use Rattle.state_routes.specs.Reach.{Chain, still, along}
 use Rattle.state_routes.specs.Nodes.{node, end_node, alternate_link, alternate_links}
-use Rattle.state_routes.specs.Gates.{place_of, test_by, kind_at, kind_or_direct, gate_of, binding_gates, has_queue, default_gate, gates_of, accepted, is_open, is_shut, passes, blocks, all_block, open_links, open_alternates, open_ways}
+use Rattle.state_routes.specs.Gates.{tracked_place, test_by, kind_at, kind_or_direct, gate_of, binding_gates, has_queue, default_gate, gates_of, accepted, is_open, is_shut, passes, blocks, all_block, open_links, open_alternates, open_ways}
 use Rattle.state_routes.specs.Deaths.{entry, default_entry, AreEntered, dying, GoOn, IsEnd}
 use Rattle.state_routes.specs.Known.{AreOnce}
 use Rattle.state_routes.proofs.DeadLetters.{ToDeath, from_entered, to_entered, dying_tells, dying_has, fixed_goes, fixed_sent, sent_fixed}
@@ -37,31 +37,31 @@ use Rattle.certificate_laws.proofs.Trackings.{contained, has_place, same_tracked
 
 -- ---- what a place among the tracked patterns answers
 
-answers_in : (ps : List Tracked) (ms : List ℕ) (kind : ExchangeKind) (text : Text) (b : Bool) → Answers ps ms kind text b → IsIn (record { kind = kind; text = text }) ps
+answers_in : (ps : List Tracked) (ms : List ℕ) (kind : ExchangeKind) (text : Text) (b : Bool) → PatternAnswers ps ms kind text b → IsIn (record { kind = kind; text = text }) ps
 answers_in [] ms kind text b a = absurd a
 answers_in (p ∷ ps) [] kind text b a = absurd a
 answers_in (p ∷ ps) (m ∷ ms) kind text b (inl a) = inl (sym (ap (λ (k : ExchangeKind). record { kind = k; text = p.text }) a.0 ∙ ap (λ (z : Text). record { kind = kind; text = z }) a.1))
 answers_in (p ∷ ps) (m ∷ ms) kind text b (inr a) = inr (answers_in ps ms kind text b a)
 
-at_its_place : (ps : List Tracked) (ms : List ℕ) (kind : ExchangeKind) (text : Text) (b : Bool) → AreOnce ps → Answers ps ms kind text b → slice_get (accepted ps ms) (place_of ps kind text) ≡ Some b
+at_its_place : (ps : List Tracked) (ms : List ℕ) (kind : ExchangeKind) (text : Text) (b : Bool) → AreOnce ps → PatternAnswers ps ms kind text b → slice_get (accepted ps ms) (tracked_place ps kind text) ≡ Some b
 at_its_place [] ms kind text b o a = absurd a
 at_its_place (p ∷ ps) [] kind text b o a = absurd a
 at_its_place (p ∷ ps) (m ∷ ms) kind text b o a = go (same_tracked (record { kind = kind; text = text }) p) (same_tracked_tells (record { kind = kind; text = text }) p) a (λ z. at_its_place ps ms kind text b o.1 z)
   where
-    go : (v : Bool) → Decides v (record { kind = kind; text = text } ≡ p) → ((p.kind ≡ kind) × (p.text ≡ text) × (is_accepted p m ≡ b)) ⊎ Answers ps ms kind text b → (Answers ps ms kind text b → slice_get (accepted ps ms) (place_of ps kind text) ≡ Some b)
-        → slice_get (is_accepted p m ∷ accepted ps ms) (cond v zero (suc (place_of ps kind text))) ≡ Some b
+    go : (v : Bool) → Decides v (record { kind = kind; text = text } ≡ p) → ((p.kind ≡ kind) × (p.text ≡ text) × (is_accepted p m ≡ b)) ⊎ PatternAnswers ps ms kind text b → (PatternAnswers ps ms kind text b → slice_get (accepted ps ms) (tracked_place ps kind text) ≡ Some b)
+        → slice_get (is_accepted p m ∷ accepted ps ms) (cond v zero (suc (tracked_place ps kind text))) ≡ Some b
     go true d (inl z) f = ap (λ (w : Bool). Some w) z.2
     go true d (inr z) f = absurd (o.0 (subst (λ (w : Tracked). IsIn w ps) (d.0 refl) (answers_in ps ms kind text b z)))
     go false d (inl z) f = absurd (false≢true (d.1 (sym (ap (λ (k : ExchangeKind). record { kind = k; text = p.text }) z.0 ∙ ap (λ (w : Text). record { kind = kind; text = w }) z.1))))
     go false d (inr z) f = f z
 
-from_its_place : (ps : List Tracked) (ms : List ℕ) (kind : ExchangeKind) (text : Text) (b : Bool) → slice_get (accepted ps ms) (place_of ps kind text) ≡ Some b → Answers ps ms kind text b
+from_its_place : (ps : List Tracked) (ms : List ℕ) (kind : ExchangeKind) (text : Text) (b : Bool) → slice_get (accepted ps ms) (tracked_place ps kind text) ≡ Some b → PatternAnswers ps ms kind text b
 from_its_place [] ms kind text b e = let h : None ≡ Some b = e in cc
 from_its_place (p ∷ ps) [] kind text b e = let h : None ≡ Some b = e in cc
 from_its_place (p ∷ ps) (m ∷ ms) kind text b e = go (same_tracked (record { kind = kind; text = text }) p) (same_tracked_tells (record { kind = kind; text = text }) p) e (λ z. from_its_place ps ms kind text b z)
   where
-    go : (v : Bool) → Decides v (record { kind = kind; text = text } ≡ p) → slice_get (is_accepted p m ∷ accepted ps ms) (cond v zero (suc (place_of ps kind text))) ≡ Some b → (slice_get (accepted ps ms) (place_of ps kind text) ≡ Some b → Answers ps ms kind text b)
-        → ((p.kind ≡ kind) × (p.text ≡ text) × (is_accepted p m ≡ b)) ⊎ Answers ps ms kind text b
+    go : (v : Bool) → Decides v (record { kind = kind; text = text } ≡ p) → slice_get (is_accepted p m ∷ accepted ps ms) (cond v zero (suc (tracked_place ps kind text))) ≡ Some b → (slice_get (accepted ps ms) (tracked_place ps kind text) ≡ Some b → PatternAnswers ps ms kind text b)
+        → ((p.kind ≡ kind) × (p.text ≡ text) × (is_accepted p m ≡ b)) ⊎ PatternAnswers ps ms kind text b
     go true d e f = inl (ap (λ (w : Tracked). w.kind) (sym (d.0 refl)), ap (λ (w : Tracked). w.text) (sym (d.0 refl)), (let h : Some (is_accepted p m) ≡ Some b = e in cc))
     go false d e f = inr (f e)
 
@@ -89,27 +89,27 @@ reading_by Reaches ps ms = sure ps ms
 reading_by Never ps ms = possible ps ms
 
 module _ (ps : List Tracked) (ms : List ℕ) (once : AreOnce ps) where
-  pub opens_test : (kind : ExchangeKind) (key : Text) → (kind ≡ Fanout) ⊎ Answers ps ms kind key true → is_open (test_by ps kind key) (accepted ps ms) ≡ true
+  pub opens_test : (kind : ExchangeKind) (key : Text) → (kind ≡ Fanout) ⊎ PatternAnswers ps ms kind key true → is_open (test_by ps kind key) (accepted ps ms) ≡ true
   opens_test Fanout key o = refl
   opens_test Direct key (inl e) = absurd (let h : Direct ≡ Fanout = e in cc)
   opens_test Direct key (inr a) = ap (λ (o : Option Bool). unwrap_or o false) (at_its_place ps ms Direct key true once a)
   opens_test Topic key (inl e) = absurd (let h : Topic ≡ Fanout = e in cc)
   opens_test Topic key (inr a) = ap (λ (o : Option Bool). unwrap_or o false) (at_its_place ps ms Topic key true once a)
 
-  pub test_opens : (kind : ExchangeKind) (key : Text) → is_open (test_by ps kind key) (accepted ps ms) ≡ true → (kind ≡ Fanout) ⊎ Answers ps ms kind key true
+  pub test_opens : (kind : ExchangeKind) (key : Text) → is_open (test_by ps kind key) (accepted ps ms) ≡ true → (kind ≡ Fanout) ⊎ PatternAnswers ps ms kind key true
   test_opens Fanout key e = inl refl
-  test_opens Direct key e = inr (from_its_place ps ms Direct key true (or_true (slice_get (accepted ps ms) (place_of ps Direct key)) e))
-  test_opens Topic key e = inr (from_its_place ps ms Topic key true (or_true (slice_get (accepted ps ms) (place_of ps Topic key)) e))
+  test_opens Direct key e = inr (from_its_place ps ms Direct key true (or_true (slice_get (accepted ps ms) (tracked_place ps Direct key)) e))
+  test_opens Topic key e = inr (from_its_place ps ms Topic key true (or_true (slice_get (accepted ps ms) (tracked_place ps Topic key)) e))
 
-  pub shuts_test : (kind : ExchangeKind) (key : Text) → (kind ≡ Fanout → ⊥) × Answers ps ms kind key false → is_shut (test_by ps kind key) (accepted ps ms) ≡ true
+  pub shuts_test : (kind : ExchangeKind) (key : Text) → (kind ≡ Fanout → ⊥) × PatternAnswers ps ms kind key false → is_shut (test_by ps kind key) (accepted ps ms) ≡ true
   shuts_test Fanout key s = absurd (s.0 refl)
   shuts_test Direct key s = ap (λ (o : Option Bool). unwrap_or (option_map not o) false) (at_its_place ps ms Direct key false once s.1)
   shuts_test Topic key s = ap (λ (o : Option Bool). unwrap_or (option_map not o) false) (at_its_place ps ms Topic key false once s.1)
 
-  pub test_shuts : (kind : ExchangeKind) (key : Text) → is_shut (test_by ps kind key) (accepted ps ms) ≡ true → (kind ≡ Fanout → ⊥) × Answers ps ms kind key false
+  pub test_shuts : (kind : ExchangeKind) (key : Text) → is_shut (test_by ps kind key) (accepted ps ms) ≡ true → (kind ≡ Fanout → ⊥) × PatternAnswers ps ms kind key false
   test_shuts Fanout key e = absurd (false≢true e)
-  test_shuts Direct key e = ((λ f. let h : Direct ≡ Fanout = f in cc), from_its_place ps ms Direct key false (not_or_true (slice_get (accepted ps ms) (place_of ps Direct key)) e))
-  test_shuts Topic key e = ((λ f. let h : Topic ≡ Fanout = f in cc), from_its_place ps ms Topic key false (not_or_true (slice_get (accepted ps ms) (place_of ps Topic key)) e))
+  test_shuts Direct key e = ((λ f. let h : Direct ≡ Fanout = f in cc), from_its_place ps ms Direct key false (not_or_true (slice_get (accepted ps ms) (tracked_place ps Direct key)) e))
+  test_shuts Topic key e = ((λ f. let h : Topic ≡ Fanout = f in cc), from_its_place ps ms Topic key false (not_or_true (slice_get (accepted ps ms) (tracked_place ps Topic key)) e))
 
   pub opens_passes : (m : Mode) (kind : ExchangeKind) (key : Text) → (reading_by m ps ms).opens kind key → passes m (test_by ps kind key) (accepted ps ms) ≡ true
   opens_passes Reaches kind key o = opens_test kind key o
@@ -130,11 +130,11 @@ module _ (ps : List Tracked) (ms : List ℕ) (once : AreOnce ps) where
   blocks_shuts Never kind key e = ((λ f. true_not (is_open (test_by ps kind key) (accepted ps ms)) e (opens_test kind key (inl f))), (λ a. true_not (is_open (test_by ps kind key) (accepted ps ms)) e (opens_test kind key (inr a))))
 
   -- the default exchange asks for a name as a direct exchange for a key
-  pub names_passes : (m : Mode) (queue : Text) → (reading_by m ps ms).names queue → passes m (Pattern (place_of ps Direct queue)) (accepted ps ms) ≡ true
+  pub names_passes : (m : Mode) (queue : Text) → (reading_by m ps ms).names queue → passes m (Pattern (tracked_place ps Direct queue)) (accepted ps ms) ≡ true
   names_passes Reaches queue a = opens_passes Reaches Direct queue (inr a)
   names_passes Never queue a = opens_passes Never Direct queue (inr a)
 
-  pub passes_names : (m : Mode) (queue : Text) → passes m (Pattern (place_of ps Direct queue)) (accepted ps ms) ≡ true → (reading_by m ps ms).names queue
+  pub passes_names : (m : Mode) (queue : Text) → passes m (Pattern (tracked_place ps Direct queue)) (accepted ps ms) ≡ true → (reading_by m ps ms).names queue
   passes_names Reaches queue e = elim (passes_opens Reaches Direct queue e) [ inl f ↦ absurd (let h : Direct ≡ Fanout = f in cc) | inr a ↦ a ]
   passes_names Never queue e = elim (passes_opens Never Direct queue e) [ inl f ↦ absurd (let h : Direct ≡ Fanout = f in cc) | inr a ↦ a ]
 
@@ -177,7 +177,7 @@ open_in m g (h ∷ hs) acc (inr i) o = elim (passes m h.test acc) as (λ v. IsIn
   | false ↦ open_in m g hs acc i o
 ]
 
-pub from_open : (m : Mode) (l : Link) (gs : List Gate) (acc : List Bool) → IsIn l (open_links m gs acc) → (g : Gate) × IsIn g gs × (l ≡ g.link) × (passes m g.test acc ≡ true)
+pub from_open : (m : Mode) (l : Hop) (gs : List Gate) (acc : List Bool) → IsIn l (open_links m gs acc) → (g : Gate) × IsIn g gs × (l ≡ g.link) × (passes m g.test acc ≡ true)
 from_open m l [] acc i = absurd i
 from_open m l (h ∷ hs) acc i = go (passes m h.test acc) refl i (λ j. from_open m l hs acc j)
   where
@@ -217,32 +217,32 @@ alternate_in xs (z ∷ zs) e other (inl s) a =
     (subst (λ (o : Option Text). IsIn (record { from = node xs e.name; to = node xs other }) (alternate_link xs e.name o)) (sym a) (inl refl)))
 alternate_in xs (z ∷ zs) e other (inr i) a = in_back (record { from = node xs e.name; to = node xs other }) (alternate_link xs z.name z.alternate) (alternate_links xs zs) (alternate_in xs zs e other i a)
 
-from_alternate : (xs : List Exchange) (name : Text) (o : Option Text) (l : Link) → IsIn l (alternate_link xs name o) → (other : Text) × (o ≡ Some other) × (l ≡ record { from = node xs name; to = node xs other })
+from_alternate : (xs : List Exchange) (name : Text) (o : Option Text) (l : Hop) → IsIn l (alternate_link xs name o) → (other : Text) × (o ≡ Some other) × (l ≡ record { from = node xs name; to = node xs other })
 from_alternate xs name None l i = absurd i
 from_alternate xs name (Some other) l (inl e) = (other, refl, e)
 from_alternate xs name (Some other) l (inr i) = absurd i
 
-pub from_alternates : (xs es : List Exchange) (l : Link) → IsIn l (alternate_links xs es) → (e : Exchange) × (other : Text) × IsIn e es × (e.alternate ≡ Some other) × (l ≡ record { from = node xs e.name; to = node xs other })
+pub from_alternates : (xs es : List Exchange) (l : Hop) → IsIn l (alternate_links xs es) → (e : Exchange) × (other : Text) × IsIn e es × (e.alternate ≡ Some other) × (l ≡ record { from = node xs e.name; to = node xs other })
 from_alternates xs [] l i = absurd i
 from_alternates xs (z ∷ zs) l i = elim (in-append l (alternate_link xs z.name z.alternate) (alternate_links xs zs) i) [
   | inl j ↦ let r = from_alternate xs z.name z.alternate l j in (z, r.0, inl refl, r.1, r.2)
   | inr j ↦ let r = from_alternates xs zs l j in (r.0, r.1, inr r.2, r.3, r.4)
 ]
 
-blocked_in : (m : Mode) (gs : List Gate) (l : Link) (ls : List Link) (acc : List Bool) → IsIn l ls → all_block m gs l.from acc ≡ true → IsIn l (open_alternates m gs ls acc)
+blocked_in : (m : Mode) (gs : List Gate) (l : Hop) (ls : List Hop) (acc : List Bool) → IsIn l ls → all_block m gs l.from acc ≡ true → IsIn l (open_alternates m gs ls acc)
 blocked_in m gs l [] acc i e = absurd i
-blocked_in m gs l (k ∷ ks) acc (inl s) e = subst (λ (v : Bool). IsIn l (cond v (k ∷ open_alternates m gs ks acc) (open_alternates m gs ks acc))) (sym (ap (λ (z : Link). all_block m gs z.from acc) (sym s) ∙ e)) (inl s)
+blocked_in m gs l (k ∷ ks) acc (inl s) e = subst (λ (v : Bool). IsIn l (cond v (k ∷ open_alternates m gs ks acc) (open_alternates m gs ks acc))) (sym (ap (λ (z : Hop). all_block m gs z.from acc) (sym s) ∙ e)) (inl s)
 blocked_in m gs l (k ∷ ks) acc (inr i) e = elim (all_block m gs k.from acc) as (λ v. IsIn l (cond v (k ∷ open_alternates m gs ks acc) (open_alternates m gs ks acc))) [
   | true ↦ inr (blocked_in m gs l ks acc i e)
   | false ↦ blocked_in m gs l ks acc i e
 ]
 
-pub from_blocked : (m : Mode) (gs : List Gate) (l : Link) (ls : List Link) (acc : List Bool) → IsIn l (open_alternates m gs ls acc) → IsIn l ls × (all_block m gs l.from acc ≡ true)
+pub from_blocked : (m : Mode) (gs : List Gate) (l : Hop) (ls : List Hop) (acc : List Bool) → IsIn l (open_alternates m gs ls acc) → IsIn l ls × (all_block m gs l.from acc ≡ true)
 from_blocked m gs l [] acc i = absurd i
 from_blocked m gs l (k ∷ ks) acc i = go (all_block m gs k.from acc) refl i (λ j. from_blocked m gs l ks acc j)
   where
     go : (v : Bool) → all_block m gs k.from acc ≡ v → IsIn l (cond v (k ∷ open_alternates m gs ks acc) (open_alternates m gs ks acc)) → (IsIn l (open_alternates m gs ks acc) → IsIn l ks × (all_block m gs l.from acc ≡ true)) → IsIn l (k ∷ ks) × (all_block m gs l.from acc ≡ true)
-    go true e (inl s) f = (inl s, ap (λ (z : Link). all_block m gs z.from acc) s ∙ e)
+    go true e (inl s) f = (inl s, ap (λ (z : Hop). all_block m gs z.from acc) s ∙ e)
     go true e (inr j) f = let r = f j in (inr r.0, r.1)
     go false e j f = let r = f j in (inr r.0, r.1)
 
@@ -286,12 +286,12 @@ arrives_on Reaches t r x y q e (z, l, f) = (z, on e l, f)
 arrives_on Never t r x y q e c = comes_on t r None x y q e c
 
 -- where a key leads of which no more is known than a state tells
-abbrev pub ways_at : Mode → Topology → Text → List Tracked → List ℕ → List Gate → List Link
+abbrev pub ways_at : Mode → Topology → Text → List Tracked → List ℕ → List Gate → List Hop
 ways_at m t q ps ms deaths = open_ways m (gates_of t q ps ++ deaths) (alternate_links t.exchanges t.exchanges) (accepted ps ms)
 
 module _ (m : Mode) (t : Topology) (q : Text) (ps : List Tracked) (ms : List ℕ) (deaths : List Gate) (entered : AreEntered t ps (IsEnd t q) (dying m t.queues) deaths) (formed : IsWellFormed t) (once : AreOnce ps) where
   abbrev Linked : ℕ → ℕ → Type 0
-  Linked a b = (l : Link) × IsIn l (ways_at m t q ps ms deaths) × (l.from ≡ a) × (l.to ≡ b)
+  Linked a b = (l : Hop) × IsIn l (ways_at m t q ps ms deaths) × (l.from ≡ a) × (l.to ≡ b)
 
   by_gate : (g : Gate) → IsIn g (gates_of t q ps ++ deaths) → passes m g.test (accepted ps ms) ≡ true → Linked g.link.from g.link.to
   by_gate g i o = (g.link, in_front g.link (open_links m (gates_of t q ps ++ deaths) (accepted ps ms)) (open_alternates m (gates_of t q ps ++ deaths) (alternate_links t.exchanges t.exchanges) (accepted ps ms)) (open_in m g (gates_of t q ps ++ deaths) (accepted ps ms) i o), refl, refl)
@@ -343,7 +343,7 @@ module _ (m : Mode) (t : Topology) (q : Text) (ps : List Tracked) (ms : List ℕ
 
   by_alternate_edge : (x other : Text) (e : Exchange) → Contains t.exchanges e → e.name ≡ x → e.alternate ≡ Some other → ((to : Place) (b : Binding) → Binds t e to b → (reading_by m ps ms).shuts e.kind b.key) → Linked (node t.exchanges x) (node t.exchanges other)
   by_alternate_edge x other e c n a s =
-      let l : Link = record { from = node t.exchanges e.name; to = node t.exchanges other } in (
+      let l : Hop = record { from = node t.exchanges e.name; to = node t.exchanges other } in (
         l,
         in_back l (open_links m (gates_of t q ps ++ deaths) (accepted ps ms)) (open_alternates m (gates_of t q ps ++ deaths) (alternate_links t.exchanges t.exchanges) (accepted ps ms))
             (blocked_in m (gates_of t q ps ++ deaths) l (alternate_links t.exchanges t.exchanges) (accepted ps ms) (alternate_in t.exchanges t.exchanges e other (contained t.exchanges e c) a) (blocks_all m (gates_of t q ps ++ deaths) (node t.exchanges e.name) (accepted ps ms) (gate_blocks e c s))),
@@ -398,7 +398,7 @@ module _ (m : Mode) (t : Topology) (q : Text) (ps : List Tracked) (ms : List ℕ
       go (Some k) f g h = death_chain x p last w 0 (fixed_goes t q exchange k w.end h (g k refl)) d.is_named route still
 
   -- a link is an edge, or leads on from a queue that an edge enters
-  record FromEdge (l : Link) : Type 0 where
+  record FromEdge (l : Hop) : Type 0 where
     pub name : Text
     pub source : IsIn name (exchange_names t.exchanges) ⊎ (name ≡ [])
     pub from_is : l.from ≡ node t.exchanges name
@@ -410,10 +410,10 @@ module _ (m : Mode) (t : Topology) (q : Text) (ps : List Tracked) (ms : List ℕ
       let opens = passes_opens ps ms once m e.0.kind b.key (subst (λ (k : ExchangeKind). passes m (test_by ps k b.key) (accepted ps ms) ≡ true) (kind_is e.0 b.source (has_place t.exchanges e.0 e.1) e.2) o) in
       bound e.0 b (has_place t.exchanges e.0 e.1) (sym e.2) (record { is_binding = has_place t.bindings b i; source = e.2; leads = leads }) opens
 
-  default_edge : (d : DeclaredQueue) → IsIn d t.queues → passes m (Pattern (place_of ps Direct d.name)) (accepted ps ms) ≡ true → Edge t (reading_by m ps ms) [] (place.Queue d.name)
+  default_edge : (d : DeclaredQueue) → IsIn d t.queues → passes m (Pattern (tracked_place ps Direct d.name)) (accepted ps ms) ≡ true → Edge t (reading_by m ps ms) [] (place.Queue d.name)
   default_edge d i o = default d (has_place t.queues d i) refl (passes_names ps ms once m d.name o)
 
-  edge_of : (l : Link) → IsIn l (ways_at m t q ps ms deaths) → FromEdge l
+  edge_of : (l : Hop) → IsIn l (ways_at m t q ps ms deaths) → FromEdge l
   edge_of l i = elim (in-append l (open_links m (gates_of t q ps ++ deaths) (accepted ps ms)) (open_alternates m (gates_of t q ps ++ deaths) (alternate_links t.exchanges t.exchanges) (accepted ps ms)) i) [
     | inl j ↦ by_open (from_open m l (gates_of t q ps ++ deaths) (accepted ps ms) j)
     | inr j ↦ by_alternate (from_blocked m (gates_of t q ps ++ deaths) l (alternate_links t.exchanges t.exchanges) (accepted ps ms) j)
@@ -424,19 +424,19 @@ module _ (m : Mode) (t : Topology) (q : Text) (ps : List Tracked) (ms : List ℕ
         | inl r ↦ record {
           name = r.0.source;
           source = inl (source_in r.0 r.1);
-          from_is = ap (λ (z : Link). z.from) s ∙ ap (λ (z : Gate). z.link.from) r.2;
-          leads = inl (r.0.to, binding_edge r.0 r.0.to r.1 refl (subst (λ (z : Gate). passes m z.test (accepted ps ms) ≡ true) r.2 o), ap (λ (z : Link). z.to) s ∙ ap (λ (z : Gate). z.link.to) r.2);
+          from_is = ap (λ (z : Hop). z.from) s ∙ ap (λ (z : Gate). z.link.from) r.2;
+          leads = inl (r.0.to, binding_edge r.0 r.0.to r.1 refl (subst (λ (z : Gate). passes m z.test (accepted ps ms) ≡ true) r.2 o), ap (λ (z : Hop). z.to) s ∙ ap (λ (z : Gate). z.link.to) r.2);
         }
         | inr r ↦
             let d = from_has_queue q t.queues r.0 in
             record {
               name = [];
               source = inr refl;
-              from_is = ap (λ (z : Link). z.from) s ∙ ap (λ (z : Gate). z.link.from) r.1;
+              from_is = ap (λ (z : Hop). z.from) s ∙ ap (λ (z : Gate). z.link.from) r.1;
               leads = inl (
                 place.Queue d.0.name,
-                default_edge d.0 d.1 (subst (λ (z : Text). passes m (Pattern (place_of ps Direct z)) (accepted ps ms) ≡ true) (sym d.2) (subst (λ (z : Gate). passes m z.test (accepted ps ms) ≡ true) r.1 o)),
-                ap (λ (z : Link). z.to) s ∙ ap (λ (z : Gate). z.link.to) r.1 ∙ sym (ap (λ (z : Text). end_node t.exchanges q (place.Queue z)) d.2 ∙ same_end t.exchanges q),
+                default_edge d.0 d.1 (subst (λ (z : Text). passes m (Pattern (tracked_place ps Direct z)) (accepted ps ms) ≡ true) (sym d.2) (subst (λ (z : Gate). passes m z.test (accepted ps ms) ≡ true) r.1 o)),
+                ap (λ (z : Hop). z.to) s ∙ ap (λ (z : Gate). z.link.to) r.1 ∙ sym (ap (λ (z : Text). end_node t.exchanges q (place.Queue z)) d.2 ∙ same_end t.exchanges q),
               );
             }
       ]
@@ -444,18 +444,18 @@ module _ (m : Mode) (t : Topology) (q : Text) (ps : List Tracked) (ms : List ℕ
       by_deaths : (g : Gate) → IsIn g deaths → l ≡ g.link → passes m g.test (accepted ps ms) ≡ true → FromEdge l
       by_deaths g i s o =
           let w = from_entered t ps (IsEnd t q) g entered i in
-          let ends : IsEnd t q w.last (Some l.to) = subst (λ (z : Link). IsEnd t q w.last (Some z.to)) (sym s) w.ends in
+          let ends : IsEnd t q w.last (Some l.to) = subst (λ (z : Hop). IsEnd t q w.last (Some z.to)) (sym s) w.ends in
           elim w.way [
             | inl r ↦ record {
               name = r.0.source;
               source = inl (source_in r.0 r.1);
-              from_is = ap (λ (z : Link). z.from) s ∙ r.3;
+              from_is = ap (λ (z : Hop). z.from) s ∙ r.3;
               leads = inr (w.last, w.is_in, binding_edge r.0 (place.Queue w.last.name) r.1 r.2 (subst (λ (z : Test). passes m z (accepted ps ms) ≡ true) r.4 o), ends);
             }
             | inr r ↦ record {
               name = [];
               source = inr refl;
-              from_is = ap (λ (z : Link). z.from) s ∙ r.0;
+              from_is = ap (λ (z : Hop). z.from) s ∙ r.0;
               leads = inr (w.last, w.is_in, default_edge w.last (dying_tells m t.queues w.last w.is_in).1 (subst (λ (z : Test). passes m z (accepted ps ms) ≡ true) r.1 o), ends);
             }
           ]
@@ -472,12 +472,12 @@ module _ (m : Mode) (t : Topology) (q : Text) (ps : List Tracked) (ms : List ℕ
           let e = alternate r.0 (has_place t.exchanges r.0 r.2) refl r.3 (λ to b bs.
           blocks_shuts ps ms once m r.0.kind b.key
           (subst (λ (k : ExchangeKind). blocks m (test_by ps k b.key) (accepted ps ms) ≡ true) (kind_is r.0 b.source (has_place t.exchanges r.0 r.2) bs.source)
-          (all_block_at m (gates_of t q ps ++ deaths) l.from (accepted ps ms) s (gate_of t.exchanges q ps b) (in_front (gate_of t.exchanges q ps b) (gates_of t q ps) deaths (in_gates t q ps b (contained t.bindings b bs.is_binding))) (ap (node t.exchanges) bs.source ∙ sym (ap (λ (z : Link). z.from) r.4))))) in
+          (all_block_at m (gates_of t q ps ++ deaths) l.from (accepted ps ms) s (gate_of t.exchanges q ps b) (in_front (gate_of t.exchanges q ps b) (gates_of t q ps) deaths (in_gates t q ps b (contained t.bindings b bs.is_binding))) (ap (node t.exchanges) bs.source ∙ sym (ap (λ (z : Hop). z.from) r.4))))) in
           record {
             name = r.0.name;
             source = inl (name_in r.0 r.2);
-            from_is = ap (λ (z : Link). z.from) r.4;
-            leads = inl (place.Exchange r.1, e, ap (λ (z : Link). z.to) r.4);
+            from_is = ap (λ (z : Hop). z.from) r.4;
+            leads = inl (place.Exchange r.1, e, ap (λ (z : Hop). z.to) r.4);
           }
 
   same_source : (name x : Text) → IsIn name (exchange_names t.exchanges) ⊎ (name ≡ []) → node t.exchanges name ≡ node t.exchanges x → name ≡ x

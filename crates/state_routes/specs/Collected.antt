@@ -16,13 +16,13 @@ use Rattle.model.specs.declared.topologies.ExchangeKind.{ExchangeKind}
 use Rattle.model.specs.declared.topologies.ExchangeKind.TheVariants.{Direct, Fanout, Topic}
 
 -- one more pattern, if it is not there yet
-abbrev pub onto : List Tracked → ExchangeKind → Text → List Tracked
-onto ps kind text = once_more same_tracked ps (record { kind = kind; text = text })
+abbrev pub onto_tracked : List Tracked → ExchangeKind → Text → List Tracked
+onto_tracked ps kind text = once_more same_tracked ps (record { kind = kind; text = text })
 
 -- and the keys of the bindings from the exchange of this name, each of which is not there yet
 abbrev pub keys_onto : List Tracked → ExchangeKind → Text → List Binding → List Tracked
 keys_onto ps kind name [] = ps
-keys_onto ps kind name (b ∷ bs) = keys_onto (if bytes_eq b.source name then onto ps kind b.key else ps) kind name bs
+keys_onto ps kind name (b ∷ bs) = keys_onto (if bytes_eq b.source name then onto_tracked ps kind b.key else ps) kind name bs
 
 -- the same by the kind of the exchange: a fanout exchange asks no key
 abbrev pub keys_by_onto : List Tracked → ExchangeKind → Text → List Binding → List Tracked
@@ -33,7 +33,7 @@ keys_by_onto ps Fanout name bs = ps
 -- and the names of these queues, as keys of the default exchange
 abbrev pub names_onto : List Tracked → List DeclaredQueue → List Tracked
 names_onto ps [] = ps
-names_onto ps (q ∷ qs) = names_onto (onto ps Direct q.name) qs
+names_onto ps (q ∷ qs) = names_onto (onto_tracked ps Direct q.name) qs
 
 -- the keys of those of these exchanges that are marked
 abbrev pub met_onto : Topology → List Bool → List Tracked → List Exchange → List Tracked
@@ -42,8 +42,8 @@ met_onto t marks ps (x ∷ xs) = met_onto t marks (if slice_index_or marks (node
 
 -- the pattern, then the queue names where the default exchange is marked, then the keys of the marked exchanges
 abbrev pub collected : Topology → Text → List Bool → List Tracked
-collected t pattern marks = met_onto t marks (if slice_index_or marks 2 false then names_onto (onto [] Topic pattern) t.queues else onto [] Topic pattern) t.exchanges
+collected t pattern marks = met_onto t marks (if slice_index_or marks 2 false then names_onto (onto_tracked [] Topic pattern) t.queues else onto_tracked [] Topic pattern) t.exchanges
 
 -- the marks are those of the exchanges that a message may meet under its own key, of a `never` also as a dead letter
-abbrev pub AreMet : Topology → Mode → Text → Text → List Bool → Type 0
-AreMet t m x q marks = (deaths : List Gate) × AreEntered t [] (IsUnfixedEnd t) (dying m t.queues) deaths × AreReached (any_links t q ++ links_in deaths) (count t) (node t.exchanges x) marks
+abbrev pub AreInReach : Topology → Mode → Text → Text → List Bool → Type 0
+AreInReach t m x q marks = (deaths : List Gate) × AreEntered t [] (IsUnfixedEnd t) (dying m t.queues) deaths × AreReached (any_links t q ++ links_in deaths) (count t) (node t.exchanges x) marks

@@ -13,18 +13,18 @@ use Rattle.model.specs.declared.topologies.Binding.{Binding}
 use Rattle.model.specs.declared.topologies.Place.{Place}
 use Rattle.model.specs.declared.topologies.Place.TheVariants as place
 use Rattle.model.specs.declared.topologies.ExchangeKind.TheVariants.{Direct}
-use Rattle.state_routes.specs.declared.reach.Link.{Link}
+use Rattle.state_routes.specs.declared.reach.Hop.{Hop}
 use Rattle.state_routes.specs.declared.gates.Gate.{Gate}
 use Rattle.state_routes.specs.declared.gates.Test.TheVariants.{Pattern}
 use Rattle.state_routes.specs.Nodes.{node}
-use Rattle.state_routes.specs.Gates.{place_of, test_by, kind_at, gates_of}
+use Rattle.state_routes.specs.Gates.{tracked_place, test_by, kind_at, gates_of}
 
 -- ---- the ways into a queue
 
 -- the place is the queue of this name
-abbrev pub is_queue : Place → Text → Bool
-is_queue (place.Exchange x) name = false
-is_queue (place.Queue p) name = bytes_eq p name
+abbrev pub is_into_queue : Place → Text → Bool
+is_into_queue (place.Exchange x) name = false
+is_into_queue (place.Queue p) name = bytes_eq p name
 
 -- a binding as a gate that ends at this place instead
 abbrev pub entry : List Exchange → List Tracked → ℕ → Binding → Gate
@@ -32,25 +32,25 @@ entry exchanges ps to b = record { link = record { from = node exchanges b.sourc
 
 -- from the default exchange to the queue of this name, as a gate that ends at this place instead
 abbrev pub default_entry : List Tracked → Text → ℕ → Gate
-default_entry ps name to = record { link = record { from = 2; to = to }; test = Pattern (place_of ps Direct name) }
+default_entry ps name to = record { link = record { from = 2; to = to }; test = Pattern (tracked_place ps Direct name) }
 
 -- each way into the queue of this name, ending at this place instead
 abbrev pub entries : List Exchange → List Tracked → Text → ℕ → List Binding → List Gate
 entries exchanges ps name to [] = default_entry ps name to ∷ []
-entries exchanges ps name to (b ∷ bs) = if is_queue b.to name then entry exchanges ps to b ∷ entries exchanges ps name to bs else entries exchanges ps name to bs
+entries exchanges ps name to (b ∷ bs) = if is_into_queue b.to name then entry exchanges ps to b ∷ entries exchanges ps name to bs else entries exchanges ps name to bs
 
 -- the same, or nothing where dead letters of the queue do not lead on
-abbrev pub entered : List Exchange → List Tracked → Text → List Binding → Option ℕ → List Gate
-entered exchanges ps name bs None = []
-entered exchanges ps name bs (Some to) = entries exchanges ps name to bs
+abbrev pub entries_through : List Exchange → List Tracked → Text → List Binding → Option ℕ → List Gate
+entries_through exchanges ps name bs None = []
+entries_through exchanges ps name bs (Some to) = entries exchanges ps name to bs
 
 -- The ways into each of these queues, ending where its dead letters lead on.
 pub data AreEntered (t : Topology) (ps : List Tracked) (Ends : DeclaredQueue → Option ℕ → Type 0) : List DeclaredQueue → List Gate → Type 0 where
   none : AreEntered t ps Ends [] []
-  next : {last : DeclaredQueue} {queues : List DeclaredQueue} {gates : List Gate} (end : Option ℕ) → Ends last end → AreEntered t ps Ends queues gates → AreEntered t ps Ends (last ∷ queues) (entered t.exchanges ps last.name t.bindings end ++ gates)
+  next : {last : DeclaredQueue} {queues : List DeclaredQueue} {gates : List Gate} (end : Option ℕ) → Ends last end → AreEntered t ps Ends queues gates → AreEntered t ps Ends (last ∷ queues) (entries_through t.exchanges ps last.name t.bindings end ++ gates)
 
 -- the links of these gates
-abbrev pub links_in : List Gate → List Link
+abbrev pub links_in : List Gate → List Hop
 links_in [] = []
 links_in (g ∷ gs) = g.link ∷ links_in gs
 
@@ -84,7 +84,7 @@ IsEnd t q last end = GoOn t q last.dead_letter_exchange last.dead_letter_key end
 
 -- the gates of one queue more, for dead letters that lead on as they do
 abbrev pub AreMore : Topology → List Tracked → (DeclaredQueue → Option ℕ → Type 0) → DeclaredQueue → List Gate → List Gate → Type 0
-AreMore t ps Ends last old new = (end : Option ℕ) × Ends last end × (new ≡ old ++ entered t.exchanges ps last.name t.bindings end)
+AreMore t ps Ends last old new = (end : Option ℕ) × Ends last end × (new ≡ old ++ entries_through t.exchanges ps last.name t.bindings end)
 
 -- The gates that count for a promise of this mode: those of the topology, and those by which dead letters lead on.
 abbrev pub AreGates : Topology → Mode → Text → List Tracked → List Gate → Type 0

@@ -13,22 +13,22 @@ use Rattle.model.specs.declared.topologies.DeclaredQueue.{DeclaredQueue}
 use Rattle.model.specs.declared.topologies.Binding.{Binding}
 use Rattle.model.specs.declared.topologies.ExchangeKind.{ExchangeKind}
 use Rattle.model.specs.declared.topologies.ExchangeKind.TheVariants.{Direct, Fanout, Topic}
-use Rattle.state_routes.specs.declared.reach.Link.{Link}
+use Rattle.state_routes.specs.declared.reach.Hop.{Hop}
 use Rattle.state_routes.specs.declared.gates.Test.{Test}
 use Rattle.state_routes.specs.declared.gates.Test.TheVariants.{Always, Pattern}
 use Rattle.state_routes.specs.declared.gates.Gate.{Gate}
 use Rattle.state_routes.specs.Nodes.{link_of}
 
 -- the first place of a tracked pattern, or how many there are
-abbrev pub place_of : List Tracked → ExchangeKind → Text → ℕ
-place_of [] kind text = zero
-place_of (p ∷ ps) kind text = if same_tracked (record { kind = kind; text = text }) p then zero else suc (place_of ps kind text)
+abbrev pub tracked_place : List Tracked → ExchangeKind → Text → ℕ
+tracked_place [] kind text = zero
+tracked_place (p ∷ ps) kind text = if same_tracked (record { kind = kind; text = text }) p then zero else suc (tracked_place ps kind text)
 
 -- what a binding key of an exchange of this kind asks
 abbrev pub test_by : List Tracked → ExchangeKind → Text → Test
 test_by ps Fanout key = Always
-test_by ps Direct key = Pattern (place_of ps Direct key)
-test_by ps Topic key = Pattern (place_of ps Topic key)
+test_by ps Direct key = Pattern (tracked_place ps Direct key)
+test_by ps Topic key = Pattern (tracked_place ps Topic key)
 
 -- the kind of an exchange; where none is there, nothing rests on it
 abbrev pub kind_or_direct : Option Exchange → ExchangeKind
@@ -54,7 +54,7 @@ has_queue queues name = list_any (λ (q : DeclaredQueue). bytes_eq q.name name) 
 
 -- from the default exchange to the queue
 abbrev pub default_gate : List Tracked → Text → Gate
-default_gate ps queue = record { link = record { from = 2; to = 0 }; test = Pattern (place_of ps Direct queue) }
+default_gate ps queue = record { link = record { from = 2; to = 0 }; test = Pattern (tracked_place ps Direct queue) }
 
 -- the gates of a topology: those of its bindings, and the default exchange's to the queue, if it is there
 abbrev pub gates_of : Topology → Text → List Tracked → List Gate
@@ -94,15 +94,15 @@ all_block m [] from acc = true
 all_block m (g ∷ gs) from acc = (not (g.link.from == from) || blocks m g.test acc) && all_block m gs from acc
 
 -- the links of the gates that let a key pass
-abbrev pub open_links : Mode → List Gate → List Bool → List Link
+abbrev pub open_links : Mode → List Gate → List Bool → List Hop
 open_links m [] acc = []
 open_links m (g ∷ gs) acc = if passes m g.test acc then g.link ∷ open_links m gs acc else open_links m gs acc
 
 -- the links to the alternate exchanges of those whose gates all hold a key up
-abbrev pub open_alternates : Mode → List Gate → List Link → List Bool → List Link
+abbrev pub open_alternates : Mode → List Gate → List Hop → List Bool → List Hop
 open_alternates m gs [] acc = []
 open_alternates m gs (l ∷ ls) acc = if all_block m gs l.from acc then l ∷ open_alternates m gs ls acc else open_alternates m gs ls acc
 
 -- where a key leads of which no more is known than what the patterns accept, as a promise of this mode counts
-abbrev pub open_ways : Mode → List Gate → List Link → List Bool → List Link
+abbrev pub open_ways : Mode → List Gate → List Hop → List Bool → List Hop
 open_ways m gs alternates acc = open_links m gs acc ++ open_alternates m gs alternates acc

@@ -8,7 +8,7 @@ use Rattle.model.specs.declared.topologies.Binding.{Binding}
 use Rattle.model.specs.declared.topologies.Place.{Place}
 use Rattle.model.specs.declared.topologies.Place.TheVariants as place
 use Rattle.exchange_graph.specs.Fans.{exchange_place}
-use Rattle.state_routes.specs.declared.reach.Link.{Link}
+use Rattle.state_routes.specs.declared.reach.Hop.{Hop}
 
 -- the number of the exchange of this name; one that is not there has a number of its own
 abbrev pub node : List Exchange → Text → ℕ
@@ -25,24 +25,24 @@ end_node exchanges queue (place.Exchange name) = node exchanges name
 end_node exchanges queue (place.Queue name) = if bytes_eq name queue then 0 else 1
 
 -- where a binding leads from and to
-abbrev pub link_of : List Exchange → Text → Binding → Link
+abbrev pub link_of : List Exchange → Text → Binding → Hop
 link_of exchanges queue b = record { from = node exchanges b.source; to = end_node exchanges queue b.to }
 
 -- where these bindings lead from and to, in their order
-abbrev pub links_of : List Exchange → Text → List Binding → List Link
+abbrev pub links_of : List Exchange → Text → List Binding → List Hop
 links_of exchanges queue [] = []
 links_of exchanges queue (b ∷ bs) = link_of exchanges queue b ∷ links_of exchanges queue bs
 
 -- where the alternate exchange of an exchange leads from and to, if it has one
-abbrev pub alternate_link : List Exchange → Text → Option Text → List Link
+abbrev pub alternate_link : List Exchange → Text → Option Text → List Hop
 alternate_link exchanges name None = []
 alternate_link exchanges name (Some other) = record { from = node exchanges name; to = node exchanges other } ∷ []
 
 -- where the alternate exchanges of these exchanges lead from and to, in their order
-abbrev pub alternate_links : List Exchange → List Exchange → List Link
+abbrev pub alternate_links : List Exchange → List Exchange → List Hop
 alternate_links exchanges [] = []
 alternate_links exchanges (x ∷ xs) = alternate_link exchanges x.name x.alternate ++ alternate_links exchanges xs
 
 -- where any binding or alternate exchange leads from and to
-abbrev pub any_links : Topology → Text → List Link
+abbrev pub any_links : Topology → Text → List Hop
 any_links t queue = links_of t.exchanges queue t.bindings ++ alternate_links t.exchanges t.exchanges

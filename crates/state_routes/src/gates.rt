@@ -2,10 +2,10 @@
 
 ghost use Rattle.std.specs.Prelude.{◌≡◌, ◌++◌, IfOk, OnOk};
 ghost use Rattle.model.specs.Tracking.{same_kind, same_tracked};
-ghost use Rattle.state_routes.specs.Gates.{all_block, binding_gates, blocks, gate_of, gates_of, has_queue, is_open, is_shut, kind_at, open_alternates, open_links, passes, place_of, test_by};
+ghost use Rattle.state_routes.specs.Gates.{all_block, binding_gates, blocks, gate_of, gates_of, has_queue, is_open, is_shut, kind_at, open_alternates, open_links, passes, tracked_place, test_by};
 
 use crate::nodes::link_of;
-use crate::reach::Link;
+use crate::reach::Hop;
 use exchange_graph::Topology;
 use model::{Binding, ExchangeKind, Mode};
 use std::alloc::{AllocError, Global};
@@ -23,7 +23,7 @@ pub enum Test {
 /// A way from one place to another, for the keys that pass its test.
 #[derive(Clone, Copy, Drop)]
 pub struct Gate {
-    pub link: Link,
+    pub link: Hop,
     pub test: Test,
 }
 
@@ -59,8 +59,8 @@ pub fn is_same(pattern: &Tracked, kind: ExchangeKind, text: &[u8]) -> bool
 }
 
 /// The place of a tracked pattern, or how many there are.
-pub fn place_of(patterns: &[Tracked], kind: ExchangeKind, text: &[u8]) -> usize
-    ensures { result ≡ place_of patterns.now kind text.now }
+pub fn tracked_place(patterns: &[Tracked], kind: ExchangeKind, text: &[u8]) -> usize
+    ensures { result ≡ tracked_place patterns.now kind text.now }
 {
     let mut place = 0;
     for pattern in patterns {
@@ -78,8 +78,8 @@ pub fn test_by(patterns: &[Tracked], kind: ExchangeKind, key: &[u8]) -> Test
 {
     match kind {
         ExchangeKind::Fanout => Test::Always,
-        ExchangeKind::Direct => Test::Pattern(place_of(patterns, kind, key)),
-        ExchangeKind::Topic => Test::Pattern(place_of(patterns, kind, key)),
+        ExchangeKind::Direct => Test::Pattern(tracked_place(patterns, kind, key)),
+        ExchangeKind::Topic => Test::Pattern(tracked_place(patterns, kind, key)),
     }
 }
 
@@ -142,9 +142,9 @@ pub fn gates_of(
 {
     let mut gates = binding_gates(alloc, topology, queue, patterns, topology.bindings())?;
     if has_queue(topology, queue) {
-        let place = place_of(patterns, ExchangeKind::Direct, queue);
+        let place = tracked_place(patterns, ExchangeKind::Direct, queue);
         gates.push(Gate {
-            link: Link { from: 2, to: 0 },
+            link: Hop { from: 2, to: 0 },
             test: Test::Pattern(place),
         })?;
     }
@@ -213,7 +213,7 @@ fn all_block(mode: Mode, gates: &[Gate], from: usize, accepted: &[bool]) -> bool
 /// Adds the links of the gates that let a key pass.
 pub fn add_open(
     mode: Mode,
-    links: &mut Vec<Link>,
+    links: &mut Vec<Hop>,
     gates: &[Gate],
     accepted: &[bool],
 ) -> Result<(), AllocError>
@@ -230,9 +230,9 @@ pub fn add_open(
 /// Adds the links to the alternate exchanges of those whose gates all hold a key up.
 pub fn add_alternates(
     mode: Mode,
-    links: &mut Vec<Link>,
+    links: &mut Vec<Hop>,
     gates: &[Gate],
-    alternates: &[Link],
+    alternates: &[Hop],
     accepted: &[bool],
 ) -> Result<(), AllocError>
     ensures { OnOk result (links.new.items ≡ links.old.items ++ open_alternates mode gates.now alternates.now accepted.now) }

@@ -5,7 +5,7 @@ ghost use Rattle.std.specs.Str.{bytes_eq};
 ghost use Rattle.exchange_graph.specs.Fans.{exchange_place};
 ghost use Rattle.state_routes.specs.Nodes.{alternate_links, any_links, end_node, link_of, links_of, node};
 
-use crate::reach::Link;
+use crate::reach::Hop;
 use exchange_graph::Topology;
 use model::{Binding, Exchange, Place};
 use std::alloc::{AllocError, Global};
@@ -51,10 +51,10 @@ fn end_node(exchanges: &[Exchange], queue: &[u8], to: &Place) -> usize
 }
 
 /// Where a binding leads from and to.
-pub fn link_of(exchanges: &[Exchange], queue: &[u8], binding: &Binding) -> Link
+pub fn link_of(exchanges: &[Exchange], queue: &[u8], binding: &Binding) -> Hop
     ensures { result ≡ link_of exchanges.now queue.now binding.now }
 {
-    Link {
+    Hop {
         from: node(exchanges, binding.source.as_bytes()),
         to: end_node(exchanges, queue, &binding.to),
     }
@@ -66,7 +66,7 @@ fn links_of(
     exchanges: &[Exchange],
     queue: &[u8],
     bindings: &[Binding],
-) -> Result<Vec<Link>, AllocError>
+) -> Result<Vec<Hop>, AllocError>
     ensures { IfOk result (λ links. links.items ≡ links_of exchanges.now queue.now bindings.now) }
 {
     let mut links = Vec::new(alloc);
@@ -81,13 +81,13 @@ pub fn alternate_links(
     alloc: Global,
     all: &[Exchange],
     exchanges: &[Exchange],
-) -> Result<Vec<Link>, AllocError>
+) -> Result<Vec<Hop>, AllocError>
     ensures { IfOk result (λ links. links.items ≡ alternate_links all.now exchanges.now) }
 {
     let mut links = Vec::new(alloc);
     for exchange in exchanges {
         if let Some(other) = &exchange.alternate {
-            links.push(Link {
+            links.push(Hop {
                 from: node(all, exchange.name.as_bytes()),
                 to: node(all, other.as_bytes()),
             })?;
@@ -97,7 +97,7 @@ pub fn alternate_links(
 }
 
 /// Where any binding or alternate exchange leads from and to.
-pub fn any_links(alloc: Global, topology: &Topology, queue: &[u8]) -> Result<Vec<Link>, AllocError>
+pub fn any_links(alloc: Global, topology: &Topology, queue: &[u8]) -> Result<Vec<Hop>, AllocError>
     ensures { IfOk result (λ links. links.items ≡ any_links topology.now queue.now) }
 {
     let mut links = links_of(alloc, topology.exchanges(), queue, topology.bindings())?;

@@ -13,7 +13,7 @@ ghost use Rattle.state_routes.specs.Known.{AreOnce, IsBounded, IsKeptBy, IsKnown
 use crate::deaths::all_gates;
 use crate::gates::{Gate, add_alternates, add_open};
 use crate::nodes::{alternate_links, node};
-use crate::reach::{Link, reached};
+use crate::reach::{Hop, reached};
 use exchange_graph::Topology;
 use model::Mode;
 use std::alloc::{AllocError, Global};
@@ -25,7 +25,7 @@ use word_automata::{Letters, accepts};
 pub struct Routes {
     mode: Mode,
     gates: Vec<Gate>,
-    alternates: Vec<Link>,
+    alternates: Vec<Hop>,
     count: usize,
     start: usize,
 }
@@ -57,9 +57,9 @@ fn open_ways(
     alloc: Global,
     mode: Mode,
     gates: &[Gate],
-    alternates: &[Link],
+    alternates: &[Hop],
     accepted: &[bool],
-) -> Result<Vec<Link>, AllocError>
+) -> Result<Vec<Hop>, AllocError>
     ensures { IfOk result (λ links. links.items ≡ open_ways mode gates.now alternates.now accepted.now) }
 {
     let mut links = Vec::new(alloc);
@@ -73,7 +73,7 @@ fn open_marks(
     alloc: Global,
     mode: Mode,
     gates: &[Gate],
-    alternates: &[Link],
+    alternates: &[Hop],
     accepted: &[bool],
     count: usize,
     start: usize,
@@ -91,7 +91,7 @@ fn leads_there(
     alloc: Global,
     mode: Mode,
     gates: &[Gate],
-    alternates: &[Link],
+    alternates: &[Hop],
     accepted: &[bool],
     count: usize,
     start: usize,

@@ -4,7 +4,7 @@ ghost use Rattle.std.specs.Prelude.{◌≡◌, length, if◌then◌else◌, IfOk
 ghost use Rattle.std.specs.List.{list_any};
 ghost use Rattle.model.specs.Tracking.{IsTrackedList, once_more, same_tracked};
 ghost use Rattle.state_routes.specs.Nodes.{count};
-ghost use Rattle.state_routes.specs.Collected.{AreMet, collected, keys_by_onto, keys_onto, met_onto, names_onto};
+ghost use Rattle.state_routes.specs.Collected.{AreInReach, collected, keys_by_onto, keys_onto, met_onto, names_onto};
 
 use crate::deaths::{add_links, dying, unfixed_gates};
 use crate::gates::is_same;
@@ -141,7 +141,7 @@ fn met(
     exchange: &[u8],
     queue: &[u8],
 ) -> Result<Vec<bool>, AllocError>
-    ensures { IfOk result (λ marks. AreMet topology.now mode exchange.now queue.now marks.items) }
+    ensures { IfOk result (λ marks. AreInReach topology.now mode exchange.now queue.now marks.items) }
 {
     let mut links = any_links(alloc, topology, queue)?;
     let deaths = unfixed_gates(alloc, topology, dying(mode, topology))?;

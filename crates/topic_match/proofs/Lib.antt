@@ -1,4 +1,3 @@
-pub mod Cuts
 pub mod Loops
 pub mod Taken
 pub mod Some

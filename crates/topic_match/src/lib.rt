@@ -10,6 +10,6 @@ mod plain;
 
 pub use matchers::Matcher;
 pub use matching::covers_key;
-pub use patterns::{Bad, Pattern, is_pattern};
+pub use patterns::{BadPattern, Pattern, is_pattern, tokens_of};
 pub use pieces::split;
 pub use plain::Plain;

@@ -8,7 +8,7 @@ use Rattle.std.specs.Prelude.{◌⊎◌, Decides, position, if◌then◌else◌}
 use Rattle.model.specs.Words.{Text}
 use Rattle.model.specs.Topology.{AreApart, IsIn}
 use Rattle.topology_drafts.proofs.Members.{in_append, in_right}
-use Rattle.topology_drafts.specs.Naming.{AreNames, Enters}
+use Rattle.topology_drafts.specs.Naming.{AreNames, EntersName}
 
 abbrev pub Key : Type 0
 Key = Vec ℕ Global
@@ -52,7 +52,7 @@ same_place {A} name_of xs name = position_map (λ (k : Text). bytes_eq name k) n
 
 -- ---- putting one in
 
-enters_at : (k : Key) (old new : List Key) (b added : Bool) → Decides b (IsIn k.items (held old)) → added ≡ not b → new ≡ (if b then old else old ++ k ∷ []) → Enters k.items (held old) (held new) added
+enters_at : (k : Key) (old new : List Key) (b added : Bool) → Decides b (IsIn k.items (held old)) → added ≡ not b → new ≡ (if b then old else old ++ k ∷ []) → EntersName k.items (held old) (held new) added
 enters_at k old new true added d a e = record { is_new = λ t h. absurd (cc); behind = λ t. absurd (cc); was_there = λ t. d.0 refl }
 enters_at k old new false added d a e = record {
   is_new = λ t h. (let z = d.1 h in absurd (cc));
@@ -61,7 +61,7 @@ enters_at k old new false added d a e = record {
 }
 
 pub enters : (k : Key) (old new : List Key) (added : Bool) → added ≡ not (list_any (λ (j : Key). bytes_eq k.items j.items) old)
-    → new ≡ (if list_any (λ (j : Key). bytes_eq k.items j.items) old then old else old ++ k ∷ []) → Enters k.items (held old) (held new) added
+    → new ≡ (if list_any (λ (j : Key). bytes_eq k.items j.items) old then old else old ++ k ∷ []) → EntersName k.items (held old) (held new) added
 enters k old new added a e = enters_at k old new (list_any (λ (j : Key). bytes_eq k.items j.items) old) added (is_held k.items old) a e
 
 -- ---- a list of names, one by one
@@ -84,7 +84,7 @@ names_at : {A : Type 0} (name_of : A → Text) (xs : List A) (i : ℕ) (x : A) �
 names_at {A} name_of xs i x h e =
     ap (map name_of) (take_more xs i x h) ∙ map-append name_of (take i xs) (get_or xs i x ∷ []) ∙ ap (λ (y : A). map name_of (take i xs) ++ name_of y ∷ []) (sym e)
 
-pub names_more : {A : Type 0} (name_of : A → Text) (xs : List A) (i : ℕ) (x : A) (old new : List Text) → i < length xs → x ≡ get_or xs i x → Enters (name_of x) old new true
+pub names_more : {A : Type 0} (name_of : A → Text) (xs : List A) (i : ℕ) (x : A) (old new : List Text) → i < length xs → x ≡ get_or xs i x → EntersName (name_of x) old new true
     → AreNames old (map name_of (take i xs)) → AreNames new (map name_of (take (i + 1) xs))
 names_more name_of xs i x old new h e n a = rw (names_at name_of xs i x h e) (record {
   same = n.behind refl ∙ ap (λ (ns : List Text). ns ++ name_of x ∷ []) a.same;
@@ -96,7 +96,7 @@ split_at xs zero = refl
 split_at [] (suc i) = refl
 split_at (x ∷ xs) (suc i) = ap (λ ys. x ∷ ys) (split_at xs i)
 
-pub names_repeated : {A : Type 0} (name_of : A → Text) (xs : List A) (i : ℕ) (x : A) (old new : List Text) → i < length xs → x ≡ get_or xs i x → Enters (name_of x) old new false
+pub names_repeated : {A : Type 0} (name_of : A → Text) (xs : List A) (i : ℕ) (x : A) (old new : List Text) → i < length xs → x ≡ get_or xs i x → EntersName (name_of x) old new false
     → AreNames old (map name_of (take i xs)) → AreApart (map name_of xs) → ⊥
 names_repeated {A} name_of xs i x old new h e n a whole =
     let s : drop i xs ≡ x ∷ drop (i + 1) xs = drop_more xs i x h ∙ ap (λ (y : A). y ∷ drop (i + 1) xs) (sym e) in

@@ -8,8 +8,8 @@ use Rattle.model.specs.declared.topologies.Binding.{Binding}
 use Rattle.model.specs.declared.topologies.Place.{Place}
 use Rattle.model.specs.declared.topologies.Place.TheVariants as place
 use Rattle.topic_match.specs.Patterns.{IsPattern}
-use Rattle.topology_drafts.specs.declared.bad.Bad.{Bad}
-use Rattle.topology_drafts.specs.declared.bad.Bad.TheVariants.{Repeated, Absent, Argument, Worded, TooMany, NoExchange, Memory}
+use Rattle.topology_drafts.specs.declared.bad.BadTopology.{BadTopology}
+use Rattle.topology_drafts.specs.declared.bad.BadTopology.TheVariants.{Repeated, Absent, Argument, Worded, TooMany, NoExchange, Memory}
 
 -- no two queues and no two exchanges have one name
 pub record NamesApart (t : Topology) : Type 0 where
@@ -89,7 +89,7 @@ pub record IsBuildable (t : Topology) : Type 0 where
   pub lead : NamesLead t
 
 -- This stands against it, and nothing that is looked for before. Want of memory is nothing that stands against it.
-abbrev pub StandsAgainst : Bad → Topology → Type 0
+abbrev pub StandsAgainst : BadTopology → Topology → Type 0
 StandsAgainst Repeated t = NamesApart t → ⊥
 StandsAgainst Absent t = NamesApart t × (AllJoin t → ⊥)
 StandsAgainst Argument t = NamesApart t × AllJoin t × (KeysHaveExchanges t → ⊥)
@@ -99,16 +99,16 @@ StandsAgainst NoExchange t = NamesApart t × AllJoin t × KeysHaveExchanges t ×
 StandsAgainst Memory t = ⊥
 
 -- It is refused for what stands against it; memory is wanting only for what can be built.
-abbrev pub IsRefused : Bad → Topology → Type 0
-IsRefused Repeated t = StandsAgainst Repeated t
-IsRefused Absent t = StandsAgainst Absent t
-IsRefused Argument t = StandsAgainst Argument t
-IsRefused Worded t = StandsAgainst Worded t
-IsRefused TooMany t = StandsAgainst TooMany t
-IsRefused NoExchange t = StandsAgainst NoExchange t
-IsRefused Memory t = IsBuildable t
+abbrev pub IsTopologyRefused : BadTopology → Topology → Type 0
+IsTopologyRefused Repeated t = StandsAgainst Repeated t
+IsTopologyRefused Absent t = StandsAgainst Absent t
+IsTopologyRefused Argument t = StandsAgainst Argument t
+IsTopologyRefused Worded t = StandsAgainst Worded t
+IsTopologyRefused TooMany t = StandsAgainst TooMany t
+IsTopologyRefused NoExchange t = StandsAgainst NoExchange t
+IsTopologyRefused Memory t = IsBuildable t
 
 -- What is handed in is built as it is, or refused.
-abbrev pub Builds : Result Topology Bad → Topology → Type 0
+abbrev pub Builds : Result Topology BadTopology → Topology → Type 0
 Builds (Ok t) given = (t ≡ given) × IsBuildable given
-Builds (Err e) given = IsRefused e given
+Builds (Err e) given = IsTopologyRefused e given

@@ -9,7 +9,7 @@ pub record AreNames (known names : List Text) : Type 0 where
   pub apart : AreApart names
 
 -- a new name is put behind the others, and one that is there is left
-pub record Enters (name : Text) (old new : List Text) (added : Bool) : Type 0 where
+pub record EntersName (name : Text) (old new : List Text) (added : Bool) : Type 0 where
   pub is_new : added ≡ true → IsIn name old → ⊥
   pub behind : added ≡ true → new ≡ old ++ name ∷ []
   pub was_there : added ≡ false → IsIn name old

@@ -4,7 +4,7 @@ use std::alloc::{AllocError, AllocFailed};
 
 /// What stands against a topology. Of several the first of these is told.
 #[derive(Clone, Copy, PartialEq, Eq, Debug, Drop)]
-pub enum Bad {
+pub enum BadTopology {
     /// Two queues or two exchanges have one name.
     Repeated,
     /// The source or the destination of a binding is not there.
@@ -22,24 +22,24 @@ pub enum Bad {
     Memory,
 }
 
-impl From<AllocError> for Bad {
+impl From<AllocError> for BadTopology {
     ghost use Rattle.std.specs.Prelude.{◌≡◌};
-    ghost use Rattle.topology_drafts.specs.declared.bad.Bad.TheVariants.{Memory};
+    ghost use Rattle.topology_drafts.specs.declared.bad.BadTopology.TheVariants.{Memory};
 
     ghost from_gives = { λ _ r. r ≡ Memory };
 
-    fn from(_: AllocError) -> Bad {
-        Bad::Memory
+    fn from(_: AllocError) -> BadTopology {
+        BadTopology::Memory
     }
 }
 
-impl<T: Drop> From<AllocFailed<T>> for Bad {
+impl<T: Drop> From<AllocFailed<T>> for BadTopology {
     ghost use Rattle.std.specs.Prelude.{◌≡◌};
-    ghost use Rattle.topology_drafts.specs.declared.bad.Bad.TheVariants.{Memory};
+    ghost use Rattle.topology_drafts.specs.declared.bad.BadTopology.TheVariants.{Memory};
 
     ghost from_gives = { λ _ r. r ≡ Memory };
 
-    fn from(_: AllocFailed<T>) -> Bad {
-        Bad::Memory
+    fn from(_: AllocFailed<T>) -> BadTopology {
+        BadTopology::Memory
     }
 }

@@ -3,7 +3,7 @@
 ghost use Rattle.std.specs.Prelude.{◌≡◌, ◌<◌, [], List, ℕ, length, Decides, IfOk, IfSome, MatchOption, OnErr, map, position};
 ghost use Rattle.std.specs.Str.{bytes_eq};
 ghost use Rattle.model.specs.Topology.{AreApart, IsIn};
-ghost use Rattle.topology_drafts.specs.Naming.{AreNames, Enters};
+ghost use Rattle.topology_drafts.specs.Naming.{AreNames, EntersName};
 
 use indexmap::IndexSet;
 use model::{DeclaredQueue, Exchange};
@@ -67,7 +67,7 @@ impl Names {
     /// Puts a name behind the others, unless it is among them, and tells whether it is a new one. Where memory is wanting,
     /// the names are as before.
     pub fn enter(&mut self, alloc: Global, name: &[u8]) -> Result<bool, AllocError>
-        ensures entered { IfOk result (λ new. Enters name.now self.old self.new new) }
+        ensures entered { IfOk result (λ new. EntersName name.now self.old self.new new) }
         ensures same { OnErr result (self.new ≡ self.old) }
     {
         let key = name.to_vec(alloc)?;

@@ -15,7 +15,7 @@ ghost use Rattle.topology_drafts.specs.Causes.{
   StandsAgainst,
 };
 
-use crate::bad::Bad;
+use crate::bad::BadTopology;
 use crate::checks::{
     all_dead_letters_lead, all_join, all_keyed, all_named, all_worded, alternates_are_there,
     keys_have_exchanges,
@@ -135,26 +135,26 @@ impl<'a> Draft<'a> {
     }
 
     /// What stands against these first, if anything does. It takes no memory.
-    fn judge(&self) -> Result<(), Bad>
+    fn judge(&self) -> Result<(), BadTopology>
         ensures { MatchResult result (λ _. IsBuildable self.now) (λ e. StandsAgainst e self.now) }
     {
         if !self.is_apart() {
-            return Err(Bad::Repeated);
+            return Err(BadTopology::Repeated);
         }
         if !self.joins() {
-            return Err(Bad::Absent);
+            return Err(BadTopology::Absent);
         }
         if !self.has_exchanges_for_keys() {
-            return Err(Bad::Argument);
+            return Err(BadTopology::Argument);
         }
         if !self.is_worded() {
-            return Err(Bad::Worded);
+            return Err(BadTopology::Worded);
         }
         if !self.is_small() {
-            return Err(Bad::TooMany);
+            return Err(BadTopology::TooMany);
         }
         if !self.leads() {
-            return Err(Bad::NoExchange);
+            return Err(BadTopology::NoExchange);
         }
         Ok(())
     }
@@ -166,7 +166,7 @@ pub fn judge(
     exchanges: &[Exchange],
     queues: &[DeclaredQueue],
     bindings: &[Binding],
-) -> Result<(), Bad>
+) -> Result<(), BadTopology>
     ensures { MatchResult result (λ _. IsBuildable (record { exchanges = exchanges.now; queues = queues.now; bindings = bindings.now })) (λ e. StandsAgainst e (record { exchanges = exchanges.now; queues = queues.now; bindings = bindings.now })) }
 {
     let draft = Draft::of(alloc, exchanges, queues, bindings);

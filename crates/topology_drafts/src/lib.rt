@@ -6,6 +6,6 @@ mod checks;
 mod directory;
 mod drafts;
 
-pub use bad::Bad;
+pub use bad::BadTopology;
 pub use directory::{Directory, Named, Names};
 pub use drafts::{Draft, judge};

@@ -9,14 +9,14 @@ use Rattle.model.specs.Certificates.{Certificate}
 use Rattle.certificate_laws.proofs.Certificates.{certificate_sound}
 use Rattle.certificate_laws.proofs.Refutations.{refutation_sound}
 use Rattle.certificate_laws.proofs.Trackings.{contained}
-use Rattle.certificate.specs.Certified.{IsCertified, AreCertifiedBelow, AreCertified}
+use Rattle.certificate.specs.Certified.{IsCertifiedAt, AreCertifiedBelow, AreCertified}
 use Rattle.certificate.proofs.Certifying.{certified_all, certified_hold}
 use Rattle.certificate_check.specs.declared.faults.CertFault.TheVariants.{Form}
 use Rattle.topology_drafts.proofs.Members.{contains_in}
 use Rattle.guarantee_search.specs.Verdicts.{FindsVerdict}
 use Rattle.guarantee_search.specs.declared.verdicts.Verdict.{Verdict}
 use Rattle.guarantee_search.specs.declared.verdicts.Verdict.TheVariants.{Yes, No, Undecided}
-use Rattle.verdicts.specs.Verdicts.{EachWith, AreFound, IsMeant, is_no, is_undecided, status_of_verdicts}
+use Rattle.verdicts.specs.Verdicts.{EachWith, FindsVerdicts, IsMeant, is_no, is_undecided, status_of_verdicts}
 use Rattle.verdicts.specs.Outcomes.{Outcome, TellsOutcome, AreOutcomes, of_too_many, is_fault, status_of_outcomes}
 
 -- ---- verdicts
@@ -53,7 +53,7 @@ is_one true b e = refl
 is_one false true e = absurd (cc)
 is_one false false e = absurd (cc)
 
-pub verdicts_mean : (t : Topology) (gs : List Guarantee) (vs : List Verdict) (status : ℕ) → AreFound t gs vs → status ≡ status_of_verdicts vs → IsMeant t gs status
+pub verdicts_mean : (t : Topology) (gs : List Guarantee) (vs : List Verdict) (status : ℕ) → FindsVerdicts t gs vs → status ≡ status_of_verdicts vs → IsMeant t gs status
 verdicts_mean t gs vs status f e = record {
   hold = λ z g c. (let both = is_zero (list_any is_no vs) (list_any is_undecided vs) (sym e ∙ z) in all_yes t 0 gs vs f both.0 both.1 g (contained gs g c));
   fails = λ z. (let s = some_no t 0 gs vs f (is_one (list_any is_no vs) (list_any is_undecided vs) (sym e ∙ z)) in (s.0, contains_in gs s.0 s.1, s.2));
@@ -79,17 +79,17 @@ none_too_many : (gs : List Guarantee) (cs : List Certificate) → list_any is_fa
 none_too_many gs cs e = fewer gs cs (ltb (length gs) (length cs)) refl e
 
 all_accepted : (t : Topology) (cs : List Certificate) (n : ℕ) (gs : List Guarantee) (os : List Outcome) → EachWith (TellsOutcome t cs) n gs os → list_any is_fault os ≡ false
-    → (i : ℕ) (g : Guarantee) → slice_get gs i ≡ Some g → IsCertified t g cs (n + i)
+    → (i : ℕ) (g : Guarantee) → slice_get gs i ≡ Some g → IsCertifiedAt t g cs (n + i)
 all_accepted t cs n [] os f a i g s = let z : None ≡ Some g = s in absurd (cc)
 all_accepted t cs n (h ∷ gs) [] f a i g s = absurd f
 all_accepted t cs n (h ∷ gs) (Err e ∷ os) f a i g s = absurd (cc)
 all_accepted t cs n (h ∷ gs) (Ok u ∷ os) f a zero g s =
     let same : h ≡ g = (let z : Some h ≡ Some g = s in cc) in
     let here : n ≡ n + zero = omega arith in
-    subst (λ (k : ℕ). IsCertified t g cs k) here (subst (λ (z : Guarantee). IsCertified t z cs n) same f.0.0)
+    subst (λ (k : ℕ). IsCertifiedAt t g cs k) here (subst (λ (z : Guarantee). IsCertifiedAt t z cs n) same f.0.0)
 all_accepted t cs n (h ∷ gs) (Ok u ∷ os) f a (suc i) g s =
     let there : (n + 1) + i ≡ n + suc i = omega arith in
-    subst (λ (k : ℕ). IsCertified t g cs k) there (all_accepted t cs (n + 1) gs os f.1 a i g s)
+    subst (λ (k : ℕ). IsCertifiedAt t g cs k) there (all_accepted t cs (n + 1) gs os f.1 a i g s)
 
 -- the status by whether some certificate has a fault
 abbrev status_if : Bool → ℕ
@@ -103,7 +103,7 @@ outcomes_certify : (t : Topology) (gs : List Guarantee) (cs : List Certificate) 
 outcomes_certify t gs cs os o a =
     let whole : list_any is_fault (o.own ++ of_too_many gs cs) ≡ false = subst (λ (z : List Outcome). list_any is_fault z ≡ false) o.all a in
     let few : length cs ≤ length gs = none_too_many gs cs (any_right o.own (of_too_many gs cs) whole) in
-    let below : AreCertifiedBelow t gs cs (length gs) = λ i g l s. (let none : 0 + i ≡ i = omega arith in subst (λ (k : ℕ). IsCertified t g cs k) none (all_accepted t cs 0 gs o.own o.told (any_left o.own (of_too_many gs cs) whole) i g s)) in
+    let below : AreCertifiedBelow t gs cs (length gs) = λ i g l s. (let none : 0 + i ≡ i = omega arith in subst (λ (k : ℕ). IsCertifiedAt t g cs k) none (all_accepted t cs 0 gs o.own o.told (any_left o.own (of_too_many gs cs) whole) i g s)) in
     certified_all t gs cs (length gs) (omega arith) few below
 
 pub outcomes_mean : (t : Topology) (gs : List Guarantee) (cs : List Certificate) (os : List Outcome) (status : ℕ) → AreOutcomes t gs cs os → status ≡ status_of_outcomes os

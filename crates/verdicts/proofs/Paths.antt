@@ -1,5 +1,5 @@
 -- The words of a path.
-use Rattle.std.proofs.Common.{◌≡◌, ◌∙◌, ℕ, List, [], ◌∷◌, ◌++◌, refl, sym, ap, length, drop, map, append_assoc}
+use Rattle.std.proofs.Common.{◌≡◌, ◌∙◌, List, [], ◌∷◌, ◌++◌, refl, sym, ap, map, append_assoc}
 use Rattle.std.specs.Prelude.{codes}
 use Rattle.model.specs.Words.{Text}
 use Rattle.scripts.specs.Transcript.{more_words, name_word}

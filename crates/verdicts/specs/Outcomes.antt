@@ -27,18 +27,18 @@ abbrev pub Outcome : Type 0
 Outcome = Result Unit CertFault
 
 -- want of memory is told of no certificate
-abbrev pub IsTold : Outcome → Type 0
-IsTold (Ok u) = Unit {0}
-IsTold (Err Start) = Unit {0}
-IsTold (Err (Open at word)) = Unit {0}
-IsTold (Err (Missed at)) = Unit {0}
-IsTold (Err (Forbidden at)) = Unit {0}
-IsTold (Err Form) = Unit {0}
-IsTold (Err Memory) = ⊥
+abbrev pub IsOutcomeTold : Outcome → Type 0
+IsOutcomeTold (Ok u) = Unit {0}
+IsOutcomeTold (Err Start) = Unit {0}
+IsOutcomeTold (Err (Open at word)) = Unit {0}
+IsOutcomeTold (Err (Missed at)) = Unit {0}
+IsOutcomeTold (Err (Forbidden at)) = Unit {0}
+IsOutcomeTold (Err Form) = Unit {0}
+IsOutcomeTold (Err Memory) = ⊥
 
 -- the certificate at this place is accepted for the guarantee, or this is its first fault; where there is none, that is fault 5
 abbrev pub TellsOutcome : Topology → List Certificate → ℕ → Guarantee → Outcome → Type 0
-TellsOutcome t cs place g o = ChecksAt t g cs place o × IsTold o
+TellsOutcome t cs place g o = ChecksAt t g cs place o × IsOutcomeTold o
 
 -- fault 5 once more where a certificate has no guarantee
 abbrev pub of_too_many : List Guarantee → List Certificate → List Outcome

@@ -6,8 +6,8 @@ use Rattle.model.specs.Topology.{Topology}
 use Rattle.model.specs.Guarantee.{Guarantee, Holds, AllHold}
 use Rattle.model.specs.Certificates.{Certificate}
 use Rattle.guarantee_search.specs.Verdicts.{FindsVerdict}
-use Rattle.guarantee_search.specs.declared.verdicts.Cause.{Cause}
-use Rattle.guarantee_search.specs.declared.verdicts.Cause.TheVariants.{TooManyStates, KeyTooLong, Unfit}
+use Rattle.guarantee_search.specs.declared.verdicts.UndecidedCause.{UndecidedCause}
+use Rattle.guarantee_search.specs.declared.verdicts.UndecidedCause.TheVariants.{TooManyStates, KeyTooLong, Unfit}
 use Rattle.guarantee_search.specs.declared.verdicts.Verdict.{Verdict}
 use Rattle.guarantee_search.specs.declared.verdicts.Verdict.TheVariants.{Yes, No, Undecided}
 use Rattle.scripts.specs.Transcript.{line, name_word}
@@ -22,8 +22,8 @@ EachWith P n (x ∷ xs) (y ∷ ys) = P n x y × EachWith P (n + 1) xs ys
 -- ---- verdicts
 
 -- a verdict on each guarantee: a certificate that is accepted, a key that breaks it, or why there is neither
-abbrev pub AreFound : Topology → List Guarantee → List Verdict → Type 0
-AreFound t gs vs = EachWith (λ place g v. FindsVerdict t g v) 0 gs vs
+abbrev pub FindsVerdicts : Topology → List Guarantee → List Verdict → Type 0
+FindsVerdicts t gs vs = EachWith (λ place g v. FindsVerdict t g v) 0 gs vs
 
 -- it is broken
 abbrev pub is_no : Verdict → Bool
@@ -51,10 +51,10 @@ certificates_in (Undecided why ∷ vs) = certificates_in vs
 -- ---- lines
 
 -- why it is undecided, in a word
-abbrev pub cause_word : Cause → Text
-cause_word TooManyStates = codes "states"
-cause_word KeyTooLong = codes "key"
-cause_word Unfit = codes "form"
+abbrev pub undecided_word : UndecidedCause → Text
+undecided_word TooManyStates = codes "states"
+undecided_word KeyTooLong = codes "key"
+undecided_word Unfit = codes "form"
 
 -- the names of a path, each behind a space
 abbrev pub names_text : List Text → Text
@@ -75,7 +75,7 @@ path_words (n ∷ ns) = codes "path" ∷ name_word n ∷ map name_word ns
 abbrev pub verdict_line : ℕ → Verdict → Text
 verdict_line number (Yes c) = line (decimal number ∷ codes "yes states" ∷ decimal (length c.states) ∷ [])
 verdict_line number (No r) = line (decimal number ∷ codes "no key" ∷ name_word r.key ∷ path_words r.path)
-verdict_line number (Undecided why) = line (decimal number ∷ codes "undecided" ∷ cause_word why ∷ [])
+verdict_line number (Undecided why) = line (decimal number ∷ codes "undecided" ∷ undecided_word why ∷ [])
 
 -- the lines of some verdicts, numbered from here on
 abbrev pub verdict_lines : ℕ → List Verdict → Text
@@ -88,8 +88,8 @@ pub record IsMeant (t : Topology) (gs : List Guarantee) (status : ℕ) : Type 0 
   pub fails : status ≡ 1 → (g : Guarantee) × Contains gs g × (Holds t g → ⊥)
 
 -- The text and the status tell of each guarantee that it holds, by a certificate, that it fails, by a key, or why neither was found.
-pub record Judges (t : Topology) (gs : List Guarantee) (verdicts : List Verdict) (text : Text) (status : ℕ) : Type 0 where
-  pub found : AreFound t gs verdicts
+pub record JudgesAll (t : Topology) (gs : List Guarantee) (verdicts : List Verdict) (text : Text) (status : ℕ) : Type 0 where
+  pub found : FindsVerdicts t gs verdicts
   pub shown : text ≡ verdict_lines 1 verdicts
   pub status_is : status ≡ status_of_verdicts verdicts
   pub means : IsMeant t gs status

@@ -4,12 +4,12 @@ ghost use Rattle.std.specs.Prelude.{◌≡◌, ◌++◌, ◌∷◌, [], codes, d
 ghost use Rattle.std.specs.List.{list_any};
 ghost use Rattle.scripts.specs.Transcript.{line, name_word};
 ghost use Rattle.verdicts.specs.Verdicts.{
-  AreFound,
+  FindsVerdicts,
   certificates_in,
-  cause_word,
+  undecided_word,
   is_no,
   is_undecided,
-  Judges,
+  JudgesAll,
   path_text,
   path_words,
   status_of_verdicts,
@@ -19,7 +19,7 @@ ghost use Rattle.verdicts.specs.Verdicts.{
 
 use certificate_check::Certificate;
 use exchange_graph::Topology;
-use guarantee_search::{Cause, Verdict, search};
+use guarantee_search::{UndecidedCause, Verdict, search};
 use guarantees::Guarantee;
 use model::Text;
 use scripts::{name_word, put_line};
@@ -38,7 +38,7 @@ fn verdicts_on(
     topology: &Topology,
     guarantees: &[Guarantee],
 ) -> Result<Vec<Verdict>, AllocError>
-    ensures { IfOk result (λ verdicts. AreFound topology.now guarantees.now verdicts.items) }
+    ensures { IfOk result (λ verdicts. FindsVerdicts topology.now guarantees.now verdicts.items) }
 {
     let mut verdicts = Vec::new(alloc);
     for guarantee in guarantees {
@@ -95,21 +95,21 @@ fn no_line(alloc: Global, number: u64, key: &[u8], path: &[Text]) -> Result<Stri
 }
 
 /// Why a guarantee is not decided, in a word.
-fn cause_word(cause: Cause) -> &'static str
-    ensures { result.now ≡ cause_word cause }
+fn undecided_word(cause: UndecidedCause) -> &'static str
+    ensures { result.now ≡ undecided_word cause }
 {
     match cause {
-        Cause::TooManyStates => "states",
-        Cause::KeyTooLong => "key",
-        Cause::Unfit => "form",
+        UndecidedCause::TooManyStates => "states",
+        UndecidedCause::KeyTooLong => "key",
+        UndecidedCause::Unfit => "form",
     }
 }
 
 /// The line of a guarantee that is not decided.
-fn undecided_line(alloc: Global, number: u64, cause: Cause) -> Result<String, AllocError>
-    ensures { IfOk result (λ text. string_bytes text ≡ line (decimal number ∷ codes "undecided" ∷ cause_word cause ∷ [])) }
+fn undecided_line(alloc: Global, number: u64, cause: UndecidedCause) -> Result<String, AllocError>
+    ensures { IfOk result (λ text. string_bytes text ≡ line (decimal number ∷ codes "undecided" ∷ undecided_word cause ∷ [])) }
 {
-    let cause = cause_word(cause);
+    let cause = undecided_word(cause);
     format!(in alloc; "{number} undecided {cause}\n")
 }
 
@@ -228,7 +228,7 @@ pub fn judge(
     topology: &Topology,
     guarantees: &[Guarantee],
 ) -> Result<(Output, Vec<Verdict>), AllocError>
-    ensures { IfOk result (λ r. Judges topology.now guarantees.now r.1.items r.0.text.items r.0.status) }
+    ensures { IfOk result (λ r. JudgesAll topology.now guarantees.now r.1.items r.0.text.items r.0.status) }
 {
     let verdicts = verdicts_on(alloc, topology, guarantees)?;
     let output = output_of(alloc, verdicts.as_slice())?;

@@ -4,7 +4,9 @@
 ghost use Rattle.std.specs.Prelude.{◌≤◌, length, IfOk};
 
 use command_line::{Asked, command};
-use server::{Files, Refusal, Told, Unread, Unwritten, program, refuse_memory, started, tell};
+use server::{
+    CommandRefusal, Files, NotWritten, Told, Unread, program, refuse_memory, started, tell,
+};
 use serving::{Server, serve};
 use sockets::Sockets;
 use std::alloc::Global;
@@ -69,10 +71,10 @@ impl Files for Disk<'_> {
         }
     }
 
-    fn write(&mut self, name: &str, bytes: &[u8]) -> Result<(), Unwritten> {
+    fn write(&mut self, name: &str, bytes: &[u8]) -> Result<(), NotWritten> {
         match fs::write(self.rt, name, bytes) {
             Ok(()) => Ok(()),
-            Err(_) => Err(Unwritten),
+            Err(_) => Err(NotWritten),
         }
     }
 }
@@ -175,7 +177,7 @@ fn serve_clients<O: Write, E: Write>(
         return refuse_memory(err);
     };
     let Some(mut sockets) = listening(rt, asked.listen) else {
-        let why = Refusal::NotListening;
+        let why = CommandRefusal::NotListening;
         return tell(alloc, err, Told { file: "", why });
     };
     if tell_address(&sockets, out).is_err() {

@@ -21,7 +21,7 @@ use std::alloc::{AllocError, Global};
 use std::marker::Model;
 
 /// A set of places, by a bit for each.
-pub(crate) type Marks = Over<Flat>;
+pub(crate) type SeatMarks = Over<Flat>;
 
 /// Two consumers are one.
 fn is_same(one: Pick, other: Pick) -> bool
@@ -52,7 +52,7 @@ fn place_of(seats: &[Seat], consumer: Pick, guess: usize) -> Option<usize>
 }
 
 /// The seat at this place is awake from now on.
-fn rouse(seats: &mut [Seat], awake: &mut Marks, place: usize)
+fn rouse(seats: &mut [Seat], awake: &mut SeatMarks, place: usize)
     requires within { place < length seats.old }
     requires room { length seats.old ≤ length awake.old * 64 }
     ensures len { length awake.new ≡ length awake.old }
@@ -64,7 +64,7 @@ fn rouse(seats: &mut [Seat], awake: &mut Marks, place: usize)
 }
 
 /// This consumer's seat is awake from now on, if it is there; it is looked for at this place first. Tells whether it is there.
-fn wake_seat(seats: &mut [Seat], awake: &mut Marks, consumer: Pick, guess: usize) -> bool
+fn wake_seat(seats: &mut [Seat], awake: &mut SeatMarks, consumer: Pick, guess: usize) -> bool
     requires { length seats.old ≤ length awake.old * 64 }
     ensures len { length awake.new ≡ length awake.old }
     ensures yes { result ≡ true → IsAwake (ring_of seats.new awake.new) consumer }
@@ -102,7 +102,7 @@ fn staying(seats: &[Seat], core: &Core) -> usize
 }
 
 /// Picks look at all seats at places below this from now on.
-fn mark_all(awake: &mut Marks, count: usize)
+fn mark_all(awake: &mut SeatMarks, count: usize)
     requires { count ≤ length awake.old * 64 }
     ensures len { length awake.new ≡ length awake.old }
     ensures marked { (i : ℕ) → i < count → bit_of awake.new i ≡ 1 }
@@ -117,7 +117,7 @@ fn mark_all(awake: &mut Marks, count: usize)
 /// gone.
 fn make_room(
     seats: &mut Vec<Seat>,
-    awake: &mut Marks,
+    awake: &mut SeatMarks,
     next: &mut usize,
     core: &Core,
 ) -> Result<(), AllocError>
@@ -142,7 +142,7 @@ fn make_room(
 /// consumer that is there is gone.
 fn add_seat(
     seats: &mut Vec<Seat>,
-    awake: &mut Marks,
+    awake: &mut SeatMarks,
     next: &mut usize,
     core: &Core,
     consumer: Pick,
@@ -163,7 +163,7 @@ fn add_seat(
 }
 
 /// Whether picks look at one of the seats at places below this.
-fn any_marked(awake: &Marks, count: usize) -> bool
+fn any_marked(awake: &SeatMarks, count: usize) -> bool
     ensures yes { result ≡ true → (i : ℕ) × (i < count) × (bit_of awake.now i ≡ 1) }
     ensures no { result ≡ false → (i : ℕ) → i < count → bit_of awake.now i ≡ 0 }
 {
@@ -210,7 +210,7 @@ fn rest(
     core: &Core,
     queue: usize,
     seats: &mut [Seat],
-    awake: &mut Marks,
+    awake: &mut SeatMarks,
     desks: &mut Desks,
     place: usize,
 )
@@ -232,7 +232,7 @@ fn first_between(
     core: &Core,
     queue: usize,
     seats: &mut [Seat],
-    awake: &mut Marks,
+    awake: &mut SeatMarks,
     desks: &mut Desks,
     from: usize,
     to: usize,
@@ -266,7 +266,7 @@ fn first_round(
     core: &Core,
     queue: usize,
     seats: &mut [Seat],
-    awake: &mut Marks,
+    awake: &mut SeatMarks,
     desks: &mut Desks,
     next: usize,
 ) -> Option<usize>
@@ -289,7 +289,7 @@ fn first_round(
 pub(crate) struct Ring {
     seats: Vec<Seat>,
     /// A bit for each seat, 1 where picks look at it: where it is awake, and after a sweep until one has looked.
-    awake: Marks,
+    awake: SeatMarks,
     /// The place behind the seat that was picked last.
     next: usize,
 }

@@ -6,12 +6,12 @@
 
 ghost use Rattle.std.specs.Prelude.{◌≡◌, ◌<◌, ◌≤◌, ◌*◌, [], ℕ, None, IfSome, IfOk, OnOk, length};
 ghost use Rattle.marks.specs.Places.{bit_of};
-ghost use Rattle.broker_core.specs.State.{topology_of};
+ghost use Rattle.broker_core.specs.State.{topology_kept};
 ghost use Rattle.broker_core.specs.Picked.{IsPickFrom};
 ghost use Rattle.broker.specs.Roster.{ring_at, rings_of, IsAwake, IsAsleep, QueuesAreMarked, IsNextMarked, KeepRings, KeepsSeats, ListsMore, AllWaken, NoneSeated, NoneBetween};
 
 use crate::roster::desk::Desks;
-use crate::roster::ring::{Marks, Ring};
+use crate::roster::ring::{Ring, SeatMarks};
 use broker_core::{Core, Pick};
 use marks::{Flat, Over, Places};
 use std::alloc::{AllocError, Global};
@@ -19,7 +19,7 @@ use std::marker::Model;
 
 /// A consumer to which a delivery can be made, from the queue at this place.
 #[derive(Clone, Copy, PartialEq, Eq, Debug, Drop)]
-struct Found {
+struct FoundSeat {
     queue: usize,
     pick: Pick,
 }
@@ -37,7 +37,7 @@ fn empty_rings(alloc: Global, count: usize) -> Result<Vec<Ring>, AllocError>
 }
 
 /// A bit for each of so many queues, none of which is 1.
-fn empty_marks(alloc: Global, count: usize) -> Result<Marks, AllocError>
+fn empty_marks(alloc: Global, count: usize) -> Result<SeatMarks, AllocError>
     ensures { IfOk result (λ marks. count ≤ length marks * 64) }
 {
     let mut marks = <Over<Flat>>::empty(alloc);
@@ -49,7 +49,7 @@ fn empty_marks(alloc: Global, count: usize) -> Result<Marks, AllocError>
 /// not; no seat of a consumer that is there is gone.
 fn seat_at(
     rings: &mut [Ring],
-    awake: &mut Marks,
+    awake: &mut SeatMarks,
     core: &Core,
     queue: usize,
     consumer: Pick,
@@ -65,7 +65,7 @@ fn seat_at(
 }
 
 /// This consumer's seat is awake from now on in the ring of the queue at this place, where it is looked for at this place first.
-fn wake_at(rings: &mut [Ring], awake: &mut Marks, queue: usize, consumer: Pick, guess: usize)
+fn wake_at(rings: &mut [Ring], awake: &mut SeatMarks, queue: usize, consumer: Pick, guess: usize)
     requires within { queue < length rings.old }
     requires marked { QueuesAreMarked rings.old awake.old }
     ensures woken { IsAsleep (ring_at rings.old queue) consumer → IsAwake (ring_at rings.new queue) consumer }
@@ -78,7 +78,7 @@ fn wake_at(rings: &mut [Ring], awake: &mut Marks, queue: usize, consumer: Pick, 
 
 /// The first place at or behind this one whose queue has something ready and whose bit is 1. The two sets are gone over by
 /// turns, so that no queue is looked at that is in one of them alone.
-fn next_both(core: &Core, awake: &Marks, from: usize) -> Option<usize>
+fn next_both(core: &Core, awake: &SeatMarks, from: usize) -> Option<usize>
     ensures { IsNextMarked core.now awake.now from result }
 {
     let mut next = from;
@@ -93,7 +93,7 @@ fn next_both(core: &Core, awake: &Marks, from: usize) -> Option<usize>
 }
 
 /// The bit of the queue at this place is 0 from now on if no seat of its ring is awake.
-fn settle(rings: &[Ring], awake: &mut Marks, queue: usize)
+fn settle(rings: &[Ring], awake: &mut SeatMarks, queue: usize)
     requires within { queue < length rings.now }
     requires marked { QueuesAreMarked rings.now awake.old }
     ensures { QueuesAreMarked rings.now awake.new }
@@ -106,7 +106,7 @@ fn settle(rings: &[Ring], awake: &mut Marks, queue: usize)
 /// The first delivery that can be made from the queue at this place, whose bit is 1.
 fn pick_at(
     rings: &mut [Ring],
-    awake: &mut Marks,
+    awake: &mut SeatMarks,
     core: &Core,
     desks: &mut Desks,
     queue: usize,
@@ -133,13 +133,13 @@ fn pick_at(
 /// The first delivery that can be made from one of the queues from this place on, up to that one.
 fn first_between(
     rings: &mut [Ring],
-    awake: &mut Marks,
+    awake: &mut SeatMarks,
     core: &Core,
     desks: &mut Desks,
     from: usize,
     to: usize,
-) -> Option<Found>
-    requires len { length rings.old ≡ length (topology_of core.now).queues }
+) -> Option<FoundSeat>
+    requires len { length rings.old ≡ length (topology_kept core.now).queues }
     requires marked { QueuesAreMarked rings.old awake.old }
     ensures kept { KeepsSeats core.now (rings_of rings.old desks.old.entries) (rings_of rings.new desks.new.entries) }
     ensures more { ListsMore desks.old.entries desks.new.entries }
@@ -154,7 +154,7 @@ fn first_between(
             return None;
         }
         if let Some(pick) = pick_at(rings, awake, core, desks, queue) {
-            return Some(Found { queue, pick });
+            return Some(FoundSeat { queue, pick });
         }
         next = queue + 1;
     }
@@ -164,12 +164,12 @@ fn first_between(
 /// The first delivery that can be made from one of the queues, from this place on and then from the front.
 fn first_round(
     rings: &mut [Ring],
-    awake: &mut Marks,
+    awake: &mut SeatMarks,
     core: &Core,
     desks: &mut Desks,
     next: usize,
-) -> Option<Found>
-    requires len { length rings.old ≡ length (topology_of core.now).queues }
+) -> Option<FoundSeat>
+    requires len { length rings.old ≡ length (topology_kept core.now).queues }
     requires marked { QueuesAreMarked rings.old awake.old }
     ensures kept { KeepsSeats core.now (rings_of rings.old desks.old.entries) (rings_of rings.new desks.new.entries) }
     ensures more { ListsMore desks.old.entries desks.new.entries }
@@ -189,7 +189,7 @@ fn first_round(
 pub(crate) struct Seating {
     rings: Vec<Ring>,
     /// A bit for each queue, 1 where some seat of its ring is awake.
-    awake: Marks,
+    awake: SeatMarks,
     /// The place behind the queue from which was picked last.
     next: usize,
 }
@@ -218,7 +218,7 @@ impl Model for Seating {
 
 impl Seating {
     ghost use Rattle.std.specs.Prelude.{◌≡◌, ◌<◌, ℕ, None, IfSome, IfOk, OnOk, length};
-    ghost use Rattle.broker_core.specs.State.{topology_of};
+    ghost use Rattle.broker_core.specs.State.{topology_kept};
     ghost use Rattle.broker_core.specs.Picked.{IsPickFrom};
     ghost use Rattle.broker.specs.Roster.{ring_at, rings_of, IsAwake, IsAsleep, KeepRings, KeepsSeats, ListsMore, AllWaken, NoneBetween};
 
@@ -260,7 +260,7 @@ impl Seating {
 
     /// The first delivery that can be made, from the queue behind that from which was picked last, and then from the front.
     pub fn pick(&mut self, core: &Core, desks: &mut Desks) -> Option<Pick>
-        requires { length self.old ≡ length (topology_of core.now).queues }
+        requires { length self.old ≡ length (topology_kept core.now).queues }
         ensures kept { KeepsSeats core.now (rings_of self.old desks.old.entries) (rings_of self.new desks.new.entries) }
         ensures more { ListsMore desks.old.entries desks.new.entries }
         ensures len { length self.new ≡ length self.old }

@@ -18,9 +18,9 @@ impl Core {
     ghost use Rattle.model.specs.Entries.{by_channel};
     ghost use Rattle.model.specs.Step.{Does, Is, Refuses, with_gone, with_closing, with_channel, after_close, reply};
     ghost use Rattle.model.specs.declared.methods.Method.TheVariants.{ChannelCloseOk};
-    ghost use Rattle.broker_core.specs.State.{broker_of, channel_on, topology_of, names_of};
+    ghost use Rattle.broker_core.specs.State.{broker_of, channel_on, topology_kept, names_of};
     ghost use Rattle.channel.specs.Open.{Open, open_in};
-    ghost use Rattle.judging.specs.Judged.{seen as said_of, HasChannel};
+    ghost use Rattle.judging.specs.Judged.{refusal_seen, HasChannel};
     ghost use Rattle.replies.specs.Sent.{AreAddressed};
 
     /// This close, or answer to a close, is sent, and the connection runs no more.
@@ -34,7 +34,7 @@ impl Core {
         requires addressed { IsAddressed connection send }
         ensures ok { IfOk result (λ s. Does s.sends.items s.notes.items (broker_of self.new) (send ∷ []) (with_gone (broker_of self.old) connection)) }
         ensures addressed { IfOk result (λ s. AreAddressed connection s.sends.items) }
-        ensures topology { topology_of self.new ≡ topology_of self.old }
+        ensures topology { topology_kept self.new ≡ topology_kept self.old }
         ensures err { OnErr result (self.new ≡ self.old) }
     {
         let step = Step::sending(alloc, send)?;
@@ -49,7 +49,7 @@ impl Core {
         requires nothing { (k : Open) → channel ≡ Some k → k.given.outstanding ≡ [] }
         requires free { (k : Open) → channel ≡ Some k → k.given.consumers ≡ [] }
         ensures cleared { Is (said.with_freed (with_channel (broker_of self.old) connection number (option_map (open_in (names_of self.old)) channel)) (by_channel connection number)) (broker_of self.new) }
-        ensures topology { topology_of self.new ≡ topology_of self.old }
+        ensures topology { topology_kept self.new ≡ topology_kept self.old }
     {
         self.depot.is_whole();
         places_are_named();
@@ -71,7 +71,7 @@ impl Core {
         requires addressed { IsAddressed connection send }
         ensures ok { IfOk result (λ s. Does s.sends.items s.notes.items (broker_of self.new) (send ∷ []) (with_closing (broker_of self.old) connection channel)) }
         ensures addressed { IfOk result (λ s. AreAddressed connection s.sends.items) }
-        ensures topology { topology_of self.new ≡ topology_of self.old }
+        ensures topology { topology_kept self.new ≡ topology_kept self.old }
         ensures err { OnErr result (self.new ≡ self.old) }
     {
         let step = Step::sending(alloc, send)?;
@@ -92,7 +92,7 @@ impl Core {
         requires closing { (channel_on self.old connection channel).is_closing ≡ is_closing }
         ensures ok { IfOk result (λ s. Does s.sends.items s.notes.items (broker_of self.new) (reply connection channel ChannelCloseOk ∷ []) (after_close (broker_of self.old) connection channel (channel_on self.old connection channel))) }
         ensures addressed { IfOk result (λ s. AreAddressed connection s.sends.items) }
-        ensures topology { topology_of self.new ≡ topology_of self.old }
+        ensures topology { topology_kept self.new ≡ topology_kept self.old }
         ensures err { OnErr result (self.new ≡ self.old) }
     {
         let step = Step::sending(alloc, channel_close_ok(connection, channel))?;
@@ -106,7 +106,7 @@ impl Core {
     pub(crate) fn end_channel(&mut self, alloc: Global, connection: u64, channel: u16) -> Step
         requires { IsSome ((broker_of self.old).channel connection channel) }
         ensures does { Does result.sends.items result.notes.items (broker_of self.new) [] (with_channel (broker_of self.old) connection channel None) }
-        ensures topology { topology_of self.new ≡ topology_of self.old }
+        ensures topology { topology_kept self.new ≡ topology_kept self.old }
     {
         self.links.put(connection, channel, None);
         Step::nothing(alloc)
@@ -124,10 +124,10 @@ impl Core {
     ) -> Result<Step, AllocError>
         requires agreed { IsAgreed (broker_of self.old) }
         requires there { HasChannel refusal ((broker_of self.old).channel connection channel) }
-        ensures ok { IfOk result (λ s. Refuses (broker_of self.old) connection channel (ids cause.class cause.method) (said_of refusal) s.sends.items s.notes.items (broker_of self.new)) }
-        ensures ignored { said_of refusal ≡ said.Ignored → IsOk result }
+        ensures ok { IfOk result (λ s. Refuses (broker_of self.old) connection channel (ids cause.class cause.method) (refusal_seen refusal) s.sends.items s.notes.items (broker_of self.new)) }
+        ensures ignored { refusal_seen refusal ≡ said.Ignored → IsOk result }
         ensures addressed { IfOk result (λ s. AreAddressed connection s.sends.items) }
-        ensures topology { topology_of self.new ≡ topology_of self.old }
+        ensures topology { topology_kept self.new ≡ topology_kept self.old }
         ensures err { OnErr result (self.new ≡ self.old) }
     {
         match refusal {

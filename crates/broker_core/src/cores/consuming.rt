@@ -5,7 +5,7 @@ ghost use Rattle.replies.specs.Sent.{AreAddressed};
 ghost use Rattle.broker_core.specs.Consumed as consumed;
 
 use crate::cores::Core;
-use channel::Refusal as Unmade;
+use channel::SeatRefusal;
 use judging::Refusal;
 use model::{Cancel, Consume, Ids, Text};
 use replies::{Step, answer_cancel, answer_consume};
@@ -18,14 +18,14 @@ const CONSUME: Ids = Ids {
 };
 
 /// The reply code of a consume that is refused so; none where memory was wanting.
-fn code_of(why: Unmade) -> Option<u16>
+fn code_of(why: SeatRefusal) -> Option<u16>
     ensures { result ≡ consumed.code_of why }
 {
     match why {
-        Unmade::InUse => Some(530),
-        Unmade::TooMany => Some(506),
-        Unmade::Spent => Some(541),
-        Unmade::Memory => None,
+        SeatRefusal::InUse => Some(530),
+        SeatRefusal::TooMany => Some(506),
+        SeatRefusal::Spent => Some(541),
+        SeatRefusal::Memory => None,
     }
 }
 
@@ -36,9 +36,9 @@ impl Core {
     ghost use Rattle.model.specs.Step.{Cancels, refusal_of_seat};
     ghost use Rattle.model.specs.declared.contents.Content.{Content};
     ghost use Rattle.model.specs.declared.methods.Method.TheVariants.{BasicConsume, BasicCancel};
-    ghost use Rattle.broker_core.specs.State.{broker_of, channel_on, topology_of};
+    ghost use Rattle.broker_core.specs.State.{broker_of, channel_on, topology_kept};
     ghost use Rattle.broker_core.specs.Steps.{DecidesOn};
-    ghost use Rattle.judging.specs.Judged.{IsPlaceOf};
+    ghost use Rattle.judging.specs.Judged.{IsQueuePlace};
     ghost use Rattle.broker_core.specs.Consumed.{MakesConsumer};
 
     /// A consumer of the queue at this place is made on the channel, or refused: then nothing changes. Tells its tag.
@@ -49,11 +49,11 @@ impl Core {
         channel: u16,
         place: usize,
         consume: &Consume,
-    ) -> Result<Text, Unmade>
-        requires at { IsPlaceOf (topology_of self.old) consume.now.queue place }
+    ) -> Result<Text, SeatRefusal>
+        requires at { IsQueuePlace (topology_kept self.old) consume.now.queue place }
         requires there { IsSome ((broker_of self.old).channel connection channel) }
         ensures makes { MakesConsumer (broker_of self.old) connection channel (channel_on self.old connection channel) consume.now result (broker_of self.new) }
-        ensures topology { topology_of self.new ≡ topology_of self.old }
+        ensures topology { topology_kept self.new ≡ topology_kept self.old }
         ensures err { OnErr result (self.new ≡ self.old) }
     {
         self.links
@@ -72,11 +72,11 @@ impl Core {
         consume: &Consume,
     ) -> Result<Step, AllocError>
         requires agreed { IsAgreed (broker_of self.old) }
-        requires at { IsPlaceOf (topology_of self.old) consume.now.queue place }
+        requires at { IsQueuePlace (topology_kept self.old) consume.now.queue place }
         requires there { IsSome ((broker_of self.old).channel connection channel) }
         ensures ok { IfOk result (λ s. (content : Option Content) → DecidesOn self.old connection channel (BasicConsume consume.now) content (refusal_of_seat (channel_on self.old connection channel) consume.now) s.sends.items s.notes.items self.new) }
         ensures addressed { IfOk result (λ s. IsMethod (BasicConsume consume.now) → AreAddressed connection s.sends.items) }
-        ensures topology { topology_of self.new ≡ topology_of self.old }
+        ensures topology { topology_kept self.new ≡ topology_kept self.old }
         ensures err { OnErr result (self.new ≡ self.old) }
     {
         let mut step = Step::nothing(alloc);
@@ -111,7 +111,7 @@ impl Core {
         requires { IsSome ((broker_of self.old).channel connection channel) }
         ensures ok { IfOk result (λ s. Cancels (broker_of self.old) connection channel (channel_on self.old connection channel) cancel.now s.sends.items s.notes.items (broker_of self.new)) }
         ensures addressed { IfOk result (λ s. IsMethod (BasicCancel cancel.now) → AreAddressed connection s.sends.items) }
-        ensures topology { topology_of self.new ≡ topology_of self.old }
+        ensures topology { topology_kept self.new ≡ topology_kept self.old }
         ensures err { OnErr result (self.new ≡ self.old) }
     {
         let step = answer_cancel(alloc, connection, channel, cancel)?;

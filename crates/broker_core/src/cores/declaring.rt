@@ -10,8 +10,8 @@ impl Core {
     ghost use Rattle.model.specs.Step.{Does, Finds, declare_sends};
     ghost use Rattle.model.specs.declared.methods.Method.TheVariants.{ExchangeDeclareOk, QueueDeclare as DeclaresQueue};
     ghost use Rattle.model.specs.Grammar.{IsMethod};
-    ghost use Rattle.broker_core.specs.State.{broker_of, topology_of};
-    ghost use Rattle.judging.specs.Judged.{IsPlaceOf};
+    ghost use Rattle.broker_core.specs.State.{broker_of, topology_kept};
+    ghost use Rattle.judging.specs.Judged.{IsQueuePlace};
     ghost use Rattle.replies.specs.Sent.{AreAddressed};
 
     /// The exchange is there, and that is answered where an answer is wanted.
@@ -42,7 +42,7 @@ impl Core {
         place: usize,
         declare: &QueueDeclare,
     ) -> Result<Step, AllocError>
-        requires { IsPlaceOf (topology_of self.now) declare.now.queue place }
+        requires { IsQueuePlace (topology_kept self.now) declare.now.queue place }
         ensures ok { IfOk result (λ s. Finds (broker_of self.now) connection channel declare.now s.sends.items s.notes.items (broker_of self.now)) }
         ensures addressed { IfOk result (λ s. IsMethod (DeclaresQueue declare.now) → AreAddressed connection s.sends.items) }
     {

@@ -46,8 +46,8 @@ impl Core {
     ghost use Rattle.model.specs.Naming.{AreNamed};
     ghost use Rattle.model.specs.Sending.{AreCarried};
     ghost use Rattle.model.specs.Step.{IsDelivery};
-    ghost use Rattle.broker_core.specs.State.{broker_of, topology_of};
-    ghost use Rattle.broker_core.specs.Picked.{IsPick, IsPickFrom, IsNext, TakesAs, TellsConsumer, CannotTake};
+    ghost use Rattle.broker_core.specs.State.{broker_of, topology_kept};
+    ghost use Rattle.broker_core.specs.Picked.{IsPick, IsPickFrom, IsNextPicked, TakesAs, TellsConsumer, CannotTake};
     ghost use Rattle.channel.specs.declared.consumers.Consumer.{Consumer as One};
 
     /// The consumer of these numbers, exactly where it may take a message now.
@@ -62,7 +62,7 @@ impl Core {
 
     /// The first place at or behind this one whose queue has a message that can be given out.
     pub fn next_ready(&self, from: usize) -> Option<usize>
-        ensures { IsNext self.now from result }
+        ensures { IsNextPicked self.now from result }
     {
         self.depot.is_whole();
         places_are_named();
@@ -99,8 +99,8 @@ impl Core {
         requires agreed { IsAgreed (broker_of self.old) }
         requires picked { IsPick (broker_of self.old) pick }
         ensures ok { IfOk result (λ s. IsDelivery (broker_of self.old) pick.connection s.sends.items s.notes.items (broker_of self.new)) }
-        ensures addressed { IfOk result (λ s. AreCarried (broker_of self.old) → AreNamed (topology_of self.old) (broker_of self.old) → AreAddressed pick.connection s.sends.items) }
-        ensures topology { topology_of self.new ≡ topology_of self.old }
+        ensures addressed { IfOk result (λ s. AreCarried (broker_of self.old) → AreNamed (topology_kept self.old) (broker_of self.old) → AreAddressed pick.connection s.sends.items) }
+        ensures topology { topology_kept self.new ≡ topology_kept self.old }
         ensures err { OnErr result (self.new ≡ self.old) }
     {
         let Some(consumer) = self.taker(pick) else {

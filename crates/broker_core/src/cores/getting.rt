@@ -13,8 +13,8 @@ impl Core {
     ghost use Rattle.model.specs.Deliveries.{first_ready};
     ghost use Rattle.model.specs.Sending.{AreCarried};
     ghost use Rattle.model.specs.Step.{Gets, refusal_of_get};
-    ghost use Rattle.broker_core.specs.State.{broker_of, channel_on, topology_of};
-    ghost use Rattle.judging.specs.Judged.{IsPlaceOf};
+    ghost use Rattle.broker_core.specs.State.{broker_of, channel_on, topology_kept};
+    ghost use Rattle.judging.specs.Judged.{IsQueuePlace};
 
     /// A get from the queue at this place: its first ready message is given out, and leaves the queue where it needs no
     /// acknowledgement; or it is answered that there is none. All that takes memory is made before the first change.
@@ -27,12 +27,12 @@ impl Core {
         get: &Get,
     ) -> Result<Step, AllocError>
         requires agreed { IsAgreed (broker_of self.old) }
-        requires at { IsPlaceOf (topology_of self.old) get.now.queue place }
+        requires at { IsQueuePlace (topology_kept self.old) get.now.queue place }
         requires there { IsSome ((broker_of self.old).channel connection channel) }
-        requires accepted { refusal_of_get (topology_of self.old) (broker_of self.old) (channel_on self.old connection channel) get.now ≡ None }
+        requires accepted { refusal_of_get (topology_kept self.old) (broker_of self.old) (channel_on self.old connection channel) get.now ≡ None }
         ensures ok { IfOk result (λ s. Gets (broker_of self.old) connection channel (channel_on self.old connection channel) get.now (first_ready ((broker_of self.old).queue get.now.queue)) s.sends.items s.notes.items (broker_of self.new)) }
         ensures addressed { IfOk result (λ s. AreCarried (broker_of self.old) → AreAddressed connection s.sends.items) }
-        ensures topology { topology_of self.new ≡ topology_of self.old }
+        ensures topology { topology_kept self.new ≡ topology_kept self.old }
         ensures err { OnErr result (self.new ≡ self.old) }
     {
         self.depot.is_named(place);

@@ -12,15 +12,15 @@ impl Core {
     ghost use Rattle.model.specs.Deliveries.{after_delivery, first_ready};
     ghost use Rattle.model.specs.Step.{Is};
     ghost use Rattle.exchange_graph.specs.Marks.{queue_name};
-    ghost use Rattle.broker_core.specs.State.{broker_of, channel_on, topology_of};
+    ghost use Rattle.broker_core.specs.State.{broker_of, channel_on, topology_kept};
 
     /// The first ready message of the queue at this place leaves it, under the channel's next delivery tag.
     fn take_out(&mut self, connection: u64, channel: u16, place: usize, by: Taker)
-        requires within { place < length (topology_of self.old).queues }
+        requires within { place < length (topology_kept self.old).queues }
         requires there { IsSome ((broker_of self.old).channel connection channel) }
         requires tag { has_tag_left (channel_on self.old connection channel).next_tag ≡ true }
-        ensures left { Is (after_delivery (broker_of self.old) connection channel (channel_on self.old connection channel) true (queue_name (topology_of self.old) place) by) (broker_of self.new) }
-        ensures topology { topology_of self.new ≡ topology_of self.old }
+        ensures left { Is (after_delivery (broker_of self.old) connection channel (channel_on self.old connection channel) true (queue_name (topology_kept self.old) place) by) (broker_of self.new) }
+        ensures topology { topology_kept self.new ≡ topology_kept self.old }
     {
         self.depot.is_named(place);
         self.depot.take_first(place);
@@ -37,14 +37,14 @@ impl Core {
         tag: u64,
         by: Taker,
     ) -> Result<(), AllocError>
-        requires within { place < length (topology_of self.old).queues }
+        requires within { place < length (topology_kept self.old).queues }
         requires there { IsSome ((broker_of self.old).channel connection channel) }
         requires left { has_tag_left (channel_on self.old connection channel).next_tag ≡ true }
         requires tag { (channel_on self.old connection channel).next_tag ≡ tag }
         requires free { (q : Name) → find (is_held_as (record { connection = connection; channel = channel; tag = tag; by = by })) ((broker_of self.old).queue q) ≡ None }
-        requires ready { IsSome (first_ready ((broker_of self.old).queue (queue_name (topology_of self.old) place))) }
-        ensures left { OnOk result (Is (after_delivery (broker_of self.old) connection channel (channel_on self.old connection channel) false (queue_name (topology_of self.old) place) by) (broker_of self.new)) }
-        ensures topology { topology_of self.new ≡ topology_of self.old }
+        requires ready { IsSome (first_ready ((broker_of self.old).queue (queue_name (topology_kept self.old) place))) }
+        ensures left { OnOk result (Is (after_delivery (broker_of self.old) connection channel (channel_on self.old connection channel) false (queue_name (topology_kept self.old) place) by) (broker_of self.new)) }
+        ensures topology { topology_kept self.new ≡ topology_kept self.old }
         ensures err { OnErr result (self.new ≡ self.old) }
     {
         self.depot.is_named(place);
@@ -75,14 +75,14 @@ impl Core {
         by: Taker,
         no_ack: bool,
     ) -> Result<(), AllocError>
-        requires within { place < length (topology_of self.old).queues }
+        requires within { place < length (topology_kept self.old).queues }
         requires there { IsSome ((broker_of self.old).channel connection channel) }
         requires left { has_tag_left (channel_on self.old connection channel).next_tag ≡ true }
         requires tag { (channel_on self.old connection channel).next_tag ≡ tag }
         requires free { (q : Name) → find (is_held_as (record { connection = connection; channel = channel; tag = tag; by = by })) ((broker_of self.old).queue q) ≡ None }
-        requires ready { IsSome (first_ready ((broker_of self.old).queue (queue_name (topology_of self.old) place))) }
-        ensures left { OnOk result (Is (after_delivery (broker_of self.old) connection channel (channel_on self.old connection channel) no_ack (queue_name (topology_of self.old) place) by) (broker_of self.new)) }
-        ensures topology { topology_of self.new ≡ topology_of self.old }
+        requires ready { IsSome (first_ready ((broker_of self.old).queue (queue_name (topology_kept self.old) place))) }
+        ensures left { OnOk result (Is (after_delivery (broker_of self.old) connection channel (channel_on self.old connection channel) no_ack (queue_name (topology_kept self.old) place) by) (broker_of self.new)) }
+        ensures topology { topology_kept self.new ≡ topology_kept self.old }
         ensures err { OnErr result (self.new ≡ self.old) }
     {
         if no_ack {

@@ -10,7 +10,7 @@ impl Core {
     ghost use Rattle.model.specs.Broker.{new_channel};
     ghost use Rattle.model.specs.Step.{Does, with_channel, reply};
     ghost use Rattle.model.specs.declared.methods.Method.TheVariants.{ChannelOpenOk, ChannelFlowOk};
-    ghost use Rattle.broker_core.specs.State.{broker_of, topology_of};
+    ghost use Rattle.broker_core.specs.State.{broker_of, topology_kept};
     ghost use Rattle.replies.specs.Sent.{AreAddressed};
 
     /// The channel is open and new from now on, and that is answered. Where memory is wanting, nothing has changed.
@@ -23,7 +23,7 @@ impl Core {
         requires { IsSome ((broker_of self.old).connection connection) }
         ensures ok { IfOk result (λ s. Does s.sends.items s.notes.items (broker_of self.new) (reply connection channel (ChannelOpenOk []) ∷ []) (with_channel (broker_of self.old) connection channel (Some new_channel))) }
         ensures addressed { IfOk result (λ s. AreAddressed connection s.sends.items) }
-        ensures topology { topology_of self.new ≡ topology_of self.old }
+        ensures topology { topology_kept self.new ≡ topology_kept self.old }
         ensures err { OnErr result (self.new ≡ self.old) }
     {
         let step = Step::sending(alloc, open_ok(connection, channel))?;

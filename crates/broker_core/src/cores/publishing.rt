@@ -15,7 +15,7 @@ impl Core {
     ghost use Rattle.model.specs.Grammar.{IsMethod};
     ghost use Rattle.model.specs.declared.methods.Method.TheVariants.{BasicPublish};
     ghost use Rattle.model.specs.Step.{Does, IsPublish, with_channel, content_or_none, started, refusal_of_publish};
-    ghost use Rattle.broker_core.specs.State.{broker_of, channel_on, topology_of};
+    ghost use Rattle.broker_core.specs.State.{broker_of, channel_on, topology_kept};
 
     /// Publishes on the channel are confirmed from now on. That is answered where an answer is wanted.
     pub(crate) fn select(
@@ -28,7 +28,7 @@ impl Core {
         requires { IsSome ((broker_of self.old).channel connection channel) }
         ensures ok { IfOk result (λ s. (ch : seen.Channel) → (broker_of self.old).channel connection channel ≡ Some ch → Does s.sends.items s.notes.items (broker_of self.new) (select_sends connection channel no_wait) (with_channel (broker_of self.old) connection channel (Some (record ch { confirm = started ch.confirm })))) }
         ensures addressed { IfOk result (λ s. AreAddressed connection s.sends.items) }
-        ensures topology { topology_of self.new ≡ topology_of self.old }
+        ensures topology { topology_kept self.new ≡ topology_kept self.old }
         ensures err { OnErr result (self.new ≡ self.old) }
     {
         let step = answer_select(alloc, connection, channel, no_wait)?;
@@ -47,10 +47,10 @@ impl Core {
         content: &Content,
     ) -> Result<Step, AllocError>
         requires there { IsSome ((broker_of self.old).channel connection channel) }
-        requires accepted { refusal_of_publish (topology_of self.old) (broker_of self.old) (channel_on self.old connection channel) publish.now ≡ None }
-        ensures ok { IfOk result (λ s. IsPublish (topology_of self.old) (broker_of self.old) connection channel (channel_on self.old connection channel) publish.now content.now s.sends.items s.notes.items (broker_of self.new)) }
+        requires accepted { refusal_of_publish (topology_kept self.old) (broker_of self.old) (channel_on self.old connection channel) publish.now ≡ None }
+        ensures ok { IfOk result (λ s. IsPublish (topology_kept self.old) (broker_of self.old) connection channel (channel_on self.old connection channel) publish.now content.now s.sends.items s.notes.items (broker_of self.new)) }
         ensures addressed { IfOk result (λ s. IsMethod (BasicPublish publish.now) → AreAddressed connection s.sends.items) }
-        ensures topology { topology_of self.new ≡ topology_of self.old }
+        ensures topology { topology_kept self.new ≡ topology_kept self.old }
         ensures err { OnErr result (self.new ≡ self.old) }
     {
         let number = self.depot.published() + 1;
@@ -83,10 +83,10 @@ impl Core {
         content: &Option<Content>,
     ) -> Result<Step, AllocError>
         requires there { IsSome ((broker_of self.old).channel connection channel) }
-        requires accepted { refusal_of_publish (topology_of self.old) (broker_of self.old) (channel_on self.old connection channel) publish.now ≡ None }
-        ensures ok { IfOk result (λ s. IsPublish (topology_of self.old) (broker_of self.old) connection channel (channel_on self.old connection channel) publish.now (content_or_none content.now) s.sends.items s.notes.items (broker_of self.new)) }
+        requires accepted { refusal_of_publish (topology_kept self.old) (broker_of self.old) (channel_on self.old connection channel) publish.now ≡ None }
+        ensures ok { IfOk result (λ s. IsPublish (topology_kept self.old) (broker_of self.old) connection channel (channel_on self.old connection channel) publish.now (content_or_none content.now) s.sends.items s.notes.items (broker_of self.new)) }
         ensures addressed { IfOk result (λ s. IsMethod (BasicPublish publish.now) → AreAddressed connection s.sends.items) }
-        ensures topology { topology_of self.new ≡ topology_of self.old }
+        ensures topology { topology_kept self.new ≡ topology_kept self.old }
         ensures err { OnErr result (self.new ≡ self.old) }
     {
         match content {

@@ -12,8 +12,8 @@ impl Core {
     ghost use Rattle.std.specs.Prelude.{◌≡◌, ◌∷◌, [], Some, IsSome, IfOk, OnErr};
     ghost use Rattle.model.specs.Step.{Does, Purges, with_channel, limited, reply};
     ghost use Rattle.model.specs.declared.methods.Method.TheVariants.{BasicQosOk};
-    ghost use Rattle.broker_core.specs.State.{broker_of, channel_on, topology_of};
-    ghost use Rattle.judging.specs.Judged.{IsPlaceOf};
+    ghost use Rattle.broker_core.specs.State.{broker_of, channel_on, topology_kept};
+    ghost use Rattle.judging.specs.Judged.{IsQueuePlace};
 
     /// The limit that a qos sets is the channel's from now on, and that is answered.
     pub(crate) fn limit(
@@ -26,7 +26,7 @@ impl Core {
         requires { IsSome ((broker_of self.old).channel connection channel) }
         ensures ok { IfOk result (λ s. Does s.sends.items s.notes.items (broker_of self.new) (reply connection channel BasicQosOk ∷ []) (with_channel (broker_of self.old) connection channel (Some (limited (channel_on self.old connection channel) qos.now)))) }
         ensures addressed { IfOk result (λ s. AreAddressed connection s.sends.items) }
-        ensures topology { topology_of self.new ≡ topology_of self.old }
+        ensures topology { topology_kept self.new ≡ topology_kept self.old }
         ensures err { OnErr result (self.new ≡ self.old) }
     {
         let step = Step::sending(alloc, qos_ok(connection, channel))?;
@@ -44,10 +44,10 @@ impl Core {
         place: usize,
         purge: &Purge,
     ) -> Result<Step, AllocError>
-        requires { IsPlaceOf (topology_of self.old) purge.now.queue place }
+        requires { IsQueuePlace (topology_kept self.old) purge.now.queue place }
         ensures ok { IfOk result (λ s. Purges (broker_of self.old) connection channel purge.now s.sends.items s.notes.items (broker_of self.new)) }
         ensures addressed { IfOk result (λ s. AreAddressed connection s.sends.items) }
-        ensures topology { topology_of self.new ≡ topology_of self.old }
+        ensures topology { topology_kept self.new ≡ topology_kept self.old }
         ensures err { OnErr result (self.new ≡ self.old) }
     {
         let count = self.depot.ready_at(place);

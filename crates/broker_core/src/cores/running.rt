@@ -10,7 +10,7 @@ impl Core {
     ghost use Rattle.model.specs.Agreement.{IsAgreed};
     ghost use Rattle.model.specs.Step.{Acts, Is, with_gone, with_paused};
     ghost use Rattle.model.specs.declared.events.Event.TheVariants as event_is;
-    ghost use Rattle.broker_core.specs.State.{broker_of, topology_of};
+    ghost use Rattle.broker_core.specs.State.{broker_of, topology_kept};
 
     /// The connection runs from now on, with channels 1 to `channels` open and new. What one of its number held is ready
     /// again. Where memory is wanting, nothing has changed.
@@ -22,8 +22,8 @@ impl Core {
         channels: u16,
     ) -> Result<(), AllocError>
         requires { IsAgreed (broker_of self.old) }
-        ensures ok { OnOk result (Acts (topology_of self.old) (broker_of self.old) (event_is.Running connection channel_max channels) [] [] (broker_of self.new)) }
-        ensures topology { topology_of self.new ≡ topology_of self.old }
+        ensures ok { OnOk result (Acts (topology_kept self.old) (broker_of self.old) (event_is.Running connection channel_max channels) [] [] (broker_of self.new)) }
+        ensures topology { topology_kept self.new ≡ topology_kept self.old }
         ensures err { OnErr result (self.new ≡ self.old) }
     {
         let was_there = self.runs(connection);
@@ -38,7 +38,7 @@ impl Core {
     pub(crate) fn go(&mut self, connection: u64)
         requires { IsAgreed (broker_of self.old) }
         ensures gone { Is (with_gone (broker_of self.old) connection) (broker_of self.new) }
-        ensures topology { topology_of self.new ≡ topology_of self.old }
+        ensures topology { topology_kept self.new ≡ topology_kept self.old }
     {
         self.depot.is_whole();
         places_are_named();
@@ -49,7 +49,7 @@ impl Core {
     /// The connection is paused from now on, or is not.
     pub(crate) fn set_paused(&mut self, connection: u64, is_paused: bool)
         ensures paused { Is (with_paused (broker_of self.old) connection is_paused) (broker_of self.new) }
-        ensures topology { topology_of self.new ≡ topology_of self.old }
+        ensures topology { topology_kept self.new ≡ topology_kept self.old }
     {
         self.links.set_paused(connection, is_paused);
     }
@@ -57,24 +57,24 @@ impl Core {
     /// The connection is lost: what it held is ready again, and it is gone with its channels. It takes no memory.
     pub fn lose(&mut self, connection: u64)
         requires { IsAgreed (broker_of self.old) }
-        ensures acts { Acts (topology_of self.old) (broker_of self.old) (event_is.Lose connection) [] [] (broker_of self.new) }
-        ensures topology { topology_of self.new ≡ topology_of self.old }
+        ensures acts { Acts (topology_kept self.old) (broker_of self.old) (event_is.Lose connection) [] [] (broker_of self.new) }
+        ensures topology { topology_kept self.new ≡ topology_kept self.old }
     {
         self.go(connection);
     }
 
     /// The output of the connection holds 1,048,576 bytes or more from now on. It takes no memory.
     pub fn pause(&mut self, connection: u64)
-        ensures acts { Acts (topology_of self.old) (broker_of self.old) (event_is.Pause connection) [] [] (broker_of self.new) }
-        ensures topology { topology_of self.new ≡ topology_of self.old }
+        ensures acts { Acts (topology_kept self.old) (broker_of self.old) (event_is.Pause connection) [] [] (broker_of self.new) }
+        ensures topology { topology_kept self.new ≡ topology_kept self.old }
     {
         self.set_paused(connection, true);
     }
 
     /// It holds fewer again. It takes no memory.
     pub fn resume(&mut self, connection: u64)
-        ensures acts { Acts (topology_of self.old) (broker_of self.old) (event_is.Resume connection) [] [] (broker_of self.new) }
-        ensures topology { topology_of self.new ≡ topology_of self.old }
+        ensures acts { Acts (topology_kept self.old) (broker_of self.old) (event_is.Resume connection) [] [] (broker_of self.new) }
+        ensures topology { topology_kept self.new ≡ topology_kept self.old }
     {
         self.set_paused(connection, false);
     }

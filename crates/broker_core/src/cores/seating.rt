@@ -36,13 +36,13 @@ fn consumed(event: &Event) -> Option<&Text>
 
 impl Core {
     ghost use Rattle.std.specs.Prelude.{◌≡◌, ◌<◌, ℕ, Some, IfSome, is_some, length};
-    ghost use Rattle.links.specs.Links.{link_in};
-    ghost use Rattle.broker_core.specs.State.{topology_of};
+    ghost use Rattle.links.specs.Links.{linked_in};
+    ghost use Rattle.broker_core.specs.State.{topology_kept};
     ghost use Rattle.broker_core.specs.Seats.{has_consumer, next_seat, seat_of, IsConsumed};
 
     /// Whether the connection of this number runs.
     pub fn runs(&self, connection: u64) -> bool
-        ensures { result ≡ is_some (link_in self.now.links connection) }
+        ensures { result ≡ is_some (linked_in self.now.links connection) }
     {
         self.links.get(connection).is_some()
     }
@@ -59,7 +59,7 @@ impl Core {
 
     /// The seat of the next consumer of this channel; none where a consume does nothing there.
     fn next_seat(&self, connection: u64, channel: u16) -> Option<Pick>
-        ensures { result ≡ next_seat connection channel (link_in self.now.links connection) }
+        ensures { result ≡ next_seat connection channel (linked_in self.now.links connection) }
     {
         let link = self.links.get(connection)?;
         let number = link.next_number(channel)?;
@@ -92,8 +92,8 @@ impl Core {
 
     /// The place of the queue from which an event asks to consume, where it is there.
     pub fn queue_consumed(&self, event: &Event) -> Option<usize>
-        ensures within { IfSome result (λ i. i < length (topology_of self.now).queues) }
-        ensures told { (place : ℕ) → IsConsumed (topology_of self.now) event.now place → result ≡ Some place }
+        ensures within { IfSome result (λ i. i < length (topology_kept self.now).queues) }
+        ensures told { (place : ℕ) → IsConsumed (topology_kept self.now) event.now place → result ≡ Some place }
     {
         let name = consumed(event)?;
         self.depot.is_whole();

@@ -18,7 +18,7 @@ impl Core {
     ghost use Rattle.model.specs.Deliveries.{Leaves, Rejects, Returns, of_rejected};
     ghost use Rattle.model.specs.Step.{refusal_of_settling, reply};
     ghost use Rattle.model.specs.declared.methods.Method.TheVariants.{BasicRecoverOk};
-    ghost use Rattle.broker_core.specs.State.{broker_of, channel_on, topology_of};
+    ghost use Rattle.broker_core.specs.State.{broker_of, channel_on, topology_kept};
     ghost use Rattle.broker_core.specs.Steps.{SettlesOn};
 
     /// What this tag settles leaves its queues for this cause, and is no longer outstanding. All that takes memory is made
@@ -37,7 +37,7 @@ impl Core {
         requires accepted { refusal_of_settling (channel_on self.old connection channel) tag multiple ≡ None }
         ensures ok { IfOk result (λ s. SettlesOn self.old (Leaves cause) connection channel tag multiple [] s.sends.items s.notes.items self.new) }
         ensures addressed { IfOk result (λ s. AreAddressed connection s.sends.items) }
-        ensures topology { topology_of self.new ≡ topology_of self.old }
+        ensures topology { topology_kept self.new ≡ topology_kept self.old }
         ensures err { OnErr result (self.new ≡ self.old) }
     {
         let Some(gone) = self.links.settle(connection, channel, tag, multiple) else {
@@ -56,7 +56,7 @@ impl Core {
         requires there { IsSome ((broker_of self.old).channel connection channel) }
         requires accepted { refusal_of_settling (channel_on self.old connection channel) tag multiple ≡ None }
         ensures settles { (sends : List Sent) → SettlesOn self.old Returns connection channel tag multiple sends sends [] self.new }
-        ensures topology { topology_of self.new ≡ topology_of self.old }
+        ensures topology { topology_kept self.new ≡ topology_kept self.old }
     {
         let Some(gone) = self.links.settle(connection, channel, tag, multiple) else {
             return;
@@ -82,7 +82,7 @@ impl Core {
         requires accepted { refusal_of_settling (channel_on self.old connection channel) tag multiple ≡ None }
         ensures ok { IfOk result (λ s. SettlesOn self.old Rejects connection channel tag multiple [] s.sends.items s.notes.items self.new) }
         ensures addressed { IfOk result (λ s. AreAddressed connection s.sends.items) }
-        ensures topology { topology_of self.new ≡ topology_of self.old }
+        ensures topology { topology_kept self.new ≡ topology_kept self.old }
         ensures err { OnErr result (self.new ≡ self.old) }
     {
         let Some(gone) = self.links.settle(connection, channel, tag, multiple) else {
@@ -108,7 +108,7 @@ impl Core {
         requires accepted { refusal_of_settling (channel_on self.old connection channel) tag multiple ≡ None }
         ensures ok { IfOk result (λ s. SettlesOn self.old (of_rejected requeue) connection channel tag multiple [] s.sends.items s.notes.items self.new) }
         ensures addressed { IfOk result (λ s. AreAddressed connection s.sends.items) }
-        ensures topology { topology_of self.new ≡ topology_of self.old }
+        ensures topology { topology_kept self.new ≡ topology_kept self.old }
         ensures err { OnErr result (self.new ≡ self.old) }
         ensures quiet { requeue ≡ true → IsOk result }
     {
@@ -130,7 +130,7 @@ impl Core {
         requires there { IsSome ((broker_of self.old).channel connection channel) }
         ensures ok { IfOk result (λ s. SettlesOn self.old Returns connection channel 0 true (reply connection channel BasicRecoverOk ∷ []) s.sends.items s.notes.items self.new) }
         ensures addressed { IfOk result (λ s. AreAddressed connection s.sends.items) }
-        ensures topology { topology_of self.new ≡ topology_of self.old }
+        ensures topology { topology_kept self.new ≡ topology_kept self.old }
         ensures err { OnErr result (self.new ≡ self.old) }
     {
         let step = Step::sending(alloc, recover_ok(connection, channel))?;

@@ -2,17 +2,17 @@
 
 use super::payloads::put_header_refusal;
 use headers::{Header, read_header};
-use line_words::Answer;
+use line_words::LineAnswer;
 use model::{Fields, Table, Text};
 
 /// Appends ` NAME=`.
-fn put_label(out: &mut Answer, name: &str) {
+fn put_label(out: &mut LineAnswer, name: &str) {
     out.put(" ");
     out.put(name);
     out.put("=");
 }
 
-fn put_text(out: &mut Answer, name: &str, text: &Option<Text>) {
+fn put_text(out: &mut LineAnswer, name: &str, text: &Option<Text>) {
     if let Some(text) = text {
         put_label(out, name);
         out.put_bytes(text.as_bytes());
@@ -20,21 +20,21 @@ fn put_text(out: &mut Answer, name: &str, text: &Option<Text>) {
 }
 
 /// Appends a table, its pairs in hex.
-fn put_table(out: &mut Answer, name: &str, table: &Option<Table>) {
+fn put_table(out: &mut LineAnswer, name: &str, table: &Option<Table>) {
     if let Some(table) = table {
         put_label(out, name);
         out.put_hex(table.as_bytes());
     }
 }
 
-fn put_number(out: &mut Answer, name: &str, number: Option<u64>) {
+fn put_number(out: &mut LineAnswer, name: &str, number: Option<u64>) {
     if let Some(number) = number {
         put_label(out, name);
         out.put_number(number);
     }
 }
 
-fn put_first(out: &mut Answer, p: &Fields) {
+fn put_first(out: &mut LineAnswer, p: &Fields) {
     put_text(out, "content-type", &p.content_type);
     put_text(out, "content-encoding", &p.content_encoding);
     put_table(out, "headers", &p.headers);
@@ -44,7 +44,7 @@ fn put_first(out: &mut Answer, p: &Fields) {
     put_text(out, "reply-to", &p.reply_to);
 }
 
-fn put_others(out: &mut Answer, p: &Fields) {
+fn put_others(out: &mut LineAnswer, p: &Fields) {
     put_text(out, "expiration", &p.expiration);
     put_text(out, "message-id", &p.message_id);
     put_number(out, "timestamp", p.timestamp);
@@ -55,7 +55,7 @@ fn put_others(out: &mut Answer, p: &Fields) {
 }
 
 /// Appends the size of a body, and ` NAME=VALUE` for each property that is there, in the order of their flags.
-fn put_listed(out: &mut Answer, header: &Header) {
+fn put_listed(out: &mut LineAnswer, header: &Header) {
     out.put_number(header.size);
     if let Some(fields) = header.properties.fields() {
         put_first(out, fields);
@@ -64,7 +64,7 @@ fn put_listed(out: &mut Answer, header: &Header) {
 }
 
 /// Appends the size of the body and the properties that are there, or the reply code.
-pub fn put_properties(out: &mut Answer, payload: &[u8]) {
+pub fn put_properties(out: &mut LineAnswer, payload: &[u8]) {
     match read_header(out.alloc(), payload) {
         Ok(header) => put_listed(out, &header),
         Err(refusal) => put_header_refusal(out, refusal),

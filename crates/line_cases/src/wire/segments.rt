@@ -1,13 +1,13 @@
 //! Lines about frames.
 
-use frame::{Frame, Read, read_frame, write_frame};
-use line_words::{Answer, Unanswered, bytes_of, cut};
+use frame::{Frame, ReadFrame, read_frame, write_frame};
+use line_words::{LineAnswer, Unanswered, bytes_of, cut};
 
 /// The longest payload that stands in a line, in bytes.
 const LONGEST: usize = 131_072;
 
 /// Appends what a frame of so many bytes has.
-fn put_whole(out: &mut Answer, frame: &Frame<'_>, size: usize) {
+fn put_whole(out: &mut LineAnswer, frame: &Frame<'_>, size: usize) {
     out.put_number(size as u64);
     out.put(" bytes, type ");
     out.put_number(u64::from(frame.kind));
@@ -20,16 +20,16 @@ fn put_whole(out: &mut Answer, frame: &Frame<'_>, size: usize) {
 }
 
 /// Appends what stands at the front of the bytes: a frame, `more`, or the reply code.
-pub fn put_front(out: &mut Answer, bytes: &[u8]) {
+pub fn put_front(out: &mut LineAnswer, bytes: &[u8]) {
     match read_frame(bytes, 4096) {
-        Read::Whole(frame, size) => put_whole(out, &frame, size),
-        Read::More => out.put("more"),
-        Read::Fault(code) => out.put_number(u64::from(code)),
+        ReadFrame::Whole(frame, size) => put_whole(out, &frame, size),
+        ReadFrame::More => out.put("more"),
+        ReadFrame::Fault(code) => out.put_number(u64::from(code)),
     }
 }
 
 /// Appends a frame in hex. `Form` says that its payload is too long for a line.
-pub fn put_frame(out: &mut Answer, frame: &Frame<'_>) {
+pub fn put_frame(out: &mut LineAnswer, frame: &Frame<'_>) {
     if frame.payload.len() > LONGEST {
         return out.fail(Unanswered::Form);
     }
@@ -41,7 +41,7 @@ pub fn put_frame(out: &mut Answer, frame: &Frame<'_>) {
 }
 
 /// Appends the frame of a type, a channel and a payload.
-pub fn put_written(out: &mut Answer, asked: &str) {
+pub fn put_written(out: &mut LineAnswer, asked: &str) {
     let (kind, rest) = cut(out, asked);
     let (channel, payload) = cut(out, rest);
     let payload = bytes_of(out, payload);

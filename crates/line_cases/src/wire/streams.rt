@@ -4,7 +4,7 @@ use super::segments::put_frame;
 use assembly::{Fault, Stream};
 use frame::Frame;
 use headers::write_header;
-use line_words::{Answer, Unanswered, bytes_of};
+use line_words::{LineAnswer, Unanswered, bytes_of};
 use methods::write_method;
 use model::{Command, Content, Method};
 
@@ -20,7 +20,7 @@ enum Took {
 }
 
 /// Appends the frame of a method.
-fn put_method(out: &mut Answer, channel: u16, method: &Method) {
+fn put_method(out: &mut LineAnswer, channel: u16, method: &Method) {
     let mut payload = Vec::new(out.alloc());
     if write_method(&mut payload, method).is_err() {
         return out.fail(Unanswered::Form);
@@ -37,7 +37,7 @@ fn put_method(out: &mut Answer, channel: u16, method: &Method) {
 }
 
 /// Appends the frame of a content's header.
-fn put_header(out: &mut Answer, channel: u16, content: &Content) {
+fn put_header(out: &mut LineAnswer, channel: u16, content: &Content) {
     let mut payload = Vec::new(out.alloc());
     let size = content.body.len() as u64;
     if write_header(&mut payload, size, &content.properties).is_err() {
@@ -55,7 +55,7 @@ fn put_header(out: &mut Answer, channel: u16, content: &Content) {
 }
 
 /// Appends a body in one frame, if it has bytes.
-fn put_body(out: &mut Answer, channel: u16, content: &Content) {
+fn put_body(out: &mut LineAnswer, channel: u16, content: &Content) {
     let payload = content.body.as_bytes();
     if !payload.is_empty() {
         put_frame(
@@ -70,26 +70,26 @@ fn put_body(out: &mut Answer, channel: u16, content: &Content) {
 }
 
 /// Appends the frames of a publish and its content.
-fn put_publish(out: &mut Answer, channel: u16, publish: &Method, content: &Content) {
+fn put_publish(out: &mut LineAnswer, channel: u16, publish: &Method, content: &Content) {
     put_method(out, channel, publish);
     put_header(out, channel, content);
     put_body(out, channel, content);
 }
 
 /// Appends that a content is too large.
-fn put_too_large(out: &mut Answer, channel: u16) {
+fn put_too_large(out: &mut LineAnswer, channel: u16) {
     out.put("too large on ");
     out.put_number(u64::from(channel));
 }
 
 /// Appends the first eight bytes of a connection.
-fn put_head(out: &mut Answer, bytes: &[u8]) {
+fn put_head(out: &mut LineAnswer, bytes: &[u8]) {
     out.put("first ");
     out.put_hex(bytes);
 }
 
 /// Appends a command as it is spelled.
-fn put_command(out: &mut Answer, command: Command) {
+fn put_command(out: &mut LineAnswer, command: Command) {
     match command {
         Command::Head { bytes } => put_head(out, bytes.as_slice()),
         Command::Plain { channel, method } => put_method(out, channel, &method),
@@ -103,7 +103,7 @@ fn put_command(out: &mut Answer, command: Command) {
 }
 
 /// Appends a fault by its reply code.
-fn put_fault(out: &mut Answer, fault: Fault) {
+fn put_fault(out: &mut LineAnswer, fault: Fault) {
     match fault {
         Fault::Broken(code) => out.put_number(u64::from(code)),
         Fault::Memory => out.fail(Unanswered::Memory),
@@ -111,7 +111,7 @@ fn put_fault(out: &mut Answer, fault: Fault) {
 }
 
 /// Appends the next command, or the fault that stands in its place.
-fn take_one(out: &mut Answer, stream: &mut Stream) -> Took {
+fn take_one(out: &mut LineAnswer, stream: &mut Stream) -> Took {
     match stream.next() {
         Ok(None) => Took::Nothing,
         Ok(Some(command)) => {
@@ -126,7 +126,7 @@ fn take_one(out: &mut Answer, stream: &mut Stream) -> Took {
 }
 
 /// Appends the commands that are there, and a fault behind them. Tells whether there is none.
-fn take_all(out: &mut Answer, stream: &mut Stream) -> bool {
+fn take_all(out: &mut LineAnswer, stream: &mut Stream) -> bool {
     for _ in 0..MOST {
         match take_one(out, stream) {
             Took::Command => {}
@@ -139,14 +139,14 @@ fn take_all(out: &mut Answer, stream: &mut Stream) -> bool {
 }
 
 /// Hands a piece to a stream.
-fn feed(out: &mut Answer, stream: &mut Stream, piece: &[u8]) {
+fn feed(out: &mut LineAnswer, stream: &mut Stream, piece: &[u8]) {
     if stream.feed(piece).is_err() {
         out.fail(Unanswered::Memory);
     }
 }
 
 /// Hands the pieces of one group to a stream.
-fn feed_group(out: &mut Answer, stream: &mut Stream, group: &str) {
+fn feed_group(out: &mut LineAnswer, stream: &mut Stream, group: &str) {
     for piece in group.split(" + ") {
         let bytes = bytes_of(out, piece);
         feed(out, stream, bytes.as_slice());
@@ -154,7 +154,7 @@ fn feed_group(out: &mut Answer, stream: &mut Stream, group: &str) {
 }
 
 /// Appends what is said after a group.
-fn put_said(out: &mut Answer, stream: &mut Stream) {
+fn put_said(out: &mut LineAnswer, stream: &mut Stream) {
     let before = out.len();
     let is_sound = take_all(out, stream);
     if out.len() == before {
@@ -169,7 +169,7 @@ fn put_said(out: &mut Answer, stream: &mut Stream) {
 }
 
 /// Appends what is said after one more group.
-fn put_group(out: &mut Answer, stream: &mut Stream, group: &str) {
+fn put_group(out: &mut LineAnswer, stream: &mut Stream, group: &str) {
     feed_group(out, stream, group);
     if out.len() != 0 {
         out.put(" / ");
@@ -178,7 +178,7 @@ fn put_group(out: &mut Answer, stream: &mut Stream, group: &str) {
 }
 
 /// Appends what is said after each group of pieces.
-pub fn put_stream(out: &mut Answer, asked: &str) {
+pub fn put_stream(out: &mut LineAnswer, asked: &str) {
     let mut stream = Stream::running(out.alloc());
     for group in asked.split(" / ") {
         put_group(out, &mut stream, group);
@@ -186,24 +186,24 @@ pub fn put_stream(out: &mut Answer, asked: &str) {
 }
 
 /// Appends the commands that are there once a piece was heard.
-fn hear(out: &mut Answer, stream: &mut Stream, piece: &[u8]) {
+fn hear(out: &mut LineAnswer, stream: &mut Stream, piece: &[u8]) {
     feed(out, stream, piece);
     take_all(out, stream);
 }
 
 /// The commands of two pieces.
-fn heard(out: &mut Answer, first: &[u8], second: &[u8]) -> String {
+fn heard(out: &mut LineAnswer, first: &[u8], second: &[u8]) -> String {
     let mut stream = Stream::running(out.alloc());
-    let mut said = Answer::new(out.alloc());
+    let mut said = LineAnswer::new(out.alloc());
     hear(&mut said, &mut stream, first);
     hear(&mut said, &mut stream, second);
     said.into_part_of(out)
 }
 
 /// The commands of single bytes.
-fn heard_by_bytes(out: &mut Answer, bytes: &[u8]) -> String {
+fn heard_by_bytes(out: &mut LineAnswer, bytes: &[u8]) -> String {
     let mut stream = Stream::running(out.alloc());
-    let mut said = Answer::new(out.alloc());
+    let mut said = LineAnswer::new(out.alloc());
     for byte in bytes {
         hear(&mut said, &mut stream, &[*byte]);
     }
@@ -211,7 +211,7 @@ fn heard_by_bytes(out: &mut Answer, bytes: &[u8]) -> String {
 }
 
 /// The place of a cut in two at which the commands are others, if there is one.
-fn odd_cut(out: &mut Answer, bytes: &[u8], whole: &str) -> Option<usize> {
+fn odd_cut(out: &mut LineAnswer, bytes: &[u8], whole: &str) -> Option<usize> {
     for cut in 0..bytes.len() {
         let (first, second) = bytes.split_at(cut);
         if heard(out, first, second).as_str() != whole {
@@ -222,8 +222,8 @@ fn odd_cut(out: &mut Answer, bytes: &[u8], whole: &str) -> Option<usize> {
 }
 
 /// Appends `read`, where the commands are spelled as the bytes are, and else the commands.
-fn put_spelled_again(out: &mut Answer, bytes: &[u8], whole: &str) {
-    let mut given = Answer::new(out.alloc());
+fn put_spelled_again(out: &mut LineAnswer, bytes: &[u8], whole: &str) {
+    let mut given = LineAnswer::new(out.alloc());
     given.put_hex(bytes);
     let given = given.into_part_of(out);
     out.put(if given.as_str() == whole {
@@ -234,7 +234,7 @@ fn put_spelled_again(out: &mut Answer, bytes: &[u8], whole: &str) {
 }
 
 /// Appends the commands of the bytes, or at which place they are others if the bytes are cut there.
-fn put_uncut(out: &mut Answer, bytes: &[u8], whole: &str) {
+fn put_uncut(out: &mut LineAnswer, bytes: &[u8], whole: &str) {
     match odd_cut(out, bytes, whole) {
         Some(cut) => {
             out.put("others when cut behind byte ");
@@ -246,7 +246,7 @@ fn put_uncut(out: &mut Answer, bytes: &[u8], whole: &str) {
 
 /// Appends the commands of the bytes, whole, in single bytes and cut in two at every place: `read`, where they are spelled
 /// as the bytes are.
-pub fn put_commands(out: &mut Answer, bytes: &[u8]) {
+pub fn put_commands(out: &mut LineAnswer, bytes: &[u8]) {
     let whole = heard(out, bytes, &[]);
     let single = heard_by_bytes(out, bytes);
     if single.as_str() == whole.as_str() {

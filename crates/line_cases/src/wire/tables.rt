@@ -1,10 +1,10 @@
 //! Lines about field tables.
 
 use super::put_again;
-use field_table::{Refusal, Table, read_table, write_table};
-use line_words::{Answer, Unanswered};
+use field_table::{BadTable, FieldTable, read_table, write_table};
+use line_words::{LineAnswer, Unanswered};
 
-fn put_written(out: &mut Answer, table: &Table, bytes: &[u8]) {
+fn put_written(out: &mut LineAnswer, table: &FieldTable, bytes: &[u8]) {
     let mut written = Vec::new(out.alloc());
     match write_table(&mut written, table) {
         Ok(()) => put_again(out, bytes, written.as_slice()),
@@ -13,10 +13,10 @@ fn put_written(out: &mut Answer, table: &Table, bytes: &[u8]) {
 }
 
 /// Appends `read`, where the bytes are a table that is written as they are, or the reply code.
-pub fn put_table(out: &mut Answer, bytes: &[u8]) {
+pub fn put_table(out: &mut LineAnswer, bytes: &[u8]) {
     match read_table(out.alloc(), bytes) {
         Ok(table) => put_written(out, &table, bytes),
-        Err(Refusal::SyntaxError) => out.put("502"),
-        Err(Refusal::Memory) => out.fail(Unanswered::Memory),
+        Err(BadTable::SyntaxError) => out.put("502"),
+        Err(BadTable::Memory) => out.fail(Unanswered::Memory),
     }
 }

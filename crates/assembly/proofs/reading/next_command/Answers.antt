@@ -24,10 +24,10 @@ returns-then-is_err-clause-answers c =
 pub returns-then-is_whole-clause-answers : goal.returns-then-is_whole-clause-answers
 returns-then-is_whole-clause-answers c =
     made _ c.args.max (pending_at c.frames.contents.items) (pending_at c.take_frame-taken.new.contents.items) c.bytes.result.now c.frames.unread.bytes c.take.new.self.bytes (seen c.in-Whole.frame) c.in-Whole.size c.take_frame-taken.result
-    c.frames.invariant.goes c.frames.invariant.shorter c.bytes.ensures c.in-Whole.ensures.tells.front c.take.ensures (sym c.is_whole.ensures ∙ c.if-is_whole.true) c.take_frame-taken.ensures.does
+    c.frames.invariant.goes c.frames.invariant.shorter c.bytes.ensures c.in-Whole.ensures.tells.front c.take.ensures.bytes (sym c.is_whole.ensures ∙ c.if-is_whole.true) c.take_frame-taken.ensures.does
 
 pub frames-preserved-else-is_whole-4 : goal.frames-preserved-else-is_whole-4
 frames-preserved-else-is_whole-4 c =
     let further = on _ c.args.max (pending_at c.frames.contents.items) (pending_at c.take_frame-taken.new.contents.items) c.bytes.result.now c.frames.unread.bytes c.take.new.self.bytes (seen c.in-Whole.frame) c.in-Whole.size c.take_frame-taken.result
-    c.frames.invariant.goes c.frames.invariant.shorter c.bytes.ensures c.in-Whole.ensures.tells.front c.take.ensures (sym c.is_err.ensures.value ∙ c.if-is_err.false) (sym c.is_whole.ensures ∙ c.if-is_whole.false) c.take_frame-taken.ensures.does in
+    c.frames.invariant.goes c.frames.invariant.shorter c.bytes.ensures c.in-Whole.ensures.tells.front c.take.ensures.bytes (sym c.is_err.ensures.value ∙ c.if-is_err.false) (sym c.is_whole.ensures ∙ c.if-is_whole.false) c.take_frame-taken.ensures.does in
     record { spelled = c.take_frame-taken.ensures.spelled; goes = further.goes; shorter = further.shorter }

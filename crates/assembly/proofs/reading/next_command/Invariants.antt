@@ -1,12 +1,12 @@
 use Rattle.std.proofs.Common.{◌≤◌, length, false}
 use Rattle.model.specs.Commands.{GoesOn}
-use Rattle.assembly.specs.Pending.{AreSpelled}
+use Rattle.assembly.specs.Pending.{AreSpelledSoFar}
 use Rattle.assembly.specs.Held.{stream}
 use Rattle.assembly.proofs.reading.next_command.Given as goal
 
 abbrev pub invariant-frames : goal.invariant-frames
 invariant-frames l = record {
-  spelled : AreSpelled l.contents.items;
+  spelled : AreSpelledSoFar l.contents.items;
   goes : GoesOn (stream false l.max l.fn.contents.items l.fn.unread.bytes) (stream false l.max l.contents.items l.unread.bytes);
   shorter : length l.unread.bytes ≤ length l.fn.unread.bytes;
 }

@@ -3,7 +3,7 @@ use Rattle.model.specs.Commands.{Wants_header, TakesPayload, taken_dropped}
 use Rattle.frame.specs.Reading.{seen}
 use Rattle.assembly.specs.Pending.{pending_of}
 use Rattle.assembly.specs.Taking.{TakesEffect}
-use Rattle.assembly.specs.declared.contents.Pending.{Pending}
+use Rattle.assembly.specs.declared.contents.Awaited.{Awaited}
 use Rattle.assembly.proofs.Codes.{map_fault, does_wider, the_publish, takes_large, takes_small, takes_unsized}
 use Rattle.assembly.proofs.Limits.{small_at}
 use Rattle.assembly.proofs.taking.take_header.Goals as goal
@@ -22,7 +22,7 @@ returns-else-is_too_large-clause-does c =
     let now = pending_of c.begin_content.new.pending in
     let result = c.begin_content.result in
     let was = the_publish c.args.pending.now c.requires.begun in
-    subst (λ (q : Pending). TakesEffect (TakesPayload (pending_of q) f) (pending_of q) result now) (sym was.1)
+    subst (λ (q : Awaited). TakesEffect (TakesPayload (pending_of q) f) (pending_of q) result now) (sym was.1)
     (does_wider _ (TakesPayload (Wants_header was.0) f) (Wants_header was.0) now result
     (λ t x. takes_small was.0 f c.in-Ok.size t c.in-Ok.ensures (sym c.is_too_large.ensures ∙ c.if-is_too_large.false) x)
     (c.begin_content.ensures.does was.0 was.1))

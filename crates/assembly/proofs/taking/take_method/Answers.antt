@@ -2,11 +2,11 @@ use Rattle.std.proofs.Common.{Err, refl, subst, sym}
 use Rattle.model.specs.Commands.{Breaks, TakesPayload}
 use Rattle.frame.specs.Reading.{seen}
 use Rattle.assembly.specs.Pending.{pending_of}
-use Rattle.assembly.specs.declared.contents.Pending.{Pending}
+use Rattle.assembly.specs.declared.contents.Awaited.{Awaited}
 use Rattle.assembly.proofs.Codes.{map_fault}
 use Rattle.assembly.proofs.taking.take_method.Goals as goal
 
 pub returns-in-Err-clause-does : goal.returns-in-Err-clause-does
 returns-in-Err-clause-does c =
     let f = seen c.args.frame.now in
-    (map_fault _ _ c.of_method.result (λ code s. subst (λ (q : Pending). TakesPayload (pending_of q) f (Breaks code)) (sym c.requires) (Err code, s, refl)) (c.of_method.ensures _ c.in-Err.ensures.tells), refl)
+    (map_fault _ _ c.of_method.result (λ code s. subst (λ (q : Awaited). TakesPayload (pending_of q) f (Breaks code)) (sym c.requires) (Err code, s, refl)) (c.of_method.ensures _ c.in-Err.ensures.tells), refl)

@@ -1,7 +1,7 @@
 //! Seats that sleep are woken, and their lists are empty then.
 
 ghost use Rattle.std.specs.Prelude.{◌≡◌, ℕ, true, false, length};
-ghost use Rattle.broker.specs.Roster.{is_of, listed_on, Listing, IsAt, IsListedOn, IsListed, IsWoken, WakesListed, MakesNoList, AllWaken};
+ghost use Rattle.broker.specs.Roster.{is_on_channel, listed_on, Listing, IsAt, IsListedOn, IsListed, IsWoken, WakesListed, MakesNoList, AllWaken};
 
 use crate::roster::desk::{Desk, Desks, Listed, Sleepers};
 use crate::roster::seating::Seating;
@@ -73,8 +73,8 @@ fn wake_each(channels: &mut [Sleepers], seating: &mut Seating)
 
 /// The same of this channel, or of all where none is named.
 fn wake_on(channels: &mut [Sleepers], seating: &mut Seating, channel: Option<u16>)
-    ensures others { (l : Listing) → is_of channel l.seat ≡ false → IsListedOn channels.old l → IsListedOn channels.new l }
-    ensures woken { (l : Listing) → is_of channel l.seat ≡ true → IsListedOn channels.old l → IsWoken seating.old seating.new l }
+    ensures others { (l : Listing) → is_on_channel channel l.seat ≡ false → IsListedOn channels.old l → IsListedOn channels.new l }
+    ensures woken { (l : Listing) → is_on_channel channel l.seat ≡ true → IsListedOn channels.old l → IsWoken seating.old seating.new l }
     ensures wakens { AllWaken seating.old seating.new }
     ensures len { length seating.new ≡ length seating.old }
 {
@@ -86,12 +86,12 @@ fn wake_on(channels: &mut [Sleepers], seating: &mut Seating, channel: Option<u16
 
 impl Desk {
     ghost use Rattle.std.specs.Prelude.{◌≡◌, true, false, length};
-    ghost use Rattle.broker.specs.Roster.{is_of, Listing, IsListedOn, IsWoken, AllWaken};
+    ghost use Rattle.broker.specs.Roster.{is_on_channel, Listing, IsListedOn, IsWoken, AllWaken};
 
     /// Its seats that sleep on this channel, or on any where none is named, are awake from now on.
     fn wake(&mut self, seating: &mut Seating, channel: Option<u16>)
-        ensures others { (l : Listing) → is_of channel l.seat ≡ false → IsListedOn self.old l → IsListedOn self.new l }
-        ensures woken { (l : Listing) → is_of channel l.seat ≡ true → IsListedOn self.old l → IsWoken seating.old seating.new l }
+        ensures others { (l : Listing) → is_on_channel channel l.seat ≡ false → IsListedOn self.old l → IsListedOn self.new l }
+        ensures woken { (l : Listing) → is_on_channel channel l.seat ≡ true → IsListedOn self.old l → IsWoken seating.old seating.new l }
         ensures wakens { AllWaken seating.old seating.new }
         ensures len { length seating.new ≡ length seating.old }
     {

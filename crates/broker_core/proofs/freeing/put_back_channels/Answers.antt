@@ -1,4 +1,4 @@
-use Rattle.std.proofs.Common.{◌≡◌, ◌∙◌, ◌<◌, List, None, length, get_or, ap, arith}
+use Rattle.std.proofs.Common.{◌≡◌, ◌∙◌, List, None, get_or, ap, arith}
 use Rattle.channel.specs.declared.pending.Outstanding.{Outstanding}
 use Rattle.depot.specs.Store.{Store}
 use Rattle.links.specs.Links.{outstanding_on}

@@ -1,5 +1,5 @@
 use Rattle.std.proofs.lemmas.Result.{err_from_is_err_and}
-use Rattle.std.proofs.Common.{◌≡◌, ◌∙◌, sym, ap, map, inr, List, option_and_then, option_map}
+use Rattle.std.proofs.Common.{◌≡◌, ◌∙◌, sym, ap, map, inr, List, option_and_then}
 use Rattle.std.proofs.lemmas.Option.{none-some}
 use Rattle.clap.specs.Words.{App, Text, app_of, is_simple, subcommand_of}
 use Rattle.command_line.specs.CommandLine.{warren, wanted_by}

@@ -2,7 +2,7 @@ use Rattle.std.proofs.Common.{◌≡◌, ◌<◌, ◌≤◌, ◌+◌, ℕ, ◌++
 use Rattle.std.specs.Prelude.{◌||◌}
 use Rattle.std.specs.List.{list_any}
 use Rattle.depot.specs.Store.{entries_of}
-use Rattle.depot.specs.Turns.{places, outcomes, notes_of_outcomes, is_refusal, entered, room_at, times, IsRoomy}
+use Rattle.depot.specs.Turns.{places, outcomes, notes_of_outcomes, is_refusal, all_entered, room_at, times, IsRoomy}
 use Rattle.depot.proofs.entering.enter_all.Given as goal
 
 -- what was done and what the other turns will do is the whole, and there is room for it
@@ -13,7 +13,7 @@ invariant-loop-turn l = record {
   room : IsRoomy l.queues (places l.turn-iterator.rest.items);
   spent : (k : ℕ) → room_at l.fn.queues k + times k (places l.turn-iterator.rest.items) ≤ room_at l.queues k + times k (places l.fn.turns.items);
   refused : (l.is_some_refused || list_any is_refusal (outcomes l.way l.declared l.turn-iterator.rest.items (entries_of l.queues))) ≡ list_any is_refusal (outcomes l.way l.declared l.fn.turns.items (entries_of l.fn.queues));
-  entries : entered (outcomes l.way l.declared l.turn-iterator.rest.items (entries_of l.queues)) (entries_of l.queues) ≡ entered (outcomes l.way l.declared l.fn.turns.items (entries_of l.fn.queues)) (entries_of l.fn.queues);
+  entries : all_entered (outcomes l.way l.declared l.turn-iterator.rest.items (entries_of l.queues)) (entries_of l.queues) ≡ all_entered (outcomes l.way l.declared l.fn.turns.items (entries_of l.fn.queues)) (entries_of l.fn.queues);
   notes : l.notes.items ++ notes_of_outcomes (outcomes l.way l.declared l.turn-iterator.rest.items (entries_of l.queues)) ≡ l.fn.notes.items ++ notes_of_outcomes (outcomes l.way l.declared l.fn.turns.items (entries_of l.fn.queues));
   notes_len : vec_len l.notes + length l.turn-iterator.rest.items ≡ vec_len l.fn.notes + vec_len l.fn.turns;
   notes_capacity : vec_capacity l.notes ≡ vec_capacity l.fn.notes;

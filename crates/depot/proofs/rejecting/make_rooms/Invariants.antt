@@ -1,7 +1,7 @@
 use Rattle.std.proofs.Common.{◌≡◌, ◌<◌, ℕ, length, get_or}
 use Rattle.depot.specs.declared.plans.Death.{Death}
 use Rattle.depot.specs.Store.{entries_of}
-use Rattle.depot.specs.Turns.{places, HasRoom}
+use Rattle.depot.specs.Turns.{places, LinesHaveRoom}
 use Rattle.depot.proofs.rejecting.make_rooms.Given as goal
 
 -- there is room for the deaths before the index
@@ -9,5 +9,5 @@ abbrev pub invariant-loop-death : goal.invariant-loop-death
 invariant-loop-death l = record {
   len : length l.queues ≡ length l.fn.queues;
   same : entries_of l.queues ≡ entries_of l.fn.queues;
-  room : (k : ℕ) (d : Death) → k < l.death-index → HasRoom l.queues (places (get_or l.deaths k d).turns.items) (length l.deaths);
+  room : (k : ℕ) (d : Death) → k < l.death-index → LinesHaveRoom l.queues (places (get_or l.deaths k d).turns.items) (length l.deaths);
 }

@@ -1,6 +1,4 @@
-use Rattle.std.proofs.Common.{◌≡◌, ◌∙◌, List, sym, ap, subst, length, All}
-use Rattle.depot.specs.declared.plans.Death.{Death}
-use Rattle.depot.specs.Dying.{IsSoundDeath}
+use Rattle.std.proofs.Common.{◌∙◌, length}
 use Rattle.depot.proofs.Planned.{sound_all}
 use Rattle.depot.proofs.rejecting.reject_in.Goals as goal
 

@@ -1,12 +1,12 @@
 use Rattle.std.proofs.Common.{◌∙◌}
-use Rattle.broker_core.specs.State.{topology_of, broker_of}
+use Rattle.broker_core.specs.State.{topology_kept, broker_of}
 use Rattle.engine.specs.Performing.{DecidesByPhase, rules_of}
 use Rattle.engine.proofs.Asked.{decides_elsewhere, ok_map}
 use Rattle.engine.proofs.performing.perform.Goals as goal
 
 pub returns-in_default : goal.returns-in_default
 returns-in_default c =
-    let r = rules_of (topology_of c.args.broker.now) c.args.users.now in
+    let r = rules_of (topology_kept c.args.broker.now) c.args.users.now in
     let b = broker_of c.args.broker.now in
     let s = c.args.session.now in
     let e = c.args.event.now in

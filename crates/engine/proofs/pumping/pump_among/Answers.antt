@@ -1,6 +1,6 @@
 use Rattle.std.proofs.Common.{Some, set, sym, ap}
 use Rattle.broker_core.specs.State.{broker_of}
-use Rattle.engine.specs.Engines.{IsPlaceOf}
+use Rattle.engine.specs.Engines.{IsLinkPlace}
 use Rattle.engine.specs.Pumping.{OutputChanges}
 use Rattle.engine.proofs.Asked.{ok_map}
 use Rattle.engine.proofs.Delivered.{output_change, not_pumped_by}
@@ -10,7 +10,7 @@ use Rattle.engine.proofs.pumping.pump_among.Goals as goal
 pub returns : goal.returns
 returns c =
     let ls = c.args.links.now.items in
-    let at : IsPlaceOf ls c.args.pick.connection (Some c.in-Some.place) = rw (← c.deref.ensures.value) c.in-Some.ensures.place in
+    let at : IsLinkPlace ls c.args.pick.connection (Some c.in-Some.place) = rw (← c.deref.ensures.value) c.in-Some.ensures.place in
     let change : OutputChanges c.args.pick.connection ls (set ls c.in-Some.place c.pump_link.new.link) =
     output_change ls c.args.pick.connection c.in-Some.place c.index_mut.result.now c.pump_link.new.link at (sym c.index_mut.ensures.value) c.pump_link.ensures.rest in
     record {

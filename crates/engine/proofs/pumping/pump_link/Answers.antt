@@ -1,10 +1,10 @@
-use Rattle.broker_core.specs.State.{topology_of, broker_of}
+use Rattle.broker_core.specs.State.{topology_kept, broker_of}
 use Rattle.engine.proofs.Replies.{delivery_sends}
 use Rattle.engine.proofs.pumping.pump_link.Goals as goal
 
 pub put_out-requires-clause-own : goal.put_out-requires-clause-own
 put_out-requires-clause-own c =
-    rw c.deref.ensures.value (delivery_sends (topology_of c.args.broker.now) (broker_of c.args.broker.now) (broker_of c.pump.new.self) c.args.pick.connection c.in-Ok.step.sends.items c.in-Ok.step.notes.items
+    rw c.deref.ensures.value (delivery_sends (topology_kept c.args.broker.now) (broker_of c.args.broker.now) (broker_of c.pump.new.self) c.args.pick.connection c.in-Ok.step.sends.items c.in-Ok.step.notes.items
     c.requires.carried c.in-Ok.ensures.ok (c.in-Ok.ensures.addressed c.requires.carried c.requires.named))
 
 pub returns-in-Ok-clause-ok : goal.returns-in-Ok-clause-ok

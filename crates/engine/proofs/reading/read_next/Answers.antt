@@ -1,7 +1,7 @@
 use Rattle.std.proofs.Common.{sym, ap, Some, ◌∙◌}
 use Rattle.model.specs.Commands.{GoesOn}
 use Rattle.assembly.specs.Held.{stream_of}
-use Rattle.assembly.specs.Onward.{Gives}
+use Rattle.assembly.specs.Onward.{GivesCommand}
 use Rattle.engine.proofs.Turned.{kept_has, read_has, kept_read, not_some, waits_on}
 use Rattle.engine.proofs.reading.read_next.Goals as goal
 
@@ -10,13 +10,13 @@ returns-then-is_some-clause-ok c = kept_has c.args.number c.args.kept.now (strea
 
 pub returns-in-Ok-Some-clause-ok : goal.returns-in-Ok-Some-clause-ok
 returns-in-Ok-Some-clause-ok c =
-    let gives : Gives (stream_of c.args.stream.now) c.in-Ok-Some.command (stream_of c.next.new.self) = rw c.in-Ok-Some.field-0-is at c.in-Ok-Some.ensures in
+    let gives : GivesCommand (stream_of c.args.stream.now) c.in-Ok-Some.command (stream_of c.next.new.self) = rw c.in-Ok-Some.field-0-is at c.in-Ok-Some.ensures in
     read_has c.args.number c.args.kept.now c.keep.new.kept c.in-Ok-Some.command (stream_of c.args.stream.now) (stream_of c.next.new.self) (not_some c.args.kept.now (sym c.if-is_some.ensures))
     (c.keep.ensures ∙ ap (λ e. Some e) c.event_of.ensures) gives.next gives.command gives.shorter
 
 pub returns-in-Ok-Some-clause-kept : goal.returns-in-Ok-Some-clause-kept
 returns-in-Ok-Some-clause-kept c =
-    let gives : Gives (stream_of c.args.stream.now) c.in-Ok-Some.command (stream_of c.next.new.self) = rw c.in-Ok-Some.field-0-is at c.in-Ok-Some.ensures in
+    let gives : GivesCommand (stream_of c.args.stream.now) c.in-Ok-Some.command (stream_of c.next.new.self) = rw c.in-Ok-Some.field-0-is at c.in-Ok-Some.ensures in
     kept_read c.args.number c.keep.new.kept c.in-Ok-Some.command (c.keep.ensures ∙ ap (λ e. Some e) c.event_of.ensures) gives.command
 
 pub returns-in-Err-Memory-clause-err : goal.returns-in-Err-Memory-clause-err

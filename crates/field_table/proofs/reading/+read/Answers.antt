@@ -4,7 +4,7 @@ use Rattle.std.proofs.lemmas.Result.{err_from_is_err_and}
 use Rattle.model.specs.Tables.{no_pairs, value, pair}
 use Rattle.field_table.specs.View.{field_view, entry_view, table_view, entries_view, pairs_then}
 use Rattle.field_table.specs.declared.fields.Field.{the_lemmas}
-use Rattle.field_table.specs.declared.fields.Table.{roll-Table}
+use Rattle.field_table.specs.declared.fields.FieldTable.{roll-FieldTable}
 use Rattle.field_table.proofs.Firsts.{first_is, unsound, values_back, no_values_left, pairs_back, no_pairs_left, is_nil, not_nil}
 use Rattle.field_table.proofs.Views.{named, one_more_value, one_more_pair, then_values, then_pairs, refused_so}
 use Rattle.field_table.proofs.reading.+read.Goals as goal
@@ -38,7 +38,7 @@ pub table_in-returns : goal.table_in-returns
 table_in-returns t c =
     let l = c.pairs in
     let nil = is_nil l.rest.now (sym c.pairs-test.ensures) in
-    let is : table_view (roll-Table (record { entries = l.entries })) ≡ pairs_then (entries_view l.entries.items) no_pairs = search (rules, the_lemmas) in
+    let is : table_view (roll-FieldTable (record { entries = l.entries })) ≡ pairs_then (entries_view l.entries.items) no_pairs = search (rules, the_lemmas) in
     rw is (l.invariant.onto no_pairs (record { fits = tt; parts = nil }))
 
 pub table_in-returns-in_err-entry : goal.table_in-returns-in_err-entry

@@ -1,4 +1,3 @@
-use Rattle.std.proofs.Common.{◌≡◌}
 use Rattle.guarantees.proofs.Whole.{accepted}
 use Rattle.guarantees.proofs.reading.read_guarantees.Goals as goal
 

@@ -1,8 +1,6 @@
 -- What is put is the header, part by part.
-use Rattle.std.proofs.Common.{◌≡◌, ◌+◌, ◌≤◌, ◌++◌, ℕ, List, length, ap, sym, ◌∙◌, append_assoc, arith}
-use Rattle.std.specs.Prelude.{vec_len, vec_capacity}
-use Rattle.model.specs.Headers.{header_bytes}
-use Rattle.headers.specs.Writing.{front_of, back_of, values, front_flags, back_flags, fixed}
+use Rattle.std.proofs.Common.{arith}
+use Rattle.headers.specs.Writing.{front_flags, back_flags}
 use Rattle.headers.proofs.Laid.{front_fits, back_fits, header_len, put_parts}
 use Rattle.headers.proofs.writing.put_fields.Goals as goal
 

@@ -1,5 +1,5 @@
 -- The room that is made is the header's.
-use Rattle.std.proofs.Common.{◌≡◌, ◌+◌, ◌<◌, ◌≤◌, ℕ, subst, sym}
+use Rattle.std.proofs.Common.{◌+◌, ◌<◌, ◌≤◌, ℕ, subst}
 use Rattle.std.specs.Prelude.{vec_len, vec_capacity}
 use Rattle.headers.proofs.writing.write_header.Goals as goal
 

@@ -5,4 +5,4 @@ use Rattle.json_file.proofs.Reading.{with_front}
 use Rattle.json_file.proofs.arrays.entries_of.Given as goal
 
 abbrev pub invariant-loop-value : goal.invariant-loop-value
-invariant-loop-value g l = with_front l.found.items (each g.E.Entry.states (items_view (drop l.value-index l.values))) ≡ each g.E.Entry.states (items_view l.values)
+invariant-loop-value g l = with_front l.found.items (each g.E.FromValue.states (items_view (drop l.value-index l.values))) ≡ each g.E.FromValue.states (items_view l.values)

@@ -4,7 +4,7 @@ use Rattle.model.specs.Topology.{Topology, queue_names, IsIn}
 use Rattle.model.specs.Deliveries.{first_ready}
 use Rattle.model.specs.Step.{Of_channel, Refusal, or_else, refusal_in, refusal_of_tags, refusal_of_get}
 use Rattle.exchange_graph.specs.Marks.{queue_name}
-use Rattle.depot.specs.Store.{queue_at, queue_of}
+use Rattle.depot.specs.Store.{queue_at, entries_named}
 use Rattle.channel.specs.Open.{open_in}
 use Rattle.judging.proofs.Judging.{queue_there, queue_absent, get_judged}
 use Rattle.judging.proofs.refusals.judge_get.Goals as goal
@@ -29,7 +29,7 @@ returns-then-lacks_tag c =
     let there : refusal_in t name ≡ None = ap (λ (x : Bool). if x then None else Some (Of_channel 404)) (queue_there t.queues c.in-Some.place name within named) in
     λ b names has. (
       get_judged t b (open_in names c.args.channel.now) c.args.get.now (queue_at c.args.depot.now c.in-Some.place) true there
-          (has.queues name ∙ ap (queue_of c.args.depot.now) (sym named) ∙ c.is_named.ensures.entries_are)
+          (has.queues name ∙ ap (entries_named c.args.depot.now) (sym named) ∙ c.is_named.ensures.entries_are)
           (sym c.if-lacks_tag.true ∙ c.lacks_tag.ensures),
       tt,
     )
@@ -45,6 +45,6 @@ returns-else-lacks_tag c =
     λ b names has.
     let accepted : refusal_of_get t b (open_in names c.args.channel.now) c.args.get.now ≡ None =
     get_judged t b (open_in names c.args.channel.now) c.args.get.now (queue_at c.args.depot.now c.in-Some.place) false there
-    (has.queues name ∙ ap (queue_of c.args.depot.now) (sym named) ∙ c.is_named.ensures.entries_are)
+    (has.queues name ∙ ap (entries_named c.args.depot.now) (sym named) ∙ c.is_named.ensures.entries_are)
     (sym c.if-lacks_tag.false ∙ c.lacks_tag.ensures) in
     (accepted, (refl, refl, record { within = within; named = named }, accepted))

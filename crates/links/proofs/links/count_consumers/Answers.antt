@@ -1,7 +1,7 @@
 use Rattle.std.proofs.Common.{◌≡◌, ◌∙◌, [], List, ap, sum_by}
 use Rattle.std.specs.Map.Iter.{deref}
 use Rattle.std.proofs.lemmas.Map.Iter.{rest_all}
-use Rattle.links.specs.Counting.{consumers_of}
+use Rattle.links.specs.Counting.{consumers_counted}
 use Rattle.links.specs.Links.{Linked}
 use Rattle.links.proofs.Counting.{counts_all, no_more}
 use Rattle.links.proofs.links.count_consumers.Goals as goal
@@ -9,6 +9,6 @@ use Rattle.links.proofs.links.count_consumers.Goals as goal
 pub returns : goal.returns
 returns c =
     let left : c.loop-link.link-iterator ≡ [] = rest_all deref c.loop-link.link-iterator c.next.new.self c.next.result c.in-None.is c.next.ensures.steps in
-    let none : sum_by (consumers_of c.args.queue) c.loop-link.link-iterator ≡ 0 = ap (λ (ls : List Linked). sum_by (consumers_of c.args.queue) ls) left in
+    let none : sum_by (consumers_counted c.args.queue) c.loop-link.link-iterator ≡ 0 = ap (λ (ls : List Linked). sum_by (consumers_counted c.args.queue) ls) left in
     counts_all c.args.links.now.entries c.args.queue c.loop-link.count c.values-link-items.ensures.unique
-    (no_more c.loop-link.count (sum_by (consumers_of c.args.queue) c.loop-link.link-iterator) none c.loop-link.invariant.most ∙ c.loop-link.invariant.whole)
+    (no_more c.loop-link.count (sum_by (consumers_counted c.args.queue) c.loop-link.link-iterator) none c.loop-link.invariant.most ∙ c.loop-link.invariant.whole)

@@ -1,6 +1,6 @@
 use Rattle.std.proofs.Common.{take}
-use Rattle.paths.specs.Stands.{AreNext}
+use Rattle.paths.specs.Stands.{AreOneOn}
 use Rattle.paths.proofs.walking.advance.Given as goal
 
 abbrev pub invariant-loop-stand : goal.invariant-loop-stand
-invariant-loop-stand l = AreNext l.topology l.name l.next (take l.stand-index l.stands) l.found.items
+invariant-loop-stand l = AreOneOn l.topology l.name l.next (take l.stand-index l.stands) l.found.items

@@ -1,9 +1,9 @@
 use Rattle.std.proofs.Common.{◌≡◌, true}
 use Rattle.std.proofs.lemmas.Result.{on_ok_weaker}
 use Rattle.std.specs.Prelude.{◌↔◌}
-use Rattle.paths.specs.declared.stands.Stand.{Stand}
-use Rattle.paths.specs.declared.stands.Stand.TheVariants.{Exchange, Queue}
-use Rattle.paths.specs.Stands.{Next}
+use Rattle.paths.specs.declared.stands.KeyedPlace.{KeyedPlace}
+use Rattle.paths.specs.declared.stands.KeyedPlace.TheVariants.{Exchange, Queue}
+use Rattle.paths.specs.Stands.{NextStand}
 use Rattle.paths.proofs.Among.{add_none, add_same, dies_at, dies_nowhere}
 use Rattle.paths.proofs.walking.die.Goals as goal
 
@@ -13,7 +13,7 @@ returns-in_default c = add_none _ c.args.stands.now.items (dies_nowhere c.args.t
 pub returns : goal.returns
 returns c =
     let t = c.args.topology.now in
-    let is : (s : Stand) → Next t c.args.name.now c.args.next.now (Queue c.args.key.now) s ↔ ((c.leads_dead.result ≡ true) × (s ≡ Exchange c.in_ok-dead_key.field-0)) =
+    let is : (s : KeyedPlace) → NextStand t c.args.name.now c.args.next.now (Queue c.args.key.now) s ↔ ((c.leads_dead.result ≡ true) × (s ≡ Exchange c.in_ok-dead_key.field-0)) =
     rw c.in_ok-dead_key.ensures
     (dies_at t c.args.name.now c.args.next.now c.args.key.now c.in-Some.place c.queue-queue.result.now c.leads_dead.result c.is_well_formed.ensures c.in-Some.ensures.within c.in-Some.ensures.named c.queue-queue.ensures c.leads_dead.ensures) in
     on_ok_weaker c.add_if.result (λ a. add_same _ _ c.args.stands.now.items c.add_if.new.stands.items is a) c.add_if.ensures

@@ -3,9 +3,9 @@ use Rattle.std.proofs.lemmas.Result.{on_ok_weaker}
 use Rattle.std.specs.Prelude.{Decides, ◌⊎◌, ◌↔◌}
 use Rattle.model.specs.Words.{Text}
 use Rattle.exchange_graph.specs.Edges.{LeadsToQueue, LeadsOn}
-use Rattle.paths.specs.declared.stands.Stand.{Stand}
-use Rattle.paths.specs.declared.stands.Stand.TheVariants.{Exchange, Queue}
-use Rattle.paths.specs.Stands.{Next}
+use Rattle.paths.specs.declared.stands.KeyedPlace.{KeyedPlace}
+use Rattle.paths.specs.declared.stands.KeyedPlace.TheVariants.{Exchange, Queue}
+use Rattle.paths.specs.Stands.{NextStand}
 use Rattle.paths.proofs.Among.{add_both, on_or_into}
 use Rattle.paths.proofs.walking.go_on.Goals as goal
 
@@ -15,6 +15,6 @@ returns c =
     let k : Text = c.args.key.now in
     let on' : Decides c.in_ok-on.on (LeadsOn t k c.args.name.now c.args.next.now) = subst (λ (z : Text). Decides c.in_ok-on.on (LeadsOn t z c.args.name.now c.args.next.now)) c.as_bytes.ensures c.in_ok-on.ensures in
     let into' : Decides c.in_ok-into.into (LeadsToQueue t k c.args.name.now c.args.next.now) = subst (λ (z : Text). Decides c.in_ok-into.into (LeadsToQueue t z c.args.name.now c.args.next.now)) c.as_bytes-2.ensures c.in_ok-into.ensures in
-    let is : (s : Stand) → Next t c.args.name.now c.args.next.now (Exchange k) s ↔ (((c.in_ok-on.on ≡ true) × (s ≡ Exchange c.in_ok-clone.field-0)) ⊎ ((c.in_ok-into.into ≡ true) × (s ≡ Queue c.in_ok-clone-2.field-0))) =
+    let is : (s : KeyedPlace) → NextStand t c.args.name.now c.args.next.now (Exchange k) s ↔ (((c.in_ok-on.on ≡ true) × (s ≡ Exchange c.in_ok-clone.field-0)) ⊎ ((c.in_ok-into.into ≡ true) × (s ≡ Queue c.in_ok-clone-2.field-0))) =
     rw (c.in_ok-clone.ensures, c.in_ok-clone-2.ensures) (on_or_into t c.args.name.now c.args.next.now k c.in_ok-on.on c.in_ok-into.into on' into') in
     on_ok_weaker c.add_if-2.result (λ b. add_both _ _ _ c.args.stands.now.items c.add_if.new.stands.items c.add_if-2.new.stands.items is c.in_ok-add_if.ensures b) c.add_if-2.ensures

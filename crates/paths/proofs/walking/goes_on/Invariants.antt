@@ -1,6 +1,6 @@
 use Rattle.std.proofs.Common.{drop}
 use Rattle.std.specs.Prelude.{◌↔◌}
-use Rattle.paths.specs.declared.stands.Stand.TheVariants.{Exchange}
+use Rattle.paths.specs.declared.stands.KeyedPlace.TheVariants.{Exchange}
 use Rattle.paths.specs.Stands.{WalksOn, SomeGoesOn}
 use Rattle.paths.proofs.walking.goes_on.Given as goal
 

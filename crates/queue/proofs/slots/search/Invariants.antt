@@ -1,8 +1,8 @@
 use Rattle.std.proofs.Common.{◌≡◌, ℕ, ◌<◌, get_or, false, None}
 use Rattle.model.specs.Entries.{is_held_as}
-use Rattle.queue.specs.Slots.{contents, has}
+use Rattle.queue.specs.Slots.{contents, slot_has}
 use Rattle.queue.proofs.slots.search.Given as goal
 
 -- none of those passed is held so
 abbrev pub invariant-loop-place : goal.invariant-loop-place
-invariant-loop-place l = (k : ℕ) → k < l.place → has (is_held_as l.holder) (get_or (contents l.slots) k None) ≡ false
+invariant-loop-place l = (k : ℕ) → k < l.place → slot_has (is_held_as l.holder) (get_or (contents l.slots) k None) ≡ false

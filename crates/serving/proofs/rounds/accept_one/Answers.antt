@@ -1,5 +1,5 @@
 use Rattle.std.proofs.Common.{◌≡◌, [], ◌∷◌, false, true}
-use Rattle.serving.specs.Wire.{Not_accepted, Accept_failed, after}
+use Rattle.serving.specs.Wire.{Not_accepted, Accept_failed, told_after}
 use Rattle.serving.specs.Story.{TakesIn}
 use Rattle.serving.proofs.Deeds.{met, turned_away, met_nothing, met_failure}
 use Rattle.serving.proofs.rounds.accept_one.Goals as goal
@@ -23,11 +23,11 @@ returns-else-not-take_in-clause-serves g c =
 pub returns-in-Nothing-clause-serves : goal.returns-in-Nothing-clause-serves
 returns-in-Nothing-clause-serves g c =
     let told = g.W.Wire.told in
-    let e : told c.accept.new.self ≡ after (told c.args.wire.now) (Not_accepted ∷ []) = rw c.in-Nothing.is at c.accept.ensures.told in
+    let e : told c.accept.new.self ≡ told_after (told c.args.wire.now) (Not_accepted ∷ []) = rw c.in-Nothing.is at c.accept.ensures.told in
     met_nothing (g.M.Machine.world c.args.machine.now) c.args.peers.now.slots (told c.args.wire.now) (told c.accept.new.self) e
 
 pub returns-in-Failed-clause-serves : goal.returns-in-Failed-clause-serves
 returns-in-Failed-clause-serves g c =
     let told = g.W.Wire.told in
-    let e : told c.accept.new.self ≡ after (told c.args.wire.now) (Accept_failed ∷ []) = rw c.in-Failed.is at c.accept.ensures.told in
+    let e : told c.accept.new.self ≡ told_after (told c.args.wire.now) (Accept_failed ∷ []) = rw c.in-Failed.is at c.accept.ensures.told in
     met_failure (g.M.Machine.world c.args.machine.now) c.args.peers.now.slots (told c.args.wire.now) (told c.accept.new.self) e

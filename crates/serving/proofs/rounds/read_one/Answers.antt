@@ -1,5 +1,5 @@
 use Rattle.std.proofs.Common.{◌≡◌, ◌∙◌, [], ◌∷◌, Option, List, sym, subst}
-use Rattle.serving.specs.Wire.{To_read, Nothing_got, Read_ended, Read_failed, after}
+use Rattle.serving.specs.Wire.{To_read, Nothing_got, Read_ended, Read_failed, told_after}
 use Rattle.serving.specs.Story.{Serves, read_room, served}
 use Rattle.serving.specs.declared.peers.Peer.{Peer}
 use Rattle.serving.proofs.Turning.{of_err, of_ok}
@@ -37,7 +37,7 @@ returns-else-is_err-clause-serves g c =
 pub returns-in-Wait-clause-serves : goal.returns-in-Wait-clause-serves
 returns-in-Wait-clause-serves g c =
     let told = g.W.Wire.told in
-    let e : told c.read.new.self ≡ after (told c.args.wire.now) (Nothing_got c.args.peer.socket read_room ∷ []) = rw (c.in-Wait.is, c.requires.room) at c.read.ensures.told in
+    let e : told c.read.new.self ≡ told_after (told c.args.wire.now) (Nothing_got c.args.peer.socket read_room ∷ []) = rw (c.in-Wait.is, c.requires.room) at c.read.ensures.told in
     heard_nothing (g.M.Machine.world c.args.machine.now) c.args.peers.now.slots c.args.slot c.args.peer (told c.args.wire.now) (told c.read.new.self) c.requires.at e
 
 pub returns-in-End-clause-others : goal.returns-in-End-clause-others
@@ -47,7 +47,7 @@ pub returns-in-End-clause-serves : goal.returns-in-End-clause-serves
 returns-in-End-clause-serves g c =
     let world = g.M.Machine.world in
     let told = g.W.Wire.told in
-    let e : told c.read.new.self ≡ after (told c.args.wire.now) (Read_ended c.args.peer.socket read_room ∷ []) = rw (c.in-End.is, c.requires.room) at c.read.ensures.told in
+    let e : told c.read.new.self ≡ told_after (told c.args.wire.now) (Read_ended c.args.peer.socket read_room ∷ []) = rw (c.in-End.is, c.requires.room) at c.read.ensures.told in
     subst (λ (ps : List (Option Peer)). Serves (served (world c.args.machine.now) c.args.peers.now.slots (told c.args.wire.now)) (To_read c.args.peer.socket read_room ∷ []) _ (served (world c.let_down-in-End.new.machine) ps (told c.let_down-in-End.new.wire))) (sym c.let_down-in-End.ensures.freed)
     (heard_end (world c.args.machine.now) (world c.let_down-in-End.new.machine) c.args.peers.now.slots c.args.slot c.args.peer
     (told c.args.wire.now) (told c.read.new.self) (told c.let_down-in-End.new.wire) c.requires.at c.let_down-in-End.ensures.lost e c.let_down-in-End.ensures.closed)
@@ -59,7 +59,7 @@ pub returns-in-Failed-clause-serves : goal.returns-in-Failed-clause-serves
 returns-in-Failed-clause-serves g c =
     let world = g.M.Machine.world in
     let told = g.W.Wire.told in
-    let e : told c.read.new.self ≡ after (told c.args.wire.now) (Read_failed c.args.peer.socket read_room ∷ []) = rw (c.in-Failed.is, c.requires.room) at c.read.ensures.told in
+    let e : told c.read.new.self ≡ told_after (told c.args.wire.now) (Read_failed c.args.peer.socket read_room ∷ []) = rw (c.in-Failed.is, c.requires.room) at c.read.ensures.told in
     subst (λ (ps : List (Option Peer)). Serves (served (world c.args.machine.now) c.args.peers.now.slots (told c.args.wire.now)) (To_read c.args.peer.socket read_room ∷ []) _ (served (world c.let_down-in-Failed.new.machine) ps (told c.let_down-in-Failed.new.wire))) (sym c.let_down-in-Failed.ensures.freed)
     (heard_failure (world c.args.machine.now) (world c.let_down-in-Failed.new.machine) c.args.peers.now.slots c.args.slot c.args.peer
     (told c.args.wire.now) (told c.read.new.self) (told c.let_down-in-Failed.new.wire) c.requires.at c.let_down-in-Failed.ensures.lost e c.let_down-in-Failed.ensures.closed)

@@ -1,7 +1,7 @@
 use Rattle.std.proofs.Common.{[], ◌++◌}
 use Rattle.model.specs.Arrivals.{none_more}
 use Rattle.runs.specs.Opened.{Did}
-use Rattle.serving.proofs.Turning.{works_one}
+use Rattle.runs.proofs.Onward.{works_one}
 use Rattle.serving.proofs.turns.work.Goals as goal
 
 pub loop-init : goal.loop-init

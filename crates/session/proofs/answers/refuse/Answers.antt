@@ -1,7 +1,7 @@
 use Rattle.std.proofs.Common.{ap, ◌∙◌, [], ◌∷◌}
 use Rattle.model.specs.Grammar.{Ids}
 use Rattle.model.specs.Step.{connection_close}
-use Rattle.model.specs.Phases.{Move, to_phase}
+use Rattle.model.specs.Phases.{to_phase}
 use Rattle.model.specs.declared.events.Phase.TheVariants as phase
 use Rattle.model.specs.declared.events.Send.{Send}
 use Rattle.session.proofs.answers.refuse.Goals as goal

@@ -1,5 +1,5 @@
 use Rattle.std.proofs.Common.{◌≡◌, ◌∙◌, List, map, sym, subst}
-use Rattle.depot.specs.Rejecting.{AreWithin, AreOrdered}
+use Rattle.depot.specs.Rejecting.{GoneAreWithin, AreOrdered}
 use Rattle.depot.specs.declared.given.Given.{Given}
 use Rattle.settling.specs.Settled.{given_of}
 use Rattle.settling.proofs.Rejections.{all_within, all_ordered, is_rejection}
@@ -8,7 +8,7 @@ use Rattle.settling.proofs.rejecting.reject.Goals as goal
 pub reject-requires-clause-within : goal.reject-requires-clause-within
 reject-requires-clause-within c =
     let is : c.deref.result.now ≡ map given_of c.args.gone.now = c.deref.ensures.value ∙ c.in_ok-given.ensures in
-    subst (λ (given : List Given). AreWithin c.args.depot.now.topology given) (sym is) (all_within c.args.depot.now.topology c.args.gone.now c.requires.within)
+    subst (λ (given : List Given). GoneAreWithin c.args.depot.now.topology given) (sym is) (all_within c.args.depot.now.topology c.args.gone.now c.requires.within)
 
 pub reject-requires-clause-ordered : goal.reject-requires-clause-ordered
 reject-requires-clause-ordered c =

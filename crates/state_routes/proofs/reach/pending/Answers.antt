@@ -1,13 +1,13 @@
 use Rattle.std.proofs.Common.{sym, ◌∙◌, refl, arith, ℕ, List, get_or}
 use Rattle.std.specs.Prelude.{slice_index_or, false}
-use Rattle.state_routes.specs.declared.reach.Link.{Link}
+use Rattle.state_routes.specs.declared.reach.Hop.{Hop}
 use Rattle.state_routes.proofs.Chains.{none_more, none_all, in_place, not_out, out, at_itself}
 use Rattle.state_routes.proofs.reach.pending.Goals as goal
 
-abbrev none : Link
+abbrev none : Hop
 none = record { from = 0; to = 0 }
 
-abbrev item : List Link → ℕ → Link
+abbrev item : List Hop → ℕ → Hop
 item links i = get_or links i none
 
 pub leads_out-requires-clause-from : goal.leads_out-requires-clause-from

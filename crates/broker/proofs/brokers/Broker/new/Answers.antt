@@ -7,7 +7,7 @@ use Rattle.model.specs.Broker.{Broker, Channel}
 use Rattle.model.specs.Entries.{is_held_as}
 use Rattle.model.specs.Step.{Is}
 use Rattle.model.specs.declared.messages.Entry.{Entry}
-use Rattle.broker_core.specs.State.{Kept, broker_of, topology_of, nothing}
+use Rattle.broker_core.specs.State.{Kept, broker_of, topology_kept, nothing}
 use Rattle.broker.specs.Roster.{Rings, Lists, HasNoList}
 use Rattle.broker.proofs.Seated.{serves, serves_none}
 use Rattle.broker.proofs.brokers.Broker.new.Goals as goal
@@ -30,6 +30,6 @@ pub invariant_of-result : goal.invariant_of-result
 invariant_of-result c =
     let core : Kept = c.in_ok-core.core in
     let rings : Rings = c.in_ok-roster.roster in
-    let long : length rings.rings ≡ length (topology_of core).queues = c.in_ok-roster.ensures.rings ∙ ap length c.queues.ensures ∙ ap (λ (t : Topology). length t.queues) (sym c.in_ok-core.ensures.topology) in
+    let long : length rings.rings ≡ length (topology_kept core).queues = c.in_ok-roster.ensures.rings ∙ ap length c.queues.ensures ∙ ap (λ (t : Topology). length t.queues) (sym c.in_ok-core.ensures.topology) in
     serves core rings (serves_none core rings (nothing_agreed (broker_of core) c.in_ok-core.ensures.empty) long (λ d h. c.in_ok-core.ensures.empty.channels d h))
     (λ d none. subst (λ (ls : Lists). HasNoList ls d) (sym c.in_ok-roster.ensures.lists) refl)

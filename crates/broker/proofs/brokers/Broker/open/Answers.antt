@@ -1,7 +1,7 @@
 use Rattle.std.proofs.Common.{[], refl, sym, subst}
 use Rattle.model.specs.declared.events.Event.TheVariants.{Running}
 use Rattle.broker.specs.Roster.{Rings, IsServing}
-use Rattle.broker_core.specs.State.{Kept, broker_of, topology_of}
+use Rattle.broker_core.specs.State.{Kept, broker_of, topology_kept}
 use Rattle.broker.proofs.Ending.{opening_runs}
 use Rattle.broker.proofs.Outcomes.{either_way}
 use Rattle.broker.proofs.Seated.{holds, serves, serves_asleep, running_still}
@@ -14,6 +14,6 @@ invariant_of-self c =
     let rings : Rings = c.self.inside.roster in
     either_way c.open.result c.open.ensures.ok c.open.ensures.err
     (λ acts. serves new rings
-    (serves_asleep c.brokers_stay_agreed.ensures.acts c.consumers_are_made.ensures (topology_of old) old new (Running c.args.connection c.args.channel_max c.args.channels) [] [] rings acts (λ p. refl) refl refl c.open.ensures.topology (holds old rings c.self.invariant))
-    (running_still (broker_of old) (broker_of new) rings.lists rings.lists (opening_runs (topology_of old) (broker_of old) (broker_of new) [] [] c.args.connection c.args.channel_max c.args.channels acts) (λ d none. none) c.self.invariant.running))
+    (serves_asleep c.brokers_stay_agreed.ensures.acts c.consumers_are_made.ensures (topology_kept old) old new (Running c.args.connection c.args.channel_max c.args.channels) [] [] rings acts (λ p. refl) refl refl c.open.ensures.topology (holds old rings c.self.invariant))
+    (running_still (broker_of old) (broker_of new) rings.lists rings.lists (opening_runs (topology_kept old) (broker_of old) (broker_of new) [] [] c.args.connection c.args.channel_max c.args.channels acts) (λ d none. none) c.self.invariant.running))
     (λ same. subst (λ (k : Kept). IsServing k rings) (sym same) c.self.invariant)

@@ -1,7 +1,7 @@
 use Rattle.std.proofs.Common.{ℕ, refl, sym, subst}
 use Rattle.model.specs.Consuming.{CanDeliver}
 use Rattle.broker.specs.Roster.{Rings, HasConsumer}
-use Rattle.broker_core.specs.State.{Kept, broker_of, topology_of}
+use Rattle.broker_core.specs.State.{Kept, broker_of, topology_kept}
 use Rattle.broker_core.specs.declared.picks.Pick.{Pick}
 use Rattle.broker_core.specs.Picked.{IsPick, IsPickFrom}
 use Rattle.broker_core.proofs.Picking.{pick_from}
@@ -17,7 +17,7 @@ returns-clause-none c = λ e d can.
     let made : CanDeliver (broker_of c.self.inside.core) d = subst (λ (k : Kept). CanDeliver (broker_of k) d) (sym c.self.view_is) can in
     let p : Pick = record { connection = d; channel = made.number; number = made.consumer.number } in
     let from = pick_from c.self.inside.core d made in
-    let has : HasConsumer (topology_of c.self.inside.core) (broker_of c.self.inside.core) from.place p = record { consumer = made.consumer; was = (made.channel, made.taker.there, made.taker.its); numbered = refl; within = from.within; named = from.named } in
+    let has : HasConsumer (topology_kept c.self.inside.core) (broker_of c.self.inside.core) from.place p = record { consumer = made.consumer; was = (made.channel, made.taker.there, made.taker.its); numbered = refl; within = from.within; named = from.named } in
     c.pick.ensures.none e from.place p (c.self.invariant.seated from.place p has) (record { pick = (made, refl, refl); within = from.within; named = from.named })
 
 pub returns-clause-some : goal.returns-clause-some

@@ -1,7 +1,7 @@
 use Rattle.std.proofs.Common.{[], refl}
 use Rattle.std.proofs.lemmas.Bool.{eqb-true}
 use Rattle.model.specs.declared.events.Event.TheVariants.{Resume}
-use Rattle.broker_core.specs.State.{Kept, broker_of, topology_of}
+use Rattle.broker_core.specs.State.{Kept, broker_of, topology_kept}
 use Rattle.broker.specs.Roster.{Rings}
 use Rattle.broker.proofs.Ending.{resume_runs}
 use Rattle.broker.proofs.Seated.{Holds, holds, serves, serves_still, serves_kept, keeps_all, running_still}
@@ -16,6 +16,6 @@ invariant_of-self c =
     let held : Holds old after =
     serves_kept old before after (keeps_all old before after c.wake.ensures.kept) c.wake.ensures.len (holds old before c.self.invariant) in
     serves new after
-    (serves_still c.brokers_stay_agreed.ensures.acts c.consumers_are_made.ensures (topology_of old) old new (Resume c.args.connection) [] [] after c.resume.ensures.acts
+    (serves_still c.brokers_stay_agreed.ensures.acts c.consumers_are_made.ensures (topology_kept old) old new (Resume c.args.connection) [] [] after c.resume.ensures.acts
     (λ place p woken has. c.wake.ensures.woken p (eqb-true p.connection c.args.connection woken, refl) (broker_of old) place (c.self.invariant.seated place p has)) refl refl c.resume.ensures.topology held)
-    (running_still (broker_of old) (broker_of new) before.lists after.lists (resume_runs (topology_of old) (broker_of old) (broker_of new) [] [] c.args.connection c.resume.ensures.acts) c.wake.ensures.none c.self.invariant.running)
+    (running_still (broker_of old) (broker_of new) before.lists after.lists (resume_runs (topology_kept old) (broker_of old) (broker_of new) [] [] c.args.connection c.resume.ensures.acts) c.wake.ensures.none c.self.invariant.running)

@@ -2,7 +2,7 @@ use Rattle.std.proofs.Common.{ℕ, sym, subst}
 use Rattle.std.specs.Prelude.{IfSome}
 use Rattle.broker.specs.Roster.{Rings, ring_at, HasSeat, IsServing, AllRun, IsAwake}
 use Rattle.broker_core.specs.Seats.{seat_of, IsConsumed}
-use Rattle.broker_core.specs.State.{Kept, broker_of, topology_of}
+use Rattle.broker_core.specs.State.{Kept, broker_of, topology_kept}
 use Rattle.replies.specs.Sent.{connection_of_event}
 use Rattle.broker.proofs.Ending.{others_run}
 use Rattle.broker.proofs.Outcomes.{if_some}
@@ -48,12 +48,12 @@ invariant_of-self-2 c =
     let held : Holds old after = serves_kept old mid after (keeps_all old mid after c.wake_for.ensures.kept) c.wake_for.ensures.len seated in
     let running : AllRun (broker_of old) after.lists =
     running_still (broker_of old) (broker_of old) mid.lists after.lists (λ d none. none) c.wake_for.ensures.none (λ d none. c.seat_next.ensures.running d none (c.self.invariant.running d none)) in
-    let next : IfSome (seat_of old c.args.event.now) (λ p. (place : ℕ) → IsConsumed (topology_of old) c.args.event.now place → IsAwake (ring_at after.rings place) p) =
-    if_some (seat_of old c.args.event.now) (λ p. (place : ℕ) → IsConsumed (topology_of old) c.args.event.now place → HasSeat mid place p) (λ p. (place : ℕ) → IsConsumed (topology_of old) c.args.event.now place → IsAwake (ring_at after.rings place) p)
+    let next : IfSome (seat_of old c.args.event.now) (λ p. (place : ℕ) → IsConsumed (topology_kept old) c.args.event.now place → IsAwake (ring_at after.rings place) p) =
+    if_some (seat_of old c.args.event.now) (λ p. (place : ℕ) → IsConsumed (topology_kept old) c.args.event.now place → HasSeat mid place p) (λ p. (place : ℕ) → IsConsumed (topology_kept old) c.args.event.now place → IsAwake (ring_at after.rings place) p)
     (λ p up place is. (c.wake_for.ensures.wakens place).awake p (up place is).awake) c.in_ok-seat_next.ensures.seated in
     let acts = c.in_ok-step.ensures.ok in
     serves new left
     (serves_kept new after left c.forget_ended.ensures.kept c.forget_ended.ensures.len
     (serves_next c.brokers_stay_agreed.ensures.acts c.consumers_are_made.ensures old new c.args.event.now _ _ after acts
     (λ place p woken has. c.wake_for.ensures.woken p woken (broker_of old) place (seated.seated place p has)) c.step.ensures.topology next held))
-    (running_but (broker_of old) (broker_of new) after.lists left.lists (connection_of_event c.args.event.now) (others_run (topology_of old) (broker_of old) (broker_of new) _ _ c.args.event.now acts) c.forget_ended.ensures.gone c.forget_ended.ensures.none running)
+    (running_but (broker_of old) (broker_of new) after.lists left.lists (connection_of_event c.args.event.now) (others_run (topology_kept old) (broker_of old) (broker_of new) _ _ c.args.event.now acts) c.forget_ended.ensures.gone c.forget_ended.ensures.none running)

@@ -1,6 +1,6 @@
 use Rattle.std.proofs.Common.{◌≡◌, ◌≤◌, ◌-◌, length}
 use Rattle.broker.specs.Roster.{rings_of, QueuesAreMarked, KeepsSeats, ListsMore, NoneBetween}
-use Rattle.broker_core.specs.State.{topology_of}
+use Rattle.broker_core.specs.State.{topology_kept}
 use Rattle.broker.proofs.roster.seating.first_between.Given as goal
 
 -- each seat is there still, each queue in whose ring one is awake is marked, and from no queue before the next a delivery can be made
@@ -15,4 +15,4 @@ invariant-queues l = record {
 }
 
 abbrev pub decreases-queues : goal.decreases-queues
-decreases-queues l = length (topology_of l.core).queues - l.next
+decreases-queues l = length (topology_kept l.core).queues - l.next

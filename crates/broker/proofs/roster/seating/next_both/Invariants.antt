@@ -1,5 +1,5 @@
 use Rattle.std.proofs.Common.{◌≤◌, ◌-◌, length}
-use Rattle.broker_core.specs.State.{topology_of}
+use Rattle.broker_core.specs.State.{topology_kept}
 use Rattle.broker.specs.Roster.{NoneMarked}
 use Rattle.broker.proofs.roster.seating.next_both.Given as goal
 
@@ -11,4 +11,4 @@ invariant-turns l = record {
 }
 
 abbrev pub decreases-turns : goal.decreases-turns
-decreases-turns l = length (topology_of l.core).queues - l.next
+decreases-turns l = length (topology_kept l.core).queues - l.next

@@ -5,7 +5,7 @@ use Rattle.model.specs.Broker.{Channel}
 use Rattle.model.specs.Step.{Cancels, channel_or_new}
 use Rattle.channel.specs.Open.{Open, open_in, without_named}
 use Rattle.links.specs.Links.{channel_of, seats_in, PutsChannel}
-use Rattle.broker_core.specs.State.{Kept, broker_of, names_of, topology_of}
+use Rattle.broker_core.specs.State.{Kept, broker_of, names_of, topology_kept}
 use Rattle.broker_core.proofs.Stepping.{kept_there, kept_one}
 use Rattle.broker_core.proofs.Placing.{placed_put, placed_some, placed_cancelled}
 use Rattle.broker_core.proofs.Consuming.{cancelled_is}
@@ -23,7 +23,7 @@ invariant_of-self c =
     let there = kept_one (channel_of old.links connection number) (kept_there old c.args.self.now connection number c.self.view_is c.requires) in
     let seats = seats_in (channel_of new.links connection number) in
     placed_put old new connection number (Some (without_named there.0 c.as_bytes.result.now seats)) refl (c.cancel.ensures there.0 there.1)
-    (placed_some (topology_of old) (without_named there.0 c.as_bytes.result.now seats) (placed_cancelled (topology_of old) there.0 c.as_bytes.result.now seats (c.self.invariant connection number there.0 there.1)))
+    (placed_some (topology_kept old) (without_named there.0 c.as_bytes.result.now seats) (placed_cancelled (topology_kept old) there.0 c.as_bytes.result.now seats (c.self.invariant connection number there.0 there.1)))
     c.self.invariant
 
 pub returns-clause-ok : goal.returns-clause-ok

@@ -1,6 +1,6 @@
-use Rattle.std.proofs.Common.{◌≡◌, ◌∙◌, ap}
+use Rattle.std.proofs.Common.{◌∙◌, ap}
 use Rattle.model.specs.Entries.{by_channel}
-use Rattle.broker_core.specs.State.{Kept, topology_of}
+use Rattle.broker_core.specs.State.{Kept, topology_kept}
 use Rattle.broker_core.proofs.Freed.{channel_is_freed, held_within}
 use Rattle.broker_core.proofs.Placing.{placed_put, placed_new}
 use Rattle.broker_core.proofs.Settling.{topology_returned}
@@ -25,10 +25,10 @@ invariant_of-self c =
     let old : Kept = record { store = c.self.inside.depot; links = c.self.inside.links } in
     let new : Kept = record { store = c.put_back.new.depot; links = c.put.new.self } in
     placed_put old new c.args.connection c.args.number c.args.channel (topology_returned c.args.connection c.args.number c.outstanding-held.result.now old new c.put_back.ensures) c.put.ensures
-    (λ k is. placed_new (topology_of old) k (c.requires.nothing k is) (c.requires.free k is)) c.self.invariant
+    (λ k is. placed_new (topology_kept old) k (c.requires.nothing k is) (c.requires.free k is)) c.self.invariant
 
 pub returns-clause-topology : goal.returns-clause-topology
 returns-clause-topology c =
     let old : Kept = record { store = c.self.inside.depot; links = c.self.inside.links } in
     let new : Kept = record { store = c.put_back.new.depot; links = c.put.new.self } in
-    topology_returned c.args.connection c.args.number c.outstanding-held.result.now old new c.put_back.ensures ∙ ap topology_of c.self.view_is
+    topology_returned c.args.connection c.args.number c.outstanding-held.result.now old new c.put_back.ensures ∙ ap topology_kept c.self.view_is

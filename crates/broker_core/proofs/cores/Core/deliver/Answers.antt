@@ -9,7 +9,7 @@ use Rattle.model.specs.declared.messages.Taker.TheVariants as taker
 use Rattle.exchange_graph.specs.Marks.{queue_name}
 use Rattle.channel.specs.Open.{Open, open_in}
 use Rattle.links.specs.Links.{channel_of}
-use Rattle.broker_core.specs.State.{Kept, broker_of, topology_of, names_of}
+use Rattle.broker_core.specs.State.{Kept, broker_of, topology_kept, names_of}
 use Rattle.broker_core.proofs.Stepping.{kept_there, kept_one}
 use Rattle.broker_core.proofs.Giving.{next_free}
 use Rattle.broker_core.proofs.Getting.{first_carried}
@@ -22,8 +22,8 @@ unreachable-requires c = none_picked c.args.self.now c.args.pick c.in_default.en
 pub unreachable-requires-in_default-first_ready : goal.unreachable-requires-in_default-first_ready
 unreachable-requires-in_default-first_ready c =
     let place = c.in-Some.consumer.now.queue in
-    let same : first_ready ((broker_of c.args.self.now).queue (queue_name (topology_of c.args.self.now) place)) ≡ option_map (λ e. e.now) c.first_ready.result =
-    subst (λ (k : Kept). first_ready ((broker_of k).queue (queue_name (topology_of k) place)) ≡ option_map (λ e. e.now) c.first_ready.result) c.self.view_is
+    let same : first_ready ((broker_of c.args.self.now).queue (queue_name (topology_kept c.args.self.now) place)) ≡ option_map (λ e. e.now) c.first_ready.result =
+    subst (λ (k : Kept). first_ready ((broker_of k).queue (queue_name (topology_kept k) place)) ≡ option_map (λ e. e.now) c.first_ready.result) c.self.view_is
     (ap first_ready c.is_named.ensures.entries_are ∙ sym c.first_ready.ensures) in
     false≢true (ap is_some (sym (ap (option_map (λ e. e.now)) c.in_default-first_ready.is)) ∙ ap is_some (sym same ∙ ready_for c.args.self.now c.args.pick c.in-Some.consumer.now c.in-Some.ensures c.requires.picked))
 
@@ -49,15 +49,15 @@ returns-clause-ok c =
     let now : Kept = c.args.self.now in
     let place = c.in-Some.consumer.now.queue in
     let e : Entry = c.in-Some-first_ready.entry.now in
-    let found : first_ready ((broker_of now).queue (queue_name (topology_of now) place)) ≡ Some e =
-    subst (λ (k : Kept). first_ready ((broker_of k).queue (queue_name (topology_of k) place)) ≡ Some e) c.self.view_is
+    let found : first_ready ((broker_of now).queue (queue_name (topology_kept now) place)) ≡ Some e =
+    subst (λ (k : Kept). first_ready ((broker_of k).queue (queue_name (topology_kept k) place)) ≡ Some e) c.self.view_is
     (ap first_ready c.is_named.ensures.entries_are ∙ sym c.first_ready.ensures ∙ ap (option_map (λ e. e.now)) c.in-Some-first_ready.is) in
     let there = kept_one (channel_of old.links connection number) (kept_there old now connection number c.self.view_is (ap is_some c.in-Some.ensures.taker.there)) in
     let tagged : c.next_tag-tag.result ≡ (channel_or_new ((broker_of old).channel connection number)).next_tag =
     c.next_tag-tag.ensures there.0 there.1 ∙ ap (λ (o : Option Open). (channel_or_new (option_map (open_in (names_of old)) o)).next_tag) (sym there.1) in
     let own : c.next_tag-tag.result ≡ (channel_or_new ((broker_of now).channel connection number)).next_tag =
     subst (λ (k : Kept). c.next_tag-tag.result ≡ (channel_or_new ((broker_of k).channel connection number)).next_tag) c.self.view_is tagged in
-    let named : c.name_at-queue.result.now ≡ queue_name (topology_of now) place = c.name_at-queue.ensures ∙ ap (λ (k : Kept). queue_name (topology_of k) place) c.self.view_is in
+    let named : c.name_at-queue.result.now ≡ queue_name (topology_kept now) place = c.name_at-queue.ensures ∙ ap (λ (k : Kept). queue_name (topology_kept k) place) c.self.view_is in
     delivered now (broker_of c.give_out.new.self) c.args.pick c.in-Some.consumer.now e c.next_tag-tag.result c.name_at-queue.result.now c.in_ok-step.step.sends.items c.in_ok-step.step.notes.items
     c.in-Some.ensures found own named c.in_ok-step.ensures.sends c.in_ok-step.ensures.notes c.in_ok-give_out.ensures.left
 
@@ -66,7 +66,7 @@ returns-clause-addressed c = λ carried named.
     let now : Kept = c.args.self.now in
     let place = c.in-Some.consumer.now.queue in
     let e : Entry = c.in-Some-first_ready.entry.now in
-    let found : first_ready ((broker_of now).queue (queue_name (topology_of now) place)) ≡ Some e =
-    subst (λ (k : Kept). first_ready ((broker_of k).queue (queue_name (topology_of k) place)) ≡ Some e) c.self.view_is
+    let found : first_ready ((broker_of now).queue (queue_name (topology_kept now) place)) ≡ Some e =
+    subst (λ (k : Kept). first_ready ((broker_of k).queue (queue_name (topology_kept k) place)) ≡ Some e) c.self.view_is
     (ap first_ready c.is_named.ensures.entries_are ∙ sym c.first_ready.ensures ∙ ap (option_map (λ e. e.now)) c.in-Some-first_ready.is) in
-    c.in_ok-step.ensures.addressed (takes_short now c.args.pick c.in-Some.consumer.now c.in-Some.ensures named) (first_carried (broker_of now) (queue_name (topology_of now) place) e carried found)
+    c.in_ok-step.ensures.addressed (takes_short now c.args.pick c.in-Some.consumer.now c.in-Some.ensures named) (first_carried (broker_of now) (queue_name (topology_kept now) place) e carried found)

@@ -10,7 +10,7 @@ use Rattle.channel.specs.Open.{Open, open_in}
 use Rattle.depot.specs.Store.{Store}
 use Rattle.links.specs.Links.{channel_of, room_in}
 use Rattle.broker_core.specs.State.{ArePlaced}
-use Rattle.broker_core.specs.State.{Kept, broker_of, topology_of, names_of}
+use Rattle.broker_core.specs.State.{Kept, broker_of, topology_kept, names_of}
 use Rattle.settling.proofs.Settlements.{gone_within}
 use Rattle.broker_core.proofs.Settling.{rejected_is, all_rise, stays_placed, not_none, accepted_on}
 use Rattle.broker_core.proofs.Stepping.{kept_one, kept_there}
@@ -29,7 +29,7 @@ reject-requires-clause-within c =
     let ch = kept_one (channel_of old.links c.args.connection c.args.channel) (kept_there old c.args.self.now c.args.connection c.args.channel c.self.view_is c.requires.there) in
     let placed : ArePlaced old = c.self.invariant in
     let all : settled tag_of c.args.tag c.args.multiple ch.0.given.outstanding ≡ Some c.in-Some.gone.now = sym (c.settle.ensures ch.0 ch.1) ∙ ap (option_map (λ s. s.now)) c.in-Some.is in
-    gone_within (topology_of old) c.args.tag c.args.multiple ch.0.given.outstanding c.in-Some.gone.now all (placed c.args.connection c.args.channel ch.0 ch.1).outstanding
+    gone_within (topology_kept old) c.args.tag c.args.multiple ch.0.given.outstanding c.in-Some.gone.now all (placed c.args.connection c.args.channel ch.0 ch.1).outstanding
 
 pub reject-requires-clause-ordered : goal.reject-requires-clause-ordered
 reject-requires-clause-ordered c =
@@ -55,8 +55,8 @@ returns-clause-ok c =
     let seen : open_in (names_of old) ch.0 ≡ channel_or_new ((broker_of old).channel connection number) = ap (λ (o : Option Open). channel_or_new (option_map (open_in (names_of old)) o)) (sym ch.1) in
     let sent : c.noting.result.sends.items ≡ [] = c.noting.ensures.sends in
     let noted = c.noting.ensures.notes in
-    subst (λ (k : Kept). Settles (topology_of k) Rejects (broker_of k) connection number (channel_or_new ((broker_of k).channel connection number)) c.args.tag c.args.multiple [] c.noting.result.sends.items c.noting.result.notes.items (broker_of new)) c.self.view_is
-    (subst (λ (x : Channel). Settles (topology_of old) Rejects (broker_of old) connection number x c.args.tag c.args.multiple [] c.noting.result.sends.items c.noting.result.notes.items (broker_of new)) seen
+    subst (λ (k : Kept). Settles (topology_kept k) Rejects (broker_of k) connection number (channel_or_new ((broker_of k).channel connection number)) c.args.tag c.args.multiple [] c.noting.result.sends.items c.noting.result.notes.items (broker_of new)) c.self.view_is
+    (subst (λ (x : Channel). Settles (topology_kept old) Rejects (broker_of old) connection number x c.args.tag c.args.multiple [] c.noting.result.sends.items c.noting.result.notes.items (broker_of new)) seen
     (rw (sent, noted)
     (rejected_is old new connection number c.args.tag (room_in (channel_of new.links connection number)) c.args.multiple ch.0 c.in-Some.gone.now c.in_ok-notes.notes.items all c.in_ok-notes.ensures.ok (c.forget.ensures ch.0 ch.1))))
 
@@ -74,4 +74,4 @@ invariant_of-self-2 c =
     stays_placed old new connection number c.args.tag (room_in (channel_of new.links connection number)) c.args.multiple ch.0 c.in_ok-notes.ensures.ok.topology ch.1 (c.forget.ensures ch.0 ch.1) placed
 
 pub returns-clause-topology : goal.returns-clause-topology
-returns-clause-topology c = c.in_ok-notes.ensures.ok.topology ∙ ap topology_of c.self.view_is
+returns-clause-topology c = c.in_ok-notes.ensures.ok.topology ∙ ap topology_kept c.self.view_is

@@ -1,8 +1,8 @@
 use Rattle.std.proofs.Common.{subst, sym}
 use Rattle.std.specs.Prelude.{IfOk}
 use Rattle.model.specs.Step.{Finds}
-use Rattle.judging.specs.Judged.{IsPlaceOf}
-use Rattle.broker_core.specs.State.{Kept, broker_of, topology_of}
+use Rattle.judging.specs.Judged.{IsQueuePlace}
+use Rattle.broker_core.specs.State.{Kept, broker_of, topology_kept}
 use Rattle.broker_core.proofs.Declaring.{found_is}
 use Rattle.broker_core.proofs.Outcomes.{both_ok}
 use Rattle.broker_core.proofs.cores.Core.find_queue.Goals as goal
@@ -12,7 +12,7 @@ returns-clause-ok c =
     let place = c.args.place in
     let asked = c.args.declare.now in
     let kept : Kept = record { store = c.self.inside.depot; links = c.self.inside.links } in
-    let at : IsPlaceOf (topology_of kept) asked.queue place = subst (λ (k : Kept). IsPlaceOf (topology_of k) asked.queue place) (sym c.self.view_is) c.requires in
+    let at : IsQueuePlace (topology_kept kept) asked.queue place = subst (λ (k : Kept). IsQueuePlace (topology_kept k) asked.queue place) (sym c.self.view_is) c.requires in
     subst (λ (k : Kept). IfOk c.answer_queue_declare.result (λ s. Finds (broker_of k) c.args.connection c.args.channel asked s.sends.items s.notes.items (broker_of k))) c.self.view_is
     (both_ok c.answer_queue_declare.result _ _ _ c.answer_queue_declare.ensures.sends c.answer_queue_declare.ensures.notes
     (λ s sent noted. found_is kept c.args.connection c.args.channel place c.ready_at-ready.result c.count_consumers-consumers.result asked s.sends.items s.notes.items

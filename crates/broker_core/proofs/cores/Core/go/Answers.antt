@@ -1,7 +1,7 @@
-use Rattle.std.proofs.Common.{◌≡◌, ◌∙◌, ap}
+use Rattle.std.proofs.Common.{◌∙◌, ap}
 use Rattle.std.specs.Option.{option_copied}
 use Rattle.model.specs.Entries.{by_connection}
-use Rattle.broker_core.specs.State.{Kept, topology_of}
+use Rattle.broker_core.specs.State.{Kept, topology_kept}
 use Rattle.broker_core.proofs.Freed.{connection_is_freed, within_at}
 use Rattle.broker_core.proofs.Placing.{placed_gone}
 use Rattle.broker_core.proofs.Stepping.{IsFreed, gone_is}
@@ -31,4 +31,4 @@ returns-clause-topology c =
     let old : Kept = record { store = c.self.inside.depot; links = c.self.inside.links } in
     let freed : IsFreed (by_connection c.args.connection) old.store c.put_back_all.new.depot =
     connection_is_freed c.places_are_named.ensures old c.args.self.now c.args.connection (option_copied c.get.result) c.put_back_all.new.depot c.self.view_is c.is_whole.ensures c.self.invariant c.requires c.get.ensures c.put_back_all.ensures in
-    freed.topology ∙ ap topology_of c.self.view_is
+    freed.topology ∙ ap topology_kept c.self.view_is

@@ -9,7 +9,7 @@ use Rattle.channel.specs.Outstanding.{tag_of}
 use Rattle.channel.specs.Open.{Open, open_in}
 use Rattle.links.specs.Links.{channel_of, room_in}
 use Rattle.broker_core.specs.State.{ArePlaced}
-use Rattle.broker_core.specs.State.{Kept, broker_of, topology_of, names_of}
+use Rattle.broker_core.specs.State.{Kept, broker_of, topology_kept, names_of}
 use Rattle.settling.proofs.Settlements.{gone_within}
 use Rattle.broker_core.proofs.Settling.{left_is, stays_placed, topology_without, not_none, accepted_on}
 use Rattle.broker_core.proofs.Stepping.{kept_one, kept_there}
@@ -28,7 +28,7 @@ notes_of-requires c =
     let ch = kept_one (channel_of old.links c.args.connection c.args.channel) (kept_there old c.args.self.now c.args.connection c.args.channel c.self.view_is c.requires.there) in
     let placed : ArePlaced old = c.self.invariant in
     let all : settled tag_of c.args.tag c.args.multiple ch.0.given.outstanding ≡ Some c.in-Some.gone.now = sym (c.settle.ensures ch.0 ch.1) ∙ ap (option_map (λ s. s.now)) c.in-Some.is in
-    gone_within (topology_of old) c.args.tag c.args.multiple ch.0.given.outstanding c.in-Some.gone.now all (placed c.args.connection c.args.channel ch.0 ch.1).outstanding
+    gone_within (topology_kept old) c.args.tag c.args.multiple ch.0.given.outstanding c.in-Some.gone.now all (placed c.args.connection c.args.channel ch.0 ch.1).outstanding
 
 pub take_out-requires : goal.take_out-requires
 take_out-requires c =
@@ -36,7 +36,7 @@ take_out-requires c =
     let ch = kept_one (channel_of old.links c.args.connection c.args.channel) (kept_there old c.args.self.now c.args.connection c.args.channel c.self.view_is c.requires.there) in
     let placed : ArePlaced old = c.self.invariant in
     let all : settled tag_of c.args.tag c.args.multiple ch.0.given.outstanding ≡ Some c.in-Some.gone.now = sym (c.settle.ensures ch.0 ch.1) ∙ ap (option_map (λ s. s.now)) c.in-Some.is in
-    gone_within (topology_of old) c.args.tag c.args.multiple ch.0.given.outstanding c.in-Some.gone.now all (placed c.args.connection c.args.channel ch.0 ch.1).outstanding
+    gone_within (topology_kept old) c.args.tag c.args.multiple ch.0.given.outstanding c.in-Some.gone.now all (placed c.args.connection c.args.channel ch.0 ch.1).outstanding
 
 pub returns-clause-ok : goal.returns-clause-ok
 returns-clause-ok c =
@@ -51,8 +51,8 @@ returns-clause-ok c =
     let seen : open_in (names_of old) ch.0 ≡ channel_or_new ((broker_of old).channel connection number) = ap (λ (o : Option Open). channel_or_new (option_map (open_in (names_of old)) o)) (sym ch.1) in
     let sent : c.noting.result.sends.items ≡ [] = c.noting.ensures.sends in
     let noted = c.noting.ensures.notes ∙ c.in_ok-notes.ensures in
-    subst (λ (k : Kept). Settles (topology_of k) (Leaves c.args.cause) (broker_of k) connection number (channel_or_new ((broker_of k).channel connection number)) c.args.tag c.args.multiple [] c.noting.result.sends.items c.noting.result.notes.items (broker_of new)) c.self.view_is
-    (subst (λ (x : Channel). Settles (topology_of old) (Leaves c.args.cause) (broker_of old) connection number x c.args.tag c.args.multiple [] c.noting.result.sends.items c.noting.result.notes.items (broker_of new)) seen
+    subst (λ (k : Kept). Settles (topology_kept k) (Leaves c.args.cause) (broker_of k) connection number (channel_or_new ((broker_of k).channel connection number)) c.args.tag c.args.multiple [] c.noting.result.sends.items c.noting.result.notes.items (broker_of new)) c.self.view_is
+    (subst (λ (x : Channel). Settles (topology_kept old) (Leaves c.args.cause) (broker_of old) connection number x c.args.tag c.args.multiple [] c.noting.result.sends.items c.noting.result.notes.items (broker_of new)) seen
     (rw (sent, noted)
     (left_is c.places_are_named.ensures c.args.cause old new connection number c.args.tag (room_in (channel_of new.links connection number)) c.args.multiple ch.0 c.in-Some.gone.now c.is_whole.ensures agreed placed ch.1 all c.take_out.ensures (c.forget.ensures ch.0 ch.1))))
 
@@ -70,4 +70,4 @@ pub returns-clause-topology : goal.returns-clause-topology
 returns-clause-topology c =
     let old : Kept = record { store = c.self.inside.depot; links = c.self.inside.links } in
     let new : Kept = record { store = c.take_out.new.depot; links = c.forget.new.self } in
-    topology_without c.args.connection c.args.channel c.in-Some.gone.now old new c.take_out.ensures ∙ ap topology_of c.self.view_is
+    topology_without c.args.connection c.args.channel c.in-Some.gone.now old new c.take_out.ensures ∙ ap topology_kept c.self.view_is

@@ -1,4 +1,4 @@
-use Rattle.std.proofs.Common.{◌∙◌, false, sym}
+use Rattle.std.proofs.Common.{◌∙◌, sym}
 use Rattle.broker_core.proofs.Delivering.{none_told}
 use Rattle.broker_core.proofs.cores.Core.may_take.Goals as goal
 

@@ -1,5 +1,5 @@
 use Rattle.std.proofs.Common.{subst}
-use Rattle.broker_core.specs.Picked.{IsNext}
+use Rattle.broker_core.specs.Picked.{IsNextPicked}
 use Rattle.broker_core.specs.State.{Kept}
 use Rattle.broker_core.proofs.Picking.{next_is}
 use Rattle.broker_core.proofs.cores.Core.next_ready.Goals as goal
@@ -7,5 +7,5 @@ use Rattle.broker_core.proofs.cores.Core.next_ready.Goals as goal
 pub returns : goal.returns
 returns c =
     let kept : Kept = record { store = c.self.inside.depot; links = c.self.inside.links } in
-    subst (λ (k : Kept). IsNext k c.args.from c.next_ready.result) c.self.view_is
+    subst (λ (k : Kept). IsNextPicked k c.args.from c.next_ready.result) c.self.view_is
     (next_is kept c.args.from c.next_ready.result (λ place lt. c.places_are_named.ensures kept.store place c.is_whole.ensures lt) c.next_ready.ensures.told)

@@ -3,7 +3,7 @@ use Rattle.std.specs.Prelude.{is_some}
 use Rattle.model.specs.Agreement.{IsAgreed}
 use Rattle.model.specs.Entries.{by_connection}
 use Rattle.depot.specs.Store.{Store}
-use Rattle.links.specs.Links.{link_in}
+use Rattle.links.specs.Links.{linked_in}
 use Rattle.broker_core.specs.State.{Kept, broker_of}
 use Rattle.broker_core.proofs.Freed.{absent, none_held, requeued_is}
 use Rattle.broker_core.proofs.Placing.{placed_opened}
@@ -33,12 +33,12 @@ returns-else-was_there-clause-ok c =
     let old : Kept = record { store = c.self.inside.depot; links = c.self.inside.links } in
     let new : Kept = record { store = c.self.inside.depot; links = c.open.new.self } in
     let agreed : IsAgreed (broker_of old) = subst (λ (k : Kept). IsAgreed (broker_of k)) (sym c.self.view_is) c.requires in
-    let none : is_some (link_in old.links connection) ≡ false = ap (λ (k : Kept). is_some (link_in k.links connection)) c.self.view_is ∙ sym c.runs-was_there.ensures ∙ c.if-was_there.false in
+    let none : is_some (linked_in old.links connection) ≡ false = ap (λ (k : Kept). is_some (linked_in k.links connection)) c.self.view_is ∙ sym c.runs-was_there.ensures ∙ c.if-was_there.false in
     rw (← c.self.view_is)
     (record {
       sent = refl;
       noted = refl;
-      left = opened_is old new connection c.args.channel_max c.args.channels (none_held old connection (absent (link_in old.links connection) none) agreed) c.in_ok-open.ensures.ok;
+      left = opened_is old new connection c.args.channel_max c.args.channels (none_held old connection (absent (linked_in old.links connection) none) agreed) c.in_ok-open.ensures.ok;
     })
 
 pub invariant_of-self-else-was_there : goal.invariant_of-self-else-was_there

@@ -3,7 +3,7 @@ use Rattle.model.specs.Broker.{Channel, new_channel}
 use Rattle.model.specs.Step.{Is, with_channel}
 use Rattle.model.specs.declared.events.Send.{Send}
 use Rattle.channel.specs.Open.{Open, open_in}
-use Rattle.broker_core.specs.State.{Kept, broker_of, topology_of, names_of}
+use Rattle.broker_core.specs.State.{Kept, broker_of, topology_kept, names_of}
 use Rattle.broker_core.proofs.Stepping.{put_is, link_there}
 use Rattle.broker_core.proofs.Placing.{placed_put, placed_new, placed_some}
 use Rattle.broker_core.proofs.cores.Core.open_channel.Goals as goal
@@ -31,6 +31,6 @@ invariant_of-self-2 c =
     let old : Kept = record { store = c.self.inside.depot; links = c.self.inside.links } in
     let new : Kept = record { store = c.self.inside.depot; links = c.open_channel.new.self } in
     placed_put old new c.args.connection c.args.channel (Some c.new.result) refl c.in_ok-open_channel.ensures.ok
-    (placed_some (topology_of old) c.new.result
-    (placed_new (topology_of old) c.new.result (ap (λ (x : Open). x.given.outstanding) c.new.ensures) (ap (λ (x : Open). x.given.consumers) c.new.ensures)))
+    (placed_some (topology_kept old) c.new.result
+    (placed_new (topology_kept old) c.new.result (ap (λ (x : Open). x.given.outstanding) c.new.ensures) (ap (λ (x : Open). x.given.consumers) c.new.ensures)))
     c.self.invariant

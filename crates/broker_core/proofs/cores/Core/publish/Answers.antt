@@ -9,7 +9,7 @@ use Rattle.depot.specs.Publishing.{Publishes}
 use Rattle.channel.specs.Open.{Open, open_in}
 use Rattle.links.specs.Links.{channel_of}
 use Rattle.replies.specs.Sent.{AreAddressed, return_if, sent_back}
-use Rattle.broker_core.specs.State.{Kept, broker_of, topology_of, names_of}
+use Rattle.broker_core.specs.State.{Kept, broker_of, topology_kept, names_of}
 use Rattle.broker_core.proofs.Stepping.{published_is, open_there, back_own}
 use Rattle.std.proofs.Common.{refl}
 use Rattle.broker_core.proofs.Placing.{placed_put, placed_at, placed_same}
@@ -48,8 +48,8 @@ returns-clause-ok c =
     ∙ ap (λ (z : List Note). z ++ confirm_notes (c.published-number.result + 1) c.next_confirm-confirm.result answer) noted
     ∙ ap (λ (n : ℕ). (done.noted ++ returned_notes (old.store.published + 1) (c.in_ok-routed.routed.is_none && is_some (return_if connection number c.args.publish.now c.args.content.now))) ++ confirm_notes (n + 1) c.next_confirm-confirm.result answer) c.published-number.ensures
     ∙ ap (λ (o : Option ℕ). (done.noted ++ returned_notes (old.store.published + 1) (c.in_ok-routed.routed.is_none && is_some (return_if connection number c.args.publish.now c.args.content.now))) ++ confirm_notes (old.store.published + 1) o answer) confirm in
-    subst (λ (k : Kept). IsPublish (topology_of k) (broker_of k) connection number (channel_or_new ((broker_of k).channel connection number)) c.args.publish.now c.args.content.now c.confirm.new.self.sends.items c.confirm.new.self.notes.items (broker_of new)) c.self.view_is
-    (subst (λ (x : Channel). IsPublish (topology_of old) (broker_of old) connection number x c.args.publish.now c.args.content.now c.confirm.new.self.sends.items c.confirm.new.self.notes.items (broker_of new)) same
+    subst (λ (k : Kept). IsPublish (topology_kept k) (broker_of k) connection number (channel_or_new ((broker_of k).channel connection number)) c.args.publish.now c.args.content.now c.confirm.new.self.sends.items c.confirm.new.self.notes.items (broker_of new)) c.self.view_is
+    (subst (λ (x : Channel). IsPublish (topology_kept old) (broker_of old) connection number x c.args.publish.now c.args.content.now c.confirm.new.self.sends.items c.confirm.new.self.notes.items (broker_of new)) same
     (rw (sends, notes) (published_is old new connection number ch c.args.publish.now c.args.content.now done.noted c.in_ok-routed.routed made (c.count_publish.ensures ch is))))
 
 pub returns-clause-addressed : goal.returns-clause-addressed

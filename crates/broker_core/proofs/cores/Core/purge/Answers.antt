@@ -7,7 +7,7 @@ use Rattle.exchange_graph.specs.Marks.{queue_name}
 use Rattle.model.specs.Deliveries.{ready_in}
 use Rattle.depot.specs.Store.{queue_at}
 use Rattle.settling.specs.Purged.{purged}
-use Rattle.broker_core.specs.State.{Kept, broker_of, topology_of}
+use Rattle.broker_core.specs.State.{Kept, broker_of, topology_kept}
 use Rattle.broker_core.proofs.Purging.{purged_is}
 use Rattle.broker_core.proofs.cores.Core.purge.Goals as goal
 
@@ -17,7 +17,7 @@ returns-clause-ok c =
     let asked = c.args.purge.now in
     let old : Kept = record { store = c.self.inside.depot; links = c.self.inside.links } in
     let new : Kept = record { store = c.purge.new.self; links = c.self.inside.links } in
-    let named : queue_name old.store.topology place ≡ asked.queue = subst (λ (k : Kept). queue_name (topology_of k) place ≡ asked.queue) (sym c.self.view_is) c.requires.named in
+    let named : queue_name old.store.topology place ≡ asked.queue = subst (λ (k : Kept). queue_name (topology_kept k) place ≡ asked.queue) (sym c.self.view_is) c.requires.named in
     let count : c.ready_at-count.result ≡ ready_in (queue_at old.store place) = c.ready_at-count.ensures in
     let sent = c.in_ok-step.ensures.sends ∙ ap (λ (n : ℕ). purge_sends c.args.connection c.args.channel asked.no_wait n) count in
     let names_are : c.in_ok-names.names.items ≡ replicate (ready_in (queue_at old.store place)) asked.queue = c.in_ok-names.ensures ∙ ap (λ (n : ℕ). replicate n asked.queue) count in

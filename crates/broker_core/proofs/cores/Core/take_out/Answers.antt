@@ -8,7 +8,7 @@ use Rattle.exchange_graph.specs.Marks.{queue_name}
 use Rattle.depot.specs.Store.{Store}
 use Rattle.channel.specs.Open.{Open, open_in, settled_on}
 use Rattle.links.specs.Links.{channel_of}
-use Rattle.broker_core.specs.State.{Kept, broker_of, topology_of, names_of}
+use Rattle.broker_core.specs.State.{Kept, broker_of, topology_kept, names_of}
 use Rattle.broker_core.proofs.Stepping.{kept_there, kept_one}
 use Rattle.broker_core.proofs.Placing.{placed_put, placed_at}
 use Rattle.broker_core.proofs.Giving.{can_give, taken_is}
@@ -39,6 +39,6 @@ returns-clause-left c =
     let new : Kept = record { store = c.take_first.new.self; links = c.give_settled.new.self } in
     let there = kept_one (channel_of old.links connection number) (kept_there old c.args.self.now connection number c.self.view_is c.requires.there) in
     let seen : open_in (names_of old) there.0 ≡ channel_or_new ((broker_of old).channel connection number) = ap (λ (o : Option Open). channel_or_new (option_map (open_in (names_of old)) o)) (sym there.1) in
-    subst (λ (k : Kept). Is (after_delivery (broker_of k) connection number (channel_or_new ((broker_of k).channel connection number)) true (queue_name (topology_of k) c.args.place) c.args.by) (broker_of new)) c.self.view_is
-    (subst (λ (ch : Channel). Is (after_delivery (broker_of old) connection number ch true (queue_name (topology_of old) c.args.place) c.args.by) (broker_of new)) seen
+    subst (λ (k : Kept). Is (after_delivery (broker_of k) connection number (channel_or_new ((broker_of k).channel connection number)) true (queue_name (topology_kept k) c.args.place) c.args.by) (broker_of new)) c.self.view_is
+    (subst (λ (ch : Channel). Is (after_delivery (broker_of old) connection number ch true (queue_name (topology_kept old) c.args.place) c.args.by) (broker_of new)) seen
     (taken_is old new connection number c.args.place c.args.by there.0 c.is_named.ensures c.take_first.ensures.store (c.give_settled.ensures there.0 there.1)))

@@ -2,7 +2,7 @@ use Rattle.std.proofs.Common.{◌∙◌, sym, subst, Ok}
 use Rattle.std.proofs.lemmas.Result.{err_from_is_err_and}
 use Rattle.model.specs.Words.{Text}
 use Rattle.channel.specs.Deliveries.{AddsConsumer}
-use Rattle.channel.specs.Open.{Open, IsSeated}
+use Rattle.channel.specs.Open.{Open, IsConsumerSeated}
 use Rattle.channel.proofs.Seating.{named_seated, named_unseated, unnamed_seats}
 use Rattle.channel.proofs.channels.Channel.consume.Goals as goal
 
@@ -25,5 +25,5 @@ returns c =
     let made : AddsConsumer old.given c.args.consume.now.consumer_tag c.args.queue c.args.consume.now.no_ack (Ok c.in_ok-consume.field-0) c.consume.new.self
     = subst (λ (t : Text). AddsConsumer old.given t c.args.queue c.args.consume.now.no_ack (Ok c.in_ok-consume.field-0) c.consume.new.self) c.in_ok-clone.ensures c.in_ok-consume.ensures in
     rw (← c.self.view_is)
-    (subst (λ (t : Text). IsSeated old c.args.queue c.args.consume.now t (record old { given = c.consume.new.self })) (sym c.in_ok-tag.ensures)
+    (subst (λ (t : Text). IsConsumerSeated old c.args.queue c.args.consume.now t (record old { given = c.consume.new.self })) (sym c.in_ok-tag.ensures)
     (named_seated old c.consume.new.self c.args.queue c.args.consume.now c.in_ok-consume.field-0 (λ z. c.if-len-eq0.false (c.len.ensures ∙ z)) made))

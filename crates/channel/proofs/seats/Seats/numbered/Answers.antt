@@ -1,11 +1,11 @@
 use Rattle.std.proofs.Common.{◌≡◌, ◌∙◌, ap, subst, List, find}
 use Rattle.std.specs.Prelude.{◌==◌, option_map}
-use Rattle.channel.specs.Seats.{Seated, is_of}
+use Rattle.channel.specs.Seats.{Seated, is_numbered}
 use Rattle.channel.specs.declared.consumers.Consumer.{Consumer}
-use Rattle.channel.specs.declared.consumers.Seat.{Seat}
+use Rattle.channel.specs.declared.consumers.CountedConsumer.{CountedConsumer}
 use Rattle.channel.proofs.Numbering.{seat_is}
 use Rattle.channel.proofs.seats.Seats.numbered.Goals as goal
 
 pub returns : goal.returns
 returns c = subst (λ (s : Seated). option_map (λ k. k.now) c.consumer_of.result ≡ find (λ (x : Consumer). x.number == c.args.number) s.consumers) c.self.view_is
-    (c.consumer_of.ensures ∙ ap (λ (ss : List Seat). option_map (λ (s : Seat). s.consumer) (find (is_of c.args.number) ss)) c.deref.ensures.value ∙ seat_is c.args.number c.self.inside.seats.items)
+    (c.consumer_of.ensures ∙ ap (λ (ss : List CountedConsumer). option_map (λ (s : CountedConsumer). s.consumer) (find (is_numbered c.args.number) ss)) c.deref.ensures.value ∙ seat_is c.args.number c.self.inside.seats.items)

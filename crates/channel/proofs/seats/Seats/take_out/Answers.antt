@@ -3,7 +3,7 @@ use Rattle.model.specs.Prefetch.{count_to}
 use Rattle.channel.specs.Outstanding.{taker_of}
 use Rattle.channel.specs.Seats.{Seated, SeatsAreCounted, consumers_of, counts_of, is_named, has_name}
 use Rattle.channel.specs.declared.consumers.Consumer.{Consumer}
-use Rattle.channel.specs.declared.consumers.Seat.{Seat}
+use Rattle.channel.specs.declared.consumers.CountedConsumer.{CountedConsumer}
 use Rattle.channel.proofs.Counting.{seats_filtered, counts_filtered}
 use Rattle.channel.proofs.seats.Seats.take_out.Goals as goal
 
@@ -15,6 +15,6 @@ pub returns-clause-counted : goal.returns-clause-counted
 returns-clause-counted c given k =
     let was : SeatsAreCounted (record { consumers = consumers_of c.self.inside.seats.items; held = counts_of c.self.inside.seats.items; given = c.self.inside.given; room = _ }) given = subst (λ (s : Seated). SeatsAreCounted s given) (sym c.self.view_is) k in
     record {
-      each = subst (λ (ss : List Seat). counts_of ss ≡ map (λ (x : Consumer). count_to taker_of x.number given) (consumers_of ss)) (sym c.take_out.ensures.seats) (counts_filtered (λ s. not (has_name c.args.tag.now s)) c.self.inside.seats.items given was.each);
+      each = subst (λ (ss : List CountedConsumer). counts_of ss ≡ map (λ (x : Consumer). count_to taker_of x.number given) (consumers_of ss)) (sym c.take_out.ensures.seats) (counts_filtered (λ s. not (has_name c.args.tag.now s)) c.self.inside.seats.items given was.each);
       all = was.all;
     }

@@ -1,4 +1,3 @@
-use Rattle.std.proofs.Common.{◌≡◌}
 use Rattle.depot.proofs.Named.{queue_of-changed, queue_of-place}
 use Rattle.depot.proofs.depots.Depot.is_named.Goals as goal
 

@@ -1,4 +1,4 @@
-use Rattle.std.proofs.Common.{◌≡◌, ◌∙◌, sym, ap, length}
+use Rattle.std.proofs.Common.{◌∙◌, sym, ap, length}
 use Rattle.std.proofs.lemmas.List.{length-map, length-replicate}
 use Rattle.model.specs.Topology.{Topology}
 use Rattle.queue.specs.Line.{Line}

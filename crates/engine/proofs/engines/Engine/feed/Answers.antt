@@ -1,6 +1,6 @@
 use Rattle.std.proofs.Common.{refl, Some}
 use Rattle.engine.specs.World.{Parts}
-use Rattle.engine.specs.Engines.{IsPlaceOf}
+use Rattle.engine.specs.Engines.{IsLinkPlace}
 use Rattle.engine.proofs.Tooks.{fed_engine, fed_ok, fed_err, fed_over, hears_none}
 use Rattle.engine.proofs.engines.Engine.feed.Goals as goal
 
@@ -15,7 +15,7 @@ returns-in-Some c =
     let i = c.self.inside in
     let old : Parts = record { broker = i.broker; guarantees = i.guarantees.items; users = i.users.items; given = i.given; links = i.links.items } in
     let new : Parts = record old { links = c.feed_at.new.links.items } in
-    let place : IsPlaceOf i.links.items c.args.c (Some c.in-Some.place) = rw (← c.deref.ensures.value) c.in-Some.ensures.place in
+    let place : IsLinkPlace i.links.items c.args.c (Some c.in-Some.place) = rw (← c.deref.ensures.value) c.in-Some.ensures.place in
     record {
       ok = rw (← c.self.view_is) (fed_ok c.feed_at.result old new c.args.c c.in-Some.place c.args.bytes.now c.self.invariant (record { topology = refl; guarantees = refl; users = refl; given = refl }) refl place c.feed_at.ensures.ok);
       over = rw (← c.self.view_is) (fed_over c.feed_at.result old c.feed_at.new.links.items c.args.c c.in-Some.place c.self.invariant place c.feed_at.ensures.over);

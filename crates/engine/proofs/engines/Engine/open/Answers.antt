@@ -4,7 +4,7 @@ use Rattle.model.specs.Commands.{new_stream}
 use Rattle.model.specs.Opening.{new_session}
 use Rattle.model.specs.declared.events.Event.TheVariants as event
 use Rattle.runs.specs.Opened.{IsOpened}
-use Rattle.engine.specs.declared.link.Link.{Link}
+use Rattle.engine.specs.declared.connected.Connected.{Connected}
 use Rattle.engine.specs.World.{Parts, world_of, IsNew}
 use Rattle.engine.specs.Opening.{OpenedNew}
 use Rattle.engine.proofs.Openings.{IsOneMore, refused_so, engine_opened, opened_new}
@@ -33,7 +33,7 @@ invariant_of-self-2 c =
       guarantees = refl;
       users = refl;
       given = numbers.0;
-      links = c.push_reserved.ensures.items ∙ ap (λ (z : List Link). z ++ c.new.result ∷ []) c.in_ok-number.ensures.same;
+      links = c.push_reserved.ensures.items ∙ ap (λ (z : List Connected). z ++ c.new.result ∷ []) c.in_ok-number.ensures.same;
       is = subst (λ (n : ℕ). IsNew c.new.result n new_session new_stream) numbers.0 c.new.ensures;
       awake = refl;
     } in
@@ -51,7 +51,7 @@ returns c =
       guarantees = refl;
       users = refl;
       given = numbers.0;
-      links = c.push_reserved.ensures.items ∙ ap (λ (z : List Link). z ++ c.new.result ∷ []) c.in_ok-number.ensures.same;
+      links = c.push_reserved.ensures.items ∙ ap (λ (z : List Connected). z ++ c.new.result ∷ []) c.in_ok-number.ensures.same;
       is = subst (λ (n : ℕ). IsNew c.new.result n new_session new_stream) numbers.0 c.new.ensures;
       awake = refl;
     } in

@@ -4,9 +4,9 @@ use Rattle.model.specs.Commands.{running_stream}
 use Rattle.model.specs.Phases.{running_session}
 use Rattle.model.specs.Step.{Acts}
 use Rattle.model.specs.declared.events.Event.TheVariants as event
-use Rattle.broker_core.specs.State.{topology_of, broker_of}
+use Rattle.broker_core.specs.State.{topology_kept, broker_of}
 use Rattle.runs.specs.Opened.{IsOpened}
-use Rattle.engine.specs.declared.link.Link.{Link}
+use Rattle.engine.specs.declared.connected.Connected.{Connected}
 use Rattle.engine.specs.World.{Parts, world_of, IsNew}
 use Rattle.engine.specs.Opening.{OpenedReady}
 use Rattle.engine.proofs.Openings.{IsOneMore, refused_so, refused_memory, engine_opened, opened_ready}
@@ -45,12 +45,12 @@ invariant_of-self-2 c =
       guarantees = refl;
       users = refl;
       given = numbers.0;
-      links = c.push_reserved.ensures.items ∙ ap (λ (z : List Link). z ++ c.running.result ∷ []) c.in_ok-number.ensures.same;
+      links = c.push_reserved.ensures.items ∙ ap (λ (z : List Connected). z ++ c.running.result ∷ []) c.in_ok-number.ensures.same;
       is = subst (λ (n : ℕ). IsNew c.running.result n running_session running_stream) numbers.0 c.running.ensures;
       awake = refl;
     } in
-    let acts : Acts (topology_of i.broker) (broker_of i.broker) (event.Running c.in_ok-number.number 255 c.args.channels) [] [] (broker_of c.open.new.self) =
-    subst (λ (k : ℕ). Acts (topology_of i.broker) (broker_of i.broker) (event.Running c.in_ok-number.number 255 k) [] [] (broker_of c.open.new.self)) c.from.ensures c.in_ok-open.ensures.ok in
+    let acts : Acts (topology_kept i.broker) (broker_of i.broker) (event.Running c.in_ok-number.number 255 c.args.channels) [] [] (broker_of c.open.new.self) =
+    subst (λ (k : ℕ). Acts (topology_kept i.broker) (broker_of i.broker) (event.Running c.in_ok-number.number 255 k) [] [] (broker_of c.open.new.self)) c.from.ensures c.in_ok-open.ensures.ok in
     engine_opened old new c.running.result running_session running_stream c.self.invariant more
     (opens_ready_agrees (world_of old) (world_of new) c.args.channels c.in_ok-number.number (agreed old c.self.invariant) (opened_ready old new c.running.result c.in_ok-number.number c.args.channels c.self.invariant.links numbers more acts))
 
@@ -65,11 +65,11 @@ returns c =
       guarantees = refl;
       users = refl;
       given = numbers.0;
-      links = c.push_reserved.ensures.items ∙ ap (λ (z : List Link). z ++ c.running.result ∷ []) c.in_ok-number.ensures.same;
+      links = c.push_reserved.ensures.items ∙ ap (λ (z : List Connected). z ++ c.running.result ∷ []) c.in_ok-number.ensures.same;
       is = subst (λ (n : ℕ). IsNew c.running.result n running_session running_stream) numbers.0 c.running.ensures;
       awake = refl;
     } in
-    let acts : Acts (topology_of i.broker) (broker_of i.broker) (event.Running c.in_ok-number.number 255 c.args.channels) [] [] (broker_of c.open.new.self) =
-    subst (λ (k : ℕ). Acts (topology_of i.broker) (broker_of i.broker) (event.Running c.in_ok-number.number 255 k) [] [] (broker_of c.open.new.self)) c.from.ensures c.in_ok-open.ensures.ok in
+    let acts : Acts (topology_kept i.broker) (broker_of i.broker) (event.Running c.in_ok-number.number 255 c.args.channels) [] [] (broker_of c.open.new.self) =
+    subst (λ (k : ℕ). Acts (topology_kept i.broker) (broker_of i.broker) (event.Running c.in_ok-number.number 255 k) [] [] (broker_of c.open.new.self)) c.from.ensures c.in_ok-open.ensures.ok in
     subst (λ (p : Parts). IsOpened (event.Running (p.given + 1) 255 c.args.channels) running_stream (world_of p) (Some c.in_ok-number.number) (world_of new)) c.self.view_is
     (opened_ready old new c.running.result c.in_ok-number.number c.args.channels c.self.invariant.links numbers more acts)

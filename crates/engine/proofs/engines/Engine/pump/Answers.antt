@@ -2,7 +2,7 @@ use Rattle.std.proofs.Common.{ℕ, refl, sym, subst}
 use Rattle.model.specs.Consuming.{CanDeliver}
 use Rattle.model.specs.Naming.{AreNamed}
 use Rattle.model.specs.Arrivals.{Same}
-use Rattle.broker_core.specs.State.{Kept, topology_of, broker_of}
+use Rattle.broker_core.specs.State.{Kept, topology_kept, broker_of}
 use Rattle.broker_core.specs.Picked.{IsPick}
 use Rattle.runs.specs.Opened.{Idles}
 use Rattle.engine.specs.World.{Parts, world_of}
@@ -15,7 +15,7 @@ pub pump_among-requires-clause-picked : goal.pump_among-requires-clause-picked
 pump_among-requires-clause-picked c = subst (λ (b : Kept). IsPick (broker_of b) c.in-Some.pick) (sym c.in-Some.ensures.same) c.in-Some.ensures.some
 
 pub pump_among-requires-clause-named : goal.pump_among-requires-clause-named
-pump_among-requires-clause-named c = subst (λ (b : Kept). AreNamed (topology_of b) (broker_of b)) (sym c.in-Some.ensures.same) c.self.invariant.named
+pump_among-requires-clause-named c = subst (λ (b : Kept). AreNamed (topology_kept b) (broker_of b)) (sym c.in-Some.ensures.same) c.self.invariant.named
 
 pub invariant_of-self : goal.invariant_of-self
 invariant_of-self c =

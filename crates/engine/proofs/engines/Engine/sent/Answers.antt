@@ -1,6 +1,6 @@
 use Rattle.std.proofs.Common.{refl, Some}
 use Rattle.engine.specs.World.{Parts}
-use Rattle.engine.specs.Engines.{IsPlaceOf}
+use Rattle.engine.specs.Engines.{IsLinkPlace}
 use Rattle.engine.proofs.Tooks.{sends, sends_engine}
 use Rattle.engine.proofs.engines.Engine.sent.Goals as goal
 
@@ -15,5 +15,5 @@ returns-in-Some c =
     let i = c.self.inside in
     let old : Parts = record { broker = i.broker; guarantees = i.guarantees.items; users = i.users.items; given = i.given; links = i.links.items } in
     let new : Parts = record { broker = c.take_at.new.broker; guarantees = i.guarantees.items; users = i.users.items; given = i.given; links = c.take_at.new.links.items } in
-    let place : IsPlaceOf i.links.items c.args.c (Some c.in-Some.place) = rw (← c.deref.ensures.value) c.in-Some.ensures.place in
+    let place : IsLinkPlace i.links.items c.args.c (Some c.in-Some.place) = rw (← c.deref.ensures.value) c.in-Some.ensures.place in
     rw (← c.self.view_is) (sends old new c.args.c c.in-Some.place c.args.n c.self.invariant (record { topology = c.take_at.ensures.topology; guarantees = refl; users = refl; given = refl }) place c.take_at.ensures.sent)

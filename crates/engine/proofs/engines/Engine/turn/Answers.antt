@@ -1,9 +1,9 @@
 use Rattle.std.proofs.Common.{List, refl, subst, Some}
 use Rattle.model.specs.declared.messages.User.{User}
-use Rattle.broker_core.specs.State.{topology_of, broker_of}
+use Rattle.broker_core.specs.State.{topology_kept, broker_of}
 use Rattle.engine.specs.World.{Parts}
 use Rattle.engine.specs.Performing.{rules_of}
-use Rattle.engine.specs.Engines.{IsPlaceOf, LinksTook}
+use Rattle.engine.specs.Engines.{IsLinkPlace, LinksTook}
 use Rattle.engine.proofs.Tooks.{took, took_engine, not_there}
 use Rattle.engine.proofs.engines.Engine.turn.Goals as goal
 
@@ -11,15 +11,15 @@ pub invariant_of-self : goal.invariant_of-self
 invariant_of-self c =
     let i = c.self.inside in
     took_engine (record { broker = i.broker; guarantees = i.guarantees.items; users = i.users.items; given = i.given; links = i.links.items }) _ c.in-Some.place c.turn_at.result c.self.invariant
-    (record { topology = c.turn_at.ensures.topology; guarantees = refl; users = refl; given = refl }) (subst (λ (us : List User). LinksTook (rules_of (topology_of i.broker) us) (broker_of i.broker) i.links.items c.in-Some.place c.turn_at.result (broker_of c.turn_at.new.broker) c.turn_at.new.links.items) c.as_slice.ensures.value c.turn_at.ensures.took)
+    (record { topology = c.turn_at.ensures.topology; guarantees = refl; users = refl; given = refl }) (subst (λ (us : List User). LinksTook (rules_of (topology_kept i.broker) us) (broker_of i.broker) i.links.items c.in-Some.place c.turn_at.result (broker_of c.turn_at.new.broker) c.turn_at.new.links.items) c.as_slice.ensures.value c.turn_at.ensures.took)
 
 pub returns-in-Some : goal.returns-in-Some
 returns-in-Some c =
     let i = c.self.inside in
     let old : Parts = record { broker = i.broker; guarantees = i.guarantees.items; users = i.users.items; given = i.given; links = i.links.items } in
     let new : Parts = record { broker = c.turn_at.new.broker; guarantees = i.guarantees.items; users = i.users.items; given = i.given; links = c.turn_at.new.links.items } in
-    let place : IsPlaceOf i.links.items c.args.c (Some c.in-Some.place) = rw (← c.deref.ensures.value) c.in-Some.ensures.place in
-    let out = took old new c.args.c c.in-Some.place c.turn_at.result c.self.invariant (record { topology = c.turn_at.ensures.topology; guarantees = refl; users = refl; given = refl }) place (subst (λ (us : List User). LinksTook (rules_of (topology_of i.broker) us) (broker_of i.broker) i.links.items c.in-Some.place c.turn_at.result (broker_of c.turn_at.new.broker) c.turn_at.new.links.items) c.as_slice.ensures.value c.turn_at.ensures.took) in
+    let place : IsLinkPlace i.links.items c.args.c (Some c.in-Some.place) = rw (← c.deref.ensures.value) c.in-Some.ensures.place in
+    let out = took old new c.args.c c.in-Some.place c.turn_at.result c.self.invariant (record { topology = c.turn_at.ensures.topology; guarantees = refl; users = refl; given = refl }) place (subst (λ (us : List User). LinksTook (rules_of (topology_kept i.broker) us) (broker_of i.broker) i.links.items c.in-Some.place c.turn_at.result (broker_of c.turn_at.new.broker) c.turn_at.new.links.items) c.as_slice.ensures.value c.turn_at.ensures.took) in
     record { ok = rw (← c.self.view_is) out.ok; fewer = rw (← c.self.view_is) out.fewer; err = rw (← c.self.view_is) out.err; awake = rw (← c.self.view_is) out.awake }
 
 pub returns-in-None : goal.returns-in-None

@@ -1,7 +1,7 @@
 use Rattle.std.proofs.Common.{◌≡◌, ℕ, ◌∙◌, ◌<◌, ◌∷◌, ◌++◌, [], sym, ap, refl, subst, arith, rules, length, Some, vec_len}
 use Rattle.model.specs.declared.messages.Mark.TheVariants.{Ready}
 use Rattle.queue.specs.Line.{Line}
-use Rattle.queue.specs.Slots.{contents, somes, Turned}
+use Rattle.queue.specs.Slots.{contents, somes, BitsTurned}
 use Rattle.queue.proofs.Places.{somes-append}
 use Rattle.queue.proofs.Slotted.{more_places, push_shows, counts_most, contents-length}
 use Rattle.queue.proofs.queues.Queue.push.Goals as goal
@@ -25,7 +25,7 @@ pub invariant_of-self : goal.invariant_of-self
 invariant_of-self c =
     let l : vec_len c.self.inside.slots ≡ length c.self.inside.slots.items = search rules in
     let n : c.len.result ≡ length (contents c.self.inside.slots.items) = c.len.ensures ∙ l ∙ sym (contents-length c.self.inside.slots.items) in (
-      push_shows _ _ _ _ _ _ _ _ c.args.message c.self.invariant.0 (subst (λ (k : ℕ). Turned c.self.inside.signs c.set_ready.new.self k 1 0) n c.set_ready.ensures) c.append.ensures.contents refl refl,
+      push_shows _ _ _ _ _ _ _ _ c.args.message c.self.invariant.0 (subst (λ (k : ℕ). BitsTurned c.self.inside.signs c.set_ready.new.self k 1 0) n c.set_ready.ensures) c.append.ensures.contents refl refl,
       more_places _ _ _ _ _ _ c.self.invariant.1 (subst (λ (l : Line). 0 < l.room) (sym c.self.view_is) c.requires) c.append.ensures.len c.append.ensures.capacity c.set_ready.ensures.places,
     )
 

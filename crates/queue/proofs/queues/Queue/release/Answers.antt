@@ -2,7 +2,7 @@ use Rattle.std.proofs.Common.{◌≡◌, ◌∙◌, sym, ap, refl, subst, arith,
 use Rattle.model.specs.declared.messages.Entry.{Entry}
 use Rattle.queue.specs.Line.{Line, requeued}
 use Rattle.model.specs.Entries.{is_under, is_held_as}
-use Rattle.queue.specs.Slots.{contents, somes, has}
+use Rattle.queue.specs.Slots.{contents, somes, slot_has}
 use Rattle.queue.specs.declared.slots.Slot.{Slot}
 use Rattle.queue.proofs.Places.{some_at, none_found, none_mapped, only_first, only_mapped}
 use Rattle.queue.proofs.Slotted.{release_shows, held_least, only_held, same_places, contents-length, freed_same, slot_freed}
@@ -12,7 +12,7 @@ use Rattle.queue.proofs.queues.Queue.release.Goals as goal
 
 pub overflow_add-self : goal.overflow_add-self
 overflow_add-self c =
-    let t = subst (λ (ss : List Slot). has (is_held_as c.args.holder.now) (get_or (contents ss) c.in-Some.place None) ≡ true) c.deref.ensures.value c.in-Some.ensures.some in
+    let t = subst (λ (ss : List Slot). slot_has (is_held_as c.args.holder.now) (get_or (contents ss) c.in-Some.place None) ≡ true) c.deref.ensures.value c.in-Some.ensures.some in
     let h = held_least _ _ _ _ _ c.args.holder.now c.self.invariant.0 t in
     let n = contents-length c.self.inside.slots.items in
     let l : vec_len c.self.inside.slots ≡ length c.self.inside.slots.items = search rules in
@@ -20,7 +20,7 @@ overflow_add-self c =
 
 pub invariant_of-self : goal.invariant_of-self
 invariant_of-self c =
-    let t = subst (λ (ss : List Slot). has (is_held_as c.args.holder.now) (get_or (contents ss) c.in-Some.place None) ≡ true) c.deref.ensures.value c.in-Some.ensures.some in (
+    let t = subst (λ (ss : List Slot). slot_has (is_held_as c.args.holder.now) (get_or (contents ss) c.in-Some.place None) ≡ true) c.deref.ensures.value c.in-Some.ensures.some in (
       release_shows _ _ _ _ _ _ _ _ c.args.holder.now c.self.invariant.0 t c.set_ready.ensures c.free_at.ensures.contents refl,
       same_places _ _ _ _ _ _ c.self.invariant.1 c.free_at.ensures.len c.free_at.ensures.capacity c.set_ready.ensures.places,
     )
@@ -39,12 +39,12 @@ returns-in-None-clause-entries c =
 
 pub returns-in-Some-clause-told : goal.returns-in-Some-clause-told
 returns-in-Some-clause-told c =
-    let t = subst (λ (ss : List Slot). has (is_held_as c.args.holder.now) (get_or (contents ss) c.in-Some.place None) ≡ true) c.deref.ensures.value c.in-Some.ensures.some in
+    let t = subst (λ (ss : List Slot). slot_has (is_held_as c.args.holder.now) (get_or (contents ss) c.in-Some.place None) ≡ true) c.deref.ensures.value c.in-Some.ensures.some in
     subst (λ (l : Line). true ≡ is_some (find (is_held_as c.args.holder.now) l.entries)) c.self.view_is
     (sym (some_at _ _ _ (only_first _ _ _ (only_held _ _ _ _ _ c.args.holder.now c.self.invariant.0 t))))
 
 pub returns-in-Some-clause-entries : goal.returns-in-Some-clause-entries
 returns-in-Some-clause-entries c =
-    let t = subst (λ (ss : List Slot). has (is_held_as c.args.holder.now) (get_or (contents ss) c.in-Some.place None) ≡ true) c.deref.ensures.value c.in-Some.ensures.some in
+    let t = subst (λ (ss : List Slot). slot_has (is_held_as c.args.holder.now) (get_or (contents ss) c.in-Some.place None) ≡ true) c.deref.ensures.value c.in-Some.ensures.some in
     subst (λ (l : Line). somes (contents c.free_at.new.slots.items) ≡ requeued (is_under c.args.holder.now) l.entries) c.self.view_is
     (ap somes (c.free_at.ensures.contents ∙ ap (λ (o : Option Entry). set (contents c.self.inside.slots.items) c.in-Some.place o) (sym (slot_freed (is_under c.args.holder.now) _ t))) ∙ sym (only_mapped _ _ (freed_same (is_under c.args.holder.now)) _ _ (only_held _ _ _ _ _ c.args.holder.now c.self.invariant.0 t)))

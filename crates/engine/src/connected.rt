@@ -1,0 +1,74 @@
+//! What is kept of one connection.
+
+ghost use Rattle.std.specs.Prelude.{◌≡◌, IsTrue};
+ghost use Rattle.model.specs.Phases.{no_session, running_session};
+ghost use Rattle.model.specs.Opening.{new_session};
+ghost use Rattle.model.specs.Commands.{new_stream, running_stream};
+ghost use Rattle.engine.specs.World.{is_link_gone, IsNew};
+
+use assembly::Stream;
+use model::Event;
+use outputs::Output;
+use session::Session;
+use std::alloc::Global;
+
+/// A connection that is not gone.
+pub(crate) struct Connected {
+    /// Connections count from 1 in the order of their openings.
+    pub(crate) number: u64,
+    pub(crate) session: Session,
+    pub(crate) stream: Stream,
+    /// A command that was read and could not be performed for want of memory.
+    pub(crate) kept: Option<Event>,
+    pub(crate) output: Output,
+}
+
+/// Written out, so that a drop is one call.
+impl Drop for Connected {
+    fn drop(self) {
+        let Connected {
+            number: _,
+            session: _,
+            stream: _,
+            kept,
+            output: _,
+        } = self;
+        drop(kept);
+    }
+}
+
+impl Connected {
+    /// A connection of which no byte has come.
+    pub(crate) fn new(alloc: Global, number: u64) -> Connected
+        ensures { IsNew result number new_session new_stream }
+    {
+        Connected {
+            number,
+            session: Session::new(),
+            stream: Stream::new(alloc),
+            kept: None,
+            output: Output::new(alloc),
+        }
+    }
+
+    /// A connection that runs at once.
+    pub(crate) fn running(alloc: Global, number: u64) -> Connected
+        ensures { IsNew result number running_session running_stream }
+    {
+        Connected {
+            number,
+            session: Session::running(),
+            stream: Stream::running(alloc),
+            kept: None,
+            output: Output::new(alloc),
+        }
+    }
+
+    /// It is over, with no output left. Of one that is over no limits are kept.
+    pub(crate) fn is_gone(&self) -> bool
+        ensures value { result ≡ is_link_gone self.now }
+        ensures over { IsTrue result → self.now.session ≡ no_session }
+    {
+        self.session.is_over() && self.output.bytes().is_empty()
+    }
+}

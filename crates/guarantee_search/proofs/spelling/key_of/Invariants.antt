@@ -1,9 +1,0 @@
-use Rattle.std.proofs.Common.{◌≡◌, ◌≤◌, drop, length}
-use Rattle.guarantee_search.specs.Spellings.{key_of}
-use Rattle.guarantee_search.proofs.spelling.key_of.Given as goal
-
-abbrev pub invariant-loop-left : goal.invariant-loop-left
-invariant-loop-left l = record { within : l.left ≤ length l.letters; key : l.key.items ≡ key_of l.words (drop l.left l.letters) }
-
-abbrev pub decreases-loop-left : goal.decreases-loop-left
-decreases-loop-left l = l.left
