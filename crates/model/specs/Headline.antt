@@ -1,22 +1,24 @@
 -- Certified delivery: what is promised of a whole run, in the words of a client and of the topology's owner (own).
-use Rattle.std.specs.Prelude.{◌≡◌, ◌≤◌, ◌+◌, ◌%◌, ◌⊎◌, ℕ, List, [], ◌∷◌, take, drop, map, filter_map, flat_map, ◌≢◌, count_by, Bool, true, false, Option, Some, None, ◌==◌, ◌&&◌, if◌then◌else◌, Contains, slice_get, slice_index_or}
+use Rattle.std.specs.Prelude.{◌≡◌, ◌≤◌, ◌+◌, ◌%◌, ◌⊎◌, ℕ, List, [], ◌∷◌, ◌++◌, take, drop, map, filter_map, flat_map, ◌≢◌, count_by, Bool, true, false, Option, Some, None, ◌==◌, ◌&&◌, if◌then◌else◌, Contains, slice_get, slice_index_or}
 use Rattle.std.specs.Int.{w64, from_be_bytes}
 use Rattle.std.specs.List.{list_any, AllByRecursion}
 use Rattle.std.specs.Str.{bytes_eq}
 use Rattle.model.specs.Words.{Text}
-use Rattle.model.specs.Topology.{IsIn, IsWellFormed}
+use Rattle.model.specs.Topology.{Topology, IsIn, IsWellFormed, queue_names}
+use Rattle.model.specs.Routing.{Routes, Picks, Dies, key_after}
 use Rattle.model.specs.Guarantee.{Guarantee, Covers, AllHold}
 use Rattle.model.specs.Frames.{Frame, AreFrames}
 use Rattle.model.specs.Spelling.{eight_bytes}
-use Rattle.model.specs.Broker.{Outstanding, Channel, Broker, is_ready}
+use Rattle.model.specs.Broker.{Outstanding, Channel, Broker, is_ready, is_at, limit_of, queue_named}
 use Rattle.model.specs.Entries.{is_held_as}
 use Rattle.model.specs.Settling.{takes}
 use Rattle.model.specs.Step.{tag_of}
-use Rattle.model.specs.Deliveries.{first_ready, holder_of}
+use Rattle.model.specs.Deliveries.{first_ready, ready_in, holder_of}
 use Rattle.model.specs.Consuming.{CanDeliver}
 use Rattle.model.specs.State.{Config}
 use Rattle.model.specs.Run.{Happening, notes_of, Stays, empty_broker}
 use Rattle.model.specs.Arrivals.{World, new_world, Plays, Shows, Seen, Shown}
+use Rattle.model.specs.declared.topologies.DeclaredQueue.{DeclaredQueue}
 use Rattle.model.specs.declared.topologies.Mode.TheVariants.{Reaches, Never}
 use Rattle.model.specs.declared.events.Arrival.{Arrival}
 use Rattle.model.specs.declared.messages.Entry.{Entry}
@@ -27,7 +29,7 @@ use Rattle.model.specs.declared.events.Event.TheVariants.{Command, Deliver}
 use Rattle.model.specs.declared.notes.Cause.{Cause}
 use Rattle.model.specs.declared.notes.Cause.TheVariants.{Acked as Acknowledged, Auto, Rejected, Purged}
 use Rattle.model.specs.declared.notes.Note.{Note}
-use Rattle.model.specs.declared.notes.Note.TheVariants.{Published, Entered, Confirmed, Left}
+use Rattle.model.specs.declared.notes.Note.TheVariants.{Published, Entered, Refused, Confirmed, Left}
 use Rattle.model.specs.declared.notes.Answer.TheVariants as answer
 use Rattle.model.specs.declared.notes.Way.TheVariants as way
 
@@ -251,6 +253,55 @@ HasOrigin h note = Unit {0}
 abbrev pub HaveOrigins : Happening → Type 0
 HaveOrigins h = AllByRecursion (HasOrigin h) h.notes
 
+-- ---- dead letters
+
+-- A message with this key that is rejected in the queue q goes on to the queue r: q dead-letters to an exchange, and the key that q fixes, or else the message's own, leads from there to r (RabbitMQ, "Dead Letter Exchanges").
+pub record DiesInto (t : Topology) (q key r : Text) : Type 0 where
+  pub last : DeclaredQueue
+  pub exchange : Text
+  pub dies : Dies t q exchange last
+  pub routes : Routes t exchange (key_after last.dead_letter_key key) r
+
+-- A rejection, where queues had these entries before the event: the message stood in its queue, and its dead letter goes on to these queues, in the order of the file; to none where its queue has no dead-letter exchange.
+pub record Rejection (t : Topology) (queues : Text → List Entry) : Type 0 where
+  pub queue : Text
+  pub entry : Entry
+  pub stood : IsIn entry (queues queue)
+  pub targets : List Text
+  pub routed : Picks (DiesInto t queue entry.message.key) (queue_names t.queues) targets
+
+-- the note says that a message entered this queue
+abbrev pub is_entry_into : Text → Note → Bool
+is_entry_into q (Entered n r w) = bytes_eq r q
+is_entry_into q note = false
+
+-- The queue is full behind these notes: it has a limit, and no fewer messages that could be given out before the event or have entered since (RabbitMQ, "Queue Length Limit", reject-publish).
+abbrev pub is_full_after : Topology → (Text → List Entry) → List Note → Text → Bool
+is_full_after t queues noted q = is_at (limit_of (queue_named t.queues q)) (ready_in (queues q) + count_by (is_entry_into q) noted)
+
+-- it is noted of a dead letter and a queue to which it goes that it entered there, or that the queue was full and refused it
+abbrev pub letter_note : Topology → (Text → List Entry) → List Note → ℕ → Text → Note
+letter_note t queues noted n q = if is_full_after t queues noted q then Refused n q else Entered n q way.Dead
+
+-- it is noted of a rejection that its message left, and then of each queue to which the dead letter goes on
+abbrev pub rejection_notes : (t : Topology) (queues : Text → List Entry) → List Note → Rejection t queues → List Note
+rejection_notes t queues noted r = Left r.entry.message.number r.queue Rejected ∷ map (letter_note t queues noted r.entry.message.number) r.targets
+
+-- Behind the first notes of an event, the others are of rejections, one after another.
+pub data AreRejections (t : Topology) (queues : Text → List Entry) : List Note → List Note → Type 0 where
+  none : {noted : List Note} → AreRejections t queues noted []
+  next : {noted rest : List Note} (r : Rejection t queues) → AreRejections t queues (noted ++ rejection_notes t queues noted r) rest → AreRejections t queues noted (rejection_notes t queues noted r ++ rest)
+
+-- the note is of no rejection and of no dead letter
+abbrev pub IsOfNoRejection : Note → Type 0
+IsOfNoRejection (Left n q Rejected) = ⊥
+IsOfNoRejection (Entered n q way.Dead) = ⊥
+IsOfNoRejection note = Unit {0}
+
+-- what an event notes is of rejections alone, each with its dead letter, or of none
+abbrev pub DieAsRouted : Happening → Type 0
+DieAsRouted h = AreRejections h.config.topology h.before.broker.queue [] h.notes ⊎ AllByRecursion IsOfNoRejection h.notes
+
 -- the note says that a dead letter of this number entered this queue
 abbrev pub is_dead_into : ℕ → Text → Note → Bool
 is_dead_into n q (Entered m r way.Dead) = (m == n) && bytes_eq r q
@@ -281,7 +332,9 @@ pub record KeepsEvents (old : Broker) (hs : List Happening) (new : Broker) : Typ
   pub causes : AllByRecursion HaveCauses hs
   -- each message that entered a queue came by its own publish, noted at this event, or, as a dead letter, from a queue where it stood before the event and which it left there
   pub come : AllByRecursion HaveOrigins hs
-  -- and no message that was rejected came to a queue as two dead letters
+  -- each message that was rejected came, as its dead letter, to each queue to which it goes on from there, but where that queue was full; and no other dead letter came
+  pub letters : AllByRecursion DieAsRouted hs
+  -- so that of the messages of a number no more dead letters came to a queue than were rejected
   pub once : AllByRecursion DieOnce hs
 
 -- Of all that happened from the empty broker to this one, and of the outputs of the connections:

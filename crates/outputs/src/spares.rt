@@ -1,6 +1,6 @@
 //! Storages that no output holds: those of outputs that were wholly taken, for outputs in which something is to wait next.
 
-ghost use Rattle.std.specs.Prelude.{◌≡◌, ◌≤◌, ◌<◌, ◌+◌, [], IfOk, OnOk, OnErr};
+ghost use Rattle.std.specs.Prelude.{◌≡◌, ◌≢◌, ◌≤◌, ◌<◌, ◌+◌, [], IfOk, OnOk, OnErr};
 ghost use Rattle.model.specs.Sending.{most_sent};
 ghost use Rattle.outputs.specs.Waiting.{HoldsNone};
 
@@ -57,12 +57,17 @@ impl Spares {
         output.reserve(MOST_SENT)
     }
 
-    /// Takes the storage of an output in which nothing waits. It is spare from now on, or freed where 256 are.
+    /// Takes the storage of an output in which nothing waits. It is spare from now on, or freed where 256 are; of one in which something
+    /// waits nothing is taken.
     pub fn take_back(&mut self, output: &mut Output)
         ensures bytes { output.new.bytes ≡ output.old.bytes }
         ensures none { HoldsNone output.new }
         ensures kept { output.old.bytes ≡ [] → 0 < output.old.storage → self.old < 256 → self.new ≡ self.old + 1 }
+        ensures freed { 256 ≤ self.old → self.new ≡ self.old }
         ensures rest { output.old.storage ≡ 0 → self.new ≡ self.old }
+        // one in which something waits stays as it is
+        ensures waits { output.old.bytes ≢ [] → output.new ≡ output.old }
+        ensures same { output.old.bytes ≢ [] → self.new ≡ self.old }
     {
         if output.has_none() || !output.bytes().is_empty() {
             return;
