@@ -1,5 +1,5 @@
 -- The worked examples of dead letters.
-use Rattle.std.proofs.Common.{◌≡◌, ◌⊎◌, ◌≤◌, ℕ, Bool, true, false, List, [], ◌∷◌, ◌++◌, refl, sym, ap, subst, ◌∙◌, arith, lit≤, drop, append-nil, inl, inr, length, Option, Some, None}
+use Rattle.std.proofs.Common.{◌≡◌, ◌⊎◌, ◌≤◌, ℕ, Bool, true, false, List, [], ◌∷◌, ◌++◌, refl, sym, ap, subst, ◌∙◌, arith, lit≤, map, drop, append-nil, inl, inr, length, Option, Some, None}
 use Rattle.std.specs.Prelude.{codes, Contains}
 use Rattle.std.specs.Str.{bytes_eq}
 use Rattle.std.proofs.lemmas.Bool.{false≢true}
@@ -8,11 +8,12 @@ use Rattle.std.proofs.lemmas.Slice.Eq.{bytes_eq-Decides}
 use Rattle.model.specs.Words.{Text, Matches, word, any_none, any_more, none as matches_none}
 use Rattle.model.specs.Tables.{no_pairs}
 use Rattle.model.specs.Topology.{Topology, IsIn}
-use Rattle.model.specs.Routing.{Reading, of_key, Edge, bound, alternate, default, Leads, here, on, RoutesBy, Routes, Comes, routed, dead, Picks, none, take, pass, reading_after}
+use Rattle.model.specs.Routing.{Reading, of_key, Edge, bound, alternate, default, Leads, here, on, RoutesBy, Routes, Comes, routed, dead, Picks, none, take, pass, key_after, reading_after}
 use Rattle.model.specs.Message.{Message}
 use Rattle.model.specs.Entering.{comes_to, entry_notes}
 use Rattle.model.specs.Deaths.{TellsOfDeath, AreMarked, alone, added, marked_before, first_death}
 use Rattle.model.specs.Deliveries.{without_given, AreRejected}
+use Rattle.model.specs.Headline.{DiesInto, Rejection, AreRejections, none as no_rejection, next, is_entry_into, letter_note, rejection_notes}
 use Rattle.model.specs.declared.messages.Entry.{Entry}
 use Rattle.model.specs.declared.notes.Cause.TheVariants.{Rejected}
 use Rattle.model.specs.declared.notes.Note.{Note}
@@ -25,7 +26,7 @@ use Rattle.model.specs.declared.texts.Token.TheVariants.{Any}
 use Rattle.model.specs.declared.topologies.ExchangeKind.TheVariants.{Fanout}
 use Rattle.model.specs.declared.topologies.Place.{Place}
 use Rattle.model.specs.declared.topologies.Place.TheVariants as place
-use Rattle.laws.specs.Deaths.{deaths, circle, full_topology, EndsIn, first_publish, got_from, while_held, DiesTo, in_q1, in_q, WorkedDeaths, DeathsRefuse}
+use Rattle.laws.specs.Deaths.{deaths, circle, full_topology, queue_with, EndsIn, first_publish, got_from, while_held, while_in_q1, DiesTo, in_q1, in_q, WorkedDeaths, DeathsRefuse}
 use Rattle.laws.proofs.Counts.{in_from_contains}
 use Rattle.laws.proofs.Marking.{added_tells}
 
@@ -304,6 +305,96 @@ no_loss after (mid, first, rest, (more, is, dies), all, (end, same)) = some_targ
     empty [] e = refl
     empty (q ∷ qs) e = absurd cc
 
+-- ---- what notes of deaths don't say
+
+-- the first of these rejections, if there is one
+record HasFirst (t : Topology) (queues : Text → List Entry) (noted notes : List Note) : Type 0 where
+  of : Rejection t queues
+  rest : List Note
+  is : notes ≡ rejection_notes t queues noted of ++ rest
+  more : AreRejections t queues (noted ++ rejection_notes t queues noted of) rest
+
+first_of : {t : Topology} {queues : Text → List Entry} {noted notes : List Note} → AreRejections t queues noted notes → (notes ≡ []) ⊎ HasFirst t queues noted notes
+first_of no_rejection = inl refl
+first_of (next {rest = rest} r more) = inr (record { of = r; rest = rest; is = refl; more = more })
+
+-- a message that dies in q1 goes on to billing alone, whatever its key is
+into_billing : (key r : Text) → DiesInto deaths (codes "q1") key r → r ≡ codes "billing"
+into_billing key r d = by (inside d.last deaths.queues d.dies.is_queue)
+  where
+    by : IsIn d.last deaths.queues → r ≡ codes "billing"
+    by (inl e) =
+        let to : d.exchange ≡ codes "D" = same_Some d.exchange (codes "D") (sym d.dies.dead ∙ ap (λ (z : DeclaredQueue). z.dead_letter_exchange) e) in
+        d_alone (codes "pay") r (subst (λ (x : Text). Routes deaths x (codes "pay") r) to (subst (λ (z : DeclaredQueue). Routes deaths d.exchange (key_after z.dead_letter_key key) r) e d.routes))
+    by (inr (inl e)) = absurd (differ (codes "billing") (codes "q1") refl (ap (λ (z : DeclaredQueue). z.name) (sym e) ∙ d.dies.is_named))
+    by (inr (inr (inl e))) = absurd (differ (codes "q3") (codes "q1") refl (ap (λ (z : DeclaredQueue). z.name) (sym e) ∙ d.dies.is_named))
+    by (inr (inr (inr none_left))) = absurd none_left
+
+billing_alone : (key : Text) (targets : List Text) → Picks (DiesInto deaths (codes "q1") key) (codes "q1" ∷ codes "billing" ∷ codes "q3" ∷ []) targets → targets ≡ codes "billing" ∷ []
+billing_alone key targets (take d more) = absurd (differ (codes "q1") (codes "billing") refl (into_billing key (codes "q1") d))
+billing_alone key targets (pass first (take second (take d more))) = absurd (differ (codes "q3") (codes "billing") refl (into_billing key (codes "q3") d))
+billing_alone key targets (pass first (take second (pass third none))) = refl
+billing_alone key targets (pass first (pass second more)) = absurd (second (record { last = queue_with (codes "q1") (Some (codes "D")) (Some (codes "pay")); exchange = codes "D"; dies = record { is_queue = (0, lit≤ tt, refl); is_named = refl; dead = refl }; routes = d_leads }))
+
+-- behind that a message left q1, it is noted that a dead letter entered billing
+record EntersBilling (more : List Note) : Type 0 where
+  number : ℕ
+  rest : List Note
+  is : more ≡ Entered number (codes "billing") Dead ∷ rest
+  noted : List Note
+  others : AreRejections deaths while_in_q1 noted rest
+
+abbrev queue_of : Note → Text
+queue_of (Left n q cause) = q
+queue_of (Entered n q w) = q
+queue_of note = []
+
+abbrev first_note : List Note → Note
+first_note [] = Refused 0 []
+first_note (note ∷ notes) = note
+
+never_empty : (note : Note) (notes : List Note) → (note ∷ notes) ≡ [] → ⊥
+never_empty note notes e = cc
+
+enters_billing : (more : List Note) → AreRejections deaths while_in_q1 [] (Left 1 (codes "q1") Rejected ∷ more) → EntersBilling more
+enters_billing more a = go (first_of a)
+  where
+    go : ((Left 1 (codes "q1") Rejected ∷ more) ≡ []) ⊎ HasFirst deaths while_in_q1 [] (Left 1 (codes "q1") Rejected ∷ more) → EntersBilling more
+    go (inl e) = absurd (never_empty _ _ e)
+    go (inr f) =
+        let from : codes "q1" ≡ f.of.queue = ap (λ (ns : List Note). queue_of (first_note ns)) f.is in
+        let to : f.of.targets ≡ codes "billing" ∷ [] = billing_alone f.of.entry.message.key f.of.targets (subst (λ (q : Text). Picks (DiesInto deaths q f.of.entry.message.key) (codes "q1" ∷ codes "billing" ∷ codes "q3" ∷ []) f.of.targets) (sym from) f.of.routed) in
+        record {
+          number = f.of.entry.message.number;
+          rest = f.rest;
+          is = ap (drop 1) f.is ∙ ap (λ (rs : List Text). map (letter_note deaths while_in_q1 [] f.of.entry.message.number) rs ++ f.rest) to;
+          noted = rejection_notes deaths while_in_q1 [] f.of;
+          others = f.more;
+        }
+
+no_letter : AreRejections deaths while_in_q1 [] (Left 1 (codes "q1") Rejected ∷ []) → ⊥
+no_letter a = let b = enters_billing [] a in never_empty _ _ (sym b.is)
+
+-- it is the first that is noted
+billing_first : (note : Note) (more : List Note) → AreRejections deaths while_in_q1 [] (Left 1 (codes "q1") Rejected ∷ note ∷ more) → is_entry_into (codes "billing") note ≡ true
+billing_first note more a = ap (λ (ns : List Note). is_entry_into (codes "billing") (first_note ns)) (enters_billing (note ∷ more) a).is
+
+-- the note says that a message left
+abbrev is_gone : Note → Bool
+is_gone (Left n q cause) = true
+is_gone note = false
+
+-- behind it another message left, if there is more
+then_leaves : (note other : Note) (more : List Note) → AreRejections deaths while_in_q1 [] (Left 1 (codes "q1") Rejected ∷ note ∷ other ∷ more) → is_gone other ≡ true
+then_leaves note other more a = go (first_of (subst (AreRejections deaths while_in_q1 b.noted) (sym (ap (drop 1) b.is)) b.others))
+  where
+    b : EntersBilling (note ∷ other ∷ more)
+    b = enters_billing (note ∷ other ∷ more) a
+
+    go : ((other ∷ more) ≡ []) ⊎ HasFirst deaths while_in_q1 b.noted (other ∷ more) → is_gone other ≡ true
+    go (inl e) = absurd (never_empty other more e)
+    go (inr f) = ap (λ (ns : List Note). is_gone (first_note ns)) f.is
+
 -- where headers tell of a death they stay
 marked_once : (queue exchange headers : Text) (old new : Option Text) → old ≡ Some headers → TellsOfDeath headers → AreMarked queue exchange old new → new ≡ Some headers
 marked_once queue exchange headers None new e tells alone = absurd (false≢true (ap Rattle.std.specs.Prelude.is_some e))
@@ -346,6 +437,10 @@ circle_comes {r = r} is (dead last ro dies more) = circle_comes (by (inside last
 
 pub deaths_refuse : DeathsRefuse
 deaths_refuse = record {
+  letter_not_noted = no_letter;
+  letter_noted_twice = λ a. false≢true (then_leaves _ _ _ a);
+  refused_by_none = λ a. false≢true (billing_first _ _ a);
+  entered_another = λ a. false≢true (billing_first _ _ a);
   lost = no_loss;
   told_twice = not_twice;
   forgets = λ holds. holds (codes "a") (lit≤ tt) (any_key _) to_billing_by_death;

@@ -38,7 +38,7 @@ pub data Goes (t : Topology) (name : Text) (gone : Text → List Entry) (notes :
   died : {e : Entry} (p : DeclaredQueue) (exchange : Text) (rest : List Note) → Dies t name exchange p → notes ≡ Left e.message.number name Rejected ∷ rest → IsDeath t p exchange gone e.message rest new
       → Goes t name gone notes new (Some e)
 
-contains_in : {A : Type 0} (x : A) (xs : List A) → IsIn x xs → Contains xs x
+pub contains_in : {A : Type 0} (x : A) (xs : List A) → IsIn x xs → Contains xs x
 contains_in x [] i = absurd i
 contains_in x (y ∷ ys) (inl e) = (0, omega arith, sym e)
 contains_in x (y ∷ ys) (inr i) = let r = contains_in x ys i in (suc r.0, omega arith, r.2)
@@ -95,7 +95,7 @@ leaving_enters n q _ e = absurd (false≢true e)
 abbrev pub HeldStay : (Text → List Entry) → (Text → List Entry) → Type 0
 HeldStay old new = (q : Text) (e : Entry) → IsIn e (new q) → is_ready e ≡ false → IsIn e (old q)
 
-idle_if_held : (g : Holder) (e : Entry) → is_held_as g e ≡ true → is_ready e ≡ false
+pub idle_if_held : (g : Holder) (e : Entry) → is_held_as g e ≡ true → is_ready e ≡ false
 idle_if_held g e = go e.message e.mark
   where
     go : (m : Message) (k : Mark) → is_held_as g (record { message = m; mark = k }) ≡ true → is_ready (record { message = m; mark = k }) ≡ false

@@ -19,16 +19,21 @@ use Rattle.model.specs.declared.messages.Mark.{Mark}
 use Rattle.model.specs.declared.messages.Mark.TheVariants.{Ready, Held}
 use Rattle.model.specs.declared.messages.Entry.{Entry}
 use Rattle.model.specs.declared.notes.Cause.{Cause}
-use Rattle.model.specs.declared.notes.Cause.TheVariants.{Purged}
+use Rattle.model.specs.declared.notes.Cause.TheVariants.{Rejected, Purged}
 use Rattle.model.specs.declared.notes.Note.{Note}
 use Rattle.model.specs.declared.notes.Note.TheVariants.{Left}
 use Rattle.laws.proofs.Counts.{count-append, count-cons, count-map, all-append}
 
 -- ---- notes of leavings
 
--- the note says that a message left a queue
+-- not by a rejection
+abbrev pub is_plain : Cause → Bool
+is_plain Rejected = false
+is_plain cause = true
+
+-- the note says that a message left a queue, and not by a rejection
 abbrev pub is_leaving : Note → Bool
-is_leaving (Left n q cause) = true
+is_leaving (Left n q cause) = is_plain cause
 is_leaving note = false
 
 -- what the notes say of leavings is so
@@ -61,7 +66,7 @@ find_in {A = A} p x (y ∷ ys) e = go (p y) refl (find_in p x ys) e
     go false q more e = (inr (more e).0, (more e).1)
 
 -- without the first that passes one fewer is counted, if it counts
-count_without : {A : Type 0} (f p : A → Bool) (x : A) (xs : List A) → find p xs ≡ Some x → count_by f xs ≡ one_for (f x) + count_by f (without_first p xs)
+pub count_without : {A : Type 0} (f p : A → Bool) (x : A) (xs : List A) → find p xs ≡ Some x → count_by f xs ≡ one_for (f x) + count_by f (without_first p xs)
 count_without f p x [] e = absurd (false≢true (ap Rattle.std.specs.Prelude.is_some e))
 count_without {A = A} f p x (y ∷ ys) e = go (p y) (count_without f p x ys) e
   where
@@ -74,7 +79,7 @@ count_without {A = A} f p x (y ∷ ys) e = go (p y) (count_without f p x ys) e
         omega (arith, rest, one, two)
 
 -- where none passes nothing is taken out
-none_without : {A : Type 0} (p : A → Bool) (xs : List A) → find p xs ≡ None → without_first p xs ≡ xs
+pub none_without : {A : Type 0} (p : A → Bool) (xs : List A) → find p xs ≡ None → without_first p xs ≡ xs
 none_without p [] e = refl
 none_without {A = A} p (y ∷ ys) e = go (p y) (none_without p ys) e
   where
@@ -197,15 +202,15 @@ left_balances cause c h (o ∷ os) old notes new (mid, rest, is, all, more) n q 
     omega (arith, first, step, after, split)
 
 -- each note is of a leaving
-left_leaving : (cause : Cause) (q : Text) (o : Option Entry) → AllByRecursion (λ (note : Note). is_leaving note ≡ true) (left_note cause q o)
-left_leaving cause q None = tt
-left_leaving cause q (Some e) = (refl, tt)
+left_leaving : (cause : Cause) → is_plain cause ≡ true → (q : Text) (o : Option Entry) → AllByRecursion (λ (note : Note). is_leaving note ≡ true) (left_note cause q o)
+left_leaving cause plain q None = tt
+left_leaving cause plain q (Some e) = (plain, tt)
 
-pub are_leaving : (cause : Cause) (c h : ℕ) (os : List Outstanding) (old : Text → List Entry) (notes : List Note) (new : Text → List Entry) → AreLeft cause c h os old notes new
+pub are_leaving : (cause : Cause) → is_plain cause ≡ true → (c h : ℕ) (os : List Outstanding) (old : Text → List Entry) (notes : List Note) (new : Text → List Entry) → AreLeft cause c h os old notes new
     → AllByRecursion (λ (note : Note). is_leaving note ≡ true) notes
-are_leaving cause c h [] old notes new (none, same) = subst (AllByRecursion (λ (note : Note). is_leaving note ≡ true)) (sym none) tt
-are_leaving cause c h (o ∷ os) old notes new (mid, rest, is, all, more) =
-    subst (AllByRecursion (λ (note : Note). is_leaving note ≡ true)) (sym all) (all-append _ (left_note cause o.queue (given_in c h old o)) rest (left_leaving cause o.queue (given_in c h old o)) (are_leaving cause c h os mid rest new more))
+are_leaving cause plain c h [] old notes new (none, same) = subst (AllByRecursion (λ (note : Note). is_leaving note ≡ true)) (sym none) tt
+are_leaving cause plain c h (o ∷ os) old notes new (mid, rest, is, all, more) =
+    subst (AllByRecursion (λ (note : Note). is_leaving note ≡ true)) (sym all) (all-append _ (left_note cause o.queue (given_in c h old o)) rest (left_leaving cause plain o.queue (given_in c h old o)) (are_leaving cause plain c h os mid rest new more))
 
 -- what is in the queues without it was in them before
 pub in_rest : (c h : ℕ) (queues : Text → List Entry) (o : Outstanding) (e : Entry) (q : Text) → IsIn e (without_given c h queues o q) → IsIn e (queues q)

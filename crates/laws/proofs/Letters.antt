@@ -1,43 +1,271 @@
--- Of a message that dies at most one dead letter enters a queue.
-use Rattle.std.proofs.Common.{◌≡◌, ℕ, ◌+◌, ◌≤◌, List, [], ◌∷◌, Bool, true, false, cond, eqb, length, refl, ap, ◌∙◌, arith, Option, Some, None}
-use Rattle.std.specs.Prelude.{count_by, ◌&&◌, if◌then◌else◌}
+-- What becomes of each message that is rejected: it leaves, and its dead letter comes to each queue to which it goes on, once, or that queue is full.
+use Rattle.std.proofs.Common.{◌≡◌, ℕ, ◌+◌, ◌≤◌, List, [], ◌∷◌, ◌++◌, Bool, true, false, cond, eqb, length, refl, sym, ap, subst, ◌∙◌, arith, ◌⊎◌, map, Option, Some, None, inl, inr}
+use Rattle.std.specs.Prelude.{count_by, is_some, not, ◌&&◌, if◌then◌else◌}
 use Rattle.std.specs.Str.{bytes_eq}
 use Rattle.std.specs.List.{AllByRecursion}
 use Rattle.std.proofs.Math.Bool.{and-false}
 use Rattle.std.proofs.lemmas.Bool.{false≢true}
+use Rattle.std.proofs.lemmas.List.Sums.{length-filter}
+use Rattle.std.proofs.lemmas.Option.{same_Some}
+use Rattle.std.proofs.lemmas.Slice.Eq.{bytes_eq-Decides}
 use Rattle.model.specs.Words.{Text}
-use Rattle.model.specs.Topology.{Topology, AreApart, queue_names}
-use Rattle.model.specs.Broker.{Outstanding, is_full}
-use Rattle.model.specs.Entering.{entry_notes}
-use Rattle.model.specs.Deliveries.{given_in, AreRejected}
-use Rattle.model.specs.Headline.{is_dead_into, is_rejected}
+use Rattle.model.specs.Topology.{Topology, IsIn, AreApart, queue_names}
+use Rattle.model.specs.Routing.{Routes, Picks, none, take, pass, Dies, key_after}
+use Rattle.model.specs.Message.{Message}
+use Rattle.model.specs.Broker.{Outstanding, is_ready, is_full, is_at, limit_of, queue_named}
+use Rattle.model.specs.Entries.{is_held_as, without_first}
+use Rattle.model.specs.Entering.{entry_notes, comes_to}
+use Rattle.model.specs.Deaths.{IsDeath, DiesBy, DiesIn, MayDie, dead_letter, with_headers}
+use Rattle.model.specs.Deliveries.{holder_of, given_in, without_given, AreRejected}
+use Rattle.model.specs.Headline.{DiesInto, Rejection, AreRejections, none as no_rejection, next, is_entry_into, is_full_after, letter_note, rejection_notes, IsOfNoRejection, is_dead_into, is_rejected}
+use Rattle.model.specs.declared.topologies.DeclaredQueue.{DeclaredQueue}
+use Rattle.model.specs.declared.messages.Mark.TheVariants.{Ready}
 use Rattle.model.specs.declared.messages.Entry.{Entry}
-use Rattle.model.specs.declared.notes.Cause.TheVariants.{Rejected}
+use Rattle.model.specs.declared.notes.Cause.TheVariants.{Acked, Auto, Rejected, Purged}
 use Rattle.model.specs.declared.notes.Note.{Note}
 use Rattle.model.specs.declared.notes.Note.TheVariants.{Entered, Refused, Left}
 use Rattle.model.specs.declared.notes.Way.TheVariants as way
-use Rattle.laws.proofs.Counts.{count-append, count-cons, count-cons_no, count-cons_yes, count_none, all_each}
-use Rattle.laws.proofs.Leaving.{is_leaving}
-use Rattle.laws.proofs.Entering.{entries_all}
-use Rattle.laws.proofs.Dying.{Goes, not_found, left_only, died, goes_by}
+use Rattle.laws.proofs.Counts.{count-append, count-cons, count-cons_no, count-cons_yes, count_none, all_each, in-append, in_from_contains}
+use Rattle.laws.proofs.Leaving.{is_leaving, one_for, at_queue, find_in, count_without, none_without, in_rest}
+use Rattle.laws.proofs.Entering.{in_comes}
+use Rattle.laws.proofs.Dying.{HeldStay, contains_in, idle_if_held}
 use Rattle.laws.proofs.Targets.{same_as, count_most}
 
--- what left is no dead letter
-leaving_not_dead : (n : ℕ) (q : Text) (note : Note) → is_leaving note ≡ true → is_dead_into n q note ≡ false
-leaving_not_dead n q (Left m r cause) e = refl
-leaving_not_dead n q _ e = absurd (false≢true e)
+-- ---- what leaves otherwise
 
-pub no_letters : (n : ℕ) (q : Text) (notes : List Note) → AllByRecursion (λ (note : Note). is_leaving note ≡ true) notes → count_by (is_dead_into n q) notes ≡ 0
-no_letters n q notes leaving = count_none (is_dead_into n q) notes (all_each _ _ (leaving_not_dead n q) notes leaving)
+leaving_other : (note : Note) → is_leaving note ≡ true → IsOfNoRejection note
+leaving_other (Left n q Rejected) e = absurd (false≢true e)
+leaving_other (Left n q Acked) e = tt
+leaving_other (Left n q Auto) e = tt
+leaving_other (Left n q Purged) e = tt
+leaving_other _ e = absurd (false≢true e)
 
--- a dead letter enters no queue oftener than the queue is routed to
-entered_most : (t : Topology) (entries : Text → List Entry) (size k n : ℕ) (q : Text) (rs : List Text)
-    → count_by (is_dead_into n q) (entry_notes t entries size k way.Dead rs) ≤ count_by (same_as q) rs
-entered_most t entries size k n q [] = omega arith
-entered_most t entries size k n q (r ∷ rs) = go (entered_most t entries size k n q rs) (is_full t entries r size) (same_as q r) refl
+pub no_rejections : (notes : List Note) → AllByRecursion (λ (note : Note). is_leaving note ≡ true) notes → AllByRecursion IsOfNoRejection notes
+no_rejections notes leaving = all_each _ _ leaving_other notes leaving
+
+-- ---- names that are picked
+
+picks_same : {P Q : Text → Type 0} {xs ys : List Text} → ((x : Text) → P x → Q x) → ((x : Text) → Q x → P x) → Picks P xs ys → Picks Q xs ys
+picks_same to from none = none
+picks_same to from (take p r) = take (to _ p) (picks_same to from r)
+picks_same to from (pass np r) = pass (λ q. np (from _ q)) (picks_same to from r)
+
+picks_none : {P : Text → Type 0} → ((x : Text) → P x → ⊥) → (xs : List Text) → Picks P xs []
+picks_none absent [] = none
+picks_none absent (x ∷ xs) = pass (absent x) (picks_none absent xs)
+
+-- ---- the queue of a name
+
+named_in : (p : DeclaredQueue) (qs : List DeclaredQueue) → IsIn p qs → IsIn p.name (queue_names qs)
+named_in p [] i = i
+named_in p (q ∷ qs) (inl e) = inl (ap (λ (z : DeclaredQueue). z.name) e)
+named_in p (q ∷ qs) (inr i) = inr (named_in p qs i)
+
+-- names are apart, and so it is the one that is found
+found_of : (p : DeclaredQueue) (name : Text) (qs : List DeclaredQueue) → AreApart (queue_names qs) → IsIn p qs → p.name ≡ name → queue_named qs name ≡ Some p
+found_of p name [] apart i named = absurd i
+found_of p name (q ∷ qs) apart i named = go (λ j. found_of p name qs apart.1 j named) (bytes_eq q.name name) refl i
+  where
+    go : (IsIn p qs → queue_named qs name ≡ Some p) → (same : Bool) → bytes_eq q.name name ≡ same → IsIn p (q ∷ qs) → cond same (Some q) (queue_named qs name) ≡ Some p
+    go more true s (inl e) = ap Some (sym e)
+    go more true s (inr j) = absurd (apart.0 (subst (λ (z : Text). IsIn z (queue_names qs)) (named ∙ sym ((bytes_eq-Decides q.name name).0 s)) (named_in p qs j)))
+    go more false s (inl e) = absurd (false≢true (sym s ∙ (bytes_eq-Decides q.name name).1 (ap (λ (z : DeclaredQueue). z.name) (sym e) ∙ named)))
+    go more false s (inr j) = more j
+
+module _ (t : Topology) (apart : AreApart (queue_names t.queues)) (name : Text) where
+  found_dies : (exchange : Text) (p : DeclaredQueue) → Dies t name exchange p → queue_named t.queues name ≡ Some p
+  found_dies exchange p d = found_of p name t.queues apart (in_from_contains t.queues p d.is_queue.0 d.is_queue.1 d.is_queue.2) d.is_named
+
+  -- a message that dies in a queue that is not there, or that dead-letters nowhere, goes on to none
+  none_without_queue : (key : Text) → queue_named t.queues name ≡ None → Picks (DiesInto t name key) (queue_names t.queues) []
+  none_without_queue key is = picks_none (λ r d. absurd (false≢true (ap is_some (sym is ∙ found_dies d.exchange d.last d.dies)))) (queue_names t.queues)
+
+  none_without_exchange : (key : Text) (p : DeclaredQueue) → queue_named t.queues name ≡ Some p → p.dead_letter_exchange ≡ None → Picks (DiesInto t name key) (queue_names t.queues) []
+  none_without_exchange key p is plain = picks_none no (queue_names t.queues)
+    where
+      no : (r : Text) → DiesInto t name key r → ⊥
+      no r d =
+          let same : p ≡ d.last = same_Some p d.last (sym is ∙ found_dies d.exchange d.last d.dies) in
+          false≢true (ap is_some (sym plain ∙ ap (λ (z : DeclaredQueue). z.dead_letter_exchange) same ∙ d.dies.dead))
+
+  -- and else to where its exchange leads
+  picks_on : (key : Text) (p : DeclaredQueue) (exchange : Text) (targets : List Text) → queue_named t.queues name ≡ Some p → p.dead_letter_exchange ≡ Some exchange
+      → Picks (Routes t exchange (key_after p.dead_letter_key key)) (queue_names t.queues) targets → Picks (DiesInto t name key) (queue_names t.queues) targets
+  picks_on key p exchange targets is dead routed = picks_same goes comes routed
+    where
+      at : IsIn p t.queues × (bytes_eq p.name name ≡ true)
+      at = find_in (λ (q : DeclaredQueue). bytes_eq q.name name) p t.queues is
+
+      goes : (r : Text) → Routes t exchange (key_after p.dead_letter_key key) r → DiesInto t name key r
+      goes r ro = record { last = p; exchange = exchange; dies = record { is_queue = contains_in p t.queues at.0; is_named = (bytes_eq-Decides p.name name).0 at.1; dead = dead }; routes = ro }
+
+      comes : (r : Text) → DiesInto t name key r → Routes t exchange (key_after p.dead_letter_key key) r
+      comes r d =
+          let same : d.last ≡ p = same_Some d.last p (sym (found_dies d.exchange d.last d.dies) ∙ is) in
+          let to : d.exchange ≡ exchange = same_Some d.exchange exchange (sym d.dies.dead ∙ ap (λ (z : DeclaredQueue). z.dead_letter_exchange) same ∙ dead) in
+          subst (λ (x : Text). Routes t x (key_after p.dead_letter_key key) r) to (subst (λ (z : DeclaredQueue). Routes t d.exchange (key_after z.dead_letter_key key) r) same d.routes)
+
+-- ---- queues behind some notes
+
+-- the queues as they stand behind these notes: what is held there was held before the event, and what can be given out could be, or has entered since
+record Follows (first : Text → List Entry) (noted : List Note) (now : Text → List Entry) : Type 0 where
+  held : HeldStay first now
+  ready : (q : Text) → count_by is_ready (now q) ≡ count_by is_ready (first q) + count_by (is_entry_into q) noted
+
+-- a message that is held is not among those that can be given out
+ready_without : (c h : ℕ) (queues : Text → List Entry) (o : Outstanding) (found : Option Entry) → given_in c h queues o ≡ found → (q : Text) → count_by is_ready (without_given c h queues o q) ≡ count_by is_ready (queues q)
+ready_without c h queues o found is = at_queue (λ (q : Text) (es : List Entry). count_by is_ready es ≡ count_by is_ready (queues q)) queues o.queue _ (here found is) (λ q other. refl)
+  where
+    here : (found : Option Entry) → given_in c h queues o ≡ found → count_by is_ready (without_first (is_held_as (holder_of c h o)) (queues o.queue)) ≡ count_by is_ready (queues o.queue)
+    here None none_there = ap (count_by is_ready) (none_without _ (queues o.queue) none_there)
+    here (Some e) there =
+        let less = count_without is_ready (is_held_as (holder_of c h o)) e (queues o.queue) there in
+        let at = find_in (is_held_as (holder_of c h o)) e (queues o.queue) there in
+        let own : one_for (is_ready e) ≡ 0 = ap one_for (idle_if_held (holder_of c h o) e at.1) in
+        omega (arith, less, own)
+
+gone_follows : (c h : ℕ) (first old : Text → List Entry) (noted : List Note) (o : Outstanding) → Follows first noted old → Follows first noted (without_given c h old o)
+gone_follows c h first old noted o f = record {
+  held = λ q e i idle. f.held q e (in_rest c h old o e q i) idle;
+  ready = λ q. ready_without c h old o (given_in c h old o) refl q ∙ f.ready q;
+}
+
+same_follows : (first now new : Text → List Entry) (noted : List Note) → Follows first noted now → ((q : Text) → new q ≡ now q) → Follows first noted new
+same_follows first now new noted f same = record {
+  held = λ q e i idle. f.held q e (subst (IsIn e) (same q) i) idle;
+  ready = λ q. ap (count_by is_ready) (same q) ∙ f.ready q;
+}
+
+-- what comes to a queue can be given out
+came_ready : (t : Topology) (entries : Text → List Entry) (m : Message) (n : ℕ) (q : Text) (rs : List Text) → count_by is_ready (comes_to t entries m q rs) ≡ count_by (is_entry_into q) (entry_notes t entries (length m.content.body) n way.Dead rs)
+came_ready t entries m n q [] = refl
+came_ready t entries m n q (r ∷ rs) = go (bytes_eq r q) refl (is_full t entries r (length m.content.body)) (came_ready t entries m n q rs)
   where
     notes : List Note
-    notes = entry_notes t entries size k way.Dead rs
+    notes = entry_notes t entries (length m.content.body) n way.Dead rs
+
+    go : (same : Bool) → bytes_eq r q ≡ same → (full : Bool) → count_by is_ready (comes_to t entries m q rs) ≡ count_by (is_entry_into q) notes
+        → count_by is_ready (if same && not full then record { message = m; mark = Ready } ∷ comes_to t entries m q rs else comes_to t entries m q rs) ≡ count_by (is_entry_into q) ((if full then Refused n r else Entered n r way.Dead) ∷ notes)
+    go true s true more = more ∙ sym (count-cons_no (is_entry_into q) (Refused n r) notes refl)
+    go true s false more = count-cons_yes is_ready (record { message = m; mark = Ready }) (comes_to t entries m q rs) refl ∙ ap (λ (k : ℕ). 1 + k) more ∙ sym (count-cons_yes (is_entry_into q) (Entered n r way.Dead) notes s)
+    go false s true more = more ∙ sym (count-cons_no (is_entry_into q) (Refused n r) notes refl)
+    go false s false more = more ∙ sym (count-cons_no (is_entry_into q) (Entered n r way.Dead) notes s)
+
+came_idle : (t : Topology) (entries : Text → List Entry) (m : Message) (q : Text) (rs : List Text) (e : Entry) → IsIn e (comes_to t entries m q rs) → is_ready e ≡ true
+came_idle t entries m q rs e i = ap is_ready (in_comes t entries m q rs e i).is
+
+-- ---- one rejection
+
+-- what is noted of the queues to which the letter goes, as what stands there tells or as what was noted does
+same_notes : (t : Topology) (first gone : Text → List Entry) (noted : List Note) (size n : ℕ) → Follows first noted gone → (rs : List Text) → entry_notes t gone size n way.Dead rs ≡ map (letter_note t first noted n) rs
+same_notes t first gone noted size n f [] = refl
+same_notes t first gone noted size n f (r ∷ rs) =
+    ap (λ (full : Bool). (if full then Refused n r else Entered n r way.Dead) ∷ entry_notes t gone size n way.Dead rs) full
+    ∙ ap (λ (ns : List Note). letter_note t first noted n r ∷ ns) (same_notes t first gone noted size n f rs)
+  where
+    full : is_full t gone r size ≡ is_full_after t first noted r
+    full = ap (is_at (limit_of (queue_named t.queues r))) (length-filter is_ready (gone r) ∙ f.ready r ∙ ap (λ (k : ℕ). k + count_by (is_entry_into r) noted) (sym (length-filter is_ready (first r))))
+
+-- these notes are of a rejection, behind which the queues stand so
+record IsRejection (t : Topology) (first : Text → List Entry) (noted notes : List Note) (new : Text → List Entry) : Type 0 where
+  of : Rejection t first
+  noted_so : notes ≡ rejection_notes t first noted of
+  follows : Follows first (noted ++ notes) new
+
+module _ (t : Topology) (apart : AreApart (queue_names t.queues)) (c h : ℕ) (first old : Text → List Entry) (noted : List Note) (o : Outstanding) (e : Entry) (there : IsIn e (first o.queue)) (f : Follows first noted (without_given c h old o)) where
+  abbrev gone : Text → List Entry
+  gone = without_given c h old o
+
+  -- behind these notes
+  counted : (q : Text) (rest : List Note) → count_by (is_entry_into q) (noted ++ (Left e.message.number o.queue Rejected ∷ rest)) ≡ count_by (is_entry_into q) noted + count_by (is_entry_into q) rest
+  counted q rest = count-append (is_entry_into q) noted _ ∙ ap (λ (k : ℕ). count_by (is_entry_into q) noted + k) (count-cons_no (is_entry_into q) (Left e.message.number o.queue Rejected) rest refl)
+
+  -- it leaves, and nothing comes
+  leaves : (notes rest : List Note) (new : Text → List Entry) → notes ≡ Left e.message.number o.queue Rejected ∷ rest → (rest ≡ []) × ((q : Text) → new q ≡ gone q) → Picks (DiesInto t o.queue e.message.key) (queue_names t.queues) [] → IsRejection t first noted notes new
+  leaves notes rest new is d routed = record {
+    of = record { queue = o.queue; entry = e; stood = there; targets = []; routed = routed };
+    noted_so = is ∙ ap (λ (ns : List Note). Left e.message.number o.queue Rejected ∷ ns) d.0;
+    follows = record {
+      held = λ q x i idle. f.held q x (subst (IsIn x) (d.1 q) i) idle;
+      ready = λ q.
+          let now : count_by is_ready (new q) ≡ count_by is_ready (gone q) = ap (count_by is_ready) (d.1 q) in
+          let was = f.ready q in
+          let more : count_by (is_entry_into q) (noted ++ notes) ≡ count_by (is_entry_into q) noted + count_by (is_entry_into q) rest = ap (λ (ns : List Note). count_by (is_entry_into q) (noted ++ ns)) is ∙ counted q rest in
+          let none_more : count_by (is_entry_into q) rest ≡ 0 = ap (count_by (is_entry_into q)) d.0 in
+          omega (arith, now, was, more, none_more);
+    };
+  }
+
+  -- it leaves, and its letter comes
+  dies : (notes rest : List Note) (new : Text → List Entry) (p : DeclaredQueue) (exchange : Text) → notes ≡ Left e.message.number o.queue Rejected ∷ rest → queue_named t.queues o.queue ≡ Some p → p.dead_letter_exchange ≡ Some exchange
+      → IsDeath t p exchange gone e.message rest new → IsRejection t first noted notes new
+  dies notes rest new p exchange is found dead d = record {
+    of = record { queue = o.queue; entry = e; stood = there; targets = d.targets; routed = picks_on t apart o.queue e.message.key p exchange d.targets found dead d.routed };
+    noted_so = is ∙ ap (λ (ns : List Note). Left e.message.number o.queue Rejected ∷ ns) (d.noted ∙ same_notes t first gone noted (length e.message.content.body) e.message.number f d.targets);
+    follows = record {
+      held = λ q x i idle. elim (in-append x (gone q) _ (subst (IsIn x) (d.left q) i)) [
+        | inl j ↦ f.held q x j idle
+        | inr j ↦ absurd (false≢true (sym idle ∙ came_idle t gone _ q d.targets x j))
+      ];
+      ready = λ q.
+          let letter = dead_letter e.message exchange (key_after p.dead_letter_key e.message.key) (with_headers e.message.content d.headers) in
+          let now : count_by is_ready (new q) ≡ count_by is_ready (gone q) + count_by is_ready (comes_to t gone letter q d.targets) = ap (count_by is_ready) (d.left q) ∙ count-append is_ready (gone q) _ in
+          let came : count_by is_ready (comes_to t gone letter q d.targets) ≡ count_by (is_entry_into q) rest = came_ready t gone letter e.message.number q d.targets ∙ ap (count_by (is_entry_into q)) (sym d.noted) in
+          let was = f.ready q in
+          let more : count_by (is_entry_into q) (noted ++ notes) ≡ count_by (is_entry_into q) noted + count_by (is_entry_into q) rest = ap (λ (ns : List Note). count_by (is_entry_into q) (noted ++ ns)) is ∙ counted q rest in
+          omega (arith, now, came, was, more);
+    };
+  }
+
+  one_rejection : (notes rest : List Note) (new : Text → List Entry) → notes ≡ Left e.message.number o.queue Rejected ∷ rest → DiesIn t gone e.message rest new (queue_named t.queues o.queue) → IsRejection t first noted notes new
+  one_rejection notes rest new is = by (queue_named t.queues o.queue) refl
+    where
+      through : (p : DeclaredQueue) (x : Option Text) → queue_named t.queues o.queue ≡ Some p → p.dead_letter_exchange ≡ x → DiesBy t p gone e.message rest new x → IsRejection t first noted notes new
+      through p None found plain d = leaves notes rest new is d (none_without_exchange t apart o.queue e.message.key p found plain)
+      through p (Some exchange) found dead d = dies notes rest new p exchange is found dead d
+
+      by : (q : Option DeclaredQueue) → queue_named t.queues o.queue ≡ q → DiesIn t gone e.message rest new q → IsRejection t first noted notes new
+      by None found d = leaves notes rest new is d (none_without_queue t apart o.queue e.message.key found)
+      by (Some p) found d = through p p.dead_letter_exchange found refl d
+
+-- ---- all of them
+
+rejections_from : (t : Topology) → AreApart (queue_names t.queues) → (c h : ℕ) (first : Text → List Entry) (os : List Outstanding) (old : Text → List Entry) (noted notes : List Note) (new : Text → List Entry) → Follows first noted old
+    → AreRejected t c h os old notes new → AreRejections t first noted notes
+rejections_from t apart c h first [] old noted notes new f (none_noted, same) = subst (AreRejections t first noted) (sym none_noted) no_rejection
+rejections_from t apart c h first (o ∷ os) old noted notes new f (mid, one, rest, may, all, more) = go (λ ns g. rejections_from t apart c h first os mid ns rest new g more) (given_in c h old o) refl may
+  where
+    go : ((ns : List Note) → Follows first ns mid → AreRejections t first ns rest) → (found : Option Entry) → given_in c h old o ≡ found → MayDie t o.queue (without_given c h old o) one mid found → AreRejections t first noted notes
+    go others None is (none_noted, same) =
+        let shorter : notes ≡ rest = all ∙ ap (λ (ns : List Note). ns ++ rest) none_noted in
+        subst (AreRejections t first noted) (sym shorter) (others noted (same_follows first (without_given c h old o) mid noted (gone_follows c h first old noted o f) same))
+    go others (Some e) is (left, noted_left, dies_so) =
+        let at = find_in (is_held_as (holder_of c h o)) e (old o.queue) is in
+        let there : IsIn e (first o.queue) = f.held o.queue e at.0 (idle_if_held (holder_of c h o) e at.1) in
+        let r = one_rejection t apart c h first old noted o e there (gone_follows c h first old noted o f) one left mid noted_left dies_so in
+        let after : AreRejections t first (noted ++ rejection_notes t first noted r.of) rest =
+        subst (λ (ns : List Note). AreRejections t first (noted ++ ns) rest) r.noted_so (others (noted ++ one) r.follows) in
+        subst (AreRejections t first noted) (sym (all ∙ ap (λ (ns : List Note). ns ++ rest) r.noted_so)) (next r.of after)
+
+-- What is noted of messages that are rejected tells of each where its dead letter came.
+pub are_rejections : (t : Topology) → AreApart (queue_names t.queues) → (c h : ℕ) (os : List Outstanding) (old : Text → List Entry) (notes : List Note) (new : Text → List Entry) → AreRejected t c h os old notes new → AreRejections t old [] notes
+are_rejections t apart c h os old notes new a = rejections_from t apart c h old os old [] notes new (record { held = λ q e i idle. i; ready = λ q. let e : count_by (is_entry_into q) [] ≡ 0 = refl in omega (arith, e) }) a
+
+-- ---- none comes twice
+
+other_note : (n : ℕ) (q : Text) (note : Note) → IsOfNoRejection note → is_dead_into n q note ≡ false
+other_note n q (Entered m r way.Dead) o = absurd o
+other_note n q (Entered m r way.Publish) o = refl
+other_note n q _ o = refl
+
+-- a dead letter enters no queue oftener than it goes on to it
+letters_most : (t : Topology) (first : Text → List Entry) (noted : List Note) (k n : ℕ) (q : Text) (rs : List Text)
+    → count_by (is_dead_into n q) (map (letter_note t first noted k) rs) ≤ count_by (same_as q) rs
+letters_most t first noted k n q [] = omega arith
+letters_most t first noted k n q (r ∷ rs) = go (letters_most t first noted k n q rs) (is_full_after t first noted r) (same_as q r) refl
+  where
+    notes : List Note
+    notes = map (letter_note t first noted k) rs
 
     at_most : (b : Bool) → cond b 1 0 ≤ 1
     at_most true = omega arith
@@ -45,56 +273,65 @@ entered_most t entries size k n q (r ∷ rs) = go (entered_most t entries size k
 
     go : count_by (is_dead_into n q) notes ≤ count_by (same_as q) rs → (full same : Bool) → same_as q r ≡ same
         → count_by (is_dead_into n q) ((if full then Refused k r else Entered k r way.Dead) ∷ notes) ≤ count_by (same_as q) (r ∷ rs)
-    go more true same s = let first = count-cons_no (is_dead_into n q) (Refused k r) notes refl in let all = count-cons (same_as q) r rs in omega (arith, first, all, more)
+    go more true same s = let one = count-cons_no (is_dead_into n q) (Refused k r) notes refl in let all = count-cons (same_as q) r rs in omega (arith, one, all, more)
     go more false true s =
-        let first = count-cons (is_dead_into n q) (Entered k r way.Dead) notes in
+        let one = count-cons (is_dead_into n q) (Entered k r way.Dead) notes in
         let all = count-cons_yes (same_as q) r rs s in
-        let one : cond (is_dead_into n q (Entered k r way.Dead)) 1 0 ≤ 1 = at_most (is_dead_into n q (Entered k r way.Dead)) in
-        omega (arith, first, all, one, more)
+        let once : cond (is_dead_into n q (Entered k r way.Dead)) 1 0 ≤ 1 = at_most (is_dead_into n q (Entered k r way.Dead)) in
+        omega (arith, one, all, once, more)
     go more false false s =
         let no : is_dead_into n q (Entered k r way.Dead) ≡ false = ap (λ (b : Bool). eqb k n && b) s ∙ and-false (eqb k n) in
-        let first = count-cons_no (is_dead_into n q) (Entered k r way.Dead) notes no in
+        let one = count-cons_no (is_dead_into n q) (Entered k r way.Dead) notes no in
         let all = count-cons_no (same_as q) r rs s in
-        omega (arith, first, all, more)
+        omega (arith, one, all, more)
 
 -- those of another message are none of this one
-others_none : (t : Topology) (entries : Text → List Entry) (size k n : ℕ) (q : Text) (rs : List Text) → eqb k n ≡ false
-    → count_by (is_dead_into n q) (entry_notes t entries size k way.Dead rs) ≡ 0
-others_none t entries size k n q rs ne =
-    count_none (is_dead_into n q) (entry_notes t entries size k way.Dead rs) (entries_all _ t entries size k way.Dead rs (λ r. refl) (λ r i. ap (λ (b : Bool). b && bytes_eq r q) ne))
+others_none : (t : Topology) (first : Text → List Entry) (noted : List Note) (k n : ℕ) (q : Text) (rs : List Text) → eqb k n ≡ false → count_by (is_dead_into n q) (map (letter_note t first noted k) rs) ≡ 0
+others_none t first noted k n q [] ne = refl
+others_none t first noted k n q (r ∷ rs) ne = go (is_full_after t first noted r) (others_none t first noted k n q rs ne)
+  where
+    notes : List Note
+    notes = map (letter_note t first noted k) rs
 
--- one rejection
-one_letter : (t : Topology) (name : Text) (gone : Text → List Entry) (notes : List Note) (new : Text → List Entry) (found : Option Entry) → AreApart (queue_names t.queues) → Goes t name gone notes new found
-    → (n : ℕ) (q : Text) → count_by (is_dead_into n q) notes ≤ count_by (is_rejected n) notes
-one_letter t name gone notes new None apart (not_found none same) n q = let e : count_by (is_dead_into n q) notes ≡ 0 = ap (count_by (is_dead_into n q)) none in omega (arith, e)
-one_letter t name gone notes new (Some e) apart (left_only is same) n q =
-    let none : count_by (is_dead_into n q) notes ≡ 0 = ap (count_by (is_dead_into n q)) is ∙ count-cons_no (is_dead_into n q) (Left e.message.number name Rejected) [] refl in
-    omega (arith, none)
-one_letter t name gone notes new (Some e) apart (died p exchange rest dies is d) n q = go (eqb e.message.number n) refl
+    go : (full : Bool) → count_by (is_dead_into n q) notes ≡ 0 → count_by (is_dead_into n q) ((if full then Refused k r else Entered k r way.Dead) ∷ notes) ≡ 0
+    go true more = count-cons_no (is_dead_into n q) (Refused k r) notes refl ∙ more
+    go false more = count-cons_no (is_dead_into n q) (Entered k r way.Dead) notes (ap (λ (b : Bool). b && bytes_eq r q) ne) ∙ more
+
+-- a rejection makes one letter at most for a queue
+rejection_once : (t : Topology) (first : Text → List Entry) (noted : List Note) (r : Rejection t first) → AreApart (queue_names t.queues) → (n : ℕ) (q : Text)
+    → count_by (is_dead_into n q) (rejection_notes t first noted r) ≤ count_by (is_rejected n) (rejection_notes t first noted r)
+rejection_once t first noted r apart n q = go (eqb r.entry.message.number n) refl
   where
     note : Note
-    note = Left e.message.number name Rejected
+    note = Left r.entry.message.number r.queue Rejected
 
-    letters : count_by (is_dead_into n q) notes ≡ count_by (is_dead_into n q) (entry_notes t gone (length e.message.content.body) e.message.number way.Dead d.targets)
-    letters = ap (count_by (is_dead_into n q)) is ∙ count-cons_no (is_dead_into n q) note rest refl ∙ ap (count_by (is_dead_into n q)) d.noted
+    rest : List Note
+    rest = map (letter_note t first noted r.entry.message.number) r.targets
 
-    go : (own : Bool) → eqb e.message.number n ≡ own → count_by (is_dead_into n q) notes ≤ count_by (is_rejected n) notes
-    go true o =
-        let most = entered_most t gone (length e.message.content.body) e.message.number n q d.targets in
-        let once = count_most q d.routed apart in
-        let left : count_by (is_rejected n) notes ≡ 1 + count_by (is_rejected n) rest = ap (count_by (is_rejected n)) is ∙ count-cons_yes (is_rejected n) note rest o in
+    letters : count_by (is_dead_into n q) (note ∷ rest) ≡ count_by (is_dead_into n q) rest
+    letters = count-cons_no (is_dead_into n q) note rest refl
+
+    go : (own : Bool) → eqb r.entry.message.number n ≡ own → count_by (is_dead_into n q) (note ∷ rest) ≤ count_by (is_rejected n) (note ∷ rest)
+    go true own =
+        let most = letters_most t first noted r.entry.message.number n q r.targets in
+        let once = count_most q r.routed apart in
+        let left = count-cons_yes (is_rejected n) note rest own in
         omega (arith, letters, most, once, left)
-    go false o =
-        let none = others_none t gone (length e.message.content.body) e.message.number n q d.targets o in
-        omega (arith, letters, none)
+    go false own =
+        let no = others_none t first noted r.entry.message.number n q r.targets own in
+        omega (arith, letters, no)
 
--- all of them
-pub letters_once : (t : Topology) (c h : ℕ) (os : List Outstanding) (old : Text → List Entry) (notes : List Note) (new : Text → List Entry) → AreApart (queue_names t.queues) → AreRejected t c h os old notes new
+rejections_once : (t : Topology) (first : Text → List Entry) (noted notes : List Note) → AreApart (queue_names t.queues) → AreRejections t first noted notes → (n : ℕ) (q : Text) → count_by (is_dead_into n q) notes ≤ count_by (is_rejected n) notes
+rejections_once t first noted notes apart no_rejection n q = omega arith
+rejections_once t first noted notes apart (next {rest = rest} r more) n q =
+    let one = rejection_once t first noted r apart n q in
+    let after = rejections_once t first _ rest apart more n q in
+    let letters = count-append (is_dead_into n q) (rejection_notes t first noted r) rest in
+    let left = count-append (is_rejected n) (rejection_notes t first noted r) rest in
+    omega (arith, one, after, letters, left)
+
+-- Where what is noted is of rejections alone, or of none, no rejection made two letters in one queue.
+pub letters_once : (t : Topology) (first : Text → List Entry) (notes : List Note) → AreApart (queue_names t.queues) → AreRejections t first [] notes ⊎ AllByRecursion IsOfNoRejection notes
     → (n : ℕ) (q : Text) → count_by (is_dead_into n q) notes ≤ count_by (is_rejected n) notes
-letters_once t c h [] old notes new apart (none, same) n q = let e : count_by (is_dead_into n q) notes ≡ 0 = ap (count_by (is_dead_into n q)) none in omega (arith, e)
-letters_once t c h (o ∷ os) old notes new apart (mid, one, rest, dies, all, more) n q =
-    let first = one_letter t o.queue _ one mid (given_in c h old o) apart (goes_by t o.queue _ one mid (given_in c h old o) dies) n q in
-    let after = letters_once t c h os mid rest new apart more n q in
-    let letters : count_by (is_dead_into n q) notes ≡ count_by (is_dead_into n q) one + count_by (is_dead_into n q) rest = ap (count_by (is_dead_into n q)) all ∙ count-append (is_dead_into n q) one rest in
-    let left : count_by (is_rejected n) notes ≡ count_by (is_rejected n) one + count_by (is_rejected n) rest = ap (count_by (is_rejected n)) all ∙ count-append (is_rejected n) one rest in
-    omega (arith, first, after, letters, left)
+letters_once t first notes apart (inl r) n q = rejections_once t first [] notes apart r n q
+letters_once t first notes apart (inr others) n q = let no = count_none (is_dead_into n q) notes (all_each _ _ (other_note n q) notes others) in omega (arith, no)

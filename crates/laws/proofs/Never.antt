@@ -12,7 +12,7 @@ use Rattle.model.specs.Guarantee.{Covers}
 use Rattle.model.specs.State.{Config, State, Step}
 use Rattle.model.specs.Arrivals.{IsSaid}
 use Rattle.model.specs.Run.{Happening, Run, AreCounted, has_number, notes_of}
-use Rattle.model.specs.Headline.{IsSound, IsNoted, WasSentTo, IsAllowed, AreAllowed, AreAllowedIn, IsCauseAt, HasCause, HaveCauses, IsPublishedAt, HasOrigin, HaveOrigins, DieOnce, is_dead_into, KeepsEvents}
+use Rattle.model.specs.Headline.{IsSound, IsNoted, WasSentTo, IsAllowed, AreAllowed, AreAllowedIn, IsCauseAt, HasCause, HaveCauses, IsPublishedAt, HasOrigin, HaveOrigins, IsOfNoRejection, DieAsRouted, DieOnce, KeepsEvents}
 use Rattle.model.specs.declared.messages.Entry.{Entry}
 use Rattle.model.specs.declared.notes.Note.{Note}
 use Rattle.model.specs.declared.notes.Note.TheVariants.{Published, Entered, Left}
@@ -25,7 +25,8 @@ use Rattle.laws.proofs.Entering.{picked}
 use Rattle.laws.proofs.Safe.{come_here}
 use Rattle.laws.proofs.Traced.{Rooted, before, now, rooted, exchange_of, key_of, step_came, step_traced}
 use Rattle.laws.proofs.Leaving.{OfLeft}
-use Rattle.laws.proofs.Counts.{all_each, all_in, in-append, count-cons, count-cons_yes, count_none}
+use Rattle.laws.proofs.Letters.{letters_once}
+use Rattle.laws.proofs.Counts.{all_each, all_in, in-append, count-cons, count-cons_yes}
 use Rattle.laws.proofs.View.{Publishes, Seen, CountsNone, seen_at, quiet_notes}
 use Rattle.laws.proofs.Balance.{number, confirm, first_note, entry_part, answer_part, noted, others_all, run_stays, counted_at, stands_counted}
 use Rattle.laws.proofs.Once.{is_of_publish, AreOfOthers, Placed, places, key_is_short, run_of_others, run_entered_once}
@@ -234,16 +235,22 @@ run_origins (h ∷ hs) old new (e, s, r) = (step_origins h (seen_at h s), run_or
 -- ---- dead letters
 
 -- what a publish enters is no dead letter
-step_letters : (h : Happening) → IsSound h.config → Seen h.config.topology h.before.broker h.after.broker h.event h.sends h.notes → DieOnce h
-step_letters h sound (inl q) n r = q.letters sound.wf.queues_apart n r
-step_letters h sound (inr p) n r =
-    let none = ap (count_by (is_dead_into n r)) (noted p) ∙ count_none (is_dead_into n r) (first_note p ∷ _) (refl, others_all p _ (λ s. refl) (λ s i. refl) refl (λ a. refl)) in
-    omega (arith, none)
+step_letters : (h : Happening) → IsSound h.config → Seen h.config.topology h.before.broker h.after.broker h.event h.sends h.notes → DieAsRouted h
+step_letters h sound (inl q) = q.rejections sound.wf.queues_apart
+step_letters h sound (inr p) = inr (subst (AllByRecursion IsOfNoRejection) (sym (noted p)) (tt, others_all p IsOfNoRejection (λ s. tt) (λ s i. tt) tt (λ a. tt)))
 
--- In every run no message that was rejected came to a queue as two dead letters.
-pub run_letters : (hs : List Happening) (old new : State) → AreSound hs → Run old hs new → AllByRecursion DieOnce hs
+-- In every run each message that was rejected came, as its dead letter, to each queue to which it goes on, or that was full.
+pub run_letters : (hs : List Happening) (old new : State) → AreSound hs → Run old hs new → AllByRecursion DieAsRouted hs
 run_letters [] old new sound r = tt
 run_letters (h ∷ hs) old new sound (e, s, r) = (step_letters h sound.0 (seen_at h s), run_letters hs h.after new sound.1 r)
+
+-- And so none came to a queue as two dead letters.
+pub letters_come_once : (hs : List Happening) → AreSound hs → AllByRecursion DieAsRouted hs → AllByRecursion DieOnce hs
+letters_come_once [] sound each = tt
+letters_come_once (h ∷ hs) sound each = (letters_once h.config.topology h.before.broker.queue h.notes sound.0.wf.queues_apart each.0, letters_come_once hs sound.1 each.1)
+
+pub run_letters_once : (hs : List Happening) (old new : State) → AreSound hs → Run old hs new → AllByRecursion DieOnce hs
+run_letters_once hs old new sound r = letters_come_once hs sound (run_letters hs old new sound r)
 
 -- ---- all of it
 
@@ -260,5 +267,6 @@ run_keeps f hs old new sound under said begun r = record {
   stays = run_stays hs old new r;
   causes = run_causes hs old new r;
   come = run_origins hs old new r;
-  once = run_letters hs old new (sound_each f hs sound under) r;
+  letters = run_letters hs old new (sound_each f hs sound under) r;
+  once = run_letters_once hs old new (sound_each f hs sound under) r;
 }

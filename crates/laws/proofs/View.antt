@@ -15,7 +15,7 @@ use Rattle.model.specs.Opening.{IsAnswered, MovesInOpening, new_session, first_m
 use Rattle.model.specs.State.{Config, State, Moves, OfFirst, OfCommand, OfLarge, OfFault, Step}
 use Rattle.model.specs.declared.messages.User.{User}
 use Rattle.model.specs.Run.{Happening, Balances, has_number, is_entered, is_left}
-use Rattle.model.specs.Headline.{WasGiven, IsCauseIn, IsCauseAt, is_dead_into, is_rejected}
+use Rattle.model.specs.Headline.{WasGiven, IsCauseIn, IsCauseAt, AreRejections, IsOfNoRejection}
 use Rattle.model.specs.Settling.{takes}
 use Rattle.model.specs.Deliveries.{Settlement, Leaves, Rejects, Returns, of_rejected, AreSettled, first_ready, ready_in, holder_of, after_delivery, delivery_notes, after_purge, purge_notes}
 use Rattle.model.specs.Consuming.{CanDeliver}
@@ -47,9 +47,9 @@ use Rattle.model.specs.Arrivals.{is_ended}
 use Rattle.laws.proofs.Counts.{count-map, count_none, all_each, all-append}
 use Rattle.laws.specs.Openings.{is_header, is_first}
 use Rattle.laws.proofs.Speaking.{IsCommandSend, AreCommandSends, Spoken, spoken_commands, spoken_on, spoken_still}
-use Rattle.laws.proofs.Letters.{no_letters, letters_once}
+use Rattle.laws.proofs.Letters.{no_rejections, are_rejections}
 use Rattle.laws.proofs.Dying.{HasDied, IsQuiet, leaving_quiet, leaving_enters, rejected_quiet, rejected_balances, rejected_causes}
-use Rattle.laws.proofs.Leaving.{is_leaving, OfLeft, at_queue, count_change, freed_number, taken_balances, left_balances, are_leaving, left_causes, returned_counts, settled_are, purge_balances, purge_leaving, purge_causes}
+use Rattle.laws.proofs.Leaving.{is_plain, is_leaving, OfLeft, at_queue, count_change, freed_number, taken_balances, left_balances, are_leaving, left_causes, returned_counts, settled_are, purge_balances, purge_leaving, purge_causes}
 
 -- ---- what is sent
 
@@ -134,7 +134,7 @@ pub record CountsNone (t : Topology) (old new : Broker) (e : Event) (sends : Lis
   pub noted : AllByRecursion (IsQuiet t old.queue notes) notes
   pub balances : Balances old notes new
   pub caused : AllByRecursion (OfLeft (IsCauseAt old e)) notes
-  pub letters : AreApart (queue_names t.queues) → (n : ℕ) (q : Text) → count_by (is_dead_into n q) notes ≤ count_by (is_rejected n) notes
+  pub rejections : AreApart (queue_names t.queues) → AreRejections t old.queue [] notes ⊎ AllByRecursion IsOfNoRejection notes
   pub few : IsAnswerAtMost sends
 
 -- of what is true of each note of a leaving, of a refusal, and of a dead letter's entering, each of these notes is
@@ -233,6 +233,11 @@ IsBy (Leaves why) cause = cause ≡ why
 IsBy Rejects cause = cause ≡ Rejected
 IsBy Returns cause = ⊥
 
+-- what leaves for a cause leaves for another than a rejection
+abbrev IsPlain : Settlement → Type 0
+IsPlain (Leaves why) = is_plain why ≡ true
+IsPlain how = Unit {0}
+
 -- all connections stay
 stay : (old : Broker) (c : ℕ) → IsAlone old c (old.connection c) old
 stay old c d = sym (with_same old.connection c (old.connection c) refl d)
@@ -248,7 +253,7 @@ noting t old new made e c after sends wanted notes left d few alone same leaving
     noted = all_each _ _ (leaving_quiet t old.queue notes) notes all_leaving;
     balances = leaving_balances old new notes all_leaving (λ n q. kept n q ∙ sym (ap (λ (ns : List Note). count_by (is_left n q) ns + count_by (has_number n) (new.queue q)) d.noted ∙ ap (λ (es : List Entry). count_by (is_left n q) left + count_by (has_number n) es) (d.left.queues q)));
     caused = subst (AllByRecursion (OfLeft (IsCauseAt old e))) (sym d.noted) caused;
-    letters = λ apart n q. let none = no_letters n q notes all_leaving in omega (arith, none);
+    rejections = λ apart. inr (no_rejections notes all_leaving);
     few = reply_answers sends (subst IsReplyAtMost (sym d.sent) few);
   };
   few = subst IsReplyAtMost (sym d.sent) few;
@@ -333,40 +338,40 @@ module _ (t : Topology) (old new : Broker) (sends : List Send) (notes : List Not
   -- ---- what a tag settles
 
   -- what is outstanding there, where the channel is open or a new one stands for it
-  settles : (how : Settlement) (e : Event) (c h : ℕ) (ch : Channel) (tag : ℕ) (multiple : Bool) (wanted : List Send) → Settles t how old c h ch tag multiple wanted sends notes new → IsReplyAtMost wanted → is_running (after_sends wanted) ≡ true
+  settles : (how : Settlement) → IsPlain how → (e : Event) (c h : ℕ) (ch : Channel) (tag : ℕ) (multiple : Bool) (wanted : List Send) → Settles t how old c h ch tag multiple wanted sends notes new → IsReplyAtMost wanted → is_running (after_sends wanted) ≡ true
       → ((cause : Cause) → IsBy how cause → (o : Outstanding) (entry : Entry) → IsIn o ch.outstanding → takes tag_of tag multiple o ≡ true → IsIn entry (old.queue o.queue) → is_held_as (holder_of c h o) entry ≡ true → IsCauseAt old e entry.message.number o.queue cause)
       → Quiet t old new e c (kept_after old c) sends notes
-  settles how e c h ch tag multiple wanted p few runs cause = record {
+  settles how plain e c h ch tag multiple wanted p few runs cause = record {
     adds = record {
       same = p.counted;
-      noted = quiet_ones how p.queues;
-      balances = balances how p.queues;
+      noted = quiet_ones how plain p.queues;
+      balances = balances how plain p.queues;
       caused = caused how (λ why is. is) p.queues;
-      letters = λ apart. letters how apart p.queues;
+      rejections = λ apart. rejections how plain apart p.queues;
       few = reply_answers sends (subst IsReplyAtMost (sym p.sent) few);
     };
     few = subst IsReplyAtMost (sym p.sent) few;
     connections = λ d. p.connections d ∙ sym (with_same old.connection c _ (ap (λ (s : List Send). cond (is_running (after_sends s)) (old.connection c) None) p.sent ∙ ap (λ (b : Bool). cond b (old.connection c) None) runs) d);
   }
     where
-      quiet_ones : (s : Settlement) → AreSettled t s c h p.gone old.queue notes new.queue → AllByRecursion (IsQuiet t old.queue notes) notes
-      quiet_ones (Leaves why) a = all_each _ _ (leaving_quiet t old.queue notes) notes (are_leaving why c h p.gone old.queue notes new.queue a)
-      quiet_ones Rejects a = rejected_quiet t c h old.queue notes p.gone old.queue notes new.queue (λ q x i idle. i) (λ note i. i) a
-      quiet_ones Returns a = subst (AllByRecursion (IsQuiet t old.queue notes)) (sym a.0) tt
+      quiet_ones : (s : Settlement) → IsPlain s → AreSettled t s c h p.gone old.queue notes new.queue → AllByRecursion (IsQuiet t old.queue notes) notes
+      quiet_ones (Leaves why) plain a = all_each _ _ (leaving_quiet t old.queue notes) notes (are_leaving why plain c h p.gone old.queue notes new.queue a)
+      quiet_ones Rejects plain a = rejected_quiet t c h old.queue notes p.gone old.queue notes new.queue (λ q x i idle. i) (λ note i. i) a
+      quiet_ones Returns plain a = subst (AllByRecursion (IsQuiet t old.queue notes)) (sym a.0) tt
 
-      balances : (s : Settlement) → AreSettled t s c h p.gone old.queue notes new.queue → Balances old notes new
-      balances (Leaves why) a n q = leaving_balances old new notes (are_leaving why c h p.gone old.queue notes new.queue a) (left_balances why c h p.gone old.queue notes new.queue a) n q
-      balances Rejects a n q = rejected_balances t c h p.gone old.queue notes new.queue a n q
-      balances Returns a n q =
+      balances : (s : Settlement) → IsPlain s → AreSettled t s c h p.gone old.queue notes new.queue → Balances old notes new
+      balances (Leaves why) plain a n q = leaving_balances old new notes (are_leaving why plain c h p.gone old.queue notes new.queue a) (left_balances why c h p.gone old.queue notes new.queue a) n q
+      balances Rejects plain a n q = rejected_balances t c h p.gone old.queue notes new.queue a n q
+      balances Returns plain a n q =
           let left : count_by (is_left n q) notes ≡ 0 = ap (count_by (is_left n q)) a.0 in
           let entered : count_by (is_entered n q) notes ≡ 0 = ap (count_by (is_entered n q)) a.0 in
           let same = returned_counts c h p.gone old.queue new.queue a.1 n q in
           omega (arith, left, entered, same)
 
-      letters : (s : Settlement) → AreApart (queue_names t.queues) → AreSettled t s c h p.gone old.queue notes new.queue → (n : ℕ) (q : Text) → count_by (is_dead_into n q) notes ≤ count_by (is_rejected n) notes
-      letters (Leaves why) apart a n q = let none = no_letters n q notes (are_leaving why c h p.gone old.queue notes new.queue a) in omega (arith, none)
-      letters Rejects apart a n q = letters_once t c h p.gone old.queue notes new.queue apart a n q
-      letters Returns apart a n q = let none : count_by (is_dead_into n q) notes ≡ 0 = ap (count_by (is_dead_into n q)) a.0 in omega (arith, none)
+      rejections : (s : Settlement) → IsPlain s → AreApart (queue_names t.queues) → AreSettled t s c h p.gone old.queue notes new.queue → AreRejections t old.queue [] notes ⊎ AllByRecursion IsOfNoRejection notes
+      rejections (Leaves why) plain apart a = inr (no_rejections notes (are_leaving why plain c h p.gone old.queue notes new.queue a))
+      rejections Rejects plain apart a = inl (are_rejections t apart c h p.gone old.queue notes new.queue a)
+      rejections Returns plain apart a = inr (subst (AllByRecursion IsOfNoRejection) (sym a.0) tt)
 
       each : (why : Cause) → IsBy how why → (o : Outstanding) (entry : Entry) → IsIn o p.gone → IsIn entry (old.queue o.queue) → is_held_as (holder_of c h o) entry ≡ true → IsCauseAt old e entry.message.number o.queue why
       each why is o entry i there held = let at = settled_are tag_of tag multiple ch.outstanding p.gone p.settled_are o i in cause why is o entry at.0 at.1 there held
@@ -389,10 +394,14 @@ module _ (t : Topology) (old new : Broker) (sends : List Send) (notes : List Not
   rejected_is true cause e = absurd e
   rejected_is false cause e = (refl, e)
 
+  plain_if : (requeue : Bool) → IsPlain (of_rejected requeue)
+  plain_if true = tt
+  plain_if false = tt
+
   rejects : (c h tag : ℕ) (multiple requeue : Bool) (m : Method) (content : Option Content)
       → ((n : ℕ) (q : Text) → requeue ≡ false → WasGiven old c h tag multiple n q → IsCauseIn old c h m n q Rejected)
       → Settles t (of_rejected requeue) old c h (channel_or_new (old.channel c h)) tag multiple [] sends notes new → Quiet t old new (Command c h m content) c (kept_after old c) sends notes
-  rejects c h tag multiple requeue m content by p = settles (of_rejected requeue) (Command c h m content) c h (channel_or_new (old.channel c h)) tag multiple [] p tt refl cause
+  rejects c h tag multiple requeue m content by p = settles (of_rejected requeue) (plain_if requeue) (Command c h m content) c h (channel_or_new (old.channel c h)) tag multiple [] p tt refl cause
     where
       cause : (why : Cause) → IsBy (of_rejected requeue) why → (o : Outstanding) (entry : Entry) → IsIn o (channel_or_new (old.channel c h)).outstanding → takes tag_of tag multiple o ≡ true → IsIn entry (old.queue o.queue) → is_held_as (holder_of c h o) entry ≡ true → IsCauseIn old c h m entry.message.number o.queue why
       cause why is o entry i taken there held =
@@ -401,14 +410,14 @@ module _ (t : Topology) (old new : Broker) (sends : List Send) (notes : List Not
 
   acknowledges : (c h : ℕ) (m : Ack) (content : Option Content)
       → Settles t (Leaves Acked) old c h (channel_or_new (old.channel c h)) m.delivery_tag m.multiple [] sends notes new → Quiet t old new (Command c h (BasicAck m) content) c (kept_after old c) sends notes
-  acknowledges c h m content p = settles (Leaves Acked) (Command c h (BasicAck m) content) c h (channel_or_new (old.channel c h)) m.delivery_tag m.multiple [] p tt refl cause
+  acknowledges c h m content p = settles (Leaves Acked) refl (Command c h (BasicAck m) content) c h (channel_or_new (old.channel c h)) m.delivery_tag m.multiple [] p tt refl cause
     where
       cause : (why : Cause) → IsBy (Leaves Acked) why → (o : Outstanding) (entry : Entry) → IsIn o (channel_or_new (old.channel c h)).outstanding → takes tag_of m.delivery_tag m.multiple o ≡ true → IsIn entry (old.queue o.queue) → is_held_as (holder_of c h o) entry ≡ true → IsCauseIn old c h (BasicAck m) entry.message.number o.queue why
       cause why is o entry i taken there held = subst (λ (z : Cause). IsCauseIn old c h (BasicAck m) entry.message.number o.queue z) (sym is) (was_given c h m.delivery_tag m.multiple o entry i taken there held)
 
   recovers : (c h : ℕ) (requeue : Bool) (content : Option Content)
       → Settles t Returns old c h (channel_or_new (old.channel c h)) 0 true (reply c h BasicRecoverOk ∷ []) sends notes new → Quiet t old new (Command c h (BasicRecover requeue) content) c (kept_after old c) sends notes
-  recovers c h requeue content p = settles Returns (Command c h (BasicRecover requeue) content) c h (channel_or_new (old.channel c h)) 0 true _ p (refl, refl) refl (λ why is. absurd is)
+  recovers c h requeue content p = settles Returns tt (Command c h (BasicRecover requeue) content) c h (channel_or_new (old.channel c h)) 0 true _ p (refl, refl) refl (λ why is. absurd is)
 
   -- ---- a declare
 
@@ -697,7 +706,7 @@ module _ (f : Config) (old new : State) (sends : List Send) (notes : List Note) 
         let same : count_by (has_number n) (new.broker.queue q) ≡ count_by (has_number n) (old.broker.queue q) = ap (count_by (has_number n)) (a.moves.broker.queues q) ∙ moved n q (is_running a.move.next.phase) in
         omega (arith, left, entered, same);
     caused = subst (AllByRecursion (OfLeft (IsCauseAt old.broker e))) (sym a.moves.noted) tt;
-    letters = λ apart n q. let none : count_by (is_dead_into n q) notes ≡ 0 = ap (count_by (is_dead_into n q)) a.moves.noted in omega (arith, none);
+    rejections = λ apart. inr (subst (AllByRecursion IsOfNoRejection) (sym a.moves.noted) tt);
     few = subst IsAnswerAtMost (sym a.moves.sent) a.few;
   }
     where

@@ -8,6 +8,7 @@ use Rattle.model.specs.Broker.{Outstanding}
 use Rattle.model.specs.Headers.{no_properties, header_bytes}
 use Rattle.model.specs.Deaths.{first_death, AreMarked}
 use Rattle.model.specs.Deliveries.{AreRejected, holder_of}
+use Rattle.model.specs.Headline.{AreRejections}
 use Rattle.model.specs.declared.contents.Content.{Content}
 use Rattle.model.specs.declared.messages.Entry.{Entry}
 use Rattle.model.specs.declared.messages.Mark.TheVariants.{Ready, Held}
@@ -123,8 +124,18 @@ pub record WorkedDeaths : Type 0 where
 abbrev pub never_to : Text → Text → Guarantee
 never_to exchange queue = record { mode = Never; exchange = exchange; pattern = codes "#"; queue = queue }
 
+-- the first publish, held in q1
+abbrev pub while_in_q1 : Text → List Entry
+while_in_q1 = while_held (codes "q1") (first_publish (codes "Y") (codes "Y") (codes "a") None)
+
 -- What they refuse: a dead letter that is lost, a second death that is told of, and guarantees that forget deaths.
 pub record DeathsRefuse : Type 0 where
+  -- notes of a rejection tell of its dead letter, and of each queue once
+  pub letter_not_noted : AreRejections deaths while_in_q1 [] (Left 1 (codes "q1") Rejected ∷ []) → ⊥
+  pub letter_noted_twice : AreRejections deaths while_in_q1 [] (Left 1 (codes "q1") Rejected ∷ Entered 1 (codes "billing") Dead ∷ Entered 1 (codes "billing") Dead ∷ []) → ⊥
+  -- no queue refuses it that is not full, and it enters no other
+  pub refused_by_none : AreRejections deaths while_in_q1 [] (Left 1 (codes "q1") Rejected ∷ Refused 1 (codes "billing") ∷ []) → ⊥
+  pub entered_another : AreRejections deaths while_in_q1 [] (Left 1 (codes "q1") Rejected ∷ Entered 1 (codes "q3") Dead ∷ []) → ⊥
   -- a dead letter is not lost where a queue takes it
   pub lost : (after : Text → List Entry) → AreRejected deaths 1 1 (got_from (codes "q1") ∷ []) (while_held (codes "q1") (first_publish (codes "Y") (codes "Y") (codes "a") None)) (Left 1 (codes "q1") Rejected ∷ []) after → ⊥
   -- a second death is not told of

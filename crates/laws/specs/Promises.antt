@@ -8,7 +8,7 @@ use Rattle.model.specs.Tracing.{AreTraced}
 use Rattle.model.specs.Run.{Happening, Run, AreCounted, notes_of, sends_of}
 use Rattle.model.specs.Spelling.{sends_to}
 use Rattle.model.specs.Arrivals.{IsSaid}
-use Rattle.model.specs.Headline.{Ack, IsSound, EnteredOnce, acked, ack_for, AreAllowed, AreAllowedIn, HaveCauses, HaveOrigins, DieOnce, KeepsEvents}
+use Rattle.model.specs.Headline.{Ack, IsSound, EnteredOnce, acked, ack_for, AreAllowed, AreAllowedIn, HaveCauses, HaveOrigins, DieAsRouted, DieOnce, KeepsEvents}
 use Rattle.model.specs.declared.events.Send.{Send}
 use Rattle.model.specs.declared.events.Send.TheVariants as send
 use Rattle.model.specs.declared.methods.Method.{Method}
@@ -71,7 +71,11 @@ CausesAreShown = (hs : List Happening) (old new : State) → Run old hs new → 
 abbrev pub OriginsAreShown : Type 0
 OriginsAreShown = (hs : List Happening) (old new : State) → Run old hs new → AllByRecursion HaveOrigins hs
 
--- Where a topology and its guarantees are sound, of the messages of a number no more dead letters entered a queue at an event than were rejected at it.
+-- Where a topology and its guarantees are sound, each message that was rejected came, as its dead letter, to each queue to which it goes on, or that queue was full; and no other dead letter came.
+abbrev pub LettersComeAsRouted : Type 0
+LettersComeAsRouted = (hs : List Happening) (old new : State) → AreSound hs → Run old hs new → AllByRecursion DieAsRouted hs
+
+-- So of the messages of a number no more dead letters entered a queue at an event than were rejected at it.
 abbrev pub LettersComeOnce : Type 0
 LettersComeOnce = (hs : List Happening) (old new : State) → AreSound hs → Run old hs new → AllByRecursion DieOnce hs
 

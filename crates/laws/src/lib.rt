@@ -16,7 +16,7 @@ ghost use Rattle.laws.specs.OneStep.{EveryRunBalances, EveryRunCounts, EveryRunS
 ghost use Rattle.laws.specs.Forms.{BodiesAreCut, FirstTells, MessagesCome};
 ghost use Rattle.laws.specs.Openings.{OpeningsReadByPhase};
 ghost use Rattle.laws.specs.Order.{GivenAfterThoseAhead, GivenInOrder, HeldAreGiven};
-ghost use Rattle.laws.specs.Promises.{AckedEnterOnce, AcksAreAcked, CausesAreShown, ForbiddenAreNotEntered, ForbiddenAreNotEnteredAtEvents, LettersComeOnce, OriginsAreShown, RunsKeepEvents};
+ghost use Rattle.laws.specs.Promises.{AckedEnterOnce, AcksAreAcked, CausesAreShown, ForbiddenAreNotEntered, ForbiddenAreNotEnteredAtEvents, LettersComeAsRouted, LettersComeOnce, OriginsAreShown, RunsKeepEvents};
 ghost use Rattle.laws.specs.Rows.{WordsOfKeys, FirstInput, FirstOutput, BadEnd, TooLargeContent, HeadlineRefuses, FirstConsumer, RefusedConsumes};
 ghost use Rattle.laws.specs.Tracing.{MessagesStayTraced, TracedAreSafe};
 ghost use Rattle.laws.specs.Streams.{CuttingDoesNotMatter, FaultsStay, GoingOnStays, FirstBytesComeFirst, TuningDoesNotMatter};
@@ -80,7 +80,13 @@ pub fn what_enters_has_an_origin()
     ensures { OriginsAreShown }
 {}
 
-/// In every run no message that was rejected came to a queue as two dead letters.
+/// In every run each message that was rejected came, as its dead letter, to each queue to which it goes on from there, or that queue was
+/// full; and no other dead letter came.
+pub fn rejected_messages_go_on()
+    ensures { LettersComeAsRouted }
+{}
+
+/// So of the messages of a number no more dead letters came to a queue than were rejected.
 pub fn a_rejection_makes_one_letter()
     ensures { LettersComeOnce }
 {}
