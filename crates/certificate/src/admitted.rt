@@ -58,30 +58,7 @@ pub fn admit(
     }
 }
 
-/// The same guarantees.
-fn copy_guarantees(alloc: Global, guarantees: &[Guarantee]) -> Result<Vec<Guarantee>, AllocError>
-    ensures { IfOk result (λ made. made.items ≡ guarantees.now) }
-{
-    let mut made = Vec::new(alloc);
-    for guarantee in guarantees {
-        made.push(guarantee.clone()?)?;
-    }
-    Ok(made)
-}
-
 impl Checked {
-    /// The same topology and guarantees, which hold as they did.
-    pub fn clone(&self, alloc: Global) -> Result<Checked, AllocError>
-        ensures { IfOk result (λ c. c ≡ self.now) }
-    {
-        let topology = self.topology.clone(alloc)?;
-        let same = copy_guarantees(alloc, self.guarantees.as_slice())?;
-        Ok(Checked {
-            topology,
-            guarantees: same,
-        })
-    }
-
     /// What every `Checked` keeps.
     pub fn holds(&self)
         ensures guarantees { AllHold self.now.topology self.now.guarantees }

@@ -22,14 +22,6 @@ fn answer_of_admitted(out: &mut LineAnswer, admitted: &Checked, words: &[&str]) 
     }
 }
 
-/// Answers about a clone of what was admitted.
-fn answer_of_clone(out: &mut LineAnswer, checked: &Checked, words: &[&str]) {
-    match checked.clone(out.alloc()) {
-        Ok(same) => answer_of_admitted(out, &same, words),
-        Err(_) => out.fail(Unanswered::Memory),
-    }
-}
-
 /// Appends the place of the first guarantee that is not admitted, behind its fault.
 fn put_not_admitted(out: &mut LineAnswer, place: usize, fault: &CertFault) {
     put_fault(out, fault);
@@ -46,7 +38,7 @@ fn answer_of_guarantees(
     words: &[&str],
 ) {
     match admit(out.alloc(), topology, stated, certificates) {
-        Ok(checked) => answer_of_clone(out, &checked, words),
+        Ok(checked) => answer_of_admitted(out, &checked, words),
         Err((place, fault)) => put_not_admitted(out, place, &fault),
     }
 }

@@ -2,7 +2,7 @@
 //!
 //! | kinds | asked of |
 //! |---|---|
-//! | `admit`, `admitted` | `certificate`: what is admitted of a file of guarantees by one of certificates, and where a clone of it leads a key |
+//! | `admit`, `admitted` | `certificate`: what is admitted of a file of guarantees by one of certificates, and where it leads a key |
 //! | `check` | `certificate_check`: whether the certificate of a file is accepted, or its fault |
 //! | `search`, `certificate` | `guarantee_search`: the verdict, which a check or `disprove` then takes; the file of the certificate that was found |
 //! | `disprove` | `certificate`: whether a key, with a path, breaks a guarantee |

@@ -1,7 +1,6 @@
 //! Routing: exchanges, queues and bindings, and the queues that a key leads to.
 #![tactic(auto)]
 
-mod copies;
 mod edges;
 mod ends;
 mod fans;

@@ -20,7 +20,6 @@ ghost use Rattle.topology_drafts.specs.Causes.{Builds, IsBuildable};
 ghost use Rattle.exchange_graph.specs.Fans.{AreSteps};
 ghost use Rattle.exchange_graph.specs.Marks.{exchange_name, queue_name};
 
-use crate::copies::{copy_bindings, copy_exchanges, copy_queues};
 use crate::ends::End;
 use crate::fans::{Fan, all_fans};
 use crate::marks::set_places;
@@ -128,16 +127,6 @@ impl Topology {
             exchange_names,
             queue_names,
         })
-    }
-
-    /// The same topology, sharing the bytes of its names and keys.
-    pub fn clone(&self, alloc: Global) -> Result<Topology, AllocError>
-        ensures { IfOk result (λ t. t ≡ self.now) }
-    {
-        let exchanges = copy_exchanges(alloc, self.exchanges.as_slice())?;
-        let queues = copy_queues(alloc, self.queues.as_slice())?;
-        let bindings = copy_bindings(alloc, self.bindings.as_slice())?;
-        Topology::built(alloc, exchanges, queues, bindings)
     }
 
     /// What every topology keeps.

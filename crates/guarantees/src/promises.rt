@@ -76,16 +76,4 @@ impl Guarantee {
         let yes = covers_key(alloc, self.pattern.as_bytes(), key)?;
         Ok(yes)
     }
-
-    /// The same guarantee.
-    pub fn clone(&self) -> Result<Guarantee, AllocError>
-        ensures { IfOk result (λ g. g ≡ self.now) }
-    {
-        Ok(Guarantee {
-            mode: self.mode,
-            exchange: self.exchange.clone()?,
-            pattern: self.pattern.clone()?,
-            queue: self.queue.clone()?,
-        })
-    }
 }

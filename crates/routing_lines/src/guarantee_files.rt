@@ -39,19 +39,11 @@ fn put_covered(out: &mut LineAnswer, guarantee: &Guarantee, exchange: &str, key:
     }
 }
 
-/// Appends whether a clone of a guarantee, and so the guarantee, covers what is sent to an exchange under a key.
-fn put_covers(out: &mut LineAnswer, guarantee: &Guarantee, exchange: &str, key: &str) {
-    match guarantee.clone() {
-        Ok(same) => put_covered(out, &same, exchange, key),
-        Err(_) => out.fail(Unanswered::Memory),
-    }
-}
-
 /// Answers what is asked about a guarantee.
 fn answer_of_words(out: &mut LineAnswer, kind: &str, guarantee: &Guarantee, words: &[&str]) {
     match words {
         [] if kind == "guarantee" => put_parts(out, guarantee),
-        [exchange, key] if kind == "covers" => put_covers(out, guarantee, exchange, key),
+        [exchange, key] if kind == "covers" => put_covered(out, guarantee, exchange, key),
         _ => out.fail(Unanswered::Form),
     }
 }

@@ -5,7 +5,7 @@
 //! | `pattern`, `match`, `places`, `words` | `topic_match`: what is a pattern, and which keys it matches |
 //! | `definitions`, `definitions-hex` | `definitions`: whether a file is read, or why it is refused |
 //! | `counts`, `queue`, `exchange`, `user` | `definitions`: what a file sets up |
-//! | `route`, `visited` | `exchange_graph`: the queues to which a key leads, by a clone of the topology too; the exchanges that it passes |
+//! | `route`, `visited` | `exchange_graph`: the queues to which a key leads; the exchanges that it passes |
 //! | `guarantees`, `guarantees-hex`, `guarantee`, `covers` | `guarantees`: whether a file is read, or why it is refused; what a guarantee says and covers |
 #![tactic(auto)]
 

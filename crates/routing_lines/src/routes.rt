@@ -4,17 +4,6 @@ use exchange_graph::Topology;
 use line_words::{LineAnswer, Unanswered};
 use std::alloc::{AllocError, Global};
 
-/// The places to which a clone of the topology routes.
-fn route_of_clone(
-    alloc: Global,
-    topology: &Topology,
-    exchange: &str,
-    key: &str,
-) -> Result<Vec<usize>, AllocError> {
-    let same = topology.clone(alloc)?;
-    same.route(alloc, exchange.as_bytes(), key.as_bytes())
-}
-
 /// Appends the names of the queues at these places, or `none`.
 fn put_queues(out: &mut LineAnswer, topology: &Topology, places: &[usize]) {
     for place in places {
@@ -37,25 +26,10 @@ fn put_exchanges(out: &mut LineAnswer, topology: &Topology, places: &[usize]) {
     out.put_none_if_empty();
 }
 
-/// Appends the queues at these places, unless a clone of the topology leads the key elsewhere.
-fn put_same(
-    out: &mut LineAnswer,
-    topology: &Topology,
-    exchange: &str,
-    key: &str,
-    places: &[usize],
-) {
-    match route_of_clone(out.alloc(), topology, exchange, key) {
-        Ok(others) if others.as_slice() == places => put_queues(out, topology, places),
-        Ok(_) => out.put("elsewhere by a clone"),
-        Err(_) => out.fail(Unanswered::Memory),
-    }
-}
-
-/// Appends the queues to which a key leads, or `none`. A clone of the topology has to lead it there too.
+/// Appends the queues to which a key leads, or `none`.
 pub fn put_route(out: &mut LineAnswer, topology: &Topology, exchange: &str, key: &str) {
     match topology.route(out.alloc(), exchange.as_bytes(), key.as_bytes()) {
-        Ok(places) => put_same(out, topology, exchange, key, places.as_slice()),
+        Ok(places) => put_queues(out, topology, places.as_slice()),
         Err(_) => out.fail(Unanswered::Memory),
     }
 }
