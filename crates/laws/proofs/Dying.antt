@@ -12,7 +12,7 @@ use Rattle.model.specs.Message.{Message}
 use Rattle.model.specs.Broker.{Outstanding, is_ready, queue_named}
 use Rattle.model.specs.Entries.{is_held_as}
 use Rattle.model.specs.Entering.{entry_notes, comes_to}
-use Rattle.model.specs.Deaths.{IsDeath, DiesBy, DiesIn, MayDie, dead_letter, with_headers}
+use Rattle.model.specs.Deaths.{AreMarked, IsDeath, DiesBy, DiesIn, MayDie, dead_letter, with_headers}
 use Rattle.model.specs.Deliveries.{holder_of, given_in, without_given, left_note, AreRejected}
 use Rattle.model.specs.Run.{has_number, is_entered, is_left}
 use Rattle.model.specs.declared.topologies.DeclaredQueue.{DeclaredQueue}
@@ -114,6 +114,7 @@ pub record IsLetter (t : Topology) (old : Text → List Entry) (q : Text) (x : E
   pub dies : Dies t from exchange last
   pub routes : Routes t exchange (key_after last.dead_letter_key entry.message.key) q
   pub headers : Option Text
+  pub marked : AreMarked last.name entry.message.exchange entry.message.content.properties.headers headers
   pub is : x ≡ record { message = dead_letter entry.message exchange (key_after last.dead_letter_key entry.message.key) (with_headers entry.message.content headers); mark = Ready }
 
 abbrev pub Stood : Topology → (Text → List Entry) → Text → Entry → Type 0
@@ -137,7 +138,7 @@ module _ (t : Topology) (c h : ℕ) (old : Text → List Entry) (o : Outstanding
     | inl j ↦ inl (in_rest c h old o x q j)
     | inr j ↦
         let came = in_comes t gone _ q d.targets x j in
-        inr (record { from = o.queue; entry = e; there = (found_there e f).0; idle = idle_if_held (holder_of c h o) e (found_there e f).1; last = p; exchange = exchange; dies = dies; routes = picked q d.routed came.routed; headers = d.headers; is = came.is })
+        inr (record { from = o.queue; entry = e; there = (found_there e f).0; idle = idle_if_held (holder_of c h o) e (found_there e f).1; last = p; exchange = exchange; dies = dies; routes = picked q d.routed came.routed; headers = d.headers; marked = d.marked; is = came.is })
   ]
 
   letter_ready : (q : Text) (x : Entry) → IsLetter t old q x → is_ready x ≡ true
@@ -250,6 +251,7 @@ rejected_stood t c h (o ∷ os) old notes new (mid, one, rest, dies, all, more) 
         dies = l.dies;
         routes = l.routes;
         headers = l.headers;
+        marked = l.marked;
         is = l.is;
       })
     ]

@@ -35,6 +35,7 @@ pub mod Consistency
 pub mod Spoken
 pub mod Naming
 pub mod Openings
+pub mod Sources
 pub mod Whole
 pub mod Rows
 pub mod Disagreeing

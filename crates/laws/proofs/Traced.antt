@@ -39,13 +39,14 @@ use Rattle.laws.proofs.Counts.{in-append}
 
 -- ---- one message under another mark
 
--- two messages are of one publish, first sent and last sent to the same places
+-- two messages are of one publish, first sent and last sent to the same places, and have one content
 pub record AreSame (m o : Message) : Type 0 where
   pub number : m.number ≡ o.number
   pub first_exchange : m.first_exchange ≡ o.first_exchange
   pub first_key : m.first_key ≡ o.first_key
   pub exchange : m.exchange ≡ o.exchange
   pub key : m.key ≡ o.key
+  pub content : m.content ≡ o.content
 
 -- the entry is one of these, but for its mark and whether it was redelivered
 pub record IsOneOf (es : List Entry) (x : Entry) : Type 0 where
@@ -54,7 +55,7 @@ pub record IsOneOf (es : List Entry) (x : Entry) : Type 0 where
   pub same : AreSame x.message entry.message
 
 abbrev same_self : (m : Message) → AreSame m m
-same_self m = record { number = refl; first_exchange = refl; first_key = refl; exchange = refl; key = refl }
+same_self m = record { number = refl; first_exchange = refl; first_key = refl; exchange = refl; key = refl; content = refl }
 
 itself_one : (es : List Entry) (x : Entry) → IsIn x es → IsOneOf es x
 itself_one es x i = record { entry = x; there = i; same = same_self x.message }
@@ -70,7 +71,7 @@ freed_same mine e = go e.message e.mark
         made v = if v then record { message = record m { redelivered = true }; mark = Ready } else record { message = m; mark = Held g }
 
         by : (v : Bool) → AreSame (made v).message m
-        by true = record { number = refl; first_exchange = refl; first_key = refl; exchange = refl; key = refl }
+        by true = record { number = refl; first_exchange = refl; first_key = refl; exchange = refl; key = refl; content = refl }
         by false = same_self m
 
 in_freed : (mine : Holder → Bool) (es : List Entry) (x : Entry) → IsIn x (map (freed mine) es) → IsOneOf es x
@@ -102,6 +103,7 @@ one_of_one old mid x before r =
         first_key = r.same.first_key ∙ b.same.first_key;
         exchange = r.same.exchange ∙ b.same.exchange;
         key = r.same.key ∙ b.same.key;
+        content = r.same.content ∙ b.same.content;
       };
     }
 

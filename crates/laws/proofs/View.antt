@@ -1,6 +1,6 @@
 -- The ways in which a step can go. Here alone all cases of `Step` are walked over: a new command is a new line here.
 use Rattle.std.proofs.Common.{◌≡◌, ℕ, ◌+◌, ◌≤◌, append-nil, filter, arith, ◌⊎◌, List, [], ◌∷◌, ◌++◌, Bool, true, false, cond, refl, sym, ap, subst, ◌∙◌, map, Option, Some, None, inl, inr}
-use Rattle.std.specs.Prelude.{codes, count_by, ◌==◌, if◌then◌else◌}
+use Rattle.std.specs.Prelude.{codes, count_by, filter_map, ◌==◌, if◌then◌else◌}
 use Rattle.std.specs.Str.{bytes_eq}
 use Rattle.std.specs.List.{AllByRecursion}
 use Rattle.std.proofs.lemmas.Bool.{eqb-true, false≢true}
@@ -15,7 +15,7 @@ use Rattle.model.specs.Opening.{IsAnswered, MovesInOpening, new_session, first_m
 use Rattle.model.specs.State.{Config, State, Moves, OfFirst, OfCommand, OfLarge, OfFault, Step}
 use Rattle.model.specs.declared.messages.User.{User}
 use Rattle.model.specs.Run.{Happening, Balances, has_number, is_entered, is_left}
-use Rattle.model.specs.Headline.{WasGiven, IsCauseIn, IsCauseAt, AreRejections, IsOfNoRejection}
+use Rattle.model.specs.Headline.{WasGiven, IsCauseIn, IsCauseAt, AreRejections, IsOfNoRejection, content_in}
 use Rattle.model.specs.Settling.{takes}
 use Rattle.model.specs.Deliveries.{Settlement, Leaves, Rejects, Returns, of_rejected, AreSettled, first_ready, ready_in, holder_of, after_delivery, delivery_notes, after_purge, purge_notes}
 use Rattle.model.specs.Consuming.{CanDeliver}
@@ -128,6 +128,14 @@ with_same f n a e d = go (d == n) refl
 
 -- ---- the ways of the broker
 
+-- the content is that of the first message of one of these queues that could be given out
+abbrev pub IsOfFirst : (Text → List Entry) → Content → Type 0
+IsOfFirst queues content = (queue : Text) × (entry : Entry) × (first_ready (queues queue) ≡ Some entry) × (content ≡ entry.message.content)
+
+-- so is each content that is sent
+abbrev pub AreOfFirst : (Text → List Entry) → List Send → Type 0
+AreOfFirst queues sends = AllByRecursion (IsOfFirst queues) (filter_map content_in sends)
+
 -- no publish is counted, what is noted is that messages left their queues and that dead letters of what stood there came, each queue has what that leaves and adds, and one answer at most is sent
 pub record CountsNone (t : Topology) (old new : Broker) (e : Event) (sends : List Send) (notes : List Note) : Type 0 where
   pub same : new.published ≡ old.published
@@ -136,6 +144,7 @@ pub record CountsNone (t : Topology) (old new : Broker) (e : Event) (sends : Lis
   pub caused : AllByRecursion (OfLeft (IsCauseAt old e)) notes
   pub rejections : AreApart (queue_names t.queues) → AreRejections t old.queue [] notes ⊎ AllByRecursion IsOfNoRejection notes
   pub few : IsAnswerAtMost sends
+  pub contents : AreOfFirst old.queue sends
 
 -- of what is true of each note of a leaving, of a refusal, and of a dead letter's entering, each of these notes is
 pub quiet_notes : {t : Topology} {old new : Broker} {e : Event} {sends : List Send} {notes : List Note} (P : Note → Type 0) → ((n : ℕ) (q : Text) (cause : Cause) → P (Left n q cause)) → ((n : ℕ) (q : Text) → P (Refused n q))
@@ -244,10 +253,10 @@ stay old c d = sym (with_same old.connection c (old.connection c) refl d)
 
 -- one that notes that these messages left
 noting : (t : Topology) (old new made : Broker) (e : Event) (c : ℕ) (after : List Send → Option Connection) (sends wanted : List Send) (notes left : List Note)
-    → Makes sends notes new wanted left made → IsReplyAtMost wanted → IsAlone old c (after wanted) made → made.published ≡ old.published
+    → Makes sends notes new wanted left made → IsReplyAtMost wanted → AreOfFirst old.queue wanted → IsAlone old c (after wanted) made → made.published ≡ old.published
     → AllByRecursion (λ (note : Note). is_leaving note ≡ true) left → ((n : ℕ) (q : Text) → count_by (has_number n) (old.queue q) ≡ count_by (is_left n q) left + count_by (has_number n) (made.queue q))
     → AllByRecursion (OfLeft (IsCauseAt old e)) left → Quiet t old new e c after sends notes
-noting t old new made e c after sends wanted notes left d few alone same leaving kept caused = record {
+noting t old new made e c after sends wanted notes left d few contents alone same leaving kept caused = record {
   adds = record {
     same = d.left.counted ∙ same;
     noted = all_each _ _ (leaving_quiet t old.queue notes) notes all_leaving;
@@ -255,6 +264,7 @@ noting t old new made e c after sends wanted notes left d few alone same leaving
     caused = subst (AllByRecursion (OfLeft (IsCauseAt old e))) (sym d.noted) caused;
     rejections = λ apart. inr (no_rejections notes all_leaving);
     few = reply_answers sends (subst IsReplyAtMost (sym d.sent) few);
+    contents = subst (AreOfFirst old.queue) (sym d.sent) contents;
   };
   few = subst IsReplyAtMost (sym d.sent) few;
   connections = λ x. d.left.connections x ∙ subst (λ (s : List Send). made.connection x ≡ with_one old.connection c (after s) x) (sym d.sent) (alone x);
@@ -269,9 +279,9 @@ none_left n q x y e = let z : count_by (is_left n q) [] ≡ 0 = refl in omega (a
 
 -- one that notes nothing
 quiet : (t : Topology) (old new made : Broker) (e : Event) (c : ℕ) (after : List Send → Option Connection) (sends wanted : List Send) (notes : List Note)
-    → Does sends notes new wanted made → IsReplyAtMost wanted → Keeps old made → IsAlone old c (after wanted) made → Quiet t old new e c after sends notes
-quiet t old new made e c after sends wanted notes d few k alone =
-    noting t old new made e c after sends wanted notes [] (record { sent = d.sent; noted = d.noted; left = d.left }) few alone k.same tt (λ n q. none_left n q _ _ (sym (k.kept n q))) tt
+    → Does sends notes new wanted made → IsReplyAtMost wanted → AreOfFirst old.queue wanted → Keeps old made → IsAlone old c (after wanted) made → Quiet t old new e c after sends notes
+quiet t old new made e c after sends wanted notes d few contents k alone =
+    noting t old new made e c after sends wanted notes [] (record { sent = d.sent; noted = d.noted; left = d.left }) few contents alone k.same tt (λ n q. none_left n q _ _ (sym (k.kept n q))) tt
 
 -- a publish sends what leaves its connection running
 publish_runs : (c h : ℕ) (p : Publish) (content : Content) (b : Bool) (o : Option ℕ) (a : Answer) → is_running (after_sends (returned_sends c h p content b ++ confirm_sends c h o a)) ≡ true
@@ -291,12 +301,12 @@ publish_stays t old new c h ch p content sends notes is d =
 
 module _ (t : Topology) (old new : Broker) (sends : List Send) (notes : List Note) where
   -- an event of connection c that is no publish, and notes nothing
-  still : (e : Event) (c : ℕ) (wanted : List Send) (made : Broker) → Does sends notes new wanted made → IsReplyAtMost wanted → Keeps old made → IsAlone old c (kept_after old c wanted) made → Quiet t old new e c (kept_after old c) sends notes
+  still : (e : Event) (c : ℕ) (wanted : List Send) (made : Broker) → Does sends notes new wanted made → IsReplyAtMost wanted → AreOfFirst old.queue wanted → Keeps old made → IsAlone old c (kept_after old c wanted) made → Quiet t old new e c (kept_after old c) sends notes
   still e c wanted made = quiet t old new made e c (kept_after old c) sends wanted notes
 
   closes : (e : Event) (c h : ℕ) (v : Bool) → Does sends notes new (reply c h ChannelCloseOk ∷ []) (if v then old else with_freed (with_channel old c h None) (by_channel c h)) → Quiet t old new e c (kept_after old c) sends notes
-  closes e c h true p = still e c _ _ p (refl, refl) (record { same = refl; kept = λ n q. refl }) (stay old c)
-  closes e c h false p = still e c _ _ p (refl, refl) (record { same = refl; kept = freed_count old (by_channel c h) }) (stay old c)
+  closes e c h true p = still e c _ _ p (refl, refl) tt (record { same = refl; kept = λ n q. refl }) (stay old c)
+  closes e c h false p = still e c _ _ p (refl, refl) tt (record { same = refl; kept = freed_count old (by_channel c h) }) (stay old c)
 
   -- ---- a get
 
@@ -304,44 +314,44 @@ module _ (t : Topology) (old new : Broker) (sends : List Send) (notes : List Not
       → Makes sends notes new (get_ok c h ch.next_tag e (ready_in ((after_delivery old c h ch no_ack m.queue taker.Get).queue m.queue)) ∷ []) (delivery_notes no_ack e.message.number m.queue) (after_delivery old c h ch no_ack m.queue taker.Get)
       → Quiet t old new (Command c h (BasicGet m) content) c (kept_after old c) sends notes
   given c h ch m content e true is found p =
-      noting t old new _ _ c (kept_after old c) sends _ notes _ p (refl, refl) (stay old c) refl (refl, tt) (taken_balances is_ready old.queue m.queue Auto e found)
+      noting t old new _ _ c (kept_after old c) sends _ notes _ p (refl, refl) ((m.queue, e, found, refl), tt) (stay old c) refl (refl, tt) (taken_balances is_ready old.queue m.queue Auto e found)
       ((is, refl, record { entry = e; first = found; number = refl }), tt)
   given c h ch m content e false is found p =
-      noting t old new _ _ c (kept_after old c) sends _ notes _ p (refl, refl) (stay old c) refl tt
+      noting t old new _ _ c (kept_after old c) sends _ notes _ p (refl, refl) ((m.queue, e, found, refl), tt) (stay old c) refl tt
       (λ n q. none_left n q _ _ (sym (at_queue (λ (r : Text) (es : List Entry). count_by (has_number n) es ≡ count_by (has_number n) (old.queue r)) old.queue m.queue _ (count_change (has_number n) is_ready _ (λ x. refl) (old.queue m.queue)) (λ r other. refl) q))) tt
 
   gets : (c h : ℕ) (ch : Channel) (m : Get) (content : Option Content) (o : Option Entry) → first_ready (old.queue m.queue) ≡ o → Gets old c h ch m o sends notes new → Quiet t old new (Command c h (BasicGet m) content) c (kept_after old c) sends notes
-  gets c h ch m content None is p = noting t old new _ _ c (kept_after old c) sends _ notes [] p (refl, refl) (stay old c) refl tt (λ n q. none_left n q _ _ refl) tt
+  gets c h ch m content None is p = noting t old new _ _ c (kept_after old c) sends _ notes [] p (refl, refl) tt (stay old c) refl tt (λ n q. none_left n q _ _ refl) tt
   gets c h ch m content (Some e) is p = given c h ch m content e m.no_ack refl is p
 
   -- ---- consumers
 
   consumes : (e : Event) (c h : ℕ) (no_wait : Bool) (tag : Text) (ch : Channel) → Does sends notes new (consume_sends c h no_wait tag) (with_channel old c h (Some ch)) → Quiet t old new e c (kept_after old c) sends notes
-  consumes e c h true tag ch p = still e c _ _ p tt (record { same = refl; kept = λ n q. refl }) (stay old c)
-  consumes e c h false tag ch p = still e c _ _ p (refl, refl) (record { same = refl; kept = λ n q. refl }) (stay old c)
+  consumes e c h true tag ch p = still e c _ _ p tt tt (record { same = refl; kept = λ n q. refl }) (stay old c)
+  consumes e c h false tag ch p = still e c _ _ p (refl, refl) tt (record { same = refl; kept = λ n q. refl }) (stay old c)
 
   cancels : (e : Event) (c h : ℕ) (no_wait : Bool) (tag : Text) (ch : Channel) → Does sends notes new (cancel_sends c h no_wait tag) (with_channel old c h (Some ch)) → Quiet t old new e c (kept_after old c) sends notes
-  cancels e c h true tag ch p = still e c _ _ p tt (record { same = refl; kept = λ n q. refl }) (stay old c)
-  cancels e c h false tag ch p = still e c _ _ p (refl, refl) (record { same = refl; kept = λ n q. refl }) (stay old c)
+  cancels e c h true tag ch p = still e c _ _ p tt tt (record { same = refl; kept = λ n q. refl }) (stay old c)
+  cancels e c h false tag ch p = still e c _ _ p (refl, refl) tt (record { same = refl; kept = λ n q. refl }) (stay old c)
 
   -- a delivery takes its message out, or it is held
   delivers : (c : ℕ) (o : CanDeliver old c) (no_ack : Bool) → o.consumer.no_ack ≡ no_ack
       → Makes sends notes new (deliver c o.number o.channel.next_tag o.consumer.tag o.entry ∷ []) (delivery_notes no_ack o.entry.message.number o.consumer.queue) (after_delivery old c o.number o.channel no_ack o.consumer.queue (taker.Consumer o.consumer.number))
       → Quiet t old new (Deliver c) c (λ s. old.connection c) sends notes
   delivers c o true is p =
-      noting t old new _ _ c (λ s. old.connection c) sends _ notes _ p (refl, refl) (stay old c) refl (refl, tt) (taken_balances is_ready old.queue o.consumer.queue Auto o.entry o.first)
+      noting t old new _ _ c (λ s. old.connection c) sends _ notes _ p (refl, refl) ((o.consumer.queue, o.entry, o.first, refl), tt) (stay old c) refl (refl, tt) (taken_balances is_ready old.queue o.consumer.queue Auto o.entry o.first)
       (record { made = o; no_ack = is; queue = refl; number = refl }, tt)
   delivers c o false is p =
-      noting t old new _ _ c (λ s. old.connection c) sends _ notes _ p (refl, refl) (stay old c) refl tt
+      noting t old new _ _ c (λ s. old.connection c) sends _ notes _ p (refl, refl) ((o.consumer.queue, o.entry, o.first, refl), tt) (stay old c) refl tt
       (λ n q. none_left n q _ _ (sym (at_queue (λ (r : Text) (es : List Entry). count_by (has_number n) es ≡ count_by (has_number n) (old.queue r)) old.queue o.consumer.queue _ (count_change (has_number n) is_ready _ (λ x. refl) (old.queue o.consumer.queue)) (λ r other. refl) q))) tt
 
   -- ---- what a tag settles
 
   -- what is outstanding there, where the channel is open or a new one stands for it
-  settles : (how : Settlement) → IsPlain how → (e : Event) (c h : ℕ) (ch : Channel) (tag : ℕ) (multiple : Bool) (wanted : List Send) → Settles t how old c h ch tag multiple wanted sends notes new → IsReplyAtMost wanted → is_running (after_sends wanted) ≡ true
+  settles : (how : Settlement) → IsPlain how → (e : Event) (c h : ℕ) (ch : Channel) (tag : ℕ) (multiple : Bool) (wanted : List Send) → Settles t how old c h ch tag multiple wanted sends notes new → IsReplyAtMost wanted → AreOfFirst old.queue wanted → is_running (after_sends wanted) ≡ true
       → ((cause : Cause) → IsBy how cause → (o : Outstanding) (entry : Entry) → IsIn o ch.outstanding → takes tag_of tag multiple o ≡ true → IsIn entry (old.queue o.queue) → is_held_as (holder_of c h o) entry ≡ true → IsCauseAt old e entry.message.number o.queue cause)
       → Quiet t old new e c (kept_after old c) sends notes
-  settles how plain e c h ch tag multiple wanted p few runs cause = record {
+  settles how plain e c h ch tag multiple wanted p few contents runs cause = record {
     adds = record {
       same = p.counted;
       noted = quiet_ones how plain p.queues;
@@ -349,6 +359,7 @@ module _ (t : Topology) (old new : Broker) (sends : List Send) (notes : List Not
       caused = caused how (λ why is. is) p.queues;
       rejections = λ apart. rejections how plain apart p.queues;
       few = reply_answers sends (subst IsReplyAtMost (sym p.sent) few);
+      contents = subst (AreOfFirst old.queue) (sym p.sent) contents;
     };
     few = subst IsReplyAtMost (sym p.sent) few;
     connections = λ d. p.connections d ∙ sym (with_same old.connection c _ (ap (λ (s : List Send). cond (is_running (after_sends s)) (old.connection c) None) p.sent ∙ ap (λ (b : Bool). cond b (old.connection c) None) runs) d);
@@ -401,7 +412,7 @@ module _ (t : Topology) (old new : Broker) (sends : List Send) (notes : List Not
   rejects : (c h tag : ℕ) (multiple requeue : Bool) (m : Method) (content : Option Content)
       → ((n : ℕ) (q : Text) → requeue ≡ false → WasGiven old c h tag multiple n q → IsCauseIn old c h m n q Rejected)
       → Settles t (of_rejected requeue) old c h (channel_or_new (old.channel c h)) tag multiple [] sends notes new → Quiet t old new (Command c h m content) c (kept_after old c) sends notes
-  rejects c h tag multiple requeue m content by p = settles (of_rejected requeue) (plain_if requeue) (Command c h m content) c h (channel_or_new (old.channel c h)) tag multiple [] p tt refl cause
+  rejects c h tag multiple requeue m content by p = settles (of_rejected requeue) (plain_if requeue) (Command c h m content) c h (channel_or_new (old.channel c h)) tag multiple [] p tt tt refl cause
     where
       cause : (why : Cause) → IsBy (of_rejected requeue) why → (o : Outstanding) (entry : Entry) → IsIn o (channel_or_new (old.channel c h)).outstanding → takes tag_of tag multiple o ≡ true → IsIn entry (old.queue o.queue) → is_held_as (holder_of c h o) entry ≡ true → IsCauseIn old c h m entry.message.number o.queue why
       cause why is o entry i taken there held =
@@ -410,21 +421,21 @@ module _ (t : Topology) (old new : Broker) (sends : List Send) (notes : List Not
 
   acknowledges : (c h : ℕ) (m : Ack) (content : Option Content)
       → Settles t (Leaves Acked) old c h (channel_or_new (old.channel c h)) m.delivery_tag m.multiple [] sends notes new → Quiet t old new (Command c h (BasicAck m) content) c (kept_after old c) sends notes
-  acknowledges c h m content p = settles (Leaves Acked) refl (Command c h (BasicAck m) content) c h (channel_or_new (old.channel c h)) m.delivery_tag m.multiple [] p tt refl cause
+  acknowledges c h m content p = settles (Leaves Acked) refl (Command c h (BasicAck m) content) c h (channel_or_new (old.channel c h)) m.delivery_tag m.multiple [] p tt tt refl cause
     where
       cause : (why : Cause) → IsBy (Leaves Acked) why → (o : Outstanding) (entry : Entry) → IsIn o (channel_or_new (old.channel c h)).outstanding → takes tag_of m.delivery_tag m.multiple o ≡ true → IsIn entry (old.queue o.queue) → is_held_as (holder_of c h o) entry ≡ true → IsCauseIn old c h (BasicAck m) entry.message.number o.queue why
       cause why is o entry i taken there held = subst (λ (z : Cause). IsCauseIn old c h (BasicAck m) entry.message.number o.queue z) (sym is) (was_given c h m.delivery_tag m.multiple o entry i taken there held)
 
   recovers : (c h : ℕ) (requeue : Bool) (content : Option Content)
       → Settles t Returns old c h (channel_or_new (old.channel c h)) 0 true (reply c h BasicRecoverOk ∷ []) sends notes new → Quiet t old new (Command c h (BasicRecover requeue) content) c (kept_after old c) sends notes
-  recovers c h requeue content p = settles Returns tt (Command c h (BasicRecover requeue) content) c h (channel_or_new (old.channel c h)) 0 true _ p (refl, refl) refl (λ why is. absurd is)
+  recovers c h requeue content p = settles Returns tt (Command c h (BasicRecover requeue) content) c h (channel_or_new (old.channel c h)) 0 true _ p (refl, refl) tt refl (λ why is. absurd is)
 
   -- ---- a declare
 
   declared : (e : Event) (c h : ℕ) (answer : Method) (no_wait : Bool) → is_reply answer ≡ true → kept_after old c (reply c h answer ∷ []) ≡ old.connection c
       → Does sends notes new (declare_sends c h no_wait answer) old → Quiet t old new e c (kept_after old c) sends notes
-  declared e c h answer true is runs p = still e c _ _ p tt (record { same = refl; kept = λ n q. refl }) (stay old c)
-  declared e c h answer false is runs p = still e c _ _ p (is, refl) (record { same = refl; kept = λ n q. refl }) (λ d. sym (with_same old.connection c _ runs d))
+  declared e c h answer true is runs p = still e c _ _ p tt tt (record { same = refl; kept = λ n q. refl }) (stay old c)
+  declared e c h answer false is runs p = still e c _ _ p (is, refl) tt (record { same = refl; kept = λ n q. refl }) (λ d. sym (with_same old.connection c _ runs d))
 
   -- ---- a purge
 
@@ -432,20 +443,24 @@ module _ (t : Topology) (old new : Broker) (sends : List Send) (notes : List Not
       → Makes sends notes new (purge_sends c h no_wait (ready_in (old.queue m.queue))) (purge_notes m.queue (filter is_ready (old.queue m.queue))) (after_purge old m.queue)
       → Quiet t old new (Command c h (QueuePurge m) content) c (kept_after old c) sends notes
   purged c h m content no_wait p =
-      noting t old new _ _ c (kept_after old c) sends _ notes _ p (few no_wait) (alone no_wait) refl (purge_leaving m.queue _) (purge_balances old.queue m.queue)
+      noting t old new _ _ c (kept_after old c) sends _ notes _ p (few no_wait) (bare no_wait) (alone no_wait) refl (purge_leaving m.queue _) (purge_balances old.queue m.queue)
       (purge_causes (IsCauseAt old (Command c h (QueuePurge m) content)) m.queue (old.queue m.queue) _ (λ e i. i) (λ e i ready. (refl, record { entry = e; stands = i; ready = ready; number = refl })))
     where
       few : (b : Bool) → IsReplyAtMost (purge_sends c h b (ready_in (old.queue m.queue)))
       few true = tt
       few false = (refl, refl)
 
+      bare : (b : Bool) → AreOfFirst old.queue (purge_sends c h b (ready_in (old.queue m.queue)))
+      bare true = tt
+      bare false = tt
+
       alone : (b : Bool) → IsAlone old c (kept_after old c (purge_sends c h b (ready_in (old.queue m.queue)))) (after_purge old m.queue)
       alone true d = stay old c d
       alone false d = stay old c d
 
   performs : (c h : ℕ) (m : Method) (content : Option Content) (conn : Connection) → refusal t old conn h m (old.channel c h) ≡ None → Performs t old c h (channel_or_new (old.channel c h)) m content sends notes new → Acted t old new (Command c h m content) sends notes
-  performs c h (ConfirmSelect true) content conn accepted p = quiet_acts t old new _ sends notes (still _ c _ _ p tt (record { same = refl; kept = λ n q. refl }) (stay old c))
-  performs c h (ConfirmSelect false) content conn accepted p = quiet_acts t old new _ sends notes (still _ c _ _ p (refl, refl) (record { same = refl; kept = λ n q. refl }) (stay old c))
+  performs c h (ConfirmSelect true) content conn accepted p = quiet_acts t old new _ sends notes (still _ c _ _ p tt tt (record { same = refl; kept = λ n q. refl }) (stay old c))
+  performs c h (ConfirmSelect false) content conn accepted p = quiet_acts t old new _ sends notes (still _ c _ _ p (refl, refl) tt (record { same = refl; kept = λ n q. refl }) (stay old c))
   performs c h (BasicPublish publish) content conn accepted p =
       let is : Publishes t old new (Command c h (BasicPublish publish) content) sends notes =
       record { c = c; h = h; ch = channel_or_new (old.channel c h); publish = publish; given = content; event = refl; connection = conn; accepted = accepted; is = p } in
@@ -454,14 +469,14 @@ module _ (t : Topology) (old new : Broker) (sends : List Send) (notes : List Not
         connections = publish_stays t old new c h (channel_or_new (old.channel c h)) publish (content_or_none content) sends notes p;
         few = inr is;
       }
-  performs c h (ChannelOpen reserved) content conn accepted p = quiet_acts t old new _ sends notes (still _ c _ _ p (refl, refl) (record { same = refl; kept = λ n q. refl }) (stay old c))
-  performs c h (ChannelFlow active) content conn accepted p = quiet_acts t old new _ sends notes (still _ c _ _ p (refl, refl) (record { same = refl; kept = λ n q. refl }) (stay old c))
+  performs c h (ChannelOpen reserved) content conn accepted p = quiet_acts t old new _ sends notes (still _ c _ _ p (refl, refl) tt (record { same = refl; kept = λ n q. refl }) (stay old c))
+  performs c h (ChannelFlow active) content conn accepted p = quiet_acts t old new _ sends notes (still _ c _ _ p (refl, refl) tt (record { same = refl; kept = λ n q. refl }) (stay old c))
   performs c h (ChannelClose m) content conn accepted p = quiet_acts t old new _ sends notes (closes _ c h (channel_or_new (old.channel c h)).is_closing p)
-  performs c h ChannelCloseOk content conn accepted p = quiet_acts t old new _ sends notes (still _ c _ _ p tt (record { same = refl; kept = λ n q. refl }) (stay old c))
-  performs c h (ConnectionClose m) content conn accepted p = quiet_acts t old new _ sends notes (still _ c _ _ p (refl, refl) (record { same = refl; kept = freed_count old (by_connection c) }) (λ d. refl))
+  performs c h ChannelCloseOk content conn accepted p = quiet_acts t old new _ sends notes (still _ c _ _ p tt tt (record { same = refl; kept = λ n q. refl }) (stay old c))
+  performs c h (ConnectionClose m) content conn accepted p = quiet_acts t old new _ sends notes (still _ c _ _ p (refl, refl) tt (record { same = refl; kept = freed_count old (by_connection c) }) (λ d. refl))
   performs c h (ExchangeDeclare m) content conn accepted p = quiet_acts t old new _ sends notes (declared _ c h ExchangeDeclareOk m.no_wait refl refl p)
   performs c h (QueueDeclare m) content conn accepted p = quiet_acts t old new _ sends notes (declared _ c h _ m.no_wait refl refl p.does)
-  performs c h (BasicQos m) content conn accepted p = quiet_acts t old new _ sends notes (still _ c _ _ p (refl, refl) (record { same = refl; kept = λ n q. refl }) (stay old c))
+  performs c h (BasicQos m) content conn accepted p = quiet_acts t old new _ sends notes (still _ c _ _ p (refl, refl) tt (record { same = refl; kept = λ n q. refl }) (stay old c))
   performs c h (BasicConsume m) content conn accepted p = quiet_acts t old new _ sends notes (consumes _ c h m.no_wait _ _ p)
   performs c h (BasicCancel m) content conn accepted p = quiet_acts t old new _ sends notes (cancels _ c h m.no_wait _ _ p)
   performs c h (BasicGet m) content conn accepted p = quiet_acts t old new _ sends notes (gets c h (channel_or_new (old.channel c h)) m content (first_ready (old.queue m.queue)) refl p)
@@ -473,33 +488,33 @@ module _ (t : Topology) (old new : Broker) (sends : List Send) (notes : List Not
   performs c h _ content conn accepted p = absurd p
 
   refuses : (e : Event) (c h : ℕ) (cause : Ids) (r : Refusal) → Refuses old c h cause r sends notes new → Quiet t old new e c (kept_after old c) sends notes
-  refuses e c h cause Ignored p = still e c _ _ p tt (record { same = refl; kept = λ n q. refl }) (stay old c)
-  refuses e c h cause (Of_channel code) p = still e c _ _ p (refl, refl) (record { same = refl; kept = freed_count old (by_channel c h) }) (stay old c)
-  refuses e c h cause (Of_connection code) p = still e c _ _ p (refl, refl) (record { same = refl; kept = freed_count old (by_connection c) }) (λ d. refl)
+  refuses e c h cause Ignored p = still e c _ _ p tt tt (record { same = refl; kept = λ n q. refl }) (stay old c)
+  refuses e c h cause (Of_channel code) p = still e c _ _ p (refl, refl) tt (record { same = refl; kept = freed_count old (by_channel c h) }) (stay old c)
+  refuses e c h cause (Of_connection code) p = still e c _ _ p (refl, refl) tt (record { same = refl; kept = freed_count old (by_connection c) }) (λ d. refl)
 
   decides : (c h : ℕ) (m : Method) (content : Option Content) (conn : Connection) (r : Option Refusal) → refusal t old conn h m (old.channel c h) ≡ r → Decides t old c h m content r sends notes new → Acted t old new (Command c h m content) sends notes
   decides c h m content conn None is p = performs c h m content conn is p
   decides c h m content conn (Some r) is p = quiet_acts t old new _ sends notes (refuses _ c h (ids_of m) r p)
 
   commanded : (c h : ℕ) (m : Method) (content : Option Content) (o : Option Connection) → OnConnection t old c h m content sends notes new o → Acted t old new (Command c h m content) sends notes
-  commanded c h m content None p = quiet_acts t old new _ sends notes (still _ c _ _ p tt (record { same = refl; kept = λ n q. refl }) (stay old c))
+  commanded c h m content None p = quiet_acts t old new _ sends notes (still _ c _ _ p tt tt (record { same = refl; kept = λ n q. refl }) (stay old c))
   commanded c h m content (Some conn) p = decides c h m content conn (refusal t old conn h m (old.channel c h)) refl p
 
   too_large : (c h : ℕ) (o : Option Connection) → OnLarge old c h sends notes new o → Quiet t old new (TooLarge c h) c (kept_after old c) sends notes
-  too_large c h None p = still _ c _ _ p tt (record { same = refl; kept = λ n q. refl }) (stay old c)
+  too_large c h None p = still _ c _ _ p tt tt (record { same = refl; kept = λ n q. refl }) (stay old c)
   too_large c h (Some conn) p = refuses _ c h (ids_of empty_publish) (refusal_of_large conn h (old.channel c h)) p
 
   -- Each event of the broker goes one of these ways.
   pub acted : (e : Event) → Acts t old e sends notes new → Acted t old new e sends notes
-  acted (Open c) p = quiet_acts t old new _ sends notes (quiet t old new _ _ c _ sends _ notes p tt (record { same = refl; kept = λ n q. refl }) (stay old c))
-  acted (First c bytes) p = quiet_acts t old new _ sends notes (still _ c _ _ p tt (record { same = refl; kept = λ n q. refl }) (stay old c))
-  acted (Running c max k) p = quiet_acts t old new _ sends notes (quiet t old new _ _ c _ sends _ notes p tt (record { same = refl; kept = freed_count old (by_connection c) }) (λ d. refl))
+  acted (Open c) p = quiet_acts t old new _ sends notes (quiet t old new _ _ c _ sends _ notes p tt tt (record { same = refl; kept = λ n q. refl }) (stay old c))
+  acted (First c bytes) p = quiet_acts t old new _ sends notes (still _ c _ _ p tt tt (record { same = refl; kept = λ n q. refl }) (stay old c))
+  acted (Running c max k) p = quiet_acts t old new _ sends notes (quiet t old new _ _ c _ sends _ notes p tt tt (record { same = refl; kept = freed_count old (by_connection c) }) (λ d. refl))
   acted (Command c h m content) p = commanded c h m content (old.connection c) p
   acted (TooLarge c h) p = quiet_acts t old new _ sends notes (too_large c h (old.connection c) p)
-  acted (Fault c code) p = quiet_acts t old new _ sends notes (quiet t old new _ _ c _ sends _ notes p (refl, refl) (record { same = refl; kept = freed_count old (by_connection c) }) (λ d. refl))
-  acted (Lose c) p = quiet_acts t old new _ sends notes (quiet t old new _ _ c _ sends _ notes p tt (record { same = refl; kept = freed_count old (by_connection c) }) (λ d. refl))
-  acted (Pause c) p = quiet_acts t old new _ sends notes (quiet t old new _ _ c _ sends _ notes p tt (record { same = refl; kept = λ n q. refl }) (λ d. refl))
-  acted (Resume c) p = quiet_acts t old new _ sends notes (quiet t old new _ _ c _ sends _ notes p tt (record { same = refl; kept = λ n q. refl }) (λ d. refl))
+  acted (Fault c code) p = quiet_acts t old new _ sends notes (quiet t old new _ _ c _ sends _ notes p (refl, refl) tt (record { same = refl; kept = freed_count old (by_connection c) }) (λ d. refl))
+  acted (Lose c) p = quiet_acts t old new _ sends notes (quiet t old new _ _ c _ sends _ notes p tt tt (record { same = refl; kept = freed_count old (by_connection c) }) (λ d. refl))
+  acted (Pause c) p = quiet_acts t old new _ sends notes (quiet t old new _ _ c _ sends _ notes p tt tt (record { same = refl; kept = λ n q. refl }) (λ d. refl))
+  acted (Resume c) p = quiet_acts t old new _ sends notes (quiet t old new _ _ c _ sends _ notes p tt tt (record { same = refl; kept = λ n q. refl }) (λ d. refl))
   acted (Deliver c) p = quiet_acts t old new _ sends notes (delivers c p.made p.made.consumer.no_ack refl p.makes)
 
 -- ---- what the broker sends is commands
@@ -559,6 +574,7 @@ pub record Answered (old : State) (e : Event) (sends : List Send) (notes : List 
   pub read : is_read e ≡ true
   pub move : Move
   pub few : IsAnswerAtMost move.sends
+  pub bare : filter_map content_in move.sends ≡ []
   pub header : is_header move.next.phase ≡ true → (is_header (old.session (connection_of e)).phase ≡ true) × (is_first e ≡ false)
   pub spoken : is_ended (old.session (connection_of e)).phase ≡ false → (sent : List Send) → Spoken (connection_of e) (old.session (connection_of e)).phase sent → Spoken (connection_of e) move.next.phase (sent ++ move.sends)
   pub moves : Moves old (connection_of e) move sends notes new
@@ -567,42 +583,43 @@ either_move : (P : Move → Type 0) (b : Bool) (x y : Move) → P x → P y → 
 either_move P true x y p q = p
 either_move P false x y p q = q
 
--- one reply at most is sent, and the first eight bytes are awaited afterwards only where they were before and nothing is sent
+-- one reply at most is sent, which has no content, and the first eight bytes are awaited afterwards only where they were before and nothing is sent
 record Replies (s : Session) (move : Move) : Type 0 where
   few : IsReplyAtMost move.sends
+  bare : filter_map content_in move.sends ≡ []
   header : is_header move.next.phase ≡ true → (is_header s.phase ≡ true) × (move.sends ≡ [])
 
-replies : (s : Session) (move : Move) → IsReplyAtMost move.sends → is_header move.next.phase ≡ false → Replies s move
-replies s move few e = record { few = few; header = λ h. absurd (false≢true (sym e ∙ h)) }
+replies : (s : Session) (move : Move) → IsReplyAtMost move.sends → filter_map content_in move.sends ≡ [] → is_header move.next.phase ≡ false → Replies s move
+replies s move few bare e = record { few = few; bare = bare; header = λ h. absurd (false≢true (sym e ∙ h)) }
 
 stays_replies : (s : Session) → Replies s (stays_in s)
-stays_replies s = record { few = tt; header = λ h. (h, refl) }
+stays_replies s = record { few = tt; bare = refl; header = λ h. (h, refl) }
 
 closing_replies : (c : ℕ) (s : Session) (h : ℕ) (m : Method) → is_header s.phase ≡ false → Replies s (while_closing c s h m)
-closing_replies c s h (ConnectionClose m) e = either_move (Replies s) (h == 0) (record { sends = reply c 0 ConnectionCloseOk ∷ []; next = s }) (stays_in s) (replies s (record { sends = reply c 0 ConnectionCloseOk ∷ []; next = s }) (refl, refl) e) (stays_replies s)
-closing_replies c s h ConnectionCloseOk e = either_move (Replies s) (h == 0) (record { sends = []; next = to_phase s phase.Over }) (stays_in s) (replies s (record { sends = []; next = to_phase s phase.Over }) tt refl) (stays_replies s)
+closing_replies c s h (ConnectionClose m) e = either_move (Replies s) (h == 0) (record { sends = reply c 0 ConnectionCloseOk ∷ []; next = s }) (stays_in s) (replies s (record { sends = reply c 0 ConnectionCloseOk ∷ []; next = s }) (refl, refl) refl e) (stays_replies s)
+closing_replies c s h ConnectionCloseOk e = either_move (Replies s) (h == 0) (record { sends = []; next = to_phase s phase.Over }) (stays_in s) (replies s (record { sends = []; next = to_phase s phase.Over }) tt refl refl) (stays_replies s)
 closing_replies c s h _ e = stays_replies s
 
 closes_replies : (c : ℕ) (s : Session) (code : ℕ) (m : Method) → Replies s (closes_with c s code m)
-closes_replies c s code m = replies s (closes_with c s code m) (refl, refl) refl
+closes_replies c s code m = replies s (closes_with c s code m) (refl, refl) refl refl
 
 start_replies : (c : ℕ) (is_user : Bool) (s : Session) (m : Method) → Replies s (at_start c is_user s m)
 start_replies c is_user s (ConnectionStartOk m) =
-    either_move (Replies s) is_user (answers_with c s tune phase.Tune) (closes_with c s 403 (ConnectionStartOk m)) (replies s (answers_with c s tune phase.Tune) (refl, refl) refl) (closes_replies c s 403 (ConnectionStartOk m))
+    either_move (Replies s) is_user (answers_with c s tune phase.Tune) (closes_with c s 403 (ConnectionStartOk m)) (replies s (answers_with c s tune phase.Tune) (refl, refl) refl refl) (closes_replies c s 403 (ConnectionStartOk m))
 start_replies c is_user s m = closes_replies c s 503 m
 
 tune_replies : (c : ℕ) (s : Session) (m : Method) → Replies s (at_tune c s m)
 tune_replies c s (ConnectionTuneOk m) =
-    either_move (Replies s) (is_taken m) (record { sends = []; next = tuned m }) (closes_with c s 530 (ConnectionTuneOk m)) (replies s (record { sends = []; next = tuned m }) tt refl) (closes_replies c s 530 (ConnectionTuneOk m))
+    either_move (Replies s) (is_taken m) (record { sends = []; next = tuned m }) (closes_with c s 530 (ConnectionTuneOk m)) (replies s (record { sends = []; next = tuned m }) tt refl refl) (closes_replies c s 530 (ConnectionTuneOk m))
 tune_replies c s m = closes_replies c s 503 m
 
 open_replies : (c : ℕ) (s : Session) (m : Method) → Replies s (at_open c s m)
 open_replies c s (ConnectionOpen m) =
-    either_move (Replies s) (bytes_eq m.virtual_host (codes "/")) (answers_with c s open_ok phase.Running) (closes_with c s 530 (ConnectionOpen m)) (replies s (answers_with c s open_ok phase.Running) (refl, refl) refl) (closes_replies c s 530 (ConnectionOpen m))
+    either_move (Replies s) (bytes_eq m.virtual_host (codes "/")) (answers_with c s open_ok phase.Running) (closes_with c s 530 (ConnectionOpen m)) (replies s (answers_with c s open_ok phase.Running) (refl, refl) refl refl) (closes_replies c s 530 (ConnectionOpen m))
 open_replies c s m = closes_replies c s 503 m
 
 closed_replies : (c : ℕ) (s : Session) (m : Method) (move : Move) → Replies s move → Replies s (or_closed c s m move)
-closed_replies c s (ConnectionClose x) move r = replies s (answers_with c s ConnectionCloseOk phase.Over) (refl, refl) refl
+closed_replies c s (ConnectionClose x) move r = replies s (answers_with c s ConnectionCloseOk phase.Over) (refl, refl) refl refl
 closed_replies c s _ move r = r
 
 zero_replies : (c : ℕ) (s : Session) (h : ℕ) (m : Method) (move : Move) → Replies s move → Replies s (on_zero c s h m move)
@@ -627,9 +644,9 @@ answer_replies users c s phase.Running h m move here o = opens_replies users c s
 answer_replies users c s phase.Over h m move here o = opens_replies users c s h m move o
 
 fault_replies : (c : ℕ) (s : Session) (p : Phase) (code : ℕ) → Replies s (faulted c s p code)
-fault_replies c s phase.Closing code = replies s (faulted c s phase.Closing code) tt refl
+fault_replies c s phase.Closing code = replies s (faulted c s phase.Closing code) tt refl refl
 fault_replies c s phase.Over code = stays_replies s
-fault_replies c s p code = replies s (faulted c s p code) (refl, refl) refl
+fault_replies c s p code = replies s (faulted c s p code) (refl, refl) refl refl
 
 -- of a connection that is not over, what was sent so far goes on as its phase says
 replies_spoken : (c : ℕ) (s : Session) (move : Move) → Replies s move → is_ended s.phase ≡ false → (sent : List Send) → Spoken c s.phase sent → Spoken c move.next.phase (sent ++ move.sends)
@@ -649,6 +666,10 @@ first_few : (c : ℕ) (s : Session) (p : Phase) (bytes : Text) → IsAnswerAtMos
 first_few c s phase.Header bytes = either_move (λ (m : Move). IsAnswerAtMost m.sends) (bytes_eq bytes eight_bytes) (answers_with c s start phase.Start) (greets c s) (refl, refl) refl
 first_few c s _ bytes = tt
 
+first_bare : (c : ℕ) (s : Session) (p : Phase) (bytes : Text) → filter_map content_in (first_move c s p bytes).sends ≡ []
+first_bare c s phase.Header bytes = either_move (λ (m : Move). filter_map content_in m.sends ≡ []) (bytes_eq bytes eight_bytes) (answers_with c s start phase.Start) (greets c s) refl refl
+first_bare c s _ bytes = refl
+
 -- once they are read they are not awaited any more
 first_no_header : (c : ℕ) (s : Session) (p : Phase) (bytes : Text) → s.phase ≡ p → is_header (first_move c s p bytes).next.phase ≡ false
 first_no_header c s phase.Header bytes here = either_move (λ (m : Move). is_header m.next.phase ≡ false) (bytes_eq bytes eight_bytes) (answers_with c s start phase.Start) (greets c s) refl refl
@@ -663,7 +684,7 @@ first_spoken c s _ bytes here sent was = subst (Spoken c s.phase) (sym (append-n
 
 module _ (f : Config) (old new : State) (sends : List Send) (notes : List Note) where
   answering : (e : Event) (move : Move) → is_running (old.session (connection_of e)).phase ≡ false → is_read e ≡ true → is_first e ≡ false → Replies (old.session (connection_of e)) move → Moves old (connection_of e) move sends notes new → Answered old e sends notes new
-  answering e move idle read frames r moves = record { idle = idle; read = read; move = move; few = reply_answers move.sends r.few; header = λ h. ((r.header h).0, frames); spoken = replies_spoken (connection_of e) (old.session (connection_of e)) move r; moves = moves }
+  answering e move idle read frames r moves = record { idle = idle; read = read; move = move; few = reply_answers move.sends r.few; bare = r.bare; header = λ h. ((r.header h).0, frames); spoken = replies_spoken (connection_of e) (old.session (connection_of e)) move r; moves = moves }
 
   of_command : (p : Phase) (c h : ℕ) (m : Method) (content : Option Content) → (old.session c).phase ≡ p → OfCommand f old p c h m content sends notes new → Performed f old (Command c h m content) sends notes new ⊎ Answered old (Command c h m content) sends notes new
   of_command phase.Running c h m content here s = inl (record { runs = λ r. ap is_running here; free = λ r. absurd (false≢true r); acts = s.acts; sessions = s.session })
@@ -680,7 +701,7 @@ module _ (f : Config) (old new : State) (sends : List Send) (notes : List Note) 
   of_first : (p : Phase) (c : ℕ) (bytes : Text) → (old.session c).phase ≡ p → OfFirst f old p c bytes sends notes new → Performed f old (First c bytes) sends notes new ⊎ Answered old (First c bytes) sends notes new
   of_first phase.Running c bytes here s = inl (record { runs = λ r. ap is_running here; free = λ r. absurd (false≢true r); acts = s.acts; sessions = s.session })
   of_first p c bytes here s =
-      inr (record { idle = ap is_running here; read = refl; move = first_move c (old.session c) p bytes; few = first_few c (old.session c) p bytes; header = λ h. absurd (false≢true (sym (first_no_header c (old.session c) p bytes here) ∙ h)); spoken = λ stands. first_spoken c (old.session c) p bytes here; moves = s })
+      inr (record { idle = ap is_running here; read = refl; move = first_move c (old.session c) p bytes; few = first_few c (old.session c) p bytes; bare = first_bare c (old.session c) p bytes; header = λ h. absurd (false≢true (sym (first_no_header c (old.session c) p bytes here) ∙ h)); spoken = λ stands. first_spoken c (old.session c) p bytes here; moves = s })
 
   -- Each step goes one of these ways.
   pub goes : (e : Event) → Step f old e sends notes new → Performed f old e sends notes new ⊎ Answered old e sends notes new
@@ -708,6 +729,7 @@ module _ (f : Config) (old new : State) (sends : List Send) (notes : List Note) 
     caused = subst (AllByRecursion (OfLeft (IsCauseAt old.broker e))) (sym a.moves.noted) tt;
     rejections = λ apart. inr (subst (AllByRecursion IsOfNoRejection) (sym a.moves.noted) tt);
     few = subst IsAnswerAtMost (sym a.moves.sent) a.few;
+    contents = subst (AllByRecursion (IsOfFirst old.broker.queue)) (sym (ap (filter_map content_in) a.moves.sent ∙ a.bare)) tt;
   }
     where
       moved : (n : ℕ) (q : Text) (v : Bool) → count_by (has_number n) ((if v then opened old.broker (connection_of e) a.move.next.channel_max 0 else old.broker).queue q) ≡ count_by (has_number n) (old.broker.queue q)

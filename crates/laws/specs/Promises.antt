@@ -1,6 +1,7 @@
 -- What every run keeps of the promises.
-use Rattle.std.specs.Prelude.{◌≡◌, ℕ, List, map, filter_map, Option, Some, None}
+use Rattle.std.specs.Prelude.{◌≡◌, ℕ, List, [], map, filter_map, Option, Some, None}
 use Rattle.std.specs.List.{AllByRecursion}
+use Rattle.model.specs.Words.{Text}
 use Rattle.model.specs.Topology.{Topology}
 use Rattle.model.specs.Broker.{Broker}
 use Rattle.model.specs.State.{Config, State}
@@ -8,7 +9,7 @@ use Rattle.model.specs.Tracing.{AreTraced}
 use Rattle.model.specs.Run.{Happening, Run, AreCounted, notes_of, sends_of}
 use Rattle.model.specs.Spelling.{sends_to}
 use Rattle.model.specs.Arrivals.{IsSaid}
-use Rattle.model.specs.Headline.{Ack, IsSound, EnteredOnce, acked, ack_for, AreAllowed, AreAllowedIn, HaveCauses, HaveOrigins, DieAsRouted, DieOnce, KeepsEvents}
+use Rattle.model.specs.Headline.{Ack, IsSound, EnteredOnce, acked, ack_for, AreAllowed, AreAllowedIn, HaveCauses, HaveOrigins, DieAsRouted, DieOnce, AreSourced, KeepsEvents}
 use Rattle.model.specs.declared.events.Send.{Send}
 use Rattle.model.specs.declared.events.Send.TheVariants as send
 use Rattle.model.specs.declared.methods.Method.{Method}
@@ -78,6 +79,10 @@ LettersComeAsRouted = (hs : List Happening) (old new : State) → AreSound hs �
 -- So of the messages of a number no more dead letters entered a queue at an event than were rejected at it.
 abbrev pub LettersComeOnce : Type 0
 LettersComeOnce = (hs : List Happening) (old new : State) → AreSound hs → Run old hs new → AllByRecursion DieOnce hs
+
+-- Where no message stands in a queue at the beginning, each that is given out has the body and the properties with which it was published, but for headers that tell of its deaths.
+abbrev pub GivenAsPublished : Type 0
+GivenAsPublished = (hs : List Happening) (old new : State) → ((q : Text) → old.broker.queue q ≡ []) → Run old hs new → AreSourced [] hs
 
 -- All of these, and the balance of every queue.
 abbrev pub RunsKeepEvents : Type 0

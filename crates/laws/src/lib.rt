@@ -16,7 +16,7 @@ ghost use Rattle.laws.specs.OneStep.{EveryRunBalances, EveryRunCounts, EveryRunS
 ghost use Rattle.laws.specs.Forms.{BodiesAreCut, FirstTells, MessagesCome};
 ghost use Rattle.laws.specs.Openings.{OpeningsReadByPhase};
 ghost use Rattle.laws.specs.Order.{GivenAfterThoseAhead, GivenInOrder, HeldAreGiven};
-ghost use Rattle.laws.specs.Promises.{AckedEnterOnce, AcksAreAcked, CausesAreShown, ForbiddenAreNotEntered, ForbiddenAreNotEnteredAtEvents, LettersComeAsRouted, LettersComeOnce, OriginsAreShown, RunsKeepEvents};
+ghost use Rattle.laws.specs.Promises.{AckedEnterOnce, AcksAreAcked, CausesAreShown, ForbiddenAreNotEntered, ForbiddenAreNotEnteredAtEvents, GivenAsPublished, LettersComeAsRouted, LettersComeOnce, OriginsAreShown, RunsKeepEvents};
 ghost use Rattle.laws.specs.Rows.{WordsOfKeys, FirstInput, FirstOutput, BadEnd, TooLargeContent, HeadlineRefuses, FirstConsumer, RefusedConsumes};
 ghost use Rattle.laws.specs.Tracing.{MessagesStayTraced, TracedAreSafe};
 ghost use Rattle.laws.specs.Streams.{CuttingDoesNotMatter, FaultsStay, GoingOnStays, FirstBytesComeFirst, TuningDoesNotMatter};
@@ -89,6 +89,12 @@ pub fn rejected_messages_go_on()
 /// So of the messages of a number no more dead letters came to a queue than were rejected.
 pub fn a_rejection_makes_one_letter()
     ensures { LettersComeOnce }
+{}
+
+/// In every run from empty queues each message is given out with the body and the properties with which it was published, but for headers
+/// that tell of its deaths.
+pub fn messages_are_given_as_published()
+    ensures { GivenAsPublished }
 {}
 
 /// All of this at once: what happens keeps the promises.
