@@ -13,7 +13,7 @@ use Rattle.model.specs.Message.{Message}
 use Rattle.model.specs.Entering.{comes_to, entry_notes}
 use Rattle.model.specs.Deaths.{TellsOfDeath, AreMarked, alone, added, marked_before, first_death}
 use Rattle.model.specs.Deliveries.{without_given, AreRejected}
-use Rattle.model.specs.Headline.{DiesInto, Rejection, AreRejections, none as no_rejection, next, is_entry_into, letter_note, rejection_notes}
+use Rattle.model.specs.Headline.{DiesInto, Rejection, AreRejections, none as no_rejection, next, is_entry_into, note_at, rejection_notes}
 use Rattle.model.specs.declared.messages.Entry.{Entry}
 use Rattle.model.specs.declared.notes.Cause.TheVariants.{Rejected}
 use Rattle.model.specs.declared.notes.Note.{Note}
@@ -367,7 +367,7 @@ enters_billing more a = go (first_of a)
         record {
           number = f.of.entry.message.number;
           rest = f.rest;
-          is = ap (drop 1) f.is ∙ ap (λ (rs : List Text). map (letter_note deaths while_in_q1 [] f.of.entry.message.number) rs ++ f.rest) to;
+          is = ap (drop 1) f.is ∙ ap (λ (rs : List Text). map (note_at deaths while_in_q1 [] f.of.entry.message.number Dead) rs ++ f.rest) to;
           noted = rejection_notes deaths while_in_q1 [] f.of;
           others = f.more;
         }

@@ -17,13 +17,14 @@ use Rattle.model.specs.Entries.{is_held_as, without_first}
 use Rattle.model.specs.Entering.{entry_notes, comes_to}
 use Rattle.model.specs.Deaths.{IsDeath, DiesBy, DiesIn, MayDie, dead_letter, with_headers}
 use Rattle.model.specs.Deliveries.{holder_of, given_in, without_given, AreRejected}
-use Rattle.model.specs.Headline.{DiesInto, Rejection, AreRejections, none as no_rejection, next, is_entry_into, is_full_after, letter_note, rejection_notes, IsOfNoRejection, is_dead_into, is_rejected}
+use Rattle.model.specs.Headline.{DiesInto, Rejection, AreRejections, none as no_rejection, next, is_entry_into, is_full_after, note_at, rejection_notes, IsOfNoRejection, is_dead_into, is_rejected}
 use Rattle.model.specs.declared.topologies.DeclaredQueue.{DeclaredQueue}
 use Rattle.model.specs.declared.messages.Mark.TheVariants.{Ready}
 use Rattle.model.specs.declared.messages.Entry.{Entry}
 use Rattle.model.specs.declared.notes.Cause.TheVariants.{Acked, Auto, Rejected, Purged}
 use Rattle.model.specs.declared.notes.Note.{Note}
 use Rattle.model.specs.declared.notes.Note.TheVariants.{Entered, Refused, Left}
+use Rattle.model.specs.declared.notes.Way.{Way}
 use Rattle.model.specs.declared.notes.Way.TheVariants as way
 use Rattle.laws.proofs.Counts.{count-append, count-cons, count-cons_no, count-cons_yes, count_none, all_each, in-append, in_from_contains}
 use Rattle.laws.proofs.Leaving.{is_leaving, one_for, at_queue, find_in, count_without, none_without, in_rest}
@@ -108,9 +109,9 @@ module _ (t : Topology) (apart : AreApart (queue_names t.queues)) (name : Text) 
 -- ---- queues behind some notes
 
 -- the queues as they stand behind these notes: what is held there was held before the event, and what can be given out could be, or has entered since
-record Follows (first : Text → List Entry) (noted : List Note) (now : Text → List Entry) : Type 0 where
-  held : HeldStay first now
-  ready : (q : Text) → count_by is_ready (now q) ≡ count_by is_ready (first q) + count_by (is_entry_into q) noted
+pub record Follows (first : Text → List Entry) (noted : List Note) (now : Text → List Entry) : Type 0 where
+  pub held : HeldStay first now
+  pub ready : (q : Text) → count_by is_ready (now q) ≡ count_by is_ready (first q) + count_by (is_entry_into q) noted
 
 -- a message that is held is not among those that can be given out
 ready_without : (c h : ℕ) (queues : Text → List Entry) (o : Outstanding) (found : Option Entry) → given_in c h queues o ≡ found → (q : Text) → count_by is_ready (without_given c h queues o q) ≡ count_by is_ready (queues q)
@@ -156,15 +157,20 @@ came_idle t entries m q rs e i = ap is_ready (in_comes t entries m q rs e i).is
 
 -- ---- one rejection
 
--- what is noted of the queues to which the letter goes, as what stands there tells or as what was noted does
-same_notes : (t : Topology) (first gone : Text → List Entry) (noted : List Note) (size n : ℕ) → Follows first noted gone → (rs : List Text) → entry_notes t gone size n way.Dead rs ≡ map (letter_note t first noted n) rs
-same_notes t first gone noted size n f [] = refl
-same_notes t first gone noted size n f (r ∷ rs) =
-    ap (λ (full : Bool). (if full then Refused n r else Entered n r way.Dead) ∷ entry_notes t gone size n way.Dead rs) full
-    ∙ ap (λ (ns : List Note). letter_note t first noted n r ∷ ns) (same_notes t first gone noted size n f rs)
-  where
-    full : is_full t gone r size ≡ is_full_after t first noted r
-    full = ap (is_at (limit_of (queue_named t.queues r))) (length-filter is_ready (gone r) ∙ f.ready r ∙ ap (λ (k : ℕ). k + count_by (is_entry_into r) noted) (sym (length-filter is_ready (first r))))
+-- a queue is full as it stands, or as what was noted tells
+pub full_same : (t : Topology) (first gone : Text → List Entry) (noted : List Note) → Follows first noted gone → (size : ℕ) (r : Text) → is_full t gone r size ≡ is_full_after t first noted r
+full_same t first gone noted f size r = ap (is_at (limit_of (queue_named t.queues r))) (length-filter is_ready (gone r) ∙ f.ready r ∙ ap (λ (k : ℕ). k + count_by (is_entry_into r) noted) (sym (length-filter is_ready (first r))))
+
+-- and so what is noted of the queues to which a message goes is the same
+pub same_notes : (t : Topology) (first gone : Text → List Entry) (noted : List Note) (size n : ℕ) (w : Way) → Follows first noted gone → (rs : List Text) → entry_notes t gone size n w rs ≡ map (note_at t first noted n w) rs
+same_notes t first gone noted size n w f [] = refl
+same_notes t first gone noted size n w f (r ∷ rs) =
+    ap (λ (full : Bool). (if full then Refused n r else Entered n r w) ∷ entry_notes t gone size n w rs) (full_same t first gone noted f size r)
+    ∙ ap (λ (ns : List Note). note_at t first noted n w r ∷ ns) (same_notes t first gone noted size n w f rs)
+
+-- before anything was noted they stand as they stood
+pub follows_itself : (first : Text → List Entry) → Follows first [] first
+follows_itself first = record { held = λ q e i idle. i; ready = λ q. let e : count_by (is_entry_into q) [] ≡ 0 = refl in omega (arith, e) }
 
 -- these notes are of a rejection, behind which the queues stand so
 record IsRejection (t : Topology) (first : Text → List Entry) (noted notes : List Note) (new : Text → List Entry) : Type 0 where
@@ -201,7 +207,7 @@ module _ (t : Topology) (apart : AreApart (queue_names t.queues)) (c h : ℕ) (f
       → IsDeath t p exchange gone e.message rest new → IsRejection t first noted notes new
   dies notes rest new p exchange is found dead d = record {
     of = record { queue = o.queue; entry = e; stood = there; targets = d.targets; routed = picks_on t apart o.queue e.message.key p exchange d.targets found dead d.routed };
-    noted_so = is ∙ ap (λ (ns : List Note). Left e.message.number o.queue Rejected ∷ ns) (d.noted ∙ same_notes t first gone noted (length e.message.content.body) e.message.number f d.targets);
+    noted_so = is ∙ ap (λ (ns : List Note). Left e.message.number o.queue Rejected ∷ ns) (d.noted ∙ same_notes t first gone noted (length e.message.content.body) e.message.number way.Dead f d.targets);
     follows = record {
       held = λ q x i idle. elim (in-append x (gone q) _ (subst (IsIn x) (d.left q) i)) [
         | inl j ↦ f.held q x j idle
@@ -249,7 +255,7 @@ rejections_from t apart c h first (o ∷ os) old noted notes new f (mid, one, re
 
 -- What is noted of messages that are rejected tells of each where its dead letter came.
 pub are_rejections : (t : Topology) → AreApart (queue_names t.queues) → (c h : ℕ) (os : List Outstanding) (old : Text → List Entry) (notes : List Note) (new : Text → List Entry) → AreRejected t c h os old notes new → AreRejections t old [] notes
-are_rejections t apart c h os old notes new a = rejections_from t apart c h old os old [] notes new (record { held = λ q e i idle. i; ready = λ q. let e : count_by (is_entry_into q) [] ≡ 0 = refl in omega (arith, e) }) a
+are_rejections t apart c h os old notes new a = rejections_from t apart c h old os old [] notes new (follows_itself old) a
 
 -- ---- none comes twice
 
@@ -260,12 +266,12 @@ other_note n q _ o = refl
 
 -- a dead letter enters no queue oftener than it goes on to it
 letters_most : (t : Topology) (first : Text → List Entry) (noted : List Note) (k n : ℕ) (q : Text) (rs : List Text)
-    → count_by (is_dead_into n q) (map (letter_note t first noted k) rs) ≤ count_by (same_as q) rs
+    → count_by (is_dead_into n q) (map (note_at t first noted k way.Dead) rs) ≤ count_by (same_as q) rs
 letters_most t first noted k n q [] = omega arith
 letters_most t first noted k n q (r ∷ rs) = go (letters_most t first noted k n q rs) (is_full_after t first noted r) (same_as q r) refl
   where
     notes : List Note
-    notes = map (letter_note t first noted k) rs
+    notes = map (note_at t first noted k way.Dead) rs
 
     at_most : (b : Bool) → cond b 1 0 ≤ 1
     at_most true = omega arith
@@ -286,12 +292,12 @@ letters_most t first noted k n q (r ∷ rs) = go (letters_most t first noted k n
         omega (arith, one, all, more)
 
 -- those of another message are none of this one
-others_none : (t : Topology) (first : Text → List Entry) (noted : List Note) (k n : ℕ) (q : Text) (rs : List Text) → eqb k n ≡ false → count_by (is_dead_into n q) (map (letter_note t first noted k) rs) ≡ 0
+others_none : (t : Topology) (first : Text → List Entry) (noted : List Note) (k n : ℕ) (q : Text) (rs : List Text) → eqb k n ≡ false → count_by (is_dead_into n q) (map (note_at t first noted k way.Dead) rs) ≡ 0
 others_none t first noted k n q [] ne = refl
 others_none t first noted k n q (r ∷ rs) ne = go (is_full_after t first noted r) (others_none t first noted k n q rs ne)
   where
     notes : List Note
-    notes = map (letter_note t first noted k) rs
+    notes = map (note_at t first noted k way.Dead) rs
 
     go : (full : Bool) → count_by (is_dead_into n q) notes ≡ 0 → count_by (is_dead_into n q) ((if full then Refused k r else Entered k r way.Dead) ∷ notes) ≡ 0
     go true more = count-cons_no (is_dead_into n q) (Refused k r) notes refl ∙ more
@@ -306,7 +312,7 @@ rejection_once t first noted r apart n q = go (eqb r.entry.message.number n) ref
     note = Left r.entry.message.number r.queue Rejected
 
     rest : List Note
-    rest = map (letter_note t first noted r.entry.message.number) r.targets
+    rest = map (note_at t first noted r.entry.message.number way.Dead) r.targets
 
     letters : count_by (is_dead_into n q) (note ∷ rest) ≡ count_by (is_dead_into n q) rest
     letters = count-cons_no (is_dead_into n q) note rest refl

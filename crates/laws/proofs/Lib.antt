@@ -5,6 +5,7 @@ pub mod Entering
 pub mod Dying
 pub mod Targets
 pub mod Letters
+pub mod Routed
 pub mod Agreement
 pub mod Given
 pub mod Agreed

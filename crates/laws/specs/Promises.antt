@@ -9,7 +9,7 @@ use Rattle.model.specs.Tracing.{AreTraced}
 use Rattle.model.specs.Run.{Happening, Run, AreCounted, notes_of, sends_of}
 use Rattle.model.specs.Spelling.{sends_to}
 use Rattle.model.specs.Arrivals.{IsSaid}
-use Rattle.model.specs.Headline.{Ack, IsSound, EnteredOnce, acked, ack_for, AreAllowed, AreAllowedIn, HaveCauses, HaveOrigins, DieAsRouted, DieOnce, AreSourced, KeepsEvents}
+use Rattle.model.specs.Headline.{Ack, IsSound, EnteredOnce, EnterAsRouted, acked, ack_for, AreAllowed, AreAllowedIn, HaveCauses, HaveOrigins, DieAsRouted, DieOnce, AreSourced, KeepsEvents}
 use Rattle.model.specs.declared.events.Send.{Send}
 use Rattle.model.specs.declared.events.Send.TheVariants as send
 use Rattle.model.specs.declared.methods.Method.{Method}
@@ -71,6 +71,10 @@ CausesAreShown = (hs : List Happening) (old new : State) → Run old hs new → 
 -- What entered a queue came by its publish, noted at the same event, or as a dead letter from a queue where it stood before the event and which it left by a rejection.
 abbrev pub OriginsAreShown : Type 0
 OriginsAreShown = (hs : List Happening) (old new : State) → Run old hs new → AllByRecursion HaveOrigins hs
+
+-- Each publish entered each queue to which it was routed, once, or that queue was full; and it was acked only where none was.
+abbrev pub PublishesEnterAsRouted : Type 0
+PublishesEnterAsRouted = (hs : List Happening) (old new : State) → Run old hs new → AllByRecursion EnterAsRouted hs
 
 -- Where a topology and its guarantees are sound, each message that was rejected came, as its dead letter, to each queue to which it goes on, or that queue was full; and no other dead letter came.
 abbrev pub LettersComeAsRouted : Type 0

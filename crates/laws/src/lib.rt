@@ -16,7 +16,7 @@ ghost use Rattle.laws.specs.OneStep.{EveryRunBalances, EveryRunCounts, EveryRunS
 ghost use Rattle.laws.specs.Forms.{BodiesAreCut, FirstTells, MessagesCome};
 ghost use Rattle.laws.specs.Openings.{OpeningsReadByPhase};
 ghost use Rattle.laws.specs.Order.{GivenAfterThoseAhead, GivenInOrder, HeldAreGiven};
-ghost use Rattle.laws.specs.Promises.{AckedEnterOnce, AcksAreAcked, CausesAreShown, ForbiddenAreNotEntered, ForbiddenAreNotEnteredAtEvents, GivenAsPublished, LettersComeAsRouted, LettersComeOnce, OriginsAreShown, RunsKeepEvents};
+ghost use Rattle.laws.specs.Promises.{AckedEnterOnce, AcksAreAcked, CausesAreShown, ForbiddenAreNotEntered, ForbiddenAreNotEnteredAtEvents, GivenAsPublished, LettersComeAsRouted, LettersComeOnce, OriginsAreShown, PublishesEnterAsRouted, RunsKeepEvents};
 ghost use Rattle.laws.specs.Rows.{WordsOfKeys, FirstInput, FirstOutput, BadEnd, TooLargeContent, HeadlineRefuses, FirstConsumer, RefusedConsumes};
 ghost use Rattle.laws.specs.Tracing.{MessagesStayTraced, TracedAreSafe};
 ghost use Rattle.laws.specs.Streams.{CuttingDoesNotMatter, FaultsStay, GoingOnStays, FirstBytesComeFirst, TuningDoesNotMatter};
@@ -78,6 +78,11 @@ pub fn what_leaves_has_a_cause()
 /// In every run a message entered a queue only by its own publish, or as a dead letter by a rejection where it stood.
 pub fn what_enters_has_an_origin()
     ensures { OriginsAreShown }
+{}
+
+/// In every run each publish entered each queue to which it was routed, once, or that queue was full; and it was acked only where none was.
+pub fn publishes_enter_as_routed()
+    ensures { PublishesEnterAsRouted }
 {}
 
 /// In every run each message that was rejected came, as its dead letter, to each queue to which it goes on from there, or that queue was

@@ -35,8 +35,9 @@ use Rattle.model.specs.declared.events.Event.TheVariants.{Command, Deliver}
 use Rattle.model.specs.declared.notes.Cause.{Cause}
 use Rattle.model.specs.declared.notes.Cause.TheVariants.{Acked as Acknowledged, Auto, Rejected, Purged}
 use Rattle.model.specs.declared.notes.Note.{Note}
-use Rattle.model.specs.declared.notes.Note.TheVariants.{Published, Entered, Refused, Confirmed, Left}
+use Rattle.model.specs.declared.notes.Note.TheVariants.{Published, Entered, Refused, Returned, Confirmed, Left}
 use Rattle.model.specs.declared.notes.Answer.TheVariants as answer
+use Rattle.model.specs.declared.notes.Way.{Way}
 use Rattle.model.specs.declared.notes.Way.TheVariants as way
 
 -- ---- what a client reads
@@ -259,6 +260,40 @@ HasOrigin h note = Unit {0}
 abbrev pub HaveOrigins : Happening → Type 0
 HaveOrigins h = AllByRecursion (HasOrigin h) h.notes
 
+-- ---- what enters queues
+
+-- the note says that a message entered this queue
+abbrev pub is_entry_into : Text → Note → Bool
+is_entry_into q (Entered n r w) = bytes_eq r q
+is_entry_into q note = false
+
+-- The queue is full behind these notes: it has a limit, and no fewer messages that could be given out before the event or have entered since (RabbitMQ, "Queue Length Limit", reject-publish).
+abbrev pub is_full_after : Topology → (Text → List Entry) → List Note → Text → Bool
+is_full_after t queues noted q = is_at (limit_of (queue_named t.queues q)) (ready_in (queues q) + count_by (is_entry_into q) noted)
+
+-- it is noted of a message and a queue to which it goes that it entered there in this way, or that the queue was full and refused it
+abbrev pub note_at : Topology → (Text → List Entry) → List Note → ℕ → Way → Text → Note
+note_at t queues noted n w q = if is_full_after t queues noted q then Refused n q else Entered n q w
+
+-- the note answers the publish of this number: it went back, or was confirmed
+abbrev pub AnswersPublish : ℕ → Note → Type 0
+AnswersPublish n (Returned m) = m ≡ n
+AnswersPublish n (Confirmed m answer) = m ≡ n
+AnswersPublish n note = ⊥
+
+-- What the event notes of a publish: that it came, then of each queue to which it is routed, in the order of the file, that it entered it or was refused there, and then how it was answered; by ack only where none was full.
+pub record EntersAsRouted (h : Happening) (note : Note) (n : ℕ) (x key : Text) : Type 0 where
+  pub targets : List Text
+  pub routed : Picks (Routes h.config.topology x key) (queue_names h.config.topology.queues) targets
+  pub answers : List Note
+  pub noted : h.notes ≡ note ∷ (map (note_at h.config.topology h.before.broker.queue [] n way.Publish) targets ++ answers)
+  pub answered : AllByRecursion (AnswersPublish n) answers
+  pub acked : IsIn (Confirmed n answer.Ack) answers → AllByRecursion (λ (q : Text). is_full_after h.config.topology h.before.broker.queue [] q ≡ false) targets
+
+-- each publish that the event notes entered queues so
+abbrev pub EnterAsRouted : Happening → Type 0
+EnterAsRouted h = (n c k : ℕ) (x key : Text) (o : Option ℕ) → IsIn (Published n c k x key o) h.notes → EntersAsRouted h (Published n c k x key o) n x key
+
 -- ---- dead letters
 
 -- A message with this key that is rejected in the queue q goes on to the queue r: q dead-letters to an exchange, and the key that q fixes, or else the message's own, leads from there to r (RabbitMQ, "Dead Letter Exchanges").
@@ -276,22 +311,9 @@ pub record Rejection (t : Topology) (queues : Text → List Entry) : Type 0 wher
   pub targets : List Text
   pub routed : Picks (DiesInto t queue entry.message.key) (queue_names t.queues) targets
 
--- the note says that a message entered this queue
-abbrev pub is_entry_into : Text → Note → Bool
-is_entry_into q (Entered n r w) = bytes_eq r q
-is_entry_into q note = false
-
--- The queue is full behind these notes: it has a limit, and no fewer messages that could be given out before the event or have entered since (RabbitMQ, "Queue Length Limit", reject-publish).
-abbrev pub is_full_after : Topology → (Text → List Entry) → List Note → Text → Bool
-is_full_after t queues noted q = is_at (limit_of (queue_named t.queues q)) (ready_in (queues q) + count_by (is_entry_into q) noted)
-
--- it is noted of a dead letter and a queue to which it goes that it entered there, or that the queue was full and refused it
-abbrev pub letter_note : Topology → (Text → List Entry) → List Note → ℕ → Text → Note
-letter_note t queues noted n q = if is_full_after t queues noted q then Refused n q else Entered n q way.Dead
-
 -- it is noted of a rejection that its message left, and then of each queue to which the dead letter goes on
 abbrev pub rejection_notes : (t : Topology) (queues : Text → List Entry) → List Note → Rejection t queues → List Note
-rejection_notes t queues noted r = Left r.entry.message.number r.queue Rejected ∷ map (letter_note t queues noted r.entry.message.number) r.targets
+rejection_notes t queues noted r = Left r.entry.message.number r.queue Rejected ∷ map (note_at t queues noted r.entry.message.number way.Dead) r.targets
 
 -- Behind the first notes of an event, the others are of rejections, one after another.
 pub data AreRejections (t : Topology) (queues : Text → List Entry) : List Note → List Note → Type 0 where
@@ -381,6 +403,8 @@ AreSourced before (h ∷ hs) = HaveSources before h × AreSourced (before ++ h �
 pub record KeepsEvents (old : Broker) (hs : List Happening) (new : Broker) : Type 0 where
   -- each publish that was confirmed by ack entered each queue that was promised at it exactly once
   pub entered : (c : ℕ) → AllByRecursion (EnteredOnce (notes_of hs)) (acked c hs)
+  -- each publish entered each queue to which it was routed, once, but where that queue was full, and was acked only where none was
+  pub routed : AllByRecursion EnterAsRouted hs
   -- no message, as a publish or a dead letter, entered a queue that was forbidden to it then, as each event by itself tells
   pub never : AllByRecursion AreAllowed hs
   -- nor one that was forbidden to a publish noted at any of these events
