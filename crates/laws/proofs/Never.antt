@@ -25,7 +25,7 @@ use Rattle.laws.proofs.Entering.{picked}
 use Rattle.laws.proofs.Safe.{come_here}
 use Rattle.laws.proofs.Traced.{Rooted, before, now, rooted, exchange_of, key_of, step_came, step_traced}
 use Rattle.laws.proofs.Leaving.{OfLeft}
-use Rattle.laws.proofs.Routed.{run_routed}
+use Rattle.laws.proofs.Routed.{run_routed, run_numbers}
 use Rattle.laws.proofs.Letters.{letters_once}
 use Rattle.laws.proofs.Counts.{all_each, all_in, in-append, count-cons, count-cons_yes}
 use Rattle.laws.proofs.View.{Publishes, Seen, CountsNone, seen_at, quiet_notes}
@@ -264,6 +264,7 @@ pub run_keeps : (f : Config) (hs : List Happening) (old new : State) → IsSound
 run_keeps f hs old new sound under said begun r = record {
   entered = run_entered_once hs old new (sound_each f hs sound under) said r;
   routed = run_routed hs old new r;
+  numbered = run_numbers hs old new r;
   never = run_allowed f hs old new sound under said begun r;
   never_in_all = run_allowed_in f hs old new sound under said begun r;
   stays = run_stays hs old new r;

@@ -1,23 +1,23 @@
 -- What a publish enters: each queue to which it is routed, or that is full.
+use Rattle.std.proofs.lemmas.List.Elements.{filter_map-append}
 use Rattle.std.proofs.Common.{◌≡◌, ℕ, ◌⊎◌, List, [], ◌∷◌, ◌++◌, Bool, true, false, refl, sym, ap, subst, ◌∙◌, Option, Some, None, length, map, inl, inr}
-use Rattle.std.specs.Prelude.{◌||◌}
+use Rattle.std.specs.Prelude.{◌||◌, ◌&&◌, filter_map}
 use Rattle.std.specs.List.{list_any, AllByRecursion}
 use Rattle.model.specs.Words.{Text}
 use Rattle.model.specs.Topology.{IsIn}
 use Rattle.model.specs.Broker.{is_full}
-use Rattle.model.specs.Step.{returned_notes, confirm_notes, answer_of}
+use Rattle.model.specs.Step.{answer_of, is_none}
 use Rattle.model.specs.State.{State}
-use Rattle.model.specs.Run.{Happening, Run}
-use Rattle.model.specs.Headline.{is_full_after, AnswersPublish, EntersAsRouted, EnterAsRouted}
-use Rattle.model.specs.declared.notes.Answer.{Answer}
+use Rattle.model.specs.Run.{Happening, Run, notes_of}
+use Rattle.model.specs.Headline.{is_full_after, EntersAsRouted, EnterAsRouted, number_in, CountUp}
 use Rattle.model.specs.declared.notes.Answer.TheVariants as answered
 use Rattle.model.specs.declared.notes.Note.{Note}
-use Rattle.model.specs.declared.notes.Note.TheVariants.{Published, Returned, Confirmed}
+use Rattle.model.specs.declared.notes.Note.TheVariants.{Published}
 use Rattle.model.specs.declared.notes.Way.TheVariants as way
-use Rattle.laws.proofs.Counts.{all_each, all_in, in-append}
+use Rattle.laws.proofs.Counts.{all_each, all_in, filter_map_none}
 use Rattle.laws.proofs.Letters.{full_same, same_notes, follows_itself}
 use Rattle.laws.proofs.View.{Publishes, Seen, seen_at, quiet_notes}
-use Rattle.laws.proofs.Balance.{number, content, confirm, some_full, is_returned, first_note, entry_part, answer_part, noted, answers_all, others_all}
+use Rattle.laws.proofs.Balance.{number, content, confirm, some_full, is_returned, first_note, entry_part, answer_part, noted, others_all}
 
 -- the note is of no publish that came
 abbrev IsOther : Note → Type 0
@@ -38,15 +38,24 @@ acked_if_none : (full : Bool) → answered.Ack ≡ answer_of full → full ≡ f
 acked_if_none true e = absurd cc
 acked_if_none false e = refl
 
-not_returned : (n : ℕ) (b : Bool) → IsIn (Confirmed n answered.Ack) (returned_notes n b) → ⊥
-not_returned n true (inl e) = cc
-not_returned n true (inr i) = i
-not_returned n false i = i
+-- and a nack where some is
+some_is_full : (full : Bool) → answer_of full ≡ answered.Nack → full ≡ true
+some_is_full true e = refl
+some_is_full false e = absurd cc
 
-confirmed_so : (n : ℕ) (o : Option ℕ) (a : Answer) → IsIn (Confirmed n answered.Ack) (confirm_notes n o a) → answered.Ack ≡ a
-confirmed_so n None a i = absurd i
-confirmed_so n (Some m) a (inl e) = cc
-confirmed_so n (Some m) a (inr i) = absurd i
+full_one : (p : Text → Bool) (xs : List Text) → list_any p xs ≡ true → (x : Text) × IsIn x xs × (p x ≡ true)
+full_one p [] e = absurd cc
+full_one p (x ∷ xs) e = go (p x) refl (full_one p xs) e
+  where
+    go : (v : Bool) → p x ≡ v → (list_any p xs ≡ true → (y : Text) × IsIn y xs × (p y ≡ true)) → (v || list_any p xs) ≡ true → (y : Text) × IsIn y (x ∷ xs) × (p y ≡ true)
+    go true is more e = (x, inl refl, is)
+    go false is more e = let r = more e in (r.0, inr r.1, r.2)
+
+-- what goes back is routed nowhere
+routed_nowhere : (mandatory : Bool) (targets : List Text) → (mandatory && is_none targets) ≡ true → targets ≡ []
+routed_nowhere true [] e = refl
+routed_nowhere true (q ∷ qs) e = absurd cc
+routed_nowhere false targets e = absurd cc
 
 module _ (h : Happening) (p : Publishes h.config.topology h.before.broker h.after.broker h.event h.sends h.notes) where
   abbrev IsRoom : Text → Type 0
@@ -56,31 +65,32 @@ module _ (h : Happening) (p : Publishes h.config.topology h.before.broker h.afte
   rooms e = all_each _ IsRoom (λ q no. sym (full_same h.config.topology h.before.broker.queue h.before.broker.queue [] (follows_itself h.before.broker.queue) (length (content p).body) q) ∙ no) p.is.targets
       (none_full (λ q. is_full h.config.topology h.before.broker.queue q (length (content p).body)) p.is.targets e)
 
-  acked_where : IsIn (Confirmed (number p) answered.Ack) (answer_part p) → AllByRecursion IsRoom p.is.targets
-  acked_where i = elim (in-append _ (returned_notes (number p) (is_returned p)) _ i) [
-    | inl j ↦ absurd (not_returned (number p) (is_returned p) j)
-    | inr j ↦ rooms (acked_if_none (some_full p) (confirmed_so (number p) (confirm p) (answer_of (some_full p)) j))
-  ]
+  one_full : some_full p ≡ true → (q : Text) × IsIn q p.is.targets × (is_full_after h.config.topology h.before.broker.queue [] q ≡ true)
+  one_full e =
+      let r = full_one (λ q. is_full h.config.topology h.before.broker.queue q (length (content p).body)) p.is.targets e in
+      (r.0, r.1, sym (full_same h.config.topology h.before.broker.queue h.before.broker.queue [] (follows_itself h.before.broker.queue) (length (content p).body) r.0) ∙ r.2)
 
-  own : EntersAsRouted h (first_note p) (number p) p.publish.exchange p.publish.routing_key
+  own : EntersAsRouted h (number p) p.c p.h p.publish.exchange p.publish.routing_key (confirm p)
   own = record {
     targets = p.is.targets;
     routed = p.is.routed;
-    answers = answer_part p;
+    goes_back = is_returned p;
+    reply = answer_of (some_full p);
     noted = noted p ∙ ap (λ (ns : List Note). first_note p ∷ (ns ++ answer_part p)) (same_notes h.config.topology h.before.broker.queue h.before.broker.queue [] (length (content p).body) (number p) way.Publish (follows_itself h.before.broker.queue) p.is.targets);
-    answered = answers_all p (AnswersPublish (number p)) refl (λ a. refl);
-    acked = acked_where;
+    returned = routed_nowhere p.publish.mandatory p.is.targets;
+    acked = λ e. rooms (acked_if_none (some_full p) (sym e));
+    nacked = λ e. one_full (some_is_full (some_full p) e);
   }
 
   -- of a publish that came, what is noted is so
   abbrev IsSo : Note → Type 0
-  IsSo (Published n c k x key o) = EntersAsRouted h (Published n c k x key o) n x key
+  IsSo (Published n c k x key o) = EntersAsRouted h n c k x key o
   IsSo note = Unit {0}
 
   routed_own : EnterAsRouted h
   routed_own n c k x key o i = by (subst (IsIn (Published n c k x key o)) (noted p) i)
     where
-      by : IsIn (Published n c k x key o) (first_note p ∷ (entry_part p ++ answer_part p)) → EntersAsRouted h (Published n c k x key o) n x key
+      by : IsIn (Published n c k x key o) (first_note p ∷ (entry_part p ++ answer_part p)) → EntersAsRouted h n c k x key o
       by (inl e) = subst IsSo (sym e) own
       by (inr j) = absurd (all_in IsOther (Published n c k x key o) (entry_part p ++ answer_part p) (others_all p IsOther (λ r. tt) (λ r s. tt) tt (λ a. tt)) j)
 
@@ -92,3 +102,27 @@ step_routed h (inr p) n c k x key o i = routed_own h p n c k x key o i
 pub run_routed : (hs : List Happening) (old new : State) → Run old hs new → AllByRecursion EnterAsRouted hs
 run_routed [] old new r = tt
 run_routed (h ∷ hs) old new (e, s, r) = (step_routed h (seen_at h s), run_routed hs h.after new r)
+
+-- ---- numbers
+
+next_on : (first mid last : ℕ) (ns ms : List ℕ) → CountUp first ns mid → CountUp mid ms last → CountUp first (ns ++ ms) last
+next_on first mid last [] ms e more = subst (λ (n : ℕ). CountUp n ms last) e more
+next_on first mid last (n ∷ ns) ms (e, rest) more = (e, next_on n mid last ns ms rest more)
+
+-- the note is of no number
+abbrev HasNoNumber : Note → Type 0
+HasNoNumber note = number_in note ≡ None
+
+step_numbers : (h : Happening) → Seen h.config.topology h.before.broker h.after.broker h.event h.sends h.notes → CountUp h.before.broker.published (filter_map number_in h.notes) h.after.broker.published
+step_numbers h (inl q) =
+    subst (λ (ns : List ℕ). CountUp h.before.broker.published ns h.after.broker.published) (sym (filter_map_none number_in h.notes (quiet_notes HasNoNumber (λ m r cause. refl) (λ m r. refl) (λ m r d. refl) q))) q.same
+step_numbers h (inr p) =
+    subst (λ (ns : List ℕ). CountUp h.before.broker.published ns h.after.broker.published) (sym (ap (filter_map number_in) (noted p) ∙ ap (λ (ns : List ℕ). number p ∷ ns) (filter_map_none number_in (entry_part p ++ answer_part p) (others_all p HasNoNumber (λ r. refl) (λ r s. refl) refl (λ a. refl)))))
+    (refl, p.is.left.counted)
+
+-- In every run publishes are numbered one after another.
+pub run_numbers : (hs : List Happening) (old new : State) → Run old hs new → CountUp old.broker.published (filter_map number_in (notes_of hs)) new.broker.published
+run_numbers [] old new r = ap (λ (s : State). s.broker.published) r
+run_numbers (h ∷ hs) old new (e, s, r) =
+    subst (λ (ns : List ℕ). CountUp old.broker.published ns new.broker.published) (sym (filter_map-append number_in h.notes (notes_of hs)))
+    (next_on old.broker.published h.after.broker.published new.broker.published _ _ (subst (λ (z : State). CountUp z.broker.published (filter_map number_in h.notes) h.after.broker.published) e (step_numbers h (seen_at h s))) (run_numbers hs h.after new r))

@@ -10,7 +10,7 @@ use Rattle.model.specs.Deaths.{AreMarked, with_headers}
 use Rattle.model.specs.Step.{returned_sends, confirm_sends, next_of, answer_of, is_none, is_some_full}
 use Rattle.model.specs.State.{State, Step}
 use Rattle.model.specs.Run.{Happening, Run}
-use Rattle.model.specs.Headline.{IsNoted, IsContentOf, as_published, after_death, WasPublished, IsOfPublish, content_in, HasSource, given_out, goes_back, HaveSources, AreSourced}
+use Rattle.model.specs.Headline.{IsNoted, IsContentOf, as_published, after_death, WasPublished, IsOfPublish, content_in, HasSource, given_out, sent_back, HaveSources, AreSourced}
 use Rattle.model.specs.declared.contents.Content.{Content}
 use Rattle.model.specs.declared.messages.Entry.{Entry}
 use Rattle.model.specs.declared.methods.Publish.{Publish}
@@ -110,7 +110,7 @@ module _ (before : List Happening) (h : Happening) where
     | inl q ↦ all_each (IsOfFirst h.before.broker.queue) (HasSource before h) (of_first all) (filter_map content_in h.sends) q.contents
     | inr p ↦
         subst (λ (sends : List Send). AllByRecursion (HasSource before h) (filter_map content_in sends)) (sym p.is.sent)
-        (of_publish p.c p.h p.publish (content p) (goes_back p.c p.h p.publish p.given p.event refl) (p.publish.mandatory && is_none p.is.targets) (next_of p.ch.confirm) (answer_of (is_some_full h.config.topology h.before.broker.queue (content p) p.is.targets)))
+        (of_publish p.c p.h p.publish (content p) (sent_back p.c p.h p.publish p.given p.event refl) (p.publish.mandatory && is_none p.is.targets) (next_of p.ch.confirm) (answer_of (is_some_full h.config.topology h.before.broker.queue (content p) p.is.targets)))
   ]
 
 -- ---- runs
@@ -118,8 +118,7 @@ module _ (before : List Happening) (h : Happening) where
 sources_from : (before hs : List Happening) (old new : State) → Run old hs new → AreOfPublishes before old.broker.queue → AreSourced before hs
 sources_from before [] old new r all = tt
 sources_from before (h ∷ hs) old new (e, s, r) all =
-    let here : AreOfPublishes before h.before.broker.queue = subst (λ (z : State). AreOfPublishes before z.broker.queue) (sym e) all in
-    (
+    let here : AreOfPublishes before h.before.broker.queue = subst (λ (z : State). AreOfPublishes before z.broker.queue) (sym e) all in (
       sources before h here s,
       sources_from (before ++ h ∷ []) hs h.after new r (λ q x i. of_came before h here q x (step_came h.config h.before h.after h.event h.sends h.notes s q x i)),
     )

@@ -12,7 +12,7 @@ use Rattle.model.specs.Spelling.{eight_bytes}
 use Rattle.model.specs.Broker.{Outstanding, Channel, Broker, is_ready, is_at, limit_of, queue_named}
 use Rattle.model.specs.Entries.{is_held_as}
 use Rattle.model.specs.Settling.{takes}
-use Rattle.model.specs.Step.{tag_of, content_or_none}
+use Rattle.model.specs.Step.{tag_of, content_or_none, returned_notes, confirm_notes}
 use Rattle.model.specs.Message.{Message}
 use Rattle.model.specs.Deaths.{AreMarked, with_headers}
 use Rattle.model.specs.Deliveries.{first_ready, ready_in, holder_of}
@@ -35,7 +35,8 @@ use Rattle.model.specs.declared.events.Event.TheVariants.{Command, Deliver}
 use Rattle.model.specs.declared.notes.Cause.{Cause}
 use Rattle.model.specs.declared.notes.Cause.TheVariants.{Acked as Acknowledged, Auto, Rejected, Purged}
 use Rattle.model.specs.declared.notes.Note.{Note}
-use Rattle.model.specs.declared.notes.Note.TheVariants.{Published, Entered, Refused, Returned, Confirmed, Left}
+use Rattle.model.specs.declared.notes.Note.TheVariants.{Published, Entered, Refused, Confirmed, Left}
+use Rattle.model.specs.declared.notes.Answer.{Answer}
 use Rattle.model.specs.declared.notes.Answer.TheVariants as answer
 use Rattle.model.specs.declared.notes.Way.{Way}
 use Rattle.model.specs.declared.notes.Way.TheVariants as way
@@ -275,24 +276,30 @@ is_full_after t queues noted q = is_at (limit_of (queue_named t.queues q)) (read
 abbrev pub note_at : Topology → (Text → List Entry) → List Note → ℕ → Way → Text → Note
 note_at t queues noted n w q = if is_full_after t queues noted q then Refused n q else Entered n q w
 
--- the note answers the publish of this number: it went back, or was confirmed
-abbrev pub AnswersPublish : ℕ → Note → Type 0
-AnswersPublish n (Returned m) = m ≡ n
-AnswersPublish n (Confirmed m answer) = m ≡ n
-AnswersPublish n note = ⊥
-
--- What the event notes of a publish: that it came, then of each queue to which it is routed, in the order of the file, that it entered it or was refused there, and then how it was answered; by ack only where none was full.
-pub record EntersAsRouted (h : Happening) (note : Note) (n : ℕ) (x key : Text) : Type 0 where
+-- What an event notes of the publish of this number: that it came, then of each queue to which it is routed, in the order of the file, that it entered it or that the queue was full, then, only where it is routed nowhere, that it went back, and where it has a confirm number the one answer to it: ack where no queue was full, and else nack.
+pub record EntersAsRouted (h : Happening) (n c k : ℕ) (x key : Text) (confirm : Option ℕ) : Type 0 where
   pub targets : List Text
   pub routed : Picks (Routes h.config.topology x key) (queue_names h.config.topology.queues) targets
-  pub answers : List Note
-  pub noted : h.notes ≡ note ∷ (map (note_at h.config.topology h.before.broker.queue [] n way.Publish) targets ++ answers)
-  pub answered : AllByRecursion (AnswersPublish n) answers
-  pub acked : IsIn (Confirmed n answer.Ack) answers → AllByRecursion (λ (q : Text). is_full_after h.config.topology h.before.broker.queue [] q ≡ false) targets
+  pub goes_back : Bool
+  pub reply : Answer
+  pub noted : h.notes ≡ Published n c k x key confirm ∷ (map (note_at h.config.topology h.before.broker.queue [] n way.Publish) targets ++ (returned_notes n goes_back ++ confirm_notes n confirm reply))
+  pub returned : goes_back ≡ true → targets ≡ []
+  pub acked : reply ≡ answer.Ack → AllByRecursion (λ (q : Text). is_full_after h.config.topology h.before.broker.queue [] q ≡ false) targets
+  pub nacked : reply ≡ answer.Nack → (q : Text) × IsIn q targets × (is_full_after h.config.topology h.before.broker.queue [] q ≡ true)
 
 -- each publish that the event notes entered queues so
 abbrev pub EnterAsRouted : Happening → Type 0
-EnterAsRouted h = (n c k : ℕ) (x key : Text) (o : Option ℕ) → IsIn (Published n c k x key o) h.notes → EntersAsRouted h (Published n c k x key o) n x key
+EnterAsRouted h = (n c k : ℕ) (x key : Text) (confirm : Option ℕ) → IsIn (Published n c k x key confirm) h.notes → EntersAsRouted h n c k x key confirm
+
+-- the number of the publish that the note says came
+abbrev pub number_in : Note → Option ℕ
+number_in (Published n c k x key confirm) = Some n
+number_in note = None
+
+-- These are the numbers behind the first, one after another, up to the last.
+abbrev pub CountUp : ℕ → List ℕ → ℕ → Type 0
+CountUp first [] last = last ≡ first
+CountUp first (n ∷ ns) last = (n ≡ first + 1) × CountUp n ns last
 
 -- ---- dead letters
 
@@ -386,7 +393,7 @@ pub data HasSource (before : List Happening) (h : Happening) (content : Content)
   -- the first message of a queue that could be given out before the event, which is of a publish among these
   given_out : (queue : Text) (entry : Entry) → first_ready (h.before.broker.queue queue) ≡ Some entry → content ≡ entry.message.content → IsOfPublish before entry.message → HasSource before h content
   -- the event's own publish
-  goes_back : (c k : ℕ) (publish : Publish) (given : Option Content) → h.event ≡ Command c k (BasicPublish publish) given → content ≡ content_or_none given → HasSource before h content
+  sent_back : (c k : ℕ) (publish : Publish) (given : Option Content) → h.event ≡ Command c k (BasicPublish publish) given → content ≡ content_or_none given → HasSource before h content
 
 -- so is each that is sent at the event, of publishes at events before it
 abbrev pub HaveSources : List Happening → Happening → Type 0
@@ -405,6 +412,8 @@ pub record KeepsEvents (old : Broker) (hs : List Happening) (new : Broker) : Typ
   pub entered : (c : ℕ) → AllByRecursion (EnteredOnce (notes_of hs)) (acked c hs)
   -- each publish entered each queue to which it was routed, once, but where that queue was full, and was acked only where none was
   pub routed : AllByRecursion EnterAsRouted hs
+  -- publishes are numbered one after another, so that no two have one number
+  pub numbered : CountUp old.published (filter_map number_in (notes_of hs)) new.published
   -- no message, as a publish or a dead letter, entered a queue that was forbidden to it then, as each event by itself tells
   pub never : AllByRecursion AreAllowed hs
   -- nor one that was forbidden to a publish noted at any of these events
