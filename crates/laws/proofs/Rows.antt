@@ -1,6 +1,6 @@
 -- The worked examples.
-use Rattle.std.proofs.Common.{◌≡◌, ◌≤◌, ℕ, suc, ◌+◌, ◌-◌, Bool, true, false, List, [], ◌∷◌, ◌++◌, refl, sym, ap, ◌∙◌, arith, get_or, drop, lit≤, inl, inr, length}
-use Rattle.std.specs.Prelude.{codes, decimal, if◌then◌else◌}
+use Rattle.std.proofs.Common.{◌≡◌, ◌≤◌, ℕ, suc, ◌+◌, ◌-◌, Bool, true, false, List, [], ◌∷◌, ◌++◌, refl, sym, ap, ◌∙◌, arith, get_or, drop, lit≤, inl, inr, length, map, None}
+use Rattle.std.specs.Prelude.{codes, decimal, filter_map, if◌then◌else◌}
 use Rattle.std.specs.Str.{bytes_eq}
 use Rattle.std.proofs.lemmas.Bool.{false≢true}
 use Rattle.std.proofs.lemmas.Fmt.{decimal_digit}
@@ -9,18 +9,20 @@ use Rattle.model.specs.Topology.{IsIn}
 use Rattle.model.specs.Frames.{Frame, frame_bytes, IsFrame, Begins}
 use Rattle.model.specs.Guarantee.{CoversKey}
 use Rattle.model.specs.Spelling.{method_frame, spelling}
-use Rattle.model.specs.Step.{consume_sends}
+use Rattle.model.specs.Step.{consume_sends, return_of, returned_notes}
+use Rattle.model.specs.Routing.{Routes, Picks, none as none_picked}
+use Rattle.model.specs.Topology.{Topology}
 use Rattle.model.specs.Consuming.{is_in_use, server_tag, first_free}
 use Rattle.model.specs.Broker.{Consumer, Broker}
 use Rattle.model.specs.State.{State}
 use Rattle.model.specs.Run.{Stays}
-use Rattle.model.specs.Headline.{Ack, acks_in, HasAcksOf, IsReading, EnteredOnce, AreAllowed, HaveOrigins, DieOnce, DiesAt, ack_for}
+use Rattle.model.specs.Headline.{Ack, acks_in, HasAcksOf, IsReading, EnteredOnce, AreAllowed, HaveOrigins, EnterAsRouted, note_at, number_in, CountUp, HasSource, given_out, sent_back, HaveSources, DieOnce, DiesAt, ack_for}
 use Rattle.model.specs.declared.notes.Note.{Note}
 use Rattle.model.specs.declared.notes.Note.TheVariants.{Entered, Left}
 use Rattle.model.specs.declared.notes.Way.TheVariants.{Publish, Dead}
 use Rattle.model.specs.declared.notes.Cause.TheVariants.{Acked, Rejected}
 use Rattle.model.specs.declared.methods.Method.TheVariants.{ConfirmSelectOk, BasicAck}
-use Rattle.laws.specs.Rows.{WordsOfKeys, FirstConsumer, RefusedConsumes, FirstInput, FirstOutput, BadEnd, TooLargeContent, HeadlineRefuses, select_ok, first_ack, multiple_ack, first_entry, with_entries, forbids, event_of_notes, one_event, vanishing, bad_end, wanted, first_acked, notes_without_entry, consumer_under, consuming_under}
+use Rattle.laws.specs.Rows.{first_published, first_sent, no_content, WordsOfKeys, FirstConsumer, RefusedConsumes, FirstInput, FirstOutput, BadEnd, TooLargeContent, HeadlineRefuses, select_ok, first_ack, multiple_ack, first_entry, with_entries, forbids, event_of_notes, one_event, vanishing, bad_end, wanted, first_acked, notes_without_entry, consumer_under, consuming_under}
 use Rattle.laws.proofs.Reading.{reading_apart, size_at, size_is, rest_is}
 
 pub words_of_keys : WordsOfKeys
@@ -137,6 +139,31 @@ none_stood d = nowhere (bytes_eq d.queue (codes "audit")) d.stood
 none_left : DiesAt (event_of_notes [] (with_entries (first_entry ∷ [])) (Entered 1 (codes "bin") Dead ∷ []) (with_entries (first_entry ∷ []))) 1 → ⊥
 none_left d = elim d.left [ inl is ↦ cc | inr i ↦ i ]
 
+-- a topology with nothing in it
+abbrev nothing : Topology
+nothing = record { exchanges = []; queues = []; bindings = [] }
+
+-- nothing is routed where nothing is bound
+unrouted : EnterAsRouted (event_of_notes [] (with_entries []) (first_published ∷ Entered 1 (codes "audit") Publish ∷ []) (with_entries (first_entry ∷ []))) → ⊥
+unrouted enter = let e = enter 1 1 1 (codes "orders") (codes "new") None (inl refl) in nowhere e.targets e.goes_back e.routed (ap (drop 1) e.noted)
+  where
+    nowhere : (targets : List Text) (back : Bool) → Picks (Routes nothing (codes "orders") (codes "new")) [] targets
+        → Entered 1 (codes "audit") Publish ∷ [] ≡ map (note_at nothing (with_entries []).broker.queue [] 1 Publish) targets ++ (returned_notes 1 back ++ []) → ⊥
+    nowhere targets true none_picked e = cc
+    nowhere targets false none_picked e = cc
+
+-- the second has the number of the first
+same_number : CountUp 0 (filter_map number_in (first_published ∷ first_published ∷ [])) 2 → ⊥
+same_number c = let two : 1 ≡ 2 = c.1.0 in omega (arith, two)
+
+-- no publish came before, and none comes by the event
+no_source : HaveSources [] (record (event_of_notes [] (with_entries (first_entry ∷ [])) [] (with_entries (first_entry ∷ []))) { sends = return_of 1 1 first_sent no_content ∷ [] }) → ⊥
+no_source has = from has.0
+  where
+    from : HasSource [] (record (event_of_notes [] (with_entries (first_entry ∷ [])) [] (with_entries (first_entry ∷ []))) { sends = return_of 1 1 first_sent no_content ∷ [] }) no_content → ⊥
+    from (given_out queue entry first is of) = of.was.among
+    from (sent_back c k publish given e is) = cc
+
 -- one was rejected, and two came
 two_of_one : DieOnce (event_of_notes [] (with_entries (first_entry ∷ [])) (Left 1 (codes "audit") Rejected ∷ Entered 1 (codes "bin") Dead ∷ Entered 1 (codes "bin") Dead ∷ []) (with_entries [])) → ⊥
 two_of_one once = let most : 2 ≤ 1 = once 1 (codes "bin") in omega (arith, most)
@@ -155,6 +182,9 @@ headline_refuses = record {
   entered_by_no_publish = no_publish_there;
   dead_letter_of_none = λ has. none_stood has.1.0;
   dead_letter_of_one_that_stays = λ has. none_left has.0;
+  entered_without_route = unrouted;
+  one_number_for_two = same_number;
+  content_of_no_publish = no_source;
   two_letters_of_one = two_of_one;
 }
 

@@ -1,5 +1,5 @@
 -- Worked examples, that the checker computes: a definition that says something else shows at once.
-use Rattle.std.specs.Prelude.{◌≡◌, ◌++◌, ℕ, List, Bool, [], ◌∷◌, codes, true, false, Some, None, replicate, if◌then◌else◌}
+use Rattle.std.specs.Prelude.{◌≡◌, ◌++◌, ℕ, List, Bool, [], ◌∷◌, codes, true, false, Some, None, replicate, filter_map, if◌then◌else◌}
 use Rattle.std.specs.Str.{bytes_eq}
 use Rattle.model.specs.Words.{Text, words}
 use Rattle.model.specs.Topology.{Topology}
@@ -12,15 +12,16 @@ use Rattle.model.specs.Grammar.{ids, ids_of}
 use Rattle.model.specs.Headers.{header_bytes, no_properties}
 use Rattle.model.specs.Spelling.{method_frame, body_frame, spelling}
 use Rattle.model.specs.Commands.{Goes_on, Makes, Breaks, Drops, is_too_large, taken_dropped}
-use Rattle.model.specs.Step.{channel_close, connection_close, select_sends, confirm_sends, consume_sends, empty_publish, greatest, Of_channel, Of_connection, refusal_of_consume}
+use Rattle.model.specs.Step.{channel_close, connection_close, select_sends, confirm_sends, consume_sends, empty_publish, return_of, greatest, Of_channel, Of_connection, refusal_of_consume}
 use Rattle.model.specs.Phases.{no_session}
 use Rattle.model.specs.State.{Config, State}
 use Rattle.model.specs.Run.{Happening, Stays, empty_broker}
-use Rattle.model.specs.Headline.{Acked as AckedPublish, HasAcksOf, EnteredOnce, AreAllowed, HaveCauses, HaveOrigins, DieOnce}
+use Rattle.model.specs.Headline.{Acked as AckedPublish, HasAcksOf, EnteredOnce, AreAllowed, HaveCauses, HaveOrigins, EnterAsRouted, number_in, CountUp, HaveSources, DieOnce}
 use Rattle.model.specs.declared.contents.Content.{Content}
 use Rattle.model.specs.declared.messages.Entry.{Entry}
 use Rattle.model.specs.declared.messages.Taker.TheVariants as taker
 use Rattle.model.specs.declared.methods.Consume.{Consume}
+use Rattle.model.specs.declared.methods.Publish.{Publish as Publishing}
 use Rattle.model.specs.declared.messages.Mark.TheVariants.{Ready}
 use Rattle.model.specs.declared.events.Event.TheVariants.{Resume}
 use Rattle.model.specs.declared.notes.Cause.TheVariants.{Acked, Rejected}
@@ -124,6 +125,14 @@ first_entry = record { message = record { number = 1; first_exchange = codes "or
 abbrev pub one_queue : Text → List Entry → Text → List Entry
 one_queue name entries q = if bytes_eq q name then entries else []
 
+-- what the client sends
+abbrev pub first_sent : Publishing
+first_sent = record { reserved = 0; exchange = codes "orders"; routing_key = codes "new"; mandatory = false; immediate = false }
+
+-- it is noted that it came, outside confirm mode
+abbrev pub first_published : Note
+first_published = Published 1 1 1 (codes "orders") (codes "new") None
+
 -- a broker with one publish counted, and with these entries in the queue `audit`
 abbrev pub with_entries : List Entry → State
 with_entries entries = record { broker = record empty_broker { published = 1; queue = one_queue (codes "audit") entries }; session = λ c. no_session }
@@ -174,6 +183,12 @@ pub record HeadlineRefuses : Type 0 where
   pub dead_letter_of_none : HaveOrigins (event_of_notes [] (with_entries []) (Left 1 (codes "audit") Rejected ∷ Entered 1 (codes "bin") Dead ∷ []) (with_entries [])) → ⊥
   -- and one of a message that stays where it stood
   pub dead_letter_of_one_that_stays : HaveOrigins (event_of_notes [] (with_entries (first_entry ∷ [])) (Entered 1 (codes "bin") Dead ∷ []) (with_entries (first_entry ∷ []))) → ⊥
+  -- a publish that enters a queue to which it is not routed
+  pub entered_without_route : EnterAsRouted (event_of_notes [] (with_entries []) (first_published ∷ Entered 1 (codes "audit") Publish ∷ []) (with_entries (first_entry ∷ []))) → ⊥
+  -- two publishes of one number
+  pub one_number_for_two : CountUp 0 (filter_map number_in (first_published ∷ first_published ∷ [])) 2 → ⊥
+  -- a content that is given out and that no publish came with
+  pub content_of_no_publish : HaveSources [] (record (event_of_notes [] (with_entries (first_entry ∷ [])) [] (with_entries (first_entry ∷ []))) { sends = return_of 1 1 first_sent no_content ∷ [] }) → ⊥
   -- two dead letters of one message, in one queue
   pub two_letters_of_one : DieOnce (event_of_notes [] (with_entries (first_entry ∷ [])) (Left 1 (codes "audit") Rejected ∷ Entered 1 (codes "bin") Dead ∷ Entered 1 (codes "bin") Dead ∷ []) (with_entries [])) → ⊥
 
