@@ -1,12 +1,12 @@
 -- What a publish enters: each queue to which it is routed, or that is full.
 use Rattle.std.proofs.lemmas.List.Elements.{filter_map-append}
 use Rattle.std.proofs.Common.{◌≡◌, ℕ, ◌⊎◌, List, [], ◌∷◌, ◌++◌, Bool, true, false, refl, sym, ap, subst, ◌∙◌, Option, Some, None, length, map, inl, inr}
-use Rattle.std.specs.Prelude.{◌||◌, ◌&&◌, filter_map}
+use Rattle.std.specs.Prelude.{◌||◌, filter_map}
 use Rattle.std.specs.List.{list_any, AllByRecursion}
 use Rattle.model.specs.Words.{Text}
 use Rattle.model.specs.Topology.{IsIn}
 use Rattle.model.specs.Broker.{is_full}
-use Rattle.model.specs.Step.{answer_of, is_none}
+use Rattle.model.specs.Step.{answer_of}
 use Rattle.model.specs.State.{State}
 use Rattle.model.specs.Run.{Happening, Run, notes_of}
 use Rattle.model.specs.Headline.{is_full_after, EntersAsRouted, EnterAsRouted, number_in, CountUp}
@@ -51,12 +51,6 @@ full_one p (x ∷ xs) e = go (p x) refl (full_one p xs) e
     go true is more e = (x, inl refl, is)
     go false is more e = let r = more e in (r.0, inr r.1, r.2)
 
--- what goes back is routed nowhere
-routed_nowhere : (mandatory : Bool) (targets : List Text) → (mandatory && is_none targets) ≡ true → targets ≡ []
-routed_nowhere true [] e = refl
-routed_nowhere true (q ∷ qs) e = absurd cc
-routed_nowhere false targets e = absurd cc
-
 module _ (h : Happening) (p : Publishes h.config.topology h.before.broker h.after.broker h.event h.sends h.notes) where
   abbrev IsRoom : Text → Type 0
   IsRoom q = is_full_after h.config.topology h.before.broker.queue [] q ≡ false
@@ -72,12 +66,17 @@ module _ (h : Happening) (p : Publishes h.config.topology h.before.broker h.afte
 
   own : EntersAsRouted h (number p) p.c p.h p.publish.exchange p.publish.routing_key (confirm p)
   own = record {
+    publish = p.publish;
+    given = p.given;
+    event = p.event;
+    exchange = refl;
+    routing_key = refl;
     targets = p.is.targets;
     routed = p.is.routed;
     goes_back = is_returned p;
     reply = answer_of (some_full p);
     noted = noted p ∙ ap (λ (ns : List Note). first_note p ∷ (ns ++ answer_part p)) (same_notes h.config.topology h.before.broker.queue h.before.broker.queue [] (length (content p).body) (number p) way.Publish (follows_itself h.before.broker.queue) p.is.targets);
-    returned = routed_nowhere p.publish.mandatory p.is.targets;
+    returned = refl;
     acked = λ e. rooms (acked_if_none (some_full p) (sym e));
     nacked = λ e. one_full (some_is_full (some_full p) e);
   }

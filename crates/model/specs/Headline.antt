@@ -12,7 +12,7 @@ use Rattle.model.specs.Spelling.{eight_bytes}
 use Rattle.model.specs.Broker.{Outstanding, Channel, Broker, is_ready, is_at, limit_of, queue_named}
 use Rattle.model.specs.Entries.{is_held_as}
 use Rattle.model.specs.Settling.{takes}
-use Rattle.model.specs.Step.{tag_of, content_or_none, returned_notes, confirm_notes}
+use Rattle.model.specs.Step.{tag_of, content_or_none, is_none, returned_notes, confirm_notes}
 use Rattle.model.specs.Message.{Message}
 use Rattle.model.specs.Deaths.{AreMarked, with_headers}
 use Rattle.model.specs.Deliveries.{first_ready, ready_in, holder_of}
@@ -276,14 +276,19 @@ is_full_after t queues noted q = is_at (limit_of (queue_named t.queues q)) (read
 abbrev pub note_at : Topology → (Text → List Entry) → List Note → ℕ → Way → Text → Note
 note_at t queues noted n w q = if is_full_after t queues noted q then Refused n q else Entered n q w
 
--- What an event notes of the publish of this number: that it came, then of each queue to which it is routed, in the order of the file, that it entered it or that the queue was full, then, only where it is routed nowhere, that it went back, and where it has a confirm number the one answer to it: ack where no queue was full, and else nack.
+-- What an event notes of the publish of this number, which it is: that it came, then of each queue to which it is routed, in the order of the file, that it entered it or that the queue was full, then that it went back, where it is mandatory and routed nowhere, and where it has a confirm number the one answer to it: ack where no queue was full, and else nack.
 pub record EntersAsRouted (h : Happening) (n c k : ℕ) (x key : Text) (confirm : Option ℕ) : Type 0 where
+  pub publish : Publish
+  pub given : Option Content
+  pub event : h.event ≡ Command c k (BasicPublish publish) given
+  pub exchange : publish.exchange ≡ x
+  pub routing_key : publish.routing_key ≡ key
   pub targets : List Text
   pub routed : Picks (Routes h.config.topology x key) (queue_names h.config.topology.queues) targets
   pub goes_back : Bool
   pub reply : Answer
   pub noted : h.notes ≡ Published n c k x key confirm ∷ (map (note_at h.config.topology h.before.broker.queue [] n way.Publish) targets ++ (returned_notes n goes_back ++ confirm_notes n confirm reply))
-  pub returned : goes_back ≡ true → targets ≡ []
+  pub returned : goes_back ≡ (publish.mandatory && is_none targets)
   pub acked : reply ≡ answer.Ack → AllByRecursion (λ (q : Text). is_full_after h.config.topology h.before.broker.queue [] q ≡ false) targets
   pub nacked : reply ≡ answer.Nack → (q : Text) × IsIn q targets × (is_full_after h.config.topology h.before.broker.queue [] q ≡ true)
 

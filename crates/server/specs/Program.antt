@@ -17,6 +17,7 @@ use Rattle.guarantee_search.specs.declared.verdicts.Verdict.{Verdict}
 use Rattle.engine.specs.Certified.{IsCertified}
 use Rattle.command_line.specs.CommandLine.{Wanted, Check, Verify, Replay, Serve, Route, AsksFor, AsksNothing}
 use Rattle.server.specs.declared.refusals.CommandRefusal.{CommandRefusal}
+use Rattle.server.specs.declared.replaying.BrokerFiles.{BrokerFiles}
 use Rattle.server.specs.declared.refusals.CommandRefusal.TheVariants.{Line, Refused, TooLong, Unread, Unwritten, NoExchange, Certificate, NotListening, Memory}
 use Rattle.server.specs.Refusals.{IsOfFile}
 use Rattle.scripts.specs.Script.{script}
@@ -24,7 +25,7 @@ use Rattle.scripts.specs.Transcript.{transcript_text}
 use Rattle.server.specs.Routes.{ListsExchange}
 use Rattle.named_files.specs.Files.{Known, HasText, IsTooLong, IsUnreadable, AreKept, AreKeptBut, most_bytes}
 use Rattle.server.specs.Streams.{OutputStream, GetsNothing, PutsOut, TriesPut, tried}
-use Rattle.named_files.specs.Stated.{States, HoldsCertificates, CertifiesAt, SetsUp, FailsToSetUp, FailsToCertify}
+use Rattle.named_files.specs.Stated.{file_named, States, HoldsCertificates, CertifiesAt, SetsUp, FailsToSetUp, FailsToCertify}
 use Rattle.verdicts.specs.Verdicts.{FindsVerdicts, JudgesAll, certificates_in, status_of_verdicts}
 use Rattle.verdicts.specs.Outcomes.{Verifies, fault_number}
 
@@ -43,6 +44,10 @@ pub record IsInForce (holds : Text → Known) (definitions guarantees certificat
   pub certifies : CertifiesAt holds certificates shown
   pub certified : AreCertified stated.topology promised shown
   pub is : force ≡ force_of stated promised
+
+-- this is said of the files that are named for a broker
+abbrev pub OverNamed : (Option Text → Option Text → Option Text → Type 0) → BrokerFiles → Type 0
+OverNamed Says named = Says (file_named named.definitions) (file_named named.guarantees) (file_named named.certificates)
 
 -- a broker that was just started over these files: what is in force by them is, and no connection was opened
 abbrev pub IsStarted : (Text → Known) → Text → Text → Text → World → Type 0

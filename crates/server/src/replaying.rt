@@ -5,7 +5,6 @@ ghost use Rattle.certificate.specs.Certified.{AreCertified};
 ghost use Rattle.command_line.specs.CommandLine.{Replay, Wanted};
 ghost use Rattle.engine.specs.Certified.{in_force};
 ghost use Rattle.named_files.specs.Files.{AreKept};
-ghost use Rattle.named_files.specs.Stated.{file_named};
 ghost use Rattle.verdicts.specs.Outcomes.{fault_number};
 ghost use Rattle.server.specs.Program.{
   Fails,
@@ -14,6 +13,7 @@ ghost use Rattle.server.specs.Program.{
   IsReplayed,
   IsWhyOfFile,
   IsWhyUnadmitted,
+  OverNamed,
   Prints,
   PrintsFile,
   RunsOver,
@@ -111,7 +111,7 @@ pub(crate) fn in_force<'a, F: Files>(
     named: BrokerFiles<'a>,
     files: &mut F,
 ) -> Result<(Checked, Vec<User>), Told<'a>>
-    ensures force { (wanted : Wanted) → RunsOver wanted (file_named named.entry.definitions) (file_named named.entry.guarantees) (file_named named.entry.certificates) → MatchResult result (λ force. IsInForce (F.holds files.old) (file_named named.entry.definitions) (file_named named.entry.guarantees) (file_named named.entry.certificates) (in_force force.0 force.1.items)) (λ told. Fails (F.holds files.old) wanted told.file.now told.why) }
+    ensures force { (wanted : Wanted) → OverNamed (RunsOver wanted) named.entry → MatchResult result (λ force. OverNamed (λ d g c. IsInForce (F.holds files.old) d g c (in_force force.0 force.1.items)) named.entry) (λ told. Fails (F.holds files.old) wanted told.file.now told.why) }
     ensures files { AreKept (F.holds files.old) (F.holds files.new) }
 {
     let Setup {
@@ -139,7 +139,7 @@ pub fn replay<'a, F: Files>(
     named: BrokerFiles<'a>,
     files: &mut F,
 ) -> Result<Output, Told<'a>>
-    ensures answers { MatchResult result (λ o. IsReplayed (F.holds files.old) script.now (file_named named.entry.definitions) (file_named named.entry.guarantees) (file_named named.entry.certificates) o.text.items o.status) (λ told. Fails (F.holds files.old) (Replay script.now (file_named named.entry.definitions) (file_named named.entry.guarantees) (file_named named.entry.certificates)) told.file.now told.why) }
+    ensures answers { MatchResult result (λ o. OverNamed (λ d g c. IsReplayed (F.holds files.old) script.now d g c o.text.items o.status) named.entry) (λ told. OverNamed (λ d g c. Fails (F.holds files.old) (Replay script.now d g c) told.file.now told.why) named.entry) }
     ensures files { AreKept (F.holds files.old) (F.holds files.new) }
 {
     let (checked, users) = match in_force(alloc, named, files) {
