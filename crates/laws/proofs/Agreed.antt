@@ -14,7 +14,7 @@ use Rattle.model.specs.Broker.{Outstanding, Channel, Connection, Broker, new_cha
 use Rattle.model.specs.Entries.{is_under, is_held_as, by_channel, by_connection, freed, held_as, change_first}
 use Rattle.model.specs.Settling.{Rises, is_refused, settled, kept, takes}
 use Rattle.model.specs.Deliveries.{Settlement, Leaves, Rejects, Returns, AreSettled, AreRejected, first_ready, holder_of, given_in, without_given, after_delivery, after_giving, channel_after, outstanding_after}
-use Rattle.model.specs.Step.{tag_of, Refusal, Ignored, Of_channel, Of_connection, Acts, Does, Gets, Settles, Performs, Refuses, Decides, OnConnection, OnLarge, IsDelivery, Is, channel_or_new, channels_up_to, comes_to, empty_publish, refusal, refusal_of_large, reply, with_freed, with_channel, is_awaiting}
+use Rattle.model.specs.Step.{tag_of, Refusal, Ignored, Of_channel, Of_connection, Acts, Does, Gets, Settles, Performs, Refuses, Decides, OnConnection, OnLarge, IsDelivery, Is, channel_or_new, channels_up_to, opened, comes_to, empty_publish, refusal, refusal_of_large, reply, with_freed, with_channel, is_awaiting}
 use Rattle.model.specs.Run.{empty_broker}
 use Rattle.model.specs.Deaths.{MayDie}
 use Rattle.model.specs.Agreement.{IsOutstanding, IsAgreed}
@@ -38,6 +38,10 @@ use Rattle.model.specs.declared.messages.Mark.{Mark}
 use Rattle.laws.proofs.Agreement.{Passes, number, HeldIn, Shrinks, shrinks_same, shrinks_freed, shrinks_without, shrinks_filter, left_shrinks, returned_shrinks, left_clear, returned_clear, in_freed, held_here, counted_in, find_counted, ready_not_held, same_holder, shrinks_on, AreApart, IsClear, clear_on, apart_on, count_own, at_own}
 use Rattle.laws.proofs.Given.{Keeps, Any, IsOther, keeps_same, keeps_on, keeps_arrivals, keeps_freed, keeps_purged, keeps_given, left_keeps, rejected_keeps, returned_keeps, first_is_held, in_passing}
 use Rattle.laws.proofs.Dying.{Goes, not_found, left_only, died, goes_by}
+use Rattle.model.specs.Phases.{is_running}
+use Rattle.model.specs.State.{Config, State, Step}
+use Rattle.model.specs.Run.{Happening, Run}
+use Rattle.laws.proofs.View.{connection_of, goes as step_goes}
 use Rattle.laws.proofs.Leaving.{at_queue}
 
 -- ---- channels
@@ -782,3 +786,24 @@ none_held = record {
 
 pub stay_agreed : BrokersStayAgreed
 stay_agreed = record { empty = none_held; acts = λ t old new e sends notes a p. onward t old new a e sends notes p }
+
+-- ---- runs
+
+-- after a move of the phases
+moved_agreed : (t : Topology) (old new : Broker) (c max : ℕ) (v : Bool) → IsAgreed old → Is (if v then opened old c max 0 else old) new → IsAgreed new
+moved_agreed t old new c max true a is = onward t old new a (Running c max 0) [] [] (record { sent = refl; noted = refl; left = is })
+moved_agreed t old new c max false a is = onward t old new a (Open c) [] [] (record { sent = refl; noted = refl; left = is })
+
+-- and so after each step
+step_agreed : (f : Config) (old new : State) (e : Event) (sends : List Send) (notes : List Note) → Step f old e sends notes new → IsAgreed old.broker → IsAgreed new.broker
+step_agreed f old new e sends notes s a = elim (step_goes f old new sends notes e s) [
+  | inl p ↦ onward f.topology old.broker new.broker a e sends notes p.acts
+  | inr q ↦ moved_agreed f.topology old.broker new.broker (connection_of e) q.move.next.channel_max (is_running q.move.next.phase) a q.moves.broker
+]
+
+-- In every run what is held and what is outstanding agree after each event, where they did before the first.
+pub run_agreed : (hs : List Happening) (old new : State) → Run old hs new → IsAgreed old.broker → AllByRecursion (λ (h : Happening). IsAgreed h.after.broker) hs
+run_agreed [] old new r a = tt
+run_agreed (h ∷ hs) old new (e, s, r) a =
+    let here = step_agreed h.config h.before h.after h.event h.sends h.notes s (subst (λ (z : State). IsAgreed z.broker) (sym e) a) in
+    (here, run_agreed hs h.after new r here)

@@ -16,6 +16,7 @@ use Rattle.model.specs.Step.{tag_of, content_or_none, is_none, returned_notes, c
 use Rattle.model.specs.Message.{Message}
 use Rattle.model.specs.Deaths.{AreMarked, with_headers}
 use Rattle.model.specs.Deliveries.{first_ready, ready_in, holder_of}
+use Rattle.model.specs.Agreement.{IsAgreed}
 use Rattle.model.specs.Consuming.{CanDeliver}
 use Rattle.model.specs.State.{Config}
 use Rattle.model.specs.Run.{Happening, notes_of, Stays, empty_broker}
@@ -437,6 +438,8 @@ pub record KeepsEvents (old : Broker) (hs : List Happening) (new : Broker) : Typ
 -- Of all that happened from the empty broker to this one, and of the outputs of the connections:
 pub record KeepsPromises (hs : List Happening) (last : Broker) (connections : List Shown) : Type 0 where
   pub events : KeepsEvents empty_broker hs last
+  -- after each event each message that is held is outstanding under its tag on the channel that holds it, and each that is outstanding there is held: so none is held by a channel or a connection that is gone
+  pub agreed : AllByRecursion (λ (h : Happening). IsAgreed h.after.broker) hs
   -- each message was given out with the body and the properties with which it was published, but for headers that tell of its deaths
   pub contents : AreSourced [] hs
   -- the acks in a connection's output are those of its publishes confirmed by ack, one by one
