@@ -438,7 +438,7 @@ pub record KeepsEvents (old : Broker) (hs : List Happening) (new : Broker) : Typ
 -- Of all that happened from the empty broker to this one, and of the outputs of the connections:
 pub record KeepsPromises (hs : List Happening) (last : Broker) (connections : List Shown) : Type 0 where
   pub events : KeepsEvents empty_broker hs last
-  -- after each event each message that is held is outstanding under its tag on the channel that holds it, and each that is outstanding there is held: so none is held by a channel or a connection that is gone
+  -- after each event each message that is held is outstanding under its tag on the channel that holds it, and each that is outstanding there is held: so none is held by a channel that is not open
   pub agreed : AllByRecursion (λ (h : Happening). IsAgreed h.after.broker) hs
   -- each message was given out with the body and the properties with which it was published, but for headers that tell of its deaths
   pub contents : AreSourced [] hs
