@@ -32,6 +32,7 @@ use Rattle.model.specs.declared.methods.Get.{Get}
 use Rattle.model.specs.declared.methods.Method.{Method}
 use Rattle.model.specs.declared.methods.Method.TheVariants.{ConnectionClose, ChannelOpen, ChannelFlow, ChannelClose, ChannelCloseOk, ExchangeDeclare, QueueDeclare, QueuePurge, BasicQos, BasicPublish, BasicGet, BasicAck, BasicReject, BasicNack, BasicRecover, ConfirmSelect, BasicConsume, BasicCancel}
 use Rattle.model.specs.declared.notes.Note.{Note}
+use Rattle.model.specs.Headline.{event_connection}
 use Rattle.laws.specs.Agreeing.{BrokersStayAgreed}
 use Rattle.laws.proofs.Counts.{count-append, count-cons, in-append, in_front, all_in, all-append, all_each}
 use Rattle.model.specs.declared.messages.Mark.{Mark}
@@ -41,7 +42,7 @@ use Rattle.laws.proofs.Dying.{Goes, not_found, left_only, died, goes_by}
 use Rattle.model.specs.Phases.{is_running}
 use Rattle.model.specs.State.{Config, State, Step}
 use Rattle.model.specs.Run.{Happening, Run}
-use Rattle.laws.proofs.View.{connection_of, goes as step_goes}
+use Rattle.laws.proofs.View.{goes as step_goes}
 use Rattle.laws.proofs.Leaving.{at_queue}
 
 -- ---- channels
@@ -798,7 +799,7 @@ moved_agreed t old new c max false a is = onward t old new a (Open c) [] [] (rec
 step_agreed : (f : Config) (old new : State) (e : Event) (sends : List Send) (notes : List Note) → Step f old e sends notes new → IsAgreed old.broker → IsAgreed new.broker
 step_agreed f old new e sends notes s a = elim (step_goes f old new sends notes e s) [
   | inl p ↦ onward f.topology old.broker new.broker a e sends notes p.acts
-  | inr q ↦ moved_agreed f.topology old.broker new.broker (connection_of e) q.move.next.channel_max (is_running q.move.next.phase) a q.moves.broker
+  | inr q ↦ moved_agreed f.topology old.broker new.broker (event_connection e) q.move.next.channel_max (is_running q.move.next.phase) a q.moves.broker
 ]
 
 -- In every run what is held and what is outstanding agree after each event, where they did before the first.

@@ -38,13 +38,14 @@ use Rattle.model.specs.declared.methods.Method.TheVariants.{ConnectionClose, Cha
 use Rattle.model.specs.declared.notes.Cause.{Cause}
 use Rattle.model.specs.declared.notes.Note.{Note}
 use Rattle.model.specs.declared.notes.Answer.{Answer}
+use Rattle.model.specs.Headline.{event_connection}
 use Rattle.laws.specs.Carrying.{MessagesStayCarried}
 use Rattle.laws.specs.Promises.{AreUnder}
 use Rattle.laws.proofs.Dying.{Goes, not_found, left_only, died, goes_by}
 use Rattle.laws.proofs.Marking.{within_stored, stored_marked}
 use Rattle.laws.proofs.Counts.{all-append, all_in, filter_all}
 use Rattle.laws.proofs.Leaving.{at_queue, find_in}
-use Rattle.laws.proofs.View.{connection_of, goes}
+use Rattle.laws.proofs.View.{goes}
 
 -- ---- lists of entries
 
@@ -307,7 +308,7 @@ moved_in old made new false is b a = in_same old.queue new.queue is.queues a
 step_carries : (f : Config) (old new : State) (e : Event) (sends : List Send) (notes : List Note) → IsWellFormed f.topology → IsSaid e → AreCarried old.broker → Step f old e sends notes new → AreCarried new.broker
 step_carries f old new e sends notes wf said a s = elim (goes f old new sends notes e s) [
   | inl p ↦ (carries f.topology old.broker new.broker sends notes a e said p.acts).queues wf
-  | inr p ↦ moved_in old.broker _ new.broker (is_running p.move.next.phase) p.moves.broker (λ q. freed_all (by_connection (connection_of e)) (old.broker.queue q) (a q)) a
+  | inr p ↦ moved_in old.broker _ new.broker (is_running p.move.next.phase) p.moves.broker (λ q. freed_all (by_connection (event_connection e)) (old.broker.queue q) (a q)) a
 ]
 
 pub run_carries : (f : Config) (hs : List Happening) (old new : State) → IsWellFormed f.topology → AreUnder f hs → AllByRecursion (λ (h : Happening). IsSaid h.event) hs → Run old hs new → AreCarried old.broker → AreCarried new.broker

@@ -22,11 +22,12 @@ use Rattle.model.specs.declared.methods.Method.TheVariants.{ConnectionClose, Cha
 use Rattle.model.specs.declared.events.Send.{Send}
 use Rattle.model.specs.declared.events.Event.{Event}
 use Rattle.model.specs.declared.events.Event.TheVariants.{Open, First, Running, Command, TooLarge, Fault, Lose, Pause, Resume, Deliver}
+use Rattle.model.specs.Headline.{event_connection}
 use Rattle.laws.specs.Order.{GivesOut, to_get, to_consumer, IsHeldSince, before, by_it, HeldAreGiven}
 use Rattle.laws.proofs.Agreement.{Shrinks, shrinks_same, shrinks_freed, shrinks_filter, shrinks_on, left_shrinks, returned_shrinks, same_holder}
 use Rattle.laws.proofs.Agreed.{shrinks_arrivals, rejected_shrinks}
 use Rattle.laws.proofs.Leaving.{at_queue}
-use Rattle.laws.proofs.View.{connection_of, goes}
+use Rattle.laws.proofs.View.{goes}
 
 -- ---- one queue
 
@@ -156,5 +157,5 @@ module _ (h : Happening) where
 pub held_are_given : HeldAreGiven
 held_are_given h s = elim (goes h.config h.before h.after h.sends h.notes h.event s) [
   | inl p ↦ held h h.event refl p.acts
-  | inr a ↦ moved h (connection_of h.event) a.move.next.channel_max (is_running a.move.next.phase) a.moves.broker
+  | inr a ↦ moved h (event_connection h.event) a.move.next.channel_max (is_running a.move.next.phase) a.moves.broker
 ]

@@ -11,6 +11,7 @@ pub mod Given
 pub mod Agreed
 pub mod Speaking
 pub mod View
+pub mod Aside
 pub mod Tags
 pub mod Named
 pub mod Made

@@ -16,7 +16,8 @@ use Rattle.model.specs.declared.events.Command.{Command}
 use Rattle.model.specs.declared.events.Command.TheVariants.{Head, Plain, Full, TooLarge}
 use Rattle.model.specs.declared.events.Event.{Event}
 use Rattle.model.specs.declared.events.Event.TheVariants as event
-use Rattle.laws.proofs.View.{connection_of, connection_after, session_after, is_read, is_opening, with_same, acted, Performed, Answered, goes}
+use Rattle.model.specs.Headline.{event_connection}
+use Rattle.laws.proofs.View.{connection_after, session_after, is_read, is_opening, with_same, acted, Performed, Answered, goes}
 
 -- ---- one value changed
 
@@ -133,7 +134,7 @@ awake_after _ was is read x = x.1
 
 module _ (b : Broker) (sessions : ℕ → Session) (p : ℕ → Bool) (sends : List Send) (a : Agrees b sessions p) where
   -- its connection is there exactly while it runs
-  runs_after : (e : Event) → (is_read e ≡ true → is_running (sessions (connection_of e)).phase ≡ true) → (is_opening e ≡ true → is_running (sessions (connection_of e)).phase ≡ false) → is_some (connection_after b e sends) ≡ is_running (session_after (sessions (connection_of e)) e sends).phase
+  runs_after : (e : Event) → (is_read e ≡ true → is_running (sessions (event_connection e)).phase ≡ true) → (is_opening e ≡ true → is_running (sessions (event_connection e)).phase ≡ false) → is_some (connection_after b e sends) ≡ is_running (session_after (sessions (event_connection e)) e sends).phase
   runs_after (event.Open c) runs free = a.running c ∙ free refl
   runs_after (event.First c bytes) runs free = runs_on (after_sends sends) (b.connection c) (sessions c) (a.running c ∙ runs refl)
   runs_after (event.Command c h m content) runs free = runs_on (after_sends sends) (b.connection c) (sessions c) (a.running c ∙ runs refl)
@@ -147,7 +148,7 @@ module _ (b : Broker) (sessions : ℕ → Session) (p : ℕ → Bool) (sends : L
   kept_flag c true is conn x e = a.paused c conn e ∙ x.0 ∙ sym x.1
   kept_flag c false is conn x e = none_is_some _ conn e
 
-  flag_after : (e : Event) (is : Bool) → IsFlagAfter e (p (connection_of e)) is → (is_opening e ≡ true → is_running (sessions (connection_of e)).phase ≡ false) → (conn : Connection) → connection_after b e sends ≡ Some conn → conn.is_paused ≡ is
+  flag_after : (e : Event) (is : Bool) → IsFlagAfter e (p (event_connection e)) is → (is_opening e ≡ true → is_running (sessions (event_connection e)).phase ≡ false) → (conn : Connection) → connection_after b e sends ≡ Some conn → conn.is_paused ≡ is
   flag_after (event.Open c) is x free conn e = absurd (false≢true (sym (a.running c ∙ free refl) ∙ ap is_some e))
   flag_after (event.First c bytes) is x free conn e = kept_flag c (is_running (after_sends sends)) is conn x e
   flag_after (event.Running c max k) is x free conn e = sym (ap flag_of e) ∙ sym x
@@ -159,7 +160,7 @@ module _ (b : Broker) (sessions : ℕ → Session) (p : ℕ → Bool) (sends : L
   flag_after _ is x free conn e = none_is_some _ conn e
 
   -- its limits are those of its session
-  limit_after : (e : Event) → (is_opening e ≡ true → is_running (sessions (connection_of e)).phase ≡ false) → (conn : Connection) → connection_after b e sends ≡ Some conn → conn.channel_max ≡ (session_after (sessions (connection_of e)) e sends).channel_max
+  limit_after : (e : Event) → (is_opening e ≡ true → is_running (sessions (event_connection e)).phase ≡ false) → (conn : Connection) → connection_after b e sends ≡ Some conn → conn.channel_max ≡ (session_after (sessions (event_connection e)) e sends).channel_max
   limit_after (event.Open c) free conn e = absurd (false≢true (sym (a.running c ∙ free refl) ∙ ap is_some e))
   limit_after (event.First c bytes) free conn e = limit_on (after_sends sends) (b.connection c) (sessions c) conn (a.limits c conn) e
   limit_after (event.Running c max k) free conn e = sym (ap limit_of e)
@@ -171,11 +172,11 @@ module _ (b : Broker) (sessions : ℕ → Session) (p : ℕ → Bool) (sends : L
   limit_after _ free conn e = none_is_some _ conn e
 
 module _ (f : Config) (old new : State) (e : Event) (sends : List Send) (notes : List Note) (p q : ℕ → Bool) (a : Agrees old.broker old.session p)
-    (others : (d : ℕ) → d ≢ connection_of e → q d ≡ p d) (flag : IsFlagAfter e (p (connection_of e)) (q (connection_of e))) where
+    (others : (d : ℕ) → d ≢ event_connection e → q d ≡ p d) (flag : IsFlagAfter e (p (event_connection e)) (q (event_connection e))) where
   agrees_performed : Performed f old e sends notes new → Agrees new.broker new.session q
   agrees_performed s =
-      agrees_with old.broker new.broker old.session new.session p q (connection_of e) _ _ a (acted f.topology old.broker new.broker sends notes e s.acts).connections s.sessions (with_by p q (connection_of e) others)
-      (runs_after old.broker old.session p sends a e s.runs s.free) (flag_after old.broker old.session p sends a e (q (connection_of e)) flag s.free)
+      agrees_with old.broker new.broker old.session new.session p q (event_connection e) _ _ a (acted f.topology old.broker new.broker sends notes e s.acts).connections s.sessions (with_by p q (event_connection e) others)
+      (runs_after old.broker old.session p sends a e s.runs s.free) (flag_after old.broker old.session p sends a e (q (event_connection e)) flag s.free)
       (limit_after old.broker old.session p sends a e s.free)
 
   -- a move of the phases alone
@@ -183,7 +184,7 @@ module _ (f : Config) (old new : State) (e : Event) (sends : List Send) (notes :
   agrees_answered s = go (is_running s.move.next.phase) refl s.moves.broker.connections
     where
       c : ℕ
-      c = connection_of e
+      c = event_connection e
 
       go : (v : Bool) → is_running s.move.next.phase ≡ v → ((d : ℕ) → new.broker.connection d ≡ (if v then opened old.broker c s.move.next.channel_max 0 else old.broker).connection d) → Agrees new.broker new.session q
       go true is connections = agrees_with old.broker new.broker old.session new.session p q c _ s.move.next a connections s.moves.session (with_by p q c others) (sym is)

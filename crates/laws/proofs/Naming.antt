@@ -6,15 +6,16 @@ use Rattle.model.specs.Phases.{is_running}
 use Rattle.model.specs.Run.{Happening, Run}
 use Rattle.model.specs.Naming.{AreNamed}
 use Rattle.model.specs.Arrivals.{World, Waits, IsSaid}
+use Rattle.model.specs.Headline.{event_connection}
 use Rattle.laws.specs.Consumers.{IsWorldNamed, WorldsStayNamed, PlaysStayNamed}
-use Rattle.laws.proofs.View.{connection_of, goes}
+use Rattle.laws.proofs.View.{goes}
 use Rattle.laws.proofs.Plays.{IsTold, Told, told_turns, told_taken, told_opens, told_loses, told_pumps, told_plays}
 use Rattle.laws.proofs.Named.{onward, moved, stay_named}
 
 step_named : (h : Happening) → IsSaid h.event → Step h.config h.before h.event h.sends h.notes h.after → AreNamed h.config.topology h.before.broker → AreNamed h.config.topology h.after.broker
 step_named h said s a = elim (goes h.config h.before h.after h.sends h.notes h.event s) [
   | inl p ↦ onward h.config.topology h.before.broker h.after.broker a h.event h.sends h.notes said p.acts
-  | inr p ↦ moved h.config.topology h.before.broker h.after.broker a (connection_of h.event) p.move.next.channel_max (is_running p.move.next.phase) p.moves.broker
+  | inr p ↦ moved h.config.topology h.before.broker h.after.broker a (event_connection h.event) p.move.next.channel_max (is_running p.move.next.phase) p.moves.broker
 ]
 
 run_named : (f : Config) (hs : List Happening) (old new : State) → AllByRecursion (IsTold f) hs → Run old hs new → AreNamed f.topology old.broker → AreNamed f.topology new.broker

@@ -25,6 +25,7 @@ use Rattle.laws.proofs.Entering.{picked}
 use Rattle.laws.proofs.Safe.{come_here}
 use Rattle.laws.proofs.Traced.{Rooted, before, now, rooted, exchange_of, key_of, step_came, step_traced}
 use Rattle.laws.proofs.Leaving.{OfLeft}
+use Rattle.laws.proofs.Aside.{run_aside}
 use Rattle.laws.proofs.Routed.{run_routed, run_numbers}
 use Rattle.laws.proofs.Letters.{letters_once}
 use Rattle.laws.proofs.Counts.{all_each, all_in, in-append, count-cons, count-cons_yes}
@@ -272,4 +273,5 @@ run_keeps f hs old new sound under said begun r = record {
   come = run_origins hs old new r;
   letters = run_letters hs old new (sound_each f hs sound under) r;
   once = run_letters_once hs old new (sound_each f hs sound under) r;
+  alone = run_aside hs old new r;
 }

@@ -16,11 +16,12 @@ use Rattle.model.specs.declared.events.Event.{Event}
 use Rattle.model.specs.declared.events.Arrival.{Arrival}
 use Rattle.model.specs.declared.events.Arrival.TheVariants as arrival
 use Rattle.model.specs.declared.notes.Note.{Note}
+use Rattle.model.specs.Headline.{event_connection}
 use Rattle.laws.specs.Streams.{is_head}
 use Rattle.laws.specs.Openings.{is_header, is_first, AreToCome, ReadsByPhase, OpeningsReadByPhase}
 use Rattle.laws.proofs.Counts.{from_either}
 use Rattle.laws.proofs.Streams.{head_read, head_awaited, frames_read}
-use Rattle.laws.proofs.View.{connection_of, is_read, goes, Performed, Answered}
+use Rattle.laws.proofs.View.{is_read, goes, Performed, Answered}
 use Rattle.laws.proofs.Linked.{with_here}
 use Rattle.laws.proofs.Spoken.{read_no_header, read_is, settled_sessions}
 
@@ -60,11 +61,11 @@ reads_first v c k s next e (fault {code = code} y) a = let framed : false ≡ v 
 -- ---- one step
 
 step_no_header : (f : Config) (old new : State) (e : Event) (sends : List Send) (notes : List Note) → is_read e ≡ true → Step f old e sends notes new
-    → is_first e ≡ is_header (old.session (connection_of e)).phase → is_header (new.session (connection_of e)).phase ≡ false
+    → is_first e ≡ is_header (old.session (event_connection e)).phase → is_header (new.session (event_connection e)).phase ≡ false
 step_no_header f old new e sends notes read step first = elim (goes f old new sends notes e step) [ inl p ↦ performed p | inr a ↦ answered a ]
   where
     c : ℕ
-    c = connection_of e
+    c = event_connection e
 
     performed : Performed f old e sends notes new → is_header (new.session c).phase ≡ false
     performed p = ap (λ (s : Session). is_header s.phase) (p.sessions c ∙ with_here old.session c _) ∙ read_no_header (old.session c) e sends read
@@ -117,7 +118,7 @@ turn_all c old new hs t a d = by (d == c) refl
     read : (is_first t.event ≡ is_header (old.state.session c).phase) × (t.next.is_new ≡ false)
     read = reads_first (is_header (old.state.session c).phase) c _ _ t.next t.event t.read (a c)
 
-    of_it : connection_of t.event ≡ c
+    of_it : event_connection t.event ≡ c
     of_it = (read_is c _ _ _ t.event t.read).0
 
     -- the first eight bytes are not awaited after the turn

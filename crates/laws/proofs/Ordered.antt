@@ -34,6 +34,7 @@ use Rattle.model.specs.declared.notes.Way.{Way}
 use Rattle.model.specs.declared.notes.Way.TheVariants as way
 use Rattle.model.specs.declared.notes.Note.{Note}
 use Rattle.model.specs.declared.notes.Note.TheVariants.{Entered, Refused}
+use Rattle.model.specs.Headline.{event_connection}
 use Rattle.laws.specs.Order.{GivesOut, to_get, to_consumer, FirstGiven, ended, given, passed, IsPart, empty, skips, takes, is_fresh, waiting, entered_by, entered, GivenInOrder, IsNext, GivenAfterThoseAhead}
 use Rattle.model.specs.Routing.{key_after}
 use Rattle.model.specs.Deaths.{dead_letter, with_headers}
@@ -41,7 +42,7 @@ use Rattle.laws.proofs.Dying.{Goes, not_found, left_only, died, goes_by}
 use Rattle.laws.proofs.Agreement.{at_own}
 use Rattle.laws.proofs.Leaving.{at_queue}
 use Rattle.laws.proofs.Parts.{itself, part_same, within, longer, front, onward}
-use Rattle.laws.proofs.View.{Publishes, connection_of, goes}
+use Rattle.laws.proofs.View.{Publishes, goes}
 use Rattle.laws.proofs.Balance.{number, content, entry_part, answer_part, noted, answers_all}
 
 -- ---- lists of entries
@@ -362,7 +363,7 @@ module _ (t : Topology) (old new : Broker) (sends : List Send) (notes : List Not
 step_ordered : (h : Happening) → Step h.config h.before h.event h.sends h.notes h.after → (q : Text) → IsPart (waiting (h.after.broker.queue q)) (waiting (h.before.broker.queue q) ++ entered q h.notes)
 step_ordered h s = elim (goes h.config h.before h.after h.sends h.notes h.event s) [
   | inl p ↦ ordered h.config.topology h.before.broker h.after.broker h.sends h.notes h.event p.acts
-  | inr a ↦ moved h.config.topology h.before.broker h.after.broker h.sends h.notes (connection_of h.event) a.move.next.channel_max (is_running a.move.next.phase) a.moves.broker
+  | inr a ↦ moved h.config.topology h.before.broker h.after.broker h.sends h.notes (event_connection h.event) a.move.next.channel_max (is_running a.move.next.phase) a.moves.broker
 ]
 
 -- ---- what is given out

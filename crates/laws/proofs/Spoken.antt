@@ -26,10 +26,11 @@ use Rattle.model.specs.declared.events.Event.TheVariants as event
 use Rattle.model.specs.declared.events.Arrival.{Arrival}
 use Rattle.model.specs.declared.events.Arrival.TheVariants as arrival
 use Rattle.model.specs.declared.notes.Note.{Note}
+use Rattle.model.specs.Headline.{event_connection}
 use Rattle.laws.proofs.Counts.{all-append, from_either}
 use Rattle.laws.specs.Openings.{is_header}
 use Rattle.laws.proofs.Speaking.{IsCommandSend, AreCommandSends, Spoken, spoken_commands, spoken_over, spoken_on}
-use Rattle.laws.proofs.View.{connection_of, session_after, is_read, goes, acted, acted_commands, Performed, Answered}
+use Rattle.laws.proofs.View.{session_after, is_read, goes, acted, acted_commands, Performed, Answered}
 use Rattle.laws.proofs.Linked.{with_here}
 use Rattle.laws.proofs.Linking.{IsLinked, new_is_linked, answers_linked}
 
@@ -86,21 +87,21 @@ module _ (f : Config) (old new : State) (e : Event) (sends : List Send) (notes :
   abbrev GoesOn : ℕ → Type 0
   GoesOn c = is_ended (old.session c).phase ≡ false → (sent : List Send) → Spoken c (old.session c).phase sent → Spoken c (new.session c).phase (sent ++ sends)
 
-  performed_spoken : is_read e ≡ true → Performed f old e sends notes new → GoesOn (connection_of e)
+  performed_spoken : is_read e ≡ true → Performed f old e sends notes new → GoesOn (event_connection e)
   performed_spoken read p stands sent was =
-      let c = connection_of e in
+      let c = event_connection e in
       let after : new.session c ≡ session_after (old.session c) e sends = p.sessions c ∙ with_here old.session c _ in
       let commands : AreCommandSends sends = acted_commands f.topology old.broker new.broker e sends notes (acted f.topology old.broker new.broker sends notes e p.acts) in
       spoken_on c (new.session c).phase (sent ++ sends) (ap (λ (s : Session). is_header s.phase) after ∙ read_no_header (old.session c) e sends read)
       (all-append IsCommandSend sent sends (spoken_commands c (old.session c).phase sent stands was) commands)
 
-  answered_spoken : Answered old e sends notes new → GoesOn (connection_of e)
+  answered_spoken : Answered old e sends notes new → GoesOn (event_connection e)
   answered_spoken a stands sent was =
-      let c = connection_of e in
+      let c = event_connection e in
       let after : new.session c ≡ a.move.next = a.moves.session c ∙ with_here old.session c _ in
       subst (λ (s : Session). Spoken c s.phase (sent ++ sends)) (sym after) (subst (λ (z : List Send). Spoken c a.move.next.phase (sent ++ z)) (sym a.moves.sent) (a.spoken stands sent was))
 
-  step_spoken : is_read e ≡ true → Step f old e sends notes new → GoesOn (connection_of e)
+  step_spoken : is_read e ≡ true → Step f old e sends notes new → GoesOn (event_connection e)
   step_spoken read s = elim (goes f old new sends notes e s) [ inl p ↦ performed_spoken read p | inr a ↦ answered_spoken a ]
 
 -- a connection that runs is not over, and awaits no first eight bytes
@@ -119,13 +120,13 @@ delivered_spoken f old new c sends notes runs s stands sent was =
     spoken_on c (new.session c).phase (sent ++ sends) (ap (λ (z : Session). is_header z.phase) (s.session c) ∙ running_no_header (old.session c).phase runs)
     (all-append IsCommandSend sent sends (spoken_commands c (old.session c).phase sent stands was) commands)
 
-command_is_read : (c : ℕ) (m : Command) → (connection_of (event_of c m) ≡ c) × (is_read (event_of c m) ≡ true)
+command_is_read : (c : ℕ) (m : Command) → (event_connection (event_of c m) ≡ c) × (is_read (event_of c m) ≡ true)
 command_is_read c (Head bytes) = (refl, refl)
 command_is_read c (Plain h m) = (refl, refl)
 command_is_read c (Full h p content) = (refl, refl)
 command_is_read c (TooLarge h) = (refl, refl)
 
-pub read_is : (c : ℕ) (k : Option Command) (s next : Stream) (e : Event) → Reads c k s e next → (connection_of e ≡ c) × (is_read e ≡ true)
+pub read_is : (c : ℕ) (k : Option Command) (s next : Stream) (e : Event) → Reads c k s e next → (event_connection e ≡ c) × (is_read e ≡ true)
 read_is c k s next e (again {m = m}) = command_is_read c m
 read_is c k s next e (fresh {m = m} y) = command_is_read c m
 read_is c k s next e (fault y) = (refl, refl)

@@ -27,10 +27,11 @@ use Rattle.model.specs.declared.events.Event.{Event}
 use Rattle.model.specs.declared.events.Event.TheVariants.{Open, First, Running, Command, TooLarge, Fault, Lose, Pause, Resume, Deliver}
 use Rattle.model.specs.declared.notes.Cause.{Cause}
 use Rattle.model.specs.declared.notes.Note.{Note}
+use Rattle.model.specs.Headline.{event_connection}
 use Rattle.laws.specs.Tracing.{MessagesStayTraced}
 use Rattle.laws.proofs.Dying.{IsLetter, rejected_stood}
 use Rattle.laws.proofs.Leaving.{at_queue, find_in, in_filter, in_rest}
-use Rattle.laws.proofs.View.{Publishes, connection_of, goes}
+use Rattle.laws.proofs.View.{Publishes, goes}
 use Rattle.laws.proofs.Balance.{number, content as content_of, stands_counted}
 use Rattle.laws.proofs.Once.{key_is_short}
 use Rattle.laws.proofs.Entering.{picked, in_comes}
@@ -235,7 +236,7 @@ module _ (t : Topology) (old new : Broker) (sends : List Send) (notes : List Not
 pub step_came : (f : Config) (old new : State) (e : Event) (sends : List Send) (notes : List Note) → Step f old e sends notes new → AllCame f.topology old.broker new.broker sends notes e
 step_came f old new e sends notes s = elim (goes f old new sends notes e s) [
   | inl p ↦ came f.topology old.broker new.broker sends notes e p.acts
-  | inr a ↦ moved f.topology old.broker new.broker sends notes e (connection_of e) a.move.next.channel_max (is_running a.move.next.phase) a.moves.broker
+  | inr a ↦ moved f.topology old.broker new.broker sends notes e (event_connection e) a.move.next.channel_max (is_running a.move.next.phase) a.moves.broker
 ]
 
 -- ---- each is traced

@@ -15,7 +15,7 @@ use Rattle.model.specs.Opening.{IsAnswered, MovesInOpening, new_session, first_m
 use Rattle.model.specs.State.{Config, State, Moves, OfFirst, OfCommand, OfLarge, OfFault, Step}
 use Rattle.model.specs.declared.messages.User.{User}
 use Rattle.model.specs.Run.{Happening, Balances, has_number, is_entered, is_left}
-use Rattle.model.specs.Headline.{WasGiven, IsCauseIn, IsCauseAt, AreRejections, IsOfNoRejection, content_in}
+use Rattle.model.specs.Headline.{WasGiven, IsCauseIn, IsCauseAt, AreRejections, IsOfNoRejection, content_in, event_connection}
 use Rattle.model.specs.Settling.{takes}
 use Rattle.model.specs.Deliveries.{Settlement, Leaves, Rejects, Returns, of_rejected, AreSettled, first_ready, ready_in, holder_of, after_delivery, delivery_notes, after_purge, purge_notes}
 use Rattle.model.specs.Consuming.{CanDeliver}
@@ -180,19 +180,6 @@ pub record Publishes (t : Topology) (old new : Broker) (e : Event) (sends : List
 abbrev pub Seen : Topology → Broker → Broker → Event → List Send → List Note → Type 0
 Seen t old new e sends notes = CountsNone t old new e sends notes ⊎ Publishes t old new e sends notes
 
--- the connection of an event
-abbrev pub connection_of : Event → ℕ
-connection_of (Open c) = c
-connection_of (First c bytes) = c
-connection_of (Running c max k) = c
-connection_of (Command c h m content) = c
-connection_of (TooLarge c h) = c
-connection_of (Fault c code) = c
-connection_of (Lose c) = c
-connection_of (Pause c) = c
-connection_of (Resume c) = c
-connection_of (Deliver c) = c
-
 -- after these sends it is there if it runs on
 abbrev pub kept_after : Broker → ℕ → List Send → Option Connection
 kept_after old c sends = cond (is_running (after_sends sends)) (old.connection c) None
@@ -216,7 +203,7 @@ IsAlone old c o new = (d : ℕ) → new.connection d ≡ with_one old.connection
 -- an event of the broker: it adds nothing or is a publish, changes its own connection alone, and sends one reply at most where it is no publish
 pub record Acted (t : Topology) (old new : Broker) (e : Event) (sends : List Send) (notes : List Note) : Type 0 where
   pub seen : Seen t old new e sends notes
-  pub connections : (d : ℕ) → new.connection d ≡ with_one old.connection (connection_of e) (connection_after old e sends) d
+  pub connections : (d : ℕ) → new.connection d ≡ with_one old.connection (event_connection e) (connection_after old e sends) d
   pub few : IsReplyAtMost sends ⊎ Publishes t old new e sends notes
 
 -- one that adds nothing, after which its connection is this one
@@ -225,7 +212,7 @@ record Quiet (t : Topology) (old new : Broker) (e : Event) (c : ℕ) (after : Li
   connections : IsAlone old c (after sends) new
   few : IsReplyAtMost sends
 
-quiet_acts : (t : Topology) (old new : Broker) (e : Event) (sends : List Send) (notes : List Note) → Quiet t old new e (connection_of e) (connection_after old e) sends notes → Acted t old new e sends notes
+quiet_acts : (t : Topology) (old new : Broker) (e : Event) (sends : List Send) (notes : List Note) → Quiet t old new e (event_connection e) (connection_after old e) sends notes → Acted t old new e sends notes
 quiet_acts t old new e sends notes q = record { seen = inl q.adds; connections = q.connections; few = inl q.few }
 
 -- this state has the messages of the other, and the count of its publishes
@@ -563,21 +550,21 @@ is_opening e = false
 
 -- the broker performs it
 pub record Performed (f : Config) (old : State) (e : Event) (sends : List Send) (notes : List Note) (new : State) : Type 0 where
-  pub runs : is_read e ≡ true → is_running (old.session (connection_of e)).phase ≡ true
-  pub free : is_opening e ≡ true → is_running (old.session (connection_of e)).phase ≡ false
+  pub runs : is_read e ≡ true → is_running (old.session (event_connection e)).phase ≡ true
+  pub free : is_opening e ≡ true → is_running (old.session (event_connection e)).phase ≡ false
   pub acts : Acts f.topology old.broker e sends notes new.broker
-  pub sessions : (d : ℕ) → new.session d ≡ with_one old.session (connection_of e) (session_after (old.session (connection_of e)) e sends) d
+  pub sessions : (d : ℕ) → new.session d ≡ with_one old.session (event_connection e) (session_after (old.session (event_connection e)) e sends) d
 
 -- the phase of a connection that doesn't run answers what is read, by one answer at most
 pub record Answered (old : State) (e : Event) (sends : List Send) (notes : List Note) (new : State) : Type 0 where
-  pub idle : is_running (old.session (connection_of e)).phase ≡ false
+  pub idle : is_running (old.session (event_connection e)).phase ≡ false
   pub read : is_read e ≡ true
   pub move : Move
   pub few : IsAnswerAtMost move.sends
   pub bare : filter_map content_in move.sends ≡ []
-  pub header : is_header move.next.phase ≡ true → (is_header (old.session (connection_of e)).phase ≡ true) × (is_first e ≡ false)
-  pub spoken : is_ended (old.session (connection_of e)).phase ≡ false → (sent : List Send) → Spoken (connection_of e) (old.session (connection_of e)).phase sent → Spoken (connection_of e) move.next.phase (sent ++ move.sends)
-  pub moves : Moves old (connection_of e) move sends notes new
+  pub header : is_header move.next.phase ≡ true → (is_header (old.session (event_connection e)).phase ≡ true) × (is_first e ≡ false)
+  pub spoken : is_ended (old.session (event_connection e)).phase ≡ false → (sent : List Send) → Spoken (event_connection e) (old.session (event_connection e)).phase sent → Spoken (event_connection e) move.next.phase (sent ++ move.sends)
+  pub moves : Moves old (event_connection e) move sends notes new
 
 either_move : (P : Move → Type 0) (b : Bool) (x y : Move) → P x → P y → P (if b then x else y)
 either_move P true x y p q = p
@@ -683,8 +670,8 @@ first_spoken c s phase.Header bytes here sent was =
 first_spoken c s _ bytes here sent was = subst (Spoken c s.phase) (sym (append-nil sent)) was
 
 module _ (f : Config) (old new : State) (sends : List Send) (notes : List Note) where
-  answering : (e : Event) (move : Move) → is_running (old.session (connection_of e)).phase ≡ false → is_read e ≡ true → is_first e ≡ false → Replies (old.session (connection_of e)) move → Moves old (connection_of e) move sends notes new → Answered old e sends notes new
-  answering e move idle read frames r moves = record { idle = idle; read = read; move = move; few = reply_answers move.sends r.few; bare = r.bare; header = λ h. ((r.header h).0, frames); spoken = replies_spoken (connection_of e) (old.session (connection_of e)) move r; moves = moves }
+  answering : (e : Event) (move : Move) → is_running (old.session (event_connection e)).phase ≡ false → is_read e ≡ true → is_first e ≡ false → Replies (old.session (event_connection e)) move → Moves old (event_connection e) move sends notes new → Answered old e sends notes new
+  answering e move idle read frames r moves = record { idle = idle; read = read; move = move; few = reply_answers move.sends r.few; bare = r.bare; header = λ h. ((r.header h).0, frames); spoken = replies_spoken (event_connection e) (old.session (event_connection e)) move r; moves = moves }
 
   of_command : (p : Phase) (c h : ℕ) (m : Method) (content : Option Content) → (old.session c).phase ≡ p → OfCommand f old p c h m content sends notes new → Performed f old (Command c h m content) sends notes new ⊎ Answered old (Command c h m content) sends notes new
   of_command phase.Running c h m content here s = inl (record { runs = λ r. ap is_running here; free = λ r. absurd (false≢true r); acts = s.acts; sessions = s.session })
@@ -719,7 +706,7 @@ module _ (f : Config) (old new : State) (sends : List Send) (notes : List Note) 
   -- a move to Running leaves the count of publishes and the messages of each queue as they are, as any other
   answered_adds : (e : Event) → Answered old e sends notes new → CountsNone f.topology old.broker new.broker e sends notes
   answered_adds e a = record {
-    same = a.moves.broker.counted ∙ (elim (is_running a.move.next.phase) as (λ v. (if v then opened old.broker (connection_of e) a.move.next.channel_max 0 else old.broker).published ≡ old.broker.published) [ true ↦ refl | false ↦ refl ]);
+    same = a.moves.broker.counted ∙ (elim (is_running a.move.next.phase) as (λ v. (if v then opened old.broker (event_connection e) a.move.next.channel_max 0 else old.broker).published ≡ old.broker.published) [ true ↦ refl | false ↦ refl ]);
     noted = subst (AllByRecursion (IsQuiet f.topology old.broker.queue notes)) (sym a.moves.noted) tt;
     balances = λ n q.
         let left : count_by (is_left n q) notes ≡ 0 = ap (count_by (is_left n q)) a.moves.noted in
@@ -732,8 +719,8 @@ module _ (f : Config) (old new : State) (sends : List Send) (notes : List Note) 
     contents = subst (AllByRecursion (IsOfFirst old.broker.queue)) (sym (ap (filter_map content_in) a.moves.sent ∙ a.bare)) tt;
   }
     where
-      moved : (n : ℕ) (q : Text) (v : Bool) → count_by (has_number n) ((if v then opened old.broker (connection_of e) a.move.next.channel_max 0 else old.broker).queue q) ≡ count_by (has_number n) (old.broker.queue q)
-      moved n q true = freed_count old.broker (by_connection (connection_of e)) n q
+      moved : (n : ℕ) (q : Text) (v : Bool) → count_by (has_number n) ((if v then opened old.broker (event_connection e) a.move.next.channel_max 0 else old.broker).queue q) ≡ count_by (has_number n) (old.broker.queue q)
+      moved n q true = freed_count old.broker (by_connection (event_connection e)) n q
       moved n q false = refl
 
   -- Each step adds nothing, or is a publish.

@@ -32,7 +32,7 @@ use Rattle.model.specs.declared.contents.Content.{Content}
 use Rattle.model.specs.declared.events.Send.{Send}
 use Rattle.model.specs.declared.events.Send.TheVariants as send
 use Rattle.model.specs.declared.events.Event.{Event}
-use Rattle.model.specs.declared.events.Event.TheVariants.{Command, Deliver}
+use Rattle.model.specs.declared.events.Event.TheVariants.{Open, First, Running, Command, TooLarge, Fault, Lose, Pause, Resume, Deliver}
 use Rattle.model.specs.declared.notes.Cause.{Cause}
 use Rattle.model.specs.declared.notes.Cause.TheVariants.{Acked as Acknowledged, Auto, Rejected, Purged}
 use Rattle.model.specs.declared.notes.Note.{Note}
@@ -410,6 +410,25 @@ abbrev pub AreSourced : List Happening → List Happening → Type 0
 AreSourced before [] = Unit {0}
 AreSourced before (h ∷ hs) = HaveSources before h × AreSourced (before ++ h ∷ []) hs
 
+-- ---- one connection and the others
+
+-- the connection that an event is of
+abbrev pub event_connection : Event → ℕ
+event_connection (Open c) = c
+event_connection (First c bytes) = c
+event_connection (Running c max k) = c
+event_connection (Command c h m content) = c
+event_connection (TooLarge c h) = c
+event_connection (Fault c code) = c
+event_connection (Lose c) = c
+event_connection (Pause c) = c
+event_connection (Resume c) = c
+event_connection (Deliver c) = c
+
+-- the event changes no channel of another connection, and so nothing that is outstanding there
+abbrev pub ChangesOwnAlone : Happening → Type 0
+ChangesOwnAlone h = (d : ℕ) → d ≢ event_connection h.event → (k : ℕ) → h.after.broker.channel d k ≡ h.before.broker.channel d k
+
 -- ---- the promises
 
 -- Of what happened between these two states of the broker:
@@ -434,6 +453,8 @@ pub record KeepsEvents (old : Broker) (hs : List Happening) (new : Broker) : Typ
   pub letters : AllByRecursion DieAsRouted hs
   -- so that of the messages of a number no more dead letters came to a queue than were rejected
   pub once : AllByRecursion DieOnce hs
+  -- no event of one connection changed a channel of another
+  pub alone : AllByRecursion ChangesOwnAlone hs
 
 -- Of all that happened from the empty broker to this one, and of the outputs of the connections:
 pub record KeepsPromises (hs : List Happening) (last : Broker) (connections : List Shown) : Type 0 where
