@@ -142,7 +142,7 @@ abbrev pub IsOther : ℕ → ℕ → List Outstanding → Holder → Type 0
 IsOther c h os holder = (o : Outstanding) → IsIn o os → is_under (holder_of c h o) holder ≡ false
 
 -- what is held under another tag stays where one leaves
-without_keeps : (c h : ℕ) (o : Outstanding) (old : Text → List Entry) → Keeps (λ holder. is_under (holder_of c h o) holder ≡ false) old (without_given c h old o)
+pub without_keeps : (c h : ℕ) (o : Outstanding) (old : Text → List Entry) → Keeps (λ holder. is_under (holder_of c h o) holder ≡ false) old (without_given c h old o)
 without_keeps c h o old = keeps_at _ old o.queue _ (λ holder other was. record {
   entry = was.entry;
   there = in_without (is_held_as (holder_of c h o)) was.entry (old o.queue) was.there (held_under (holder_of c h o) was.entry holder was.mark ∙ other);

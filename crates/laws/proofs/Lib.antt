@@ -12,6 +12,7 @@ pub mod Agreed
 pub mod Speaking
 pub mod View
 pub mod Aside
+pub mod Settled
 pub mod Tags
 pub mod Named
 pub mod Made

@@ -17,6 +17,7 @@ use Rattle.model.specs.declared.events.Send.TheVariants as send
 use Rattle.model.specs.declared.events.Arrival.{Arrival}
 use Rattle.laws.specs.Promises.{ack_sent}
 use Rattle.laws.proofs.Agreed.{stay_agreed, run_agreed}
+use Rattle.laws.proofs.Settled.{run_takes_out}
 use Rattle.laws.proofs.Sources.{given_as_published}
 use Rattle.laws.proofs.Counts.{all-append, filter_all}
 use Rattle.laws.proofs.Reading.{sent_acks, frames_each}
@@ -142,6 +143,7 @@ promises_hold f hs w seen sound told spoken shows =
     record {
       events = run_keeps f hs empty_state w.state sound (under_each f hs told.each) (said_each f hs told.each) (record { counted = λ n q lt. refl; traced = stay_traced.empty f.topology }) told.run;
       agreed = run_agreed hs empty_state w.state told.run stay_agreed.empty;
+      settled = run_takes_out hs empty_state w.state told.run stay_agreed.empty (run_agreed hs empty_state w.state told.run stay_agreed.empty);
       contents = given_as_published hs empty_state w.state (λ q. refl) told.run;
       acks = λ i one e.
           let within : i < w.given = subst (λ (n : ℕ). i < n) shows.counted (slice_get_within seen.connections i one e) in

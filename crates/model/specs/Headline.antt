@@ -9,10 +9,10 @@ use Rattle.model.specs.Routing.{Routes, Picks, Dies, key_after}
 use Rattle.model.specs.Guarantee.{Guarantee, Covers, AllHold}
 use Rattle.model.specs.Frames.{Frame, AreFrames}
 use Rattle.model.specs.Spelling.{eight_bytes}
-use Rattle.model.specs.Broker.{Outstanding, Channel, Broker, is_ready, is_at, limit_of, queue_named}
+use Rattle.model.specs.Broker.{Outstanding, Channel, Connection, Broker, is_ready, is_at, limit_of, queue_named}
 use Rattle.model.specs.Entries.{is_held_as}
 use Rattle.model.specs.Settling.{takes}
-use Rattle.model.specs.Step.{tag_of, content_or_none, is_none, returned_notes, confirm_notes}
+use Rattle.model.specs.Step.{tag_of, content_or_none, is_none, returned_notes, confirm_notes, refusal}
 use Rattle.model.specs.Message.{Message}
 use Rattle.model.specs.Deaths.{AreMarked, with_headers}
 use Rattle.model.specs.Deliveries.{first_ready, ready_in, holder_of}
@@ -27,10 +27,12 @@ use Rattle.model.specs.declared.events.Arrival.{Arrival}
 use Rattle.model.specs.declared.messages.Entry.{Entry}
 use Rattle.model.specs.declared.methods.Method.{Method}
 use Rattle.model.specs.declared.methods.Method.TheVariants.{QueuePurge, BasicGet, BasicAck, BasicReject, BasicNack, BasicPublish}
+use Rattle.model.specs.declared.methods.Ack.{Ack as Acknowledgement}
 use Rattle.model.specs.declared.methods.Publish.{Publish}
 use Rattle.model.specs.declared.contents.Content.{Content}
 use Rattle.model.specs.declared.events.Send.{Send}
 use Rattle.model.specs.declared.events.Send.TheVariants as send
+use Rattle.model.specs.declared.events.Phase.TheVariants as phase
 use Rattle.model.specs.declared.events.Event.{Event}
 use Rattle.model.specs.declared.events.Event.TheVariants.{Open, First, Running, Command, TooLarge, Fault, Lose, Pause, Resume, Deliver}
 use Rattle.model.specs.declared.notes.Cause.{Cause}
@@ -410,6 +412,22 @@ abbrev pub AreSourced : List Happening → List Happening → Type 0
 AreSourced before [] = Unit {0}
 AreSourced before (h ∷ hs) = HaveSources before h × AreSourced (before ++ h ∷ []) hs
 
+-- ---- acknowledgements
+
+-- The message of this delivery was held in its queue before the event, which notes that it left by an acknowledgement, and after which the delivery is outstanding no more.
+pub record IsTakenOut (h : Happening) (c k : ℕ) (o : Outstanding) : Type 0 where
+  pub entry : Entry
+  pub stood : IsIn entry (h.before.broker.queue o.queue)
+  pub held : is_held_as (holder_of c k o) entry ≡ true
+  pub left : IsIn (Left entry.message.number o.queue Acknowledged) h.notes
+  pub gone : (now : Channel) → h.after.broker.channel c k ≡ Some now → IsIn o now.outstanding → ⊥
+
+-- Where the event is an acknowledgement on a channel of a connection that runs, and nothing stands against it, each delivery that its tag settles is taken out (AMQP 0-9-1, basic.ack).
+abbrev pub AcksTakeOut : Happening → Type 0
+AcksTakeOut h = (c k : ℕ) (m : Acknowledgement) (content : Option Content) (conn : Connection) (ch : Channel) → h.event ≡ Command c k (BasicAck m) content
+    → (h.before.session c).phase ≡ phase.Running → h.before.broker.connection c ≡ Some conn → h.before.broker.channel c k ≡ Some ch → refusal h.config.topology h.before.broker conn k (BasicAck m) (Some ch) ≡ None
+    → (o : Outstanding) → IsIn o ch.outstanding → takes tag_of m.delivery_tag m.multiple o ≡ true → IsTakenOut h c k o
+
 -- ---- one connection and the others
 
 -- the connection that an event is of
@@ -461,6 +479,8 @@ pub record KeepsPromises (hs : List Happening) (last : Broker) (connections : Li
   pub events : KeepsEvents empty_broker hs last
   -- after each event each message that is held is outstanding under its tag on the channel that holds it, and each that is outstanding there is held: so none is held by a channel that is not open
   pub agreed : AllByRecursion (λ (h : Happening). IsAgreed h.after.broker) hs
+  -- what was acknowledged left its queue, and so was not given out again
+  pub settled : AllByRecursion AcksTakeOut hs
   -- each message was given out with the body and the properties with which it was published, but for headers that tell of its deaths
   pub contents : AreSourced [] hs
   -- the acks in a connection's output are those of its publishes confirmed by ack, one by one
