@@ -82,7 +82,6 @@ examples: same
 
 bench:
 	@cd crates/benchmarks && rt run -- all
-	@cd crates/delivery_benchmarks && rt run -- all
 
 install: run
 	@install -D crates/warren/out/warren $(PREFIX)/bin/warren

@@ -1,22 +1,32 @@
-//! Benchmarks: what a confirmed publish costs the engine, and how long routes, large definitions files and certificates
-//! take. What is printed is to be read; nothing tests it.
+//! Benchmarks: what publishes, deliveries, losses, purges and openings cost the engine, what waiting messages and open connections
+//! take, and how long routes, large definitions files and certificates take. What is printed is to be read; nothing tests it.
 #![tactic(auto)]
 
 mod certificates;
+mod consumers;
 mod definitions_files;
+mod deliveries;
+mod delivery_loads;
 mod files;
 mod loads;
+mod memory;
+mod openings;
 mod publishes;
+mod removals;
 mod routes;
 
 use std::{env, io};
 
 /// How the program is called.
 const USAGE: &str =
-    "benchmarks publishes [NAME]|routes|files|certificates|all: prints what publishes, routes, large definitions files and certificates cost";
+    "benchmarks openings|memory|deliveries|removals|publishes [NAME]|routes|files|certificates|all: prints what connections, messages, routes, large definitions files and certificates cost";
 
-/// Measures all.
+/// Measures all. Memory comes early, since what is measured later takes what was given back.
 fn measure_all(rt: &HostRuntime) -> io::Result<()> {
+    openings::measure_all(rt)?;
+    memory::measure_all(rt)?;
+    deliveries::measure_all(rt)?;
+    removals::measure_all(rt)?;
     publishes::measure_all(rt)?;
     routes::measure_all(rt)?;
     definitions_files::measure_all(rt)?;
@@ -26,6 +36,10 @@ fn measure_all(rt: &HostRuntime) -> io::Result<()> {
 /// Measures what a word names.
 fn measure(rt: &HostRuntime, word: &str) -> io::Result<()> {
     match word {
+        "openings" => openings::measure_all(rt),
+        "memory" => memory::measure_all(rt),
+        "deliveries" => deliveries::measure_all(rt),
+        "removals" => removals::measure_all(rt),
         "publishes" => publishes::measure_all(rt),
         "routes" => routes::measure_all(rt),
         "files" => definitions_files::measure_all(rt),

@@ -15,6 +15,7 @@ mod rows;
 mod trials;
 
 use disk::Folder;
+use scenarios::all_hold;
 use std::process::ExitCode;
 use std::{env, io};
 use trials::tried;
@@ -73,7 +74,7 @@ fn run_all(folder: Folder<'_>) -> io::Result<Tally> {
     Ok(count)
 }
 
-/// Whether there are cases, and none failed.
+/// Whether there are cases and none failed, and the same of scenarios, which are calls that no command makes alone.
 fn all_pass(folder: Folder<'_>) -> io::Result<bool> {
     let Tally {
         cases,
@@ -81,7 +82,8 @@ fn all_pass(folder: Folder<'_>) -> io::Result<bool> {
         failed,
     } = run_all(folder)?;
     println!(folder.rt; "{cases} cases, {rows} rows, {failed} failed")?;
-    Ok(cases > 0 && failed == 0)
+    let hold = all_hold(folder.rt)?;
+    Ok(cases > 0 && failed == 0 && hold)
 }
 
 fn main(rt: HostRuntime) -> io::Result<ExitCode> {

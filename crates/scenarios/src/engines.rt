@@ -1,76 +1,114 @@
 //! Single calls of an engine.
 
-use certificate::admit;
+use crate::expectations::{Unmet, expect, expect_bytes, expect_number, value_of};
+use crate::topologies::in_force;
 use engine::{Engine, Turn};
-use exchange_graph::Topology;
 use std::alloc::Global;
 
 /// An engine over a topology without exchanges and queues.
-fn new_engine(alloc: Global) -> Option<Engine> {
-    let topology = Topology::build(alloc, Vec::new(alloc), Vec::new(alloc), Vec::new(alloc)).ok()?;
-    let checked = admit(alloc, topology, Vec::new(alloc), &[]).ok()?;
-    Engine::new(alloc, checked, Vec::new(alloc)).ok()
+fn new_engine(alloc: Global) -> Result<Engine, Unmet> {
+    let checked = in_force(alloc, Vec::new(alloc), Vec::new(alloc), Vec::new(alloc))?;
+    value_of("Engine::new", Engine::new(alloc, checked, Vec::new(alloc)))
 }
 
 /// What a turn did.
-#[derive(Clone, Copy, PartialEq, Eq, Debug, Drop)]
+#[derive(Clone, Copy, PartialEq, Eq, Drop)]
 enum Done {
     /// With so many notes.
     Did(usize),
     Idle,
     Paused,
     Over,
-    Memory,
 }
 
-fn turned(alloc: Global, engine: &mut Engine, c: u64) -> Done {
-    match engine.turn(alloc, c) {
-        Ok(Turn::Did(notes)) => Done::Did(notes.len()),
-        Ok(Turn::Idle) => Done::Idle,
-        Ok(Turn::Paused) => Done::Paused,
-        Ok(Turn::Over) => Done::Over,
-        Err(_) => Done::Memory,
+/// What this turn did.
+fn done_by(turn: Turn) -> Done {
+    match turn {
+        Turn::Did(notes) => Done::Did(notes.len()),
+        Turn::Idle => Done::Idle,
+        Turn::Paused => Done::Paused,
+        Turn::Over => Done::Over,
     }
 }
 
-/// confirm.select on channel 1.
+/// Expects that the next turn of connection 1 does this.
+fn expect_turn(
+    alloc: Global,
+    engine: &mut Engine,
+    claim: &'static str,
+    expected: Done,
+) -> Result<(), Unmet> {
+    let turn = value_of("Engine::turn", engine.turn(alloc, 1))?;
+    expect(claim, done_by(turn) == expected)
+}
+
+/// Expects that a connection that is opened, with channel 1, has this number.
+fn expect_opened(alloc: Global, engine: &mut Engine, expected: u64) -> Result<(), Unmet> {
+    let number = value_of("Engine::open_ready", engine.open_ready(alloc, 1))?;
+    expect_number("the connection's number", number, expected)
+}
+
+/// Takes in bytes of connection 1.
+fn feed(engine: &mut Engine, bytes: &[u8]) -> Result<(), Unmet> {
+    value_of("Engine::feed", engine.feed(1, bytes))
+}
+
+/// confirm.select on channel 1, but for the byte that ends its frame.
 const SELECT: [u8; 12] = [1, 0, 1, 0, 0, 0, 5, 0, 85, 0, 10, 0];
+
+/// The byte that ends a frame.
+const FRAME_END: [u8; 1] = [206];
 
 /// confirm.select-ok on channel 1.
 const SELECT_OK: [u8; 12] = [1, 0, 1, 0, 0, 0, 4, 0, 85, 0, 11, 206];
 
-#[test]
-fn an_engine_takes_single_turns(rt: HostRuntime) {
-    let alloc = rt.alloc();
-    let mut engine = new_engine(alloc).expect(&rt, "memory");
-    let first = engine.open_ready(alloc, 1).ok();
-    assert_eq!(rt; first, Some(1));
-    let nothing = turned(alloc, &mut engine, 1);
-    assert_eq!(rt; nothing, Done::Idle);
-    let fed = engine.feed(1, SELECT.as_slice()).is_ok();
-    assert!(rt; fed);
-    let unfinished = turned(alloc, &mut engine, 1);
-    assert_eq!(rt; unfinished, Done::Idle);
-    let ended = engine.feed(1, [206].as_slice()).is_ok();
-    assert!(rt; ended);
-    let selected = turned(alloc, &mut engine, 1);
-    assert_eq!(rt; selected, Done::Did(0));
-    assert_eq!(rt; engine.output(1), SELECT_OK.as_slice());
+/// Turns of bytes that come in two pieces: nothing, a part of a frame, and the rest of it.
+pub(crate) fn an_engine_takes_single_turns(alloc: Global) -> Result<(), Unmet> {
+    let mut engine = new_engine(alloc)?;
+    expect_opened(alloc, &mut engine, 1)?;
+    expect_turn(
+        alloc,
+        &mut engine,
+        "a turn is idle where no byte has come",
+        Done::Idle,
+    )?;
+    feed(&mut engine, SELECT.as_slice())?;
+    expect_turn(
+        alloc,
+        &mut engine,
+        "a turn is idle where a frame has not ended",
+        Done::Idle,
+    )?;
+    feed(&mut engine, FRAME_END.as_slice())?;
+    expect_turn(
+        alloc,
+        &mut engine,
+        "a turn performs confirm.select, without notes",
+        Done::Did(0),
+    )?;
+    expect_bytes("the output", engine.output(1), SELECT_OK.as_slice())?;
     engine.sent(1, 5);
-    assert_eq!(rt; engine.output(1), [0, 4, 0, 85, 0, 11, 206].as_slice());
+    expect_bytes(
+        "the output without its first 5 bytes",
+        engine.output(1),
+        &SELECT_OK[5..],
+    )
 }
 
-#[test]
-fn a_lost_connection_is_over_and_its_number_is_not_given_again(rt: HostRuntime) {
-    let alloc = rt.alloc();
-    let mut engine = new_engine(alloc).expect(&rt, "memory");
-    let first = engine.open_ready(alloc, 1).ok();
-    assert_eq!(rt; first, Some(1));
+/// A connection is lost, and another is opened.
+pub(crate) fn a_lost_connection_is_over_and_its_number_is_not_given_again(
+    alloc: Global,
+) -> Result<(), Unmet> {
+    let mut engine = new_engine(alloc)?;
+    expect_opened(alloc, &mut engine, 1)?;
     engine.lose(1);
-    assert!(rt; engine.is_over(1));
-    let over = turned(alloc, &mut engine, 1);
-    assert_eq!(rt; over, Done::Over);
-    let second = engine.open_ready(alloc, 1).ok();
-    assert_eq!(rt; second, Some(2));
-    assert!(rt; !engine.is_over(2));
+    expect("connection 1 is over", engine.is_over(1))?;
+    expect_turn(
+        alloc,
+        &mut engine,
+        "a turn says that connection 1 is over",
+        Done::Over,
+    )?;
+    expect_opened(alloc, &mut engine, 2)?;
+    expect("connection 2 is not over", !engine.is_over(2))
 }

@@ -1,12 +1,12 @@
 //! A pause: a client that does not take its output gets no more of it than one command brings.
 
-use certificate::admit;
+use crate::expectations::{Unmet, expect, expect_number, value_of};
+use crate::topologies::in_force;
+use certificate::Checked;
 use engine::run;
-use exchange_graph::Topology;
 use model::{Arrival, Binding, DeclaredQueue, Exchange, ExchangeKind, Place, Text};
 use runs::Transcript;
 use std::alloc::{AllocError, Global};
-use std::test::Fail;
 
 /// basic.publish to `orders` under the key `new` on channel 1, and a header of a body of 1,048,576 bytes.
 const PUBLISH: &[u8] =
@@ -23,74 +23,108 @@ const GET_EMPTY: &[u8] = b"\x01\x00\x01\x00\x00\x00\x05\x00\x3c\x00\x48\x00\xce"
 
 /// What get-ok with its content has: 36 bytes of the method's frame, 22 of the header's, and the body in nine frames, of 8
 /// bytes beside it each.
-const FIRST_OUTPUT: usize = 1_048_706;
+const FIRST_OUTPUT: u64 = 1_048_706;
+
+/// A list of one value.
+fn single<T: Drop>(alloc: Global, value: T) -> Result<Vec<T>, Unmet> {
+    let mut values = Vec::new(alloc);
+    value_of("Vec::push", values.push(value))?;
+    Ok(values)
+}
 
 /// A direct exchange `orders`, which routes the key `new` to the queue `audit`.
-fn new_topology(alloc: Global) -> Option<Topology> {
-    let mut exchanges = Vec::new(alloc);
+fn shop(alloc: Global) -> Result<Checked, Unmet> {
     let orders = Exchange {
         name: Text::fixed(b"orders"),
         kind: ExchangeKind::Direct,
         internal: false,
         alternate: None,
     };
-    exchanges.push(orders).ok()?;
-    let mut queues = Vec::new(alloc);
     let audit = DeclaredQueue {
         name: Text::fixed(b"audit"),
         limit: None,
         dead_letter_exchange: None,
         dead_letter_key: None,
     };
-    queues.push(audit).ok()?;
-    let mut bindings = Vec::new(alloc);
     let binding = Binding {
         source: Text::fixed(b"orders"),
         to: Place::Queue(Text::fixed(b"audit")),
         key: Text::fixed(b"new"),
     };
-    bindings.push(binding).ok()?;
-    Topology::build(alloc, exchanges, queues, bindings).ok()
+    in_force(
+        alloc,
+        single(alloc, orders)?,
+        single(alloc, audit)?,
+        single(alloc, binding)?,
+    )
 }
 
 /// The frames of a publish of 1,048,576 bytes.
 fn largest_publish(alloc: Global) -> Result<Vec<u8>, AllocError> {
     let mut bytes = Vec::from_slice(alloc, PUBLISH)?;
+    let piece = vec![in alloc; 120; 65_536]?;
     for _ in 0..BODY_FRAMES {
         bytes.extend_from_slice(b"\x03\x00\x01\x00\x01\x00\x00")?;
-        let piece = vec![in alloc; 120; 65_536]?;
         bytes.extend_from_slice(&piece)?;
-        bytes.push(206).ok().ok_or(AllocError)?;
+        bytes.push(206)?;
     }
     Ok(bytes)
 }
 
-/// A connection that publishes the largest body and gets it, and gets again, and then takes so many bytes at a time.
-fn shown(alloc: Global, taken: &[u64]) -> Option<Transcript> {
-    let checked = admit(alloc, new_topology(alloc)?, Vec::new(alloc), &[]).ok()?;
+/// The arrivals of a connection that publishes the largest body and gets it, and gets again, and then takes so many bytes at
+/// a time.
+fn arrivals(alloc: Global, taken: &[u64]) -> Result<Vec<Arrival>, AllocError> {
+    let publish = Text::from_vec(largest_publish(alloc)?)?;
     let mut arrivals = Vec::new(alloc);
-    arrivals.push(Arrival::Ready(1)).ok()?;
-    let publish = Text::from_vec(largest_publish(alloc).ok()?).ok()?;
-    arrivals.push(Arrival::In(1, publish)).ok()?;
-    arrivals.push(Arrival::In(1, Text::fixed(GET))).ok()?;
-    arrivals.push(Arrival::In(1, Text::fixed(GET))).ok()?;
+    arrivals.push(Arrival::Ready(1))?;
+    arrivals.push(Arrival::In(1, publish))?;
+    arrivals.push(Arrival::In(1, Text::fixed(GET)))?;
+    arrivals.push(Arrival::In(1, Text::fixed(GET)))?;
     for count in taken {
-        arrivals.push(Arrival::Sent(1, *count)).ok()?;
+        arrivals.push(Arrival::Sent(1, *count))?;
     }
-    run(alloc, checked, Vec::new(alloc), &arrivals).ok()
+    Ok(arrivals)
 }
 
-#[test]
-fn a_paused_connection_performs_nothing_until_its_output_is_below_the_bound(
-    rt: HostRuntime,
-) -> Result<(), Fail> {
-    let alloc = rt.alloc();
-    let paused = shown(alloc, &[]).expect(&rt, "a run");
-    assert_eq!(rt; paused.output(1).len(), FIRST_OUTPUT);
-    let at_bound = shown(alloc, &[130]).expect(&rt, "a run");
-    assert_eq!(rt; at_bound.output(1).len(), FIRST_OUTPUT);
-    let resumed = shown(alloc, &[130, 1]).expect(&rt, "a run");
-    assert_eq!(rt; resumed.output(1).len(), FIRST_OUTPUT + GET_EMPTY.len());
-    assert!(rt; resumed.output(1).ends_with(GET_EMPTY));
-    Ok(())
+/// What such a connection is shown.
+fn shown(alloc: Global, taken: &[u64]) -> Result<Transcript, Unmet> {
+    let checked = shop(alloc)?;
+    let arrivals = value_of("arrivals", arrivals(alloc, taken))?;
+    value_of(
+        "run",
+        run(alloc, checked, Vec::new(alloc), arrivals.as_slice()),
+    )
+}
+
+/// Expects that the output of the connection has this length.
+fn expect_length(name: &'static str, shown: &Transcript, expected: u64) -> Result<(), Unmet> {
+    expect_number(name, shown.output(1).len() as u64, expected)
+}
+
+/// The second get waits while the output has the bound or more, and is answered once it has less.
+pub(crate) fn a_paused_connection_performs_nothing_until_its_output_is_below_the_bound(
+    alloc: Global,
+) -> Result<(), Unmet> {
+    let paused = shown(alloc, &[])?;
+    expect_length(
+        "the length of an output of which nothing is taken",
+        &paused,
+        FIRST_OUTPUT,
+    )?;
+    let at_bound = shown(alloc, &[130])?;
+    expect_length(
+        "the length of an output that is at the bound",
+        &at_bound,
+        FIRST_OUTPUT,
+    )?;
+    let resumed = shown(alloc, &[130, 1])?;
+    expect_length(
+        "the length of an output that was below the bound",
+        &resumed,
+        FIRST_OUTPUT + GET_EMPTY.len() as u64,
+    )?;
+    expect(
+        "an output that was below the bound ends with get-empty",
+        resumed.output(1).ends_with(GET_EMPTY),
+    )
 }

@@ -2,12 +2,16 @@
 
 ghost use Rattle.std.specs.Prelude.{◌≤◌, length};
 
-use crate::clients::{ACKED, OPENED, OPENING, PUBLISH, STOPPED, new_broker};
+use crate::clients::{OPENING, PUBLISH, STOPPED, expect_opened_and_acked, opening_and_publish};
+use crate::disk::new_broker;
+use crate::expectations::{Unmet, value_of};
+use engine::Engine;
 use serving::{Accept, Read, Server, Wire, Write, serve};
 use sockets::Sockets;
+use std::alloc::Global;
+use std::io;
 use std::io::{Read as _, Write as _};
-use std::net::{SocketAddr, TcpStream};
-use std::test::Fail;
+use std::net::{Net, SocketAddr, TcpStream};
 
 /// Two sockets. Each has a whole opening at its first read; at its second the one has a publish that stops inside its body,
 /// and the other a whole one.
@@ -84,11 +88,17 @@ impl Wire for Two {
     fn rest(&mut self) {}
 }
 
-#[test]
-fn a_client_is_served_beside_one_that_stops_inside_a_body(rt: HostRuntime) -> Result<(), Fail> {
-    let alloc = rt.alloc();
-    let broker = new_broker(alloc).expect(&rt, "a broker");
-    let mut server = Server::new(alloc, broker)?;
+/// A server of a broker, with no socket yet.
+fn new_server(alloc: Global) -> Result<Server<Engine>, Unmet> {
+    let broker = new_broker(alloc)?;
+    value_of("Server::new", Server::new(alloc, broker))
+}
+
+/// A client that opens and publishes is answered, though another stops inside the body of its publish.
+pub(crate) fn a_client_is_served_beside_one_that_stops_inside_a_body(
+    alloc: Global,
+) -> Result<(), Unmet> {
+    let mut server = new_server(alloc)?;
     let mut wire = Two {
         accepted: 0,
         first_reads: 0,
@@ -96,62 +106,77 @@ fn a_client_is_served_beside_one_that_stops_inside_a_body(rt: HostRuntime) -> Re
         written: Vec::new(alloc),
     };
     serve(alloc, &mut server, &mut wire, 8);
-    let mut expected = Vec::from_slice(alloc, OPENED)?;
-    expected.extend_from_slice(ACKED)?;
-    assert_eq!(rt; wire.written, expected);
-    Ok(())
+    expect_opened_and_acked(alloc, wire.written.as_slice())
 }
 
-#[test]
-fn a_client_of_the_system_is_served(rt: HostRuntime) -> Result<(), Fail> {
-    let alloc = rt.alloc();
-    let broker = new_broker(alloc).expect(&rt, "a broker");
-    let mut server = Server::new(alloc, broker)?;
-    let address = "127.0.0.1:0"
-        .parse::<SocketAddr>()
-        .ok()
-        .expect(&rt, "an address");
-    let mut sockets = Sockets::bind(&rt, alloc, address)?;
-    let mut client = TcpStream::connect(&rt, sockets.local_addr()?)?;
-    let mut asked = Vec::from_slice(alloc, OPENING)?;
-    asked.extend_from_slice(PUBLISH)?;
-    client.write_all(&asked)?;
-    serve(alloc, &mut server, &mut sockets, 64);
-    drop(server);
-    drop(sockets);
-    let mut answered: Vec<u8> = Vec::new(alloc);
-    client.read_to_end(&mut answered)?;
-    let mut expected = Vec::from_slice(alloc, OPENED)?;
-    expected.extend_from_slice(ACKED)?;
-    assert_eq!(rt; answered, expected);
-    Ok(())
+/// A server with sockets of the system.
+#[derive(Drop)]
+struct Service {
+    server: Server<Engine>,
+    sockets: Sockets,
 }
 
-#[test]
-fn a_client_that_is_reset_is_lost_alone(rt: HostRuntime) -> Result<(), Fail> {
-    let alloc = rt.alloc();
-    let broker = new_broker(alloc).expect(&rt, "a broker");
-    let mut server = Server::new(alloc, broker)?;
-    let address = "127.0.0.1:0"
-        .parse::<SocketAddr>()
-        .ok()
-        .expect(&rt, "an address");
-    let mut sockets = Sockets::bind(&rt, alloc, address)?;
-    let mut reset = TcpStream::connect(&rt, sockets.local_addr()?)?;
-    let mut client = TcpStream::connect(&rt, sockets.local_addr()?)?;
-    reset.write_all(OPENING)?;
-    client.write_all(OPENING)?;
-    serve(alloc, &mut server, &mut sockets, 64);
+impl Service {
+    /// A broker that is served at a port that is free.
+    fn new<N: Net>(net: &N, alloc: Global) -> Result<Service, Unmet> {
+        let server = new_server(alloc)?;
+        let address = value_of("parse", "127.0.0.1:0".parse::<SocketAddr>())?;
+        let sockets = value_of("Sockets::bind", Sockets::bind(net, alloc, address))?;
+        Ok(Service { server, sockets })
+    }
+
+    /// A client that comes.
+    fn connect<N: Net>(&self, net: &N) -> Result<N::Stream, Unmet> {
+        let address = value_of("Sockets::local_addr", self.sockets.local_addr())?;
+        value_of("TcpStream::connect", TcpStream::connect(net, address))
+    }
+
+    /// Rounds enough for all that has come.
+    fn serve(&mut self, alloc: Global) {
+        serve(alloc, &mut self.server, &mut self.sockets, 64);
+    }
+}
+
+/// Writes what a client sends.
+fn send<S: io::Write>(client: &mut S, bytes: &[u8]) -> Result<(), Unmet> {
+    value_of("write_all", client.write_all(bytes))
+}
+
+/// Expects that a client was answered as one that opens and publishes, up to the end of its connection.
+fn expect_served<S: io::Read>(alloc: Global, client: &mut S) -> Result<(), Unmet> {
+    let mut answer: Vec<u8> = Vec::new(alloc);
+    value_of("read_to_end", client.read_to_end(&mut answer))?;
+    expect_opened_and_acked(alloc, answer.as_slice())
+}
+
+/// A client of the system that opens and publishes is answered.
+pub(crate) fn a_client_of_the_system_is_served<N: Net>(
+    net: &N,
+    alloc: Global,
+) -> Result<(), Unmet> {
+    let mut service = Service::new(net, alloc)?;
+    let mut client = service.connect(net)?;
+    send(&mut client, opening_and_publish(alloc)?.as_slice())?;
+    service.serve(alloc);
+    drop(service);
+    expect_served(alloc, &mut client)
+}
+
+/// A client that opens and publishes is answered, though the connection of another is reset between the two.
+pub(crate) fn a_client_that_is_reset_is_lost_alone<N: Net>(
+    net: &N,
+    alloc: Global,
+) -> Result<(), Unmet> {
+    let mut service = Service::new(net, alloc)?;
+    let mut reset = service.connect(net)?;
+    let mut client = service.connect(net)?;
+    send(&mut reset, OPENING)?;
+    send(&mut client, OPENING)?;
+    service.serve(alloc);
     // its answers are there and were not read, so that the system resets the connection
     drop(reset);
-    client.write_all(PUBLISH)?;
-    serve(alloc, &mut server, &mut sockets, 64);
-    drop(server);
-    drop(sockets);
-    let mut answered: Vec<u8> = Vec::new(alloc);
-    client.read_to_end(&mut answered)?;
-    let mut expected = Vec::from_slice(alloc, OPENED)?;
-    expected.extend_from_slice(ACKED)?;
-    assert_eq!(rt; answered, expected);
-    Ok(())
+    send(&mut client, PUBLISH)?;
+    service.serve(alloc);
+    drop(service);
+    expect_served(alloc, &mut client)
 }

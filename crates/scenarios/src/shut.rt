@@ -1,10 +1,10 @@
 //! Runs, and rounds over a wire that is scripted, of a machine on which no connection can be opened.
 
+use crate::expectations::{Unmet, expect, expect_number, value_of};
 use model::{Arrival, Note, Text};
 use runs::{Machine, run_over};
 use serving::{Accept, Read, Server, Wire, Write, serve};
 use std::alloc::{AllocError, Global};
-use std::test::Fail;
 
 /// It counts how often it is to make a delivery; without memory it says so.
 #[derive(Drop)]
@@ -98,10 +98,22 @@ impl Wire for OneCaller {
     }
 }
 
-#[test]
-fn arrivals_for_no_connection_do_nothing(rt: HostRuntime) -> Result<(), Fail> {
-    let alloc = rt.alloc();
-    let bytes = Text::from_slice(alloc, b"AMQP")?;
+/// Serves the machine without memory for so many rounds. Tells how often it was to make a delivery.
+fn pumps_of_rounds(alloc: Global, wire: &mut OneCaller, turns: u64) -> Result<u64, Unmet> {
+    let mut pumps = 0;
+    let machine = Shut {
+        has_memory: false,
+        pumps: &mut pumps,
+    };
+    let mut server = value_of("Server::new", Server::new(alloc, machine))?;
+    serve(alloc, &mut server, wire, turns);
+    drop(server);
+    Ok(pumps)
+}
+
+/// A run of arrivals whose connection was never opened.
+pub(crate) fn arrivals_for_no_connection_do_nothing(alloc: Global) -> Result<(), Unmet> {
+    let bytes = value_of("Text::from_slice", Text::from_slice(alloc, b"AMQP"))?;
     let arrivals = [
         Arrival::In(1, bytes),
         Arrival::Sent(1, 5),
@@ -113,54 +125,44 @@ fn arrivals_for_no_connection_do_nothing(rt: HostRuntime) -> Result<(), Fail> {
         has_memory: true,
         pumps: &mut pumps,
     };
-    let transcript = run_over(alloc, &mut machine, &arrivals)?;
+    let transcript = value_of("run_over", run_over(alloc, &mut machine, &arrivals))?;
     drop(machine);
-    assert!(rt; transcript.connections().is_empty());
-    assert!(rt; transcript.output(1).is_empty());
-    assert!(rt; transcript.is_over(1));
-    assert!(rt; transcript.notes().is_empty());
-    assert_eq!(rt; pumps, 1);
-    Ok(())
+    expect(
+        "no connection is shown",
+        transcript.connections().is_empty(),
+    )?;
+    expect(
+        "connection 1 has no output",
+        transcript.output(1).is_empty(),
+    )?;
+    expect("connection 1 is over", transcript.is_over(1))?;
+    expect("there are no notes", transcript.notes().is_empty())?;
+    expect_number("the number of pumps", pumps, 1)
 }
 
-#[test]
-fn a_socket_that_is_refused_is_closed_and_quiet_rounds_rest(rt: HostRuntime) -> Result<(), Fail> {
-    let alloc = rt.alloc();
-    let mut pumps = 0;
-    let machine = Shut {
-        has_memory: false,
-        pumps: &mut pumps,
-    };
-    let mut server = Server::new(alloc, machine)?;
+/// A socket comes in the first of five rounds.
+pub(crate) fn a_socket_that_is_refused_is_closed_and_quiet_rounds_rest(
+    alloc: Global,
+) -> Result<(), Unmet> {
     let mut wire = OneCaller {
         has_come: false,
         closed: None,
         rests: 0,
     };
-    serve(alloc, &mut server, &mut wire, 5);
-    assert!(rt; wire.has_come);
-    assert!(rt; wire.closed == Some(7));
-    assert_eq!(rt; wire.rests, 4);
-    Ok(())
+    pumps_of_rounds(alloc, &mut wire, 5)?;
+    expect("the socket was accepted", wire.has_come)?;
+    expect("socket 7 is closed", wire.closed == Some(7))?;
+    expect_number("the number of rests", wire.rests, 4)
 }
 
-#[test]
-fn want_of_memory_ends_the_pumps_of_a_round(rt: HostRuntime) -> Result<(), Fail> {
-    let alloc = rt.alloc();
-    let mut pumps = 0;
-    let machine = Shut {
-        has_memory: false,
-        pumps: &mut pumps,
-    };
-    let mut server = Server::new(alloc, machine)?;
+/// Three rounds, in each of which a delivery could be made if there were memory.
+pub(crate) fn want_of_memory_ends_the_pumps_of_a_round(alloc: Global) -> Result<(), Unmet> {
     let mut wire = OneCaller {
         has_come: true,
         closed: None,
         rests: 0,
     };
-    serve(alloc, &mut server, &mut wire, 3);
-    drop(server);
-    assert_eq!(rt; pumps, 3);
-    assert_eq!(rt; wire.rests, 3);
-    Ok(())
+    let pumps = pumps_of_rounds(alloc, &mut wire, 3)?;
+    expect_number("the number of pumps", pumps, 3)?;
+    expect_number("the number of rests", wire.rests, 3)
 }
