@@ -6,9 +6,9 @@ use Rattle.serde_json.specs.View.{items_of}
 use Rattle.serde_json.specs.Read.{read}
 use Rattle.serde_json.specs.Written.{compact_text, has_float, items_have_float}
 use Rattle.serde_json.proofs.OnLiterals.{serde_json_on_literals}
-use Rattle.json_file.specs.Members.{each, text_at}
+use Rattle.json_file.specs.Members.{each, text_member}
 use Rattle.model.specs.Certificates.{Certificate}
-use Rattle.certificate_files.specs.Stated.{whole_number, state_of, states_at, form_at, members_at, certificate_at, certificates_of}
+use Rattle.certificate_files.specs.Stated.{whole_number, state_in, states_at, form_at, members_at, certificate_at, certificates_stated}
 use Rattle.certificate_files.specs.Spelled.{number_data, state_data, states_data, certificate_data, file_data}
 use Rattle.certificate_files.specs.Writes.{IsWritten}
 
@@ -18,19 +18,19 @@ unfolding each
 each_back f reads back [] = refl
 each_back {A} f reads back (x ∷ xs) = ap (λ (o : Option A). option_and_then (λ (y : A). option_map (λ (ys : List A). y ∷ ys) (each reads (items_of (map f xs)))) o) (back x) ∙ ap (λ (o : Option (List A)). option_map (λ (ys : List A). x ∷ ys) o) (each_back f reads back xs)
 
-state_back : (s : List ℕ) → state_of (state_data s) ≡ Some s
-unfolding state_of
+state_back : (s : List ℕ) → state_in (state_data s) ≡ Some s
+unfolding state_in
 state_back s = each_back number_data whole_number (λ n. refl) s
 
-states_back : (ss : List (List ℕ)) → each state_of (items_of (map state_data ss)) ≡ Some ss
-states_back ss = each_back state_data state_of state_back ss
+states_back : (ss : List (List ℕ)) → each state_in (items_of (map state_data ss)) ≡ Some ss
+states_back ss = each_back state_data state_in state_back ss
 
 certificate_back : (c : Certificate) → certificate_at (certificate_data c) ≡ Some c
-unfolding certificate_at members_at form_at states_at text_at serde_json_on_literals
+unfolding certificate_at members_at form_at states_at text_member serde_json_on_literals
 certificate_back c = ap (λ (o : Option (List (List ℕ))). option_and_then (λ (ss : List (List ℕ)). Some (record { exchange = c.exchange; mode = c.mode; pattern = c.pattern; queue = c.queue; states = ss })) o) (states_back c.states)
 
-pub file_back : (cs : List Certificate) → certificates_of (file_data cs) ≡ Some cs
-unfolding certificates_of
+pub file_back : (cs : List Certificate) → certificates_stated (file_data cs) ≡ Some cs
+unfolding certificates_stated
 file_back cs = each_back certificate_data certificate_at certificate_back cs
 
 -- ---- depth
@@ -76,6 +76,6 @@ written bytes text d cs same compact back utf8 is = record {
       text = subst (λ (z : List ℕ). IsUtf8 z) (sym is) utf8;
       value = ap read is ∙ back (subst (λ (z : Data). depth z ≤ 127) (sym same) (file_depth cs));
     };
-    states = ap certificates_of same ∙ file_back cs;
+    states = ap certificates_stated same ∙ file_back cs;
   };
 }

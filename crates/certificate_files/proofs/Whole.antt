@@ -7,10 +7,10 @@ use Rattle.json_file.specs.declared.faults.BadJson.{BadJson}
 use Rattle.json_file.specs.declared.faults.BadJson.TheVariants as fault
 use Rattle.std.specs.Prelude.{Err}
 use Rattle.certificate_files.specs.Faults.{bad_certificates}
-use Rattle.certificate_files.specs.Stated.{certificates_of}
+use Rattle.certificate_files.specs.Stated.{certificates_stated}
 use Rattle.certificate_files.specs.Reads.{ReadsCertificateFile}
 
-pub unread : (bytes : List ℕ) (d : Data) (e : BadJson) → IsJson bytes d → FailsJson e (certificates_of d ≡ None) → ReadsCertificateFile (Err (bad_certificates e)) bytes
+pub unread : (bytes : List ℕ) (d : Data) (e : BadJson) → IsJson bytes d → FailsJson e (certificates_stated d ≡ None) → ReadsCertificateFile (Err (bad_certificates e)) bytes
 unread bytes d fault.TooLong j h = absurd h
 unread bytes d fault.NotJson j h = absurd h
 unread bytes d fault.Malformed j h = record { value = d; json = j; states = h }

@@ -9,7 +9,7 @@ use Rattle.state_walks.specs.Judged.{states_of}
 use Rattle.model.specs.Certificates.{Certificate}
 use Rattle.certificate_files.specs.declared.bad.BadCertificates.{BadCertificates}
 use Rattle.certificate_files.specs.declared.bad.BadCertificates.TheVariants.{NotJson, Malformed, TooLong, Memory}
-use Rattle.certificate_files.specs.Stated.{certificates_of}
+use Rattle.certificate_files.specs.Stated.{certificates_stated}
 
 -- the states that stand there are given, or they are refused where none do
 abbrev pub GivesStates : Result (Vec (Vec ℕ Global) Global) BadJson → Option (List (List ℕ)) → Type 0
@@ -20,13 +20,13 @@ GivesStates (Err e) o = FailsJson e (o ≡ None)
 pub record IsCertificatesFile (bytes : List ℕ) (cs : List Certificate) : Type 0 where
   pub value : Data
   pub json : IsJson bytes value
-  pub states : certificates_of value ≡ Some cs
+  pub states : certificates_stated value ≡ Some cs
 
 -- the file is JSON and states no certificates
 pub record IsOther (bytes : List ℕ) : Type 0 where
   pub value : Data
   pub json : IsJson bytes value
-  pub states : certificates_of value ≡ None
+  pub states : certificates_stated value ≡ None
 
 -- A file is too long, or no JSON, or states no certificates, or is read; want of memory owes nothing.
 abbrev pub ReadsCertificateFile : Result (Vec Certificate Global) BadCertificates → List ℕ → Type 0

@@ -4,7 +4,7 @@ ghost use Rattle.std.specs.Prelude.{◌≡◌};
 ghost use Rattle.serde_json.specs.View.{items_view, view};
 ghost use Rattle.json_file.specs.Members.{each};
 ghost use Rattle.json_file.specs.Outcomes.{GivesValue, GivesItems};
-ghost use Rattle.certificate_files.specs.Stated.{certificate_at, certificates_of, form_at, members_at, whole_number, state_of, states_at};
+ghost use Rattle.certificate_files.specs.Stated.{certificate_at, certificates_stated, form_at, members_at, whole_number, state_in, states_at};
 ghost use Rattle.certificate_files.specs.Reads.{GivesStates, ReadsCertificateFile};
 
 use crate::bad::BadCertificates;
@@ -35,9 +35,9 @@ fn numbers(alloc: Global, values: &[Value]) -> Result<Vec<u64>, BadJson>
 }
 
 /// The state that a value is.
-#[tactic(auto, unfolding(crate::specs::Stated::state_of))]
+#[tactic(auto, unfolding(crate::specs::Stated::state_in))]
 fn state(alloc: Global, value: &Value) -> Result<Vec<u64>, BadJson>
-    ensures { GivesItems result (state_of (view value.now)) }
+    ensures { GivesItems result (state_in (view value.now)) }
 {
     match value.as_array() {
         Some(array) => numbers(alloc, array.as_slice()),
@@ -47,7 +47,7 @@ fn state(alloc: Global, value: &Value) -> Result<Vec<u64>, BadJson>
 
 /// The states that these values are.
 fn states(alloc: Global, values: &[Value]) -> Result<Vec<Vec<u64>>, BadJson>
-    ensures { GivesStates result (each state_of (items_view values.now)) }
+    ensures { GivesStates result (each state_in (items_view values.now)) }
 {
     let mut found = Vec::new(alloc);
     for value in values {
@@ -117,9 +117,9 @@ fn certificates(alloc: Global, values: &[Value]) -> Result<Vec<Certificate>, Bad
 }
 
 /// The certificates of a file's value.
-#[tactic(auto, unfolding(crate::specs::Stated::certificates_of))]
+#[tactic(auto, unfolding(crate::specs::Stated::certificates_stated))]
 fn stated(alloc: Global, value: &Value) -> Result<Vec<Certificate>, BadJson>
-    ensures { GivesItems result (certificates_of (view value.now)) }
+    ensures { GivesItems result (certificates_stated (view value.now)) }
 {
     match value.as_array() {
         Some(array) => certificates(alloc, array.as_slice()),

@@ -2,7 +2,7 @@
 use Rattle.std.specs.Prelude.{codes, ◌≡◌, ℕ, List, Bool, Option, Some, None, Result, Ok, Err, option_and_then}
 use Rattle.model.specs.Options.{◌>>=◌}
 use Rattle.serde_json.specs.Data.{Data}
-use Rattle.json_file.specs.Members.{array_at, each}
+use Rattle.json_file.specs.Members.{array_member, each}
 use Rattle.json_file.specs.Outcomes.{FailsJson}
 use Rattle.json_file.specs.declared.faults.BadJson.{BadJson}
 use Rattle.definitions.specs.declared.document.VhostEntry.{VhostEntry}
@@ -12,7 +12,7 @@ use Rattle.definitions.specs.declared.document.ExchangeEntry.{ExchangeEntry}
 use Rattle.definitions.specs.declared.document.QueueEntry.{QueueEntry}
 use Rattle.definitions.specs.declared.document.BindingEntry.{BindingEntry}
 use Rattle.definitions.specs.declared.document.Document.{Document}
-use Rattle.definitions.specs.Shape.{vhost_at, user_at, permission_at, exchange_at, queue_at, binding_at, plain_at}
+use Rattle.definitions.specs.Shape.{vhost_entry_at, user_entry_at, permission_entry_at, exchange_entry_at, queue_entry_at, binding_entry_at, plain_at}
 
 -- the entries, each list in the order of the file, and whether there is no policy, parameter or topic permission
 pub record File : Type 0 where
@@ -26,17 +26,17 @@ pub record File : Type 0 where
 
 -- the entries of the array at this member
 abbrev pub entries_at : {A : Type 0} → (Data → Option A) → List ℕ → Data → Option (List A)
-entries_at reads name d = option_and_then (each reads) (array_at name d)
+entries_at reads name d = option_and_then (each reads) (array_member name d)
 
 -- the entries that a JSON value states, if it is an object with all of these members, each of its kind; others are ignored
 unfoldable pub file_at : Data → Option File
 file_at d = do
-  vhosts ← entries_at vhost_at (codes "vhosts") d
-  users ← entries_at user_at (codes "users") d
-  permissions ← entries_at permission_at (codes "permissions") d
-  exchanges ← entries_at exchange_at (codes "exchanges") d
-  queues ← entries_at queue_at (codes "queues") d
-  bindings ← entries_at binding_at (codes "bindings") d
+  vhosts ← entries_at vhost_entry_at (codes "vhosts") d
+  users ← entries_at user_entry_at (codes "users") d
+  permissions ← entries_at permission_entry_at (codes "permissions") d
+  exchanges ← entries_at exchange_entry_at (codes "exchanges") d
+  queues ← entries_at queue_entry_at (codes "queues") d
+  bindings ← entries_at binding_entry_at (codes "bindings") d
   plain ← plain_at d
   Some (record { vhosts = vhosts; users = users; permissions = permissions; exchanges = exchanges; queues = queues; bindings = bindings; plain = plain })
 

@@ -2,7 +2,7 @@
 use Rattle.std.specs.Prelude.{codes, ℕ, List, [], ◌∷◌, Bool, not, ◌&&◌, Option, Some}
 use Rattle.model.specs.Options.{◌>>=◌}
 use Rattle.serde_json.specs.Data.{Data}
-use Rattle.json_file.specs.Members.{text_at, truth_at, arguments_at, optional_text_at, optional_number_at, is_filled, has_only}
+use Rattle.json_file.specs.Members.{text_member, truth_member, arguments_member, optional_text_member, optional_number_member, is_filled, has_only}
 use Rattle.definitions.specs.declared.document.VhostEntry.{VhostEntry}
 use Rattle.definitions.specs.declared.document.UserEntry.{UserEntry}
 use Rattle.definitions.specs.declared.document.PermissionEntry.{PermissionEntry}
@@ -13,34 +13,34 @@ use Rattle.definitions.specs.declared.document.QueueEntry.{QueueEntry}
 use Rattle.definitions.specs.declared.document.BindingEntry.{BindingEntry}
 
 -- a vhost; its other members are ignored
-unfoldable pub vhost_at : Data → Option VhostEntry
-vhost_at d = do
-  name ← text_at (codes "name") d
+unfoldable pub vhost_entry_at : Data → Option VhostEntry
+vhost_entry_at d = do
+  name ← text_member (codes "name") d
   Some (record { name = name })
 
 -- a user; its other members are ignored
-unfoldable pub user_at : Data → Option UserEntry
-user_at d = do
-  name ← text_at (codes "name") d
-  password_hash ← text_at (codes "password_hash") d
-  hashing_algorithm ← text_at (codes "hashing_algorithm") d
+unfoldable pub user_entry_at : Data → Option UserEntry
+user_entry_at d = do
+  name ← text_member (codes "name") d
+  password_hash ← text_member (codes "password_hash") d
+  hashing_algorithm ← text_member (codes "hashing_algorithm") d
   Some (record { name = name; password_hash = password_hash; hashing_algorithm = hashing_algorithm })
 
 -- a permission; its other members are ignored
-unfoldable pub permission_at : Data → Option PermissionEntry
-permission_at d = do
-  user ← text_at (codes "user") d
-  vhost ← text_at (codes "vhost") d
-  configure ← text_at (codes "configure") d
-  write ← text_at (codes "write") d
-  reads ← text_at (codes "read") d
+unfoldable pub permission_entry_at : Data → Option PermissionEntry
+permission_entry_at d = do
+  user ← text_member (codes "user") d
+  vhost ← text_member (codes "vhost") d
+  configure ← text_member (codes "configure") d
+  write ← text_member (codes "write") d
+  reads ← text_member (codes "read") d
   Some (record { user = user; vhost = vhost; configure = configure; write = write; read = reads })
 
 -- the arguments of an exchange
 unfoldable pub exchange_arguments_at : Data → Option ExchangeArguments
 exchange_arguments_at d = do
-  stated ← arguments_at d
-  alternate ← optional_text_at (codes "alternate-exchange") stated
+  stated ← arguments_member d
+  alternate ← optional_text_member (codes "alternate-exchange") stated
   Some (record { alternate = alternate; listed = has_only (codes "alternate-exchange" ∷ []) stated })
 
 -- the members of an exchange
@@ -48,14 +48,14 @@ abbrev pub exchange_members : List (List ℕ)
 exchange_members = codes "name" ∷ codes "vhost" ∷ codes "type" ∷ codes "durable" ∷ codes "auto_delete" ∷ codes "internal" ∷ codes "arguments" ∷ []
 
 -- an exchange
-unfoldable pub exchange_at : Data → Option ExchangeEntry
-exchange_at d = do
-  name ← text_at (codes "name") d
-  vhost ← text_at (codes "vhost") d
-  kind ← text_at (codes "type") d
-  durable ← truth_at (codes "durable") d
-  auto_delete ← truth_at (codes "auto_delete") d
-  internal ← truth_at (codes "internal") d
+unfoldable pub exchange_entry_at : Data → Option ExchangeEntry
+exchange_entry_at d = do
+  name ← text_member (codes "name") d
+  vhost ← text_member (codes "vhost") d
+  kind ← text_member (codes "type") d
+  durable ← truth_member (codes "durable") d
+  auto_delete ← truth_member (codes "auto_delete") d
+  internal ← truth_member (codes "internal") d
   arguments ← exchange_arguments_at d
   Some (record {
     name = name;
@@ -74,11 +74,11 @@ queue_argument_names = codes "x-max-length" ∷ codes "x-overflow" ∷ codes "x-
 -- the arguments of a queue
 unfoldable pub queue_arguments_at : Data → Option QueueArguments
 queue_arguments_at d = do
-  stated ← arguments_at d
-  max_length ← optional_number_at (codes "x-max-length") stated
-  overflow ← optional_text_at (codes "x-overflow") stated
-  dead_letter_exchange ← optional_text_at (codes "x-dead-letter-exchange") stated
-  dead_letter_key ← optional_text_at (codes "x-dead-letter-routing-key") stated
+  stated ← arguments_member d
+  max_length ← optional_number_member (codes "x-max-length") stated
+  overflow ← optional_text_member (codes "x-overflow") stated
+  dead_letter_exchange ← optional_text_member (codes "x-dead-letter-exchange") stated
+  dead_letter_key ← optional_text_member (codes "x-dead-letter-routing-key") stated
   Some (record {
     max_length = max_length;
     overflow = overflow;
@@ -92,12 +92,12 @@ abbrev pub queue_members : List (List ℕ)
 queue_members = codes "name" ∷ codes "vhost" ∷ codes "durable" ∷ codes "auto_delete" ∷ codes "arguments" ∷ []
 
 -- a queue
-unfoldable pub queue_at : Data → Option QueueEntry
-queue_at d = do
-  name ← text_at (codes "name") d
-  vhost ← text_at (codes "vhost") d
-  durable ← truth_at (codes "durable") d
-  auto_delete ← truth_at (codes "auto_delete") d
+unfoldable pub queue_entry_at : Data → Option QueueEntry
+queue_entry_at d = do
+  name ← text_member (codes "name") d
+  vhost ← text_member (codes "vhost") d
+  durable ← truth_member (codes "durable") d
+  auto_delete ← truth_member (codes "auto_delete") d
   arguments ← queue_arguments_at d
   Some (record { name = name; vhost = vhost; auto_delete = auto_delete; arguments = arguments; listed = has_only queue_members d })
 
@@ -108,17 +108,17 @@ binding_members = codes "source" ∷ codes "vhost" ∷ codes "destination" ∷ c
 -- a binding has no other member, and no argument
 unfoldable pub binding_listed_at : Data → Option Bool
 binding_listed_at d = do
-  stated ← arguments_at d
+  stated ← arguments_member d
   Some (has_only binding_members d && has_only [] stated)
 
 -- a binding
-unfoldable pub binding_at : Data → Option BindingEntry
-binding_at d = do
-  source ← text_at (codes "source") d
-  vhost ← text_at (codes "vhost") d
-  destination ← text_at (codes "destination") d
-  destination_type ← text_at (codes "destination_type") d
-  key ← text_at (codes "routing_key") d
+unfoldable pub binding_entry_at : Data → Option BindingEntry
+binding_entry_at d = do
+  source ← text_member (codes "source") d
+  vhost ← text_member (codes "vhost") d
+  destination ← text_member (codes "destination") d
+  destination_type ← text_member (codes "destination_type") d
+  key ← text_member (codes "routing_key") d
   listed ← binding_listed_at d
   Some (record { source = source; vhost = vhost; destination = destination; destination_type = destination_type; key = key; listed = listed })
 

@@ -23,11 +23,11 @@ use serde_json::Value;
 use std::alloc::Global;
 
 impl FromValue for VhostEntry {
-    ghost use Rattle.definitions.specs.Shape.{vhost_at};
+    ghost use Rattle.definitions.specs.Shape.{vhost_entry_at};
 
-    ghost states = { vhost_at };
+    ghost states = { vhost_entry_at };
 
-    #[tactic(auto, unfolding(crate::specs::Shape::vhost_at))]
+    #[tactic(auto, unfolding(crate::specs::Shape::vhost_entry_at))]
     fn read(alloc: Global, value: &Value) -> Result<VhostEntry, BadJson> {
         Ok(VhostEntry {
             name: text(alloc, value, "name")?,
@@ -36,11 +36,11 @@ impl FromValue for VhostEntry {
 }
 
 impl FromValue for UserEntry {
-    ghost use Rattle.definitions.specs.Shape.{user_at};
+    ghost use Rattle.definitions.specs.Shape.{user_entry_at};
 
-    ghost states = { user_at };
+    ghost states = { user_entry_at };
 
-    #[tactic(auto, unfolding(crate::specs::Shape::user_at))]
+    #[tactic(auto, unfolding(crate::specs::Shape::user_entry_at))]
     fn read(alloc: Global, value: &Value) -> Result<UserEntry, BadJson> {
         Ok(UserEntry {
             name: text(alloc, value, "name")?,
@@ -51,11 +51,11 @@ impl FromValue for UserEntry {
 }
 
 impl FromValue for PermissionEntry {
-    ghost use Rattle.definitions.specs.Shape.{permission_at};
+    ghost use Rattle.definitions.specs.Shape.{permission_entry_at};
 
-    ghost states = { permission_at };
+    ghost states = { permission_entry_at };
 
-    #[tactic(auto, unfolding(crate::specs::Shape::permission_at))]
+    #[tactic(auto, unfolding(crate::specs::Shape::permission_entry_at))]
     fn read(alloc: Global, value: &Value) -> Result<PermissionEntry, BadJson> {
         Ok(PermissionEntry {
             user: text(alloc, value, "user")?,
@@ -80,11 +80,11 @@ fn exchange_arguments(alloc: Global, value: &Value) -> Result<ExchangeArguments,
 }
 
 impl FromValue for ExchangeEntry {
-    ghost use Rattle.definitions.specs.Shape.{exchange_at};
+    ghost use Rattle.definitions.specs.Shape.{exchange_entry_at};
 
-    ghost states = { exchange_at };
+    ghost states = { exchange_entry_at };
 
-    #[tactic(auto, unfolding(crate::specs::Shape::exchange_at))]
+    #[tactic(auto, unfolding(crate::specs::Shape::exchange_entry_at))]
     fn read(alloc: Global, value: &Value) -> Result<ExchangeEntry, BadJson> {
         let name = text(alloc, value, "name")?;
         let vhost = text(alloc, value, "vhost")?;
@@ -146,11 +146,11 @@ fn queue_arguments(alloc: Global, value: &Value) -> Result<QueueArguments, BadJs
 }
 
 impl FromValue for QueueEntry {
-    ghost use Rattle.definitions.specs.Shape.{queue_at};
+    ghost use Rattle.definitions.specs.Shape.{queue_entry_at};
 
-    ghost states = { queue_at };
+    ghost states = { queue_entry_at };
 
-    #[tactic(auto, unfolding(crate::specs::Shape::queue_at))]
+    #[tactic(auto, unfolding(crate::specs::Shape::queue_entry_at))]
     fn read(alloc: Global, value: &Value) -> Result<QueueEntry, BadJson> {
         let name = text(alloc, value, "name")?;
         let vhost = text(alloc, value, "vhost")?;
@@ -192,11 +192,11 @@ fn binding_listed(value: &Value) -> Result<bool, BadJson>
 }
 
 impl FromValue for BindingEntry {
-    ghost use Rattle.definitions.specs.Shape.{binding_at};
+    ghost use Rattle.definitions.specs.Shape.{binding_entry_at};
 
-    ghost states = { binding_at };
+    ghost states = { binding_entry_at };
 
-    #[tactic(auto, unfolding(crate::specs::Shape::binding_at))]
+    #[tactic(auto, unfolding(crate::specs::Shape::binding_entry_at))]
     fn read(alloc: Global, value: &Value) -> Result<BindingEntry, BadJson> {
         let source = text(alloc, value, "source")?;
         let vhost = text(alloc, value, "vhost")?;

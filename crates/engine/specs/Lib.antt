@@ -5,4 +5,4 @@ pub mod Pumping
 pub mod World
 pub mod Engines
 pub mod Opening
-pub mod Certified
+pub mod InForce

@@ -9,7 +9,7 @@ ghost use Rattle.engine.specs.World.{world_of};
 ghost use Rattle.engine.specs.Engines.{Turned, OnDid, left_in};
 ghost use Rattle.engine.specs.Pumping.{IsPump};
 ghost use Rattle.engine.specs.Opening.{Numbers, OpenedNew, OpenedReady};
-ghost use Rattle.engine.specs.Certified.{in_force};
+ghost use Rattle.engine.specs.InForce.{in_force};
 
 use crate::connected::Connected;
 use crate::connections::{feed_at, place_of, take_at, turn_at};

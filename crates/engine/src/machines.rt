@@ -3,10 +3,11 @@
 ghost use Rattle.std.specs.Prelude.{◌≡◌, IfOk, OnErr};
 ghost use Rattle.model.specs.Commands.{Stream};
 ghost use Rattle.model.specs.Arrivals.{World, Same};
+ghost use Rattle.model.specs.Headline.{CertifiedDelivery};
 ghost use Rattle.model.specs.declared.events.Event as event;
 ghost use Rattle.runs.specs.Opened.{IsOpened};
 ghost use Rattle.engine.specs.Opening.{OpenedBy};
-ghost use Rattle.engine.specs.Certified.{in_force, IsCertified};
+ghost use Rattle.engine.specs.InForce.{in_force};
 
 use crate::engines::{Engine, Refused};
 use crate::turning::Turn;
@@ -82,14 +83,14 @@ fn number_of(opened: Result<u64, Refused>) -> Result<Option<u64>, AllocError>
 }
 
 /// All that arrives at an engine with no connection, in order, each with the commands that it brings: what was put out
-/// for each connection, and all notes. Certified delivery holds of it, and messages were given out in order.
+/// for each connection, and all notes. Certified delivery holds of it.
 pub fn run(
     alloc: Global,
     checked: Checked,
     users: Vec<User>,
     arrivals: &[Arrival],
 ) -> Result<Transcript, AllocError>
-    ensures { IfOk result (λ t. IsCertified (in_force checked users.items) arrivals.now t) }
+    ensures { IfOk result (λ t. CertifiedDelivery (in_force checked users.items) arrivals.now t) }
 {
     let mut engine = Engine::new(alloc, checked, users)?;
     run_over(alloc, &mut engine, arrivals)

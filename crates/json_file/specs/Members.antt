@@ -17,24 +17,24 @@ abbrev pub IsJsonFile : List ℕ → Type 0
 IsJsonFile bytes = length bytes ≤ 16777216 → (d : Data) × IsJson bytes d
 
 -- the text at this member
-unfoldable pub text_at : List ℕ → Data → Option (List ℕ)
-text_at name d = option_and_then as_str (get name d)
+unfoldable pub text_member : List ℕ → Data → Option (List ℕ)
+text_member name d = option_and_then as_str (get name d)
 
 -- the truth value at this member
-unfoldable pub truth_at : List ℕ → Data → Option Bool
-truth_at name d = option_and_then as_bool (get name d)
+unfoldable pub truth_member : List ℕ → Data → Option Bool
+truth_member name d = option_and_then as_bool (get name d)
 
 -- the array at this member
-unfoldable pub array_at : List ℕ → Data → Option Items
-array_at name d = option_and_then as_array (get name d)
+unfoldable pub array_member : List ℕ → Data → Option Items
+array_member name d = option_and_then as_array (get name d)
 
 -- the value, if it is an object
 abbrev pub if_object : Data → Option Data
 if_object d = if is_some (as_object d) then Some d else None
 
 -- the object at the member `arguments`
-unfoldable pub arguments_at : Data → Option Data
-arguments_at d = option_and_then if_object (get (codes "arguments") d)
+unfoldable pub arguments_member : Data → Option Data
+arguments_member d = option_and_then if_object (get (codes "arguments") d)
 
 -- a member that may be left out
 abbrev pub optional : {A : Type 0} → (Data → Option A) → Option Data → Option (Option A)
@@ -42,8 +42,8 @@ optional reads None = Some None
 optional reads (Some d) = option_map (λ x. Some x) (reads d)
 
 -- the text at this member, where it is there
-unfoldable pub optional_text_at : List ℕ → Data → Option (Option (List ℕ))
-optional_text_at name d = optional as_str (get name d)
+unfoldable pub optional_text_member : List ℕ → Data → Option (Option (List ℕ))
+optional_text_member name d = optional as_str (get name d)
 
 -- a whole number below 2^32
 abbrev pub small : ℕ → Option ℕ
@@ -54,8 +54,8 @@ abbrev pub small_number : Data → Option ℕ
 small_number d = option_and_then small (option_and_then as_u64 (as_number d))
 
 -- the whole number below 2^32 at this member, where it is there
-unfoldable pub optional_number_at : List ℕ → Data → Option (Option ℕ)
-optional_number_at name d = optional small_number (get name d)
+unfoldable pub optional_number_member : List ℕ → Data → Option (Option ℕ)
+optional_number_member name d = optional small_number (get name d)
 
 -- whether the array has an element
 abbrev pub fills : Items → Bool

@@ -3,7 +3,7 @@
 ghost use Rattle.std.specs.Prelude.{◌≡◌, Option, option_and_then};
 ghost use Rattle.serde_json.specs.Data.{Data};
 ghost use Rattle.serde_json.specs.View.{view, items_view};
-ghost use Rattle.json_file.specs.Members.{array_at, each};
+ghost use Rattle.json_file.specs.Members.{array_member, each};
 ghost use Rattle.json_file.specs.Outcomes.{GivesValue, GivesItems};
 
 use crate::faults::BadJson;
@@ -34,9 +34,9 @@ fn entries_of<E: FromValue>(alloc: Global, values: &[Value]) -> Result<Vec<E>, B
 }
 
 /// The entries of the array at this member.
-#[tactic(auto, unfolding(crate::specs::Members::array_at))]
+#[tactic(auto, unfolding(crate::specs::Members::array_member))]
 pub fn entries<E: FromValue>(alloc: Global, value: &Value, name: &str) -> Result<Vec<E>, BadJson>
-    ensures { GivesItems result (option_and_then (each E.states) (array_at name.now (view value.now))) }
+    ensures { GivesItems result (option_and_then (each E.states) (array_member name.now (view value.now))) }
 {
     match value.get(name).and_then(Value::as_array) {
         Some(array) => entries_of(alloc, array.as_slice()),

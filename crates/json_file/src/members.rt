@@ -7,13 +7,13 @@ ghost use Rattle.std.specs.Str.{bytes_eq};
 ghost use Rattle.serde_json.specs.View.{view};
 ghost use Rattle.json_file.specs.Members.{
   IsJson,
-  arguments_at,
+  arguments_member,
   has_only,
   is_filled,
-  optional_number_at,
-  optional_text_at,
-  text_at,
-  truth_at,
+  optional_number_member,
+  optional_text_member,
+  text_member,
+  truth_member,
 };
 ghost use Rattle.json_file.specs.Outcomes.{GivesValue, GivesView, Parses};
 
@@ -45,9 +45,9 @@ pub fn parse(alloc: Global, bytes: &[u8]) -> Result<Value, BadJson>
 }
 
 /// The text at this member.
-#[tactic(auto, unfolding(crate::specs::Members::text_at))]
+#[tactic(auto, unfolding(crate::specs::Members::text_member))]
 pub fn text(alloc: Global, value: &Value, name: &str) -> Result<Text, BadJson>
-    ensures { GivesValue result (text_at name.now (view value.now)) }
+    ensures { GivesValue result (text_member name.now (view value.now)) }
 {
     match value.get(name).and_then(Value::as_str) {
         Some(text) => Ok(Text::from_slice(alloc, text.as_bytes())?),
@@ -56,9 +56,9 @@ pub fn text(alloc: Global, value: &Value, name: &str) -> Result<Text, BadJson>
 }
 
 /// The truth value at this member.
-#[tactic(auto, unfolding(crate::specs::Members::truth_at))]
+#[tactic(auto, unfolding(crate::specs::Members::truth_member))]
 pub fn truth(value: &Value, name: &str) -> Result<bool, BadJson>
-    ensures { GivesValue result (truth_at name.now (view value.now)) }
+    ensures { GivesValue result (truth_member name.now (view value.now)) }
 {
     match value.get(name).and_then(Value::as_bool) {
         Some(truth) => Ok(truth),
@@ -67,9 +67,9 @@ pub fn truth(value: &Value, name: &str) -> Result<bool, BadJson>
 }
 
 /// The object at the member `arguments`.
-#[tactic(auto, unfolding(crate::specs::Members::arguments_at))]
+#[tactic(auto, unfolding(crate::specs::Members::arguments_member))]
 pub fn arguments(value: &Value) -> Result<&Value, BadJson>
-    ensures { GivesView result (arguments_at (view value.now)) }
+    ensures { GivesView result (arguments_member (view value.now)) }
 {
     match value.get("arguments") {
         Some(found) if found.is_object() => Ok(found),
@@ -78,9 +78,9 @@ pub fn arguments(value: &Value) -> Result<&Value, BadJson>
 }
 
 /// The text at this member, where it is there.
-#[tactic(auto, unfolding(crate::specs::Members::optional_text_at))]
+#[tactic(auto, unfolding(crate::specs::Members::optional_text_member))]
 pub fn optional_text(alloc: Global, value: &Value, name: &str) -> Result<Option<Text>, BadJson>
-    ensures { GivesValue result (optional_text_at name.now (view value.now)) }
+    ensures { GivesValue result (optional_text_member name.now (view value.now)) }
 {
     match value.get(name) {
         None => Ok(None),
@@ -92,9 +92,9 @@ pub fn optional_text(alloc: Global, value: &Value, name: &str) -> Result<Option<
 }
 
 /// The whole number below 2^32 at this member, where it is there.
-#[tactic(auto, unfolding(crate::specs::Members::optional_number_at))]
+#[tactic(auto, unfolding(crate::specs::Members::optional_number_member))]
 pub fn optional_number(value: &Value, name: &str) -> Result<Option<u32>, BadJson>
-    ensures { GivesValue result (optional_number_at name.now (view value.now)) }
+    ensures { GivesValue result (optional_number_member name.now (view value.now)) }
 {
     match value.get(name) {
         None => Ok(None),

@@ -4,7 +4,7 @@ use Rattle.model.specs.Words.{Text}
 use Rattle.model.specs.Topology.{Topology}
 use Rattle.model.specs.Broker.{Broker, Channel, Connection}
 use Rattle.model.specs.Step as step
-use Rattle.model.specs.Step.{Of_channel, Of_connection, refusal, refusal_of_large, refusal_of_publish, refusal_of_get, refusal_of_seat, refusal_of_settling, channel_or_new}
+use Rattle.model.specs.Step.{Of_channel, Of_connection, refusal, refusal_of, refusal_of_large, refusal_of_publish, refusal_of_get, refusal_of_seat, refusal_of_settling, channel_or_new}
 use Rattle.model.specs.declared.methods.Close.{Close}
 use Rattle.model.specs.declared.methods.Method.{Method}
 use Rattle.model.specs.declared.methods.Method.TheVariants as method
@@ -123,6 +123,14 @@ refusal_left ch _ = None
 abbrev pub Judges : Topology → Broker → Option Channel → Method → Option step.Refusal → Result Act Refusal → Type 0
 Judges t b ch m r (Ok asked) = (r ≡ refusal_left (channel_or_new ch) asked) × AsksAct t b ch m asked
 Judges t b ch m r (Err e) = (r ≡ Some (refusal_seen e)) × HasChannel e ch
+
+-- The same of a method on a channel of this record, which is open.
+abbrev pub JudgesOpen : Topology → Broker → Channel → Method → Result Act Refusal → Type 0
+JudgesOpen t b ch m result = Judges t b (Some ch) m (refusal_of t b ch m) result
+
+-- The same on a connection that runs, on a channel of this number.
+abbrev pub JudgesThere : Topology → Broker → Connection → ℕ → Option Channel → Method → Result Act Refusal → Type 0
+JudgesThere t b conn h ch m result = Judges t b ch m (refusal t b conn h m ch) result
 
 -- The same of a command on a connection, which is silent where that doesn't run.
 abbrev pub JudgesOn : Topology → Broker → ℕ → ℕ → Method → Option (Result Act Refusal) → Type 0

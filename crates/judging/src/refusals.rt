@@ -14,7 +14,7 @@ ghost use Rattle.model.specs.Prefetch.{has_tag_left};
 ghost use Rattle.model.specs.Deliveries.{first_ready};
 ghost use Rattle.depot.specs.Store.{queue_at};
 ghost use Rattle.model.specs.declared.methods.Method.TheVariants.{BasicPublish, QueuePurge, BasicQos, BasicGet};
-ghost use Rattle.judging.specs.Judged.{refusal_seen, seen_if, HasChannel, HasStore, Judges};
+ghost use Rattle.judging.specs.Judged.{refusal_seen, seen_if, HasChannel, HasStore, Judges, JudgesOpen, JudgesThere};
 ghost use Rattle.channel.specs.Open.{open_in};
 ghost use Rattle.links.specs.Links.{limits_of, channel_seen};
 
@@ -162,7 +162,7 @@ fn judge_publish<'a>(
     channel: &Channel,
     publish: &'a Publish,
 ) -> Result<Act<'a>, Refusal>
-    ensures { (b : Broker) (names : List Name) → b.published ≡ published → Judges router.now b (Some (open_in names channel.now)) (BasicPublish publish.now) (said.refusal_of_publish router.now b (open_in names channel.now) publish.now) result }
+    ensures { (b : Broker) (names : List Name) → b.published ≡ published → JudgesOpen router.now b (open_in names channel.now) (BasicPublish publish.now) result }
 {
     match refusal_of_publish(router, published, channel, publish) {
         None => Ok(Act::Publish(publish)),
@@ -172,7 +172,7 @@ fn judge_publish<'a>(
 
 /// A purge on an open channel. The queue must be there.
 fn judge_purge<'a>(router: &Router, purge: &'a Purge) -> Result<Act<'a>, Refusal>
-    ensures { (b : Broker) (ch : Seen) → Judges router.now b (Some ch) (QueuePurge purge.now) (said.refusal_in router.now purge.now.queue) result }
+    ensures { (b : Broker) (ch : Seen) → JudgesOpen router.now b ch (QueuePurge purge.now) result }
 {
     match router.topology().queue_at(purge.queue.as_bytes()) {
         Some(place) => Ok(Act::Purge(place, purge)),
@@ -190,7 +190,7 @@ fn lacks_tag(depot: &Depot, channel: &Channel, place: usize) -> bool
 
 /// A get on an open channel. The queue must be there, and a delivery tag left for its message.
 fn judge_get<'a>(depot: &Depot, channel: &Channel, get: &'a Get) -> Result<Act<'a>, Refusal>
-    ensures { (b : Broker) (names : List Name) → HasStore b depot.now → Judges depot.now.topology b (Some (open_in names channel.now)) (BasicGet get.now) (said.refusal_of_get depot.now.topology b (open_in names channel.now) get.now) result }
+    ensures { (b : Broker) (names : List Name) → HasStore b depot.now → JudgesOpen depot.now.topology b (open_in names channel.now) (BasicGet get.now) result }
 {
     let place = match depot.topology().queue_at(get.queue.as_bytes()) {
         Some(place) => place,
@@ -206,7 +206,7 @@ fn judge_get<'a>(depot: &Depot, channel: &Channel, get: &'a Get) -> Result<Act<'
 
 /// A qos on an open channel. A limit by the size of messages is not implemented.
 fn judge_qos(qos: &Qos) -> Result<Act<'_>, Refusal>
-    ensures { (t : Handed) (b : Broker) (ch : Seen) → Judges t b (Some ch) (BasicQos qos.now) (said.refusal_of_qos qos.now) result }
+    ensures { (t : Handed) (b : Broker) (ch : Seen) → JudgesOpen t b ch (BasicQos qos.now) result }
 {
     if qos.prefetch_size == 0 {
         Ok(Act::Limit(qos))
@@ -222,7 +222,7 @@ fn judge_on_open<'a>(
     method: &'a Method,
 ) -> Result<Act<'a>, Refusal>
     requires { channel.now.is_closing ≡ false }
-    ensures { (b : Broker) → HasStore b depot.now → Judges depot.now.topology b (Some (open_in (queue_names depot.now.topology.queues) channel.now)) method.now (said.refusal_of depot.now.topology b (open_in (queue_names depot.now.topology.queues) channel.now) method.now) result }
+    ensures { (b : Broker) → HasStore b depot.now → JudgesOpen depot.now.topology b (open_in (queue_names depot.now.topology.queues) channel.now) method.now result }
 {
     match method {
         Method::ConfirmSelect { no_wait } => Ok(Act::Select(*no_wait)),
@@ -284,7 +284,7 @@ fn judge_on_number<'a>(
     method: &'a Method,
 ) -> Result<Act<'a>, Refusal>
     requires { (names : List Name) → said.is_awaiting (channel_seen names link.now number) ≡ false }
-    ensures { (b : Broker) → HasStore b depot.now → Judges depot.now.topology b (channel_seen (queue_names depot.now.topology.queues) link.now number) method.now (said.refusal depot.now.topology b (limits_of link.now) number method.now (channel_seen (queue_names depot.now.topology.queues) link.now number)) result }
+    ensures { (b : Broker) → HasStore b depot.now → JudgesThere depot.now.topology b (limits_of link.now) number (channel_seen (queue_names depot.now.topology.queues) link.now number) method.now result }
 {
     if number == 0 {
         return judge_on_zero(method);
@@ -318,7 +318,7 @@ pub fn judge<'a>(
     number: u16,
     method: &'a Method,
 ) -> Result<Act<'a>, Refusal>
-    ensures { (b : Broker) → HasStore b depot.now → Judges depot.now.topology b (channel_seen (queue_names depot.now.topology.queues) link.now number) method.now (said.refusal depot.now.topology b (limits_of link.now) number method.now (channel_seen (queue_names depot.now.topology.queues) link.now number)) result }
+    ensures { (b : Broker) → HasStore b depot.now → JudgesThere depot.now.topology b (limits_of link.now) number (channel_seen (queue_names depot.now.topology.queues) link.now number) method.now result }
 {
     if is_awaiting(link.channel(number)) {
         judge_while_closing(method)

@@ -12,7 +12,7 @@ use Rattle.model.specs.Step.{answer_of, confirm_method, confirm_notes, confirm_s
 use Rattle.model.specs.State.{State}
 use Rattle.model.specs.Spelling.{receiver, sends_to}
 use Rattle.model.specs.Run.{Happening, Run, sends_of}
-use Rattle.model.specs.Headline.{Ack, is_ack_of, acked_as, acked_at, acked, ack_for}
+use Rattle.model.specs.Acks.{Ack, is_ack_of, acked_as, acked_at, acked, ack_for}
 use Rattle.model.specs.declared.contents.Content.{Content}
 use Rattle.model.specs.declared.methods.Publish.{Publish}
 use Rattle.model.specs.declared.methods.Method.{Method}

@@ -1,6 +1,6 @@
 -- Every event of the broker leaves what is held and what is outstanding in agreement.
 use Rattle.std.proofs.Common.{◌≡◌, ℕ, zero, suc, ◌+◌, ◌<◌, ◌≤◌, ◌⊎◌, List, [], ◌∷◌, ◌++◌, Bool, true, false, cond, refl, sym, ap, subst, ◌∙◌, map, filter, length, get_or, not, arith, Option, Some, None, inl, inr}
-use Rattle.std.specs.Prelude.{count_by, is_some, nat_le, nat_lt, ◌==◌, ◌&&◌, if◌then◌else◌}
+use Rattle.std.specs.Prelude.{count_by, is_some, nat_le, ◌==◌, ◌&&◌, if◌then◌else◌}
 use Rattle.std.specs.List.{AllByRecursion}
 use Rattle.std.specs.Str.{bytes_eq}
 use Rattle.std.proofs.lemmas.Bool.{eqb-true, eq-eqb, false≢true}
@@ -32,18 +32,14 @@ use Rattle.model.specs.declared.methods.Get.{Get}
 use Rattle.model.specs.declared.methods.Method.{Method}
 use Rattle.model.specs.declared.methods.Method.TheVariants.{ConnectionClose, ChannelOpen, ChannelFlow, ChannelClose, ChannelCloseOk, ExchangeDeclare, QueueDeclare, QueuePurge, BasicQos, BasicPublish, BasicGet, BasicAck, BasicReject, BasicNack, BasicRecover, ConfirmSelect, BasicConsume, BasicCancel}
 use Rattle.model.specs.declared.notes.Note.{Note}
-use Rattle.model.specs.Headline.{event_connection}
 use Rattle.laws.specs.Agreeing.{BrokersStayAgreed}
 use Rattle.laws.proofs.Counts.{count-append, count-cons, in-append, in_front, all_in, all-append, all_each}
 use Rattle.model.specs.declared.messages.Mark.{Mark}
 use Rattle.laws.proofs.Agreement.{Passes, number, HeldIn, Shrinks, shrinks_same, shrinks_freed, shrinks_without, shrinks_filter, left_shrinks, returned_shrinks, left_clear, returned_clear, in_freed, held_here, counted_in, find_counted, ready_not_held, same_holder, shrinks_on, AreApart, IsClear, clear_on, apart_on, count_own, at_own}
 use Rattle.laws.proofs.Given.{Keeps, Any, IsOther, keeps_same, keeps_on, keeps_arrivals, keeps_freed, keeps_purged, keeps_given, left_keeps, rejected_keeps, returned_keeps, first_is_held, in_passing}
 use Rattle.laws.proofs.Dying.{Goes, not_found, left_only, died, goes_by}
-use Rattle.model.specs.Phases.{is_running}
-use Rattle.model.specs.State.{Config, State, Step}
-use Rattle.model.specs.Run.{Happening, Run}
-use Rattle.laws.proofs.View.{goes as step_goes}
-use Rattle.laws.proofs.Leaving.{at_queue}
+use Rattle.laws.proofs.Leaving.{at_queue, in_filter}
+use Rattle.laws.proofs.Accepted.{awaited, not_open, not_awaited}
 
 -- ---- channels
 
@@ -120,11 +116,11 @@ agreed_still : (old new : Broker) → IsAgreed old → ((q : Text) → new.queue
 agreed_still old new a queues same = agreed_same old new a (shrinks_same old.queue new.queue queues) (keeps_same Any old.queue new.queue queues) same
 
 -- one channel is another: it is this one, or one of the others
-data At (A : Type 0) (f : ℕ → ℕ → A) (c h : ℕ) (x : A) (d k : ℕ) : Type 0 where
+pub data At (A : Type 0) (f : ℕ → ℕ → A) (c h : ℕ) (x : A) (d k : ℕ) : Type 0 where
   own : d ≡ c → k ≡ h → with_pair f c h x d k ≡ x → At A f c h x d k
   other : ((d == c) && (k == h)) ≡ false → with_pair f c h x d k ≡ f d k → At A f c h x d k
 
-pair_at : {A : Type 0} (f : ℕ → ℕ → A) (c h : ℕ) (x : A) (d k : ℕ) → At A f c h x d k
+pub pair_at : {A : Type 0} (f : ℕ → ℕ → A) (c h : ℕ) (x : A) (d k : ℕ) → At A f c h x d k
 pair_at {A = A} f c h x d k = go (d == c) refl (k == h) refl
   where
     apart : ((d == c) && (k == h)) ≡ false → At A f c h x d k
@@ -292,7 +288,7 @@ rejected_clear t c h (p ∷ os) old notes new (mid, first, rest, dies, all, more
 -- ---- what is settled
 
 -- a delivery that is not settled stays
-in_kept : (p : Outstanding → Bool) (o : Outstanding) (os : List Outstanding) → IsIn o os → p o ≡ false → IsIn o (filter (λ x. not (p x)) os)
+pub in_kept : (p : Outstanding → Bool) (o : Outstanding) (os : List Outstanding) → IsIn o os → p o ≡ false → IsIn o (filter (λ x. not (p x)) os)
 in_kept p o [] i e = i
 in_kept p o (x ∷ xs) i e = go (p x) refl (in_kept p o xs) i
   where
@@ -323,16 +319,6 @@ good_kept ch tag multiple g = go (is_refused tag_of tag multiple ch.outstanding)
       all_kept (λ (o : Outstanding). o.tag < ch.next_tag) (λ x. not (takes tag_of tag multiple x)) ch.outstanding g.1,
       λ e. ap (filter (λ x. not (takes tag_of tag multiple x))) (g.2 e),
     )
-
--- what passes was there, and passes
-passing : {A : Type 0} (p : A → Bool) (x : A) (xs : List A) → IsIn x (filter p xs) → IsIn x xs × (p x ≡ true)
-passing p x [] i = absurd i
-passing p x (y ∷ ys) i = go (p y) refl (passing p x ys) i
-  where
-    go : (v : Bool) → p y ≡ v → (IsIn x (filter p ys) → IsIn x ys × (p x ≡ true)) → IsIn x (cond v (y ∷ filter p ys) (filter p ys)) → IsIn x (y ∷ ys) × (p x ≡ true)
-    go true e more (inl same) = (inl same, ap p same ∙ e)
-    go true e more (inr j) = let rest = more j in (inr rest.0, rest.1)
-    go false e more j = let rest = more j in (inr rest.0, rest.1)
 
 and_false : (b : Bool) → (b && false) ≡ false
 and_false true = refl
@@ -403,8 +389,8 @@ module _ (old new : Broker) (c h : ℕ) (tag : ℕ) (multiple : Bool) (gone : Li
       go : (v : Bool) → (if v then None else Some (filter (takes tag_of tag multiple) mine.outstanding)) ≡ Some gone → IsIn o (if v then mine.outstanding else filter (λ x. not (takes tag_of tag multiple x)) mine.outstanding) → IsIn o mine.outstanding × IsOther c h gone (holder_of c h o)
       go true s i = absurd (false≢true (ap is_some s))
       go false s i =
-          let stays = passing (λ x. not (takes tag_of tag multiple x)) o mine.outstanding i in
-          (stays.0, λ p j. under p (other_tag o p (not_true (takes tag_of tag multiple o) stays.1) (passing (takes tag_of tag multiple) p mine.outstanding (subst (IsIn p) (sym (same_Some _ gone s)) j)).1))
+          let stays = in_filter (λ x. not (takes tag_of tag multiple x)) o mine.outstanding i in
+          (stays.0, λ p j. under p (other_tag o p (not_true (takes tag_of tag multiple o) stays.1) (in_filter (takes tag_of tag multiple) p mine.outstanding (subst (IsIn p) (sym (same_Some _ gone s)) j)).1))
 
 settles_agree : (t : Topology) (how : Settlement) (old new : Broker) (c h tag : ℕ) (multiple : Bool) (wanted sends : List Send) (notes : List Note) → IsAgreed old
     → Settles t how old c h (channel_or_new (old.channel c h)) tag multiple wanted sends notes new → IsAgreed new
@@ -670,62 +656,27 @@ module _ (t : Topology) (old new : Broker) (a : IsAgreed old) where
   limits sends wanted notes c h count true d = agreed_alone old new c h _ a d.left.queues d.left.channels refl refl refl
   limits sends wanted notes c h count false d = agreed_alone old new c h _ a d.left.queues d.left.channels refl refl refl
 
-  -- what a channel that awaits close-ok takes, and what it doesn't
-  awaited : (conn : Connection) (h : ℕ) (ch : Option Channel) → refusal t old conn h ChannelCloseOk ch ≡ None → is_awaiting ch ≡ true
-  awaited conn h None e = by (h == 0) (nat_lt conn.channel_max h) e
-    where
-      by : (u v : Bool) → (if u then Some (Of_connection 503) else if v then Some (Of_connection 504) else Some (Of_connection 504)) ≡ None → false ≡ true
-      by true v e = absurd (false≢true (sym (ap is_some e)))
-      by false true e = absurd (false≢true (sym (ap is_some e)))
-      by false false e = absurd (false≢true (sym (ap is_some e)))
-  awaited conn h (Some ch) e = by ch.is_closing (h == 0) (nat_lt conn.channel_max h) e
-    where
-      by : (w u v : Bool) → (if w then None else if u then Some (Of_connection 503) else if v then Some (Of_connection 504) else Some (Of_connection 503)) ≡ None → w ≡ true
-      by true u v e = refl
-      by false true v e = absurd (false≢true (sym (ap is_some e)))
-      by false false true e = absurd (false≢true (sym (ap is_some e)))
-      by false false false e = absurd (false≢true (sym (ap is_some e)))
-
-  -- a channel is opened only where it is not open
-  not_open : (conn : Connection) (h : ℕ) (reserved : Text) (ch : Option Channel) → refusal t old conn h (ChannelOpen reserved) ch ≡ None → ch ≡ None
-  not_open conn h reserved None e = refl
-  not_open conn h reserved (Some ch) e = absurd (by ch.is_closing (h == 0) (nat_lt conn.channel_max h) e)
-    where
-      by : (w u v : Bool) → (if w then Some Ignored else if u then Some (Of_connection 503) else if v then Some (Of_connection 504) else Some (Of_connection 504)) ≡ None → ⊥
-      by true u v e = false≢true (sym (ap is_some e))
-      by false true v e = false≢true (sym (ap is_some e))
-      by false false true e = false≢true (sym (ap is_some e))
-      by false false false e = false≢true (sym (ap is_some e))
-
-  -- so nothing was outstanding there
+  -- a channel is opened where it is not open, so nothing was outstanding there
   opens : (sends wanted : List Send) (notes : List Note) (c h : ℕ) → old.channel c h ≡ None → Does sends notes new wanted (with_channel old c h (Some new_channel)) → IsAgreed new
   opens sends wanted notes c h none p = agreed_by old new a (shrinks_same old.queue new.queue p.left.queues)
       (λ q holder i o. outstanding_with old new c h (Some new_channel) p.left.channels q holder o (λ e f there. absurd (false≢true (ap is_some (sym none ∙ ap (λ (d : ℕ). old.channel d h) (sym e) ∙ ap (old.channel holder.connection) (sym f) ∙ o.there)))))
       (held_with Any old new c h (Some new_channel) a (keeps_same Any old.queue new.queue p.left.queues) (λ holder other. tt) p.left.channels (λ ch o e i. absurd (subst (λ (x : Channel). IsIn o x.outstanding) (sym (same_Some new_channel ch e)) i)))
       (good_with old new c h (Some new_channel) a p.left.channels (λ ch e. subst IsGood (same_Some new_channel ch e) good_new))
 
-  not_awaited : (conn : Connection) (h : ℕ) (m : Get) (ch : Option Channel) → refusal t old conn h (BasicGet m) ch ≡ None → (channel_or_new ch).is_closing ≡ false
-  not_awaited conn h m None e = refl
-  not_awaited conn h m (Some ch) e = by ch.is_closing _ e
-    where
-      by : (w : Bool) (rest : Option Refusal) → (if w then Some Ignored else rest) ≡ None → w ≡ false
-      by true rest e = absurd (false≢true (sym (ap is_some e)))
-      by false rest e = refl
-
   performs : (sends : List Send) (notes : List Note) (c h : ℕ) (m : Method) (content : Option Content) (conn : Connection) → refusal t old conn h m (old.channel c h) ≡ None → Performs t old c h (channel_or_new (old.channel c h)) m content sends notes new → IsAgreed new
   performs sends notes c h (ConfirmSelect no_wait) content conn accepted p = agreed_alone old new c h _ a p.left.queues p.left.channels refl refl refl
   performs sends notes c h (BasicPublish publish) content conn accepted p = agreed_record old new c h _ a (shrinks_arrivals t old.queue new.queue old.queue _ p.targets p.left.queues) (keeps_arrivals Any old.queue _ new.queue p.left.queues) p.left.channels refl refl refl
-  performs sends notes c h (ChannelOpen reserved) content conn accepted p = opens sends _ notes c h (not_open conn h reserved (old.channel c h) accepted) p
+  performs sends notes c h (ChannelOpen reserved) content conn accepted p = opens sends _ notes c h (not_open t old conn h reserved (old.channel c h) accepted) p
   performs sends notes c h (ChannelFlow active) content conn accepted p = nothing sends _ notes p
   performs sends notes c h (ChannelClose m) content conn accepted p = closes sends notes c h (channel_or_new (old.channel c h)).is_closing p
-  performs sends notes c h ChannelCloseOk content conn accepted p = ends sends notes c h (awaited conn h (old.channel c h) accepted) p
+  performs sends notes c h ChannelCloseOk content conn accepted p = ends sends notes c h (awaited t old conn h (old.channel c h) accepted) p
   performs sends notes c h (ConnectionClose m) content conn accepted p = goes sends _ notes c p
   performs sends notes c h (ExchangeDeclare m) content conn accepted p = nothing sends _ notes p
   performs sends notes c h (QueueDeclare m) content conn accepted p = nothing sends _ notes p.does
   performs sends notes c h (BasicQos m) content conn accepted p = limits sends _ notes c h m.prefetch_count m.global p
   performs sends notes c h (BasicConsume m) content conn accepted p = agreed_alone old new c h _ a p.left.queues p.left.channels refl refl refl
   performs sends notes c h (BasicCancel m) content conn accepted p = agreed_alone old new c h _ a p.left.queues p.left.channels refl refl refl
-  performs sends notes c h (BasicGet m) content conn accepted p = gets sends notes c h m (first_ready (old.queue m.queue)) refl (not_awaited conn h m (old.channel c h) accepted) p
+  performs sends notes c h (BasicGet m) content conn accepted p = gets sends notes c h m (first_ready (old.queue m.queue)) refl (not_awaited t old conn h m (old.channel c h) accepted) p
   performs sends notes c h (BasicAck m) content conn accepted p = settles_agree t _ old new c h m.delivery_tag m.multiple [] sends notes a p
   performs sends notes c h (BasicReject m) content conn accepted p = settles_agree t _ old new c h m.delivery_tag false [] sends notes a p
   performs sends notes c h (BasicNack m) content conn accepted p = settles_agree t _ old new c h m.delivery_tag m.multiple [] sends notes a p
@@ -787,24 +738,3 @@ none_held = record {
 
 pub stay_agreed : BrokersStayAgreed
 stay_agreed = record { empty = none_held; acts = λ t old new e sends notes a p. onward t old new a e sends notes p }
-
--- ---- runs
-
--- after a move of the phases
-moved_agreed : (t : Topology) (old new : Broker) (c max : ℕ) (v : Bool) → IsAgreed old → Is (if v then opened old c max 0 else old) new → IsAgreed new
-moved_agreed t old new c max true a is = onward t old new a (Running c max 0) [] [] (record { sent = refl; noted = refl; left = is })
-moved_agreed t old new c max false a is = onward t old new a (Open c) [] [] (record { sent = refl; noted = refl; left = is })
-
--- and so after each step
-step_agreed : (f : Config) (old new : State) (e : Event) (sends : List Send) (notes : List Note) → Step f old e sends notes new → IsAgreed old.broker → IsAgreed new.broker
-step_agreed f old new e sends notes s a = elim (step_goes f old new sends notes e s) [
-  | inl p ↦ onward f.topology old.broker new.broker a e sends notes p.acts
-  | inr q ↦ moved_agreed f.topology old.broker new.broker (event_connection e) q.move.next.channel_max (is_running q.move.next.phase) a q.moves.broker
-]
-
--- In every run what is held and what is outstanding agree after each event, where they did before the first.
-pub run_agreed : (hs : List Happening) (old new : State) → Run old hs new → IsAgreed old.broker → AllByRecursion (λ (h : Happening). IsAgreed h.after.broker) hs
-run_agreed [] old new r a = tt
-run_agreed (h ∷ hs) old new (e, s, r) a =
-    let here = step_agreed h.config h.before h.after h.event h.sends h.notes s (subst (λ (z : State). IsAgreed z.broker) (sym e) a) in
-    (here, run_agreed hs h.after new r here)

@@ -17,7 +17,7 @@ use Rattle.model.specs.declared.messages.Mark.TheVariants.{Ready, Held}
 use Rattle.model.specs.declared.notes.Cause.{Cause}
 use Rattle.model.specs.declared.notes.Note.{Note}
 use Rattle.laws.proofs.Counts.{count-cons, count-cons_yes}
-use Rattle.laws.proofs.Leaving.{at_queue, in_without}
+use Rattle.laws.proofs.Leaving.{at_queue, in_without, in_filter}
 
 -- ---- marks
 
@@ -128,15 +128,6 @@ count_own p (y ∷ ys) le = go (p y) refl (count_own p ys)
         let rest = more (omega (arith, one, no, le)) in
         omega (arith, two, no, rest)
 
-in_filter : (p : Entry → Bool) (x : Entry) (xs : List Entry) → IsIn x (filter p xs) → IsIn x xs
-in_filter p x [] i = i
-in_filter p x (y ∷ ys) i = go (p y) (in_filter p x ys) i
-  where
-    go : (v : Bool) → (IsIn x (filter p ys) → IsIn x ys) → IsIn x (cond v (y ∷ filter p ys) (filter p ys)) → IsIn x (y ∷ ys)
-    go true more (inl e) = inl e
-    go true more (inr i) = inr (more i)
-    go false more i = inr (more i)
-
 count_filter : (f p : Entry → Bool) (xs : List Entry) → count_by f (filter p xs) ≤ count_by f xs
 count_filter f p [] = omega arith
 count_filter f p (y ∷ ys) = go (p y) (count_filter f p ys)
@@ -216,7 +207,7 @@ pub shrinks_without : (p : Entry → Bool) (old : Text → List Entry) (name : T
 shrinks_without p old name = shrinks_at old name (without_first p (old name)) (λ e holder i is. record { entry = e; there = in_without p e (old name) i; mark = is }) (λ holder. count_without (is_held_as holder) p (old name))
 
 pub shrinks_filter : (p : Entry → Bool) (old : Text → List Entry) (name : Text) → Shrinks old (with_queue old name (filter p (old name)))
-shrinks_filter p old name = shrinks_at old name (filter p (old name)) (λ e holder i is. record { entry = e; there = in_filter p e (old name) i; mark = is }) (λ holder. count_filter (is_held_as holder) p (old name))
+shrinks_filter p old name = shrinks_at old name (filter p (old name)) (λ e holder i is. record { entry = e; there = (in_filter p e (old name) i).0; mark = is }) (λ holder. count_filter (is_held_as holder) p (old name))
 
 -- ---- settled deliveries
 

@@ -38,7 +38,7 @@ use Rattle.model.specs.declared.methods.Method.TheVariants.{ConnectionClose, Cha
 use Rattle.model.specs.declared.notes.Cause.{Cause}
 use Rattle.model.specs.declared.notes.Note.{Note}
 use Rattle.model.specs.declared.notes.Answer.{Answer}
-use Rattle.model.specs.Headline.{event_connection}
+use Rattle.model.specs.Alone.{event_connection}
 use Rattle.laws.specs.Carrying.{MessagesStayCarried}
 use Rattle.laws.specs.Promises.{AreUnder}
 use Rattle.laws.proofs.Dying.{Goes, not_found, left_only, died, goes_by}

@@ -13,7 +13,8 @@ use Rattle.model.specs.Message.{Message}
 use Rattle.model.specs.Entering.{comes_to, entry_notes}
 use Rattle.model.specs.Deaths.{TellsOfDeath, AreMarked, alone, added, marked_before, first_death}
 use Rattle.model.specs.Deliveries.{without_given, AreRejected}
-use Rattle.model.specs.Headline.{DiesInto, Rejection, AreRejections, none as no_rejection, next, is_entry_into, note_at, rejection_notes}
+use Rattle.model.specs.Routed.{is_entry_into, note_at}
+use Rattle.model.specs.Letters.{DiesInto, Rejection, AreRejections, none as no_rejection, next, rejection_notes}
 use Rattle.model.specs.declared.messages.Entry.{Entry}
 use Rattle.model.specs.declared.notes.Cause.TheVariants.{Rejected}
 use Rattle.model.specs.declared.notes.Note.{Note}

@@ -144,7 +144,7 @@ module _ (t : Topology) (c h : ℕ) (old : Text → List Entry) (o : Outstanding
   letter_ready : (q : Text) (x : Entry) → IsLetter t old q x → is_ready x ≡ true
   letter_ready q x l = ap is_ready l.is
 
-  one_held : (found : Option Entry) → given_in c h old o ≡ found → GoesSo found → HeldStay old new
+  pub one_held : (found : Option Entry) → given_in c h old o ≡ found → GoesSo found → HeldStay old new
   one_held found f g q x i idle = elim (one_stood found f g q x i) [ inl j ↦ j | inr l ↦ absurd (false≢true (sym idle ∙ letter_ready q x l)) ]
 
   -- of messages that stood in the queues at first, where what is held now was held then

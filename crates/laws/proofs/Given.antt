@@ -29,7 +29,7 @@ held_under : (g : Holder) (e : Entry) (holder : Holder) → e.mark ≡ Held hold
 held_under g e holder is = ap (λ (m : Mark). is_held_as g (record { message = e.message; mark = m })) is
 
 -- what another holds is not freed
-freed_other : (mine : Holder → Bool) (e : Entry) (holder : Holder) → e.mark ≡ Held holder → mine holder ≡ false → freed mine e ≡ e
+pub freed_other : (mine : Holder → Bool) (e : Entry) (holder : Holder) → e.mark ≡ Held holder → mine holder ≡ false → freed mine e ≡ e
 freed_other mine e holder = go e.message e.mark
   where
     go : (m : Message) (k : Mark) → k ≡ Held holder → mine holder ≡ false → freed mine (record { message = m; mark = k }) ≡ record { message = m; mark = k }
@@ -156,7 +156,7 @@ left_keeps cause c h (o ∷ os) old notes new (mid, rest, is, all, more) q holde
     (held_same _ (mid q) holder (sym (is q)) (without_keeps c h o old q holder (other o (inl refl)) was))
 
 -- a dead letter comes behind what is there
-one_keeps : (t : Topology) (name : Text) (gone : Text → List Entry) (notes : List Note) (new : Text → List Entry) (found : Option Entry) → Goes t name gone notes new found → Keeps Any gone new
+pub one_keeps : (t : Topology) (name : Text) (gone : Text → List Entry) (notes : List Note) (new : Text → List Entry) (found : Option Entry) → Goes t name gone notes new found → Keeps Any gone new
 one_keeps t name gone notes new None (not_found none same) = keeps_same Any gone new same
 one_keeps t name gone notes new (Some e) (left_only is same) = keeps_same Any gone new same
 one_keeps t name gone notes new (Some e) (died p exchange rest dies is d) = keeps_arrivals Any gone _ new d.left

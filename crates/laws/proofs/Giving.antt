@@ -22,11 +22,13 @@ use Rattle.model.specs.declared.methods.Method.TheVariants.{ConnectionClose, Cha
 use Rattle.model.specs.declared.events.Send.{Send}
 use Rattle.model.specs.declared.events.Event.{Event}
 use Rattle.model.specs.declared.events.Event.TheVariants.{Open, First, Running, Command, TooLarge, Fault, Lose, Pause, Resume, Deliver}
-use Rattle.model.specs.Headline.{event_connection}
-use Rattle.laws.specs.Order.{GivesOut, to_get, to_consumer, IsHeldSince, before, by_it, HeldAreGiven}
+use Rattle.model.specs.Alone.{event_connection}
+use Rattle.model.specs.Order.{GivesOut, to_get, to_consumer, IsHeldSince, before, by_it}
+use Rattle.laws.specs.Order.{HeldAreGiven}
 use Rattle.laws.proofs.Agreement.{Shrinks, shrinks_same, shrinks_freed, shrinks_filter, shrinks_on, left_shrinks, returned_shrinks, same_holder}
 use Rattle.laws.proofs.Agreed.{shrinks_arrivals, rejected_shrinks}
 use Rattle.laws.proofs.Leaving.{at_queue}
+use Rattle.laws.proofs.Accepted.{is_open}
 use Rattle.laws.proofs.View.{goes}
 
 -- ---- one queue
@@ -88,9 +90,9 @@ module _ (h : Happening) where
   limits : (c k count : ℕ) (ch : Channel) (wanted : List Send) (v : Bool) → Does h.sends h.notes new wanted (with_channel old c k (Some (if v then record ch { limit = count } else record ch { each_limit = count }))) → AreHeldSince
   limits c k count ch wanted v p = same p.left.queues
 
-  gets : (c k : ℕ) (ch : Channel) (m : Get) (content : Option Content) (o : Option Entry) → h.event ≡ Command c k (BasicGet m) content → first_ready (old.queue m.queue) ≡ o → Gets old c k ch m o h.sends h.notes new → AreHeldSince
-  gets c k ch m content None is found p = same p.left.queues
-  gets c k ch m content (Some e) is found p = gives m.queue m.no_ack _ e found (to_get ch is found p) p.left.queues
+  gets : (c k : ℕ) (ch : Channel) (m : Get) (content : Option Content) (o : Option Entry) → h.event ≡ Command c k (BasicGet m) content → old.channel c k ≡ Some ch → first_ready (old.queue m.queue) ≡ o → Gets old c k ch m o h.sends h.notes new → AreHeldSince
+  gets c k ch m content None is there found p = same p.left.queues
+  gets c k ch m content (Some e) is there found p = gives m.queue m.no_ack _ e found (to_get ch is there found p) p.left.queues
 
   settles : (how : Settlement) (c k tag : ℕ) (ch : Channel) (multiple : Bool) (wanted : List Send) → Settles h.config.topology how old c k ch tag multiple wanted h.sends h.notes new → AreHeldSince
   settles how c k tag ch multiple wanted p = held_before (shrinks how p.queues)
@@ -100,39 +102,39 @@ module _ (h : Happening) where
       shrinks Rejects a = rejected_shrinks h.config.topology c k p.gone old.queue h.notes new.queue a
       shrinks Returns a = returned_shrinks c k p.gone old.queue new.queue a.1
 
-  performs : (c k : ℕ) (m : Method) (content : Option Content) → h.event ≡ Command c k m content → Performs h.config.topology old c k (channel_or_new (old.channel c k)) m content h.sends h.notes new → AreHeldSince
-  performs c k (ConfirmSelect no_wait) content is p = same p.left.queues
-  performs c k (BasicPublish publish) content is p = held_before (shrinks_arrivals h.config.topology old.queue new.queue old.queue _ p.targets p.left.queues)
-  performs c k (ChannelOpen reserved) content is p = same p.left.queues
-  performs c k (ChannelFlow active) content is p = same p.left.queues
-  performs c k (ChannelClose m) content is p = closes c k _ (channel_or_new (old.channel c k)).is_closing p
-  performs c k ChannelCloseOk content is p = same p.left.queues
-  performs c k (ConnectionClose m) content is p = free (by_connection c) p.left.queues
-  performs c k (ExchangeDeclare m) content is p = same p.left.queues
-  performs c k (QueueDeclare m) content is p = same p.does.left.queues
-  performs c k (BasicQos m) content is p = limits c k m.prefetch_count (channel_or_new (old.channel c k)) _ m.global p
-  performs c k (BasicConsume m) content is p = same p.left.queues
-  performs c k (BasicCancel m) content is p = same p.left.queues
-  performs c k (BasicGet m) content is p = gets c k (channel_or_new (old.channel c k)) m content (first_ready (old.queue m.queue)) is refl p
-  performs c k (BasicAck m) content is p = settles _ c k _ _ _ _ p
-  performs c k (BasicReject m) content is p = settles _ c k _ _ _ _ p
-  performs c k (BasicNack m) content is p = settles _ c k _ _ _ _ p
-  performs c k (BasicRecover requeue) content is p = settles _ c k _ _ _ _ p
-  performs c k (QueuePurge m) content is p = held_before (shrinks_on old.queue _ new.queue (shrinks_filter (λ e. not (is_ready e)) old.queue m.queue) (shrinks_same _ new.queue p.left.queues))
-  performs c k _ content is p = absurd p
+  performs : (c k : ℕ) (m : Method) (content : Option Content) (conn : Connection) → h.event ≡ Command c k m content → refusal h.config.topology old conn k m (old.channel c k) ≡ None → Performs h.config.topology old c k (channel_or_new (old.channel c k)) m content h.sends h.notes new → AreHeldSince
+  performs c k (ConfirmSelect no_wait) content conn is accepted p = same p.left.queues
+  performs c k (BasicPublish publish) content conn is accepted p = held_before (shrinks_arrivals h.config.topology old.queue new.queue old.queue _ p.targets p.left.queues)
+  performs c k (ChannelOpen reserved) content conn is accepted p = same p.left.queues
+  performs c k (ChannelFlow active) content conn is accepted p = same p.left.queues
+  performs c k (ChannelClose m) content conn is accepted p = closes c k _ (channel_or_new (old.channel c k)).is_closing p
+  performs c k ChannelCloseOk content conn is accepted p = same p.left.queues
+  performs c k (ConnectionClose m) content conn is accepted p = free (by_connection c) p.left.queues
+  performs c k (ExchangeDeclare m) content conn is accepted p = same p.left.queues
+  performs c k (QueueDeclare m) content conn is accepted p = same p.does.left.queues
+  performs c k (BasicQos m) content conn is accepted p = limits c k m.prefetch_count (channel_or_new (old.channel c k)) _ m.global p
+  performs c k (BasicConsume m) content conn is accepted p = same p.left.queues
+  performs c k (BasicCancel m) content conn is accepted p = same p.left.queues
+  performs c k (BasicGet m) content conn is accepted p = gets c k (channel_or_new (old.channel c k)) m content (first_ready (old.queue m.queue)) is (is_open h.config.topology old conn k m (old.channel c k) accepted) refl p
+  performs c k (BasicAck m) content conn is accepted p = settles _ c k _ _ _ _ p
+  performs c k (BasicReject m) content conn is accepted p = settles _ c k _ _ _ _ p
+  performs c k (BasicNack m) content conn is accepted p = settles _ c k _ _ _ _ p
+  performs c k (BasicRecover requeue) content conn is accepted p = settles _ c k _ _ _ _ p
+  performs c k (QueuePurge m) content conn is accepted p = held_before (shrinks_on old.queue _ new.queue (shrinks_filter (λ e. not (is_ready e)) old.queue m.queue) (shrinks_same _ new.queue p.left.queues))
+  performs c k _ content conn is accepted p = absurd p
 
   refuses : (c k : ℕ) (cause : Ids) (r : Refusal) → Refuses old c k cause r h.sends h.notes new → AreHeldSince
   refuses c k cause Ignored p = same p.left.queues
   refuses c k cause (Of_channel code) p = free (by_channel c k) p.left.queues
   refuses c k cause (Of_connection code) p = free (by_connection c) p.left.queues
 
-  decides : (c k : ℕ) (m : Method) (content : Option Content) (r : Option Refusal) → h.event ≡ Command c k m content → Decides h.config.topology old c k m content r h.sends h.notes new → AreHeldSince
-  decides c k m content None is p = performs c k m content is p
-  decides c k m content (Some r) is p = refuses c k (ids_of m) r p
+  decides : (c k : ℕ) (m : Method) (content : Option Content) (conn : Connection) (r : Option Refusal) → h.event ≡ Command c k m content → refusal h.config.topology old conn k m (old.channel c k) ≡ r → Decides h.config.topology old c k m content r h.sends h.notes new → AreHeldSince
+  decides c k m content conn None is accepted p = performs c k m content conn is accepted p
+  decides c k m content conn (Some r) is refused p = refuses c k (ids_of m) r p
 
   commanded : (c k : ℕ) (m : Method) (content : Option Content) (o : Option Connection) → h.event ≡ Command c k m content → OnConnection h.config.topology old c k m content h.sends h.notes new o → AreHeldSince
   commanded c k m content None is p = same p.left.queues
-  commanded c k m content (Some conn) is p = decides c k m content (refusal h.config.topology old conn k m (old.channel c k)) is p
+  commanded c k m content (Some conn) is p = decides c k m content conn (refusal h.config.topology old conn k m (old.channel c k)) is refl p
 
   too_large : (c k : ℕ) (o : Option Connection) → OnLarge old c k h.sends h.notes new o → AreHeldSince
   too_large c k None p = same p.left.queues

@@ -17,7 +17,8 @@ use Rattle.model.specs.Entries.{is_held_as, without_first}
 use Rattle.model.specs.Entering.{entry_notes, comes_to}
 use Rattle.model.specs.Deaths.{IsDeath, DiesBy, DiesIn, MayDie, dead_letter, with_headers}
 use Rattle.model.specs.Deliveries.{holder_of, given_in, without_given, AreRejected}
-use Rattle.model.specs.Headline.{DiesInto, Rejection, AreRejections, none as no_rejection, next, is_entry_into, is_full_after, note_at, rejection_notes, IsOfNoRejection, is_dead_into, is_rejected}
+use Rattle.model.specs.Routed.{is_entry_into, is_full_after, note_at}
+use Rattle.model.specs.Letters.{DiesInto, Rejection, AreRejections, none as no_rejection, next, rejection_notes, IsOfNoRejection, is_dead_into, is_rejected}
 use Rattle.model.specs.declared.topologies.DeclaredQueue.{DeclaredQueue}
 use Rattle.model.specs.declared.messages.Mark.TheVariants.{Ready}
 use Rattle.model.specs.declared.messages.Entry.{Entry}

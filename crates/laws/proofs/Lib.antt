@@ -8,11 +8,16 @@ pub mod Letters
 pub mod Routed
 pub mod Agreement
 pub mod Given
+pub mod Accepted
 pub mod Agreed
 pub mod Speaking
 pub mod View
+pub mod Channels
 pub mod Aside
+pub mod Unrefused
+pub mod Returned
 pub mod Settled
+pub mod Accounted
 pub mod Tags
 pub mod Named
 pub mod Made
@@ -33,6 +38,9 @@ pub mod Streams
 pub mod Reading
 pub mod Plays
 pub mod Linked
+pub mod Present
+pub mod LoggedIn
+pub mod Kept
 pub mod Linking
 pub mod Consistency
 pub mod Spoken
@@ -41,6 +49,7 @@ pub mod Openings
 pub mod Sources
 pub mod Whole
 pub mod Rows
+pub mod Refusing
 pub mod Disagreeing
 pub mod Deaths
 pub mod Forms

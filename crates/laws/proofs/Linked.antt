@@ -16,7 +16,7 @@ use Rattle.model.specs.declared.events.Command.{Command}
 use Rattle.model.specs.declared.events.Command.TheVariants.{Head, Plain, Full, TooLarge}
 use Rattle.model.specs.declared.events.Event.{Event}
 use Rattle.model.specs.declared.events.Event.TheVariants as event
-use Rattle.model.specs.Headline.{event_connection}
+use Rattle.model.specs.Alone.{event_connection}
 use Rattle.laws.proofs.View.{connection_after, session_after, is_read, is_opening, with_same, acted, Performed, Answered, goes}
 
 -- ---- one value changed
@@ -40,20 +40,25 @@ pub record Agrees (b : Broker) (sessions : ℕ → Session) (is_paused : ℕ →
   pub paused : (d : ℕ) (conn : Connection) → b.connection d ≡ Some conn → conn.is_paused ≡ is_paused d
   pub limits : (d : ℕ) (conn : Connection) → b.connection d ≡ Some conn → conn.channel_max ≡ (sessions d).channel_max
 
+-- one connection changed, which is there exactly while it runs
+running_with : (old new : Broker) (sessions after : ℕ → Session) (c : ℕ) (o : Option Connection) (s : Session) → ((d : ℕ) → is_some (old.connection d) ≡ is_running (sessions d).phase)
+    → ((d : ℕ) → new.connection d ≡ with_one old.connection c o d) → ((d : ℕ) → after d ≡ with_one sessions c s d) → is_some o ≡ is_running s.phase → (d : ℕ) → is_some (new.connection d) ≡ is_running (after d).phase
+running_with old new sessions after c o s running connections are runs d = ap is_some (connections d) ∙ one (d == c) ∙ sym (ap (λ (z : Session). is_running z.phase) (are d))
+  where
+    one : (v : Bool) → is_some (cond v o (old.connection d)) ≡ is_running (cond v s (sessions d)).phase
+    one true = runs
+    one false = running d
+
 -- one connection changed, and agrees
 agrees_with : (old new : Broker) (sessions after : ℕ → Session) (p q : ℕ → Bool) (c : ℕ) (o : Option Connection) (s : Session) → Agrees old sessions p
     → ((d : ℕ) → new.connection d ≡ with_one old.connection c o d) → ((d : ℕ) → after d ≡ with_one sessions c s d) → ((d : ℕ) → with_one p c (q c) d ≡ q d)
     → is_some o ≡ is_running s.phase → ((conn : Connection) → o ≡ Some conn → conn.is_paused ≡ q c) → ((conn : Connection) → o ≡ Some conn → conn.channel_max ≡ s.channel_max) → Agrees new after q
 agrees_with old new sessions after p q c o s a connections are flags runs flag limit = record {
-  running = λ d. ap is_some (connections d) ∙ one d (d == c) ∙ sym (ap (λ (z : Session). is_running z.phase) (are d));
+  running = running_with old new sessions after c o s a.running connections are runs;
   paused = λ d conn e. each d conn (d == c) (sym (connections d) ∙ e) ∙ flags d;
   limits = λ d conn e. each_limit d conn (d == c) (sym (connections d) ∙ e) ∙ sym (ap (λ (z : Session). z.channel_max) (are d));
 }
   where
-    one : (d : ℕ) (v : Bool) → is_some (cond v o (old.connection d)) ≡ is_running (cond v s (sessions d)).phase
-    one d true = runs
-    one d false = a.running d
-
     each : (d : ℕ) (conn : Connection) (v : Bool) → cond v o (old.connection d) ≡ Some conn → conn.is_paused ≡ cond v (q c) (p d)
     each d conn true e = flag conn e
     each d conn false e = a.paused d conn e
@@ -132,18 +137,19 @@ awake_after (event.Resume c) was is read x = x
 awake_after (event.Deliver c) was is read x = absurd (false≢true read)
 awake_after _ was is read x = x.1
 
-module _ (b : Broker) (sessions : ℕ → Session) (p : ℕ → Bool) (sends : List Send) (a : Agrees b sessions p) where
-  -- its connection is there exactly while it runs
+-- its connection is there exactly while it runs
+module _ (b : Broker) (sessions : ℕ → Session) (sends : List Send) (running : (d : ℕ) → is_some (b.connection d) ≡ is_running (sessions d).phase) where
   runs_after : (e : Event) → (is_read e ≡ true → is_running (sessions (event_connection e)).phase ≡ true) → (is_opening e ≡ true → is_running (sessions (event_connection e)).phase ≡ false) → is_some (connection_after b e sends) ≡ is_running (session_after (sessions (event_connection e)) e sends).phase
-  runs_after (event.Open c) runs free = a.running c ∙ free refl
-  runs_after (event.First c bytes) runs free = runs_on (after_sends sends) (b.connection c) (sessions c) (a.running c ∙ runs refl)
-  runs_after (event.Command c h m content) runs free = runs_on (after_sends sends) (b.connection c) (sessions c) (a.running c ∙ runs refl)
-  runs_after (event.TooLarge c h) runs free = runs_on (after_sends sends) (b.connection c) (sessions c) (a.running c ∙ runs refl)
-  runs_after (event.Pause c) runs free = some_flag true (b.connection c) ∙ a.running c
-  runs_after (event.Resume c) runs free = some_flag false (b.connection c) ∙ a.running c
-  runs_after (event.Deliver c) runs free = a.running c
+  runs_after (event.Open c) runs free = running c ∙ free refl
+  runs_after (event.First c bytes) runs free = runs_on (after_sends sends) (b.connection c) (sessions c) (running c ∙ runs refl)
+  runs_after (event.Command c h m content) runs free = runs_on (after_sends sends) (b.connection c) (sessions c) (running c ∙ runs refl)
+  runs_after (event.TooLarge c h) runs free = runs_on (after_sends sends) (b.connection c) (sessions c) (running c ∙ runs refl)
+  runs_after (event.Pause c) runs free = some_flag true (b.connection c) ∙ running c
+  runs_after (event.Resume c) runs free = some_flag false (b.connection c) ∙ running c
+  runs_after (event.Deliver c) runs free = running c
   runs_after _ runs free = refl
 
+module _ (b : Broker) (sessions : ℕ → Session) (p : ℕ → Bool) (sends : List Send) (a : Agrees b sessions p) where
   kept_flag : (c : ℕ) (v is : Bool) (conn : Connection) → (p c ≡ false) × (is ≡ false) → cond v (b.connection c) None ≡ Some conn → conn.is_paused ≡ is
   kept_flag c true is conn x e = a.paused c conn e ∙ x.0 ∙ sym x.1
   kept_flag c false is conn x e = none_is_some _ conn e
@@ -171,12 +177,32 @@ module _ (b : Broker) (sessions : ℕ → Session) (p : ℕ → Bool) (sends : L
   limit_after (event.Deliver c) free conn e = a.limits c conn e
   limit_after _ free conn e = none_is_some _ conn e
 
+-- Each step leaves a connection there exactly while it runs.
+pub step_running : (f : Config) (old new : State) (e : Event) (sends : List Send) (notes : List Note) → Step f old e sends notes new → ((d : ℕ) → is_some (old.broker.connection d) ≡ is_running (old.session d).phase)
+    → (d : ℕ) → is_some (new.broker.connection d) ≡ is_running (new.session d).phase
+step_running f old new e sends notes s running = elim (goes f old new sends notes e s) [ inl done ↦ performed done | inr moved ↦ answered moved ]
+  where
+    performed : Performed f old e sends notes new → (d : ℕ) → is_some (new.broker.connection d) ≡ is_running (new.session d).phase
+    performed p = running_with old.broker new.broker old.session new.session (event_connection e) _ _ running (acted f.topology old.broker new.broker sends notes e p.acts).connections p.sessions (runs_after old.broker old.session sends running e p.runs p.free)
+
+    answered : Answered old e sends notes new → (d : ℕ) → is_some (new.broker.connection d) ≡ is_running (new.session d).phase
+    answered p = go (is_running p.move.next.phase) refl p.moves.broker.connections
+      where
+        c : ℕ
+        c = event_connection e
+
+        go : (v : Bool) → is_running p.move.next.phase ≡ v → ((d : ℕ) → new.broker.connection d ≡ (if v then opened old.broker c p.move.next.channel_max 0 else old.broker).connection d) → (d : ℕ) → is_some (new.broker.connection d) ≡ is_running (new.session d).phase
+        go true is connections = running_with old.broker new.broker old.session new.session c _ p.move.next running connections p.moves.session (sym is)
+        go false is connections =
+            running_with old.broker new.broker old.session new.session c (old.broker.connection c) p.move.next running
+            (λ d. connections d ∙ sym (with_same old.broker.connection c (old.broker.connection c) refl d)) p.moves.session (running c ∙ p.idle ∙ sym is)
+
 module _ (f : Config) (old new : State) (e : Event) (sends : List Send) (notes : List Note) (p q : ℕ → Bool) (a : Agrees old.broker old.session p)
     (others : (d : ℕ) → d ≢ event_connection e → q d ≡ p d) (flag : IsFlagAfter e (p (event_connection e)) (q (event_connection e))) where
   agrees_performed : Performed f old e sends notes new → Agrees new.broker new.session q
   agrees_performed s =
       agrees_with old.broker new.broker old.session new.session p q (event_connection e) _ _ a (acted f.topology old.broker new.broker sends notes e s.acts).connections s.sessions (with_by p q (event_connection e) others)
-      (runs_after old.broker old.session p sends a e s.runs s.free) (flag_after old.broker old.session p sends a e (q (event_connection e)) flag s.free)
+      (runs_after old.broker old.session sends a.running e s.runs s.free) (flag_after old.broker old.session p sends a e (q (event_connection e)) flag s.free)
       (limit_after old.broker old.session p sends a e s.free)
 
   -- a move of the phases alone

@@ -6,7 +6,7 @@ use Rattle.model.specs.Phases.{is_running}
 use Rattle.model.specs.Run.{Happening, Run}
 use Rattle.model.specs.Naming.{AreNamed}
 use Rattle.model.specs.Arrivals.{World, Waits, IsSaid}
-use Rattle.model.specs.Headline.{event_connection}
+use Rattle.model.specs.Alone.{event_connection}
 use Rattle.laws.specs.Consumers.{IsWorldNamed, WorldsStayNamed, PlaysStayNamed}
 use Rattle.laws.proofs.View.{goes}
 use Rattle.laws.proofs.Plays.{IsTold, Told, told_turns, told_taken, told_opens, told_loses, told_pumps, told_plays}

@@ -12,7 +12,10 @@ use Rattle.model.specs.Guarantee.{Covers}
 use Rattle.model.specs.State.{Config, State, Step}
 use Rattle.model.specs.Arrivals.{IsSaid}
 use Rattle.model.specs.Run.{Happening, Run, AreCounted, has_number, notes_of}
-use Rattle.model.specs.Headline.{IsSound, IsNoted, WasSentTo, IsAllowed, AreAllowed, AreAllowedIn, IsCauseAt, HasCause, HaveCauses, IsPublishedAt, HasOrigin, HaveOrigins, IsOfNoRejection, DieAsRouted, DieOnce, KeepsEvents}
+use Rattle.model.specs.Allowed.{IsNoted, WasSentTo, IsAllowed, AreAllowed, AreAllowedIn}
+use Rattle.model.specs.Causes.{IsCauseAt, HasCause, HaveCauses, IsPublishedAt, HasOrigin, HaveOrigins}
+use Rattle.model.specs.Letters.{IsOfNoRejection, DieAsRouted, DieOnce}
+use Rattle.model.specs.Headline.{IsSound, KeepsEvents}
 use Rattle.model.specs.declared.messages.Entry.{Entry}
 use Rattle.model.specs.declared.notes.Note.{Note}
 use Rattle.model.specs.declared.notes.Note.TheVariants.{Published, Entered, Left}

@@ -14,7 +14,8 @@ use Rattle.model.specs.Step.{entry_note, entry_notes, confirm_notes, returned_no
 use Rattle.model.specs.State.{State}
 use Rattle.model.specs.Arrivals.{IsSaid}
 use Rattle.model.specs.Run.{Happening, Run, notes_of}
-use Rattle.model.specs.Headline.{Acked, IsSound, EnteredOnce, is_ack_of, is_publish_into, acked_as, acked_at, acked}
+use Rattle.model.specs.Acks.{Acked, EnteredOnce, is_ack_of, is_publish_into, acked_as, acked_at, acked}
+use Rattle.model.specs.Headline.{IsSound}
 use Rattle.model.specs.declared.topologies.DeclaredQueue.{DeclaredQueue}
 use Rattle.model.specs.declared.topologies.Place.TheVariants as place
 use Rattle.model.specs.declared.topologies.Mode.{Mode}

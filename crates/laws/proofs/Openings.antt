@@ -16,7 +16,7 @@ use Rattle.model.specs.declared.events.Event.{Event}
 use Rattle.model.specs.declared.events.Arrival.{Arrival}
 use Rattle.model.specs.declared.events.Arrival.TheVariants as arrival
 use Rattle.model.specs.declared.notes.Note.{Note}
-use Rattle.model.specs.Headline.{event_connection}
+use Rattle.model.specs.Alone.{event_connection}
 use Rattle.laws.specs.Streams.{is_head}
 use Rattle.laws.specs.Openings.{is_header, is_first, AreToCome, ReadsByPhase, OpeningsReadByPhase}
 use Rattle.laws.proofs.Counts.{from_either}

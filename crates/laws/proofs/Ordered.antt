@@ -34,8 +34,9 @@ use Rattle.model.specs.declared.notes.Way.{Way}
 use Rattle.model.specs.declared.notes.Way.TheVariants as way
 use Rattle.model.specs.declared.notes.Note.{Note}
 use Rattle.model.specs.declared.notes.Note.TheVariants.{Entered, Refused}
-use Rattle.model.specs.Headline.{event_connection}
-use Rattle.laws.specs.Order.{GivesOut, to_get, to_consumer, FirstGiven, ended, given, passed, IsPart, empty, skips, takes, is_fresh, waiting, entered_by, entered, GivenInOrder, IsNext, GivenAfterThoseAhead}
+use Rattle.model.specs.Alone.{event_connection}
+use Rattle.model.specs.Order.{GivesOut, to_get, to_consumer, FirstGiven, ended, given, passed, IsPart, empty, skips, takes, is_fresh, waiting, entered_by, entered, IsNext}
+use Rattle.laws.specs.Order.{GivenInOrder, GivenAfterThoseAhead}
 use Rattle.model.specs.Routing.{key_after}
 use Rattle.model.specs.Deaths.{dead_letter, with_headers}
 use Rattle.laws.proofs.Dying.{Goes, not_found, left_only, died, goes_by}
@@ -383,13 +384,13 @@ one_given no_ack holder e old now entering found fresh is =
     ))
 
 giving_ordered : (h : Happening) (q : Text) (e : Entry) → GivesOut h q e → e.message.redelivered ≡ false → IsPart (e.message.number ∷ waiting (h.after.broker.queue q)) (waiting (h.before.broker.queue q) ++ entered q h.notes)
-giving_ordered h q e (to_get {c = c} {k = k} {m = m} ch is found p) fresh = one_given m.no_ack _ e (h.before.broker.queue q) (h.after.broker.queue q) _ found fresh (after_one h.before.broker h.after.broker c k ch m.no_ack q taker.Get p.left)
+giving_ordered h q e (to_get {c = c} {k = k} {m = m} ch is there found p) fresh = one_given m.no_ack _ e (h.before.broker.queue q) (h.after.broker.queue q) _ found fresh (after_one h.before.broker h.after.broker c k ch m.no_ack q taker.Get p.left)
 giving_ordered h q e (to_consumer {c = c} is d) fresh =
     one_given d.made.consumer.no_ack _ e (h.before.broker.queue q) (h.after.broker.queue q) _ d.made.first fresh (after_one h.before.broker h.after.broker c d.made.number d.made.channel d.made.consumer.no_ack q (taker.Consumer d.made.consumer.number) d.makes.left)
 
 -- Whatever is given out, all that stand ahead of it in its queue are given out already.
 pub after_those_ahead : GivenAfterThoseAhead
-after_those_ahead h q e (to_get ch is found p) = is_next e (h.before.broker.queue q) found
+after_those_ahead h q e (to_get ch is there found p) = is_next e (h.before.broker.queue q) found
 after_those_ahead h q e (to_consumer is d) = is_next e (h.before.broker.queue q) d.made.first
 
 -- ---- runs

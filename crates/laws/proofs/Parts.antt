@@ -1,6 +1,6 @@
 -- Parts of lists in order.
 use Rattle.std.proofs.Common.{◌≡◌, ℕ, List, [], ◌∷◌, ◌++◌, sym, subst, append_assoc, append-nil}
-use Rattle.laws.specs.Order.{IsPart, empty, skips, takes}
+use Rattle.model.specs.Order.{IsPart, empty, skips, takes}
 
 pub itself : (xs : List ℕ) → IsPart xs xs
 itself [] = empty

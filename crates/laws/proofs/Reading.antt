@@ -9,7 +9,7 @@ use Rattle.std.proofs.lemmas.Nat.{from_be_bytes-to_be_bytes_2, from_be_bytes-to_
 use Rattle.model.specs.Frames.{Frame, frame_bytes, IsFrame}
 use Rattle.model.specs.Grammar.{IsMethod, method_bytes, octet}
 use Rattle.model.specs.Spelling.{pieces_of, content_frames, frames_of, method_frame, body_frame, IsSpelled, eight_bytes}
-use Rattle.model.specs.Headline.{Ack, first_bit, ack_in, acks_in, IsReading}
+use Rattle.model.specs.Acks.{Ack, first_bit, ack_in, acks_in, IsReading}
 use Rattle.model.specs.declared.contents.Content.{Content}
 use Rattle.model.specs.declared.events.Send.{Send}
 use Rattle.model.specs.declared.events.Send.TheVariants as send

@@ -1,6 +1,6 @@
 -- What a publish enters: each queue to which it is routed, or that is full.
 use Rattle.std.proofs.lemmas.List.Elements.{filter_map-append}
-use Rattle.std.proofs.Common.{◌≡◌, ℕ, ◌⊎◌, List, [], ◌∷◌, ◌++◌, Bool, true, false, refl, sym, ap, subst, ◌∙◌, Option, Some, None, length, map, inl, inr}
+use Rattle.std.proofs.Common.{◌≡◌, ℕ, List, [], ◌∷◌, ◌++◌, Bool, true, false, refl, sym, ap, subst, ◌∙◌, None, length, inl, inr}
 use Rattle.std.specs.Prelude.{◌||◌, filter_map}
 use Rattle.std.specs.List.{list_any, AllByRecursion}
 use Rattle.model.specs.Words.{Text}
@@ -9,7 +9,7 @@ use Rattle.model.specs.Broker.{is_full}
 use Rattle.model.specs.Step.{answer_of}
 use Rattle.model.specs.State.{State}
 use Rattle.model.specs.Run.{Happening, Run, notes_of}
-use Rattle.model.specs.Headline.{is_full_after, EntersAsRouted, EnterAsRouted, number_in, CountUp}
+use Rattle.model.specs.Routed.{is_full_after, EntersAsRouted, EnterAsRouted, number_in, CountUp}
 use Rattle.model.specs.declared.notes.Answer.TheVariants as answered
 use Rattle.model.specs.declared.notes.Note.{Note}
 use Rattle.model.specs.declared.notes.Note.TheVariants.{Published}

@@ -16,7 +16,12 @@ use Rattle.model.specs.Consuming.{is_in_use, server_tag, first_free}
 use Rattle.model.specs.Broker.{Consumer, Broker}
 use Rattle.model.specs.State.{State}
 use Rattle.model.specs.Run.{Stays}
-use Rattle.model.specs.Headline.{Ack, acks_in, HasAcksOf, IsReading, EnteredOnce, AreAllowed, HaveOrigins, EnterAsRouted, note_at, number_in, CountUp, HasSource, given_out, sent_back, HaveSources, DieOnce, DiesAt, ack_for}
+use Rattle.model.specs.Acks.{Ack, acks_in, HasAcksOf, IsReading, EnteredOnce, ack_for}
+use Rattle.model.specs.Allowed.{AreAllowed}
+use Rattle.model.specs.Causes.{HaveOrigins, DiesAt}
+use Rattle.model.specs.Routed.{EnterAsRouted, note_at, number_in, CountUp}
+use Rattle.model.specs.Letters.{DieOnce}
+use Rattle.model.specs.Contents.{HasSource, given_out, sent_back, HaveSources}
 use Rattle.model.specs.declared.notes.Note.{Note}
 use Rattle.model.specs.declared.notes.Note.TheVariants.{Entered, Left}
 use Rattle.model.specs.declared.notes.Way.TheVariants.{Publish, Dead}

@@ -1,5 +1,5 @@
 -- What is given out is what was published: by every event each message keeps the content of its publish, but for headers that tell of its deaths.
-use Rattle.std.proofs.Common.{◌≡◌, ℕ, List, [], ◌∷◌, ◌++◌, Bool, true, false, refl, sym, ap, subst, ◌∙◌, Option, Some, None, inl, inr}
+use Rattle.std.proofs.Common.{◌≡◌, ℕ, List, [], ◌∷◌, ◌++◌, Bool, true, false, refl, sym, ap, subst, Option, Some, None, inl, inr}
 use Rattle.std.specs.Prelude.{filter_map, ◌&&◌}
 use Rattle.std.specs.List.{AllByRecursion}
 use Rattle.model.specs.Words.{Text}
@@ -10,7 +10,8 @@ use Rattle.model.specs.Deaths.{AreMarked, with_headers}
 use Rattle.model.specs.Step.{returned_sends, confirm_sends, next_of, answer_of, is_none, is_some_full}
 use Rattle.model.specs.State.{State, Step}
 use Rattle.model.specs.Run.{Happening, Run}
-use Rattle.model.specs.Headline.{IsNoted, IsContentOf, as_published, after_death, WasPublished, IsOfPublish, content_in, HasSource, given_out, sent_back, HaveSources, AreSourced}
+use Rattle.model.specs.Order.{GivesOut, to_get, to_consumer}
+use Rattle.model.specs.Contents.{IsContentOf, as_published, after_death, WasPublished, IsOfPublish, content_in, HasSource, given_out, sent_back, HaveSources, AreSourced}
 use Rattle.model.specs.declared.contents.Content.{Content}
 use Rattle.model.specs.declared.messages.Entry.{Entry}
 use Rattle.model.specs.declared.methods.Publish.{Publish}
@@ -21,7 +22,7 @@ use Rattle.laws.proofs.Counts.{all_each, in_front, in_back}
 use Rattle.laws.proofs.Leaving.{find_in}
 use Rattle.laws.proofs.Balance.{number, content, confirm, first_note, noted}
 use Rattle.laws.proofs.Traced.{AreSame, Came, stood, by_letter, published, step_came}
-use Rattle.laws.proofs.View.{Publishes, IsOfFirst, seen_at}
+use Rattle.laws.proofs.View.{Publishes, IsGiven, seen_at}
 
 -- ---- messages of publishes
 
@@ -93,8 +94,13 @@ module _ (before : List Happening) (h : Happening) where
 
   -- ---- what is sent
 
-  of_first : AreOfPublishes before h.before.broker.queue → (k : Content) → IsOfFirst h.before.broker.queue k → HasSource before h k
-  of_first all k (queue, entry, first, is) = given_out queue entry first is (all queue entry (find_in is_ready entry (h.before.broker.queue queue) first).0)
+  -- what is given out stood in its queue
+  stood_there : (queue : Text) (entry : Entry) → GivesOut h queue entry → IsIn entry (h.before.broker.queue queue)
+  stood_there queue entry (to_get ch is there found p) = (find_in is_ready entry (h.before.broker.queue queue) found).0
+  stood_there queue entry (to_consumer is d) = (find_in is_ready entry (h.before.broker.queue queue) d.made.first).0
+
+  of_given : AreOfPublishes before h.before.broker.queue → (k : Content) → IsGiven h.before.broker h.event h.sends h.notes h.after.broker k → HasSource before h k
+  of_given all k (queue, entry, out, is) = given_out queue entry out is (all queue entry (stood_there queue entry out))
 
   -- a publish sends its own content, where it goes back
   of_publish : (c k : ℕ) (publish : Publish) (came : Content) → HasSource before h came → (b : Bool) (o : Option ℕ) (a : Answer) → AllByRecursion (HasSource before h) (filter_map content_in (returned_sends c k publish came b ++ confirm_sends c k o a))
@@ -107,7 +113,7 @@ module _ (before : List Happening) (h : Happening) where
 
   sources : AreOfPublishes before h.before.broker.queue → Step h.config h.before h.event h.sends h.notes h.after → HaveSources before h
   sources all s = elim (seen_at h s) [
-    | inl q ↦ all_each (IsOfFirst h.before.broker.queue) (HasSource before h) (of_first all) (filter_map content_in h.sends) q.contents
+    | inl q ↦ all_each (IsGiven h.before.broker h.event h.sends h.notes h.after.broker) (HasSource before h) (of_given all) (filter_map content_in h.sends) q.contents
     | inr p ↦
         subst (λ (sends : List Send). AllByRecursion (HasSource before h) (filter_map content_in sends)) (sym p.is.sent)
         (of_publish p.c p.h p.publish (content p) (sent_back p.c p.h p.publish p.given p.event refl) (p.publish.mandatory && is_none p.is.targets) (next_of p.ch.confirm) (answer_of (is_some_full h.config.topology h.before.broker.queue (content p) p.is.targets)))

@@ -26,7 +26,7 @@ use Rattle.model.specs.declared.events.Event.TheVariants as event
 use Rattle.model.specs.declared.events.Arrival.{Arrival}
 use Rattle.model.specs.declared.events.Arrival.TheVariants as arrival
 use Rattle.model.specs.declared.notes.Note.{Note}
-use Rattle.model.specs.Headline.{event_connection}
+use Rattle.model.specs.Alone.{event_connection}
 use Rattle.laws.proofs.Counts.{all-append, from_either}
 use Rattle.laws.specs.Openings.{is_header}
 use Rattle.laws.proofs.Speaking.{IsCommandSend, AreCommandSends, Spoken, spoken_commands, spoken_over, spoken_on}

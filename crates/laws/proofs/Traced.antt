@@ -27,7 +27,7 @@ use Rattle.model.specs.declared.events.Event.{Event}
 use Rattle.model.specs.declared.events.Event.TheVariants.{Open, First, Running, Command, TooLarge, Fault, Lose, Pause, Resume, Deliver}
 use Rattle.model.specs.declared.notes.Cause.{Cause}
 use Rattle.model.specs.declared.notes.Note.{Note}
-use Rattle.model.specs.Headline.{event_connection}
+use Rattle.model.specs.Alone.{event_connection}
 use Rattle.laws.specs.Tracing.{MessagesStayTraced}
 use Rattle.laws.proofs.Dying.{IsLetter, rejected_stood}
 use Rattle.laws.proofs.Leaving.{at_queue, find_in, in_filter, in_rest}

@@ -1,5 +1,5 @@
 -- The ways in which a step can go. Here alone all cases of `Step` are walked over: a new command is a new line here.
-use Rattle.std.proofs.Common.{◌≡◌, ℕ, ◌+◌, ◌≤◌, append-nil, filter, arith, ◌⊎◌, List, [], ◌∷◌, ◌++◌, Bool, true, false, cond, refl, sym, ap, subst, ◌∙◌, map, Option, Some, None, inl, inr}
+use Rattle.std.proofs.Common.{◌≡◌, ℕ, ◌+◌, append-nil, filter, arith, ◌⊎◌, List, [], ◌∷◌, ◌++◌, Bool, true, false, cond, refl, sym, ap, subst, ◌∙◌, map, Option, Some, None, inl, inr}
 use Rattle.std.specs.Prelude.{codes, count_by, filter_map, ◌==◌, if◌then◌else◌}
 use Rattle.std.specs.Str.{bytes_eq}
 use Rattle.std.specs.List.{AllByRecursion}
@@ -15,7 +15,11 @@ use Rattle.model.specs.Opening.{IsAnswered, MovesInOpening, new_session, first_m
 use Rattle.model.specs.State.{Config, State, Moves, OfFirst, OfCommand, OfLarge, OfFault, Step}
 use Rattle.model.specs.declared.messages.User.{User}
 use Rattle.model.specs.Run.{Happening, Balances, has_number, is_entered, is_left}
-use Rattle.model.specs.Headline.{WasGiven, IsCauseIn, IsCauseAt, AreRejections, IsOfNoRejection, content_in, event_connection}
+use Rattle.model.specs.Causes.{WasGiven, IsCauseIn, IsCauseAt}
+use Rattle.model.specs.Letters.{AreRejections, IsOfNoRejection}
+use Rattle.model.specs.Contents.{content_in}
+use Rattle.model.specs.Alone.{event_connection}
+use Rattle.model.specs.Order.{Gives, to_get, to_consumer}
 use Rattle.model.specs.Settling.{takes}
 use Rattle.model.specs.Deliveries.{Settlement, Leaves, Rejects, Returns, of_rejected, AreSettled, first_ready, ready_in, holder_of, after_delivery, delivery_notes, after_purge, purge_notes}
 use Rattle.model.specs.Consuming.{CanDeliver}
@@ -44,6 +48,7 @@ use Rattle.model.specs.declared.notes.Answer.{Answer}
 use Rattle.model.specs.declared.notes.Answer.TheVariants as answered
 use Rattle.model.specs.Spelling.{eight_bytes}
 use Rattle.model.specs.Arrivals.{is_ended}
+use Rattle.laws.proofs.Accepted.{is_open}
 use Rattle.laws.proofs.Counts.{count-map, count_none, all_each, all-append}
 use Rattle.laws.specs.Openings.{is_header, is_first}
 use Rattle.laws.proofs.Speaking.{IsCommandSend, AreCommandSends, Spoken, spoken_commands, spoken_on, spoken_still}
@@ -128,13 +133,13 @@ with_same f n a e d = go (d == n) refl
 
 -- ---- the ways of the broker
 
--- the content is that of the first message of one of these queues that could be given out
-abbrev pub IsOfFirst : (Text → List Entry) → Content → Type 0
-IsOfFirst queues content = (queue : Text) × (entry : Entry) × (first_ready (queues queue) ≡ Some entry) × (content ≡ entry.message.content)
+-- the content is that of a message that the event gives out
+abbrev pub IsGiven : Broker → Event → List Send → List Note → Broker → Content → Type 0
+IsGiven old e sends notes new content = (queue : Text) × (entry : Entry) × Gives old e sends notes new queue entry × (content ≡ entry.message.content)
 
--- so is each content that is sent
-abbrev pub AreOfFirst : (Text → List Entry) → List Send → Type 0
-AreOfFirst queues sends = AllByRecursion (IsOfFirst queues) (filter_map content_in sends)
+-- so is each content among these sends
+abbrev pub AreGiven : Broker → Event → List Send → List Note → Broker → List Send → Type 0
+AreGiven old e sends notes new wanted = AllByRecursion (IsGiven old e sends notes new) (filter_map content_in wanted)
 
 -- no publish is counted, what is noted is that messages left their queues and that dead letters of what stood there came, each queue has what that leaves and adds, and one answer at most is sent
 pub record CountsNone (t : Topology) (old new : Broker) (e : Event) (sends : List Send) (notes : List Note) : Type 0 where
@@ -144,7 +149,7 @@ pub record CountsNone (t : Topology) (old new : Broker) (e : Event) (sends : Lis
   pub caused : AllByRecursion (OfLeft (IsCauseAt old e)) notes
   pub rejections : AreApart (queue_names t.queues) → AreRejections t old.queue [] notes ⊎ AllByRecursion IsOfNoRejection notes
   pub few : IsAnswerAtMost sends
-  pub contents : AreOfFirst old.queue sends
+  pub contents : AreGiven old e sends notes new sends
 
 -- of what is true of each note of a leaving, of a refusal, and of a dead letter's entering, each of these notes is
 pub quiet_notes : {t : Topology} {old new : Broker} {e : Event} {sends : List Send} {notes : List Note} (P : Note → Type 0) → ((n : ℕ) (q : Text) (cause : Cause) → P (Left n q cause)) → ((n : ℕ) (q : Text) → P (Refused n q))
@@ -240,7 +245,7 @@ stay old c d = sym (with_same old.connection c (old.connection c) refl d)
 
 -- one that notes that these messages left
 noting : (t : Topology) (old new made : Broker) (e : Event) (c : ℕ) (after : List Send → Option Connection) (sends wanted : List Send) (notes left : List Note)
-    → Makes sends notes new wanted left made → IsReplyAtMost wanted → AreOfFirst old.queue wanted → IsAlone old c (after wanted) made → made.published ≡ old.published
+    → Makes sends notes new wanted left made → IsReplyAtMost wanted → AreGiven old e sends notes new wanted → IsAlone old c (after wanted) made → made.published ≡ old.published
     → AllByRecursion (λ (note : Note). is_leaving note ≡ true) left → ((n : ℕ) (q : Text) → count_by (has_number n) (old.queue q) ≡ count_by (is_left n q) left + count_by (has_number n) (made.queue q))
     → AllByRecursion (OfLeft (IsCauseAt old e)) left → Quiet t old new e c after sends notes
 noting t old new made e c after sends wanted notes left d few contents alone same leaving kept caused = record {
@@ -251,7 +256,7 @@ noting t old new made e c after sends wanted notes left d few contents alone sam
     caused = subst (AllByRecursion (OfLeft (IsCauseAt old e))) (sym d.noted) caused;
     rejections = λ apart. inr (no_rejections notes all_leaving);
     few = reply_answers sends (subst IsReplyAtMost (sym d.sent) few);
-    contents = subst (AreOfFirst old.queue) (sym d.sent) contents;
+    contents = subst (AreGiven old e sends notes new) (sym d.sent) contents;
   };
   few = subst IsReplyAtMost (sym d.sent) few;
   connections = λ x. d.left.connections x ∙ subst (λ (s : List Send). made.connection x ≡ with_one old.connection c (after s) x) (sym d.sent) (alone x);
@@ -266,7 +271,7 @@ none_left n q x y e = let z : count_by (is_left n q) [] ≡ 0 = refl in omega (a
 
 -- one that notes nothing
 quiet : (t : Topology) (old new made : Broker) (e : Event) (c : ℕ) (after : List Send → Option Connection) (sends wanted : List Send) (notes : List Note)
-    → Does sends notes new wanted made → IsReplyAtMost wanted → AreOfFirst old.queue wanted → Keeps old made → IsAlone old c (after wanted) made → Quiet t old new e c after sends notes
+    → Does sends notes new wanted made → IsReplyAtMost wanted → AreGiven old e sends notes new wanted → Keeps old made → IsAlone old c (after wanted) made → Quiet t old new e c after sends notes
 quiet t old new made e c after sends wanted notes d few contents k alone =
     noting t old new made e c after sends wanted notes [] (record { sent = d.sent; noted = d.noted; left = d.left }) few contents alone k.same tt (λ n q. none_left n q _ _ (sym (k.kept n q))) tt
 
@@ -288,7 +293,7 @@ publish_stays t old new c h ch p content sends notes is d =
 
 module _ (t : Topology) (old new : Broker) (sends : List Send) (notes : List Note) where
   -- an event of connection c that is no publish, and notes nothing
-  still : (e : Event) (c : ℕ) (wanted : List Send) (made : Broker) → Does sends notes new wanted made → IsReplyAtMost wanted → AreOfFirst old.queue wanted → Keeps old made → IsAlone old c (kept_after old c wanted) made → Quiet t old new e c (kept_after old c) sends notes
+  still : (e : Event) (c : ℕ) (wanted : List Send) (made : Broker) → Does sends notes new wanted made → IsReplyAtMost wanted → AreGiven old e sends notes new wanted → Keeps old made → IsAlone old c (kept_after old c wanted) made → Quiet t old new e c (kept_after old c) sends notes
   still e c wanted made = quiet t old new made e c (kept_after old c) sends wanted notes
 
   closes : (e : Event) (c h : ℕ) (v : Bool) → Does sends notes new (reply c h ChannelCloseOk ∷ []) (if v then old else with_freed (with_channel old c h None) (by_channel c h)) → Quiet t old new e c (kept_after old c) sends notes
@@ -297,19 +302,19 @@ module _ (t : Topology) (old new : Broker) (sends : List Send) (notes : List Not
 
   -- ---- a get
 
-  given : (c h : ℕ) (ch : Channel) (m : Get) (content : Option Content) (e : Entry) (no_ack : Bool) → m.no_ack ≡ no_ack → first_ready (old.queue m.queue) ≡ Some e
+  given : (c h : ℕ) (ch : Channel) (m : Get) (content : Option Content) (e : Entry) → Gives old (Command c h (BasicGet m) content) sends notes new m.queue e → (no_ack : Bool) → m.no_ack ≡ no_ack → first_ready (old.queue m.queue) ≡ Some e
       → Makes sends notes new (get_ok c h ch.next_tag e (ready_in ((after_delivery old c h ch no_ack m.queue taker.Get).queue m.queue)) ∷ []) (delivery_notes no_ack e.message.number m.queue) (after_delivery old c h ch no_ack m.queue taker.Get)
       → Quiet t old new (Command c h (BasicGet m) content) c (kept_after old c) sends notes
-  given c h ch m content e true is found p =
-      noting t old new _ _ c (kept_after old c) sends _ notes _ p (refl, refl) ((m.queue, e, found, refl), tt) (stay old c) refl (refl, tt) (taken_balances is_ready old.queue m.queue Auto e found)
+  given c h ch m content e out true is found p =
+      noting t old new _ _ c (kept_after old c) sends _ notes _ p (refl, refl) ((m.queue, e, out, refl), tt) (stay old c) refl (refl, tt) (taken_balances is_ready old.queue m.queue Auto e found)
       ((is, refl, record { entry = e; first = found; number = refl }), tt)
-  given c h ch m content e false is found p =
-      noting t old new _ _ c (kept_after old c) sends _ notes _ p (refl, refl) ((m.queue, e, found, refl), tt) (stay old c) refl tt
+  given c h ch m content e out false is found p =
+      noting t old new _ _ c (kept_after old c) sends _ notes _ p (refl, refl) ((m.queue, e, out, refl), tt) (stay old c) refl tt
       (λ n q. none_left n q _ _ (sym (at_queue (λ (r : Text) (es : List Entry). count_by (has_number n) es ≡ count_by (has_number n) (old.queue r)) old.queue m.queue _ (count_change (has_number n) is_ready _ (λ x. refl) (old.queue m.queue)) (λ r other. refl) q))) tt
 
-  gets : (c h : ℕ) (ch : Channel) (m : Get) (content : Option Content) (o : Option Entry) → first_ready (old.queue m.queue) ≡ o → Gets old c h ch m o sends notes new → Quiet t old new (Command c h (BasicGet m) content) c (kept_after old c) sends notes
-  gets c h ch m content None is p = noting t old new _ _ c (kept_after old c) sends _ notes [] p (refl, refl) tt (stay old c) refl tt (λ n q. none_left n q _ _ refl) tt
-  gets c h ch m content (Some e) is p = given c h ch m content e m.no_ack refl is p
+  gets : (c h : ℕ) (ch : Channel) (m : Get) (content : Option Content) → old.channel c h ≡ Some ch → (o : Option Entry) → first_ready (old.queue m.queue) ≡ o → Gets old c h ch m o sends notes new → Quiet t old new (Command c h (BasicGet m) content) c (kept_after old c) sends notes
+  gets c h ch m content there None is p = noting t old new _ _ c (kept_after old c) sends _ notes [] p (refl, refl) tt (stay old c) refl tt (λ n q. none_left n q _ _ refl) tt
+  gets c h ch m content there (Some e) is p = given c h ch m content e (to_get ch refl there is p) m.no_ack refl is p
 
   -- ---- consumers
 
@@ -322,20 +327,20 @@ module _ (t : Topology) (old new : Broker) (sends : List Send) (notes : List Not
   cancels e c h false tag ch p = still e c _ _ p (refl, refl) tt (record { same = refl; kept = λ n q. refl }) (stay old c)
 
   -- a delivery takes its message out, or it is held
-  delivers : (c : ℕ) (o : CanDeliver old c) (no_ack : Bool) → o.consumer.no_ack ≡ no_ack
+  delivers : (c : ℕ) (o : CanDeliver old c) → Gives old (Deliver c) sends notes new o.consumer.queue o.entry → (no_ack : Bool) → o.consumer.no_ack ≡ no_ack
       → Makes sends notes new (deliver c o.number o.channel.next_tag o.consumer.tag o.entry ∷ []) (delivery_notes no_ack o.entry.message.number o.consumer.queue) (after_delivery old c o.number o.channel no_ack o.consumer.queue (taker.Consumer o.consumer.number))
       → Quiet t old new (Deliver c) c (λ s. old.connection c) sends notes
-  delivers c o true is p =
-      noting t old new _ _ c (λ s. old.connection c) sends _ notes _ p (refl, refl) ((o.consumer.queue, o.entry, o.first, refl), tt) (stay old c) refl (refl, tt) (taken_balances is_ready old.queue o.consumer.queue Auto o.entry o.first)
+  delivers c o out true is p =
+      noting t old new _ _ c (λ s. old.connection c) sends _ notes _ p (refl, refl) ((o.consumer.queue, o.entry, out, refl), tt) (stay old c) refl (refl, tt) (taken_balances is_ready old.queue o.consumer.queue Auto o.entry o.first)
       (record { made = o; no_ack = is; queue = refl; number = refl }, tt)
-  delivers c o false is p =
-      noting t old new _ _ c (λ s. old.connection c) sends _ notes _ p (refl, refl) ((o.consumer.queue, o.entry, o.first, refl), tt) (stay old c) refl tt
+  delivers c o out false is p =
+      noting t old new _ _ c (λ s. old.connection c) sends _ notes _ p (refl, refl) ((o.consumer.queue, o.entry, out, refl), tt) (stay old c) refl tt
       (λ n q. none_left n q _ _ (sym (at_queue (λ (r : Text) (es : List Entry). count_by (has_number n) es ≡ count_by (has_number n) (old.queue r)) old.queue o.consumer.queue _ (count_change (has_number n) is_ready _ (λ x. refl) (old.queue o.consumer.queue)) (λ r other. refl) q))) tt
 
   -- ---- what a tag settles
 
   -- what is outstanding there, where the channel is open or a new one stands for it
-  settles : (how : Settlement) → IsPlain how → (e : Event) (c h : ℕ) (ch : Channel) (tag : ℕ) (multiple : Bool) (wanted : List Send) → Settles t how old c h ch tag multiple wanted sends notes new → IsReplyAtMost wanted → AreOfFirst old.queue wanted → is_running (after_sends wanted) ≡ true
+  settles : (how : Settlement) → IsPlain how → (e : Event) (c h : ℕ) (ch : Channel) (tag : ℕ) (multiple : Bool) (wanted : List Send) → Settles t how old c h ch tag multiple wanted sends notes new → IsReplyAtMost wanted → AreGiven old e sends notes new wanted → is_running (after_sends wanted) ≡ true
       → ((cause : Cause) → IsBy how cause → (o : Outstanding) (entry : Entry) → IsIn o ch.outstanding → takes tag_of tag multiple o ≡ true → IsIn entry (old.queue o.queue) → is_held_as (holder_of c h o) entry ≡ true → IsCauseAt old e entry.message.number o.queue cause)
       → Quiet t old new e c (kept_after old c) sends notes
   settles how plain e c h ch tag multiple wanted p few contents runs cause = record {
@@ -346,7 +351,7 @@ module _ (t : Topology) (old new : Broker) (sends : List Send) (notes : List Not
       caused = caused how (λ why is. is) p.queues;
       rejections = λ apart. rejections how plain apart p.queues;
       few = reply_answers sends (subst IsReplyAtMost (sym p.sent) few);
-      contents = subst (AreOfFirst old.queue) (sym p.sent) contents;
+      contents = subst (AreGiven old e sends notes new) (sym p.sent) contents;
     };
     few = subst IsReplyAtMost (sym p.sent) few;
     connections = λ d. p.connections d ∙ sym (with_same old.connection c _ (ap (λ (s : List Send). cond (is_running (after_sends s)) (old.connection c) None) p.sent ∙ ap (λ (b : Bool). cond b (old.connection c) None) runs) d);
@@ -437,7 +442,7 @@ module _ (t : Topology) (old new : Broker) (sends : List Send) (notes : List Not
       few true = tt
       few false = (refl, refl)
 
-      bare : (b : Bool) → AreOfFirst old.queue (purge_sends c h b (ready_in (old.queue m.queue)))
+      bare : (b : Bool) → AreGiven old (Command c h (QueuePurge m) content) sends notes new (purge_sends c h b (ready_in (old.queue m.queue)))
       bare true = tt
       bare false = tt
 
@@ -466,7 +471,7 @@ module _ (t : Topology) (old new : Broker) (sends : List Send) (notes : List Not
   performs c h (BasicQos m) content conn accepted p = quiet_acts t old new _ sends notes (still _ c _ _ p (refl, refl) tt (record { same = refl; kept = λ n q. refl }) (stay old c))
   performs c h (BasicConsume m) content conn accepted p = quiet_acts t old new _ sends notes (consumes _ c h m.no_wait _ _ p)
   performs c h (BasicCancel m) content conn accepted p = quiet_acts t old new _ sends notes (cancels _ c h m.no_wait _ _ p)
-  performs c h (BasicGet m) content conn accepted p = quiet_acts t old new _ sends notes (gets c h (channel_or_new (old.channel c h)) m content (first_ready (old.queue m.queue)) refl p)
+  performs c h (BasicGet m) content conn accepted p = quiet_acts t old new _ sends notes (gets c h (channel_or_new (old.channel c h)) m content (is_open t old conn h m (old.channel c h) accepted) (first_ready (old.queue m.queue)) refl p)
   performs c h (BasicAck m) content conn accepted p = quiet_acts t old new _ sends notes (acknowledges c h m content p)
   performs c h (BasicReject m) content conn accepted p = quiet_acts t old new _ sends notes (rejects c h m.delivery_tag false m.requeue (BasicReject m) content (λ n q e g. (e, g)) p)
   performs c h (BasicNack m) content conn accepted p = quiet_acts t old new _ sends notes (rejects c h m.delivery_tag m.multiple m.requeue (BasicNack m) content (λ n q e g. (e, g)) p)
@@ -502,7 +507,7 @@ module _ (t : Topology) (old new : Broker) (sends : List Send) (notes : List Not
   acted (Lose c) p = quiet_acts t old new _ sends notes (quiet t old new _ _ c _ sends _ notes p tt tt (record { same = refl; kept = freed_count old (by_connection c) }) (λ d. refl))
   acted (Pause c) p = quiet_acts t old new _ sends notes (quiet t old new _ _ c _ sends _ notes p tt tt (record { same = refl; kept = λ n q. refl }) (λ d. refl))
   acted (Resume c) p = quiet_acts t old new _ sends notes (quiet t old new _ _ c _ sends _ notes p tt tt (record { same = refl; kept = λ n q. refl }) (λ d. refl))
-  acted (Deliver c) p = quiet_acts t old new _ sends notes (delivers c p.made p.made.consumer.no_ack refl p.makes)
+  acted (Deliver c) p = quiet_acts t old new _ sends notes (delivers c p.made (to_consumer refl p) p.made.consumer.no_ack refl p.makes)
 
 -- ---- what the broker sends is commands
 
@@ -716,7 +721,7 @@ module _ (f : Config) (old new : State) (sends : List Send) (notes : List Note) 
     caused = subst (AllByRecursion (OfLeft (IsCauseAt old.broker e))) (sym a.moves.noted) tt;
     rejections = λ apart. inr (subst (AllByRecursion IsOfNoRejection) (sym a.moves.noted) tt);
     few = subst IsAnswerAtMost (sym a.moves.sent) a.few;
-    contents = subst (AllByRecursion (IsOfFirst old.broker.queue)) (sym (ap (filter_map content_in) a.moves.sent ∙ a.bare)) tt;
+    contents = subst (AllByRecursion (IsGiven old.broker e sends notes new.broker)) (sym (ap (filter_map content_in) a.moves.sent ∙ a.bare)) tt;
   }
     where
       moved : (n : ℕ) (q : Text) (v : Bool) → count_by (has_number n) ((if v then opened old.broker (event_connection e) a.move.next.channel_max 0 else old.broker).queue q) ≡ count_by (has_number n) (old.broker.queue q)

@@ -11,15 +11,19 @@ use Rattle.model.specs.State.{Config, State}
 use Rattle.model.specs.Run.{Happening, Run, sends_of, put_out, empty_state}
 use Rattle.model.specs.Spelling.{frames_of, send_bytes, spelling, receiver, sends_to, eight_bytes}
 use Rattle.model.specs.Arrivals.{World, new_world, Turns, Pumps, Plays, Shows, Shown, Seen, shown}
-use Rattle.model.specs.Headline.{Ack, acks_in, IsSound, KeepsEvents, KeepsPromises, HasAcksOf, acked}
+use Rattle.model.specs.Acks.{Ack, acks_in, HasAcksOf, acked}
+use Rattle.model.specs.Order.{IsAfterThoseAhead, HoldsWhatWasGiven, GivesInOrder}
+use Rattle.model.specs.Headline.{IsSound, KeepsEvents, KeepsPromises}
 use Rattle.model.specs.declared.events.Send.{Send}
 use Rattle.model.specs.declared.events.Send.TheVariants as send
 use Rattle.model.specs.declared.events.Arrival.{Arrival}
 use Rattle.laws.specs.Promises.{ack_sent}
-use Rattle.laws.proofs.Agreed.{stay_agreed, run_agreed}
-use Rattle.laws.proofs.Settled.{run_takes_out}
+use Rattle.laws.specs.Accounts.{Lasts}
+use Rattle.laws.proofs.Kept.{run_lasts}
+use Rattle.laws.proofs.Giving.{held_are_given}
+use Rattle.laws.proofs.Ordered.{after_those_ahead, given_in_order}
 use Rattle.laws.proofs.Sources.{given_as_published}
-use Rattle.laws.proofs.Counts.{all-append, filter_all}
+use Rattle.laws.proofs.Counts.{all-append, all_each, filter_all}
 use Rattle.laws.proofs.Reading.{sent_acks, frames_each}
 use Rattle.laws.proofs.Plays.{IsPut, IsTold, Told, said_each, under_each, told_turns, told_plays, told_pumps}
 use Rattle.laws.proofs.Speaking.{IsCommandSend, AreCommandSends}
@@ -123,6 +127,19 @@ has_acks f old new c hs a run (inr greeting) = record {
   acks = sym (ap (λ (z : List Send). filter_map ack_sent z) greeting) ∙ run_acks hs old new run c;
 }
 
+-- ---- order
+
+all_ahead : (hs : List Happening) → AllByRecursion IsAfterThoseAhead hs
+all_ahead [] = tt
+all_ahead (h ∷ hs) = (after_those_ahead h, all_ahead hs)
+
+all_held : (hs : List Happening) (old new : State) → Run old hs new → AllByRecursion HoldsWhatWasGiven hs
+all_held [] old new r = tt
+all_held (h ∷ hs) old new (e, s, r) = (held_are_given h s, all_held hs h.after new r)
+
+gives_in_order : (hs : List Happening) (new : State) → Run empty_state hs new → GivesInOrder hs
+gives_in_order hs new r = record { in_order = λ q ns g. given_in_order q hs empty_state new ns r g; ahead = all_ahead hs; held = all_held hs empty_state new r }
+
 -- ---- the promises
 
 -- what happened in a consistent world
@@ -142,8 +159,14 @@ pub promises_hold : (f : Config) (hs : List Happening) (w : World) (seen : Seen)
 promises_hold f hs w seen sound told spoken shows =
     record {
       events = run_keeps f hs empty_state w.state sound (under_each f hs told.each) (said_each f hs told.each) (record { counted = λ n q lt. refl; traced = stay_traced.empty f.topology }) told.run;
-      agreed = run_agreed hs empty_state w.state told.run stay_agreed.empty;
-      settled = run_takes_out hs empty_state w.state told.run stay_agreed.empty (run_agreed hs empty_state w.state told.run stay_agreed.empty);
+      agreed = all_each Lasts _ (λ h l. l.agreed) hs lasts;
+      present = all_each Lasts _ (λ h l. l.present) hs lasts;
+      logged_in = all_each Lasts _ (λ h l. l.logged_in) hs lasts;
+      settled = all_each Lasts _ (λ h l. l.settled) hs lasts;
+      accounted = all_each Lasts _ (λ h l. l.accounted) hs lasts;
+      gets = all_each Lasts _ (λ h l. l.gets) hs lasts;
+      purges = all_each Lasts _ (λ h l. l.purges) hs lasts;
+      order = gives_in_order hs w.state told.run;
       contents = given_as_published hs empty_state w.state (λ q. refl) told.run;
       acks = λ i one e.
           let within : i < w.given = subst (λ (n : ℕ). i < n) shows.counted (slice_get_within seen.connections i one e) in
@@ -151,6 +174,9 @@ promises_hold f hs w seen sound told spoken shows =
           let output : one.output ≡ put_out (i + 1) hs = ap (λ (s : Shown). s.output) is in
           subst (λ (z : List ℕ). HasAcksOf (acked (i + 1) hs) z) (sym output) (has_acks f empty_state w.state (i + 1) hs told.each told.run (spoken (i + 1)));
     }
+  where
+    lasts : AllByRecursion Lasts hs
+    lasts = run_lasts hs w.state told.run
 
 pub headline_holds : (f : Config) (arrivals : List Arrival) (hs : List Happening) (w : World) (seen : Seen)
     → IsSound f → Plays (new_world f) arrivals hs w → Shows hs w seen → KeepsPromises hs w.state.broker seen.connections

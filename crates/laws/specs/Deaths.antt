@@ -8,7 +8,7 @@ use Rattle.model.specs.Broker.{Outstanding}
 use Rattle.model.specs.Headers.{no_properties, header_bytes}
 use Rattle.model.specs.Deaths.{first_death, AreMarked}
 use Rattle.model.specs.Deliveries.{AreRejected, holder_of}
-use Rattle.model.specs.Headline.{AreRejections}
+use Rattle.model.specs.Letters.{AreRejections}
 use Rattle.model.specs.declared.contents.Content.{Content}
 use Rattle.model.specs.declared.messages.Entry.{Entry}
 use Rattle.model.specs.declared.messages.Mark.TheVariants.{Ready, Held}

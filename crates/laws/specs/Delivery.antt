@@ -5,7 +5,8 @@ use Rattle.model.specs.State.{Config}
 use Rattle.model.specs.Run.{Happening}
 use Rattle.model.specs.Consistent.{IsConsistent}
 use Rattle.model.specs.Arrivals.{World, new_world, Turns, Pumps, Plays, Shows, Seen}
-use Rattle.model.specs.Headline.{IsReading, IsSound, KeepsEvents, KeepsPromises}
+use Rattle.model.specs.Acks.{IsReading}
+use Rattle.model.specs.Headline.{IsSound, KeepsEvents, KeepsPromises}
 use Rattle.model.specs.declared.events.Arrival.{Arrival}
 
 -- a client reads an output in one way

@@ -5,6 +5,7 @@ pub mod Streams
 pub mod Openings
 pub mod Delivery
 pub mod Rows
+pub mod Accounts
 pub mod Deaths
 pub mod Consistency
 pub mod Agreeing

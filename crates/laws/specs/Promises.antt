@@ -9,7 +9,13 @@ use Rattle.model.specs.Tracing.{AreTraced}
 use Rattle.model.specs.Run.{Happening, Run, AreCounted, notes_of, sends_of}
 use Rattle.model.specs.Spelling.{sends_to}
 use Rattle.model.specs.Arrivals.{IsSaid}
-use Rattle.model.specs.Headline.{Ack, IsSound, EnteredOnce, EnterAsRouted, acked, ack_for, AreAllowed, AreAllowedIn, HaveCauses, HaveOrigins, DieAsRouted, DieOnce, AreSourced, KeepsEvents}
+use Rattle.model.specs.Acks.{Ack, EnteredOnce, acked, ack_for}
+use Rattle.model.specs.Allowed.{AreAllowed, AreAllowedIn}
+use Rattle.model.specs.Causes.{HaveCauses, HaveOrigins}
+use Rattle.model.specs.Routed.{EnterAsRouted}
+use Rattle.model.specs.Letters.{DieAsRouted, DieOnce}
+use Rattle.model.specs.Contents.{AreSourced}
+use Rattle.model.specs.Headline.{IsSound, KeepsEvents}
 use Rattle.model.specs.declared.events.Send.{Send}
 use Rattle.model.specs.declared.events.Send.TheVariants as send
 use Rattle.model.specs.declared.methods.Method.{Method}

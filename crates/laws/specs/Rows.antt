@@ -16,7 +16,12 @@ use Rattle.model.specs.Step.{channel_close, connection_close, select_sends, conf
 use Rattle.model.specs.Phases.{no_session}
 use Rattle.model.specs.State.{Config, State}
 use Rattle.model.specs.Run.{Happening, Stays, empty_broker}
-use Rattle.model.specs.Headline.{Acked as AckedPublish, HasAcksOf, EnteredOnce, AreAllowed, HaveCauses, HaveOrigins, EnterAsRouted, number_in, CountUp, HaveSources, DieOnce}
+use Rattle.model.specs.Acks.{Acked as AckedPublish, HasAcksOf, EnteredOnce}
+use Rattle.model.specs.Allowed.{AreAllowed}
+use Rattle.model.specs.Causes.{HaveCauses, HaveOrigins}
+use Rattle.model.specs.Routed.{EnterAsRouted, number_in, CountUp}
+use Rattle.model.specs.Letters.{DieOnce}
+use Rattle.model.specs.Contents.{HaveSources}
 use Rattle.model.specs.declared.contents.Content.{Content}
 use Rattle.model.specs.declared.messages.Entry.{Entry}
 use Rattle.model.specs.declared.messages.Taker.TheVariants as taker

@@ -5,6 +5,7 @@
 #![tactic(auto)]
 
 ghost use Rattle.std.specs.Prelude.{◌≡◌};
+ghost use Rattle.laws.specs.Accounts.{AccountsRefuse, DeliveriesAreAccountedFor};
 ghost use Rattle.laws.specs.Agreeing.{AgreementRefuses, BrokersStayAgreed};
 ghost use Rattle.laws.specs.Alone.{SoundForWords};
 ghost use Rattle.laws.specs.Carrying.{MessagesStayCarried, SendsAreOwn};
@@ -153,6 +154,13 @@ pub fn brokers_stay_agreed()
     ensures { BrokersStayAgreed }
 {}
 
+/// In every run from the empty broker what is held and what is outstanding agree, a channel is open only on a connection that runs, which
+/// logged in, what is settled is settled as the client asked, no delivery is forgotten: it is outstanding still, or its message left, or can
+/// be given out again in its place; a get is answered, and a purge leaves nothing that can be given out.
+pub fn deliveries_are_accounted_for()
+    ensures { DeliveriesAreAccountedFor }
+{}
+
 /// Whatever happens, each message that stands in a queue can be given out: it is made of a publish whose content is not too
 /// large, and grew by little where it died.
 pub fn messages_stay_carried()
@@ -256,6 +264,7 @@ pub fn worked_examples()
     ensures consumer { FirstConsumer }
     ensures refused_consumers { RefusedConsumes }
     ensures agreement { AgreementRefuses }
+    ensures accounts { AccountsRefuse }
     ensures deaths { WorkedDeaths }
     ensures refused_deaths { DeathsRefuse }
 {}

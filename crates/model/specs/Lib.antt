@@ -32,6 +32,17 @@ pub mod Phases
 pub mod State
 pub mod Run
 pub mod Arrivals
+pub mod Acks
+pub mod Allowed
+pub mod Causes
+pub mod Routed
+pub mod Letters
+pub mod Order
+pub mod Contents
+pub mod Unrefused
+pub mod Settled
+pub mod Alone
+pub mod LoggedIn
 pub mod Headline
 pub mod Tracing
 pub mod Consistent

@@ -29,7 +29,6 @@ pub enum Command {
 }
 
 /// What is sent to one connection.
-#[derive(Drop)]
 pub enum Send {
     /// The eight bytes of the protocol header, which answer any other eight.
     Greeting {
@@ -44,8 +43,22 @@ pub enum Send {
     },
 }
 
+/// Written out, so that a drop is one call.
+impl Drop for Send {
+    fn drop(self) {
+        match self {
+            Send::Greeting { connection: _ } => {}
+            Send::Command {
+                connection: _,
+                channel: _,
+                method: _,
+                content: _,
+            } => {}
+        }
+    }
+}
+
 /// One step of the broker.
-#[derive(Drop)]
 pub enum Event {
     /// The connection was opened, and its first eight bytes are awaited.
     Open {
@@ -95,6 +108,42 @@ pub enum Event {
     Deliver {
         connection: u64,
     },
+}
+
+/// Written out, so that a drop is one call.
+impl Drop for Event {
+    fn drop(self) {
+        match self {
+            Event::Open { connection: _ } => {}
+            Event::First {
+                connection: _,
+                bytes: _,
+            } => {}
+            Event::Running {
+                connection: _,
+                channel_max: _,
+                channels: _,
+            } => {}
+            Event::Command {
+                connection: _,
+                channel: _,
+                method: _,
+                content: _,
+            } => {}
+            Event::TooLarge {
+                connection: _,
+                channel: _,
+            } => {}
+            Event::Fault {
+                connection: _,
+                code: _,
+            } => {}
+            Event::Lose { connection: _ } => {}
+            Event::Pause { connection: _ } => {}
+            Event::Resume { connection: _ } => {}
+            Event::Deliver { connection: _ } => {}
+        }
+    }
 }
 
 /// What a run is given, one after another. Connections are numbered from 1 in the order of their openings.

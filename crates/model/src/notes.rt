@@ -32,7 +32,6 @@ pub enum Cause {
 }
 
 /// One thing that happened to a message. `number` is its publish number: publishes count from 1 over the whole broker.
-#[derive(Drop)]
 pub enum Note {
     /// A publish was taken; `confirm` is its confirm number on its channel, in confirm mode.
     Published {
@@ -69,4 +68,39 @@ pub enum Note {
         queue: Text,
         cause: Cause,
     },
+}
+
+/// Written out, so that a drop is one call.
+impl Drop for Note {
+    fn drop(self) {
+        match self {
+            Note::Published {
+                number: _,
+                connection: _,
+                channel: _,
+                exchange: _,
+                key: _,
+                confirm: _,
+            } => {}
+            Note::Entered {
+                number: _,
+                queue: _,
+                way: _,
+            } => {}
+            Note::Refused {
+                number: _,
+                queue: _,
+            } => {}
+            Note::Returned { number: _ } => {}
+            Note::Confirmed {
+                number: _,
+                answer: _,
+            } => {}
+            Note::Left {
+                number: _,
+                queue: _,
+                cause: _,
+            } => {}
+        }
+    }
 }

@@ -7,11 +7,9 @@ use Rattle.model.specs.Arrivals.{World, Seen, Shown, Shows, Plays, new_world, is
 use Rattle.model.specs.Headline.{IsSound}
 use Rattle.model.specs.declared.events.Arrival.{Arrival}
 use Rattle.laws.proofs.Consistency.{new_is_consistent}
-use Rattle.laws.proofs.Plays.{told_plays}
 use Rattle.laws.proofs.Whole.{headline_holds}
 use Rattle.runs.specs.Told.{taken_at, AreFinished, Records, TellsEvents}
 use Rattle.runs.specs.Runs.{PlaysAndTells, IsRunOf}
-use Rattle.runs.proofs.InOrder.{gives_in_order}
 
 -- a world with no connection
 no_records : (f : Config) → IsWellFormed f.topology → Records [] (new_world f) (record { connections = []; notes = [] })
@@ -44,5 +42,4 @@ is_run start last arrivals none s t sound fresh empty played f n =
       plays = plays;
       shows = shows;
       promises = headline_holds start.config arrivals hs last t sound plays shows;
-      order = gives_in_order start.config hs last (told_plays (new_world start.config) last arrivals hs plays);
     }

@@ -2,5 +2,4 @@ pub mod Worlds
 pub mod Places
 pub mod Steps
 pub mod Onward
-pub mod InOrder
 pub mod Ending

@@ -1,4 +1,3 @@
 pub mod Told
 pub mod Opened
-pub mod InOrder
 pub mod Runs

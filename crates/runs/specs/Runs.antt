@@ -6,7 +6,6 @@ use Rattle.model.specs.Arrivals.{World, Answers, WorksOff, Plays, Shows, Seen, n
 use Rattle.model.specs.Headline.{KeepsPromises}
 use Rattle.model.specs.declared.events.Arrival.{Arrival}
 use Rattle.runs.specs.Told.{TellsEvents}
-use Rattle.runs.specs.InOrder.{GivesInOrder}
 
 -- all that is to perform for a connection is performed and written down
 abbrev pub WorksAndTells : World → ℕ → Seen → World → Seen → Type 0
@@ -27,4 +26,3 @@ pub record IsRunOf (f : Config) (arrivals : List Arrival) (last : World) (seen :
   pub shows : Shows happenings last seen
   -- certified delivery
   pub promises : KeepsPromises happenings last.state.broker seen.connections
-  pub order : GivesInOrder happenings

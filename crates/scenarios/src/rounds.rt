@@ -131,9 +131,9 @@ impl Service {
         value_of("TcpStream::connect", TcpStream::connect(net, address))
     }
 
-    /// Rounds enough for all that has come.
+    /// Rounds enough for all that has come. Those in which nothing comes wait.
     fn serve(&mut self, alloc: Global) {
-        serve(alloc, &mut self.server, &mut self.sockets, 64);
+        serve(alloc, &mut self.server, &mut self.sockets, 16);
     }
 }
 

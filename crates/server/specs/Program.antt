@@ -14,7 +14,7 @@ use Rattle.certificate_check.specs.declared.faults.CertFault.{CertFault}
 use Rattle.certificate_files.specs.Reads.{IsCertificatesFile}
 use Rattle.certificate.specs.Certified.{AreCertified, FailsFirst}
 use Rattle.guarantee_search.specs.declared.verdicts.Verdict.{Verdict}
-use Rattle.engine.specs.Certified.{IsCertified}
+use Rattle.model.specs.Headline.{CertifiedDelivery}
 use Rattle.command_line.specs.CommandLine.{Wanted, Check, Verify, Replay, Serve, Route, AsksFor, AsksNothing}
 use Rattle.server.specs.declared.refusals.CommandRefusal.{CommandRefusal}
 use Rattle.server.specs.declared.replaying.BrokerFiles.{BrokerFiles}
@@ -61,7 +61,7 @@ pub record Prints (force : Config) (text printed : Text) : Type 0 where
   pub arrivals : List Arrival
   pub read : script text ≡ Ok arrivals
   pub seen : Seen
-  pub certified : IsCertified force arrivals seen
+  pub certified : CertifiedDelivery force arrivals seen
   pub shown : printed ≡ transcript_text seen
 
 -- the file's text prints this

@@ -3,7 +3,7 @@
 ghost use Rattle.std.specs.Prelude.{◌≡◌, ◌≤◌, length, MatchResult};
 ghost use Rattle.certificate.specs.Certified.{AreCertified};
 ghost use Rattle.command_line.specs.CommandLine.{Replay, Wanted};
-ghost use Rattle.engine.specs.Certified.{in_force};
+ghost use Rattle.engine.specs.InForce.{in_force};
 ghost use Rattle.named_files.specs.Files.{AreKept};
 ghost use Rattle.verdicts.specs.Outcomes.{fault_number};
 ghost use Rattle.server.specs.Program.{

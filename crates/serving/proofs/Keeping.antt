@@ -13,7 +13,6 @@ use Rattle.laws.proofs.Consistency.{linked, new_is_consistent}
 use Rattle.laws.proofs.Plays.{Told as ToldOf, told-append, told_at, told_same, told_works, told_waits, told_heard, told_taken, told_answers}
 use Rattle.laws.proofs.Spoken.{Speaks, speaks_same, speaks_append, speaks_at, works_speaks, waits_speaks, takes_speaks, answer_speaks, spoken_from_start}
 use Rattle.laws.proofs.Whole.{promises_hold}
-use Rattle.runs.proofs.InOrder.{gives_in_order}
 use Rattle.serving.specs.Wire.{Ask, Rested, Told, told_after}
 use Rattle.serving.specs.Coming.{Attempt, WorksPartly, FallsShort, Attempts, IsWhole}
 use Rattle.serving.specs.Story.{Served, served, Deed, calls, attempts, Story, Serves, PumpsUp}
@@ -163,7 +162,6 @@ is_served f told new sound (ds, hs, s) =
       promises = promises_hold f hs new.world (record { connections = seen_of hs new.world; notes = notes_of hs }) sound
           (told_attempts (arrived ds) (new_world f) new.world hs arrives)
           (spoken_from_start f hs new.world (attempts_speak (arrived ds) (new_world f) new.world hs (new_is_consistent f sound.wf) arrives)) (shows_all hs new.world);
-      order = gives_in_order f hs new.world (told_attempts (arrived ds) (new_world f) new.world hs arrives);
       joined = λ before tells. are_joined ds (served (new_world f) [] told) new hs before refl tells s;
       written = λ before tells. are_beginnings f ds told new hs before sound.wf tells s;
     }

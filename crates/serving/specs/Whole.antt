@@ -6,7 +6,6 @@ use Rattle.model.specs.Run.{Happening}
 use Rattle.model.specs.Arrivals.{World, Shown, shown, new_world, Plays}
 use Rattle.model.specs.Headline.{KeepsPromises}
 use Rattle.model.specs.declared.events.Arrival.{Arrival}
-use Rattle.runs.specs.InOrder.{GivesInOrder}
 use Rattle.serving.specs.Wire.{Call, Told, told_after}
 use Rattle.serving.specs.Coming.{Attempt, Attempts, IsWhole}
 use Rattle.serving.specs.Story.{Served, served, Deed, calls, attempts, Story}
@@ -42,8 +41,6 @@ pub record IsServed (f : Config) (told : Told) (new : Served) : Type 0 where
   pub plays : AllByRecursion IsWhole (arrived deeds) → Plays (new_world f) (arrivals_of (arrived deeds)) happenings new.world
   -- certified delivery, also where memory was refused
   pub promises : KeepsPromises happenings new.world.state.broker (seen_of happenings new.world)
-  -- messages were given out in order
-  pub order : GivesInOrder happenings
   -- over a wire that tells its calls, what arrived for a connection is what its socket gave and took
   pub joined : (before : List Call) → told.calls ≡ Some before → AreJoined deeds
   -- and what its socket took is a beginning of what was put out for it

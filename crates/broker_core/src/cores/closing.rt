@@ -19,6 +19,7 @@ impl Core {
     ghost use Rattle.model.specs.Step.{Does, Is, Refuses, with_gone, with_closing, with_channel, after_close, reply};
     ghost use Rattle.model.specs.declared.methods.Method.TheVariants.{ChannelCloseOk};
     ghost use Rattle.broker_core.specs.State.{broker_of, channel_on, topology_kept, names_of};
+    ghost use Rattle.broker_core.specs.Steps.{PerformsOn};
     ghost use Rattle.channel.specs.Open.{Open, open_in};
     ghost use Rattle.judging.specs.Judged.{refusal_seen, HasChannel};
     ghost use Rattle.replies.specs.Sent.{AreAddressed};
@@ -105,7 +106,7 @@ impl Core {
     /// The client agrees to the close of the channel, which is gone.
     pub(crate) fn end_channel(&mut self, alloc: Global, connection: u64, channel: u16) -> Step
         requires { IsSome ((broker_of self.old).channel connection channel) }
-        ensures does { Does result.sends.items result.notes.items (broker_of self.new) [] (with_channel (broker_of self.old) connection channel None) }
+        ensures does { PerformsOn self.old connection channel ChannelCloseOk None result.sends.items result.notes.items self.new }
         ensures topology { topology_kept self.new ≡ topology_kept self.old }
     {
         self.links.put(connection, channel, None);

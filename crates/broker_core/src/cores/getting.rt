@@ -10,10 +10,11 @@ use std::alloc::{AllocError, Global};
 impl Core {
     ghost use Rattle.std.specs.Prelude.{◌≡◌, None, IsSome, IfOk, OnErr};
     ghost use Rattle.model.specs.Agreement.{IsAgreed};
-    ghost use Rattle.model.specs.Deliveries.{first_ready};
     ghost use Rattle.model.specs.Sending.{AreCarried};
-    ghost use Rattle.model.specs.Step.{Gets, refusal_of_get};
+    ghost use Rattle.model.specs.Step.{refusal_of_get};
+    ghost use Rattle.model.specs.declared.methods.Method.TheVariants.{BasicGet};
     ghost use Rattle.broker_core.specs.State.{broker_of, channel_on, topology_kept};
+    ghost use Rattle.broker_core.specs.Steps.{PerformsOn};
     ghost use Rattle.judging.specs.Judged.{IsQueuePlace};
 
     /// A get from the queue at this place: its first ready message is given out, and leaves the queue where it needs no
@@ -30,7 +31,7 @@ impl Core {
         requires at { IsQueuePlace (topology_kept self.old) get.now.queue place }
         requires there { IsSome ((broker_of self.old).channel connection channel) }
         requires accepted { refusal_of_get (topology_kept self.old) (broker_of self.old) (channel_on self.old connection channel) get.now ≡ None }
-        ensures ok { IfOk result (λ s. Gets (broker_of self.old) connection channel (channel_on self.old connection channel) get.now (first_ready ((broker_of self.old).queue get.now.queue)) s.sends.items s.notes.items (broker_of self.new)) }
+        ensures ok { IfOk result (λ s. PerformsOn self.old connection channel (BasicGet get.now) None s.sends.items s.notes.items self.new) }
         ensures addressed { IfOk result (λ s. AreCarried (broker_of self.old) → AreAddressed connection s.sends.items) }
         ensures topology { topology_kept self.new ≡ topology_kept self.old }
         ensures err { OnErr result (self.new ≡ self.old) }

@@ -14,8 +14,9 @@ impl Core {
     ghost use Rattle.model.specs.Broker as seen;
     ghost use Rattle.model.specs.Grammar.{IsMethod};
     ghost use Rattle.model.specs.declared.methods.Method.TheVariants.{BasicPublish};
-    ghost use Rattle.model.specs.Step.{Does, IsPublish, with_channel, content_or_none, started, refusal_of_publish};
+    ghost use Rattle.model.specs.Step.{Does, with_channel, started, refusal_of_publish};
     ghost use Rattle.broker_core.specs.State.{broker_of, channel_on, topology_kept};
+    ghost use Rattle.broker_core.specs.Steps.{PerformsOn};
 
     /// Publishes on the channel are confirmed from now on. That is answered where an answer is wanted.
     pub(crate) fn select(
@@ -48,7 +49,7 @@ impl Core {
     ) -> Result<Step, AllocError>
         requires there { IsSome ((broker_of self.old).channel connection channel) }
         requires accepted { refusal_of_publish (topology_kept self.old) (broker_of self.old) (channel_on self.old connection channel) publish.now ≡ None }
-        ensures ok { IfOk result (λ s. IsPublish (topology_kept self.old) (broker_of self.old) connection channel (channel_on self.old connection channel) publish.now content.now s.sends.items s.notes.items (broker_of self.new)) }
+        ensures ok { IfOk result (λ s. PerformsOn self.old connection channel (BasicPublish publish.now) (Some content.now) s.sends.items s.notes.items self.new) }
         ensures addressed { IfOk result (λ s. IsMethod (BasicPublish publish.now) → AreAddressed connection s.sends.items) }
         ensures topology { topology_kept self.new ≡ topology_kept self.old }
         ensures err { OnErr result (self.new ≡ self.old) }
@@ -84,7 +85,7 @@ impl Core {
     ) -> Result<Step, AllocError>
         requires there { IsSome ((broker_of self.old).channel connection channel) }
         requires accepted { refusal_of_publish (topology_kept self.old) (broker_of self.old) (channel_on self.old connection channel) publish.now ≡ None }
-        ensures ok { IfOk result (λ s. IsPublish (topology_kept self.old) (broker_of self.old) connection channel (channel_on self.old connection channel) publish.now (content_or_none content.now) s.sends.items s.notes.items (broker_of self.new)) }
+        ensures ok { IfOk result (λ s. PerformsOn self.old connection channel (BasicPublish publish.now) content.now s.sends.items s.notes.items self.new) }
         ensures addressed { IfOk result (λ s. IsMethod (BasicPublish publish.now) → AreAddressed connection s.sends.items) }
         ensures topology { topology_kept self.new ≡ topology_kept self.old }
         ensures err { OnErr result (self.new ≡ self.old) }

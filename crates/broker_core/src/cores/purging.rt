@@ -9,10 +9,10 @@ use settling::{copies, note_purged};
 use std::alloc::{AllocError, Global};
 
 impl Core {
-    ghost use Rattle.std.specs.Prelude.{◌≡◌, ◌∷◌, [], Some, IsSome, IfOk, OnErr};
-    ghost use Rattle.model.specs.Step.{Does, Purges, with_channel, limited, reply};
-    ghost use Rattle.model.specs.declared.methods.Method.TheVariants.{BasicQosOk};
-    ghost use Rattle.broker_core.specs.State.{broker_of, channel_on, topology_kept};
+    ghost use Rattle.std.specs.Prelude.{◌≡◌, None, IsSome, IfOk, OnErr};
+    ghost use Rattle.model.specs.declared.methods.Method.TheVariants.{BasicQos, QueuePurge};
+    ghost use Rattle.broker_core.specs.State.{broker_of, topology_kept};
+    ghost use Rattle.broker_core.specs.Steps.{PerformsOn};
     ghost use Rattle.judging.specs.Judged.{IsQueuePlace};
 
     /// The limit that a qos sets is the channel's from now on, and that is answered.
@@ -24,7 +24,7 @@ impl Core {
         qos: &Qos,
     ) -> Result<Step, AllocError>
         requires { IsSome ((broker_of self.old).channel connection channel) }
-        ensures ok { IfOk result (λ s. Does s.sends.items s.notes.items (broker_of self.new) (reply connection channel BasicQosOk ∷ []) (with_channel (broker_of self.old) connection channel (Some (limited (channel_on self.old connection channel) qos.now)))) }
+        ensures ok { IfOk result (λ s. PerformsOn self.old connection channel (BasicQos qos.now) None s.sends.items s.notes.items self.new) }
         ensures addressed { IfOk result (λ s. AreAddressed connection s.sends.items) }
         ensures topology { topology_kept self.new ≡ topology_kept self.old }
         ensures err { OnErr result (self.new ≡ self.old) }
@@ -45,7 +45,7 @@ impl Core {
         purge: &Purge,
     ) -> Result<Step, AllocError>
         requires { IsQueuePlace (topology_kept self.old) purge.now.queue place }
-        ensures ok { IfOk result (λ s. Purges (broker_of self.old) connection channel purge.now s.sends.items s.notes.items (broker_of self.new)) }
+        ensures ok { IfOk result (λ s. PerformsOn self.old connection channel (QueuePurge purge.now) None s.sends.items s.notes.items self.new) }
         ensures addressed { IfOk result (λ s. AreAddressed connection s.sends.items) }
         ensures topology { topology_kept self.new ≡ topology_kept self.old }
         ensures err { OnErr result (self.new ≡ self.old) }

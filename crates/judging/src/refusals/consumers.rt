@@ -6,7 +6,7 @@ ghost use Rattle.model.specs.Broker.{Broker};
 ghost use Rattle.model.specs.Broker.{Channel as Seen};
 ghost use Rattle.model.specs.Step as said;
 ghost use Rattle.model.specs.declared.methods.Method.TheVariants.{BasicConsume};
-ghost use Rattle.judging.specs.Judged.{Judges};
+ghost use Rattle.judging.specs.Judged.{JudgesOpen};
 
 use crate::refusals::{Act, Refusal};
 use exchange_graph::Topology;
@@ -26,7 +26,7 @@ pub(crate) fn judge_consume<'a>(
     topology: &Topology,
     consume: &'a Consume,
 ) -> Result<Act<'a>, Refusal>
-    ensures { (b : Broker) (ch : Seen) → Judges topology.now b (Some ch) (BasicConsume consume.now) (said.refusal_of_consume topology.now ch consume.now) result }
+    ensures { (b : Broker) (ch : Seen) → JudgesOpen topology.now b ch (BasicConsume consume.now) result }
 {
     let place = match topology.queue_at(consume.queue.as_bytes()) {
         Some(place) => place,

@@ -7,7 +7,7 @@ ghost use Rattle.model.specs.Topology.{Topology as Handed};
 ghost use Rattle.model.specs.Step as said;
 ghost use Rattle.model.specs.Step.{Of_channel};
 ghost use Rattle.model.specs.declared.methods.Method.TheVariants.{ChannelFlow, ExchangeDeclare as DeclaresExchange, QueueDeclare as DeclaresQueue};
-ghost use Rattle.judging.specs.Judged.{Judges};
+ghost use Rattle.judging.specs.Judged.{JudgesOpen};
 
 use crate::refusals::{Act, Refusal};
 use exchange_graph::Topology;
@@ -15,7 +15,7 @@ use model::{ExchangeDeclare, QueueDeclare};
 
 /// A flow on an open channel. One that stops is not implemented.
 pub(crate) fn judge_flow<'a>(active: bool) -> Result<Act<'a>, Refusal>
-    ensures { (t : Handed) (b : Broker) (ch : Seen) → Judges t b (Some ch) (ChannelFlow active) (said.refusal_of_flow active) result }
+    ensures { (t : Handed) (b : Broker) (ch : Seen) → JudgesOpen t b ch (ChannelFlow active) result }
 {
     if active {
         Ok(Act::Flow)
@@ -36,7 +36,7 @@ pub(crate) fn judge_exchange_declare<'a>(
     topology: &Topology,
     declare: &'a ExchangeDeclare,
 ) -> Result<Act<'a>, Refusal>
-    ensures { (b : Broker) (ch : Seen) → Judges topology.now b (Some ch) (DeclaresExchange declare.now) (said.refusal_of_exchange_declare topology.now declare.now) result }
+    ensures { (b : Broker) (ch : Seen) → JudgesOpen topology.now b ch (DeclaresExchange declare.now) result }
 {
     if !declare.passive {
         return Err(Refusal::Channel(403));
@@ -53,7 +53,7 @@ pub(crate) fn judge_queue_declare<'a>(
     topology: &Topology,
     declare: &'a QueueDeclare,
 ) -> Result<Act<'a>, Refusal>
-    ensures { (b : Broker) (ch : Seen) → Judges topology.now b (Some ch) (DeclaresQueue declare.now) (said.refusal_of_queue_declare topology.now declare.now) result }
+    ensures { (b : Broker) (ch : Seen) → JudgesOpen topology.now b ch (DeclaresQueue declare.now) result }
 {
     if !declare.passive {
         return Err(Refusal::Channel(403));

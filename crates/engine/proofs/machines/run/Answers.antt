@@ -1,5 +1,5 @@
 use Rattle.engine.specs.World.{world_of}
-use Rattle.engine.specs.Certified.{in_force}
+use Rattle.engine.specs.InForce.{in_force}
 use Rattle.engine.proofs.Asked.{ok_map}
 use Rattle.engine.proofs.Certifying.{certified}
 use Rattle.engine.proofs.machines.run.Goals as goal

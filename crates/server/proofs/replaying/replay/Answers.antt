@@ -1,5 +1,5 @@
 use Rattle.std.proofs.Common.{refl}
-use Rattle.engine.specs.Certified.{in_force}
+use Rattle.engine.specs.InForce.{in_force}
 use Rattle.named_files.specs.Files.{Known}
 use Rattle.command_line.specs.CommandLine.{Replay}
 use Rattle.server.specs.Program.{IsWhyOfFile, PrintsFile, unplayed, replays}

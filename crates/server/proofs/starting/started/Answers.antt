@@ -1,5 +1,5 @@
 use Rattle.std.specs.Prelude.{[], None}
-use Rattle.engine.specs.Certified.{in_force}
+use Rattle.engine.specs.InForce.{in_force}
 use Rattle.command_line.specs.CommandLine.{Serve}
 use Rattle.server.specs.Program.{serves, wanting}
 use Rattle.server.proofs.starting.started.Goals as goal

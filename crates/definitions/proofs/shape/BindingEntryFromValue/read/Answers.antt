@@ -2,20 +2,20 @@ use Rattle.std.proofs.Common.{◌≡◌, None, refl}
 use Rattle.std.proofs.lemmas.Result.{err_from_is_err_and}
 use Rattle.std.specs.Prelude.{codes}
 use Rattle.serde_json.specs.View.{view}
-use Rattle.json_file.specs.Members.{text_at}
+use Rattle.json_file.specs.Members.{text_member}
 use Rattle.json_file.proofs.Reading.{fails_then}
-use Rattle.definitions.specs.Shape.{binding_at}
+use Rattle.definitions.specs.Shape.{binding_entry_at}
 use Rattle.definitions.proofs.shape.BindingEntryFromValue.read.Goals as goal
 
 pub returns-in_err-key : goal.returns-in_err-key
-unfolding binding_at
+unfolding binding_entry_at
 returns-in_err-key c =
     let p = err_from_is_err_and c.from_residual-in_err-key.result c.from_residual-in_err-key.ensures.1 in
     rw (p.1, p.2)
     (fails_then c.in_err-key.field-0.0 _ _
-    (λ (n : text_at (codes "routing_key") (view c.args.value.now) ≡ None). rw (c.in_ok-source.ensures, c.in_ok-vhost.ensures, c.in_ok-destination.ensures, c.in_ok-destination_type.ensures, n) refl) c.in_err-key.ensures)
+    (λ (n : text_member (codes "routing_key") (view c.args.value.now) ≡ None). rw (c.in_ok-source.ensures, c.in_ok-vhost.ensures, c.in_ok-destination.ensures, c.in_ok-destination_type.ensures, n) refl) c.in_err-key.ensures)
 
 pub returns : goal.returns
-unfolding binding_at
+unfolding binding_entry_at
 returns c =
     rw (c.in_ok-source.ensures, c.in_ok-vhost.ensures, c.in_ok-destination.ensures, c.in_ok-destination_type.ensures, c.in_ok-key.ensures, c.in_ok-listed.ensures) refl

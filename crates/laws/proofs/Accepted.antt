@@ -1,0 +1,60 @@
+-- What a command that is not refused tells of its channel.
+use Rattle.std.proofs.Common.{◌≡◌, ℕ, Bool, true, false, refl, sym, ap, Option, Some, None}
+use Rattle.std.specs.Prelude.{is_some, nat_lt, ◌==◌, if◌then◌else◌}
+use Rattle.std.proofs.lemmas.Bool.{false≢true}
+use Rattle.model.specs.Words.{Text}
+use Rattle.model.specs.Topology.{Topology}
+use Rattle.model.specs.Broker.{Channel, Connection, Broker}
+use Rattle.model.specs.Step.{Refusal, Ignored, Of_connection, channel_or_new, is_awaiting, refusal}
+use Rattle.model.specs.declared.methods.Get.{Get}
+use Rattle.model.specs.declared.methods.Method.TheVariants.{ChannelOpen, ChannelCloseOk, BasicGet}
+
+module _ (t : Topology) (old : Broker) (conn : Connection) (h : ℕ) where
+  refused : {r : Refusal} → ◌≡◌ {A = Option Refusal} (Some r) None → ⊥
+  refused e = false≢true (sym (ap is_some e))
+
+  -- a close-ok is taken only where it is awaited
+  pub awaited : (ch : Option Channel) → refusal t old conn h ChannelCloseOk ch ≡ None → is_awaiting ch ≡ true
+  awaited None e = absurd (by (h == 0) (nat_lt conn.channel_max h) e)
+    where
+      by : (u v : Bool) → (if u then Some (Of_connection 503) else if v then Some (Of_connection 504) else Some (Of_connection 504)) ≡ None → ⊥
+      by true v e = refused e
+      by false true e = refused e
+      by false false e = refused e
+  awaited (Some ch) e = by ch.is_closing (h == 0) (nat_lt conn.channel_max h) e
+    where
+      by : (w u v : Bool) → (if w then None else if u then Some (Of_connection 503) else if v then Some (Of_connection 504) else Some (Of_connection 503)) ≡ None → w ≡ true
+      by true u v e = refl
+      by false true v e = absurd (refused e)
+      by false false true e = absurd (refused e)
+      by false false false e = absurd (refused e)
+
+  -- a channel is opened only where it is not open
+  pub not_open : (reserved : Text) (ch : Option Channel) → refusal t old conn h (ChannelOpen reserved) ch ≡ None → ch ≡ None
+  not_open reserved None e = refl
+  not_open reserved (Some ch) e = absurd (by ch.is_closing (h == 0) (nat_lt conn.channel_max h) e)
+    where
+      by : (w u v : Bool) → (if w then Some Ignored else if u then Some (Of_connection 503) else if v then Some (Of_connection 504) else Some (Of_connection 504)) ≡ None → ⊥
+      by true u v e = refused e
+      by false true v e = refused e
+      by false false true e = refused e
+      by false false false e = refused e
+
+  -- a get is taken only on a channel that is open
+  pub is_open : (m : Get) (ch : Option Channel) → refusal t old conn h (BasicGet m) ch ≡ None → ch ≡ Some (channel_or_new ch)
+  is_open m None e = absurd (by (h == 0) (nat_lt conn.channel_max h) e)
+    where
+      by : (u v : Bool) → (if u then Some (Of_connection 503) else if v then Some (Of_connection 504) else Some (Of_connection 504)) ≡ None → ⊥
+      by true v e = refused e
+      by false true e = refused e
+      by false false e = refused e
+  is_open m (Some ch) e = refl
+
+  -- and not where close-ok is awaited
+  pub not_awaited : (m : Get) (ch : Option Channel) → refusal t old conn h (BasicGet m) ch ≡ None → (channel_or_new ch).is_closing ≡ false
+  not_awaited m None e = refl
+  not_awaited m (Some ch) e = by ch.is_closing _ e
+    where
+      by : (w : Bool) (rest : Option Refusal) → (if w then Some Ignored else rest) ≡ None → w ≡ false
+      by true rest e = absurd (refused e)
+      by false rest e = refl

@@ -1,0 +1,53 @@
+-- What every run from the empty broker keeps of what is held, outstanding and settled, event by event.
+use Rattle.std.proofs.Common.{ℕ, List, [], ◌∷◌, Bool, true, false, refl, sym, ap, subst, inl, inr}
+use Rattle.std.specs.Prelude.{is_some, if◌then◌else◌}
+use Rattle.std.specs.List.{AllByRecursion}
+use Rattle.std.proofs.lemmas.Bool.{false≢true}
+use Rattle.model.specs.Topology.{Topology}
+use Rattle.model.specs.Agreement.{IsAgreed}
+use Rattle.model.specs.Broker.{Broker}
+use Rattle.model.specs.Phases.{is_running}
+use Rattle.model.specs.Step.{Is, opened}
+use Rattle.model.specs.State.{State, Step}
+use Rattle.model.specs.Run.{Happening, Run, empty_state}
+use Rattle.model.specs.Alone.{event_connection, ArePresent}
+use Rattle.model.specs.declared.events.Event.TheVariants.{Open, Running}
+use Rattle.laws.specs.Accounts.{Lasts, DeliveriesAreAccountedFor}
+use Rattle.laws.proofs.Accounted.{step_accounts}
+use Rattle.laws.proofs.Agreed.{stay_agreed}
+use Rattle.laws.proofs.Present.{step_present}
+use Rattle.laws.proofs.LoggedIn.{step_enters}
+use Rattle.laws.proofs.Settled.{step_settles}
+use Rattle.laws.proofs.Unrefused.{step_answers, step_purges}
+use Rattle.laws.proofs.View.{goes}
+
+-- what is held and what is outstanding agree after a move of the phases
+moved_agreed : (t : Topology) (old new : Broker) (c max : ℕ) (v : Bool) → IsAgreed old → Is (if v then opened old c max 0 else old) new → IsAgreed new
+moved_agreed t old new c max true a is = stay_agreed.acts t old new (Running c max 0) [] [] a (record { sent = refl; noted = refl; left = is })
+moved_agreed t old new c max false a is = stay_agreed.acts t old new (Open c) [] [] a (record { sent = refl; noted = refl; left = is })
+
+-- and so after each step
+step_agreed : (h : Happening) → Step h.config h.before h.event h.sends h.notes h.after → IsAgreed h.before.broker → IsAgreed h.after.broker
+step_agreed h s a = elim (goes h.config h.before h.after h.sends h.notes h.event s) [
+  | inl p ↦ stay_agreed.acts h.config.topology h.before.broker h.after.broker h.event h.sends h.notes a p.acts
+  | inr q ↦ moved_agreed h.config.topology h.before.broker h.after.broker (event_connection h.event) q.move.next.channel_max (is_running q.move.next.phase) a q.moves.broker
+]
+
+lasts_from : (hs : List Happening) (old new : State) → Run old hs new → IsAgreed old.broker → ArePresent old → AllByRecursion Lasts hs
+lasts_from [] old new r a p = tt
+lasts_from (h ∷ hs) old new (e, s, r) a p =
+    let before : IsAgreed h.before.broker = subst (λ (z : State). IsAgreed z.broker) (sym e) a in
+    let here : Lasts h = record {
+      agreed = step_agreed h s before;
+      present = step_present h s (subst ArePresent (sym e) p);
+      logged_in = step_enters h.config h.before h.after h.sends h.notes h.event s;
+      settled = step_settles h before s;
+      accounted = step_accounts h before s;
+      gets = step_answers h s;
+      purges = step_purges h s;
+    } in
+    (here, lasts_from hs h.after new r here.agreed here.present)
+
+-- In every run from the empty broker each event keeps all of these.
+pub run_lasts : DeliveriesAreAccountedFor
+run_lasts hs new r = lasts_from hs empty_state new r stay_agreed.empty (record { connections = λ c. refl; channels = λ c k ch e. absurd (false≢true (ap is_some e)) })

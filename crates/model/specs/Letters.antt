@@ -1,0 +1,63 @@
+-- What becomes of a message that is rejected: its dead letter goes on (RabbitMQ, "Dead Letter Exchanges").
+use Rattle.std.specs.Prelude.{◌≤◌, ◌⊎◌, ℕ, List, [], ◌∷◌, ◌++◌, map, count_by, Bool, false, ◌==◌, ◌&&◌}
+use Rattle.std.specs.List.{AllByRecursion}
+use Rattle.std.specs.Str.{bytes_eq}
+use Rattle.model.specs.Words.{Text}
+use Rattle.model.specs.Topology.{Topology, IsIn, queue_names}
+use Rattle.model.specs.Routing.{Routes, Picks, Dies, key_after}
+use Rattle.model.specs.Run.{Happening}
+use Rattle.model.specs.declared.topologies.DeclaredQueue.{DeclaredQueue}
+use Rattle.model.specs.declared.messages.Entry.{Entry}
+use Rattle.model.specs.declared.notes.Cause.TheVariants.{Rejected}
+use Rattle.model.specs.declared.notes.Note.{Note}
+use Rattle.model.specs.declared.notes.Note.TheVariants.{Entered, Left}
+use Rattle.model.specs.declared.notes.Way.TheVariants as way
+use Rattle.model.specs.Routed.{note_at}
+
+-- A message with this key that is rejected in the queue q goes on to the queue r: q dead-letters to an exchange, and the key that q fixes, or else the message's own, leads from there to r (RabbitMQ, "Dead Letter Exchanges").
+pub record DiesInto (t : Topology) (q key r : Text) : Type 0 where
+  pub last : DeclaredQueue
+  pub exchange : Text
+  pub dies : Dies t q exchange last
+  pub routes : Routes t exchange (key_after last.dead_letter_key key) r
+
+-- A rejection, where queues had these entries before the event: the message stood in its queue, and its dead letter goes on to these queues, in the order of the file; to none where its queue has no dead-letter exchange.
+pub record Rejection (t : Topology) (queues : Text → List Entry) : Type 0 where
+  pub queue : Text
+  pub entry : Entry
+  pub stood : IsIn entry (queues queue)
+  pub targets : List Text
+  pub routed : Picks (DiesInto t queue entry.message.key) (queue_names t.queues) targets
+
+-- it is noted of a rejection that its message left, and then of each queue to which the dead letter goes on
+abbrev pub rejection_notes : (t : Topology) (queues : Text → List Entry) → List Note → Rejection t queues → List Note
+rejection_notes t queues noted r = Left r.entry.message.number r.queue Rejected ∷ map (note_at t queues noted r.entry.message.number way.Dead) r.targets
+
+-- Behind the first notes of an event, the others are of rejections, one after another.
+pub data AreRejections (t : Topology) (queues : Text → List Entry) : List Note → List Note → Type 0 where
+  none : {noted : List Note} → AreRejections t queues noted []
+  next : {noted rest : List Note} (r : Rejection t queues) → AreRejections t queues (noted ++ rejection_notes t queues noted r) rest → AreRejections t queues noted (rejection_notes t queues noted r ++ rest)
+
+-- the note is of no rejection and of no dead letter
+abbrev pub IsOfNoRejection : Note → Type 0
+IsOfNoRejection (Left n q Rejected) = ⊥
+IsOfNoRejection (Entered n q way.Dead) = ⊥
+IsOfNoRejection note = Unit {0}
+
+-- what an event notes is of rejections alone, each with its dead letter, or of none
+abbrev pub DieAsRouted : Happening → Type 0
+DieAsRouted h = AreRejections h.config.topology h.before.broker.queue [] h.notes ⊎ AllByRecursion IsOfNoRejection h.notes
+
+-- the note says that a dead letter of this number entered this queue
+abbrev pub is_dead_into : ℕ → Text → Note → Bool
+is_dead_into n q (Entered m r way.Dead) = (m == n) && bytes_eq r q
+is_dead_into n q note = false
+
+-- the note says that a message of this number left a queue by a rejection
+abbrev pub is_rejected : ℕ → Note → Bool
+is_rejected n (Left m q Rejected) = m == n
+is_rejected n note = false
+
+-- of the messages of a number no more dead letters entered a queue than were rejected, at the same event
+abbrev pub DieOnce : Happening → Type 0
+DieOnce h = (n : ℕ) (q : Text) → count_by (is_dead_into n q) h.notes ≤ count_by (is_rejected n) h.notes

@@ -1,0 +1,65 @@
+-- What a publish enters: each queue to which it is routed, but where that queue is full (AMQP 0-9-1, section 3.1.3; RabbitMQ, "Queue Length Limit").
+use Rattle.std.specs.Prelude.{◌≡◌, ◌+◌, ℕ, List, [], ◌∷◌, ◌++◌, map, count_by, Bool, true, false, Option, Some, None, ◌&&◌, if◌then◌else◌}
+use Rattle.std.specs.List.{AllByRecursion}
+use Rattle.std.specs.Str.{bytes_eq}
+use Rattle.model.specs.Words.{Text}
+use Rattle.model.specs.Topology.{Topology, IsIn, queue_names}
+use Rattle.model.specs.Routing.{Routes, Picks}
+use Rattle.model.specs.Broker.{is_at, limit_of, queue_named}
+use Rattle.model.specs.Step.{is_none, returned_notes, confirm_notes}
+use Rattle.model.specs.Deliveries.{ready_in}
+use Rattle.model.specs.Run.{Happening}
+use Rattle.model.specs.declared.messages.Entry.{Entry}
+use Rattle.model.specs.declared.methods.Method.TheVariants.{BasicPublish}
+use Rattle.model.specs.declared.methods.Publish.{Publish}
+use Rattle.model.specs.declared.contents.Content.{Content}
+use Rattle.model.specs.declared.events.Event.TheVariants.{Command}
+use Rattle.model.specs.declared.notes.Note.{Note}
+use Rattle.model.specs.declared.notes.Note.TheVariants.{Published, Entered, Refused}
+use Rattle.model.specs.declared.notes.Answer.{Answer}
+use Rattle.model.specs.declared.notes.Answer.TheVariants as answer
+use Rattle.model.specs.declared.notes.Way.{Way}
+use Rattle.model.specs.declared.notes.Way.TheVariants as way
+
+-- the note says that a message entered this queue
+abbrev pub is_entry_into : Text → Note → Bool
+is_entry_into q (Entered n r w) = bytes_eq r q
+is_entry_into q note = false
+
+-- The queue is full behind these notes: it has a limit, and no fewer messages that could be given out before the event or have entered since (RabbitMQ, "Queue Length Limit", reject-publish).
+abbrev pub is_full_after : Topology → (Text → List Entry) → List Note → Text → Bool
+is_full_after t queues noted q = is_at (limit_of (queue_named t.queues q)) (ready_in (queues q) + count_by (is_entry_into q) noted)
+
+-- it is noted of a message and a queue to which it goes that it entered there in this way, or that the queue was full and refused it
+abbrev pub note_at : Topology → (Text → List Entry) → List Note → ℕ → Way → Text → Note
+note_at t queues noted n w q = if is_full_after t queues noted q then Refused n q else Entered n q w
+
+-- What an event notes of the publish of this number, which it is: that it came, then of each queue to which it is routed, in the order of the file, that it entered it or that the queue was full, then that it went back, where it is mandatory and routed nowhere, and where it has a confirm number the one answer to it: ack where no queue was full, and else nack.
+pub record EntersAsRouted (h : Happening) (n c k : ℕ) (x key : Text) (confirm : Option ℕ) : Type 0 where
+  pub publish : Publish
+  pub given : Option Content
+  pub event : h.event ≡ Command c k (BasicPublish publish) given
+  pub exchange : publish.exchange ≡ x
+  pub routing_key : publish.routing_key ≡ key
+  pub targets : List Text
+  pub routed : Picks (Routes h.config.topology x key) (queue_names h.config.topology.queues) targets
+  pub goes_back : Bool
+  pub reply : Answer
+  pub noted : h.notes ≡ Published n c k x key confirm ∷ (map (note_at h.config.topology h.before.broker.queue [] n way.Publish) targets ++ (returned_notes n goes_back ++ confirm_notes n confirm reply))
+  pub returned : goes_back ≡ (publish.mandatory && is_none targets)
+  pub acked : reply ≡ answer.Ack → AllByRecursion (λ (q : Text). is_full_after h.config.topology h.before.broker.queue [] q ≡ false) targets
+  pub nacked : reply ≡ answer.Nack → (q : Text) × IsIn q targets × (is_full_after h.config.topology h.before.broker.queue [] q ≡ true)
+
+-- each publish that the event notes entered queues so
+abbrev pub EnterAsRouted : Happening → Type 0
+EnterAsRouted h = (n c k : ℕ) (x key : Text) (confirm : Option ℕ) → IsIn (Published n c k x key confirm) h.notes → EntersAsRouted h n c k x key confirm
+
+-- the number of the publish that the note says came
+abbrev pub number_in : Note → Option ℕ
+number_in (Published n c k x key confirm) = Some n
+number_in note = None
+
+-- These are the numbers behind the first, one after another, up to the last.
+abbrev pub CountUp : ℕ → List ℕ → ℕ → Type 0
+CountUp first [] last = last ≡ first
+CountUp first (n ∷ ns) last = (n ≡ first + 1) × CountUp n ns last

@@ -1,0 +1,83 @@
+-- What becomes of deliveries that are outstanding: of those that a command settles, and of all others (AMQP 0-9-1, basic.ack, basic.reject and basic.recover; RabbitMQ, basic.nack).
+use Rattle.std.specs.Prelude.{◌≡◌, ℕ, List, Bool, true, false, Option, Some, None, slice_get}
+use Rattle.model.specs.Topology.{IsIn}
+use Rattle.model.specs.Broker.{Outstanding, Channel, Broker}
+use Rattle.model.specs.Entries.{is_held_as, freed_now}
+use Rattle.model.specs.Settling.{takes}
+use Rattle.model.specs.Deliveries.{Settlement, Leaves, Rejects, Returns, of_rejected, holder_of}
+use Rattle.model.specs.Step.{tag_of}
+use Rattle.model.specs.Run.{Happening}
+use Rattle.model.specs.Unrefused.{IsUnrefused}
+use Rattle.model.specs.declared.messages.Entry.{Entry}
+use Rattle.model.specs.declared.methods.Method.{Method}
+use Rattle.model.specs.declared.methods.Method.TheVariants.{BasicAck, BasicReject, BasicNack, BasicRecover}
+use Rattle.model.specs.declared.notes.Cause.{Cause}
+use Rattle.model.specs.declared.notes.Cause.TheVariants.{Acked, Rejected}
+use Rattle.model.specs.declared.notes.Note.{Note}
+use Rattle.model.specs.declared.notes.Note.TheVariants.{Left}
+
+-- ---- what becomes of one delivery
+
+-- The message of this delivery of channel k of connection c was held in its queue before an event with these notes, and left it for this cause.
+pub record HasLeft (old : Broker) (notes : List Note) (c k : ℕ) (o : Outstanding) (cause : Cause) : Type 0 where
+  pub entry : Entry
+  pub stood : IsIn entry (old.queue o.queue)
+  pub held : is_held_as (holder_of c k o) entry ≡ true
+  pub left : IsIn (Left entry.message.number o.queue cause) notes
+
+-- The message of this delivery was held in its queue, and can be given out there again: in its place, and marked as redelivered.
+pub record IsReadyAgain (old new : Broker) (c k : ℕ) (o : Outstanding) : Type 0 where
+  pub entry : Entry
+  pub place : ℕ
+  pub stood : slice_get (old.queue o.queue) place ≡ Some entry
+  pub held : is_held_as (holder_of c k o) entry ≡ true
+  pub stands : slice_get (new.queue o.queue) place ≡ Some (freed_now entry)
+
+-- The delivery is outstanding on its channel.
+pub record IsOutstandingOn (b : Broker) (c k : ℕ) (o : Outstanding) : Type 0 where
+  pub channel : Channel
+  pub there : b.channel c k ≡ Some channel
+  pub outstanding : IsIn o channel.outstanding
+
+-- ---- what a command settles
+
+-- the deliveries of its channel that a command settles are those that this tag takes, and this becomes of them
+pub record Settling : Type 0 where
+  pub tag : ℕ
+  pub multiple : Bool
+  pub how : Settlement
+
+-- what an acknowledgement, a rejection and a recovery settle
+abbrev pub settling_of : Method → Option Settling
+settling_of (BasicAck m) = Some (record { tag = m.delivery_tag; multiple = m.multiple; how = Leaves Acked })
+settling_of (BasicReject m) = Some (record { tag = m.delivery_tag; multiple = false; how = of_rejected m.requeue })
+settling_of (BasicNack m) = Some (record { tag = m.delivery_tag; multiple = m.multiple; how = of_rejected m.requeue })
+settling_of (BasicRecover requeue) = Some (record { tag = 0; multiple = true; how = Returns })
+settling_of m = None
+
+-- what becomes of a delivery that is settled so
+abbrev pub IsSettledSo : Broker → List Note → Broker → ℕ → ℕ → Settlement → Outstanding → Type 0
+IsSettledSo old notes new c k (Leaves cause) o = HasLeft old notes c k o cause
+IsSettledSo old notes new c k Rejects o = HasLeft old notes c k o Rejected
+IsSettledSo old notes new c k Returns o = IsReadyAgain old new c k o
+
+-- Each delivery of this channel that the tag takes is settled so, and outstanding no more; each other is outstanding still.
+pub record AreSettledSo (old : Broker) (notes : List Note) (new : Broker) (c k : ℕ) (channel : Channel) (s : Settling) : Type 0 where
+  pub taken : (o : Outstanding) → IsIn o channel.outstanding → takes tag_of s.tag s.multiple o ≡ true → IsSettledSo old notes new c k s.how o × (IsOutstandingOn new c k o → ⊥)
+  pub others : (o : Outstanding) → IsIn o channel.outstanding → takes tag_of s.tag s.multiple o ≡ false → IsOutstandingOn new c k o
+
+-- Where the event is a command that settles, and nothing stands against it, all that it settles is settled as it asks.
+abbrev pub SettlesAsAsked : Happening → Type 0
+SettlesAsAsked h = (c k : ℕ) (m : Method) (s : Settling) (ch : Channel) → IsUnrefused h c k m → settling_of m ≡ Some s → h.before.broker.channel c k ≡ Some ch → AreSettledSo h.before.broker h.notes h.after.broker c k ch s
+
+-- ---- of all others
+
+-- A delivery that was outstanding is so still, or its message left its queue, or can be given out there again.
+pub data IsAccountedFor (old : Broker) (notes : List Note) (new : Broker) (c k : ℕ) (o : Outstanding) : Type 0 where
+  outstanding_still : IsOutstandingOn new c k o → IsAccountedFor old notes new c k o
+  has_left : (cause : Cause) → HasLeft old notes c k o cause → IsAccountedFor old notes new c k o
+  ready_again : IsReadyAgain old new c k o → IsAccountedFor old notes new c k o
+
+-- Whatever the event is, each delivery that was outstanding before it is accounted for.
+abbrev pub NoneIsForgotten : Happening → Type 0
+NoneIsForgotten h = (c k : ℕ) (o : Outstanding) → IsOutstandingOn h.before.broker c k o → IsAccountedFor h.before.broker h.notes h.after.broker c k o
