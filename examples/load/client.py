@@ -19,10 +19,22 @@ def method(channel, class_id, method_id, arguments=b""):
     return frame(1, channel, struct.pack(">HH", class_id, method_id) + arguments)
 
 
-def publish(exchange, key, body):
-    """The three frames of a publish on channel 1, or two where the body is empty."""
+def properties(content_type=None, delivery_mode=None, message_id=None):
+    """The flags of these properties, and those that there are."""
+    flags, values = 0, b""
+    if content_type is not None:
+        flags, values = flags | 1 << 15, values + short_text(content_type)
+    if delivery_mode is not None:
+        flags, values = flags | 1 << 12, values + bytes([delivery_mode])
+    if message_id is not None:
+        flags, values = flags | 1 << 7, values + short_text(message_id)
+    return struct.pack(">H", flags) + values
+
+
+def publish(exchange, key, body, given=properties()):
+    """The three frames of a publish on channel 1 with these properties, or two where the body is empty."""
     arguments = b"\0\0" + short_text(exchange) + short_text(key) + b"\0"
-    header = struct.pack(">HHQH", 60, 0, len(body), 0)
+    header = struct.pack(">HHQ", 60, 0, len(body)) + given
     content = frame(3, 1, body) if body else b""
     return method(1, 60, 40, arguments) + frame(2, 1, header) + content
 

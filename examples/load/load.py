@@ -1,7 +1,7 @@
 """Loads a server over sockets, and prints what each message costs the server's process.
 
-Takes the server's port and the number of its process, and `few` where only three loads are wanted. Each load is a fixed number
-of messages and ends early once it has taken its seconds, so the whole ends by itself.
+Takes the server's port and the number of its process, and `few` where only those loads are wanted that another server is given, too.
+Each load is a fixed number of messages and ends early once it has taken its seconds, so the whole ends by itself.
 """
 
 import glob
@@ -9,13 +9,24 @@ import os
 import sys
 import time
 
-from client import Client, publish
+from client import Client, properties, publish
+from occasional import latencies, publishers, tell_latencies
 
 SECONDS = 10
 """How long one load takes at most."""
 
 SMALL = b"x" * 12
 LARGE = b"x" * 1024
+
+MESSAGE_ID = "1b9d6bcd-bbfd-4b2d-9b5d-ab8dfbbd4bed"
+
+SET = {
+    "no properties": properties(),
+    "delivery-mode": properties(delivery_mode=2),
+    "delivery-mode and content-type": properties("application/octet-stream", 2),
+    "delivery-mode, content-type and message-id": properties("application/octet-stream", 2, MESSAGE_ID),
+}
+"""The properties that clients set most."""
 
 
 def first_number(name):
@@ -107,17 +118,19 @@ def delivered(server, words, window, wanted):
     server.settle()
 
 
-def waiting(server, words, count):
-    """What memory a message takes that waits."""
+def waiting(server, count):
+    """What memory a message takes that waits, by its properties. All of them wait until the last has come, since what is purged is
+    used again."""
     [client] = server.clients(1)
     client.select()
-    step = publish_windows(server, [client], words, 100)
-    for _ in range(10):
-        step()
-    before = server.resident()
-    for _ in range(count // 100):
-        step()
-    print(f"a waiting message of 12 bytes: {(server.resident() - before) / count:.0f} bytes of memory", flush=True)
+    for name, given in SET.items():
+        step = publish_windows(server, [client], publish("direct", "new", SMALL, given), 100)
+        for _ in range(10):
+            step()
+        before = server.resident()
+        for _ in range(count // 100):
+            step()
+        print(f"a waiting message of 12 bytes, {name}: {(server.resident() - before) / count:.0f} bytes of memory", flush=True)
     client.purge("one")
     client.close()
     server.settle()
@@ -130,22 +143,51 @@ def beside_idle(server, words, count):
     server.settle()
     taken = (server.resident() - before) / count
     print(f"{count} idle connections with one channel open: {taken:.0f} bytes of memory each", flush=True)
-    waiting(server, words, 100000)
+    waiting(server, 100000)
     rates = {}
     for window in (1, 100):
         name = f"publish, 12 bytes, window {window}, beside {count} idle connections"
         rates[window] = confirmed(server, name, words, window, 1, 20000 if window == 1 else 200000)
+    with publishers(server.port, words, 100, 1):
+        occasional(server, f"beside 1 publisher and {count} idle connections", words)
     for client in idle:
         client.close()
     server.settle()
     return rates
 
 
+def with_properties(server):
+    """What a publish costs whose client sets properties."""
+    for name, given in SET.items():
+        words = publish("direct", "new", SMALL, given)
+        confirmed(server, f"publish, 12 bytes, {name}, window 100, connections 1", words, 100, 1, 200000)
+
+
+def occasional(server, name, small):
+    """How long a publish of a client takes that publishes now and then."""
+    [client] = server.clients(1)
+    client.select()
+    tell_latencies(name, latencies(client, small, "one"))
+    client.close()
+    server.settle()
+
+
+def all_occasional(server, small, large):
+    """The same alone, and beside clients that never pause."""
+    occasional(server, "alone", small)
+    for words, count, name in ((small, 1, "1 publisher of 12 bytes"), (large, 8, "8 publishers of 1,024 bytes")):
+        with publishers(server.port, words, 100, count):
+            occasional(server, f"beside {name}", small)
+
+
 def few(server, small, large):
-    """Three loads of one publisher."""
-    confirmed(server, "publish, 12 bytes, window 100, connections 1", small, 100, 1, 200000)
+    """What another server is loaded with, too."""
+    waiting(server, 100000)
+    confirmed(server, "publish, 12 bytes, window 1, connections 1", small, 1, 1, 20000)
+    with_properties(server)
     confirmed(server, "publish, 1,024 bytes, window 100, connections 1", large, 100, 1, 100000)
     delivered(server, small, 100, 100000)
+    all_occasional(server, small, large)
 
 
 def all_loads(server, small, large):
@@ -161,6 +203,8 @@ def all_loads(server, small, large):
     delivered(server, small, 100, 100000)
     fanout = publish("fanout", "new", SMALL)
     confirmed(server, "publish, 12 bytes, fanout to three, window 100", fanout, 100, 1, 100000, ("one", "two", "three"))
+    with_properties(server)
+    all_occasional(server, small, large)
 
 
 def main(port, process, words):

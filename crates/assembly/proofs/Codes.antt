@@ -1,5 +1,5 @@
 -- Faults carry facts, a method is a publish or a command, and a header may be of a content that is too large.
-use Rattle.std.proofs.Common.{◌≡◌, ◌∙◌, ℕ, List, true, false, Option, Some, None, ap, subst, sym, refl, Result, Ok, Err}
+use Rattle.std.proofs.Common.{◌≡◌, ◌∙◌, ℕ, List, Bool, true, false, Option, Some, None, ap, subst, sym, refl, Result, Ok, Err}
 use Rattle.model.specs.Commands
 use Rattle.model.specs.Commands.{Taken, Goes_on, Makes, Breaks, Wants_header, TakesPayload, is_too_large, taken_method, taken_dropped, taken_header}
 use Rattle.model.specs.Grammar.{IsMethod, SaysMethod, said, split}
@@ -30,9 +30,9 @@ IsValue (Ok a) = Unit {0}
 IsValue (Err e) = ⊥
 
 -- a method that is no publish is a command
-pub plain : (h : ℕ) (m n : Method) → split m ≡ Err n → (n ≡ m) × (Makes (Plain h n) ≡ taken_method h (Ok m))
-plain h (BasicPublish p) n e = absurd (subst IsValue e tt)
-plain h m n e = let same : n ≡ m = cc in (same, ap (λ x. Makes (Plain h x)) same)
+pub plain : (keeps : Bool) (h : ℕ) (m n : Method) → split m ≡ Err n → (n ≡ m) × (Makes (Plain h n) ≡ taken_method keeps h (Ok m))
+plain keeps h (BasicPublish p) n e = absurd (subst IsValue e tt)
+plain keeps h m n e = let same : n ≡ m = cc in (same, ap (λ x. Makes (Plain h x)) same)
 
 -- a method that is read has a spelling
 pub fits : {payload : List ℕ} {m : Method} → SaysMethod payload (Ok m) → IsMethod m
@@ -64,19 +64,19 @@ pub one_publish : (q : Awaited) (a b : Publish) → q ≡ WantsHeader a → q �
 one_publish q a b e f = ap (λ (r : Awaited). publish_in r a) (sym e ∙ f)
 
 -- of a content that is too large
-pub takes_large : (q : Awaited) (f : Frame) (size : ℕ) (t : Taken) → HasPublish q → SaysSize f.payload (Ok size) → is_too_large f.payload size ≡ true → t ≡ taken_dropped f.channel size 0 → TakesPayload (pending_of q) f t
-takes_large Nothing f size t h s e d = absurd h
-takes_large (WantsHeader p) f size t h s e d = (Ok size, s, match_true (is_too_large f.payload size) _ _ e d)
-takes_large (WantsBody g) f size t h s e d = absurd h
-takes_large (Drops dropping) f size t h s e d = absurd h
+pub takes_large : (keeps : Bool) (q : Awaited) (f : Frame) (size : ℕ) (t : Taken) → HasPublish q → SaysSize f.payload (Ok size) → is_too_large f.payload size ≡ true → t ≡ taken_dropped f.channel size 0 → TakesPayload keeps (pending_of q) f t
+takes_large keeps Nothing f size t h s e d = absurd h
+takes_large keeps (WantsHeader p) f size t h s e d = (Ok size, s, match_true (is_too_large f.payload size) _ _ e d)
+takes_large keeps (WantsBody g) f size t h s e d = absurd h
+takes_large keeps (Drops dropping) f size t h s e d = absurd h
 
 -- of any other
-pub takes_small : (p : Publish) (f : Frame) (size : ℕ) (t : Taken) → SaysSize f.payload (Ok size) → is_too_large f.payload size ≡ false → (r : Result Header ℕ) × SaysHeader f.payload r × (t ≡ taken_header f.channel p r) → TakesPayload (Wants_header p) f t
-takes_small p f size t s e d = (Ok size, s, match_false (is_too_large f.payload size) _ _ e d)
+pub takes_small : (keeps : Bool) (p : Publish) (f : Frame) (size : ℕ) (t : Taken) → SaysSize f.payload (Ok size) → is_too_large f.payload size ≡ false → (r : Result Header ℕ) × SaysHeader f.payload r × (t ≡ taken_header keeps f.channel p r) → TakesPayload keeps (Wants_header p) f t
+takes_small keeps p f size t s e d = (Ok size, s, match_false (is_too_large f.payload size) _ _ e d)
 
 -- one that declares no size
-pub takes_unsized : (q : Awaited) (f : Frame) (code : ℕ) → HasPublish q → SaysSize f.payload (Err code) → TakesPayload (pending_of q) f (Breaks code)
-takes_unsized Nothing f code h s = absurd h
-takes_unsized (WantsHeader p) f code h s = (Err code, s, refl)
-takes_unsized (WantsBody g) f code h s = absurd h
-takes_unsized (Drops d) f code h s = absurd h
+pub takes_unsized : (keeps : Bool) (q : Awaited) (f : Frame) (code : ℕ) → HasPublish q → SaysSize f.payload (Err code) → TakesPayload keeps (pending_of q) f (Breaks code)
+takes_unsized keeps Nothing f code h s = absurd h
+takes_unsized keeps (WantsHeader p) f code h s = (Err code, s, refl)
+takes_unsized keeps (WantsBody g) f code h s = absurd h
+takes_unsized keeps (Drops d) f code h s = absurd h

@@ -39,7 +39,7 @@ begun payload p h method small says =
 
 -- where no body is declared, the publish is whole, and its content is not too large
 pub empty_body : (h : ℕ) (p : Publish) (header : Headers.Header) (c : Command) (body : Text) → c ≡ Full h p (record { properties = header.properties; body = body }) → body ≡ [] → header.size ≡ 0 → IsPublishBegun p header.properties header.size
-    → (Makes c ≡ taken_header h p (Ok header)) × IsCommand c
+    → (Makes c ≡ taken_header true h p (Ok header)) × IsCommand c
 empty_body h p header c body is empty none b =
     let made : c ≡ Full h p (record { properties = header.properties; body = [] }) = is ∙ ap (λ (z : Text). Full h p (record { properties = header.properties; body = z })) empty in
     let start : IsPublishBegun p header.properties 0 = subst (IsPublishBegun p header.properties) none b in (

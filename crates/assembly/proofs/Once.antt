@@ -25,27 +25,27 @@ same : (t u v : Taken) → t ≡ v → u ≡ v → t ≡ u
 same t u v e f = e ∙ sym f
 
 -- and what it does is one thing
-sized_once : (p : Publish) (f : Frame) (r : Result ℕ ℕ) (t u : Taken) → TakesSized p f r t → TakesSized p f r u → t ≡ u
-sized_once p f (Err code) t u x y = x ∙ sym y
-sized_once p f (Ok n) t u x y =
-    match_once (is_too_large f.payload n) (λ v. v ≡ taken_dropped f.channel n 0) (λ v. (r : Result Header ℕ) × SaysHeader f.payload r × (v ≡ taken_header f.channel p r)) t u
+sized_once : (keeps : Bool) (p : Publish) (f : Frame) (r : Result ℕ ℕ) (t u : Taken) → TakesSized keeps p f r t → TakesSized keeps p f r u → t ≡ u
+sized_once keeps p f (Err code) t u x y = x ∙ sym y
+sized_once keeps p f (Ok n) t u x y =
+    match_once (is_too_large f.payload n) (λ v. v ≡ taken_dropped f.channel n 0) (λ v. (r : Result Header ℕ) × SaysHeader f.payload r × (v ≡ taken_header keeps f.channel p r)) t u
     (same t u (taken_dropped f.channel n 0))
-    (λ a b. a.2 ∙ ap (taken_header f.channel p) (one_header f.payload a.0 b.0 a.1 b.1) ∙ sym b.2)
+    (λ a b. a.2 ∙ ap (taken_header keeps f.channel p) (one_header f.payload a.0 b.0 a.1 b.1) ∙ sym b.2)
     x y
 
-payload_once : (p : Pending) (f : Frame) (t u : Taken) → TakesPayload p f t → TakesPayload p f u → t ≡ u
-payload_once Nothing f t u x y = x.2 ∙ ap (taken_method f.channel) (one_method f.payload x.0 y.0 x.1 y.1) ∙ sym y.2
-payload_once (Wants_header p) f t u x y = sized_once p f x.0 t u x.2 (subst (λ (r : Result ℕ ℕ). TakesSized p f r u) (sym (size_once f.payload x.0 y.0 x.1 y.1)) y.2)
-payload_once (Wants_body p properties size body) f t u x y = x ∙ sym y
-payload_once (Drops size count) f t u x y = x ∙ sym y
+payload_once : (keeps : Bool) (p : Pending) (f : Frame) (t u : Taken) → TakesPayload keeps p f t → TakesPayload keeps p f u → t ≡ u
+payload_once keeps Nothing f t u x y = x.2 ∙ ap (taken_method keeps f.channel) (one_method f.payload x.0 y.0 x.1 y.1) ∙ sym y.2
+payload_once keeps (Wants_header p) f t u x y = sized_once keeps p f x.0 t u x.2 (subst (λ (r : Result ℕ ℕ). TakesSized keeps p f r u) (sym (size_once f.payload x.0 y.0 x.1 y.1)) y.2)
+payload_once keeps (Wants_body p properties size body) f t u x y = x ∙ sym y
+payload_once keeps (Drops size count) f t u x y = x ∙ sym y
 
-on_once : (p : Pending) (f : Frame) (t u : Taken) → TakesOn p f t → TakesOn p f u → t ≡ u
-on_once p f t u x y =
-    match_once (f.kind == 8) (λ v. v ≡ taken_heartbeat p f) (λ v. MatchBool (is_on_wrong_channel f) (v ≡ Breaks 504) (MatchBool (f.kind == awaited p) (TakesPayload p f v) (v ≡ Breaks 505))) t u
+on_once : (keeps : Bool) (p : Pending) (f : Frame) (t u : Taken) → TakesOn keeps p f t → TakesOn keeps p f u → t ≡ u
+on_once keeps p f t u x y =
+    match_once (f.kind == 8) (λ v. v ≡ taken_heartbeat p f) (λ v. MatchBool (is_on_wrong_channel f) (v ≡ Breaks 504) (MatchBool (f.kind == awaited p) (TakesPayload keeps p f v) (v ≡ Breaks 505))) t u
     (same t u (taken_heartbeat p f))
-    (match_once (is_on_wrong_channel f) (λ v. v ≡ Breaks 504) (λ v. MatchBool (f.kind == awaited p) (TakesPayload p f v) (v ≡ Breaks 505)) t u
+    (match_once (is_on_wrong_channel f) (λ v. v ≡ Breaks 504) (λ v. MatchBool (f.kind == awaited p) (TakesPayload keeps p f v) (v ≡ Breaks 505)) t u
     (same t u (Breaks 504))
-    (match_once (f.kind == awaited p) (TakesPayload p f) (λ v. v ≡ Breaks 505) t u (payload_once p f t u) (same t u (Breaks 505))))
+    (match_once (f.kind == awaited p) (TakesPayload keeps p f) (λ v. v ≡ Breaks 505) t u (payload_once keeps p f t u) (same t u (Breaks 505))))
     x y
 
 record Both (t u : Taken) (a b : Stream) : Type 0 where
@@ -55,8 +55,8 @@ record Both (t u : Taken) (a b : Stream) : Type 0 where
 takes_once : (s a b : Stream) (t u : Taken) → s.max < 2 ^ 32 → Takes s t a → Takes s u b → Both t u a b
 takes_once s a b t u below x y =
     let front = one_front s.unread x.rest y.rest x.frame y.frame (shows s.max s.unread x.frame x.rest below x.front) (shows s.max s.unread y.frame y.rest below y.front) in
-    let there : TakesOn (s.pending x.frame.channel) x.frame u = subst (λ (f : Frame). TakesOn (s.pending f.channel) f u) (sym front.0) y.effect in
-    let one : t ≡ u = on_once (s.pending x.frame.channel) x.frame t u x.effect there in
+    let there : TakesOn s.keeps (s.pending x.frame.channel) x.frame u = subst (λ (f : Frame). TakesOn s.keeps (s.pending f.channel) f u) (sym front.0) y.effect in
+    let one : t ≡ u = on_once s.keeps (s.pending x.frame.channel) x.frame t u x.effect there in
     record {
       effect = one;
       left = x.left

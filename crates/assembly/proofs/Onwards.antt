@@ -1,5 +1,5 @@
 -- A stream goes on frame by frame.
-use Rattle.std.proofs.Common.{◌≡◌, ◌+◌, ◌<◌, ◌≤◌, ℕ, List, ◌++◌, length, drop, true, false, Option, Some, None, Result, Ok, Err, is_err, sym, ap, subst, refl, arith, length-append}
+use Rattle.std.proofs.Common.{◌≡◌, ◌+◌, ◌<◌, ◌≤◌, ℕ, List, Bool, ◌++◌, length, drop, true, false, Option, Some, None, Result, Ok, Err, is_err, sym, ap, subst, refl, arith, length-append}
 use Rattle.std.proofs.lemmas.Bool.{false≢true}
 use Rattle.model.specs.Broker.{with_one}
 use Rattle.model.specs.Frames.{Frame, frame_bytes, Begins, IsBroken}
@@ -9,23 +9,25 @@ use Rattle.model.specs.declared.events.Command.TheVariants.{Head}
 use Rattle.frame.specs.Reading.{IsUnfinished}
 use Rattle.assembly.specs.declared.faults.Fault.{Fault}
 use Rattle.assembly.specs.declared.faults.Fault.TheVariants.{Broken, Memory}
+use Rattle.assembly.specs.Front.{whole}
 use Rattle.assembly.specs.Taking.{DoesAt}
 use Rattle.assembly.specs.Onward.{Stops, GivesCommand, YieldsNext, has_command}
+use Rattle.assembly.proofs.Fronts.{goes_front}
 
 -- what is still to come, in parts
-abbrev pub of_parts : ℕ → (ℕ → Pending) → List ℕ → Stream
-of_parts max pending unread = record { is_new = false; max = max; pending = pending; unread = unread }
+abbrev pub of_parts : ℕ → Bool → (ℕ → Pending) → List ℕ → Stream
+of_parts max keeps pending unread = record { is_new = false; max = max; keeps = keeps; pending = pending; unread = unread }
 
 -- a frame at the front is taken
-pub takes : (max : ℕ) (old new : ℕ → Pending) (unread rest : List ℕ) (f : Frame) (t : Taken) → Begins max unread f rest → TakesOn (old f.channel) f t
-    → new ≡ with_one old f.channel (pending_after t) → Takes (of_parts max old unread) t (of_parts max new rest)
-takes max old new unread rest f t b e same = record {
+pub takes : (max : ℕ) (keeps : Bool) (old new : ℕ → Pending) (unread rest : List ℕ) (f : Frame) (t : Taken) → Begins max unread f rest → TakesOn keeps (old f.channel) f t
+    → new ≡ with_one old f.channel (pending_after t) → Takes (of_parts max keeps old unread) t (of_parts max keeps new rest)
+takes max keeps old new unread rest f t b e same = record {
   begun = refl;
   frame = f;
   rest = rest;
   front = b;
   effect = e;
-  left = ap (λ (p : ℕ → Pending). of_parts max p rest) same;
+  left = ap (λ (p : ℕ → Pending). of_parts max keeps p rest) same;
 }
 
 -- a frame has at least eight bytes
@@ -64,46 +66,46 @@ goes_same a b c g e = subst (λ (s : Stream). GoesOn a s) (sym e) g
 -- ---- up to a command
 
 -- no whole frame stands there
-pub ended : (old : Stream) (max : ℕ) (pending : ℕ → Pending) (bytes unread : List ℕ) → GoesOn old (of_parts max pending unread) → bytes ≡ unread → IsUnfinished max bytes
-    → YieldsNext old (Ok None) (of_parts max pending unread)
-ended old max pending bytes unread g e u =
-    let end : Ends (of_parts max pending unread) None = ends_short (of_parts max pending unread) refl (subst (IsUnfinished max) e u) in
+pub ended : (old : Stream) (max : ℕ) (keeps : Bool) (pending : ℕ → Pending) (bytes unread : List ℕ) → GoesOn old (of_parts max keeps pending unread) → bytes ≡ unread → IsUnfinished max bytes
+    → YieldsNext old (Ok None) (of_parts max keeps pending unread)
+ended old max keeps pending bytes unread g e u =
+    let end : Ends (of_parts max keeps pending unread) None = ends_short (of_parts max keeps pending unread) refl (subst (IsUnfinished max) e u) in
     record { same = g; ends = ends_then g end; still = end }
 
 -- and none can
-pub unframed : (old : Stream) (max : ℕ) (pending : ℕ → Pending) (bytes unread : List ℕ) (code : ℕ) → GoesOn old (of_parts max pending unread) → bytes ≡ unread → (code ≡ 501) × IsBroken max bytes
-    → YieldsNext old (Err (Broken code)) (of_parts max pending unread)
-unframed old max pending bytes unread code g e b =
-    let end : Ends (of_parts max pending unread) (Some code) = ends_broken (of_parts max pending unread) code refl b.0 (subst (IsBroken max) e b.1) in
+pub unframed : (old : Stream) (max : ℕ) (keeps : Bool) (pending : ℕ → Pending) (bytes unread : List ℕ) (code : ℕ) → GoesOn old (of_parts max keeps pending unread) → bytes ≡ unread → (code ≡ 501) × IsBroken max bytes
+    → YieldsNext old (Err (Broken code)) (of_parts max keeps pending unread)
+unframed old max keeps pending bytes unread code g e b =
+    let end : Ends (of_parts max keeps pending unread) (Some code) = ends_broken (of_parts max keeps pending unread) code refl b.0 (subst (IsBroken max) e b.1) in
     record { same = g; ends = ends_then g end; still = end }
 
 -- a frame is a fault, or memory was refused
-pub refused : (old : Stream) (max : ℕ) (before after : ℕ → Pending) (bytes unread rest : List ℕ) (f : Frame) (r : Result (Option Command) Fault)
-    → GoesOn old (of_parts max before unread) → bytes ≡ unread → Begins max bytes f rest → is_err r ≡ true
-    → DoesAt (TakesOn (before f.channel) f) f.channel before r after → YieldsNext old r (of_parts max after unread)
-refused old max before after bytes unread rest f (Ok made) g e b err d = absurd (false≢true err)
-refused old max before after bytes unread rest f (Err (Broken code)) g e b err d =
+pub refused : (old : Stream) (max : ℕ) (keeps : Bool) (before after : ℕ → Pending) (bytes unread rest : List ℕ) (f : Frame) (r : Result (Option Command) Fault)
+    → GoesOn old (of_parts max keeps before unread) → bytes ≡ unread → Begins max bytes f rest → is_err r ≡ true
+    → DoesAt (TakesOn keeps (before f.channel) f) f.channel before r after → YieldsNext old r (of_parts max keeps after unread)
+refused old max keeps before after bytes unread rest f (Ok made) g e b err d = absurd (false≢true err)
+refused old max keeps before after bytes unread rest f (Err (Broken code)) g e b err d =
     let front : Begins max unread f rest = subst (λ (z : List ℕ). Begins max z f rest) e b in
-    let end : Ends (of_parts max before unread) (Some code) = faulty (takes max before (with_one before f.channel Nothing) unread rest f (Breaks code) front d.0 refl) in
-    let same : of_parts max after unread ≡ of_parts max before unread = ap (λ (p : ℕ → Pending). of_parts max p unread) d.1 in
+    let end : Ends (of_parts max keeps before unread) (Some code) = faulty (takes max keeps before (with_one before f.channel Nothing) unread rest f (Breaks code) front d.0 refl) in
+    let same : of_parts max keeps after unread ≡ of_parts max keeps before unread = ap (λ (p : ℕ → Pending). of_parts max keeps p unread) d.1 in
     record { same = goes_same old _ _ g same; ends = ends_then g end; still = subst (λ (t : Stream). Ends t (Some code)) (sym same) end }
-refused old max before after bytes unread rest f (Err Memory) g e b err d =
-    goes_same old _ _ g (ap (λ (p : ℕ → Pending). of_parts max p unread) d.1)
+refused old max keeps before after bytes unread rest f (Err Memory) g e b err d =
+    (goes_same old _ _ g (ap (λ (p : ℕ → Pending). of_parts max keeps p unread) d.1), goes_front g (whole refl (subst (λ (z : List ℕ). Begins max z f rest) e b)))
 
 front_of : (max : ℕ) (bytes unread rest : List ℕ) (f : Frame) (size : ℕ) → bytes ≡ unread → Begins max bytes f (drop size bytes) → rest ≡ drop size unread → Begins max unread f rest
 front_of max bytes unread rest f size e b left =
     subst (Begins max unread f) (sym left) (subst (λ (z : List ℕ). Begins max z f (drop size z)) e b)
 
 -- a frame ends a command
-pub made : (old : Stream) (max : ℕ) (before after : ℕ → Pending) (bytes unread rest : List ℕ) (f : Frame) (size : ℕ) (r : Result (Option Command) Fault)
-    → GoesOn old (of_parts max before unread) → length unread ≤ length old.unread → bytes ≡ unread → Begins max bytes f (drop size bytes) → rest ≡ drop size unread → has_command r ≡ true
-    → DoesAt (TakesOn (before f.channel) f) f.channel before r after → YieldsNext old r (of_parts max after rest)
-made old max before after bytes unread rest f size (Ok None) g l e b left has d = absurd (false≢true has)
-made old max before after bytes unread rest f size (Ok (Some c)) g l e b left has d =
+pub made : (old : Stream) (max : ℕ) (keeps : Bool) (before after : ℕ → Pending) (bytes unread rest : List ℕ) (f : Frame) (size : ℕ) (r : Result (Option Command) Fault)
+    → GoesOn old (of_parts max keeps before unread) → length unread ≤ length old.unread → bytes ≡ unread → Begins max bytes f (drop size bytes) → rest ≡ drop size unread → has_command r ≡ true
+    → DoesAt (TakesOn keeps (before f.channel) f) f.channel before r after → YieldsNext old r (of_parts max keeps after rest)
+made old max keeps before after bytes unread rest f size (Ok None) g l e b left has d = absurd (false≢true has)
+made old max keeps before after bytes unread rest f size (Ok (Some c)) g l e b left has d =
     let front = front_of max bytes unread rest f size e b left in
     let fewer = shorter max unread rest f front in
-    record { next = yields_then g (now (takes max before after unread rest f (Makes c) front d.0 d.2)); command = d.1; shorter = omega (arith, fewer, l) }
-made old max before after bytes unread rest f size (Err fault) g l e b left has d = absurd (false≢true has)
+    record { next = yields_then g (now (takes max keeps before after unread rest f (Makes c) front d.0 d.2)); command = d.1; shorter = omega (arith, fewer, l) }
+made old max keeps before after bytes unread rest f size (Err fault) g l e b left has d = absurd (false≢true has)
 
 pub record Further (old mid new : Stream) : Type 0 where
   pub goes : GoesOn old new
@@ -111,15 +113,15 @@ pub record Further (old mid new : Stream) : Type 0 where
   pub fewer : length new.unread < length mid.unread
 
 -- a frame ends none
-pub on : (old : Stream) (max : ℕ) (before after : ℕ → Pending) (bytes unread rest : List ℕ) (f : Frame) (size : ℕ) (r : Result (Option Command) Fault)
-    → GoesOn old (of_parts max before unread) → length unread ≤ length old.unread → bytes ≡ unread → Begins max bytes f (drop size bytes) → rest ≡ drop size unread → is_err r ≡ false → has_command r ≡ false
-    → DoesAt (TakesOn (before f.channel) f) f.channel before r after → Further old (of_parts max before unread) (of_parts max after rest)
-on old max before after bytes unread rest f size (Ok None) g l e b left err has d =
+pub on : (old : Stream) (max : ℕ) (keeps : Bool) (before after : ℕ → Pending) (bytes unread rest : List ℕ) (f : Frame) (size : ℕ) (r : Result (Option Command) Fault)
+    → GoesOn old (of_parts max keeps before unread) → length unread ≤ length old.unread → bytes ≡ unread → Begins max bytes f (drop size bytes) → rest ≡ drop size unread → is_err r ≡ false → has_command r ≡ false
+    → DoesAt (TakesOn keeps (before f.channel) f) f.channel before r after → Further old (of_parts max keeps before unread) (of_parts max keeps after rest)
+on old max keeps before after bytes unread rest f size (Ok None) g l e b left err has d =
     let front = front_of max bytes unread rest f size e b left in
     let less = shorter max unread rest f front in
-    record { goes = goes_then g (takes max before after unread rest f (Goes_on d.0) front d.1 d.2); shorter = omega (arith, less, l); fewer = omega (arith, less) }
-on old max before after bytes unread rest f size (Ok (Some c)) g l e b left err has d = absurd (false≢true (sym has))
-on old max before after bytes unread rest f size (Err fault) g l e b left err has d = absurd (false≢true (sym err))
+    record { goes = goes_then g (takes max keeps before after unread rest f (Goes_on d.0) front d.1 d.2); shorter = omega (arith, less, l); fewer = omega (arith, less) }
+on old max keeps before after bytes unread rest f size (Ok (Some c)) g l e b left err has d = absurd (false≢true (sym has))
+on old max keeps before after bytes unread rest f size (Err fault) g l e b left err has d = absurd (false≢true (sym err))
 
 -- ---- the first eight bytes
 

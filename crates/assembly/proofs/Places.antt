@@ -91,23 +91,23 @@ apart : (a b : ℕ) → (a ≡ b → ⊥) → (a == b) ≡ false
 apart a b e = search (tests, rules)
 
 -- a heartbeat
-pub takes_heartbeat : (p : Commands.Pending) (f : Frame) (t : Taken) → f.kind ≡ 8 → t ≡ taken_heartbeat p f → TakesOn p f t
-takes_heartbeat p f t e d = match_true (f.kind == 8) _ _ (eq-eqb f.kind 8 e) d
+pub takes_heartbeat : (keeps : Bool) (p : Commands.Pending) (f : Frame) (t : Taken) → f.kind ≡ 8 → t ≡ taken_heartbeat p f → TakesOn keeps p f t
+takes_heartbeat keeps p f t e d = match_true (f.kind == 8) _ _ (eq-eqb f.kind 8 e) d
 
 -- any other frame
-pub takes_other : (p : Commands.Pending) (f : Frame) (t : Taken) → (f.kind ≡ 8 → ⊥) → is_on_wrong_channel f ≡ false
-    → MatchBool (f.kind == awaited p) (TakesPayload p f t) (t ≡ Breaks 505) → TakesOn p f t
-takes_other p f t e w d = match_false (f.kind == 8) _ _ (apart f.kind 8 e) (match_false (is_on_wrong_channel f) _ _ w d)
+pub takes_other : (keeps : Bool) (p : Commands.Pending) (f : Frame) (t : Taken) → (f.kind ≡ 8 → ⊥) → is_on_wrong_channel f ≡ false
+    → MatchBool (f.kind == awaited p) (TakesPayload keeps p f t) (t ≡ Breaks 505) → TakesOn keeps p f t
+takes_other keeps p f t e w d = match_false (f.kind == 8) _ _ (apart f.kind 8 e) (match_false (is_on_wrong_channel f) _ _ w d)
 
-abbrev Awaits : Frame → (ℕ → Commands.Pending) → ℕ → Taken → Type 0
-Awaits f old h t = MatchBool (f.kind == awaited (old h)) (TakesPayload (old h) f t) (t ≡ Breaks 505)
+abbrev Awaits : Bool → Frame → (ℕ → Commands.Pending) → ℕ → Taken → Type 0
+Awaits keeps f old h t = MatchBool (f.kind == awaited (old h)) (TakesPayload keeps (old h) f t) (t ≡ Breaks 505)
 
 -- any other frame, on its channel
-pub does_other : (old mid new : ℕ → Commands.Pending) (f : Frame) (h : ℕ) (r : Result (Option Command) Fault)
+pub does_other : (keeps : Bool) (old mid new : ℕ → Commands.Pending) (f : Frame) (h : ℕ) (r : Result (Option Command) Fault)
     → h ≡ f.channel → mid ≡ old → (f.kind ≡ 8 → ⊥) → is_on_wrong_channel f ≡ false
-    → DoesAt (λ t. MatchBool (f.kind == awaited (mid h)) (TakesPayload (mid h) f t) (t ≡ Breaks 505)) h mid r new
-    → DoesAt (TakesOn (old f.channel) f) f.channel old r new
-does_other old mid new f h r e same k w d =
-    let a : DoesAt (Awaits f mid f.channel) f.channel mid r new = subst (λ (n : ℕ). DoesAt (Awaits f mid n) n mid r new) e d in
-    let b : DoesAt (Awaits f old f.channel) f.channel old r new = subst (λ (p : ℕ → Commands.Pending). DoesAt (Awaits f p f.channel) f.channel p r new) same a in
-    does_so (Awaits f old f.channel) (TakesOn (old f.channel) f) f.channel old new r (λ t x. takes_other (old f.channel) f t k w x) b
+    → DoesAt (λ t. MatchBool (f.kind == awaited (mid h)) (TakesPayload keeps (mid h) f t) (t ≡ Breaks 505)) h mid r new
+    → DoesAt (TakesOn keeps (old f.channel) f) f.channel old r new
+does_other keeps old mid new f h r e same k w d =
+    let a : DoesAt (Awaits keeps f mid f.channel) f.channel mid r new = subst (λ (n : ℕ). DoesAt (Awaits keeps f mid n) n mid r new) e d in
+    let b : DoesAt (Awaits keeps f old f.channel) f.channel old r new = subst (λ (p : ℕ → Commands.Pending). DoesAt (Awaits keeps f p f.channel) f.channel p r new) same a in
+    does_so (Awaits keeps f old f.channel) (TakesOn keeps (old f.channel) f) f.channel old new r (λ t x. takes_other keeps (old f.channel) f t k w x) b

@@ -1,7 +1,8 @@
 -- What a stream's calls tell.
-use Rattle.std.specs.Prelude.{◌+◌, ◌≤◌, ℕ, length, Bool, true, false, Option, Some, None, Result, Ok, Err}
+use Rattle.std.specs.Prelude.{◌+◌, ◌≤◌, ℕ, length, Bool, true, false, Option, Some, None, Result, Ok, Err, ⊤}
 use Rattle.model.specs.Commands.{Stream, Yields, Ends, GoesOn, IsCommand}
 use Rattle.model.specs.declared.events.Command.{Command}
+use Rattle.assembly.specs.Front.{HasFront}
 use Rattle.assembly.specs.declared.faults.Fault.{Fault}
 use Rattle.assembly.specs.declared.faults.Fault.TheVariants.{Broken, Memory}
 
@@ -23,9 +24,21 @@ pub record GivesCommand (old : Stream) (c : Command) (new : Stream) : Type 0 whe
   pub command : IsCommand c
   pub shorter : length new.unread + 8 ≤ length old.unread
 
--- the answer is right for this stream, and so is what is left
+-- the answer is right for this stream, and so is what is left; memory is wanting only where there is something to read
 abbrev pub YieldsNext : Stream → Result (Option Command) Fault → Stream → Type 0
 YieldsNext old (Ok (Some c)) new = GivesCommand old c new
 YieldsNext old (Ok None) new = Stops old None new
 YieldsNext old (Err (Broken code)) new = Stops old (Some code) new
-YieldsNext old (Err Memory) new = GoesOn old new
+YieldsNext old (Err Memory) new = GoesOn old new × HasFront old
+
+-- ---- faults
+
+-- the fault by which this answer says that the stream broke, if it says so
+abbrev pub broken_by : Result (Option Command) Fault → Option ℕ
+broken_by (Err (Broken code)) = Some code
+broken_by answer = None
+
+-- where a fault is kept, the stream ends by it
+abbrev pub IsBrokenBy : Option ℕ → Stream → Type 0
+IsBrokenBy None s = ⊤
+IsBrokenBy (Some code) s = Ends s (Some code)

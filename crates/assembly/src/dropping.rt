@@ -1,6 +1,6 @@
 //! Contents that are too large: their bodies are counted and dropped.
 
-ghost use Rattle.std.specs.Prelude.{◌≡◌};
+ghost use Rattle.std.specs.Prelude.{◌≡◌, Bool};
 ghost use Rattle.model.specs.Commands as said;
 ghost use Rattle.model.specs.Commands.{TakesPayload, taken_dropped};
 ghost use Rattle.frame.specs.Reading.{seen};
@@ -24,20 +24,26 @@ pub(crate) fn is_too_large(payload: &[u8], size: u64) -> bool
     size > MOST_BODY || payload.len() > MOST_HEADER
 }
 
-/// The header of a content that is too large was read. A body of no bytes has come with it.
-pub(crate) fn begin_dropping(
+/// A body of so many bytes is dropped, of which so many have come. Past the declared size it is a fault, and at it the publish
+/// has come.
+pub(crate) fn drop_begun(
     pending: &mut Awaited,
     channel: u16,
     size: u64,
+    count: u64,
 ) -> Result<Option<Command>, Fault>
+    requires { IsSpelledSoFar pending.old }
     ensures spelled { IsSpelledSoFar pending.new }
-    ensures does { (old : said.Pending) → TakesEffect (λ t. t ≡ taken_dropped channel size 0) old result (pending_of pending.new) }
+    ensures does { TakesEffect (λ t. t ≡ taken_dropped channel size count) (pending_of pending.old) result (pending_of pending.new) }
 {
-    if size == 0 {
+    if count > size {
+        return Err(Fault::Broken(501));
+    }
+    if count == size {
         *pending = Awaited::Nothing;
         return Ok(Some(Command::TooLarge { channel }));
     }
-    *pending = Awaited::Drops(Dropping { size, count: 0 });
+    *pending = Awaited::Drops(Dropping { size, count });
     Ok(None)
 }
 
@@ -46,7 +52,7 @@ pub(crate) fn drop_piece(pending: &mut Awaited, frame: &Frame<'_>) -> Result<Opt
     requires dropped { IsDropped pending.old }
     requires spelled { IsSpelledSoFar pending.old }
     ensures spelled { IsSpelledSoFar pending.new }
-    ensures does { TakesEffect (TakesPayload (pending_of pending.old) (seen frame.now)) (pending_of pending.old) result (pending_of pending.new) }
+    ensures does { (keeps : Bool) → TakesEffect (TakesPayload keeps (pending_of pending.old) (seen frame.now)) (pending_of pending.old) result (pending_of pending.new) }
 {
     match pending {
         Awaited::Drops(dropping) => {

@@ -19,13 +19,14 @@ use std::alloc::{AllocError, Global};
 /// Takes a whole frame: the command that it ends, or none where its channel goes on.
 pub(crate) fn take_frame(
     alloc: Global,
+    keeps: bool,
     names: &mut LastNames,
     contents: &mut Vec<Awaited>,
     frame: &Frame<'_>,
 ) -> Result<Option<Command>, Fault>
     requires { AreSpelledSoFar contents.old.items }
     ensures spelled { AreSpelledSoFar contents.new.items }
-    ensures does { DoesAt (TakesOn (pending_at contents.old.items frame.now.channel) (seen frame.now)) frame.now.channel (pending_at contents.old.items) result (pending_at contents.new.items) }
+    ensures does { DoesAt (TakesOn keeps (pending_at contents.old.items frame.now.channel) (seen frame.now)) frame.now.channel (pending_at contents.old.items) result (pending_at contents.new.items) }
 {
     if frame.kind == 8 {
         return take_heartbeat(frame);
@@ -35,7 +36,7 @@ pub(crate) fn take_frame(
     }
     let channel = usize::from(frame.channel);
     reach(contents, channel)?;
-    take_on_channel(alloc, names, contents, channel, frame)
+    take_on_channel(alloc, keeps, names, contents, channel, frame)
 }
 
 /// A heartbeat is empty and on channel 0, and does nothing.
@@ -70,6 +71,7 @@ fn reach(contents: &mut Vec<Awaited>, channel: usize) -> Result<(), AllocError>
 /// Takes a frame that is no heartbeat, on a channel that may have it.
 fn take_on_channel(
     alloc: Global,
+    keeps: bool,
     names: &mut LastNames,
     contents: &mut Vec<Awaited>,
     channel: usize,
@@ -78,7 +80,7 @@ fn take_on_channel(
     requires reached { channel < vec_len contents.old }
     requires spelled { AreSpelledSoFar contents.old.items }
     ensures spelled { AreSpelledSoFar contents.new.items }
-    ensures does { DoesAt (λ t. MatchBool (frame.now.kind == awaited (pending_at contents.old.items channel)) (TakesPayload (pending_at contents.old.items channel) (seen frame.now) t) (t ≡ Breaks 505)) channel (pending_at contents.old.items) result (pending_at contents.new.items) }
+    ensures does { DoesAt (λ t. MatchBool (frame.now.kind == awaited (pending_at contents.old.items channel)) (TakesPayload keeps (pending_at contents.old.items channel) (seen frame.now) t) (t ≡ Breaks 505)) channel (pending_at contents.old.items) result (pending_at contents.new.items) }
 {
-    take_awaited(alloc, names, &mut contents[channel], frame)
+    take_awaited(alloc, keeps, names, &mut contents[channel], frame)
 }

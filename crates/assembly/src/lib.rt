@@ -11,12 +11,12 @@ mod contents;
 mod dropping;
 mod faults;
 mod frames;
-mod laws;
 mod names;
 mod reading;
+mod single;
 mod streams;
 mod taking;
 
 pub use faults::Fault;
-pub use laws::one_next;
+pub use single::one_next;
 pub use streams::Stream;

@@ -17,6 +17,7 @@ use std::alloc::Global;
 pub(crate) fn next_command(
     alloc: Global,
     max: u32,
+    keeps: bool,
     names: &mut LastNames,
     contents: &mut Vec<Awaited>,
     unread: &mut Buffer,
@@ -24,14 +25,14 @@ pub(crate) fn next_command(
     requires max { 4096 ≤ max }
     requires spelled { AreSpelledSoFar contents.old.items }
     ensures spelled { AreSpelledSoFar contents.new.items }
-    ensures answers { YieldsNext (stream false max contents.old.items unread.old.bytes) result (stream false max contents.new.items unread.new.bytes) }
+    ensures answers { YieldsNext (stream false max keeps contents.old.items unread.old.bytes) result (stream false max keeps contents.new.items unread.new.bytes) }
 {
     'frames: loop {
         match read_frame(unread.bytes(), max) {
             ReadFrame::More => return Ok(None),
             ReadFrame::Fault(code) => return Err(Fault::Broken(code)),
             ReadFrame::Whole(frame, size) => {
-                let taken = take_frame(alloc, names, contents, &frame);
+                let taken = take_frame(alloc, keeps, names, contents, &frame);
                 if taken.is_err() {
                     return taken;
                 }

@@ -1,9 +1,10 @@
 //! One connection's bytes, and the commands that they spell.
 
-ghost use Rattle.std.specs.Prelude.{◌≡◌, ◌≤◌, true, Ok, OnOk, OnErr, length};
-ghost use Rattle.model.specs.Commands.{new_stream, running_stream, heard, with_max};
+ghost use Rattle.std.specs.Prelude.{◌≡◌, ◌≤◌, ◌<◌, ℕ, true, Some, None, Ok, Err, OnOk, OnErr, length};
+ghost use Rattle.model.specs.Commands.{new_stream, running_stream, heard, with_max, keeping};
 ghost use Rattle.assembly.specs.Held.{stream_of};
-ghost use Rattle.assembly.specs.Onward.{YieldsNext};
+ghost use Rattle.assembly.specs.Onward.{YieldsNext, broken_by};
+ghost use Rattle.assembly.specs.declared.faults.Fault.TheVariants.{Broken};
 
 use crate::contents::Awaited;
 use crate::faults::Fault;
@@ -20,9 +21,13 @@ pub struct Stream {
     /// The first eight bytes are awaited.
     is_new: bool,
     max: u32,
+    /// Contents are kept.
+    keeps: bool,
     contents: Vec<Awaited>,
     unread: Buffer,
     names: LastNames,
+    /// The fault by which it broke, once that was answered.
+    fault: Option<u16>,
 }
 
 /// Written out, so that a drop is one call.
@@ -32,79 +37,125 @@ impl Drop for Stream {
             alloc: _,
             is_new: _,
             max: _,
+            keeps: _,
             contents: _,
             unread: _,
             names: _,
+            fault: _,
         } = self;
     }
 }
 
 impl Model for Stream {
     ghost use Rattle.std.specs.Prelude.{◌≤◌};
-    ghost use Rattle.assembly.specs.Held.{Held};
+    ghost use Rattle.assembly.specs.Held.{Held, stream};
+    ghost use Rattle.assembly.specs.Onward.{IsBrokenBy};
     ghost use Rattle.assembly.specs.Pending.{AreSpelledSoFar};
 
     ghost Value = { Held };
 
-    ghost view = { λ s. record { is_new = s.is_new; max = s.max; contents = s.contents.items; unread = s.unread.bytes } };
+    ghost view = { λ s. record { is_new = s.is_new; max = s.max; keeps = s.keeps; contents = s.contents.items; unread = s.unread.bytes; room = s.unread.room; fault = s.fault } };
 
-    ghost invariant = { λ s. (4096 ≤ s.max) × AreSpelledSoFar s.contents.items };
+    ghost invariant = { λ s. (4096 ≤ s.max) × AreSpelledSoFar s.contents.items × IsBrokenBy s.fault (stream s.is_new s.max s.keeps s.contents.items s.unread.bytes) };
 }
 
 impl Stream {
-    /// The stream of a connection that was just opened: its first eight bytes are awaited, and a frame has at most 4,096
-    /// bytes.
+    /// The stream of a connection that was just opened: its first eight bytes are awaited, a frame has at most 4,096 bytes,
+    /// and contents are only counted.
     pub fn new(alloc: Global) -> Stream
-        ensures { stream_of result ≡ new_stream }
+        ensures stream { stream_of result ≡ new_stream }
+        ensures fault { result.fault ≡ None }
     {
         Stream {
             alloc,
             is_new: true,
             max: 4096,
+            keeps: false,
             contents: Vec::new(alloc),
             unread: Buffer::new(alloc),
             names: LastNames::new(alloc),
+            fault: None,
         }
     }
 
-    /// The stream of a connection that runs from the start: no content is begun, and a frame has at most 131,072 bytes.
+    /// The stream of a connection that runs from the start: no content is begun, a frame has at most 131,072 bytes, and
+    /// contents are kept.
     pub fn running(alloc: Global) -> Stream
-        ensures { stream_of result ≡ running_stream }
+        ensures stream { stream_of result ≡ running_stream }
+        ensures fault { result.fault ≡ None }
     {
         Stream {
             alloc,
             is_new: false,
             max: 131_072,
+            keeps: true,
             contents: Vec::new(alloc),
             unread: Buffer::new(alloc),
             names: LastNames::new(alloc),
+            fault: None,
         }
     }
 
-    /// Puts bytes behind those that are still to be read. Where memory is refused, nothing changes.
+    /// Puts bytes behind those that are still to be read. Where memory is refused, which was wanted then, nothing changes.
     pub fn feed(&mut self, bytes: &[u8]) -> Result<(), AllocError>
         ensures ok { OnOk result (stream_of self.new ≡ heard (stream_of self.old) bytes.now) }
         ensures err { OnErr result (self.new ≡ self.old) }
+        ensures full { OnErr result (self.old.room < length bytes.now) }
+        ensures fault { self.new.fault ≡ self.old.fault }
     {
         self.unread.reserve(bytes.len())?;
         self.unread.put(bytes);
         Ok(())
     }
 
-    /// From now on a frame has at most `max` bytes.
+    /// From now on a frame has at most `max` bytes. A stream that broke stays as it is.
     pub fn set_max(&mut self, max: u32)
         requires { 4096 ≤ max }
-        ensures { stream_of self.new ≡ with_max max (stream_of self.old) }
+        ensures sets { self.old.fault ≡ None → stream_of self.new ≡ with_max max (stream_of self.old) }
+        ensures broken { (code : ℕ) → self.old.fault ≡ Some code → self.new ≡ self.old }
+        ensures fault { self.new.fault ≡ self.old.fault }
     {
-        self.max = max;
+        if self.fault.is_none() {
+            self.max = max;
+        }
+    }
+
+    /// From now on contents are kept, for the connection runs, or they are only counted: a publish of them is told as one
+    /// that is too large. A stream that broke stays as it is.
+    pub fn set_running(&mut self, is_running: bool)
+        ensures sets { self.old.fault ≡ None → stream_of self.new ≡ keeping is_running (stream_of self.old) }
+        ensures broken { (code : ℕ) → self.old.fault ≡ Some code → self.new ≡ self.old }
+        ensures fault { self.new.fault ≡ self.old.fault }
+    {
+        if self.fault.is_some() {
+            return;
+        }
+        self.keeps = is_running;
     }
 
     /// Reads the next command. The first is the first eight bytes, where they are awaited.
     ///
     /// `None` where the bytes end before one does. A fault is [`Fault::Broken`], with its reply code, and stands there for
-    /// good. Where memory is refused, the same is still to come.
+    /// good: each later call answers it, whatever was fed or set since. Where memory is refused, the same is still to come;
+    /// it is wanted only where there is something to read.
     pub fn next(&mut self) -> Result<Option<Command>, Fault>
-        ensures { YieldsNext (stream_of self.old) result (stream_of self.new) }
+        ensures yields { YieldsNext (stream_of self.old) result (stream_of self.new) }
+        ensures again { (code : ℕ) → self.old.fault ≡ Some code → (result ≡ Err (Broken code)) × (self.new ≡ self.old) }
+        ensures keeps { self.new.fault ≡ broken_by result }
+    {
+        if let Some(code) = self.fault {
+            return Err(Fault::Broken(code));
+        }
+        let next = self.read();
+        self.fault = fault_in(&next);
+        next
+    }
+
+    /// Reads the next command of a stream that has not broken.
+    fn read(&mut self) -> Result<Option<Command>, Fault>
+        requires { self.old.fault ≡ None }
+        ensures yields { YieldsNext (stream_of self.old) result (stream_of self.new) }
+        ensures fault { self.new.fault ≡ None }
     {
         if self.is_new {
             return Ok(self.first());
@@ -112,6 +163,7 @@ impl Stream {
         next_command(
             self.alloc,
             self.max,
+            self.keeps,
             &mut self.names,
             &mut self.contents,
             &mut self.unread,
@@ -120,8 +172,10 @@ impl Stream {
 
     /// The first eight bytes, once they are there.
     fn first(&mut self) -> Option<Command>
-        requires { self.old.is_new ≡ true }
-        ensures { YieldsNext (stream_of self.old) (Ok result) (stream_of self.new) }
+        requires is_new { self.old.is_new ≡ true }
+        requires fault { self.old.fault ≡ None }
+        ensures yields { YieldsNext (stream_of self.old) (Ok result) (stream_of self.new) }
+        ensures fault { self.new.fault ≡ None }
     {
         match take_eight(&mut self.unread) {
             Some(bytes) => {
@@ -137,5 +191,15 @@ impl Stream {
         ensures { result ≡ length (stream_of self.now).unread }
     {
         self.unread.bytes().len()
+    }
+}
+
+/// The fault by which an answer says that the stream broke.
+fn fault_in(answer: &Result<Option<Command>, Fault>) -> Option<u16>
+    ensures { result ≡ broken_by answer.now }
+{
+    match answer {
+        Err(Fault::Broken(code)) => Some(*code),
+        _ => None,
     }
 }

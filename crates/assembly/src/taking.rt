@@ -1,8 +1,9 @@
 //! What one frame does to the channel that awaits it.
 
-ghost use Rattle.std.specs.Prelude.{◌≡◌, ◌==◌, ℕ, false, MatchBool, Result, Ok};
+ghost use Rattle.std.specs.Prelude.{◌≡◌, ◌==◌, ℕ, true, false, MatchBool, MatchResult, Result, Ok, Err};
+ghost use Rattle.assembly.specs.Faults.{IsFault};
 ghost use Rattle.model.specs.Commands;
-ghost use Rattle.model.specs.Commands.{Breaks, TakesPayload, awaited, is_too_large as exceeds, taken_header, taken_method};
+ghost use Rattle.model.specs.Commands.{Breaks, TakesPayload, awaited, is_too_large as exceeds, kept_publish as kept, taken_header, taken_method};
 ghost use Rattle.model.specs.Headers.{Header, SaysHeader, size_at};
 ghost use Rattle.model.specs.Grammar.{SaysMethod};
 ghost use Rattle.model.specs.declared.events.Command.TheVariants as command;
@@ -12,10 +13,11 @@ ghost use Rattle.assembly.specs.Pending.{pending_of, IsSpelledSoFar, HasPublish,
 ghost use Rattle.assembly.specs.declared.contents.Gathering.{Gathering as Begun};
 ghost use Rattle.assembly.specs.declared.contents.Awaited.TheVariants.{Nothing, WantsHeader, WantsBody};
 ghost use Rattle.assembly.specs.Taking.{TakesEffect};
+ghost use Rattle.assembly.specs.Names.{SpellsPublish};
 
 use crate::bodies::Body;
 use crate::contents::{Awaited, Gathering};
-use crate::dropping::{begin_dropping, drop_piece, is_too_large};
+use crate::dropping::{drop_begun, drop_piece, is_too_large};
 use crate::faults::{Fault, of_header, of_method, of_size};
 use crate::names::LastNames;
 use frame::Frame;
@@ -28,21 +30,22 @@ use std::mem;
 /// Takes a frame that is no heartbeat, on a channel that may have it: one of a type that is not awaited is out of place.
 pub(crate) fn take_awaited(
     alloc: Global,
+    keeps: bool,
     names: &mut LastNames,
     pending: &mut Awaited,
     frame: &Frame<'_>,
 ) -> Result<Option<Command>, Fault>
     requires { IsSpelledSoFar pending.old }
     ensures spelled { IsSpelledSoFar pending.new }
-    ensures does { TakesEffect (λ t. MatchBool (frame.now.kind == awaited (pending_of pending.old)) (TakesPayload (pending_of pending.old) (seen frame.now) t) (t ≡ Breaks 505)) (pending_of pending.old) result (pending_of pending.new) }
+    ensures does { TakesEffect (λ t. MatchBool (frame.now.kind == awaited (pending_of pending.old)) (TakesPayload keeps (pending_of pending.old) (seen frame.now) t) (t ≡ Breaks 505)) (pending_of pending.old) result (pending_of pending.new) }
 {
     if frame.kind != awaited_kind(pending) {
         return Err(Fault::Broken(505));
     }
     match pending {
-        Awaited::Nothing => take_method(alloc, names, pending, frame),
-        Awaited::WantsHeader(_) => take_header(alloc, pending, frame),
-        Awaited::WantsBody(_) => take_body(pending, frame),
+        Awaited::Nothing => take_method(alloc, keeps, names, pending, frame),
+        Awaited::WantsHeader(_) => take_header(alloc, keeps, pending, frame),
+        Awaited::WantsBody(_) => take_piece(keeps, pending, frame),
         Awaited::Drops(_) => drop_piece(pending, frame),
     }
 }
@@ -62,20 +65,21 @@ fn awaited_kind(pending: &Awaited) -> u8
 /// A method is a command, but a publish waits for its content.
 fn take_method(
     alloc: Global,
+    keeps: bool,
     names: &mut LastNames,
     pending: &mut Awaited,
     frame: &Frame<'_>,
 ) -> Result<Option<Command>, Fault>
     requires { pending.old ≡ Nothing }
     ensures spelled { IsSpelledSoFar pending.new }
-    ensures does { TakesEffect (TakesPayload (pending_of pending.old) (seen frame.now)) (pending_of pending.old) result (pending_of pending.new) }
+    ensures does { TakesEffect (TakesPayload keeps (pending_of pending.old) (seen frame.now)) (pending_of pending.old) result (pending_of pending.new) }
 {
     if let Some(publish) = names.publish_of(frame.payload) {
-        *pending = Awaited::WantsHeader(publish);
+        *pending = Awaited::WantsHeader(kept_publish(keeps, publish));
         return Ok(None);
     }
     match read_method(alloc, frame.payload) {
-        Ok(method) => begin(alloc, names, pending, frame, method),
+        Ok(method) => begin(alloc, keeps, names, pending, frame, method),
         Err(refusal) => Err(of_method(refusal)),
     }
 }
@@ -83,6 +87,7 @@ fn take_method(
 /// A method that was read is a command, but a publish waits for its content.
 fn begin(
     alloc: Global,
+    keeps: bool,
     names: &mut LastNames,
     pending: &mut Awaited,
     frame: &Frame<'_>,
@@ -91,12 +96,11 @@ fn begin(
     requires nothing { pending.old ≡ Nothing }
     requires said { SaysMethod frame.now.payload.now (Ok method) }
     ensures spelled { IsSpelledSoFar pending.new }
-    ensures does { TakesEffect (λ t. t ≡ taken_method frame.now.channel (Ok method)) Commands.Nothing result (pending_of pending.new) }
+    ensures does { TakesEffect (λ t. t ≡ taken_method keeps frame.now.channel (Ok method)) Commands.Nothing result (pending_of pending.new) }
 {
     match method.into_publish() {
         Ok(publish) => {
-            let publish = names.learn(alloc, frame.payload, publish);
-            *pending = Awaited::WantsHeader(publish);
+            *pending = Awaited::WantsHeader(begun(alloc, keeps, names, frame, publish));
             Ok(None)
         }
         Err(method) => {
@@ -106,30 +110,84 @@ fn begin(
     }
 }
 
+/// What is kept of a publish that was read. It is learned where it is kept.
+fn begun(
+    alloc: Global,
+    keeps: bool,
+    names: &mut LastNames,
+    frame: &Frame<'_>,
+    publish: Publish,
+) -> Publish
+    requires { SpellsPublish frame.now.payload.now publish }
+    ensures { result ≡ kept keeps publish }
+{
+    if keeps {
+        return names.learn(alloc, frame.payload, publish);
+    }
+    kept_publish(keeps, publish)
+}
+
+/// What is kept of a publish until its content is whole: nothing, where contents are only counted.
+fn kept_publish(keeps: bool, publish: Publish) -> Publish
+    ensures { result ≡ kept keeps publish }
+{
+    if keeps {
+        return publish;
+    }
+    Publish {
+        reserved: 0,
+        exchange: Text::empty(),
+        routing_key: Text::empty(),
+        mandatory: false,
+        immediate: false,
+    }
+}
+
 /// A header declares the body of the publish before it. Of a content that is too large nothing else is read.
 fn take_header(
     alloc: Global,
+    keeps: bool,
     pending: &mut Awaited,
     frame: &Frame<'_>,
 ) -> Result<Option<Command>, Fault>
     requires begun { HasPublish pending.old }
     requires spelled { IsSpelledSoFar pending.old }
     ensures spelled { IsSpelledSoFar pending.new }
-    ensures does { TakesEffect (TakesPayload (pending_of pending.old) (seen frame.now)) (pending_of pending.old) result (pending_of pending.new) }
+    ensures does { TakesEffect (TakesPayload keeps (pending_of pending.old) (seen frame.now)) (pending_of pending.old) result (pending_of pending.new) }
 {
     match read_size(frame.payload) {
         Ok(size) => {
             if is_too_large(frame.payload, size) {
-                return begin_dropping(pending, frame.channel, size);
+                return drop_begun(pending, frame.channel, size, 0);
             }
-            begin_content(alloc, pending, frame)
+            begin_content(alloc, keeps, pending, frame)
         }
         Err(refusal) => Err(of_size(refusal)),
     }
 }
 
-/// A header that is not too large. A body of no bytes is whole.
+/// A header that is not too large: its body is awaited, to be kept or only counted.
 fn begin_content(
+    alloc: Global,
+    keeps: bool,
+    pending: &mut Awaited,
+    frame: &Frame<'_>,
+) -> Result<Option<Command>, Fault>
+    requires begun { HasPublish pending.old }
+    requires spelled { IsSpelledSoFar pending.old }
+    requires small { exceeds frame.now.payload.now (size_at frame.now.payload.now) ≡ false }
+    ensures spelled { IsSpelledSoFar pending.new }
+    ensures does { (p : Seen) → pending.old ≡ WantsHeader p → TakesEffect (λ t. (r : Result Header ℕ) × SaysHeader frame.now.payload.now r × (t ≡ taken_header keeps frame.now.channel p r)) (Commands.Wants_header p) result (pending_of pending.new) }
+{
+    if keeps {
+        gather_content(alloc, pending, frame)
+    } else {
+        count_content(alloc, pending, frame)
+    }
+}
+
+/// A header whose body is kept. A body of no bytes is whole.
+fn gather_content(
     alloc: Global,
     pending: &mut Awaited,
     frame: &Frame<'_>,
@@ -138,7 +196,7 @@ fn begin_content(
     requires spelled { IsSpelledSoFar pending.old }
     requires small { exceeds frame.now.payload.now (size_at frame.now.payload.now) ≡ false }
     ensures spelled { IsSpelledSoFar pending.new }
-    ensures does { (p : Seen) → pending.old ≡ WantsHeader p → TakesEffect (λ t. (r : Result Header ℕ) × SaysHeader frame.now.payload.now r × (t ≡ taken_header frame.now.channel p r)) (Commands.Wants_header p) result (pending_of pending.new) }
+    ensures does { (p : Seen) → pending.old ≡ WantsHeader p → TakesEffect (λ t. (r : Result Header ℕ) × SaysHeader frame.now.payload.now r × (t ≡ taken_header true frame.now.channel p r)) (Commands.Wants_header p) result (pending_of pending.new) }
 {
     match read_header(alloc, frame.payload) {
         Ok(header) => {
@@ -155,6 +213,32 @@ fn begin_content(
             });
             Ok(None)
         }
+        Err(refusal) => Err(of_header(refusal)),
+    }
+}
+
+/// A header whose body is only counted. A body of no bytes has come with it.
+fn count_content(
+    alloc: Global,
+    pending: &mut Awaited,
+    frame: &Frame<'_>,
+) -> Result<Option<Command>, Fault>
+    requires { IsSpelledSoFar pending.old }
+    ensures spelled { IsSpelledSoFar pending.new }
+    ensures does { (p : Seen) → pending.old ≡ WantsHeader p → TakesEffect (λ t. (r : Result Header ℕ) × SaysHeader frame.now.payload.now r × (t ≡ taken_header false frame.now.channel p r)) (Commands.Wants_header p) result (pending_of pending.new) }
+{
+    match size_of_header(alloc, frame.payload) {
+        Ok(size) => drop_begun(pending, frame.channel, size, 0),
+        Err(fault) => Err(fault),
+    }
+}
+
+/// The size of the body that a header declares, all of which is read.
+fn size_of_header(alloc: Global, payload: &[u8]) -> Result<u64, Fault>
+    ensures { MatchResult result (λ size. (h : Header) × SaysHeader payload.now (Ok h) × (size ≡ h.size)) (λ fault. IsFault (λ code. SaysHeader payload.now (Err code)) fault) }
+{
+    match read_header(alloc, payload) {
+        Ok(header) => Ok(header.size),
         Err(refusal) => Err(of_header(refusal)),
     }
 }
@@ -182,12 +266,36 @@ fn full(channel: u16, publish: Publish, properties: Properties, body: Text) -> C
     }
 }
 
-/// A piece of a body. Past the declared size it is a fault, and at it the publish is a command.
+/// A piece of a body. Where contents are not kept any more, what came of it is dropped.
+fn take_piece(
+    keeps: bool,
+    pending: &mut Awaited,
+    frame: &Frame<'_>,
+) -> Result<Option<Command>, Fault>
+    requires gathered { IsGathered pending.old }
+    requires spelled { IsSpelledSoFar pending.old }
+    ensures spelled { IsSpelledSoFar pending.new }
+    ensures does { TakesEffect (TakesPayload keeps (pending_of pending.old) (seen frame.now)) (pending_of pending.old) result (pending_of pending.new) }
+{
+    if keeps {
+        return take_body(pending, frame);
+    }
+    match pending {
+        Awaited::WantsBody(gathering) => {
+            let size = gathering.size;
+            let count = gathering.body.len() as u64 + frame.payload.len() as u64;
+            drop_begun(pending, frame.channel, size, count)
+        }
+        _ => unreachable!(),
+    }
+}
+
+/// A piece of a body that is kept. Past the declared size it is a fault, and at it the publish is a command.
 fn take_body(pending: &mut Awaited, frame: &Frame<'_>) -> Result<Option<Command>, Fault>
     requires gathered { IsGathered pending.old }
     requires spelled { IsSpelledSoFar pending.old }
     ensures spelled { IsSpelledSoFar pending.new }
-    ensures does { TakesEffect (TakesPayload (pending_of pending.old) (seen frame.now)) (pending_of pending.old) result (pending_of pending.new) }
+    ensures does { TakesEffect (TakesPayload true (pending_of pending.old) (seen frame.now)) (pending_of pending.old) result (pending_of pending.new) }
 {
     match pending {
         Awaited::WantsBody(gathering) => {

@@ -5,22 +5,28 @@ use certificate_check::{Certificate, check};
 use exchange_graph::Topology;
 use guarantee_search::{Verdict, search};
 use guarantees::Guarantee;
-use measuring::{Shape, Texts, built};
+use measuring::{LARGE, Shape, Texts, built};
 use model::{Mode, Text};
 use std::alloc::Global;
 use std::io;
 use std::time::Instant;
 
-/// A pattern of one word that comes again, with 63,489 states.
-const LARGE: &str = "#.a.*.*.*.*.*.*.*.*.*.*.*.*.#.a.#.a.#.a.#.a.#.a.#.a.#.a";
-
-/// How many guarantees stand over the large topology.
+/// How many guarantees stand over a large topology.
 const GUARANTEES: u32 = 64;
 
+/// How many patterns are tracked where 63,489 states accept them in more than 8,192 ways.
+const APART: u32 = 14;
+
 /// Every key of the pattern that is sent to the exchange reaches the queue.
-fn reaches(texts: &mut Texts, exchange: Text, pattern: &str, queue: Text) -> Guarantee {
+fn reaches(
+    alloc: Global,
+    texts: &mut Texts,
+    exchange: Text,
+    pattern: &str,
+    queue: Text,
+) -> Option<Guarantee> {
     let pattern = texts.text(pattern.as_bytes());
-    Guarantee::new(Mode::Reaches, exchange, pattern, queue)
+    Guarantee::new(Mode::Reaches, exchange, pattern, queue, Vec::new(alloc))
 }
 
 /// The certificate that a search finds, if it does.
@@ -66,20 +72,38 @@ fn measure_search(
     measure_check(rt, topology, guarantee, &certificate)
 }
 
-/// The guarantee of the large pattern, none where memory is refused.
-fn large(alloc: Global) -> Option<Guarantee> {
+/// The guarantee of this pattern for what is sent to this exchange, none where memory is refused.
+fn one(alloc: Global, exchange: &str, pattern: &str) -> Option<Guarantee> {
     let mut texts = Texts::new(alloc);
-    let exchange = texts.text(b"x");
+    let exchange = texts.text(exchange.as_bytes());
     let queue = texts.text(b"q");
-    let guarantee = reaches(&mut texts, exchange, LARGE, queue);
-    texts.is_whole().then_some(guarantee)
+    let guarantee = reaches(alloc, &mut texts, exchange, pattern, queue);
+    if texts.is_whole() { guarantee } else { None }
 }
 
 /// Prints how long the search of a large certificate takes, and the check of what was found.
 fn measure_large(rt: &HostRuntime, words: u32, numbers: u32) -> io::Result<()> {
-    match (built(rt.alloc(), Shape::Worded(words)), large(rt.alloc())) {
+    match (
+        built(rt.alloc(), Shape::Worded(words)),
+        one(rt.alloc(), "x", LARGE),
+    ) {
         (Some(topology), Some(guarantee)) => measure_search(rt, &topology, &guarantee, numbers),
         _ => println!(rt; "certificate of {numbers} numbers a state: its topology is refused"),
+    }
+}
+
+/// Prints the same of a slice over 256 exchanges and 4,096 bindings, of a guarantee of all keys, where so many patterns more are
+/// tracked.
+fn measure_slice(rt: &HostRuntime, patterns: u32) -> io::Result<()> {
+    print!(rt; "256 exchanges and 4,096 bindings, a slice, ")?;
+    match (
+        built(rt.alloc(), Shape::Chained(patterns)),
+        one(rt.alloc(), "x0", "#"),
+    ) {
+        (Some(topology), Some(guarantee)) => {
+            measure_search(rt, &topology, &guarantee, patterns.saturating_add(1))
+        }
+        _ => println!(rt; "its topology is refused"),
     }
 }
 
@@ -91,25 +115,47 @@ struct Stated {
 }
 
 impl Stated {
-    /// One more guarantee of the large topology.
-    fn push(&mut self, place: u32) {
-        let exchange = self.texts.numbered("x", place);
-        let queue = self.texts.numbered("q", place);
-        let guarantee = reaches(&mut self.texts, exchange, "k.#", queue);
+    fn new(alloc: Global) -> Stated {
+        Stated {
+            texts: Texts::new(alloc),
+            guarantees: Vec::new(alloc),
+        }
+    }
+
+    /// One more guarantee, of what is sent to the exchange of this number.
+    fn push(&mut self, number: u32, queue: Text) {
+        let alloc = *self.guarantees.allocator();
+        let exchange = self.texts.numbered("x", number);
+        match reaches(alloc, &mut self.texts, exchange, "k.#", queue) {
+            Some(guarantee) => self.keep(guarantee),
+            None => self.texts.fail(),
+        }
+    }
+
+    /// Keeps a guarantee.
+    fn keep(&mut self, guarantee: Guarantee) {
         if self.guarantees.push(guarantee).is_err() {
             self.texts.fail();
         }
     }
 }
 
-/// The guarantees of the large topology, fewer where memory is refused.
-fn guarantees(alloc: Global) -> Vec<Guarantee> {
-    let mut stated = Stated {
-        texts: Texts::new(alloc),
-        guarantees: Vec::new(alloc),
-    };
-    for place in 0..GUARANTEES {
-        stated.push(place);
+/// One guarantee of each of the first exchanges, for its own queue; fewer where memory is refused.
+fn own(alloc: Global) -> Vec<Guarantee> {
+    let mut stated = Stated::new(alloc);
+    for number in 0..GUARANTEES {
+        let queue = stated.texts.numbered("q", number);
+        stated.push(number, queue);
+    }
+    stated.guarantees
+}
+
+/// One guarantee of each of the first exchanges, for the queue at the end of a chain; fewer where memory is refused.
+fn shared(alloc: Global) -> Vec<Guarantee> {
+    let mut stated = Stated::new(alloc);
+    for number in 0..GUARANTEES {
+        let queue = stated.texts.text(b"q");
+        stated.push(number, queue);
     }
     stated.guarantees
 }
@@ -136,10 +182,13 @@ fn certificates(alloc: Global, topology: &Topology, guarantees: &[Guarantee]) ->
     certificates
 }
 
-/// Prints how long the guarantees of a large topology take to be searched and admitted.
-fn measure_admission(rt: &HostRuntime, topology: Topology) -> io::Result<()> {
+/// Prints how long these guarantees of a large topology take to be searched and admitted.
+fn measure_admission(
+    rt: &HostRuntime,
+    topology: Topology,
+    stated: Vec<Guarantee>,
+) -> io::Result<()> {
     let alloc = rt.alloc();
-    let stated = guarantees(alloc);
     let start = Instant::now(rt)?;
     let offered = certificates(alloc, &topology, stated.as_slice());
     let found = start.elapsed(rt)?.as_millis();
@@ -151,13 +200,28 @@ fn measure_admission(rt: &HostRuntime, topology: Topology) -> io::Result<()> {
     )
 }
 
-/// Prints how long large certificates take, and many guarantees over a large topology.
+/// Prints the same of guarantees that track what one exchange asks, and of guarantees that need slices.
+fn measure_admissions(rt: &HostRuntime) -> io::Result<()> {
+    let alloc = rt.alloc();
+    match (
+        built(alloc, Shape::Starred),
+        built(alloc, Shape::Chained(0)),
+    ) {
+        (Some(starred), Some(chained)) => {
+            measure_admission(rt, starred, own(alloc))?;
+            print!(rt; "by slices, ")?;
+            measure_admission(rt, chained, shared(alloc))
+        }
+        _ => println!(rt; "a large topology is refused"),
+    }
+}
+
+/// Prints how long large certificates take, and many guarantees over large topologies.
 pub fn measure_all(rt: &HostRuntime) -> io::Result<()> {
     measure_large(rt, 0, 1)?;
     measure_large(rt, 2, 8)?;
     measure_large(rt, 5, 64)?;
-    match built(rt.alloc(), Shape::Starred) {
-        Some(topology) => measure_admission(rt, topology),
-        None => println!(rt; "the large topology is refused"),
-    }
+    measure_slice(rt, 1)?;
+    measure_slice(rt, APART)?;
+    measure_admissions(rt)
 }

@@ -16,6 +16,8 @@ pub struct DeliveryLoad {
     pub prefetch: u16,
     /// How many messages wait all the time.
     pub waiting: u64,
+    /// Whether the first queue has a limit of bytes.
+    pub is_limited: bool,
 }
 
 /// How many messages a load publishes, delivers and acknowledges.
@@ -24,6 +26,9 @@ pub const MESSAGES: u64 = 100_000;
 impl DeliveryLoad {
     /// The topology of the load.
     pub fn shape(&self) -> Shape {
+        if self.is_limited {
+            return Shape::Limited(2);
+        }
         if self.queues == 1 {
             return Shape::Queues(2);
         }
@@ -48,6 +53,7 @@ fn one(name: &'static str, prefetch: u16, waiting: u64) -> DeliveryLoad {
         full: 0,
         prefetch,
         waiting,
+        is_limited: false,
     }
 }
 
@@ -62,18 +68,26 @@ pub fn load_at(place: u32) -> Option<DeliveryLoad> {
         5 => one("1,000,000 waiting", 0, 1_000_000),
         6 => one("1,000,000 waiting, prefetch 1", 1, 1_000_000),
         7 => DeliveryLoad {
+            is_limited: true,
+            ..one("1,000,000 waiting, limit of bytes", 0, 1_000_000)
+        },
+        8 => DeliveryLoad {
+            is_limited: true,
+            ..one("one consumer, prefetch 0, limit of bytes", 0, 0)
+        },
+        9 => DeliveryLoad {
             queues: 256,
             ..one("256 queues, each with a consumer", 0, 0)
         },
-        8 => DeliveryLoad {
+        10 => DeliveryLoad {
             idle: 1,
             ..one("1 idle consumer beside", 0, 0)
         },
-        9 => DeliveryLoad {
+        11 => DeliveryLoad {
             idle: 255,
             ..one("255 idle consumers beside", 0, 0)
         },
-        10 => DeliveryLoad {
+        12 => DeliveryLoad {
             full: 200,
             ..one("200 consumers beside that hold what they may", 0, 0)
         },

@@ -75,29 +75,40 @@ fn pieces(name: &'static str, piece: usize, publishes: u64) -> Load {
 pub fn load_at(place: u32) -> Option<Load> {
     let load = match place {
         0 => plain("direct, 12 bytes", Shape::Direct, 1_000_000, 12),
-        1 => plain("direct, 1,024 bytes", Shape::Direct, 100_000, 1_024),
-        2 => plain("fanout to 3, 12 bytes", Shape::Fanout, 100_000, 12),
-        3 => plain("fanout to 3, 1,024 bytes", Shape::Fanout, 100_000, 1_024),
-        4 => plain("topic with 1 binding", Shape::Topic(1), 100_000, 12),
-        5 => plain("topic with 100 bindings", Shape::Topic(100), 100_000, 12),
-        6 => plain(
+        1 => plain(
+            "direct, 12 bytes, limit of bytes",
+            Shape::Limited(1),
+            1_000_000,
+            12,
+        ),
+        2 => plain("direct, 1,024 bytes", Shape::Direct, 100_000, 1_024),
+        3 => plain("fanout to 3, 12 bytes", Shape::Fanout, 100_000, 12),
+        4 => plain("fanout to 3, 1,024 bytes", Shape::Fanout, 100_000, 1_024),
+        5 => plain("topic with 1 binding", Shape::Topic(1), 100_000, 12),
+        6 => plain("topic with 100 bindings", Shape::Topic(100), 100_000, 12),
+        7 => plain(
             "topic with 1,000 bindings",
             Shape::Topic(1_000),
             100_000,
             12,
         ),
-        7 => plain("among 256 exchanges", Shape::Exchanges(256), 100_000, 12),
-        8 => plain("among 256 queues", Shape::Queues(256), 100_000, 12),
-        9 => by("64 connections", 64),
-        10 => by("1,000 connections", 1_000),
-        11 => fresh("topic, fresh keys", Shape::Topic(1), 100_000),
-        12 => fresh(
+        8 => plain("among 256 exchanges", Shape::Exchanges(256), 100_000, 12),
+        9 => plain("among 256 queues", Shape::Queues(256), 100_000, 12),
+        10 => by("64 connections", 64),
+        11 => by("1,000 connections", 1_000),
+        12 => fresh("topic, fresh keys", Shape::Topic(1), 100_000),
+        13 => fresh(
             "topic with 1,000 bindings, fresh keys",
             Shape::Topic(1_000),
             20_000,
         ),
-        13 => pieces("pieces of 1 byte", 1, 20_000),
-        14 => pieces("pieces of 64 bytes", 64, 100_000),
+        14 => fresh(
+            "topic with 4,096 bindings, fresh keys",
+            Shape::Topic(4_096),
+            20_000,
+        ),
+        15 => pieces("pieces of 1 byte", 1, 20_000),
+        16 => pieces("pieces of 64 bytes", 64, 100_000),
         _ => return None,
     };
     Some(load)

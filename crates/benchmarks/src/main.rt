@@ -1,5 +1,5 @@
 //! Benchmarks: what publishes, deliveries, losses, purges and openings cost the engine, what waiting messages and open connections
-//! take, and how long routes, large definitions files and certificates take. What is printed is to be read; nothing tests it.
+//! take, and how long matchers, routes, large definitions files and certificates take. What is printed is to be read; nothing tests it.
 #![tactic(auto)]
 
 mod certificates;
@@ -9,25 +9,29 @@ mod deliveries;
 mod delivery_loads;
 mod files;
 mod loads;
+mod matchers;
 mod memory;
 mod openings;
 mod publishes;
 mod removals;
 mod routes;
+mod strangers;
 
 use std::{env, io};
 
 /// How the program is called.
 const USAGE: &str =
-    "benchmarks openings|memory|deliveries|removals|publishes [NAME]|routes|files|certificates|all: prints what connections, messages, routes, large definitions files and certificates cost";
+    "benchmarks openings|strangers|memory|deliveries|removals|publishes [NAME]|matchers|routes|files|certificates|all: prints what connections, messages, matchers, routes, large definitions files and certificates cost";
 
 /// Measures all. Memory comes early, since what is measured later takes what was given back.
 fn measure_all(rt: &HostRuntime) -> io::Result<()> {
     openings::measure_all(rt)?;
+    strangers::measure_all(rt)?;
     memory::measure_all(rt)?;
     deliveries::measure_all(rt)?;
     removals::measure_all(rt)?;
     publishes::measure_all(rt)?;
+    matchers::measure_all(rt)?;
     routes::measure_all(rt)?;
     definitions_files::measure_all(rt)?;
     certificates::measure_all(rt)
@@ -37,10 +41,12 @@ fn measure_all(rt: &HostRuntime) -> io::Result<()> {
 fn measure(rt: &HostRuntime, word: &str) -> io::Result<()> {
     match word {
         "openings" => openings::measure_all(rt),
+        "strangers" => strangers::measure_all(rt),
         "memory" => memory::measure_all(rt),
         "deliveries" => deliveries::measure_all(rt),
         "removals" => removals::measure_all(rt),
         "publishes" => publishes::measure_all(rt),
+        "matchers" => matchers::measure_all(rt),
         "routes" => routes::measure_all(rt),
         "files" => definitions_files::measure_all(rt),
         "certificates" => certificates::measure_all(rt),

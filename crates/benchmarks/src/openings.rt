@@ -9,14 +9,14 @@ use std::io;
 const CONNECTIONS: u64 = 1_000;
 
 /// The protocol header.
-const HEADER: &[u8] = b"AMQP\x00\x00\x09\x01";
+pub const HEADER: &[u8] = b"AMQP\x00\x00\x09\x01";
 
 /// Four bytes of salt, and SHA-256 of them and the password `pw`.
 const HASH: &[u8] =
     b"abcd\x25\x28\x70\xfb\xbe\x94\x08\xcb\x5d\x4e\x12\x7b\xb4\x45\xca\x29\xec\xf2\x52\x5a\xcf\xe0\x39\x82\xff\xdb\xd7\xd2\x29\x7e\xa5\x05";
 
 /// connection.start-ok by `PLAIN`: the user `u` with the password `pw`.
-const START_OK: &[u8] =
+pub const START_OK: &[u8] =
     b"\x01\x00\x00\x00\x00\x00\x1d\x00\x0a\x00\x0b\x00\x00\x00\x00\x05PLAIN\x00\x00\x00\x05\x00u\x00pw\x05en_US\xce";
 
 /// connection.tune-ok: the limits that were offered.
@@ -59,7 +59,7 @@ impl Part for Opening {
 }
 
 /// An engine with the user, none where memory is refused.
-fn engine(alloc: Global) -> Option<Measured> {
+pub fn engine(alloc: Global) -> Option<Measured> {
     let mut texts = Texts::new(alloc);
     let user = User {
         name: texts.text(b"u"),

@@ -1,4 +1,4 @@
-//! How long a route takes.
+//! How long a topology takes to build, and a route to be taken.
 
 use exchange_graph::Topology;
 use measuring::{Shape, built};
@@ -41,8 +41,19 @@ fn measure_linked(rt: &HostRuntime, links: u32) -> io::Result<()> {
     }
 }
 
-/// Prints how long routes take past no exchange, past some, and past all.
+/// Prints how long a topology of a topic exchange with so many bindings takes to build.
+fn measure_built(rt: &HostRuntime, bindings: u32) -> io::Result<()> {
+    let start = Instant::now(rt)?;
+    let is_built = built(rt.alloc(), Shape::Topic(bindings)).is_some();
+    let microseconds = start.elapsed(rt)?.as_micros();
+    println!(rt; "topology of {bindings} bindings, built ({is_built}): {microseconds} microseconds")
+}
+
+/// Prints how long a topology takes to build, and how long routes take past no exchange, past some, and past all.
 pub fn measure_all(rt: &HostRuntime) -> io::Result<()> {
+    measure_built(rt, 1)?;
+    measure_built(rt, 1_000)?;
+    measure_built(rt, 4_096)?;
     measure_linked(rt, 0)?;
     measure_linked(rt, 15)?;
     measure_linked(rt, 255)

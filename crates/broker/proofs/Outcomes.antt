@@ -7,11 +7,6 @@ pub either_way : {A E : Type 0} {X Y Z : Type 0} (r : Result A E) → OnOk r X �
 either_way (Ok x) ok err f g = f ok
 either_way (Err e) ok err f g = g err
 
--- the same where success gives a fact of its value
-pub either_if : {A E : Type 0} {Y Z : Type 0} (r : Result A E) (P : A → Type 0) → IfOk r P → OnErr r Y → ((x : A) → P x → Z) → (Y → Z) → Z
-either_if (Ok x) P ok err f g = f x ok
-either_if (Err e) P ok err f g = g err
-
 -- what follows of whatever is there follows
 pub if_some : {A : Type 0} (o : Option A) (P Q : A → Type 0) → ((x : A) → P x → Q x) → IfSome o P → IfSome o Q
 if_some None P Q f p = p

@@ -1,1 +1,2 @@
 pub mod Roster
+pub mod Turns

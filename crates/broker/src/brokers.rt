@@ -1,6 +1,7 @@
 //! The broker as its callers have it.
 
 use crate::roster::Roster;
+use crate::turns::turn_kept;
 use broker_core::{Core, Pick};
 use exchange_graph::Topology;
 use laws::{brokers_stay_agreed, consumers_are_made};
@@ -13,37 +14,45 @@ use std::marker::Model;
 pub struct Broker {
     core: Core,
     roster: Roster,
+    /// Whose turn it is: the consumer that was told last, until something is delivered.
+    turn: Option<Pick>,
 }
 
 /// Written out, so that a drop is one call.
 impl Drop for Broker {
     fn drop(self) {
-        let Broker { core: _, roster: _ } = self;
+        let Broker {
+            core: _,
+            roster: _,
+            turn: _,
+        } = self;
     }
 }
 
 impl Model for Broker {
-    ghost use Rattle.broker_core.specs.State.{Kept};
     ghost use Rattle.broker.specs.Roster.{IsServing};
+    ghost use Rattle.broker.specs.Turns.{WithTurn};
 
-    ghost Value = { Kept };
+    ghost Value = { WithTurn };
 
-    ghost view = { λ b. b.core };
+    ghost view = { λ b. record { kept = b.core; turn = b.turn } };
 
     ghost invariant = { λ b. IsServing b.core b.roster };
 }
 
 impl Broker {
-    ghost use Rattle.std.specs.Prelude.{◌≡◌, [], ℕ, None, IfSome, IfOk, IsOk, OnOk, OnErr};
+    ghost use Rattle.std.specs.Prelude.{◌≡◌, [], ℕ, None, Some, IfSome, IfOk, IsOk, OnOk, OnErr};
     ghost use Rattle.model.specs.Arrivals.{IsSaid};
     ghost use Rattle.model.specs.Consuming.{CanDeliver};
     ghost use Rattle.model.specs.Naming.{AreNamed};
     ghost use Rattle.model.specs.Sending.{AreCarried};
     ghost use Rattle.model.specs.Step.{Acts, Is};
     ghost use Rattle.model.specs.declared.events.Event.TheVariants as event_is;
-    ghost use Rattle.broker_core.specs.State.{broker_of, topology_kept, nothing};
+    ghost use Rattle.broker_core.specs.State.{nothing};
     ghost use Rattle.judging.specs.Judged.{IsAsked, WantsNoMemory};
     ghost use Rattle.broker_core.specs.Picked.{IsPick};
+    ghost use Rattle.broker_core.specs.declared.picks.Pick.{Pick as Consumer};
+    ghost use Rattle.broker.specs.Turns.{broker_of, topology_kept};
     ghost use Rattle.replies.specs.Sent.{AreAddressed, connection_of_event};
 
     /// The broker of this topology: its queues are empty, and no connection runs.
@@ -54,7 +63,11 @@ impl Broker {
         brokers_stay_agreed();
         let roster = Roster::new(alloc, topology.queues().len())?;
         let core = Core::new(alloc, topology)?;
-        Ok(Broker { core, roster })
+        Ok(Broker {
+            core,
+            roster,
+            turn: None,
+        })
     }
 
     /// One event: what it sends, what it notes, and the state after it. Where the event's method has a spelling, each send
@@ -65,6 +78,7 @@ impl Broker {
         ensures ok { IfOk result (λ s. Acts (topology_kept self.old) (broker_of self.old) event.now s.sends.items s.notes.items (broker_of self.new)) }
         ensures addressed { IfOk result (λ s. IsSaid event.now → AreCarried (broker_of self.old) → AreAddressed (connection_of_event event.now) s.sends.items) }
         ensures topology { topology_kept self.new ≡ topology_kept self.old }
+        ensures turn { self.new.turn ≡ self.old.turn }
         ensures err { OnErr result (self.new ≡ self.old) }
         ensures quiet { WantsNoMemory (topology_kept self.old) (broker_of self.old) event.now → IsOk result }
     {
@@ -77,29 +91,49 @@ impl Broker {
         Ok(step)
     }
 
-    /// A delivery that can be made, if there is any. Queues that have something ready are gone round, from the one behind that
-    /// from which was picked last, and so are the consumers of a queue. Memory that is wanting only leaves seats awake.
+    /// A delivery that can be made, if there is any: whose turn it is from now on. As long as nothing is delivered, and a delivery
+    /// can be made to it, the same is told again. Else queues that have something ready are gone round, from the one behind that
+    /// from which was told last, and so are the consumers of a queue. Memory that is wanting only leaves seats awake.
     pub fn pick(&mut self) -> Option<Pick>
-        ensures same { self.new ≡ self.old }
+        ensures kept { self.new.kept ≡ self.old.kept }
+        ensures turn { self.new.turn ≡ result }
+        ensures again { (p : Consumer) → self.old.turn ≡ Some p → IsPick (broker_of self.old) p → result ≡ Some p }
         ensures some { IfSome result (λ p. IsPick (broker_of self.old) p) }
         ensures none { result ≡ None → (c : ℕ) → CanDeliver (broker_of self.old) c → ⊥ }
     {
-        self.roster.pick(&self.core)
+        match turn_kept(&self.core, self.turn) {
+            Some(pick) => Some(pick),
+            None => self.find(),
+        }
     }
 
-    /// The delivery that was picked is made: the first ready message of the consumer's queue goes to it. Where each message can
-    /// be given out and consumers are named, the send is for the consumer's own connection, by a method with a spelling. Where
-    /// memory is wanting, nothing has changed.
+    /// The next delivery that can be made, if there is any, going round: whose turn it is from now on.
+    fn find(&mut self) -> Option<Pick>
+        ensures kept { self.new.kept ≡ self.old.kept }
+        ensures turn { self.new.turn ≡ result }
+        ensures some { IfSome result (λ p. IsPick (broker_of self.old) p) }
+        ensures none { result ≡ None → (c : ℕ) → CanDeliver (broker_of self.old) c → ⊥ }
+    {
+        self.turn = self.roster.pick(&self.core);
+        self.turn
+    }
+
+    /// The delivery that was picked is made: the first ready message of the consumer's queue goes to it, and its turn is over.
+    /// Where each message can be given out and consumers are named, the send is for the consumer's own connection, by a method
+    /// with a spelling. Where memory is wanting, nothing has changed: it is the turn of the same consumer still.
     pub fn pump(&mut self, alloc: Global, pick: Pick) -> Result<Step, AllocError>
         requires { IsPick (broker_of self.old) pick }
         ensures ok { IfOk result (λ s. Acts (topology_kept self.old) (broker_of self.old) (event_is.Deliver pick.connection) s.sends.items s.notes.items (broker_of self.new)) }
         ensures addressed { IfOk result (λ s. AreCarried (broker_of self.old) → AreNamed (topology_kept self.old) (broker_of self.old) → AreAddressed pick.connection s.sends.items) }
+        ensures over { OnOk result (self.new.turn ≡ None) }
         ensures topology { topology_kept self.new ≡ topology_kept self.old }
         ensures err { OnErr result (self.new ≡ self.old) }
     {
         brokers_stay_agreed();
         consumers_are_made();
-        self.core.deliver(alloc, pick)
+        let step = self.core.deliver(alloc, pick)?;
+        self.turn = None;
+        Ok(step)
     }
 
     /// The connection runs from now on, with channels 1 to `channels` open and new. What one of its number held is ready
@@ -113,6 +147,7 @@ impl Broker {
     ) -> Result<(), AllocError>
         ensures ok { OnOk result (Acts (topology_kept self.old) (broker_of self.old) (event_is.Running connection channel_max channels) [] [] (broker_of self.new)) }
         ensures topology { topology_kept self.new ≡ topology_kept self.old }
+        ensures turn { self.new.turn ≡ self.old.turn }
         ensures err { OnErr result (self.new ≡ self.old) }
     {
         brokers_stay_agreed();
@@ -124,6 +159,7 @@ impl Broker {
     pub fn lose(&mut self, connection: u64)
         ensures acts { Acts (topology_kept self.old) (broker_of self.old) (event_is.Lose connection) [] [] (broker_of self.new) }
         ensures topology { topology_kept self.new ≡ topology_kept self.old }
+        ensures turn { self.new.turn ≡ self.old.turn }
     {
         brokers_stay_agreed();
         consumers_are_made();
@@ -135,6 +171,7 @@ impl Broker {
     pub fn pause(&mut self, connection: u64)
         ensures acts { Acts (topology_kept self.old) (broker_of self.old) (event_is.Pause connection) [] [] (broker_of self.new) }
         ensures topology { topology_kept self.new ≡ topology_kept self.old }
+        ensures turn { self.new.turn ≡ self.old.turn }
     {
         brokers_stay_agreed();
         consumers_are_made();
@@ -145,6 +182,7 @@ impl Broker {
     pub fn resume(&mut self, connection: u64)
         ensures acts { Acts (topology_kept self.old) (broker_of self.old) (event_is.Resume connection) [] [] (broker_of self.new) }
         ensures topology { topology_kept self.new ≡ topology_kept self.old }
+        ensures turn { self.new.turn ≡ self.old.turn }
     {
         brokers_stay_agreed();
         consumers_are_made();

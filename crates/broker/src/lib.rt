@@ -6,6 +6,7 @@
 
 mod brokers;
 mod roster;
+mod turns;
 
 pub use broker_core::Pick;
 pub use brokers::Broker;

@@ -17,7 +17,7 @@ use Rattle.laws.proofs.Leaving.{at_queue}
 use Rattle.laws.proofs.Agreement.{IsClear, counted_in, in_freed, returned_clear, returned_shrinks}
 use Rattle.channel.specs.Open.{Open, open_in, outstanding_in}
 use Rattle.channel.specs.declared.pending.Outstanding.{Outstanding}
-use Rattle.depot.specs.Store.{Store, entries_named, queue_at, with_requeued, IsStoreWhole}
+use Rattle.depot.specs.Store.{Store, entries_named, queue_at, IsStoreWhole}
 use Rattle.links.specs.Links.{Linked, channel_at, channel_of, linked_in, outstanding_on}
 use Rattle.links.specs.Placed.{OutstandingAreWithin, IsPlaced}
 use Rattle.settling.specs.Settled as settled
@@ -27,7 +27,7 @@ use Rattle.broker_core.specs.Freed.{returned_from, returned_at}
 use Rattle.broker_core.specs.State.{Kept, ArePlaced, broker_of, topology_kept, names_of}
 use Rattle.broker_core.proofs.Placing.{none_within}
 use Rattle.broker_core.proofs.Settling.{returned_topology, returned_published}
-use Rattle.broker_core.proofs.Stepping.{IsFreed, listed_requeued, some_same}
+use Rattle.broker_core.proofs.Stepping.{IsFreed, some_same}
 
 -- ---- one queue
 
@@ -253,18 +253,6 @@ link_is_freed are kept c (Some l) new whole placed agreed at made = record {
 pub connection_is_freed : AreNamed → (old kept : Kept) (c : ℕ) (l : Option Linked) (new : Store) → old ≡ kept → IsStoreWhole old.store → ArePlaced old → IsAgreed (broker_of kept) → l ≡ linked_in old.links c → new ≡ returned_at c old.store l
     → IsFreed (by_connection c) old.store new
 connection_is_freed are old kept c l new e whole placed agreed = link_is_freed are old c l new whole placed (subst (λ (k : Kept). IsAgreed (broker_of k)) (sym e) agreed)
-
--- a search of all queues finds the same
-pub requeued_is : (mine : Holder → Bool) (old new : Store) → new ≡ with_requeued old mine → IsFreed mine old new
-requeued_is mine old new made = record {
-  topology = ap (λ (s : Store). s.topology) made;
-  published = ap (λ (s : Store). s.published) made;
-  queues = λ q. ap (λ (s : Store). entries_named s q) made ∙ listed_requeued mine (queue_names old.topology.queues) old.queues q;
-}
-
-pub absent : (o : Option Linked) → is_some o ≡ false → o ≡ None
-absent None e = refl
-absent (Some l) e = absurd (false≢true (sym e))
 
 -- ---- a loop over the channels of a connection
 

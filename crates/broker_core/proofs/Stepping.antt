@@ -43,17 +43,6 @@ listed_none (name ∷ names) (suc n) q = chosen (bytes_eq name q) (listed names 
     chosen true x e = refl
     chosen false x e = e
 
--- what is requeued in each queue is requeued in the queue of any name
-pub listed_requeued : (mine : Holder → Bool) (names : List Text) (lists : List (List Entry)) (q : Text)
-    → listed names (map (λ (es : List Entry). map (freed mine) es) lists) q ≡ map (freed mine) (listed names lists q)
-listed_requeued mine [] lists q = refl
-listed_requeued mine (name ∷ names) [] q = refl
-listed_requeued mine (name ∷ names) (entries ∷ lists) q = chosen (bytes_eq name q) (map (freed mine) entries) entries (listed names (map (λ (es : List Entry). map (freed mine) es) lists) q) (listed names lists q) refl (listed_requeued mine names lists q)
-  where
-    chosen : (b : Bool) (x y x' y' : List Entry) → x ≡ map (freed mine) y → x' ≡ map (freed mine) y' → (if b then x else x') ≡ map (freed mine) (if b then y else y')
-    chosen true x y x' y' e e' = e
-    chosen false x y x' y' e e' = e'
-
 -- a channel that is seen through names is seen so in each case
 seen_if : (names : List Text) (b : Bool) (x y : Option Open) → option_map (open_in names) (if b then x else y) ≡ (if b then option_map (open_in names) x else option_map (open_in names) y)
 seen_if names true x y = refl

@@ -7,4 +7,4 @@ mod refutations;
 mod targets;
 
 pub use admitted::{Checked, admit};
-pub use refutations::{Refutation, disprove};
+pub use refutations::{Refutation, disprove, refutes};

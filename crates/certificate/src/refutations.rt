@@ -1,6 +1,6 @@
 //! Keys that break a guarantee.
 
-ghost use Rattle.std.specs.Prelude.{◌≡◌, ◌<◌, Decides, IfOk, Ok, OnErr, false, length};
+ghost use Rattle.std.specs.Prelude.{◌≡◌, ◌<◌, Decides, IfOk, Ok, OnErr, false, length, true};
 ghost use Rattle.model.specs.Refutations.{Breaks, Refutes};
 ghost use Rattle.certificate.specs.Disproved.{HasItsPath, MayRefute};
 
@@ -95,7 +95,7 @@ fn breaks(
 /// Whether the refutation shows that the guarantee fails: its key has at most 255 bytes and is covered, and of a `reaches` it
 /// doesn't lead to the queue, and the path is empty; of a `never` the path leads a message with this key from the exchange
 /// into the queue, by edges and dead-letter steps.
-pub fn disprove(
+pub fn refutes(
     alloc: Global,
     topology: &Topology,
     guarantee: &Guarantee,
@@ -115,4 +115,20 @@ pub fn disprove(
         return Ok(false);
     }
     breaks(alloc, topology, guarantee, refutation)
+}
+
+/// Whether it is seen that the refutation shows that the guarantee fails. It answers no where it doesn't, and for want of
+/// memory.
+pub fn disprove(
+    alloc: Global,
+    topology: &Topology,
+    guarantee: &Guarantee,
+    refutation: &Refutation,
+) -> bool
+    ensures { result ≡ true → Refutes topology.now guarantee.now refutation.now }
+{
+    match refutes(alloc, topology, guarantee, refutation) {
+        Ok(yes) => yes,
+        Err(_) => false,
+    }
 }

@@ -1,2 +1,4 @@
-pub mod Judging
 pub mod Forming
+pub mod Placing
+pub mod Marking
+pub mod Judging

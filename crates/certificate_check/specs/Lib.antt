@@ -1,5 +1,7 @@
 pub mod Orders
-pub mod Forms
+pub mod Views
+pub mod Places
+pub mod Coverings
 pub mod Walks
 pub mod Checks
 pub mod Judgements

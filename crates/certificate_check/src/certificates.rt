@@ -2,12 +2,16 @@
 
 ghost use Rattle.std.specs.Prelude.{◌≡◌};
 ghost use Rattle.state_walks.specs.Judged.{states_of};
+ghost use Rattle.certificate_check.specs.Views.{form_view};
 
+use crate::forms::Form;
 use model::Text;
 use std::marker::Model;
 
-/// What shows that a guarantee holds: the guarantee's texts, and states that letters never lead out of.
+/// What shows that a guarantee holds: the guarantee's texts, and states that letters never lead out of, but for those
+/// that its form passes over.
 pub struct Certificate {
+    form: Form,
     exchange: Text,
     mode: Text,
     pattern: Text,
@@ -19,6 +23,7 @@ pub struct Certificate {
 impl Drop for Certificate {
     fn drop(self) {
         let Certificate {
+            form: _,
             exchange: _,
             mode: _,
             pattern: _,
@@ -31,30 +36,40 @@ impl Drop for Certificate {
 impl Model for Certificate {
     ghost use Rattle.state_walks.specs.Judged.{states_of};
     ghost use Rattle.model.specs.Certificates.{Certificate as Shown};
+    ghost use Rattle.certificate_check.specs.Views.{form_view};
 
     ghost Value = { Shown };
 
-    ghost view = { λ c. record { exchange = c.exchange; mode = c.mode; pattern = c.pattern; queue = c.queue; states = states_of c.states.items } };
+    ghost view = { λ c. record { form = form_view c.form; exchange = c.exchange; mode = c.mode; pattern = c.pattern; queue = c.queue; states = states_of c.states.items } };
 }
 
 impl Certificate {
     /// The certificate of these parts.
     pub fn new(
+        form: Form,
         exchange: Text,
         mode: Text,
         pattern: Text,
         queue: Text,
         states: Vec<Vec<u64>>,
     ) -> Certificate
-        ensures { result ≡ record { exchange = exchange; mode = mode; pattern = pattern; queue = queue; states = states_of states.items } }
+        ensures { result ≡ record { form = form_view form; exchange = exchange; mode = mode; pattern = pattern; queue = queue; states = states_of states.items } }
     {
         Certificate {
+            form,
             exchange,
             mode,
             pattern,
             queue,
             states,
         }
+    }
+
+    /// What its states have numbers for.
+    pub fn form(&self) -> &Form
+        ensures { form_view result.now ≡ self.now.form }
+    {
+        &self.form
     }
 
     /// The exchange of its guarantee.

@@ -1,24 +1,22 @@
 //! The form of a certificate.
 
 ghost use Rattle.std.specs.Prelude.{◌≡◌, ◌≤◌, ◌<◌, ◌+◌, ◌^◌, Decides, length};
-ghost use Rattle.std.specs.List.{AllByRecursion, list_all};
-ghost use Rattle.model.specs.Certificates.{AreFew, IsFormed, IsOf, IsShort, mode_name};
+ghost use Rattle.std.specs.List.{AllByRecursion};
+ghost use Rattle.std.specs.Str.{bytes_eq};
+ghost use Rattle.model.specs.Certificates.{IsFormed, IsOf, IsShort, Suits, mode_name};
 ghost use Rattle.model.specs.Positions.{FitsEach};
 ghost use Rattle.state_walks.specs.Judged.{states_of};
 ghost use Rattle.certificate_check.specs.Checks.{FitsGuarantee};
-ghost use Rattle.certificate_check.specs.Forms.{is_short};
+ghost use Rattle.certificate_check.specs.Places.{IsPassedOver, same_texts};
+ghost use Rattle.certificate_check.specs.Views.{form_view};
 
 use crate::certificates::Certificate;
+use crate::forms::Form;
 use crate::order::ascend;
+use crate::places::{MOST_PATTERNS, has_few_places, is_passed_over, passes_over};
 use guarantees::Guarantee;
-use model::Mode;
+use model::{Mode, Text};
 use word_automata::Tracked;
-
-/// The most patterns that are tracked.
-pub const MOST_PATTERNS: usize = 64;
-
-/// The most words of a tracked pattern.
-pub const MOST_WORDS: usize = 31;
 
 /// The most states of a certificate.
 pub const MOST_STATES: usize = 65_536;
@@ -43,25 +41,46 @@ fn is_of(guarantee: &Guarantee, certificate: &Certificate) -> bool
         && certificate.queue().as_bytes() == guarantee.queue().as_bytes()
 }
 
-/// Whether the pattern has at most 31 words.
-fn is_short(pattern: &Tracked) -> bool
-    ensures { result ≡ is_short pattern.now }
+/// Whether the texts are the same.
+fn is_same(text: &Text, other: &Text) -> bool
+    ensures { result ≡ bytes_eq text.now other.now }
 {
-    pattern.tokens().len() <= MOST_WORDS
+    text.as_bytes() == other.as_bytes()
 }
 
-/// Whether each pattern has at most 31 words.
-fn all_short(patterns: &[Tracked]) -> bool
-    ensures { result ≡ list_all is_short patterns.now }
+/// Whether the texts are the same, one by one.
+fn are_equal(texts: &[Text], others: &[Text]) -> bool
+    ensures { result ≡ same_texts texts.now others.now }
 {
-    patterns.iter().all(|pattern| is_short(pattern))
+    if texts.len() != others.len() {
+        return false;
+    }
+    for at in 0..texts.len() {
+        if !is_same(&texts[at], &others[at]) {
+            return false;
+        }
+    }
+    true
 }
 
-/// Whether there are at most 64 patterns, each of at most 31 words.
-fn are_few(patterns: &[Tracked]) -> bool
-    ensures { Decides result (AreFew patterns.now) }
+/// Whether the texts are the same, in the same order.
+fn are_same(texts: &[Text], others: &[Text]) -> bool
+    ensures { Decides result (texts.now ≡ others.now) }
 {
-    patterns.len() <= MOST_PATTERNS && all_short(patterns)
+    are_equal(texts, others)
+}
+
+/// Whether the form is one that a guarantee takes which takes out the keys of these patterns.
+fn suits(form: &Form, excepts: &[Text]) -> bool
+    ensures { Decides result (Suits (form_view form.now) excepts.now) }
+{
+    match form {
+        Form::Whole => excepts.is_empty(),
+        Form::Sliced(_) => excepts.is_empty(),
+        Form::Excepting { excepts: own, .. } => {
+            !excepts.is_empty() && are_same(own.as_slice(), excepts)
+        }
+    }
 }
 
 /// Whether a number uses only the bits up to this place.
@@ -101,19 +120,35 @@ fn all_fit(patterns: &[Tracked], states: &[Vec<u64>]) -> bool
     true
 }
 
+/// Whether no state is passed over, where states are.
+fn none_dropped(drops: bool, states: &[Vec<u64>]) -> bool
+    ensures { Decides result (AllByRecursion (λ s. IsPassedOver drops s → ⊥) (states_of states.now)) }
+{
+    for state in states {
+        if is_passed_over(drops, state.as_slice()) {
+            return false;
+        }
+    }
+    true
+}
+
 /// Whether the certificate has the form as far as the tracked patterns have no say in it.
 pub fn fits_guarantee(guarantee: &Guarantee, certificate: &Certificate) -> bool
     ensures { Decides result (FitsGuarantee guarantee.now certificate.now) }
 {
     is_of(guarantee, certificate)
+        && suits(certificate.form(), guarantee.excepts())
+        && has_few_places(certificate.form())
         && certificate.states().len() <= MOST_STATES
         && ascend(certificate.states())
+        && none_dropped(passes_over(certificate.form()), certificate.states())
 }
 
-/// Whether these patterns are within the limits, and the certificate has the form that the guarantee needs.
+/// Whether the patterns are not too many, and each state has a number for each.
 pub fn is_formed(guarantee: &Guarantee, patterns: &[Tracked], certificate: &Certificate) -> bool
-    requires { FitsGuarantee guarantee.now certificate.now }
+    requires fits { FitsGuarantee guarantee.now certificate.now }
+    requires short { AllByRecursion IsShort patterns.now }
     ensures { Decides result (IsFormed guarantee.now patterns.now certificate.now) }
 {
-    are_few(patterns) && all_fit(patterns, certificate.states())
+    patterns.len() <= MOST_PATTERNS && all_fit(patterns, certificate.states())
 }

@@ -6,13 +6,19 @@
 
 mod certificates;
 mod checking;
+mod covering;
 mod faults;
 mod form;
+mod forms;
 mod order;
+mod places;
 mod walk;
 
 pub use certificates::Certificate;
 pub use checking::check;
+pub use covering::Covering;
 pub use faults::CertFault;
-pub use form::{MOST_PATTERNS, MOST_STATES, MOST_WORDS};
+pub use form::MOST_STATES;
+pub use forms::Form;
+pub use places::{MOST_PATTERNS, at_places, passes_over};
 pub use walk::Walk;

@@ -6,7 +6,9 @@ use Rattle.json_file.specs.Members.{IsJson}
 use Rattle.json_file.specs.Outcomes.{FailsJson}
 use Rattle.json_file.specs.declared.faults.BadJson.{BadJson}
 use Rattle.state_walks.specs.Judged.{states_of}
-use Rattle.model.specs.Certificates.{Certificate}
+use Rattle.certificate_check.specs.Views.{form_view}
+use Rattle.certificate_check.specs.declared.forms.Form as stated
+use Rattle.model.specs.Certificates.{Certificate, Form}
 use Rattle.certificate_files.specs.declared.bad.BadCertificates.{BadCertificates}
 use Rattle.certificate_files.specs.declared.bad.BadCertificates.TheVariants.{NotJson, Malformed, TooLong, Memory}
 use Rattle.certificate_files.specs.Stated.{certificates_stated}
@@ -15,6 +17,11 @@ use Rattle.certificate_files.specs.Stated.{certificates_stated}
 abbrev pub GivesStates : Result (Vec (Vec ℕ Global) Global) BadJson → Option (List (List ℕ)) → Type 0
 GivesStates (Ok v) o = o ≡ Some (states_of v.items)
 GivesStates (Err e) o = FailsJson e (o ≡ None)
+
+-- the form that stands there is given, or it is refused where none does
+abbrev pub GivesForm : Result stated.Form BadJson → Option Form → Type 0
+GivesForm (Ok form) o = o ≡ Some (form_view form)
+GivesForm (Err e) o = FailsJson e (o ≡ None)
 
 -- the file is JSON and states these certificates
 pub record IsCertificatesFile (bytes : List ℕ) (cs : List Certificate) : Type 0 where

@@ -3,7 +3,7 @@ use Rattle.std.specs.Prelude.{codes, ℕ, List, map}
 use Rattle.serde_json.specs.Data.{Data, number, unsigned, string, array, object, member, no_members}
 use Rattle.serde_json.specs.View.{items_of}
 use Rattle.model.specs.Words.{Text}
-use Rattle.model.specs.Certificates.{Certificate}
+use Rattle.model.specs.Certificates.{Certificate, Form, Whole, Sliced, Excepting}
 
 -- a number of a state, as JSON
 abbrev pub number_data : ℕ → Data
@@ -17,15 +17,54 @@ state_data s = array (items_of (map number_data s))
 abbrev pub states_data : List (List ℕ) → Data
 states_data ss = array (items_of (map state_data ss))
 
--- the members of a certificate, in the order of their names
-abbrev pub members_data : Text → Text → Text → Text → Data → Data
-members_data exchange mode pattern queue states =
-    object (member (codes "exchange") (string exchange) (member (codes "form") (number (unsigned 1)) (member (codes "mode") (string mode)
-    (member (codes "pattern") (string pattern) (member (codes "queue") (string queue) (member (codes "states") states no_members))))))
+-- the places that are tracked: an array of them
+abbrev pub places_data : List ℕ → Data
+places_data places = array (items_of (map number_data places))
+
+-- the patterns that take keys out: an array of their texts
+abbrev pub excepts_data : List Text → Data
+excepts_data excepts = array (items_of (map string excepts))
+
+-- the texts of a certificate
+pub record Texts : Type 0 where
+  pub exchange : Text
+  pub mode : Text
+  pub pattern : Text
+  pub queue : Text
+
+-- the texts of this certificate
+abbrev pub texts_of : Certificate → Texts
+texts_of c = record { exchange = c.exchange; mode = c.mode; pattern = c.pattern; queue = c.queue }
+
+-- the members of form 1, in the order of their names
+abbrev pub whole_data : Texts → Data → Data
+whole_data t states =
+    object (member (codes "exchange") (string t.exchange) (member (codes "form") (number (unsigned 1)) (member (codes "mode") (string t.mode)
+    (member (codes "pattern") (string t.pattern) (member (codes "queue") (string t.queue) (member (codes "states") states no_members))))))
+
+-- the members of form 2, in the order of their names
+abbrev pub sliced_data : Texts → Data → Data → Data
+sliced_data t states tracked =
+    object (member (codes "exchange") (string t.exchange) (member (codes "form") (number (unsigned 2)) (member (codes "mode") (string t.mode)
+    (member (codes "pattern") (string t.pattern) (member (codes "queue") (string t.queue) (member (codes "states") states
+    (member (codes "tracked") tracked no_members)))))))
+
+-- the members of form 3, in the order of their names
+abbrev pub excepting_data : Texts → Data → Data → Data → Data
+excepting_data t states tracked excepts =
+    object (member (codes "except") excepts (member (codes "exchange") (string t.exchange) (member (codes "form") (number (unsigned 3))
+    (member (codes "mode") (string t.mode) (member (codes "pattern") (string t.pattern) (member (codes "queue") (string t.queue)
+    (member (codes "states") states (member (codes "tracked") tracked no_members))))))))
+
+-- the members of a certificate of this form
+abbrev pub form_data : Form → Texts → Data → Data
+form_data Whole t states = whole_data t states
+form_data (Sliced places) t states = sliced_data t states (places_data places)
+form_data (Excepting excepts places) t states = excepting_data t states (places_data places) (excepts_data excepts)
 
 -- a certificate: an object with its members
 abbrev pub certificate_data : Certificate → Data
-certificate_data c = members_data c.exchange c.mode c.pattern c.queue (states_data c.states)
+certificate_data c = form_data c.form (texts_of c) (states_data c.states)
 
 -- a file: an array of certificates, in their order
 abbrev pub file_data : List Certificate → Data

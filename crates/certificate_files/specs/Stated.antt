@@ -1,10 +1,11 @@
 -- The certificates that a JSON value states (own).
-use Rattle.std.specs.Prelude.{codes, ℕ, List, [], ◌∷◌, Option, Some, None, option_and_then, if◌then◌else◌, ◌==◌}
+use Rattle.std.specs.Prelude.{codes, ℕ, List, [], ◌∷◌, Option, Some, None, option_and_then, option_map, if◌then◌else◌, ◌==◌}
 use Rattle.model.specs.Options.{◌>>=◌}
 use Rattle.serde_json.specs.Data.{Data}
-use Rattle.serde_json.specs.Find.{get, as_number, as_u64, as_array}
+use Rattle.serde_json.specs.Find.{get, as_number, as_str, as_u64, as_array}
 use Rattle.json_file.specs.Members.{each, has_only, text_member}
-use Rattle.model.specs.Certificates.{Certificate}
+use Rattle.model.specs.Words.{Text}
+use Rattle.model.specs.Certificates.{Certificate, Form, Whole, Sliced, Excepting}
 
 -- a whole number below 2^64
 abbrev pub whole_number : Data → Option ℕ
@@ -18,32 +19,65 @@ state_in d = option_and_then (each whole_number) (as_array d)
 unfoldable pub states_at : Data → Option (List (List ℕ))
 states_at d = option_and_then (each state_in) (option_and_then as_array (get (codes "states") d))
 
--- the one form that is read
-abbrev pub first_form : ℕ → Option ℕ
-first_form n = if n == 1 then Some 1 else None
+-- the places at the member `tracked`
+unfoldable pub tracked_at : Data → Option (List ℕ)
+tracked_at d = option_and_then (each whole_number) (option_and_then as_array (get (codes "tracked") d))
 
--- the form at the member `form`
-unfoldable pub form_at : Data → Option ℕ
-form_at d = option_and_then first_form (option_and_then whole_number (get (codes "form") d))
+-- the texts at the member `except`
+unfoldable pub excepts_at : Data → Option (List Text)
+excepts_at d = option_and_then (each as_str) (option_and_then as_array (get (codes "except") d))
 
--- the certificate that the members of these names state
-unfoldable pub members_at : Data → Option Certificate
-members_at d = do
+-- ---- forms, by their numbers: each has its own members
+
+-- the members of form 1
+abbrev pub whole_names : List (List ℕ)
+whole_names = codes "exchange" ∷ codes "form" ∷ codes "mode" ∷ codes "pattern" ∷ codes "queue" ∷ codes "states" ∷ []
+
+-- the members of form 2
+abbrev pub sliced_names : List (List ℕ)
+sliced_names = codes "exchange" ∷ codes "form" ∷ codes "mode" ∷ codes "pattern" ∷ codes "queue" ∷ codes "states" ∷ codes "tracked" ∷ []
+
+-- the members of form 3
+abbrev pub excepting_names : List (List ℕ)
+excepting_names = codes "except" ∷ codes "exchange" ∷ codes "form" ∷ codes "mode" ∷ codes "pattern" ∷ codes "queue" ∷ codes "states" ∷ codes "tracked" ∷ []
+
+-- form 1, of an object that has no other members
+unfoldable pub whole_at : Data → Option Form
+whole_at d = if has_only whole_names d then Some Whole else None
+
+-- form 2, of an object that has no other members
+unfoldable pub sliced_at : Data → Option Form
+sliced_at d = if has_only sliced_names d then option_map Sliced (tracked_at d) else None
+
+-- the texts and the places of form 3
+unfoldable pub excepting_of : Data → Option Form
+excepting_of d = do
+  excepts ← excepts_at d
+  places ← tracked_at d
+  Some (Excepting excepts places)
+
+-- form 3, of an object that has no other members
+unfoldable pub excepting_at : Data → Option Form
+excepting_at d = if has_only excepting_names d then excepting_of d else None
+
+-- the form of this number
+unfoldable pub form_of : ℕ → Data → Option Form
+form_of n d = if n == 1 then whole_at d else if n == 2 then sliced_at d else if n == 3 then excepting_at d else None
+
+-- the form at the member `form`, with what belongs to it
+unfoldable pub form_at : Data → Option Form
+form_at d = option_and_then (λ n. form_of n d) (option_and_then whole_number (get (codes "form") d))
+
+-- a certificate: an object with exactly the members of its form
+unfoldable pub certificate_at : Data → Option Certificate
+certificate_at d = do
   form ← form_at d
   exchange ← text_member (codes "exchange") d
   mode ← text_member (codes "mode") d
   pattern ← text_member (codes "pattern") d
   queue ← text_member (codes "queue") d
   states ← states_at d
-  Some (record { exchange = exchange; mode = mode; pattern = pattern; queue = queue; states = states })
-
--- the names of a certificate's members
-abbrev pub member_names : List (List ℕ)
-member_names = codes "exchange" ∷ codes "form" ∷ codes "mode" ∷ codes "pattern" ∷ codes "queue" ∷ codes "states" ∷ []
-
--- a certificate: an object with exactly these members
-unfoldable pub certificate_at : Data → Option Certificate
-certificate_at d = if has_only member_names d then members_at d else None
+  Some (record { form = form; exchange = exchange; mode = mode; pattern = pattern; queue = queue; states = states })
 
 -- the certificates of a file, in its order
 unfoldable pub certificates_stated : Data → Option (List Certificate)

@@ -4,14 +4,21 @@ use Rattle.std.specs.List.{AllByRecursion}
 use Rattle.std.specs.declared.alloc.Global.{Global}
 use denote.Ref.{Bor}
 use Rattle.serde_json.specs.Written.{compact_text}
+use Rattle.serde_json.specs.Data.{Data, string}
 use Rattle.serde_json.specs.View.{view}
 use Rattle.serde_json.specs.declared.value.Value.{Value}
 use Rattle.model.specs.Words.{Text}
-use Rattle.model.specs.Certificates.{Certificate}
+use Rattle.model.specs.Certificates.{Certificate, Form, Whole, Sliced, Excepting}
 use Rattle.certificate_files.specs.declared.unwritten.Unwritten.{Unwritten}
 use Rattle.certificate_files.specs.declared.unwritten.Unwritten.TheVariants.{NotText, Memory}
-use Rattle.certificate_files.specs.Spelled.{certificate_data, file_data}
+use Rattle.certificate_files.specs.Spelled.{certificate_data, excepts_data, file_data, form_data, Texts}
 use Rattle.certificate_files.specs.Reads.{IsCertificatesFile}
+
+-- the texts that the form names, if it names any, are UTF-8
+abbrev pub HasTexts : Form → Type 0
+HasTexts Whole = Unit {0}
+HasTexts (Sliced places) = Unit {0}
+HasTexts (Excepting excepts places) = AllByRecursion IsUtf8 excepts
 
 -- the texts of a certificate are UTF-8
 pub record AreTexts (c : Certificate) : Type 0 where
@@ -19,6 +26,7 @@ pub record AreTexts (c : Certificate) : Type 0 where
   pub mode : IsUtf8 c.mode
   pub pattern : IsUtf8 c.pattern
   pub queue : IsUtf8 c.queue
+  pub excepts : HasTexts c.form
 
 -- nothing is written for this reason alone; want of memory owes nothing
 abbrev pub FailsToWrite : Unwritten → Type 0 → Type 0
@@ -29,6 +37,21 @@ FailsToWrite Memory why = Unit {0}
 abbrev pub LendsText : Result (Bor (List ℕ)) Unwritten → Text → Type 0
 LendsText (Ok s) text = s.now ≡ text
 LendsText (Err e) text = FailsToWrite e (IsUtf8 text)
+
+-- the text as JSON, or it is no UTF-8, or memory was refused
+abbrev pub GivesText : Result Value Unwritten → Text → Type 0
+GivesText (Ok v) text = view v ≡ string text
+GivesText (Err e) text = FailsToWrite e (IsUtf8 text)
+
+-- the texts as JSON, or one of them is no UTF-8, or memory was refused
+abbrev pub GivesTexts : Result Value Unwritten → List Text → Type 0
+GivesTexts (Ok v) texts = view v ≡ excepts_data texts
+GivesTexts (Err e) texts = FailsToWrite e (AllByRecursion IsUtf8 texts)
+
+-- a certificate of this form with these texts as JSON, or a text of the form is no UTF-8, or memory was refused
+abbrev pub GivesMembers : Result Value Unwritten → Form → Texts → Data → Type 0
+GivesMembers (Ok v) form texts states = view v ≡ form_data form texts states
+GivesMembers (Err e) form texts states = FailsToWrite e (HasTexts form)
 
 -- the certificate as JSON, or one of its texts is no UTF-8, or memory was refused
 abbrev pub GivesData : Result Value Unwritten → Certificate → Type 0

@@ -93,14 +93,12 @@ fn put_path(out: &mut LineAnswer, path: &[Text]) {
 
 /// Appends that a key was found, with its path, if it is seen to break the guarantee.
 fn put_no(out: &mut LineAnswer, topology: &Topology, guarantee: &Guarantee, found: &Refutation) {
-    match disprove(out.alloc(), topology, guarantee, found) {
-        Ok(true) => {
-            out.put("no key ");
-            out.put_quoted(found.key());
-            put_path(out, found.path());
-        }
-        Ok(false) => out.put("no, which is not shown"),
-        Err(_) => out.fail(Unanswered::Memory),
+    if disprove(out.alloc(), topology, guarantee, found) {
+        out.put("no key ");
+        out.put_quoted(found.key());
+        put_path(out, found.path());
+    } else {
+        out.put("no, which is not shown");
     }
 }
 
@@ -109,7 +107,6 @@ fn put_cause(out: &mut LineAnswer, cause: UndecidedCause) {
     out.put(match cause {
         UndecidedCause::TooManyStates => "undecided states",
         UndecidedCause::KeyTooLong => "undecided key",
-        UndecidedCause::Unfit => "undecided unfit",
     });
 }
 
@@ -159,10 +156,7 @@ fn put_disproved(
 ) {
     let path = path_of(out, names);
     let refutation = Refutation::new(text_of(out, key), path);
-    match disprove(out.alloc(), topology, guarantee, &refutation) {
-        Ok(yes) => out.put_yes_or_no(yes),
-        Err(_) => out.fail(Unanswered::Memory),
-    }
+    out.put_yes_or_no(disprove(out.alloc(), topology, guarantee, &refutation));
 }
 
 /// Answers what is asked about a guarantee, with the words that stand behind it, and with a file of certificates if one
@@ -188,7 +182,44 @@ fn answer_of_guarantee(
     }
 }
 
-/// Answers a line over a topology. Its first words are a guarantee, `MODE EXCHANGE PATTERN QUEUE`.
+/// Appends a pattern whose keys are taken out, if the word names one.
+fn push_except(out: &mut LineAnswer, excepts: &mut Vec<Text>, word: &str) {
+    let Some(pattern) = word.strip_prefix('-') else {
+        return;
+    };
+    let pattern = text_of(out, pattern);
+    if excepts.push(pattern).is_err() {
+        out.fail(Unanswered::Memory);
+    }
+}
+
+/// The patterns whose keys are taken out: those of the words that begin with a dash.
+fn excepts_of(out: &mut LineAnswer, words: &[&str]) -> Vec<Text> {
+    let mut excepts = Vec::new(out.alloc());
+    for word in words {
+        push_except(out, &mut excepts, word);
+    }
+    excepts
+}
+
+/// Appends a word that doesn't begin with a dash.
+fn push_other<'a>(out: &mut LineAnswer, others: &mut Vec<&'a str>, word: &'a str) {
+    if !word.starts_with('-') && others.push(word).is_err() {
+        out.fail(Unanswered::Memory);
+    }
+}
+
+/// The words that don't begin with a dash.
+fn others_of<'a>(out: &mut LineAnswer, words: &[&'a str]) -> Vec<&'a str> {
+    let mut others = Vec::new(out.alloc());
+    for word in words {
+        push_other(out, &mut others, word);
+    }
+    others
+}
+
+/// Answers a line over a topology. Its first words are a guarantee, `MODE EXCHANGE PATTERN QUEUE`, and `-PATTERN` for each
+/// pattern whose keys it takes out.
 fn answer_over(
     out: &mut LineAnswer,
     kind: &str,
@@ -203,8 +234,14 @@ fn answer_over(
     let exchange = text_of(out, exchange);
     let pattern = text_of(out, pattern);
     let queue = text_of(out, queue);
-    let guarantee = Guarantee::new(mode, exchange, pattern, queue);
-    answer_of_guarantee(out, kind, topology, &guarantee, files, rest);
+    let excepts = excepts_of(out, rest);
+    let others = others_of(out, rest);
+    match Guarantee::new(mode, exchange, pattern, queue, excepts) {
+        Some(guarantee) => {
+            answer_of_guarantee(out, kind, topology, &guarantee, files, others.as_slice());
+        }
+        None => out.fail(Unanswered::Form),
+    }
 }
 
 /// Answers a line over files, the first of which is a definitions file.

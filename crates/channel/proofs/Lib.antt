@@ -4,3 +4,4 @@ pub mod Counting
 pub mod Seating
 pub mod Numbering
 pub mod Halving
+pub mod Moving

@@ -3,3 +3,4 @@ pub mod Seats
 pub mod Names
 pub mod Deliveries
 pub mod Open
+pub mod Moving

@@ -9,6 +9,7 @@ ghost use Rattle.model.specs.Prefetch.{has_tag_left};
 ghost use Rattle.channel.specs.Outstanding.{tag_of};
 ghost use Rattle.channel.specs.Deliveries.{consumer_at};
 ghost use Rattle.channel.specs.Open.{nothing_given, with_qos, given_on, settled_on, without_settled, without_named, consumers_from, open_in, SeatsConsumer, TellsTaker};
+ghost use Rattle.channel.specs.Moving.{open_moved};
 
 use crate::consumers::{Consumer, SeatRefusal};
 use crate::deliveries::Deliveries;
@@ -231,5 +232,12 @@ impl Channel {
         ensures { self.new ≡ without_settled self.old tag multiple self.new.given.room }
     {
         self.deliveries.forget(tag, multiple);
+    }
+
+    /// Each queue that stood at a place of the table stands now at the place that it has there. It takes no memory.
+    pub fn renumber(&mut self, places: &[usize])
+        ensures { self.new ≡ open_moved places.now self.old }
+    {
+        self.deliveries.renumber(places);
     }
 }

@@ -6,8 +6,9 @@ ghost use Rattle.std.specs.List.{list_any, position_from, All};
 ghost use Rattle.model.specs.Prefetch.{is_to, is_delivery, is_below, count_to, count_given};
 ghost use Rattle.channel.specs.Outstanding.{taker_of};
 ghost use Rattle.channel.specs.Seats.{consumers_of, is_numbered, has_name, takes_from, counted_in, counted_out, uncounted, may_held, IsSeatAt, NumbersRise};
+ghost use Rattle.channel.specs.Moving.{seat_moved};
 
-use crate::pending::Outstanding;
+use crate::pending::{Outstanding, place_now};
 use model::{Taker, Text};
 use std::alloc::AllocError;
 
@@ -282,5 +283,23 @@ pub(crate) fn may_one(seats: &[CountedConsumer], number: u64, limit: u16, given:
                 || (is_room(seat.consumer.limit, seat.held) && is_room(limit, given))
         }
         None => false,
+    }
+}
+
+/// Each is told where its queue stands now.
+pub(crate) fn renumber(seats: &mut Vec<CountedConsumer>, places: &[usize])
+    ensures seats { seats.new.items ≡ map (seat_moved places.now) seats.old.items }
+    ensures len { vec_len seats.new ≡ vec_len seats.old }
+    ensures capacity { vec_capacity seats.new ≡ vec_capacity seats.old }
+{
+    renumber_slice(seats, places);
+}
+
+/// Each of these is told where its queue stands now.
+fn renumber_slice(seats: &mut [CountedConsumer], places: &[usize])
+    ensures { seats.new ≡ map (seat_moved places.now) seats.old }
+{
+    for seat in seats.iter_mut() {
+        seat.consumer.queue = place_now(places, seat.consumer.queue);
     }
 }

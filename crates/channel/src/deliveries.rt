@@ -39,6 +39,7 @@ impl Deliveries {
     ghost use Rattle.channel.specs.Outstanding.{tag_of};
     ghost use Rattle.channel.specs.Seats.{AreNumbered, consumers_of, is_named, takes_from};
     ghost use Rattle.channel.specs.Deliveries.{with_given, with_limit, may_be_given, consumer_at, taker_at, AddsConsumer, ConsumesUnnamed};
+    ghost use Rattle.channel.specs.Moving.{given_moved};
 
     /// Nothing was given out, there is no consumer and no limit. It takes no memory.
     pub fn new(alloc: Global) -> Deliveries
@@ -252,6 +253,14 @@ impl Deliveries {
         ensures seats { self.old.seats ≤ self.new.seats }
     {
         self.seats.take_out(tag);
+    }
+
+    /// Each queue that stood at a place of the table stands now at the place that it has there. It takes no memory.
+    pub fn renumber(&mut self, places: &[usize])
+        ensures { self.new ≡ given_moved places.now self.old }
+    {
+        self.pending.renumber(places);
+        self.seats.renumber(places);
     }
 
     /// The consumers, in the order in which they were made.

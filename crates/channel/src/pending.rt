@@ -38,10 +38,11 @@ impl Model for Unsettled {
 }
 
 impl Unsettled {
-    ghost use Rattle.std.specs.Prelude.{◌≡◌, ◌+◌, ◌<◌, ◌≤◌, ◌^◌, ◌++◌, ◌∷◌, [], ℕ, option_map, OnOk, OnErr, length, get_or};
+    ghost use Rattle.std.specs.Prelude.{◌≡◌, ◌+◌, ◌<◌, ◌≤◌, ◌^◌, ◌++◌, ◌∷◌, [], ℕ, option_map, OnOk, OnErr, length, get_or, map};
     ghost use Rattle.model.specs.Settling.{settled, kept, Rises};
     ghost use Rattle.channel.specs.Outstanding.{tag_of};
     ghost use Rattle.channel.specs.Seats.{AreParts};
+    ghost use Rattle.channel.specs.Moving.{outstanding_moved};
 
     /// Nothing is outstanding. It takes no memory.
     pub(crate) fn new(alloc: Global) -> Unsettled
@@ -106,6 +107,14 @@ impl Unsettled {
         self.items.reserve(more)
     }
 
+    /// Each queue that stood at a place of the table stands now at the place that it has there. It takes no memory.
+    pub(crate) fn renumber(&mut self, places: &[usize])
+        ensures outstanding { self.new.outstanding ≡ map (outstanding_moved places.now) self.old.outstanding }
+        ensures room { self.new.room ≡ self.old.room }
+    {
+        renumber_each(&mut self.items, places);
+    }
+
     /// A message is given out.
     pub(crate) fn push(&mut self, given: Outstanding)
         requires room { 0 < self.old.room }
@@ -118,7 +127,8 @@ impl Unsettled {
     }
 }
 
-ghost use Rattle.std.specs.Prelude.{◌≡◌, ◌+◌, ◌≤◌, vec_len, vec_capacity, drop};
+ghost use Rattle.std.specs.Prelude.{◌≡◌, ◌+◌, ◌≤◌, vec_len, vec_capacity, drop, map};
+ghost use Rattle.channel.specs.Moving.{place_now, outstanding_moved};
 
 /// Takes the front away.
 fn drop_front(items: &mut Vec<Outstanding>, n: usize)
@@ -128,4 +138,32 @@ fn drop_front(items: &mut Vec<Outstanding>, n: usize)
     ensures capacity { vec_capacity items.new ≡ vec_capacity items.old }
 {
     items.drain(..n);
+}
+
+/// Where the queue stands now that stood at this place; behind the table, at the same one.
+pub(crate) fn place_now(places: &[usize], place: usize) -> usize
+    ensures { result ≡ place_now places.now place }
+{
+    match places.get(place) {
+        Some(now) => *now,
+        None => place,
+    }
+}
+
+/// Each is told where its queue stands now.
+fn renumber_each(items: &mut Vec<Outstanding>, places: &[usize])
+    ensures items { items.new.items ≡ map (outstanding_moved places.now) items.old.items }
+    ensures len { vec_len items.new ≡ vec_len items.old }
+    ensures capacity { vec_capacity items.new ≡ vec_capacity items.old }
+{
+    renumber_slice(items, places);
+}
+
+/// Each of these is told where its queue stands now.
+fn renumber_slice(items: &mut [Outstanding], places: &[usize])
+    ensures { items.new ≡ map (outstanding_moved places.now) items.old }
+{
+    for one in items.iter_mut() {
+        one.queue = place_now(places, one.queue);
+    }
 }

@@ -4,7 +4,7 @@ ghost use Rattle.std.specs.Prelude.{◌≡◌};
 
 use crate::consumers::{
     Consumer, CountedConsumer, consumer_of, count_from, count_in, count_out, given_to_all,
-    is_in_use, may_one, one_if_consumed, take_out,
+    is_in_use, may_one, one_if_consumed, renumber, take_out,
 };
 use crate::pending::Outstanding;
 use model::Taker;
@@ -29,12 +29,13 @@ impl Model for Seats {
 }
 
 impl Seats {
-    ghost use Rattle.std.specs.Prelude.{◌≡◌, ◌+◌, ◌-◌, ◌<◌, ◌≤◌, ◌^◌, ◌++◌, ◌∷◌, [], ℕ, List, length, find, filter, count_by, not, ◌==◌, option_map, OnOk, OnErr};
+    ghost use Rattle.std.specs.Prelude.{◌≡◌, ◌+◌, ◌-◌, ◌<◌, ◌≤◌, ◌^◌, ◌++◌, ◌∷◌, [], ℕ, List, length, find, filter, count_by, map, not, ◌==◌, option_map, OnOk, OnErr};
     ghost use Rattle.std.specs.List.{list_any, All};
     ghost use Rattle.model.specs.Prefetch.{count_to};
     ghost use Rattle.channel.specs.Outstanding.{taker_of};
     ghost use Rattle.channel.specs.Seats.{SeatsAreCounted, AreParts, NumbersRise, consumers_of, is_named, takes_from};
     ghost use Rattle.channel.specs.Deliveries.{may_of};
+    ghost use Rattle.channel.specs.Moving.{consumer_moved, outstanding_moved};
     ghost use Rattle.channel.specs.declared.consumers.Consumer.{Consumer as One};
     ghost use Rattle.channel.specs.declared.pending.Outstanding.{Outstanding as Given};
 
@@ -121,6 +122,15 @@ impl Seats {
         ensures counted { (given : List Given) → SeatsAreCounted self.old given → SeatsAreCounted self.new given }
     {
         take_out(&mut self.seats, tag);
+    }
+
+    /// Each queue that stood at a place of the table stands now at the place that it has there. It takes no memory.
+    pub(crate) fn renumber(&mut self, places: &[usize])
+        ensures consumers { self.new.consumers ≡ map (consumer_moved places.now) self.old.consumers }
+        ensures room { self.new.room ≡ self.old.room }
+        ensures counted { (given : List Given) → SeatsAreCounted self.old given → SeatsAreCounted self.new (map (outstanding_moved places.now) given) }
+    {
+        renumber(&mut self.seats, places);
     }
 
     /// Counts a message that is given out.

@@ -85,9 +85,10 @@ pub record IsSupported (f : File) : Type 0 where
 
 -- ---- 8: limits refuse
 
--- a queue with a limit says what it does past it
-abbrev pub SaysOverflow : QueueEntry → Type 0
-SaysOverflow q = (n : ℕ) → q.arguments.max_length ≡ Some n → q.arguments.overflow ≡ None → ⊥
+-- a queue with a limit, of messages or of bytes, says what it does past it
+pub record SaysOverflow (q : QueueEntry) : Type 0 where
+  pub messages : (n : ℕ) → q.arguments.max_length ≡ Some n → q.arguments.overflow ≡ None → ⊥
+  pub bytes : (n : ℕ) → q.arguments.max_bytes ≡ Some n → q.arguments.overflow ≡ None → ⊥
 
 -- every queue does
 abbrev pub HasOverflows : File → Type 0

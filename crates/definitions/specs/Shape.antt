@@ -69,18 +69,20 @@ exchange_entry_at d = do
 
 -- the arguments of a queue that are known
 abbrev pub queue_argument_names : List (List ℕ)
-queue_argument_names = codes "x-max-length" ∷ codes "x-overflow" ∷ codes "x-dead-letter-exchange" ∷ codes "x-dead-letter-routing-key" ∷ []
+queue_argument_names = codes "x-max-length" ∷ codes "x-max-length-bytes" ∷ codes "x-overflow" ∷ codes "x-dead-letter-exchange" ∷ codes "x-dead-letter-routing-key" ∷ []
 
 -- the arguments of a queue
 unfoldable pub queue_arguments_at : Data → Option QueueArguments
 queue_arguments_at d = do
   stated ← arguments_member d
   max_length ← optional_number_member (codes "x-max-length") stated
+  max_bytes ← optional_number_member (codes "x-max-length-bytes") stated
   overflow ← optional_text_member (codes "x-overflow") stated
   dead_letter_exchange ← optional_text_member (codes "x-dead-letter-exchange") stated
   dead_letter_key ← optional_text_member (codes "x-dead-letter-routing-key") stated
   Some (record {
     max_length = max_length;
+    max_bytes = max_bytes;
     overflow = overflow;
     dead_letter_exchange = dead_letter_exchange;
     dead_letter_key = dead_letter_key;

@@ -33,6 +33,7 @@ abbrev pub queue_of : QueueEntry → DeclaredQueue
 queue_of q = record {
   name = q.name;
   limit = q.arguments.max_length;
+  byte_limit = q.arguments.max_bytes;
   dead_letter_exchange = q.arguments.dead_letter_exchange;
   dead_letter_key = q.arguments.dead_letter_key;
 }

@@ -26,7 +26,7 @@ pub enum BadDefinitions {
     /// another destination type, auto-delete, another overflow, a dead-letter key without a dead-letter exchange, or a
     /// policy, parameter or topic permission.
     Unsupported,
-    /// 8: a queue has `x-max-length` without `x-overflow`.
+    /// 8: a queue has `x-max-length` or `x-max-length-bytes` without `x-overflow`.
     NoOverflow,
     /// 9: a binding key, a dead-letter key or a queue name has an empty word, over 31 words or over 255 bytes; an
     /// exchange or a queue has no name; or a name has over 255 bytes.

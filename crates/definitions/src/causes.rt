@@ -187,11 +187,19 @@ pub fn is_supported(document: &Document) -> bool
 
 // ---- 8: limits refuse
 
-/// Whether a queue with a limit says what it does past it.
+/// Whether a limit, if it is stated, has an overflow beside it.
+fn has_overflow(limit: &Option<u32>, overflow: &Option<Text>) -> bool
+    ensures { Decides result ((n : ℕ) → limit.now ≡ Some n → overflow.now ≡ None → ⊥) }
+{
+    limit.is_none() || overflow.is_some()
+}
+
+/// Whether a queue with a limit, of messages or of bytes, says what it does past it.
 fn says_overflow(queue: &QueueEntry) -> bool
     ensures { Decides result (SaysOverflow queue.now) }
 {
-    queue.arguments.max_length.is_none() || queue.arguments.overflow.is_some()
+    has_overflow(&queue.arguments.max_length, &queue.arguments.overflow)
+        && has_overflow(&queue.arguments.max_bytes, &queue.arguments.overflow)
 }
 
 /// Whether each queue with a limit says what it does past it.

@@ -51,6 +51,7 @@ pub struct ExchangeEntry {
 #[derive(Drop)]
 pub struct QueueArguments {
     pub max_length: Option<u32>,
+    pub max_bytes: Option<u32>,
     pub overflow: Option<Text>,
     pub dead_letter_exchange: Option<Text>,
     pub dead_letter_key: Option<Text>,

@@ -124,6 +124,7 @@ fn queue_arguments(alloc: Global, value: &Value) -> Result<QueueArguments, BadJs
 {
     let stated = arguments(value)?;
     let max_length = optional_number(stated, "x-max-length")?;
+    let max_bytes = optional_number(stated, "x-max-length-bytes")?;
     let overflow = optional_text(alloc, stated, "x-overflow")?;
     let dead_letter_exchange = optional_text(alloc, stated, "x-dead-letter-exchange")?;
     let dead_letter_key = optional_text(alloc, stated, "x-dead-letter-routing-key")?;
@@ -131,6 +132,7 @@ fn queue_arguments(alloc: Global, value: &Value) -> Result<QueueArguments, BadJs
         stated,
         &[
             "x-max-length",
+            "x-max-length-bytes",
             "x-overflow",
             "x-dead-letter-exchange",
             "x-dead-letter-routing-key",
@@ -138,6 +140,7 @@ fn queue_arguments(alloc: Global, value: &Value) -> Result<QueueArguments, BadJs
     );
     Ok(QueueArguments {
         max_length,
+        max_bytes,
         overflow,
         dead_letter_exchange,
         dead_letter_key,

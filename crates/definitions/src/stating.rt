@@ -65,6 +65,7 @@ fn queue_of(entry: &QueueEntry) -> Result<DeclaredQueue, AllocError>
     Ok(DeclaredQueue {
         name: entry.name.clone()?,
         limit: entry.arguments.max_length,
+        byte_limit: entry.arguments.max_bytes,
         dead_letter_exchange: copy(&entry.arguments.dead_letter_exchange)?,
         dead_letter_key: copy(&entry.arguments.dead_letter_key)?,
     })

@@ -4,7 +4,6 @@ pub mod Turning
 pub mod Naming
 pub mod Named
 pub mod Signing
-pub mod Requeued
 pub mod Planned
 pub mod Rejected
 pub mod Alone

@@ -1,7 +1,7 @@
 -- What a publish does, by the names of the queues.
 use Rattle.std.proofs.Common.{◌≡◌, ℕ, zero, suc, ◌+◌, ◌<◌, ◌≤◌, List, [], ◌∷◌, ◌++◌, length, get_or, set, map, refl, sym, ap, subst, ◌∙◌, arith, Bool, true, false, cond, Option, Some, None, All, AllPairs, append_assoc, inl, inr}
 use Rattle.std.specs.List.{list_any}
-use Rattle.std.specs.Prelude.{◌&&◌, ◌||◌, not, nat_lt, option_map, position}
+use Rattle.std.specs.Prelude.{◌&&◌, ◌||◌, not, nat_lt, option_map, position, slice_get}
 use Rattle.std.specs.List.{position_or_len}
 use Rattle.std.proofs.lemmas.Grind.{common_steps}
 use Rattle.std.specs.Str.{bytes_eq}
@@ -9,7 +9,7 @@ use Rattle.std.proofs.lemmas.Slice.Eq.{bytes_eq-Decides}
 use Rattle.std.proofs.lemmas.List.{append-nil, length-set, get_or-set_other}
 use Rattle.model.specs.Words.{Text}
 use Rattle.model.specs.Topology.{Topology, queue_names, IsIn, AreApart, IsWellFormed}
-use Rattle.model.specs.Broker.{listed, is_at, limit_of, queue_named, is_full}
+use Rattle.model.specs.Broker.{listed, ready_bytes, refuses, queue_named, is_full}
 use Rattle.model.specs.Step.{message, entry_notes, comes_to, is_none}
 use Rattle.model.specs.declared.messages.Entry.{Entry}
 use Rattle.model.specs.Message.{Message}
@@ -27,7 +27,7 @@ use Rattle.depot.specs.declared.turns.PlannedTurn.{PlannedTurn}
 use Rattle.depot.specs.declared.depots.Routed.{Routed}
 use Rattle.depot.specs.Store.{Store}
 use Rattle.depot.specs.Publishing.{Publishing}
-use Rattle.depot.specs.Turns.{TurnOutcome, outcome_of, outcome, outcomes, turn_at, limits, is_full_at, places, notes_of_outcomes, is_refusal, no_turns, arriving, entered_one, all_entered, IsPlan, Enters}
+use Rattle.depot.specs.Turns.{TurnOutcome, outcome_of, outcome, outcomes, turn_at, is_full_at, places, notes_of_outcomes, is_refusal, no_turns, arriving, entered_one, all_entered, IsPlan, Enters}
 
 -- ---- names
 
@@ -59,18 +59,18 @@ listed_at (n ∷ ns) [] i apart len lt = absurd (omega arith)
 listed_at (n ∷ ns) (es ∷ ess) zero apart len lt = rw (same_name n) refl
 listed_at (n ∷ ns) (es ∷ ess) (suc i) apart len lt = rw (later_name n ns i apart (omega arith)) (listed_at ns ess i apart.1 (omega arith) (omega arith))
 
-limit_at : (qs : List DeclaredQueue) (i : ℕ) → AreApart (queue_names qs) → i < length qs → limit_of (queue_named qs (get_or (queue_names qs) i [])) ≡ get_or (limits qs) i None
-limit_at [] i apart lt = absurd (omega arith)
-limit_at (q ∷ qs) zero apart lt = rw (same_name q.name) refl
-limit_at (q ∷ qs) (suc i) apart lt = let long = names-length qs in rw (later_name q.name (queue_names qs) i apart (omega arith)) (limit_at qs i apart.1 (omega arith))
+declared_at : (qs : List DeclaredQueue) (i : ℕ) → AreApart (queue_names qs) → i < length qs → queue_named qs (get_or (queue_names qs) i []) ≡ slice_get qs i
+declared_at [] i apart lt = absurd (omega arith)
+declared_at (q ∷ qs) zero apart lt = rw (same_name q.name) refl
+declared_at (q ∷ qs) (suc i) apart lt = let long = names-length qs in rw (later_name q.name (queue_names qs) i apart (omega arith)) (declared_at qs i apart.1 (omega arith))
 
 full_at : (t : Topology) (lists : List (List Entry)) (i size : ℕ) → AreApart (queue_names t.queues) → length lists ≡ length t.queues → i < length t.queues
-    → is_full t (listed (queue_names t.queues) lists) (get_or (queue_names t.queues) i []) size ≡ is_full_at t.queues lists i
+    → is_full t (listed (queue_names t.queues) lists) (get_or (queue_names t.queues) i []) size ≡ is_full_at t.queues lists i size
 full_at t lists i size apart len lt =
     let names = queue_names t.queues in
     let long = names-length t.queues in
-    ap (λ (o : Option ℕ). is_at o (ready_count (listed names lists (get_or names i [])))) (limit_at t.queues i apart lt)
-    ∙ ap (λ (es : List Entry). is_at (get_or (limits t.queues) i None) (ready_count es)) (listed_at names lists i apart (omega arith) (omega arith))
+    ap (λ (o : Option DeclaredQueue). refuses o (ready_count (listed names lists (get_or names i []))) (ready_bytes (listed names lists (get_or names i []))) size) (declared_at t.queues i apart lt)
+    ∙ ap (λ (es : List Entry). refuses (slice_get t.queues i) (ready_count es) (ready_bytes es) size) (listed_at names lists i apart (omega arith) (omega arith))
 
 -- ---- the queue of a name
 
@@ -163,7 +163,7 @@ listed-entered names (o ∷ os) lists q apart len within =
 
 -- what becomes of the turn at this place
 abbrev pub outcome_at : Way → List DeclaredQueue → List (List Entry) → Message → ℕ → TurnOutcome
-outcome_at how qs lists m i = outcome_of how (get_or (queue_names qs) i []) (is_full_at qs lists i) m i
+outcome_at how qs lists m i = outcome_of how (get_or (queue_names qs) i []) (is_full_at qs lists i (length m.content.body)) m i
 
 one_arrives : (how : Way) (name : Text) (m : Message) (i : ℕ) (b f : Bool) (xs ys : List Entry) → xs ≡ ys
     → cond b (arriving (outcome_of how name f m i).message) [] ++ xs ≡ cond (b && not f) (record { message = m; mark = Ready } ∷ ys) ys
@@ -192,7 +192,7 @@ places_of_turns qs m (i ∷ is) = ap (λ (js : List ℕ). i ∷ js) (places_of_t
 places_of_outcomes : (how : Way) (qs : List DeclaredQueue) (lists : List (List Entry)) (m : Message) (targets : List ℕ) → places_of (map (outcome_at how qs lists m) targets) ≡ targets
 places_of_outcomes how qs lists m [] = refl
 places_of_outcomes how qs lists m (i ∷ is) =
-    ap (λ (j : ℕ). j ∷ places_of (map (outcome_at how qs lists m) is)) (place_of_outcome how (get_or (queue_names qs) i []) m i (is_full_at qs lists i))
+    ap (λ (j : ℕ). j ∷ places_of (map (outcome_at how qs lists m) is)) (place_of_outcome how (get_or (queue_names qs) i []) m i (is_full_at qs lists i (length m.content.body)))
     ∙ ap (λ (js : List ℕ). i ∷ js) (places_of_outcomes how qs lists m is)
 
 pub turned_within : (t : Topology) (m : Message) (targets : List ℕ) (turns ts : List PlannedTurn) (n : ℕ) → turns ≡ map (turn_at t.queues m) targets → All (λ (i : ℕ). i < length t.queues) targets → ts ≡ turns → n ≡ length t.queues → All (λ (i : ℕ). i < n) (places ts)
@@ -209,8 +209,8 @@ outcomes_start : (how : Way) (qs : List DeclaredQueue) (m : Message) (targets : 
 outcomes_start how qs m [] lists now rising same = refl
 outcomes_start how qs m (i ∷ is) lists now rising same =
     let first : outcome how qs now (turn_at qs m i) ≡ outcome_at how qs lists m i
-    = ap (λ (es : List Entry). outcome_of how (get_or (queue_names qs) i []) (is_at (get_or (limits qs) i None) (ready_count es)) m i) (same 0 (omega arith)) in
-    let here = place_of_outcome how (get_or (queue_names qs) i []) m i (is_full_at qs now i) in
+    = ap (λ (es : List Entry). outcome_of how (get_or (queue_names qs) i []) (refuses (slice_get qs i) (ready_count es) (ready_bytes es) (length m.content.body)) m i) (same 0 (omega arith)) in
+    let here = place_of_outcome how (get_or (queue_names qs) i []) m i (is_full_at qs now i (length m.content.body)) in
     ap (λ (o : TurnOutcome). o ∷ outcomes how qs (map (turn_at qs m) is) (entered_one (outcome how qs now (turn_at qs m i)) now)) first
     ∙ ap (λ (os : List TurnOutcome). outcome_at how qs lists m i ∷ os)
     (outcomes_start how qs m is lists (entered_one (outcome how qs now (turn_at qs m i)) now) (λ j k d lt within. rising (suc j) (suc k) d (omega arith) (omega arith))
@@ -230,34 +230,34 @@ arrive t how lists m q [] apart len within = refl
 arrive t how lists m q (i ∷ is) apart len within =
     let names = queue_names t.queues in
     let name = get_or names i [] in
-    let full = is_full_at t.queues lists i in
+    let full = is_full_at t.queues lists i (length m.content.body) in
     let later = comes_to t (listed names lists) m q (names_at names is) in
     ap (λ (j : ℕ). cond (bytes_eq (get_or names j []) q) (arriving (outcome_of how name full m i).message) [] ++ arrivals names (map (outcome_at how t.queues lists m) is) q) (place_of_outcome how name m i full)
     ∙ one_arrives how name m i (bytes_eq name q) full _ later (arrive t how lists m q is apart len (λ k d lt. within (suc k) d (omega arith)))
     ∙ ap (λ (f : Bool). cond (bytes_eq name q && not f) (record { message = m; mark = Ready } ∷ later) later) (sym (full_at t lists i (length m.content.body) apart len (within 0 0 (omega arith))))
 
-note : (t : Topology) (how : Way) (lists : List (List Entry)) (m : Message) (size : ℕ) (targets : List ℕ) → AreApart (queue_names t.queues) → length lists ≡ length t.queues → All (λ (i : ℕ). i < length t.queues) targets
-    → notes_of_outcomes (map (outcome_at how t.queues lists m) targets) ≡ entry_notes t (listed (queue_names t.queues) lists) size m.number how (names_at (queue_names t.queues) targets)
-note t how lists m size [] apart len within = refl
-note t how lists m size (i ∷ is) apart len within =
+note : (t : Topology) (how : Way) (lists : List (List Entry)) (m : Message) (targets : List ℕ) → AreApart (queue_names t.queues) → length lists ≡ length t.queues → All (λ (i : ℕ). i < length t.queues) targets
+    → notes_of_outcomes (map (outcome_at how t.queues lists m) targets) ≡ entry_notes t (listed (queue_names t.queues) lists) (length m.content.body) m.number how (names_at (queue_names t.queues) targets)
+note t how lists m [] apart len within = refl
+note t how lists m (i ∷ is) apart len within =
     let names = queue_names t.queues in
     let name = get_or names i [] in
-    let full = is_full_at t.queues lists i in
-    let later = entry_notes t (listed names lists) size m.number how (names_at names is) in
-    ap (λ (ns : List Note). (outcome_of how name full m i).note ∷ ns) (note t how lists m size is apart len (λ k d lt. within (suc k) d (omega arith)))
+    let full = is_full_at t.queues lists i (length m.content.body) in
+    let later = entry_notes t (listed names lists) (length m.content.body) m.number how (names_at names is) in
+    ap (λ (ns : List Note). (outcome_of how name full m i).note ∷ ns) (note t how lists m is apart len (λ k d lt. within (suc k) d (omega arith)))
     ∙ ap (λ (n : Note). n ∷ later) (note_of_outcome how name m i full)
-    ∙ ap (λ (f : Bool). cond f (Refused m.number name) (Entered m.number name how) ∷ later) (sym (full_at t lists i size apart len (within 0 0 (omega arith))))
+    ∙ ap (λ (f : Bool). cond f (Refused m.number name) (Entered m.number name how) ∷ later) (sym (full_at t lists i (length m.content.body) apart len (within 0 0 (omega arith))))
 
-refuse : (t : Topology) (how : Way) (lists : List (List Entry)) (m : Message) (size : ℕ) (targets : List ℕ) → AreApart (queue_names t.queues) → length lists ≡ length t.queues → All (λ (i : ℕ). i < length t.queues) targets
-    → list_any is_refusal (map (outcome_at how t.queues lists m) targets) ≡ list_any (λ (q : Text). is_full t (listed (queue_names t.queues) lists) q size) (names_at (queue_names t.queues) targets)
-refuse t how lists m size [] apart len within = refl
-refuse t how lists m size (i ∷ is) apart len within =
+refuse : (t : Topology) (how : Way) (lists : List (List Entry)) (m : Message) (targets : List ℕ) → AreApart (queue_names t.queues) → length lists ≡ length t.queues → All (λ (i : ℕ). i < length t.queues) targets
+    → list_any is_refusal (map (outcome_at how t.queues lists m) targets) ≡ list_any (λ (q : Text). is_full t (listed (queue_names t.queues) lists) q (length m.content.body)) (names_at (queue_names t.queues) targets)
+refuse t how lists m [] apart len within = refl
+refuse t how lists m (i ∷ is) apart len within =
     let names = queue_names t.queues in
     let name = get_or names i [] in
-    let full = is_full_at t.queues lists i in
-    let later = list_any (λ (q : Text). is_full t (listed names lists) q size) (names_at names is) in
-    ap (λ (b : Bool). is_refusal (outcome_of how name full m i) || b) (refuse t how lists m size is apart len (λ k d lt. within (suc k) d (omega arith)))
-    ∙ ap (λ (b : Bool). b || later) (refusal_of_outcome how name m i full ∙ sym (full_at t lists i size apart len (within 0 0 (omega arith))))
+    let full = is_full_at t.queues lists i (length m.content.body) in
+    let later = list_any (λ (q : Text). is_full t (listed names lists) q (length m.content.body)) (names_at names is) in
+    ap (λ (b : Bool). is_refusal (outcome_of how name full m i) || b) (refuse t how lists m is apart len (λ k d lt. within (suc k) d (omega arith)))
+    ∙ ap (λ (b : Bool). b || later) (refusal_of_outcome how name m i full ∙ sym (full_at t lists i (length m.content.body) apart len (within 0 0 (omega arith))))
 
 nothing : (qs : List DeclaredQueue) (m : Message) (targets : List ℕ) → no_turns (map (turn_at qs m) targets) ≡ is_none (names_at (queue_names qs) targets)
 nothing qs m [] = refl
@@ -266,10 +266,10 @@ nothing qs m (i ∷ is) = refl
 -- ---- by the names of the queues
 
 -- what is noted of a message that comes to its queues
-pub noted_by_names : (t : Topology) (how : Way) (lists : List (List Entry)) (exchange key : Text) (m : Message) (turns : List PlannedTurn) (plan : IsPlan t exchange key m turns) (size : ℕ)
+pub noted_by_names : (t : Topology) (how : Way) (lists : List (List Entry)) (exchange key : Text) (m : Message) (turns : List PlannedTurn) (plan : IsPlan t exchange key m turns)
     → AreApart (queue_names t.queues) → length lists ≡ length t.queues
-    → notes_of_outcomes (outcomes how t.queues turns lists) ≡ entry_notes t (listed (queue_names t.queues) lists) size m.number how (names_at (queue_names t.queues) plan.targets)
-noted_by_names t how lists exchange key m turns plan size apart len = ap notes_of_outcomes (turned t how lists exchange key m turns plan) ∙ note t how lists m size plan.targets apart len plan.routed.within
+    → notes_of_outcomes (outcomes how t.queues turns lists) ≡ entry_notes t (listed (queue_names t.queues) lists) (length m.content.body) m.number how (names_at (queue_names t.queues) plan.targets)
+noted_by_names t how lists exchange key m turns plan apart len = ap notes_of_outcomes (turned t how lists exchange key m turns plan) ∙ note t how lists m plan.targets apart len plan.routed.within
 
 -- and what each queue has then
 pub entered_by_names : (t : Topology) (how : Way) (lists : List (List Entry)) (exchange key : Text) (m : Message) (turns : List PlannedTurn) (plan : IsPlan t exchange key m turns) (q : Text)
@@ -296,7 +296,6 @@ published old new c h p content confirm before after routed formed len counted s
     let lists = old.queues in
     let names = queue_names t.queues in
     let m = message (old.published + 1) p content in
-    let size = length content.body in
     let apart = formed.queues_apart in
     let targets = e.plan.targets in
     let within = e.plan.routed.within in
@@ -307,9 +306,9 @@ published old new c h p content confirm before after routed formed len counted s
       publishes = record {
         targets = names_at names targets;
         picked = e.plan.routed.picked;
-        notes = ap (λ (ns : List Note). first ∷ ns) (noted_by_names t way.Publish lists p.exchange p.routing_key m e.turns e.plan size apart len);
+        notes = ap (λ (ns : List Note). first ∷ ns) (noted_by_names t way.Publish lists p.exchange p.routing_key m e.turns e.plan apart len);
         none = e.none ∙ ap no_turns e.plan.turned ∙ nothing t.queues m targets;
-        full = e.full ∙ ap (list_any is_refusal) (turned t way.Publish lists p.exchange p.routing_key m e.turns e.plan) ∙ refuse t way.Publish lists m size targets apart len within;
+        full = e.full ∙ ap (list_any is_refusal) (turned t way.Publish lists p.exchange p.routing_key m e.turns e.plan) ∙ refuse t way.Publish lists m targets apart len within;
         counted = counted;
         topology = same;
         queues = λ q.

@@ -8,7 +8,7 @@ use Rattle.std.proofs.lemmas.Slice.Eq.{bytes_eq-Decides}
 use Rattle.model.specs.Words.{Text}
 use Rattle.model.specs.Topology.{Topology, queue_names, AreApart}
 use Rattle.model.specs.Routing.{key_after}
-use Rattle.model.specs.Broker.{queue_named, listed, is_full, is_at, limit_of}
+use Rattle.model.specs.Broker.{queue_named, listed, is_full, ready_bytes, refuses}
 use Rattle.model.specs.Broker as seen
 use Rattle.model.specs.Message.{Message}
 use Rattle.model.specs.Entries.{is_held_as, without_first}
@@ -110,7 +110,7 @@ planned_after t c h lists now (g ∷ gs) ds same are =
 -- ---- queues that are the same, name by name
 
 full_same : (t : Topology) (f g : Text → List Entry) → ((q : Text) → f q ≡ g q) → (q : Text) (size : ℕ) → is_full t f q size ≡ is_full t g q size
-full_same t f g same q size = ap (λ (es : List Entry). is_at (limit_of (queue_named t.queues q)) (ready_count es)) (same q)
+full_same t f g same q size = ap (λ (es : List Entry). refuses (queue_named t.queues q) (ready_count es) (ready_bytes es) size) (same q)
 
 notes_same : (t : Topology) (f g : Text → List Entry) → ((q : Text) → f q ≡ g q) → (size n : ℕ) (targets : List Text) → entry_notes t f size n way.Dead targets ≡ entry_notes t g size n way.Dead targets
 notes_same t f g same size n [] = refl
@@ -172,7 +172,8 @@ dies_by s q m d queues (Some exchange) whole same letters =
       targets = targets;
       routed = letters.plan.routed.picked;
       noted =
-          noted_by_names t way.Dead w exchange key letter d.turns.items letters.plan (length m.content.body) apart len
+          noted_by_names t way.Dead w exchange key letter d.turns.items letters.plan apart len
+          ∙ ap (λ (content : Content). entry_notes t (listed (queue_names t.queues) w) (length content.body) m.number way.Dead targets) letters.marked.made
           ∙ notes_same t (listed (queue_names t.queues) w) queues same (length m.content.body) m.number targets;
       left = λ r.
           entered_by_names t way.Dead w exchange key letter d.turns.items letters.plan r apart len

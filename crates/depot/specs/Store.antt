@@ -1,13 +1,12 @@
 -- All queues of a topology, and how many publishes there were.
-use Rattle.std.specs.Prelude.{◌≡◌, ℕ, ◌≤◌, ◌<◌, List, [], length, map, Bool, Option, Some, None, slice_index_or, slice_set}
+use Rattle.std.specs.Prelude.{◌≡◌, ℕ, ◌≤◌, ◌<◌, List, [], length, map, Option, Some, None, slice_index_or, slice_set}
 use Rattle.model.specs.Words.{Text}
 use Rattle.model.specs.Topology.{Topology, queue_names, IsWellFormed}
 use Rattle.model.specs.Broker.{listed}
 use Rattle.model.specs.Deliveries as seen
 use Rattle.model.specs.declared.messages.Entry.{Entry}
-use Rattle.model.specs.declared.messages.Holder.{Holder}
 use Rattle.exchange_graph.specs.Marks.{queue_name}
-use Rattle.queue.specs.Line.{Line, ready_count, requeued}
+use Rattle.queue.specs.Line.{Line, ready_count}
 
 -- the topology, the entries of each of its queues in the order of the file, and the number of publishes
 pub record Store : Type 0 where
@@ -35,10 +34,6 @@ pub record IsStoreWhole (s : Store) : Type 0 where
 -- each queue's entries
 abbrev pub entries_of : List Line → List (List Entry)
 entries_of lines = map (λ (l : Line). l.entries) lines
-
--- every queue with what these held ready again in its place
-abbrev pub with_requeued : Store → (Holder → Bool) → Store
-with_requeued s mine = record s { queues = map (requeued mine) s.queues }
 
 -- The queue at this place of the file is that of its name: it has those entries, and what it has instead that name has.
 pub record IsQueueNamed (s : Store) (place : ℕ) : Type 0 where

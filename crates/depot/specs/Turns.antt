@@ -1,9 +1,9 @@
 -- A message that comes to its queues one after another, by their places in the file.
-use Rattle.std.specs.Prelude.{◌≡◌, ◌<◌, ◌≤◌, ◌+◌, ◌==◌, ℕ, List, [], ◌∷◌, ◌++◌, length, map, cond, Bool, true, false, if◌then◌else◌, Option, Some, None, slice_index_or, slice_set}
+use Rattle.std.specs.Prelude.{◌≡◌, ◌<◌, ◌≤◌, ◌+◌, ◌==◌, ℕ, List, [], ◌∷◌, ◌++◌, length, map, cond, Bool, true, false, if◌then◌else◌, Option, Some, None, slice_get, slice_index_or, slice_set}
 use Rattle.std.specs.List.{list_any}
 use Rattle.model.specs.Words.{Text}
 use Rattle.model.specs.Topology.{Topology, queue_names}
-use Rattle.model.specs.Broker.{is_at}
+use Rattle.model.specs.Broker.{ready_bytes, refuses}
 use Rattle.model.specs.Message.{Message}
 use Rattle.model.specs.declared.messages.Entry.{Entry}
 use Rattle.model.specs.declared.messages.Mark.TheVariants.{Ready}
@@ -36,17 +36,13 @@ outcome_of how name full m place =
     if full then record { place = place; message = None; note = Refused m.number name }
     else record { place = place; message = Some m; note = Entered m.number name how }
 
--- how many ready messages each queue takes before it is full
-abbrev pub limits : List DeclaredQueue → List (Option ℕ)
-limits queues = map (λ (q : DeclaredQueue). q.limit) queues
-
--- the queue at this place, with these entries, is full
-abbrev pub is_full_at : List DeclaredQueue → List (List Entry) → ℕ → Bool
-is_full_at queues entries place = is_at (slice_index_or (limits queues) place None) (ready_count (slice_index_or entries place []))
+-- the queue at this place, with these entries, refuses a message with a body of this size
+abbrev pub is_full_at : List DeclaredQueue → List (List Entry) → ℕ → ℕ → Bool
+is_full_at queues entries place size = refuses (slice_get queues place) (ready_count (slice_index_or entries place [])) (ready_bytes (slice_index_or entries place [])) size
 
 -- what becomes of a turn at its queue, with these entries
 abbrev pub outcome : Way → List DeclaredQueue → List (List Entry) → PlannedTurn → TurnOutcome
-outcome how queues entries t = outcome_of how t.name (is_full_at queues entries t.place) t.message t.place
+outcome how queues entries t = outcome_of how t.name (is_full_at queues entries t.place (length t.message.content.body)) t.message t.place
 
 -- the queue refuses
 abbrev pub is_refusal : TurnOutcome → Bool

@@ -1,4 +1,4 @@
-//! Publishes, requeueing, what the queues hold, and what is given out and settled.
+//! Publishes, what the queues hold, and what is given out and settled.
 
 ghost use Rattle.std.specs.Prelude.{◌<◌, ℕ, length};
 ghost use Rattle.depot.specs.Store.{Store, IsStoreWhole, IsQueueNamed};
@@ -11,6 +11,7 @@ use crate::rejecting::reject_in;
 use exchange_graph::Topology;
 use kept_routes::Router;
 use model::{Content, Entry, Holder, Note, Publish};
+use queue::Store as _;
 use std::alloc::{AllocError, Global};
 use std::marker::Model;
 
@@ -81,9 +82,9 @@ impl Depot {
     ghost use Rattle.std.specs.Str.{bytes_eq};
     ghost use Rattle.model.specs.Broker.{is_ready, queue_named};
     ghost use Rattle.model.specs.Step.{greatest};
-    ghost use Rattle.model.specs.Entries.{by_connection, is_under, is_held_as, held_as, change_first, without_first, number_of};
+    ghost use Rattle.model.specs.Entries.{is_under, is_held_as, held_as, change_first, without_first, number_of};
     ghost use Rattle.queue.specs.Line.{ready_count, requeued};
-    ghost use Rattle.depot.specs.Store.{entries_named, queue_at, with_entries_at, with_requeued, IsStoreWhole, IsQueueNamed, IsNextReady};
+    ghost use Rattle.depot.specs.Store.{entries_named, queue_at, with_entries_at, IsStoreWhole, IsQueueNamed, IsNextReady};
     ghost use Rattle.depot.specs.Publishing.{Publishing};
     ghost use Rattle.depot.specs.Rejecting.{GoneAreWithin, AreOrdered, IsApart, Rejecting};
 
@@ -173,14 +174,6 @@ impl Depot {
             gone,
             notes,
         )
-    }
-
-    /// What this connection held, on whatever channel, is ready again, each message in its place and marked redelivered. It
-    /// takes no memory.
-    pub fn requeue_connection(&mut self, connection: u64)
-        ensures { self.new ≡ with_requeued self.old (by_connection connection) }
-    {
-        self.queues.requeue_connection(connection);
     }
 
     /// The topology that was handed in.

@@ -38,10 +38,10 @@ ghost use Rattle.depot.specs.Turns.{
   IsRoomy,
 };
 
-use crate::queues::Queues;
+use crate::queues::{Queue, Queues};
 use crate::turns::PlannedTurn;
 use model::{DeclaredQueue, Message, Note, Way};
-use queue::Queue;
+use queue::Store;
 use std::alloc::{AllocError, Global};
 
 /// The turns of a message at the queues at these places.
@@ -96,13 +96,14 @@ pub(crate) fn make_room(
     Ok(())
 }
 
-/// Whether the queue at this place is full.
+/// Whether the queue at this place refuses a message with a body of `size` bytes.
 fn is_full(declared: &[DeclaredQueue], queues: &[Queue], place: usize, size: usize) -> bool
     requires within { place < length declared.now }
     requires len { length queues.now ≡ length declared.now }
-    ensures { result ≡ is_full_at declared.now (entries_of queues.now) place }
+    ensures { result ≡ is_full_at declared.now (entries_of queues.now) place size }
 {
-    queues[place].is_full(declared[place].limit, size)
+    let declared = &declared[place];
+    queues[place].is_full(declared.limit, declared.byte_limit, size)
 }
 
 /// The message comes to one queue, or is refused there where that is full now. Tells whether it is refused.

@@ -12,7 +12,6 @@ mod plans;
 mod publishing;
 mod queues;
 mod rejecting;
-mod requeueing;
 mod signs;
 mod turns;
 

@@ -4,12 +4,13 @@ ghost use Rattle.std.specs.Prelude.{◌≡◌, ◌==◌, ◌+◌, ◌<◌, ◌�
 ghost use Rattle.model.specs.Broker.{is_ready};
 ghost use Rattle.queue.specs.Line.{ready_count, requeued};
 ghost use Rattle.model.specs.declared.messages.Mark.TheVariants.{Ready};
-ghost use Rattle.model.specs.Entries.{by_connection, is_under, is_held_as, held_as, change_first, without_first, number_of};
+ghost use Rattle.model.specs.Entries.{is_under, is_held_as, held_as, change_first, without_first, number_of};
 ghost use Rattle.depot.specs.Store.{entries_of};
 ghost use Rattle.depot.specs.Turns.{room_at};
 
+use crate::queues::Queue;
 use model::{Entry, Holder, Message};
-use queue::Queue;
+use queue::Store;
 use std::alloc::AllocError;
 
 /// The queue at this place.
@@ -92,12 +93,4 @@ pub(crate) fn purge_at(queues: &mut [Queue], place: usize, numbers: &mut Vec<u64
     ensures entries { entries_of queues.new ≡ slice_set (entries_of queues.old) place (filter (λ e. not (is_ready e)) (slice_index_or (entries_of queues.old) place [])) }
 {
     queues[place].purge(numbers);
-}
-
-/// What this connection held is ready again.
-pub(crate) fn requeue_connection_at(queues: &mut [Queue], place: usize, connection: u64)
-    requires { place < length queues.old }
-    ensures { entries_of queues.new ≡ slice_set (entries_of queues.old) place (requeued (by_connection connection) (slice_index_or (entries_of queues.old) place [])) }
-{
-    queues[place].requeue_connection(connection);
 }

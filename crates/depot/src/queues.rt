@@ -1,18 +1,20 @@
-//! The queues of a topology, and which of them have something ready or held.
+//! The queues of a topology, and which of them have something ready.
 
 ghost use Rattle.std.specs.Prelude.{◌≡◌, [], replicate, IfOk};
 ghost use Rattle.depot.specs.Store.{entries_of};
 
 use crate::places::{hold_at, purge_at, push_at, release_at, remove_at, reserve_at, take_first_at};
-use crate::requeueing::requeue_connection_in;
 use crate::signs::QueueSigns;
 use model::{Entry, Holder, Message};
-use queue::Queue;
+use queue::{Indexed, Store};
 use std::alloc::{AllocError, Global};
 use std::marker::Model;
 
-/// The queues of a topology, in the order of the file. The signs say of each whether a message can be given out, and
-/// whether one is held, so that the next such queue is found without a scan.
+/// The body of each queue. Any other `Store` answers the same.
+pub(crate) type Queue = Indexed;
+
+/// The queues of a topology, in the order of the file. The signs say of each whether a message can be given out, so that the
+/// next such queue is found without a scan.
 #[derive(Drop)]
 pub(crate) struct Queues {
     queues: Vec<Queue>,
@@ -75,7 +77,7 @@ impl Queues {
     };
     ghost use Rattle.model.specs.Broker.{is_ready};
     ghost use Rattle.model.specs.declared.messages.Mark.TheVariants.{Ready};
-    ghost use Rattle.model.specs.Entries.{by_connection, is_under, is_held_as, held_as, change_first, without_first, number_of};
+    ghost use Rattle.model.specs.Entries.{is_under, is_held_as, held_as, change_first, without_first, number_of};
     ghost use Rattle.marks.specs.Places.{IsNextMark};
     ghost use Rattle.queue.specs.Line.{ready_count, requeued};
     ghost use Rattle.depot.specs.Store.{entries_of};
@@ -191,13 +193,5 @@ impl Queues {
     {
         purge_at(&mut self.queues, place, numbers);
         self.signs.sign(&self.queues, place);
-    }
-
-    /// What this connection held is ready again, in each queue.
-    pub(crate) fn requeue_connection(&mut self, connection: u64)
-        ensures entries { entries_of self.new ≡ map (requeued (by_connection connection)) (entries_of self.old) }
-        ensures len { length self.new ≡ length self.old }
-    {
-        requeue_connection_in(&mut self.queues, &mut self.signs, connection);
     }
 }

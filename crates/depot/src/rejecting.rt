@@ -11,12 +11,12 @@ ghost use Rattle.depot.specs.Dying.{LettersAt, Plans, given_at, ArePlanned, died
 use crate::entering::{enter_all, make_room, turns};
 use crate::given::Given;
 use crate::plans::Death;
-use crate::queues::Queues;
+use crate::queues::{Queue, Queues};
 use crate::turns::PlannedTurn;
 use deaths::marked;
 use kept_routes::Router;
 use model::{Cause, DeclaredQueue, Holder, Message, Note, Text, Way};
-use queue::Queue;
+use queue::Store;
 use std::alloc::{AllocError, Global};
 
 /// The key under which a message of this key dies, where its queue may fix one.

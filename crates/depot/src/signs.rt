@@ -1,30 +1,30 @@
-//! Which queues have something ready, and which have something held.
+//! Which queues have something ready.
 
 ghost use Rattle.std.specs.Prelude.{◌≡◌, ℕ, ◌<◌, ◌≤◌, ◌*◌, length, cond, IfOk};
 ghost use Rattle.marks.specs.Places.{bit_of, Differs};
-ghost use Rattle.depot.specs.Signs.{ready_bit, held_bit};
+ghost use Rattle.depot.specs.Signs.{ready_bit};
 
+use crate::queues::Queue;
 use marks::{Flat, Over, Places};
-use queue::Queue;
+use queue::Store;
 use std::alloc::{AllocError, Global};
 use std::marker::Model;
 
 /// A bit for each queue.
 type QueueMarks = Over<Flat>;
 
-/// Two sets of places of queues: those with a message that can be given out, and those with one that is held.
+/// The set of places of queues with a message that can be given out.
 #[derive(Drop)]
 pub(crate) struct QueueSigns {
     ready: QueueMarks,
-    held: QueueMarks,
 }
 
 impl Model for QueueSigns {
-    ghost use Rattle.depot.specs.Signs.{QueueBits};
+    ghost use Rattle.std.specs.Prelude.{List, ℕ};
 
-    ghost Value = { QueueBits };
+    ghost Value = { List ℕ };
 
-    ghost view = { λ s. record { ready = s.ready; held = s.held } };
+    ghost view = { λ s. s.ready };
 }
 
 /// Whether a message of the queue can be given out.
@@ -32,13 +32,6 @@ fn has_ready(queue: &Queue) -> bool
     ensures { cond result 1 0 ≡ ready_bit queue.now.entries }
 {
     queue.ready() != 0
-}
-
-/// Whether a message of the queue is held.
-fn has_held(queue: &Queue) -> bool
-    ensures { cond result 1 0 ≡ held_bit queue.now.entries }
-{
-    queue.ready() != queue.len()
 }
 
 /// Puts a place in, or takes it out.
@@ -71,40 +64,29 @@ impl QueueSigns {
     ghost use Rattle.depot.specs.Store.{entries_of};
     ghost use Rattle.depot.specs.Signs.{QueuesAreSigned};
 
-    /// The sets of so many queues with no message, with room for all of them.
+    /// The set of so many queues with no message, with room for all of them.
     pub(crate) fn new(alloc: Global, queues: usize) -> Result<QueueSigns, AllocError>
         ensures { IfOk result (λ signs. QueuesAreSigned (replicate queues []) signs) }
     {
         let ready = room_for(alloc, queues)?;
-        let held = room_for(alloc, queues)?;
-        Ok(QueueSigns { ready, held })
+        Ok(QueueSigns { ready })
     }
 
-    /// Sets the bits of this place as its queue is now, which alone has changed. It takes no memory.
+    /// Sets the bit of this place as its queue is now, which alone has changed. It takes no memory.
     pub(crate) fn sign(&mut self, queues: &[Queue], place: usize)
         requires within { place < length queues.now }
-        requires ready { length queues.now ≤ length self.old.ready * 64 }
-        requires held { length queues.now ≤ length self.old.held * 64 }
+        requires room { length queues.now ≤ length self.old * 64 }
         ensures { (lists : List (List Entry)) (entries : List Entry) → entries_of queues.now ≡ slice_set lists place entries → QueuesAreSigned lists self.old → QueuesAreSigned (entries_of queues.now) self.new }
     {
         let queue = &queues[place];
         put(&mut self.ready, place, has_ready(queue));
-        put(&mut self.held, place, has_held(queue));
     }
 
     /// The first queue with a message that can be given out, of those from `from` on.
     pub(crate) fn next_ready(&self, from: usize) -> Option<usize>
-        ensures some { IfSome result (λ place. IsNextMark (bit_of self.now.ready) from place) }
-        ensures none { IfNone result ((k : ℕ) → from ≤ k → bit_of self.now.ready k ≡ 0) }
+        ensures some { IfSome result (λ place. IsNextMark (bit_of self.now) from place) }
+        ensures none { IfNone result ((k : ℕ) → from ≤ k → bit_of self.now k ≡ 0) }
     {
         self.ready.next(from)
-    }
-
-    /// The first queue with a message that is held, of those from `from` on.
-    pub(crate) fn next_held(&self, from: usize) -> Option<usize>
-        ensures some { IfSome result (λ place. IsNextMark (bit_of self.now.held) from place) }
-        ensures none { IfNone result ((k : ℕ) → from ≤ k → bit_of self.now.held k ≡ 0) }
-    {
-        self.held.next(from)
     }
 }

@@ -15,7 +15,10 @@ use Rattle.model.specs.declared.events.Phase.TheVariants as phase
 use Rattle.model.specs.declared.events.Event.TheVariants as event
 use Rattle.model.specs.declared.notes.Note.{Note}
 use Rattle.laws.proofs.Whole.{pump_keeps}
-use Rattle.broker_core.specs.State.{Kept, topology_kept, broker_of}
+use Rattle.broker_core.specs.State as core
+use Rattle.broker_core.specs.State.{Kept}
+use Rattle.broker_core.specs.declared.picks.Pick.{Pick}
+use Rattle.broker.specs.Turns.{WithTurn, topology_kept, broker_of}
 use Rattle.runs.specs.Opened.{Idles}
 use Rattle.engine.specs.Reading.{IsKeptEvent}
 use Rattle.outputs.specs.Waiting.{WaitingBytes}
@@ -64,7 +67,7 @@ output_changes ls new_ls c f awake =
       within = f.within;
       here = f.here;
       number = ap (λ (z : Connected). z.number) f.rest;
-      kept = λ k. subst (λ (z : Connected). IsKeptEvent z.number z.kept) (sym f.rest) k;
+      kept = λ k. subst (λ (z : Connected). IsKeptEvent z.number z.kept z.stream.fault) (sym f.rest) k;
       left = f.left ∙ sym (ap (λ (v : Bool). cond v (remove ls f.place) (set ls f.place f.new)) still);
       over = λ gone. absurd (false≢true (sym still ∙ gone));
     }
@@ -192,28 +195,39 @@ pumped_engine : {V E : Type 0} (r : Result V E) (notes : V → List Note) (old n
 pumped_engine (Ok v) notes old new c e st made ok err = pumps_engine old new c (notes v) e st ok
 pumped_engine (Err x) notes old new c e st made ok err = not_pumped_engine old new c e st made err
 
--- ---- where the broker picked first, which leaves it as it was
+-- ---- where the broker picked first, which leaves it as it was but for the turn
 
-picked_engine : (old : Parts) (b : Kept) → b ≡ old.broker → IsEngine old → IsEngine (record old { broker = b })
-picked_engine old b same e = subst (λ (k : Kept). IsEngine (record old { broker = k })) (sym same) e
+-- whose turn it is matters to nothing that an engine keeps
+turned_engine : (old : Parts) (turn : Option Pick) → IsEngine old → IsEngine (record old { broker = record old.broker { turn = turn } })
+turned_engine old turn e = record { hold = e.hold; formed = e.formed; links = e.links; consistent = e.consistent; named = e.named }
 
-pub picked_pumps : (old new : Parts) (b : Kept) (c : ℕ) (notes : List Note) → IsEngine old → b ≡ old.broker → Stays (record old { broker = b }) new
+-- the same with this kept, and the turn of b
+abbrev with_kept : Parts → WithTurn → Kept → Parts
+with_kept old b kept = record old { broker = record { kept = kept; turn = b.turn } }
+
+pub picked_engine : (old : Parts) (b : WithTurn) → b.kept ≡ old.broker.kept → IsEngine old → IsEngine (record old { broker = b })
+picked_engine old b same e = subst (λ (k : Kept). IsEngine (with_kept old b k)) (sym same) (turned_engine old b.turn e)
+
+pub picked_pumps : (old new : Parts) (b : WithTurn) (c : ℕ) (notes : List Note) → IsEngine old → b.kept ≡ old.broker.kept → Stays (record old { broker = b }) new
     → LinksPumped (topology_kept b) (broker_of b) c old.links notes (broker_of new.broker) new.links → IsPump (world_of old) notes (world_of new)
 picked_pumps old new b c notes e same st p =
-    subst (λ (k : Kept). IsPump (world_of (record old { broker = k })) notes (world_of new)) same (pumps (record old { broker = b }) new c notes (picked_engine old b same e) st p)
+    subst (λ (k : Kept). IsPump (world_of (with_kept old b k)) notes (world_of new)) same (pumps (record old { broker = b }) new c notes (picked_engine old b same e) st p)
 
-pub picked_not : (old new : Parts) (b : Kept) (c : ℕ) → IsEngine old → b ≡ old.broker → Stays (record old { broker = b }) new → CanDeliver (broker_of old.broker) c
+can_still : (old : Parts) (b : WithTurn) (c : ℕ) → b.kept ≡ old.broker.kept → CanDeliver (broker_of old.broker) c → CanDeliver (broker_of b) c
+can_still old b c same made = subst (λ (k : Kept). CanDeliver (core.broker_of k) c) (sym same) made
+
+pub picked_not : (old new : Parts) (b : WithTurn) (c : ℕ) → IsEngine old → b.kept ≡ old.broker.kept → Stays (record old { broker = b }) new → CanDeliver (broker_of old.broker) c
     → LinksNotPumped (broker_of b) c old.links (broker_of new.broker) new.links → Same (world_of old) (world_of new)
 picked_not old new b c e same st made p =
-    subst (λ (k : Kept). Same (world_of (record old { broker = k })) (world_of new)) same
-    (not_pumped (record old { broker = b }) new c (picked_engine old b same e) st (subst (λ (k : Kept). CanDeliver (broker_of k) c) (sym same) made) p)
+    subst (λ (k : Kept). Same (world_of (with_kept old b k)) (world_of new)) same
+    (not_pumped (record old { broker = b }) new c (picked_engine old b same e) st (can_still old b c same made) p)
 
-pub picked_stays : {V E : Type 0} (r : Result V E) (notes : V → List Note) (old new : Parts) (b : Kept) (c : ℕ) → IsEngine old → b ≡ old.broker → Stays (record old { broker = b }) new → CanDeliver (broker_of old.broker) c
+pub picked_stays : {V E : Type 0} (r : Result V E) (notes : V → List Note) (old new : Parts) (b : WithTurn) (c : ℕ) → IsEngine old → b.kept ≡ old.broker.kept → Stays (record old { broker = b }) new → CanDeliver (broker_of old.broker) c
     → IfOk r (λ v. LinksPumped (topology_kept b) (broker_of b) c old.links (notes v) (broker_of new.broker) new.links)
     → OnErr r (LinksNotPumped (broker_of b) c old.links (broker_of new.broker) new.links) → IsEngine new
 picked_stays r notes old new b c e same st made ok err =
-    pumped_engine r notes (record old { broker = b }) new c (picked_engine old b same e) st (subst (λ (k : Kept). CanDeliver (broker_of k) c) (sym same) made) ok err
+    pumped_engine r notes (record old { broker = b }) new c (picked_engine old b same e) st (can_still old b c same made) ok err
 
 -- nothing can be delivered, and the engine is as before
-pub picked_none : (old : Parts) (b : Kept) → b ≡ old.broker → NoneCanDeliver (world_of old) → Idles (world_of old) (world_of (record old { broker = b }))
-picked_none old b same none = (none, world_stays old (record old { broker = b }) (record { topology = ap topology_kept same; guarantees = refl; users = refl; given = refl }) (ap broker_of same) refl)
+pub picked_none : (old : Parts) (b : WithTurn) → b.kept ≡ old.broker.kept → NoneCanDeliver (world_of old) → Idles (world_of old) (world_of (record old { broker = b }))
+picked_none old b same none = (none, world_stays old (record old { broker = b }) (record { topology = ap core.topology_kept same; guarantees = refl; users = refl; given = refl }) (ap core.broker_of same) refl)

@@ -3,7 +3,7 @@ use Rattle.std.proofs.Common.{◌≡◌, ◌≢◌, ℕ, List, [], ◌∷◌, �
 use Rattle.std.specs.Prelude.{◌==◌, ◌&&◌, not, if◌then◌else◌, MatchBool}
 use Rattle.std.proofs.lemmas.Bool.{eq-eqb}
 use Rattle.model.specs.Broker.{Broker, with_one}
-use Rattle.model.specs.Commands.{Stream, Ends, stays, running_stream, heard, with_max}
+use Rattle.model.specs.Commands.{Stream, Ends, stays, running_stream, heard}
 use Rattle.model.specs.Phases.{Session, Move, to_phase, after_sends, faulted}
 use Rattle.model.specs.Opening.{IsAnswered, first_move}
 use Rattle.model.specs.declared.messages.User.{User}
@@ -11,7 +11,7 @@ use Rattle.model.specs.State.{Config, State, Step, Steps, Moves, OfCommand, OfLa
 use Rattle.model.specs.Step.{Acts, empty_publish}
 use Rattle.model.specs.Spelling.{spelling}
 use Rattle.model.specs.Run.{Happening, notes_of}
-use Rattle.model.specs.Arrivals.{Wire, Turns, Pauses, Reads, again, fresh, fault, event_of, is_over, is_paused, is_ended, is_past_bound, wire_after, new_wire, Waits, Same, SameToCome, still, waits, IsIdle, Takes_off, Loses, with_heard}
+use Rattle.model.specs.Arrivals.{Wire, Turns, Pauses, Reads, again, fresh, fault, event_of, is_over, is_paused, is_ended, is_past_bound, wire_after, under_session, new_wire, Waits, Same, SameToCome, still, waits, IsIdle, Takes_off, Loses, with_heard}
 use Rattle.model.specs.Words.{Text}
 use Rattle.model.specs.declared.contents.Content.{Content}
 use Rattle.model.specs.declared.methods.Method.{Method}
@@ -25,7 +25,7 @@ use Rattle.model.specs.declared.events.Command.TheVariants.{Head, Plain, Full, T
 use Rattle.model.specs.declared.events.Event.{Event}
 use Rattle.model.specs.declared.events.Event.TheVariants as event
 use Rattle.assembly.specs.Held.{stream_of}
-use Rattle.broker_core.specs.State.{topology_kept, broker_of}
+use Rattle.broker.specs.Turns.{topology_kept, broker_of}
 use Rattle.engine.specs.Performing.{rules_of, DecidesByPhase, ByBroker, ByPhase, session_after, PausesOr}
 use Rattle.engine.specs.Reading.{kept_of}
 use Rattle.engine.specs.Turning.{LinkDid, LinkWaits}
@@ -201,7 +201,7 @@ turned old new l l' notes b found open_still below did =
           rests = λ d ne. b.sessions d ∙ at_others (λ k. session_of (link_in old.links k)) c d l'.session ne;
         };
         given = b.given;
-        wire = wire_is ∙ wire_left (is_ended l'.session.phase) l' (with_max l'.session.frame_max did.next) did.none_kept did.follows
+        wire = wire_is ∙ wire_left (is_ended l'.session.phase) l' (under_session l'.session did.next) did.none_kept did.follows
             ∙ ap (λ (s : Session). wire_after s did.next l'.output.bytes) (sym session_is) ∙ ap (λ (z : List ℕ). wire_after (session_of (link_in new.links c)) did.next z) (sym output_is);
       },
     )

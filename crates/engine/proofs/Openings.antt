@@ -15,7 +15,8 @@ use Rattle.model.specs.Guarantee.{Guarantee}
 use Rattle.model.specs.Arrivals.{Wire, new_wire, new_world, is_ended, can_open, standing, Same}
 use Rattle.model.specs.declared.events.Event.{Event}
 use Rattle.model.specs.declared.events.Event.TheVariants as event
-use Rattle.broker_core.specs.State.{topology_kept, broker_of, nothing}
+use Rattle.broker_core.specs.State.{nothing}
+use Rattle.broker.specs.Turns.{topology_kept, broker_of}
 use Rattle.runs.specs.Opened.{IsOpened}
 use Rattle.engine.specs.Reading.{IsKeptEvent, kept_of}
 use Rattle.engine.specs.World.{Parts, link_in, session_of, wire_in, wire_of, config_of, state_of, world_of, AreLinks, IsLink, IsNew, IsEngine}
@@ -75,7 +76,7 @@ links_opened given ls l sess st a is awake = record {
   each = all-push (IsLink (given + 1)) ls l (wider given ls a.each) (record {
     within = (let n = is.number_is in omega (arith, n));
     here = ap (λ (s : Session). is_ended s.phase && not (nat_lt 0 (length l.output.bytes))) is.session_is ∙ ap (λ (b : Bool). b && not (nat_lt 0 (length l.output.bytes))) awake;
-    kept = subst (λ (k : Option Event). IsKeptEvent l.number k) (sym is.kept) tt;
+    kept = subst (λ (k : Option Event). IsKeptEvent l.number k l.stream.fault) (sym is.kept) tt;
   });
 }
 

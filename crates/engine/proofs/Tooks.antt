@@ -8,19 +8,21 @@ use Rattle.engine.specs.Performing.{Rules, rules_of}
 use Rattle.model.specs.Step.{Acts}
 use Rattle.model.specs.Run.{Happening}
 use Rattle.model.specs.Headline.{IsSound}
+use Rattle.model.specs.Tracing.{AreSafe}
 use Rattle.model.specs.Arrivals.{Same, Waits, is_ended, is_over, is_paused, is_awake, is_gone, is_past_bound, Takes_off, Loses, with_heard}
 use Rattle.model.specs.declared.events.Event.{Event}
 use Rattle.model.specs.declared.events.Event.TheVariants as event
 use Rattle.model.specs.declared.notes.Note.{Note}
-use Rattle.laws.proofs.Whole.{turn_keeps}
+use Rattle.laws.proofs.Keeping.{kept_are_safe}
+use Rattle.laws.proofs.Whole.{turn_keeps, turn_confirms}
 use Rattle.runs.specs.Opened.{Hears, TakesAway, IsLost}
 use Rattle.runs.proofs.Worlds.{waits_not}
 use Rattle.assembly.specs.Held.{stream_of}
-use Rattle.broker_core.specs.State.{topology_kept, broker_of}
-use Rattle.engine.specs.Reading.{kept_of, to_read}
+use Rattle.broker.specs.Turns.{topology_kept, broker_of}
+use Rattle.engine.specs.Reading.{HasMore, IsKeptEvent, kept_of, to_read}
 use Rattle.engine.specs.Turning.{LinkDid, LinkWaits, LinkSame}
-use Rattle.engine.specs.World.{Parts, link_in, session_of, wire_of, config_of, world_of, is_link_gone, AreLinks, AreRising, IsEngine}
-use Rattle.engine.specs.Engines.{Becomes, Changes, IsLinkPlace, LinkTookOr, LinksTook, LinksSent, LinkFed, LinksFed, Turned, OnDid, left_to_read, left_in}
+use Rattle.engine.specs.World.{Parts, link_in, session_of, wire_of, wire_in, config_of, world_of, is_link_gone, AreLinks, AreRising, IsEngine}
+use Rattle.engine.specs.Engines.{Becomes, Changes, IsLinkPlace, LinkTookOr, LinksTook, LinksSent, LinkFed, LinksFed, Turned, OnDid, left_to_read, left_in, room_in, room_for}
 use Rattle.engine.specs.declared.connected.Connected.{Connected}
 use Rattle.engine.specs.declared.turning.Turn.{Turn}
 use Rattle.engine.specs.declared.turning.Turn.TheVariants as turn
@@ -50,6 +52,9 @@ becomes old new i l l' st r ch = record {
 
 pub sound : (p : Parts) → IsEngine p → IsSound (config_of p)
 sound p e = record { wf = e.formed; hold = e.hold }
+
+pub safe : (p : Parts) → IsEngine p → AreSafe (topology_kept p.broker) p.guarantees (broker_of p.broker)
+safe p e = kept_are_safe (config_of p) (broker_of p.broker) e.consistent.kept e.consistent.unmarked
 
 pub engine_with : (old new : Parts) → IsEngine old → Stays old new → AreLinks old.given new.links → Agrees (world_of new) → IsEngine new
 engine_with old new e st a k = record {
@@ -99,6 +104,7 @@ pub record Outcome {E : Type 0} (old new : Parts) (c : ℕ) (what : Result Turn 
   pub fewer : IfOk what (λ t. OnDid t (left_in new.links < left_in old.links))
   pub err : OnErr what (Waits (world_of old) c (world_of new))
   pub awake : OnErr what (is_awake (world_of old) c ≡ true)
+  pub more : OnErr what (HasMore ((world_of old).wire c).kept ((world_of old).wire c).stream)
 
 over_is : (p : Parts) (l : Connected) → link_in p.links l.number ≡ Some l → is_over (world_of p) l.number ≡ is_ended l.session.phase
 over_is p l found = ap (λ (o : Option Connected). is_ended (session_of o).phase) found
@@ -112,34 +118,49 @@ awake_is true paused e f = absurd (false≢true (sym e))
 awake_is false true e f = absurd (false≢true (sym f))
 awake_is false false e f = refl
 
+-- what one that is not over has more to perform is what its wire has
+more_is : (p : Parts) (l : Connected) → link_in p.links l.number ≡ Some l → is_ended l.session.phase ≡ false → HasMore (kept_of l.kept) (stream_of l.stream)
+    → HasMore ((world_of p).wire l.number).kept ((world_of p).wire l.number).stream
+more_is p l found going more =
+    subst (λ (o : Option Connected). HasMore (wire_of o).kept (wire_of o).stream) (sym found) (subst (λ (b : Bool). HasMore (wire_in b l).kept (wire_in b l).stream) (sym going) more)
+
 outcome : {E : Type 0} (old new : Parts) (i : ℕ) (l l' : Connected) (what : Result Turn E) → IsEngine old → Stays old new → Changes old.links i l l' new.links
     → LinkTookOr (rules_of (topology_kept old.broker) old.users) (broker_of old.broker) l what (broker_of new.broker) l' → Outcome old new l.number what
 outcome old new i l l' (Ok (turn.Did notes)) e st ch t =
     let b = becomes old new i l l' st e.links.rising ch in
     let found = link_in-place 0 old.links i l e.links.rising ch.within ch.here in
     let done = turned old new l l' notes.items b found t.0 t.1 t.2 in
+    let confirms = turn_confirms (world_of old) (world_of new) l.number done.0 done.2 in
     record {
-      ok = record { happenings = done.0; noted = done.1; turns = done.2; promises = turn_keeps (world_of old) (world_of new) l.number done.0 (sound old e) e.consistent done.2 };
+      ok = record {
+        happenings = done.0;
+        noted = done.1;
+        turns = done.2;
+        promises = turn_keeps (world_of old) (world_of new) l.number done.0 (sound old e) e.consistent done.2;
+        output = confirms.0;
+        confirms = confirms.1;
+      };
       fewer = left_change old.links i l l' new.links ch (did_less (rules_of (topology_kept old.broker) old.users) (broker_of old.broker) (broker_of new.broker) l l' notes.items t.0 t.2);
       err = tt;
       awake = tt;
+      more = tt;
     }
 outcome old new i l l' (Ok turn.Idle) e st ch t =
     let b = becomes old new i l l' st e.links.rising ch in
     let found = link_in-place 0 old.links i l e.links.rising ch.within ch.here in
-    record { ok = (over_is old l found ∙ t.0, idle old l found t.1.none_kept t.1.ends t.0, waited old new l l' b found t.1.waits); fewer = tt; err = tt; awake = tt }
+    record { ok = (over_is old l found ∙ t.0, idle old l found t.1.none_kept t.1.ends t.0, waited old new l l' b found t.1.waits); fewer = tt; err = tt; awake = tt; more = tt }
 outcome old new i l l' (Ok turn.Paused) e st ch t =
     let b = becomes old new i l l' st e.links.rising ch in
     let found = link_in-place 0 old.links i l e.links.rising ch.within ch.here in
-    record { ok = (over_is old l found ∙ t.0, paused_is old l found ∙ t.1, waited old new l l' b found (same_waits (broker_of old.broker) (broker_of new.broker) l l' t.2)); fewer = tt; err = tt; awake = tt }
+    record { ok = (over_is old l found ∙ t.0, paused_is old l found ∙ t.1, waited old new l l' b found (same_waits (broker_of old.broker) (broker_of new.broker) l l' t.2)); fewer = tt; err = tt; awake = tt; more = tt }
 outcome old new i l l' (Ok turn.Over) e st ch t =
     let b = becomes old new i l l' st e.links.rising ch in
     let found = link_in-place 0 old.links i l e.links.rising ch.within ch.here in
-    record { ok = (over_is old l found ∙ t.0, waited old new l l' b found (same_waits (broker_of old.broker) (broker_of new.broker) l l' t.1)); fewer = tt; err = tt; awake = tt }
+    record { ok = (over_is old l found ∙ t.0, waited old new l l' b found (same_waits (broker_of old.broker) (broker_of new.broker) l l' t.1)); fewer = tt; err = tt; awake = tt; more = tt }
 outcome old new i l l' (Err x) e st ch t =
     let b = becomes old new i l l' st e.links.rising ch in
     let found = link_in-place 0 old.links i l e.links.rising ch.within ch.here in
-    record { ok = tt; fewer = tt; err = waited old new l l' b found t.waits; awake = awake_is (is_over (world_of old) l.number) (is_paused (world_of old) l.number) (over_is old l found ∙ t.awake.0) (paused_is old l found ∙ t.awake.1) }
+    record { ok = tt; fewer = tt; err = waited old new l l' b found t.waits; awake = awake_is (is_over (world_of old) l.number) (is_paused (world_of old) l.number) (over_is old l found ∙ t.awake.0) (paused_is old l found ∙ t.awake.1); more = more_is old l found t.awake.0 t.more }
 
 number_is : (ls : List Connected) (c i : ℕ) (l : Connected) → IsLinkPlace ls c (Some i) → get_or ls i l ≡ l → l.number ≡ c
 number_is ls c i l place here = sym (ap (λ (z : Connected). z.number) here) ∙ place.1 l
@@ -202,7 +223,8 @@ fed_changes given ls new_ls i bytes a f =
       within = f.within;
       here = f.here;
       number = f.fed.number;
-      kept = λ k. subst (λ (n : ℕ). Rattle.engine.specs.Reading.IsKeptEvent n f.new.kept) (sym f.fed.number) (subst (λ (o : Option Event). Rattle.engine.specs.Reading.IsKeptEvent f.old.number o) (sym f.fed.kept) k);
+      kept = λ k. subst (λ (n : ℕ). IsKeptEvent n f.new.kept f.new.stream.fault) (sym f.fed.number)
+          (subst (λ (o : Option Event). IsKeptEvent f.old.number o f.new.stream.fault) (sym f.fed.kept) (subst (λ (broke : Option ℕ). IsKeptEvent f.old.number f.old.kept broke) (sym f.fed.fault) k));
       left = f.left ∙ sym (ap (λ (v : Bool). cond v (remove ls i) (set ls i f.new)) still);
       over = λ gone. absurd (false≢true (sym still ∙ gone));
     }
@@ -283,3 +305,10 @@ pub fed_over : {T E : Type 0} (r : Result T E) (p : Parts) (ls : List Connected)
 fed_over r p ls c i e place over is =
     let at = Rattle.engine.proofs.Found.element p.links i place.0 in
     fed_nothing r p ls (over at.0 at.1 (sym (over_at p c i at.0 e place at.1) ∙ is))
+
+-- ---- memory is wanted for more bytes than there is room for
+
+pub fed_full : {T E : Type 0} (r : Result T E) (p : Parts) (c i n : ℕ) → IsEngine p → IsLinkPlace p.links c (Some i) → ((l : Connected) → get_or p.links i l ≡ l → OnErr r (l.stream.room < n)) → OnErr r (room_for p c < n)
+fed_full r p c i n e place full =
+    let at = Rattle.engine.proofs.Found.element p.links i place.0 in
+    subst (λ (o : Option Connected). OnErr r (room_in o < n)) (sym (found_at p.links c i at.0 e.links.rising place at.1)) (full at.0 at.1)

@@ -15,7 +15,9 @@ use Rattle.model.specs.declared.events.Event.{Event}
 use Rattle.model.specs.declared.events.Event.TheVariants as event
 use Rattle.model.specs.declared.notes.Note.{Note}
 use Rattle.assembly.specs.Held.{stream_of}
-use Rattle.engine.specs.Reading.{kept_of, IsEventMade, IsKeptEvent, HasEvent, ComesNext, to_read}
+use Rattle.assembly.specs.Front.{HasFront}
+use Rattle.assembly.proofs.Fronts.{ends_front, yields_front}
+use Rattle.engine.specs.Reading.{kept_of, IsEventMade, IsKeptEvent, HasMore, HasEvent, ComesNext, to_read}
 use Rattle.engine.specs.Performing.{Rules, DecidesByPhase}
 use Rattle.engine.specs.Turning.{Performed, LinkPerformed, DidEvent, LinkTook, LinkWaits, OnIdle}
 use Rattle.outputs.specs.Waiting.{HoldsNone}
@@ -46,9 +48,9 @@ kept_made : (c : ℕ) (e : Event) (is : IsEventMade c e) → kept_of (Some e) �
 kept_made c e is = ap (λ (x : Event). kept_of (Some x)) is.made ∙ kept_is c is.command
 
 -- a command that is kept is the next
-pub kept_has : (c : ℕ) (k : Option Event) (s : Stream) → is_some k ≡ true → IsKeptEvent c k → HasEvent c k s k s
-kept_has c None s some is = absurd (false≢true some)
-kept_has c (Some e) s some is = record {
+pub kept_has : (c : ℕ) (k : Option Event) (broke : Option ℕ) (s : Stream) → is_some k ≡ true → IsKeptEvent c k broke → HasEvent c k s k s
+kept_has c None broke s some is = absurd (false≢true some)
+kept_has c (Some e) broke s some (is, whole) = record {
   event = e;
   is = refl;
   made = is;
@@ -69,8 +71,12 @@ read_has c k left m s new none is y said short =
       fewer = omega (arith, short);
     }))
 
-pub kept_read : (c : ℕ) (left : Option Event) (m : Command) → left ≡ Some (event_of c m) → IsCommand m → IsKeptEvent c left
-kept_read c left m is said = subst (λ (o : Option Event). IsKeptEvent c o) (sym is) (record { command = m; made = refl; said = said })
+pub kept_read : (c : ℕ) (left : Option Event) (broke : Option ℕ) (m : Command) → left ≡ Some (event_of c m) → IsCommand m → broke ≡ None → IsKeptEvent c left broke
+kept_read c left broke m is said whole = subst (λ (o : Option Event). IsKeptEvent c o broke) (sym is) (record { command = m; made = refl; said = said }, whole)
+
+-- where a command is kept the stream has not broken
+kept_whole : (c : ℕ) (k : Option Event) (e : Event) (broke : Option ℕ) → k ≡ Some e → IsKeptEvent c k broke → broke ≡ None
+kept_whole c k e broke is own = (subst (λ (o : Option Event). IsKeptEvent c o broke) is own).1
 
 pub waits_on : (k : Option Event) (s new : Stream) → k ≡ None → GoesOn s new → SameToCome (kept_of k) s (kept_of k) new
 waits_on k s new none on = subst (λ (o : Option Event). SameToCome (kept_of o) s (kept_of o) new) (sym none) (waits on)
@@ -108,8 +114,8 @@ performed_of t b new_b old mid new e notes read p =
     (subst (λ (o : List ℕ). Performed t b mid.number mid.session o e notes new_b new.session new.output.bytes) read.output p))
 
 pub did_kept : (t : Rules) (b new_b : Broker) (old mid new : Connected) (what : Turn) → is_ended old.session.phase ≡ false → is_past_bound old.output.bytes ≡ false → IsRead old mid
-    → (h : HasEvent old.number old.kept (stream_of old.stream) mid.kept (stream_of mid.stream)) → DidEvent t b mid h.event what new_b new → LinkTook t b old what new_b new
-did_kept t b new_b old mid new (turn.Did notes) open_still below read h did = (
+    → (h : HasEvent old.number old.kept (stream_of old.stream) mid.kept (stream_of mid.stream)) → mid.stream.fault ≡ None → DidEvent t b mid h.event what new_b new → LinkTook t b old what new_b new
+did_kept t b new_b old mid new (turn.Did notes) open_still below read h whole did = (
   open_still,
   below,
   record {
@@ -120,13 +126,13 @@ did_kept t b new_b old mid new (turn.Did notes) open_still below read h did = (
     performed = performed_of t b new_b old mid new h.event notes.items read did.performed;
     number = did.number ∙ read.number;
     none_kept = did.none_kept;
-    follows = inl did.stream;
-    fewer = inl (subst (λ (s : Stream). to_read None s < to_read (kept_of old.kept) (stream_of old.stream)) (sym did.stream) h.fewer);
+    follows = inl (did.stream whole);
+    fewer = inl (subst (λ (s : Stream). to_read None s < to_read (kept_of old.kept) (stream_of old.stream)) (sym (did.stream whole)) h.fewer);
   },
 )
-did_kept t b new_b old mid new turn.Idle open_still below read h did = absurd did
-did_kept t b new_b old mid new turn.Paused open_still below read h did = absurd did
-did_kept t b new_b old mid new turn.Over open_still below read h did = absurd did
+did_kept t b new_b old mid new turn.Idle open_still below read h whole did = absurd did
+did_kept t b new_b old mid new turn.Paused open_still below read h whole did = absurd did
+did_kept t b new_b old mid new turn.Over open_still below read h whole did = absurd did
 
 pub did_fault : (t : Rules) (b new_b : Broker) (old mid new : Connected) (code : ℕ) (what : Turn) → is_ended old.session.phase ≡ false → is_past_bound old.output.bytes ≡ false → IsRead old mid
     → old.kept ≡ None → Ends (stream_of old.stream) (Some code) → DidEvent t b mid (event.Fault mid.number code) what new_b new → LinkTook t b old what new_b new
@@ -158,6 +164,16 @@ waits_kept b new_b old mid new read same broker is = subst (λ (z : Connected). 
 pub coming_on : (k left : Option Event) (s new : Stream) → k ≡ None → left ≡ None → GoesOn s new → SameToCome (kept_of k) s (kept_of left) new
 coming_on k left s new none gone on = subst (λ (o : Option Event). SameToCome (kept_of o) s (kept_of left) new) (sym none) (subst (λ (o : Option Event). SameToCome None s (kept_of o) new) (sym gone) (waits on))
 
+-- ---- what is read was there
+
+pub reads_more : {c : ℕ} {k : Option Command} {s next : Stream} {e : Event} → Reads c k s e next → HasMore k s
+reads_more again = tt
+reads_more (fresh y) = yields_front y
+reads_more (fault e) = ends_front e
+
+pub front_more : (k : Option Event) (s : Stream) → k ≡ None → HasFront s → HasMore (kept_of k) s
+front_more k s none front = subst (λ (o : Option Event). HasMore (kept_of o) s) (sym none) front
+
 -- ---- by the answer
 
 pub comes_command : (c : ℕ) (k left : Option Event) (s new : Stream) (n : Next) → n ≡ next.Command → ComesNext c k s n left new → HasEvent c k s left new
@@ -174,12 +190,12 @@ pub record Whole {E : Type 0} (t : Rules) (b : Broker) (old : Connected) (what :
   pub ok : IfOk what (λ x. LinkTook t b old x new_b new)
   pub err : OnErr what (LinkWaits b old new_b new)
   pub idle : IfOk what (λ x. OnIdle x (HoldsNone new.output))
-  pub kept : IsKeptEvent new.number new.kept
+  pub kept : IsKeptEvent new.number new.kept new.stream.fault
   pub number : new.number ≡ old.number
 
 -- nothing is kept after what was performed
-did_keeps : (t : Rules) (b new_b : Broker) (mid new : Connected) (e : Event) (what : Turn) → DidEvent t b mid e what new_b new → IsKeptEvent new.number new.kept × (new.number ≡ mid.number)
-did_keeps t b new_b mid new e (turn.Did notes) did = (subst (λ (k : Option Event). IsKeptEvent new.number k) (sym did.none_kept) tt, did.number)
+did_keeps : (t : Rules) (b new_b : Broker) (mid new : Connected) (e : Event) (what : Turn) → DidEvent t b mid e what new_b new → IsKeptEvent new.number new.kept new.stream.fault × (new.number ≡ mid.number)
+did_keeps t b new_b mid new e (turn.Did notes) did = (subst (λ (k : Option Event). IsKeptEvent new.number k new.stream.fault) (sym did.none_kept) tt, did.number)
 did_keeps t b new_b mid new e turn.Idle did = absurd did
 did_keeps t b new_b mid new e turn.Paused did = absurd did
 did_keeps t b new_b mid new e turn.Over did = absurd did
@@ -191,17 +207,17 @@ did_something t b new_b mid new e turn.Paused did = absurd did
 did_something t b new_b mid new e turn.Over did = absurd did
 
 pub after_kept : {E : Type 0} (r : Result Turn E) (t : Rules) (b new_b : Broker) (old mid new : Connected) → is_ended old.session.phase ≡ false → is_past_bound old.output.bytes ≡ false → IsRead old mid
-    → HasEvent old.number old.kept (stream_of old.stream) mid.kept (stream_of mid.stream)
+    → HasEvent old.number old.kept (stream_of old.stream) mid.kept (stream_of mid.stream) → IsKeptEvent old.number mid.kept mid.stream.fault
     → IfOk r (λ x. (e : Event) → mid.kept ≡ Some e → DidEvent t b mid e x new_b new) → OnErr r (new_b ≡ b) → OnErr r (new ≡ mid) → Whole t b old r new_b new
-after_kept (Ok x) t b new_b old mid new open_still below read h did broker link =
+after_kept (Ok x) t b new_b old mid new open_still below read h own did broker link =
     let d = did h.event h.is in
     let k = did_keeps t b new_b mid new h.event x d in
-    record { ok = did_kept t b new_b old mid new x open_still below read h d; err = tt; idle = did_something t b new_b mid new h.event x d; kept = k.0; number = k.1 ∙ read.number }
-after_kept (Err x) t b new_b old mid new open_still below read h did broker link = record {
+    record { ok = did_kept t b new_b old mid new x open_still below read h (kept_whole old.number mid.kept h.event mid.stream.fault h.is own) d; err = tt; idle = did_something t b new_b mid new h.event x d; kept = k.0; number = k.1 ∙ read.number }
+after_kept (Err x) t b new_b old mid new open_still below read h own did broker link = record {
   ok = tt;
   err = waits_kept b new_b old mid new read h.same broker link;
   idle = tt;
-  kept = subst (λ (z : Connected). IsKeptEvent z.number z.kept) (sym link) (subst (λ (c : ℕ). IsKeptEvent c mid.kept) (sym read.number) (subst (λ (k : Option Event). IsKeptEvent old.number k) (sym h.is) h.made));
+  kept = subst (λ (z : Connected). IsKeptEvent z.number z.kept z.stream.fault) (sym link) (subst (λ (c : ℕ). IsKeptEvent c mid.kept mid.stream.fault) (sym read.number) own);
   number = ap (λ (z : Connected). z.number) link ∙ read.number;
 }
 
@@ -215,7 +231,7 @@ after_fault (Err x) t b new_b old mid new code open_still below read h did broke
   ok = tt;
   err = waits_kept b new_b old mid new read (coming_on old.kept mid.kept (stream_of old.stream) (stream_of mid.stream) h.1 h.0 h.3) broker link;
   idle = tt;
-  kept = subst (λ (z : Connected). IsKeptEvent z.number z.kept) (sym link) (subst (λ (k : Option Event). IsKeptEvent mid.number k) (sym h.0) tt);
+  kept = subst (λ (z : Connected). IsKeptEvent z.number z.kept z.stream.fault) (sym link) (subst (λ (k : Option Event). IsKeptEvent mid.number k mid.stream.fault) (sym h.0) tt);
   number = ap (λ (z : Connected). z.number) link ∙ read.number;
 }
 

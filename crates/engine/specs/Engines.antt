@@ -1,17 +1,18 @@
 -- What the calls of an engine come to, from single connections to the world.
-use Rattle.std.specs.Prelude.{◌≡◌, ◌+◌, ◌<◌, ℕ, List, [], ◌∷◌, length, drop, true, false, Option, Some, None, Result, Ok, Err, if◌then◌else◌, get_or, set}
+use Rattle.std.specs.Prelude.{◌≡◌, ◌+◌, ◌<◌, ℕ, List, [], ◌∷◌, ◌++◌, length, drop, true, false, Option, Some, None, Result, Ok, Err, if◌then◌else◌, get_or, set}
 use Rattle.std.specs.List.{remove}
 use Rattle.model.specs.Topology.{Topology}
 use Rattle.model.specs.Broker.{Broker, with_one}
 use Rattle.model.specs.Commands.{heard}
 use Rattle.model.specs.Phases.{no_session}
-use Rattle.model.specs.Run.{Happening, notes_of}
+use Rattle.model.specs.Run.{Happening, notes_of, put_out}
 use Rattle.model.specs.Arrivals.{World, Turns, Waits, IsIdle, is_over, is_paused, is_ended, is_past_bound}
 use Rattle.model.specs.Headline.{KeepsEvents}
+use Rattle.model.specs.Nacks.{Confirms}
 use Rattle.model.specs.declared.notes.Note.{Note}
 use Rattle.assembly.specs.Held.{stream_of}
-use Rattle.broker_core.specs.State.{topology_kept}
-use Rattle.engine.specs.Reading.{IsKeptEvent, kept_of, to_read}
+use Rattle.broker.specs.Turns.{topology_kept}
+use Rattle.engine.specs.Reading.{IsKeptEvent, HasMore, kept_of, to_read}
 use Rattle.engine.specs.Performing.{Rules, PausesOr}
 use Rattle.engine.specs.Turning.{LinkTook, LinkWaits, MayTurn}
 use Rattle.engine.specs.World.{Parts, link_in, session_of, wire_of, is_link_gone}
@@ -30,9 +31,10 @@ abbrev pub left_in : List Connected → ℕ
 left_in [] = 0
 left_in (l ∷ ls) = left_to_read l + left_in ls
 
--- Memory was wanting for a connection that is neither over nor paused, and nothing was performed.
+-- Memory was wanting for a connection that is neither over nor paused and has more to perform, and nothing was performed.
 pub record LinkWants (b : Broker) (old : Connected) (new_b : Broker) (new : Connected) : Type 0 where
   pub awake : MayTurn old
+  pub more : HasMore (kept_of old.kept) (stream_of old.stream)
   pub waits : LinkWaits b old new_b new
 
 -- The turn of one connection is right, or memory was wanting and nothing was performed.
@@ -56,10 +58,16 @@ pub record LinkFed (old : Connected) (bytes : List ℕ) (new : Connected) : Type
   pub kept : new.kept ≡ old.kept
   pub output : new.output ≡ old.output
   pub stream : is_ended old.session.phase ≡ false → stream_of new.stream ≡ heard (stream_of old.stream) bytes
+  pub fault : new.stream.fault ≡ old.stream.fault
   -- of one that is over nothing is kept
   pub over : is_ended old.session.phase ≡ true → new ≡ old
 
 -- ---- the connections
+
+-- how many more bytes of this connection are taken in with no growth
+abbrev pub room_in : Option Connected → ℕ
+room_in None = 0
+room_in (Some l) = l.stream.room
 
 -- the connection of this number is at this place, if it is there
 abbrev pub IsLinkPlace : List Connected → ℕ → Option ℕ → Type 0
@@ -80,7 +88,7 @@ pub record Changes (ls : List Connected) (i : ℕ) (old new : Connected) (new_ls
   pub within : i < length ls
   pub here : get_or ls i old ≡ old
   pub number : new.number ≡ old.number
-  pub kept : IsKeptEvent old.number old.kept → IsKeptEvent new.number new.kept
+  pub kept : IsKeptEvent old.number old.kept old.stream.fault → IsKeptEvent new.number new.kept new.stream.fault
   pub left : new_ls ≡ put_back ls i new
   pub over : is_link_gone new ≡ true → new.session ≡ no_session
 
@@ -109,6 +117,10 @@ pub record LinksFed (ls : List Connected) (i : ℕ) (bytes : List ℕ) (new_ls :
 
 -- ---- the engine
 
+-- how many more bytes of the connection c are taken in with no growth
+abbrev pub room_for : Parts → ℕ → ℕ
+room_for p c = room_in (link_in p.links c)
+
 -- one connection is this link now, and all else is as before but the broker
 pub record Becomes (old : Parts) (l new_l : Connected) (new : Parts) : Type 0 where
   pub topology : topology_kept new.broker ≡ topology_kept old.broker
@@ -124,6 +136,10 @@ pub record IsTurn (old : World) (c : ℕ) (notes : List Note) (new : World) : Ty
   pub noted : notes ≡ notes_of happenings
   pub turns : Turns old c happenings new
   pub promises : KeepsEvents old.state.broker happenings new.state.broker
+  -- what was put out for the connection stands behind what waited
+  pub output : (new.wire c).output ≡ (old.wire c).output ++ put_out c happenings
+  -- and its acks and nacks are those of the publishes that were confirmed so
+  pub confirms : Confirms c happenings (put_out c happenings)
 
 -- The turn is right: what was performed, or why nothing was.
 abbrev pub Turned : World → ℕ → Turn → World → Type 0

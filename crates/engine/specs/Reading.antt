@@ -9,6 +9,7 @@ use Rattle.model.specs.declared.events.Command.{Command}
 use Rattle.model.specs.declared.events.Command.TheVariants.{Head, Plain, Full, TooLarge}
 use Rattle.model.specs.declared.events.Event.{Event}
 use Rattle.model.specs.declared.events.Event.TheVariants as event
+use Rattle.assembly.specs.Front.{HasFront}
 use Rattle.engine.specs.declared.reading.Next.{Next}
 use Rattle.engine.specs.declared.reading.Next.TheVariants as next
 
@@ -38,10 +39,10 @@ pub record IsEventMade (c : ℕ) (e : Event) : Type 0 where
   pub made : e ≡ event_of c command
   pub said : IsCommand command
 
--- what is kept is a command of the connection c
-abbrev pub IsKeptEvent : ℕ → Option Event → Type 0
-IsKeptEvent c None = Unit {0}
-IsKeptEvent c (Some e) = IsEventMade c e
+-- what is kept is a command of the connection c, whose stream has not broken
+abbrev pub IsKeptEvent : ℕ → Option Event → (fault : Option ℕ) → Type 0
+IsKeptEvent c None fault = Unit {0}
+IsKeptEvent c (Some e) fault = IsEventMade c e × (fault ≡ None)
 
 -- ---- what comes
 
@@ -49,6 +50,11 @@ IsKeptEvent c (Some e) = IsEventMade c e
 abbrev pub to_read : Option Command → Stream → ℕ
 to_read None s = length s.unread
 to_read (Some m) s = length s.unread + 1
+
+-- a command is kept, or there is something to read: the first eight bytes, a whole frame or a broken one
+abbrev pub HasMore : Option Command → Stream → Type 0
+HasMore None s = HasFront s
+HasMore (Some m) s = Unit {0}
 
 -- A command is the next, and is kept.
 pub record HasEvent (c : ℕ) (kept : Option Event) (old : Stream) (left : Option Event) (new : Stream) : Type 0 where

@@ -3,9 +3,9 @@ use Rattle.std.specs.Prelude.{◌≡◌, ◌⊎◌, ◌≤◌, ◌<◌, ◌++◌
 use Rattle.std.specs.List.{AllByRecursion}
 use Rattle.model.specs.Broker.{Broker}
 use Rattle.model.specs.Phases.{Session}
-use Rattle.model.specs.Commands.{Stream, Ends, with_max}
+use Rattle.model.specs.Commands.{Stream, Ends}
 use Rattle.model.specs.Spelling.{receiver, spelling, IsSpelled}
-use Rattle.model.specs.Arrivals.{Reads, SameToCome, IsSaid, is_ended, is_past_bound}
+use Rattle.model.specs.Arrivals.{Reads, SameToCome, IsSaid, is_ended, is_past_bound, under_session}
 use Rattle.model.specs.declared.events.Send.{Send}
 use Rattle.model.specs.declared.events.Event.{Event}
 use Rattle.model.specs.declared.notes.Note.{Note}
@@ -27,12 +27,12 @@ pub record Performed (r : Rules) (b : Broker) (c : ℕ) (s : Session) (output : 
   pub put : new_output ≡ output ++ spelling s.frame_max sends
   pub pauses : PausesOr r.topology c false (is_past_bound new_output) mid new_b
 
--- The event was performed, nothing is kept, nothing more is read, and frames are as large as the session allows.
+-- The event was performed, nothing is kept, nothing more is read, and the stream goes by the session, unless it broke.
 pub record LinkPerformed (r : Rules) (b : Broker) (old : Connected) (event : Event) (notes : List Note) (new_b : Broker) (new : Connected) : Type 0 where
   pub performed : Performed r b old.number old.session old.output.bytes event notes new_b new.session new.output.bytes
   pub number : new.number ≡ old.number
   pub none_kept : new.kept ≡ None
-  pub stream : stream_of new.stream ≡ with_max new.session.frame_max (stream_of old.stream)
+  pub stream : old.stream.fault ≡ None → stream_of new.stream ≡ under_session new.session (stream_of old.stream)
 
 -- the turn performed this event
 abbrev pub DidEvent : Rules → Broker → Connected → Event → Turn → Broker → Connected → Type 0
@@ -63,7 +63,7 @@ pub record LinkDid (r : Rules) (b : Broker) (old : Connected) (notes : List Note
   pub number : new.number ≡ old.number
   pub none_kept : new.kept ≡ None
   -- after a fault the connection is over
-  pub follows : (stream_of new.stream ≡ with_max new.session.frame_max next) ⊎ (is_ended new.session.phase ≡ true)
+  pub follows : (stream_of new.stream ≡ under_session new.session next) ⊎ (is_ended new.session.phase ≡ true)
   pub fewer : (to_read None (stream_of new.stream) < to_read (kept_of old.kept) (stream_of old.stream)) ⊎ (is_ended new.session.phase ≡ true)
 
 -- Nothing was performed, for no whole command and no fault is left to read.

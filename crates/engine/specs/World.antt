@@ -11,14 +11,14 @@ use Rattle.model.specs.Consistent.{IsConsistent}
 use Rattle.model.specs.Naming.{AreNamed}
 use Rattle.model.specs.declared.messages.User.{User}
 use Rattle.assembly.specs.Held.{stream_of}
-use Rattle.broker_core.specs.State as broker
-use Rattle.broker_core.specs.State.{topology_kept, broker_of}
+use Rattle.broker.specs.Turns as broker
+use Rattle.broker.specs.Turns.{topology_kept, broker_of}
 use Rattle.engine.specs.Reading.{IsKeptEvent, kept_of}
 use Rattle.engine.specs.declared.connected.Connected.{Connected}
 
 -- the broker, what is in force, how many numbers were given, and the connections that are not gone
 pub record Parts : Type 0 where
-  pub broker : broker.Kept
+  pub broker : broker.WithTurn
   pub guarantees : List Guarantee
   pub users : List User
   pub given : ℕ
@@ -72,7 +72,7 @@ is_link_gone l = is_ended l.session.phase && not (nat_lt 0 (length l.output.byte
 pub record IsLink (given : ℕ) (l : Connected) : Type 0 where
   pub within : l.number ≤ given
   pub here : is_link_gone l ≡ false
-  pub kept : IsKeptEvent l.number l.kept
+  pub kept : IsKeptEvent l.number l.kept l.stream.fault
 
 -- a connection as it is opened, in this session and with this stream
 pub record IsNew (l : Connected) (number : ℕ) (session : Session) (stream : Stream) : Type 0 where

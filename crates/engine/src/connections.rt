@@ -17,8 +17,9 @@ ghost use Rattle.std.specs.Prelude.{
 };
 ghost use Rattle.model.specs.Arrivals.{is_ended};
 ghost use Rattle.model.specs.Sending.{AreCarried};
-ghost use Rattle.broker_core.specs.State.{topology_kept, broker_of};
-ghost use Rattle.engine.specs.Reading.{IsKeptEvent};
+ghost use Rattle.broker.specs.Turns.{topology_kept, broker_of};
+ghost use Rattle.assembly.specs.Held.{stream_of};
+ghost use Rattle.engine.specs.Reading.{IsKeptEvent, HasMore, kept_of};
 ghost use Rattle.outputs.specs.Waiting.{HoldsNone};
 ghost use Rattle.engine.specs.Performing.{rules_of};
 ghost use Rattle.engine.specs.Turning.{LinkTook, LinkWaits, MayTurn, OnIdle};
@@ -93,13 +94,14 @@ fn turn_link(
     spares: &mut Spares,
     link: &mut Connected,
 ) -> Result<Turn, AllocError>
-    requires kept { IsKeptEvent link.old.number link.old.kept }
+    requires kept { IsKeptEvent link.old.number link.old.kept link.old.stream.fault }
     requires carried { AreCarried (broker_of broker.old) }
     ensures ok { IfOk result (λ t. LinkTook (rules_of (topology_kept broker.old) users.now) (broker_of broker.old) link.old t (broker_of broker.new) link.new) }
     ensures err { OnErr result (LinkWaits (broker_of broker.old) link.old (broker_of broker.new) link.new) }
     ensures awake { OnErr result (MayTurn link.old) }
+    ensures more { OnErr result (HasMore (kept_of link.old.kept) (stream_of link.old.stream)) }
     ensures idle { IfOk result (λ t. OnIdle t (HoldsNone link.new.output)) }
-    ensures kept { IsKeptEvent link.new.number link.new.kept }
+    ensures kept { IsKeptEvent link.new.number link.new.kept link.new.stream.fault }
     ensures number { link.new.number ≡ link.old.number }
     ensures topology { topology_kept broker.new ≡ topology_kept broker.old }
 {
@@ -133,7 +135,7 @@ pub(crate) fn turn_at(
     place: usize,
 ) -> Result<Turn, AllocError>
     requires within { place < length links.old.items }
-    requires kept { (l : seen_link.Connected) → get_or links.old.items place l ≡ l → IsKeptEvent l.number l.kept }
+    requires kept { (l : seen_link.Connected) → get_or links.old.items place l ≡ l → IsKeptEvent l.number l.kept l.stream.fault }
     requires carried { AreCarried (broker_of broker.old) }
     ensures took { LinksTook (rules_of (topology_kept broker.old) users.now) (broker_of broker.old) links.old.items place result (broker_of broker.new) links.new.items }
     ensures topology { topology_kept broker.new ≡ topology_kept broker.old }
@@ -177,6 +179,7 @@ fn feed_link(link: &mut Connected, bytes: &[u8]) -> Result<(), AllocError>
     ensures ok { OnOk result (LinkFed link.old bytes.now link.new) }
     ensures over { is_ended link.old.session.phase ≡ true → IsOk result × (link.new ≡ link.old) }
     ensures err { OnErr result (link.new ≡ link.old) }
+    ensures full { OnErr result (link.old.stream.room < length bytes.now) }
 {
     if link.session.is_over() {
         return Ok(());
@@ -194,6 +197,7 @@ pub(crate) fn feed_at(
     ensures ok { OnOk result (LinksFed links.old.items place bytes.now links.new.items) }
     ensures over { (l : seen_link.Connected) → get_or links.old.items place l ≡ l → is_ended l.session.phase ≡ true → IsOk result × (links.new.items ≡ links.old.items) }
     ensures err { OnErr result (links.new.items ≡ links.old.items) }
+    ensures full { (l : seen_link.Connected) → get_or links.old.items place l ≡ l → OnErr result (l.stream.room < length bytes.now) }
 {
     feed_link(&mut links[place], bytes)
 }

@@ -1,12 +1,14 @@
 //! The engine.
 
-ghost use Rattle.std.specs.Prelude.{◌≡◌, ◌<◌, ℕ, true, IfOk, IsOk, OnErr, OnOk, MatchOption, vec_len, vec_capacity};
+ghost use Rattle.std.specs.Prelude.{◌≡◌, ◌<◌, ℕ, length, true, IfOk, IsOk, OnErr, OnOk, MatchOption, vec_len, vec_capacity};
 ghost use Rattle.model.specs.Arrivals.{Same, Waits, new_world, is_over, is_awake};
 ghost use Rattle.model.specs.Consuming.{CanDeliver};
 ghost use Rattle.model.specs.Headline.{IsSound};
+ghost use Rattle.model.specs.Tracing.{AreKept, AreSafe};
 ghost use Rattle.runs.specs.Opened.{Hears, Idles, TakesAway, IsLost};
 ghost use Rattle.engine.specs.World.{world_of};
-ghost use Rattle.engine.specs.Engines.{Turned, OnDid, left_in};
+ghost use Rattle.engine.specs.Reading.{HasMore};
+ghost use Rattle.engine.specs.Engines.{Turned, OnDid, left_in, room_for};
 ghost use Rattle.engine.specs.Pumping.{IsPump};
 ghost use Rattle.engine.specs.Opening.{Numbers, OpenedNew, OpenedReady};
 ghost use Rattle.engine.specs.InForce.{in_force};
@@ -132,11 +134,12 @@ impl Engine {
     }
 
     /// Takes in bytes of the connection `c`. Of one that is over or gone nothing more is read or kept, and no memory is
-    /// wanted.
+    /// wanted; of any other it is wanted only where there is no room for them.
     pub fn feed(&mut self, c: u64, bytes: &[u8]) -> Result<(), AllocError>
         ensures ok { OnOk result (Hears (world_of self.old) c bytes.now (world_of self.new)) }
         ensures over { is_over (world_of self.old) c ≡ true → IsOk result × (self.new ≡ self.old) }
         ensures err { OnErr result (self.new ≡ self.old) }
+        ensures full { OnErr result (room_for self.old c < length bytes.now) }
     {
         match place_of(&self.links, c) {
             Some(place) => feed_at(&mut self.links, place, bytes),
@@ -148,12 +151,14 @@ impl Engine {
     ///
     /// `Idle` where no whole command and no fault is left, `Paused` where the output holds 1,048,576 bytes or more, `Over`
     /// where the connection is over or gone. Where memory is refused nothing is performed, and the same is still to come;
-    /// of a connection that is over, gone or paused none is wanted.
+    /// of a connection that is over, gone or paused none is wanted, and of any other only where a command is kept or there is
+    /// something to read: the first eight bytes, a whole frame or a broken one.
     pub fn turn(&mut self, alloc: Global, c: u64) -> Result<Turn, AllocError>
         ensures ok { IfOk result (λ t. Turned (world_of self.old) c t (world_of self.new)) }
         ensures fewer { IfOk result (λ t. OnDid t (left_in self.new.links < left_in self.old.links)) }
         ensures err { OnErr result (Waits (world_of self.old) c (world_of self.new)) }
         ensures awake { OnErr result (is_awake (world_of self.old) c ≡ true) }
+        ensures more { OnErr result (HasMore ((world_of self.old).wire c).kept ((world_of self.old).wire c).stream) }
     {
         match place_of(&self.links, c) {
             Some(place) => turn_at(
@@ -243,6 +248,16 @@ impl Engine {
         ensures { IsSound (world_of self.now).config }
     {
         // A look at a field, by which what every engine keeps is known.
+        let _links = &self.links;
+    }
+
+    /// Each message stands in a queue of the topology, and no guarantee forbids it that queue, or one to which it may still
+    /// come from there by deaths.
+    pub fn is_safe(&self)
+        ensures kept { AreKept (world_of self.now).config (world_of self.now).state.broker }
+        ensures safe { AreSafe (world_of self.now).config.topology (world_of self.now).config.guarantees (world_of self.now).state.broker }
+    {
+        // A look at a field, as above.
         let _links = &self.links;
     }
 }

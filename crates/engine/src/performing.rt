@@ -6,7 +6,7 @@ ghost use Rattle.model.specs.Phases.{is_running};
 ghost use Rattle.model.specs.State.{after_move};
 ghost use Rattle.model.specs.Arrivals.{IsSaid};
 ghost use Rattle.model.specs.Sending.{AreCarried, AreOwn};
-ghost use Rattle.broker_core.specs.State.{topology_kept, broker_of};
+ghost use Rattle.broker.specs.Turns.{topology_kept, broker_of};
 ghost use Rattle.engine.specs.Performing.{IsAskedBy, session_after, rules_of, IsAnswerTo, ByBroker, ByPhase, DecidesByPhase, PausesOr};
 
 use broker::{Broker, Step};

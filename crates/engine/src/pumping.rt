@@ -3,7 +3,7 @@
 ghost use Rattle.std.specs.Prelude.{◌≡◌, None, IfOk, OnErr};
 ghost use Rattle.model.specs.Naming.{AreNamed};
 ghost use Rattle.model.specs.Sending.{AreCarried};
-ghost use Rattle.broker_core.specs.State.{topology_kept, broker_of};
+ghost use Rattle.broker.specs.Turns.{topology_kept, broker_of};
 ghost use Rattle.broker_core.specs.Picked.{IsPick};
 ghost use Rattle.engine.specs.World.{link_in, AreRising};
 ghost use Rattle.engine.specs.Pumping.{LinkPumped, LinksPumped, LinksNotPumped};

@@ -4,7 +4,7 @@ ghost use Rattle.std.specs.Prelude.{◌≡◌, Some, None, IfOk, OnErr};
 ghost use Rattle.model.specs.Commands.{IsCommand};
 ghost use Rattle.model.specs.Arrivals.{event_of as event_of_command, SameToCome};
 ghost use Rattle.assembly.specs.Held.{stream_of};
-ghost use Rattle.engine.specs.Reading.{IsKeptEvent, ComesNext, kept_of};
+ghost use Rattle.engine.specs.Reading.{IsKeptEvent, ComesNext, HasMore, kept_of};
 
 use assembly::{Fault, Stream};
 use model::{Command, Event, Method};
@@ -27,10 +27,11 @@ pub(crate) fn read_next(
     stream: &mut Stream,
     kept: &mut Option<Event>,
 ) -> Result<Next, AllocError>
-    requires { IsKeptEvent number kept.old }
+    requires { IsKeptEvent number kept.old stream.old.fault }
     ensures ok { IfOk result (λ n. ComesNext number kept.old (stream_of stream.old) n kept.new (stream_of stream.new)) }
     ensures err { OnErr result (SameToCome (kept_of kept.old) (stream_of stream.old) (kept_of kept.new) (stream_of stream.new)) }
-    ensures kept { IsKeptEvent number kept.new }
+    ensures wants { OnErr result (HasMore (kept_of kept.old) (stream_of stream.old)) }
+    ensures kept { IsKeptEvent number kept.new stream.new.fault }
 {
     if kept.is_some() {
         return Ok(Next::Command);

@@ -2,13 +2,15 @@
 
 ghost use Rattle.std.specs.Prelude.{◌≡◌, ◌≤◌, ◌++◌, Some, None, false, IfOk, OnErr};
 ghost use Rattle.std.specs.List.{AllByRecursion};
-ghost use Rattle.model.specs.Arrivals.{IsSaid, is_ended, is_past_bound};
+ghost use Rattle.model.specs.Arrivals.{IsSaid, is_ended, is_past_bound, under_session};
+ghost use Rattle.model.specs.Phases.{is_running as runs};
 ghost use Rattle.model.specs.Sending.{AreCarried, AreOwn, most_sent};
 ghost use Rattle.model.specs.Spelling.{receiver, spelling, IsSpelled};
 ghost use Rattle.model.specs.declared.events.Event as event;
 ghost use Rattle.model.specs.declared.events.Event.TheVariants as happens;
-ghost use Rattle.broker_core.specs.State.{topology_kept, broker_of};
-ghost use Rattle.engine.specs.Reading.{IsKeptEvent, IsEventMade};
+ghost use Rattle.broker.specs.Turns.{topology_kept, broker_of};
+ghost use Rattle.assembly.specs.Held.{stream_of};
+ghost use Rattle.engine.specs.Reading.{IsKeptEvent, IsEventMade, HasMore, kept_of};
 ghost use Rattle.engine.specs.Performing.{IsAskedBy, PausesOr, rules_of};
 ghost use Rattle.engine.specs.Turning.{Performed, DidEvent, LinkTook, LinkWaits, MayTurn, OnIdle};
 ghost use Rattle.outputs.specs.Waiting.{HoldsNone};
@@ -16,8 +18,9 @@ ghost use Rattle.outputs.specs.Waiting.{HoldsNone};
 use crate::connected::Connected;
 use crate::performing::{pause_if, perform};
 use crate::reading::{Next, forget, read_next};
+use assembly::Stream;
 use broker::Broker;
-use model::{Event, Note, Send, User};
+use model::{Event, Note, Phase, Send, User};
 use outputs::{Output, Scratch, Spares, put_sends};
 use session::Session;
 use std::alloc::{AllocError, Global};
@@ -118,7 +121,7 @@ fn do_kept(
     match done {
         Ok(notes) => {
             forget(&mut link.kept);
-            link.stream.set_max(link.session.frame_max());
+            follow(&mut link.stream, &link.session);
             Ok(Turn::Did(notes))
         }
         Err(e) => Err(e),
@@ -157,11 +160,26 @@ fn do_fault(
     drop(event);
     match done {
         Ok(notes) => {
-            link.stream.set_max(link.session.frame_max());
+            follow(&mut link.stream, &link.session);
             Ok(Turn::Did(notes))
         }
         Err(error) => Err(error),
     }
+}
+
+/// The stream goes by the session from now on: how large a frame may be, and whether contents are kept.
+fn follow(stream: &mut Stream, session: &Session)
+    ensures { stream.old.fault ≡ None → stream_of stream.new ≡ under_session session.now (stream_of stream.old) }
+{
+    stream.set_max(session.frame_max());
+    stream.set_running(is_running(session.phase()));
+}
+
+/// Whether a connection runs in this phase.
+fn is_running(phase: Phase) -> bool
+    ensures { result ≡ runs phase }
+{
+    matches!(phase, Phase::Running)
 }
 
 /// One turn of a connection that is awake. Room is made once there is something to perform.
@@ -173,15 +191,16 @@ pub(crate) fn turn_awake(
     spares: &mut Spares,
     link: &mut Connected,
 ) -> Result<Turn, AllocError>
-    requires kept { IsKeptEvent link.old.number link.old.kept }
+    requires kept { IsKeptEvent link.old.number link.old.kept link.old.stream.fault }
     requires carried { AreCarried (broker_of broker.old) }
     requires open { is_ended link.old.session.phase ≡ false }
     requires below { is_past_bound link.old.output.bytes ≡ false }
     ensures ok { IfOk result (λ t. LinkTook (rules_of (topology_kept broker.old) users.now) (broker_of broker.old) link.old t (broker_of broker.new) link.new) }
     ensures err { OnErr result (LinkWaits (broker_of broker.old) link.old (broker_of broker.new) link.new) }
     ensures awake { OnErr result (MayTurn link.old) }
+    ensures more { OnErr result (HasMore (kept_of link.old.kept) (stream_of link.old.stream)) }
     ensures idle { IfOk result (λ t. OnIdle t (HoldsNone link.new.output)) }
-    ensures kept { IsKeptEvent link.new.number link.new.kept }
+    ensures kept { IsKeptEvent link.new.number link.new.kept link.new.stream.fault }
     ensures number { link.new.number ≡ link.old.number }
     ensures topology { topology_kept broker.new ≡ topology_kept broker.old }
 {

@@ -9,3 +9,4 @@ pub mod Starting
 pub mod Picking
 pub mod Good
 pub mod Edging
+pub mod DeadSteps

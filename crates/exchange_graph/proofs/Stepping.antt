@@ -14,6 +14,7 @@ use Rattle.exchange_graph.specs.declared.ends.End.{End}
 use Rattle.exchange_graph.specs.declared.ends.End.TheVariants.{Onward}
 use Rattle.exchange_graph.specs.declared.ends.Branch.{Branch}
 use Rattle.exchange_graph.specs.Built.{IsBuilt}
+use Rattle.exchange_graph.proofs.Good.{well_formed}
 use Rattle.exchange_graph.specs.Marks.{exchange_name}
 use Rattle.exchange_graph.specs.Fans.{Fan, ArePassing, LeadOn, AreSteps, EndsWithin, ways_from, way_of, fan_of, end_of, place_of, or_alternate, exchange_place}
 use Rattle.topology_drafts.proofs.Members.{in_contains, contains_in, in_map}
@@ -163,7 +164,7 @@ pub steps_at : (inside t : Topology) (fans : List Fan) (xs qs : List Text) (at :
     → x ≡ get_or inside.exchanges at x → fan ≡ get_or fans at fan → LeadOn x.kind key fan ends → AreSteps t key (exchange_name t at) ends
 steps_at inside t fans xs qs at key x fan ends e b h p q l =
     let p' : x ≡ get_or t.exchanges at x = p ∙ ap (λ (z : Topology). get_or z.exchanges at x) e in
-    let w : IsWellFormed t = subst (λ (z : Topology). IsWellFormed z) e b.good in
+    let w : IsWellFormed t = subst (λ (z : Topology). IsWellFormed z) e (well_formed inside b.good) in
     let k : fans ≡ map (fan_of t) t.exchanges = b.known ∙ ap (λ (z : Topology). map (fan_of z) z.exchanges) e in
     let f : fan ≡ fan_of t x = q ∙ ap (λ (zs : List Fan). get_or zs at fan) k ∙ get_map (fan_of t) t.exchanges at x fan h ∙ ap (fan_of t) (sym p') in
     let n : x.name ≡ exchange_name t at = ap (λ (z : Exchange). z.name) p' ∙ sym (get_map (λ (z : Exchange). z.name) t.exchanges at x [] h) in

@@ -1,12 +1,13 @@
 -- What a topology keeps beside its lists.
 use Rattle.std.specs.Prelude.{◌≡◌, List, map}
 use Rattle.model.specs.Words.{Text}
-use Rattle.model.specs.Topology.{Topology, IsWellFormed, exchange_names, queue_names}
+use Rattle.model.specs.Topology.{Topology, exchange_names, queue_names}
+use Rattle.topology_drafts.specs.Causes.{IsBuildable}
 use Rattle.exchange_graph.specs.Fans.{Fan, fan_of}
 
--- it is well formed, for each exchange it is known what leads on, and names are known by their places
+-- nothing stands against it, for each exchange it is known what leads on, and names are known by their places
 pub record IsBuilt (t : Topology) (fans : List Fan) (of_exchanges of_queues : List Text) : Type 0 where
-  pub good : IsWellFormed t
+  pub good : IsBuildable t
   pub known : fans ≡ map (fan_of t) t.exchanges
   pub exchanges : of_exchanges ≡ exchange_names t.exchanges
   pub queues : of_queues ≡ queue_names t.queues

@@ -4,3 +4,4 @@ pub mod Keyed
 pub mod Marks
 pub mod Built
 pub mod Edges
+pub mod Dying

@@ -22,7 +22,7 @@ use crate::places::{exchange_place, ways_from};
 use model::{Binding, DeclaredQueue, Exchange, ExchangeKind};
 use std::alloc::{AllocError, Global};
 use std::marker::Model;
-use topic_match::{Matcher, Pattern, Plain};
+use topic_match::{Matcher, Pattern, Trie};
 
 /// The bindings of one exchange, their ends by key of a direct exchange, the patterns of a topic exchange, and the alternate
 /// exchange.
@@ -30,7 +30,7 @@ use topic_match::{Matcher, Pattern, Plain};
 pub struct Fan {
     list: Vec<Branch>,
     by_key: Option<KeyedEnds>,
-    topics: Plain,
+    topics: Trie,
     alternate: Option<usize>,
 }
 
@@ -75,13 +75,13 @@ fn patterns_of(alloc: Global, ways: &[Branch]) -> Result<Vec<Pattern>, AllocErro
 }
 
 /// The patterns of a topic exchange; another has none.
-fn topics_of(alloc: Global, kind: ExchangeKind, ways: &[Branch]) -> Result<Plain, AllocError>
+fn topics_of(alloc: Global, kind: ExchangeKind, ways: &[Branch]) -> Result<Trie, AllocError>
     ensures { IfOk result (λ made. made ≡ topics_of kind ways.now) }
 {
     match kind {
-        ExchangeKind::Topic => Plain::new(alloc, patterns_of(alloc, ways)?),
-        ExchangeKind::Direct => Plain::new(alloc, Vec::new(alloc)),
-        ExchangeKind::Fanout => Plain::new(alloc, Vec::new(alloc)),
+        ExchangeKind::Topic => Trie::new(alloc, patterns_of(alloc, ways)?),
+        ExchangeKind::Direct => Trie::new(alloc, Vec::new(alloc)),
+        ExchangeKind::Fanout => Trie::new(alloc, Vec::new(alloc)),
     }
 }
 
@@ -189,7 +189,7 @@ fn ends_at(alloc: Global, ways: &[Branch], places: &[usize]) -> Result<Vec<End>,
 /// The ends of the ways whose pattern matches the key.
 fn ends_by_topic(
     alloc: Global,
-    topics: &Plain,
+    topics: &Trie,
     ways: &[Branch],
     key: &[u8],
 ) -> Result<Vec<End>, AllocError>
@@ -205,7 +205,7 @@ fn passing(
     alloc: Global,
     kind: ExchangeKind,
     by_key: &Option<KeyedEnds>,
-    topics: &Plain,
+    topics: &Trie,
     ways: &[Branch],
     key: &[u8],
 ) -> Result<Vec<End>, AllocError>

@@ -1,6 +1,7 @@
 //! Routing: exchanges, queues and bindings, and the queues that a key leads to.
 #![tactic(auto)]
 
+mod dying;
 mod edges;
 mod ends;
 mod fans;
@@ -10,5 +11,6 @@ mod places;
 mod reach;
 mod topologies;
 
+pub use dying::DeadRoute;
 pub use ends::End;
 pub use topologies::Topology;

@@ -98,19 +98,6 @@ impl Topology {
         requires { IsBuildable (record { exchanges = exchanges.items; queues = queues.items; bindings = bindings.items }) }
         ensures { IfOk result (λ t. t ≡ record { exchanges = exchanges.items; queues = queues.items; bindings = bindings.items }) }
     {
-        Topology::built(alloc, exchanges, queues, bindings)
-    }
-
-    /// Exactly what is handed in, with what is looked up in it.
-    fn built(
-        alloc: Global,
-        exchanges: Vec<Exchange>,
-        queues: Vec<DeclaredQueue>,
-        bindings: Vec<Binding>,
-    ) -> Result<Topology, AllocError>
-        requires { IsWellFormed (record { exchanges = exchanges.items; queues = queues.items; bindings = bindings.items }) }
-        ensures { IfOk result (λ t. t ≡ record { exchanges = exchanges.items; queues = queues.items; bindings = bindings.items }) }
-    {
         let exchange_names = Names::apart(alloc, exchanges.as_slice())?;
         let queue_names = Names::apart(alloc, queues.as_slice())?;
         let fans = all_fans(
@@ -129,11 +116,18 @@ impl Topology {
         })
     }
 
-    /// What every topology keeps.
+    /// Nothing stands against a topology.
+    pub fn is_buildable(&self)
+        ensures { IsBuildable self.now }
+    {
+        let _ = &self.queues;
+    }
+
+    /// What every topology keeps, as routes need it.
     pub fn is_well_formed(&self)
         ensures { IsWellFormed self.now }
     {
-        let _ = &self.queues;
+        self.is_buildable();
     }
 
     /// The steps of a route from the exchange at this place.
@@ -159,7 +153,8 @@ impl Topology {
     }
 
     /// The exchanges that a message sent to this exchange under this key passes, by their places, in the order of the
-    /// file, each once, and this one among them. The default exchange `""` and one that is not there have no place.
+    /// file, each once, and this one among them. The default exchange `""` and one that is not there have no place; they
+    /// lead on to no exchange.
     pub fn visited(
         &self,
         alloc: Global,

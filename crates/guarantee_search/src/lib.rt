@@ -1,6 +1,7 @@
 //! Finds a certificate of a guarantee, or a key that breaks it.
 #![tactic(auto)]
 
+mod forms;
 mod searching;
 mod spelling;
 mod states;

@@ -1,42 +1,34 @@
 //! Words that letters stand for, and the keys that they make.
 
-ghost use Rattle.std.specs.Prelude.{◌≡◌, ◌<◌, ◌∷◌, length, IfOk, OnOk, Decides, not, ◌==◌};
-ghost use Rattle.std.specs.List.{AllByRecursion, list_all, list_any};
+ghost use Rattle.std.specs.Prelude.{◌≡◌, ◌<◌, ◌∷◌, length, IfOk, OnOk, Decides};
+ghost use Rattle.std.specs.List.{AllByRecursion, list_any};
 ghost use Rattle.std.specs.Fmt.{decimal};
 ghost use Rattle.std.specs.Str.{bytes_eq};
 ghost use Rattle.model.specs.Topology.{IsIn};
-ghost use Rattle.model.specs.Positions.{named_words};
-ghost use Rattle.guarantee_search.specs.Spellings.{SpellsLetters, followed_by, spelled_key};
+ghost use Rattle.guarantee_search.specs.Spellings.{IsFilled, SpellsLetters, followed_by, spelled_key};
+ghost use Rattle.state_routes.specs.Fitting.{HavePatterns};
 ghost use Rattle.model.specs.Searches.{IsWord};
 
 use model::Text;
 use std::alloc::{AllocError, Global};
 use word_automata::Letters;
 
-/// Whether no byte is a dot.
-fn has_no_dot(word: &[u8]) -> bool
-    ensures { result ≡ list_all (λ b. not (b == 46)) word.now }
+/// A word that is not empty and has no dot is one that a key may have alone.
+fn is_word(word: &[u8])
+    requires { IsFilled word.now }
+    ensures { IsWord word.now }
 {
-    word.iter().all(|byte| *byte != b'.')
+    let _ = word;
 }
 
-/// Whether a key may have the word alone.
-fn is_word(word: &[u8]) -> bool
-    ensures { Decides result (IsWord word.now) }
-{
-    !word.is_empty() && has_no_dot(word)
-}
-
-/// Whether a key may have each of these words alone.
-pub fn are_words(words: &[Text]) -> bool
-    ensures { Decides result (AllByRecursion IsWord words.now) }
+/// Words that are not empty and have no dot are words that a key may have alone.
+fn are_words(words: &[Text])
+    requires { AllByRecursion IsFilled words.now }
+    ensures { AllByRecursion IsWord words.now }
 {
     for word in words {
-        if !is_word(word.as_bytes()) {
-            return false;
-        }
+        is_word(word.as_bytes());
     }
-    true
 }
 
 /// Whether some word is this one.
@@ -76,7 +68,7 @@ fn other_word(alloc: Global, names: &[Text]) -> Result<Text, AllocError>
 }
 
 /// The same words.
-fn copy_words(alloc: Global, words: &[Text]) -> Result<Vec<Text>, AllocError>
+pub fn copy_words(alloc: Global, words: &[Text]) -> Result<Vec<Text>, AllocError>
     ensures { IfOk result (λ made. made.items ≡ words.now) }
 {
     let mut made = Vec::new(alloc);
@@ -88,9 +80,10 @@ fn copy_words(alloc: Global, words: &[Text]) -> Result<Vec<Text>, AllocError>
 
 /// A word for each letter: its own, and for the letter of all others one that is not named.
 pub fn spellings(alloc: Global, letters: &Letters) -> Result<Vec<Text>, AllocError>
-    requires { AllByRecursion IsWord (named_words letters.now) }
+    requires { HavePatterns letters.now }
     ensures { IfOk result (λ words. SpellsLetters letters.now words.items) }
 {
+    are_words(letters.names());
     let mut words = copy_words(alloc, letters.names())?;
     words.push(other_word(alloc, letters.names())?)?;
     Ok(words)

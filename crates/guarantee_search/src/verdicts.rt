@@ -10,8 +10,6 @@ pub enum UndecidedCause {
     TooManyStates,
     /// The key that breaks it has more than 255 bytes.
     KeyTooLong,
-    /// Some tracked pattern has more than 31 words or names the empty word. No file that is read has such a pattern.
-    Unfit,
 }
 
 /// Whether a guarantee holds.

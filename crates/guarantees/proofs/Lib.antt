@@ -1,2 +1,4 @@
 pub mod Finding
 pub mod Whole
+pub mod Coverings
+pub mod Keeping

@@ -1,5 +1,5 @@
 -- What a guarantees file must keep, cause by cause (own).
-use Rattle.std.specs.Prelude.{◌≡◌, ◌<◌, ◌≤◌, List, [], length, All, Result, Ok, Err, ◌⊎◌, ⊤}
+use Rattle.std.specs.Prelude.{◌≡◌, ◌<◌, ◌≤◌, List, [], length, All, Option, Some, None, Result, Ok, Err, ◌⊎◌, ⊤}
 use Rattle.model.specs.Words.{Text}
 use Rattle.model.specs.Topology.{Topology, IsIn, exchange_names, queue_names}
 use Rattle.model.specs.Guarantee.{Guarantee}
@@ -17,12 +17,26 @@ pub record NamesAreThere (t : Topology) (g : Guarantee) : Type 0 where
   pub exchange : IsExchangeOrDefault t g.exchange
   pub queue : IsIn g.queue (queue_names t.queues)
 
--- 9: a guarantee's pattern is one, its exchange's name has at most 255 bytes, and its queue's name is a pattern of at least one word
-pub record IsGuaranteeWorded (g : Guarantee) : Type 0 where
+-- its pattern is one, and so is each that takes keys out
+pub record ArePatterns (g : Guarantee) : Type 0 where
   pub pattern : IsPattern g.pattern
+  pub excepts : All IsPattern g.excepts
+
+-- 9: a guarantee's patterns are patterns, its exchange's name has at most 255 bytes, and its queue's name is a pattern of at least one word
+pub record IsGuaranteeWorded (g : Guarantee) : Type 0 where
+  pub patterns : ArePatterns g
   pub exchange : length g.exchange ≤ 255
   pub some : g.queue ≡ [] → ⊥
   pub queue : IsPattern g.queue
+
+-- at most 16 patterns take keys out
+abbrev pub TakesOutFew : Guarantee → Type 0
+TakesOutFew g = length g.excepts ≤ 16
+
+-- 10: there are at most 64 guarantees, and in each at most 16 patterns take keys out
+pub record AreFewEnough (gs : List Guarantee) : Type 0 where
+  pub guarantees : length gs ≤ 64
+  pub excepts : All TakesOutFew gs
 
 -- these guarantees of a topology are clear of this cause
 abbrev pub AreClear : BadGuarantees → Topology → List Guarantee → Type 0
@@ -30,7 +44,7 @@ AreClear NotJson t gs = Unit {0}
 AreClear Malformed t gs = Unit {0}
 AreClear Absent t gs = All (NamesAreThere t) gs
 AreClear Worded t gs = All IsGuaranteeWorded gs
-AreClear TooMany t gs = length gs ≤ 64
+AreClear TooMany t gs = AreFewEnough gs
 AreClear Memory t gs = Unit {0}
 
 -- This cause stands in them, and none of a smaller number.
@@ -46,6 +60,11 @@ AreTold Absent t gs = IsLeastAgainst Absent t gs
 AreTold Worded t gs = IsLeastAgainst Worded t gs
 AreTold TooMany t gs = IsLeastAgainst TooMany t gs
 AreTold Memory t gs = Unit {0}
+
+-- a guarantee is made of what is given, exactly where its patterns are patterns
+abbrev pub Makes : Option Guarantee → Guarantee → Type 0
+Makes (Some g) given = (g ≡ given) × ArePatterns given
+Makes None given = ArePatterns given → ⊥
 
 -- no cause stands in them, or the least is told
 abbrev pub JudgesGuarantees : Result ⊤ BadGuarantees → Topology → List Guarantee → Type 0

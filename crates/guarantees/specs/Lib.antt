@@ -3,3 +3,4 @@ pub mod Faults
 pub mod Stated
 pub mod Causes
 pub mod Reads
+pub mod Covering

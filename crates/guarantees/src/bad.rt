@@ -12,14 +12,14 @@ pub enum BadGuarantees {
     /// 1: the file is not JSON.
     NotJson,
     /// 2: the list of guarantees or a member of one is missing or of the wrong kind, or a mode is neither `reaches`
-    /// nor `never`.
+    /// nor `never`. The member `except` may be left out.
     Malformed,
     /// 5: an exchange or a queue is not there. The default exchange `""` is.
     Absent,
-    /// 9: a pattern or a queue's name has an empty word, over 31 words or over 255 bytes, a queue has no name, or an
+    /// 9: a pattern (of `except` too) or a queue's name has an empty word, over 31 words or over 255 bytes, a queue has no name, or an
     /// exchange's name has over 255 bytes.
     Worded,
-    /// 10: there are over 64 guarantees, or the file has over 16,777,216 bytes.
+    /// 10: there are over 64 guarantees, one takes keys out by over 16 patterns, or the file has over 16,777,216 bytes.
     TooMany,
     /// 14: a growth was refused.
     Memory,

@@ -4,6 +4,7 @@
 mod bad;
 mod promises;
 mod reading;
+mod stated;
 
 pub use bad::BadGuarantees;
 pub use promises::Guarantee;

@@ -1,20 +1,23 @@
 //! Guarantees files.
 
-ghost use Rattle.std.specs.Prelude.{◌≡◌, All, Decides};
+ghost use Rattle.std.specs.Prelude.{◌≡◌, All, Decides, IfOk};
 ghost use Rattle.model.specs.Topology.{IsIn, exchange_names, queue_names};
-ghost use Rattle.serde_json.specs.View.{view};
-ghost use Rattle.json_file.specs.Outcomes.{GivesValue};
-ghost use Rattle.guarantees.specs.Stated.{mode_at};
-ghost use Rattle.guarantees.specs.Causes.{IsExchangeOrDefault, NamesAreThere, IsGuaranteeWorded, JudgesGuarantees};
+ghost use Rattle.serde_json.specs.View.{items_view, view};
+ghost use Rattle.serde_json.specs.Find.{as_str};
+ghost use Rattle.json_file.specs.Members.{each};
+ghost use Rattle.json_file.specs.Outcomes.{GivesItems, GivesValue};
+ghost use Rattle.guarantees.specs.Stated.{excepts_at, mode_at};
+ghost use Rattle.guarantees.specs.Causes.{AreFewEnough, ArePatterns, IsExchangeOrDefault, IsGuaranteeWorded, JudgesGuarantees, NamesAreThere, TakesOutFew};
 ghost use Rattle.guarantees.specs.Reads.{OpensGuarantees, ReadsGuarantees};
 
 use crate::bad::BadGuarantees;
 use crate::promises::Guarantee;
+use crate::stated::{StatedGuarantee, has_patterns};
 use exchange_graph::Topology;
 use json_file::{BadJson, FromValue, entries, parse, text};
-use model::Mode;
+use model::{Mode, Text};
 use serde_json::Value;
-use std::alloc::Global;
+use std::alloc::{AllocError, Global};
 use topic_match::is_pattern;
 
 /// The mode that a value states.
@@ -32,18 +35,54 @@ fn mode(alloc: Global, value: &Value) -> Result<Mode, BadJson>
     Err(BadJson::Malformed)
 }
 
-impl FromValue for Guarantee {
+/// The text that a value states.
+fn text_of(alloc: Global, value: &Value) -> Result<Text, BadJson>
+    ensures { GivesValue result (as_str (view value.now)) }
+{
+    match value.as_str() {
+        Some(text) => Ok(Text::from_slice(alloc, text.as_bytes())?),
+        None => Err(BadJson::Malformed),
+    }
+}
+
+/// The texts that these values state.
+fn texts(alloc: Global, values: &[Value]) -> Result<Vec<Text>, BadJson>
+    ensures { GivesItems result (each as_str (items_view values.now)) }
+{
+    let mut found = Vec::new(alloc);
+    for value in values {
+        found.push(text_of(alloc, value)?)?;
+    }
+    Ok(found)
+}
+
+/// The patterns at the member `except`, where it is there.
+#[tactic(auto, unfolding(crate::specs::Stated::excepts_at))]
+fn excepts(alloc: Global, value: &Value) -> Result<Vec<Text>, BadJson>
+    ensures { GivesItems result (excepts_at (view value.now)) }
+{
+    match value.get("except") {
+        None => Ok(Vec::new(alloc)),
+        Some(found) => match found.as_array() {
+            Some(array) => texts(alloc, array.as_slice()),
+            None => Err(BadJson::Malformed),
+        },
+    }
+}
+
+impl FromValue for StatedGuarantee {
     ghost use Rattle.guarantees.specs.Stated.{guarantee_at};
 
     ghost states = { guarantee_at };
 
     #[tactic(auto, unfolding(crate::specs::Stated::guarantee_at))]
-    fn read(alloc: Global, value: &Value) -> Result<Guarantee, BadJson> {
+    fn read(alloc: Global, value: &Value) -> Result<StatedGuarantee, BadJson> {
         let mode = mode(alloc, value)?;
         let exchange = text(alloc, value, "exchange")?;
         let pattern = text(alloc, value, "pattern")?;
         let queue = text(alloc, value, "queue")?;
-        Ok(Guarantee::new(mode, exchange, pattern, queue))
+        let excepts = excepts(alloc, value)?;
+        Ok(StatedGuarantee::new(mode, exchange, pattern, queue, excepts))
     }
 }
 
@@ -72,7 +111,7 @@ fn is_queue(topology: &Topology, name: &[u8]) -> bool
 }
 
 /// Whether what a guarantee names is there.
-fn is_there(topology: &Topology, guarantee: &Guarantee) -> bool
+fn is_there(topology: &Topology, guarantee: &StatedGuarantee) -> bool
     ensures { Decides result (NamesAreThere topology.now guarantee.now) }
 {
     let exchange = is_exchange(topology, guarantee.exchange().as_bytes());
@@ -81,7 +120,7 @@ fn is_there(topology: &Topology, guarantee: &Guarantee) -> bool
 }
 
 /// Whether what the guarantees name is there.
-fn all_there(topology: &Topology, guarantees: &[Guarantee]) -> bool
+fn all_there(topology: &Topology, guarantees: &[StatedGuarantee]) -> bool
     ensures { Decides result (All (NamesAreThere topology.now) guarantees.now) }
 {
     guarantees
@@ -90,24 +129,45 @@ fn all_there(topology: &Topology, guarantees: &[Guarantee]) -> bool
 }
 
 /// Whether a guarantee's pattern and names have their form.
-fn is_worded(guarantee: &Guarantee) -> bool
+fn is_worded(guarantee: &StatedGuarantee) -> bool
     ensures { Decides result (IsGuaranteeWorded guarantee.now) }
 {
-    is_pattern(guarantee.pattern().as_bytes())
+    has_patterns(guarantee)
         && guarantee.exchange().len() <= 255
         && guarantee.queue().len() != 0
         && is_pattern(guarantee.queue().as_bytes())
 }
 
 /// Whether all patterns and names have their form.
-fn all_worded(guarantees: &[Guarantee]) -> bool
+fn all_worded(guarantees: &[StatedGuarantee]) -> bool
     ensures { Decides result (All IsGuaranteeWorded guarantees.now) }
 {
     guarantees.iter().all(|guarantee| is_worded(guarantee))
 }
 
+/// Whether few patterns take keys out.
+fn takes_out_few(guarantee: &StatedGuarantee) -> bool
+    ensures { Decides result (TakesOutFew guarantee.now) }
+{
+    guarantee.excepts().len() <= 16
+}
+
+/// Whether few patterns take keys out of each.
+fn all_take_out_few(guarantees: &[StatedGuarantee]) -> bool
+    ensures { Decides result (All TakesOutFew guarantees.now) }
+{
+    guarantees.iter().all(|guarantee| takes_out_few(guarantee))
+}
+
+/// Whether there are few, and few patterns in each.
+fn are_few(guarantees: &[StatedGuarantee]) -> bool
+    ensures { Decides result (AreFewEnough guarantees.now) }
+{
+    guarantees.len() <= 64 && all_take_out_few(guarantees)
+}
+
 /// Tells the least cause that stands in the guarantees.
-fn judge(topology: &Topology, guarantees: &[Guarantee]) -> Result<(), BadGuarantees>
+fn judge(topology: &Topology, guarantees: &[StatedGuarantee]) -> Result<(), BadGuarantees>
     ensures { JudgesGuarantees result topology.now guarantees.now }
 {
     if !all_there(topology, guarantees) {
@@ -116,25 +176,38 @@ fn judge(topology: &Topology, guarantees: &[Guarantee]) -> Result<(), BadGuarant
     if !all_worded(guarantees) {
         return Err(BadGuarantees::Worded);
     }
-    if guarantees.len() > 64 {
+    if !are_few(guarantees) {
         return Err(BadGuarantees::TooMany);
     }
     Ok(())
 }
 
 /// The guarantees of a file, or why it has none.
-fn open(alloc: Global, bytes: &[u8]) -> Result<Vec<Guarantee>, BadGuarantees>
+fn open(alloc: Global, bytes: &[u8]) -> Result<Vec<StatedGuarantee>, BadGuarantees>
     ensures { OpensGuarantees result bytes.now }
 {
     let value = parse(alloc, bytes)?;
-    let guarantees = entries::<Guarantee>(alloc, &value, "guarantees")?;
+    let guarantees = entries::<StatedGuarantee>(alloc, &value, "guarantees")?;
     Ok(guarantees)
+}
+
+/// The guarantees that were stated, whose texts are patterns.
+fn kept(alloc: Global, stated: Vec<StatedGuarantee>) -> Result<Vec<Guarantee>, AllocError>
+    requires { All ArePatterns stated.items }
+    ensures { IfOk result (λ found. found.items ≡ stated.items) }
+{
+    let mut found = Vec::new(alloc);
+    for one in stated {
+        found.push(Guarantee::of(one))?;
+    }
+    Ok(found)
 }
 
 /// The guarantees that a file states of a topology, in the order of the file. It is refused by the least cause that
 /// stands anywhere in it.
 ///
-/// A file has at most 16,777,216 bytes and 64 guarantees. The modes are `reaches` and `never`. Other members are ignored.
+/// A file has at most 16,777,216 bytes and 64 guarantees, each with at most 16 patterns that take keys out. The modes
+/// are `reaches` and `never`. Other members are ignored.
 pub fn read_guarantees(
     alloc: Global,
     bytes: &[u8],
@@ -142,7 +215,8 @@ pub fn read_guarantees(
 ) -> Result<Vec<Guarantee>, BadGuarantees>
     ensures { ReadsGuarantees result topology.now bytes.now }
 {
-    let guarantees = open(alloc, bytes)?;
-    judge(topology, guarantees.as_slice())?;
+    let stated = open(alloc, bytes)?;
+    judge(topology, stated.as_slice())?;
+    let guarantees = kept(alloc, stated)?;
     Ok(guarantees)
 }

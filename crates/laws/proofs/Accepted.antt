@@ -7,7 +7,8 @@ use Rattle.model.specs.Topology.{Topology}
 use Rattle.model.specs.Broker.{Channel, Connection, Broker}
 use Rattle.model.specs.Step.{Refusal, Ignored, Of_connection, channel_or_new, is_awaiting, refusal}
 use Rattle.model.specs.declared.methods.Get.{Get}
-use Rattle.model.specs.declared.methods.Method.TheVariants.{ChannelOpen, ChannelCloseOk, BasicGet}
+use Rattle.model.specs.declared.methods.Publish.{Publish}
+use Rattle.model.specs.declared.methods.Method.TheVariants.{ChannelOpen, ChannelCloseOk, BasicGet, BasicPublish}
 
 module _ (t : Topology) (old : Broker) (conn : Connection) (h : ℕ) where
   refused : {r : Refusal} → ◌≡◌ {A = Option Refusal} (Some r) None → ⊥
@@ -49,6 +50,16 @@ module _ (t : Topology) (old : Broker) (conn : Connection) (h : ℕ) where
       by false true e = refused e
       by false false e = refused e
   is_open m (Some ch) e = refl
+
+  -- so is a publish
+  pub is_open_for : (m : Publish) (ch : Option Channel) → refusal t old conn h (BasicPublish m) ch ≡ None → ch ≡ Some (channel_or_new ch)
+  is_open_for m None e = absurd (by (h == 0) (nat_lt conn.channel_max h) e)
+    where
+      by : (u v : Bool) → (if u then Some (Of_connection 503) else if v then Some (Of_connection 504) else Some (Of_connection 504)) ≡ None → ⊥
+      by true v e = refused e
+      by false true e = refused e
+      by false false e = refused e
+  is_open_for m (Some ch) e = refl
 
   -- and not where close-ok is awaited
   pub not_awaited : (m : Get) (ch : Option Channel) → refusal t old conn h (BasicGet m) ch ≡ None → (channel_or_new ch).is_closing ≡ false

@@ -40,7 +40,7 @@ use Rattle.model.specs.declared.notes.Note.{Note}
 use Rattle.model.specs.declared.notes.Answer.{Answer}
 use Rattle.model.specs.Alone.{event_connection}
 use Rattle.laws.specs.Carrying.{MessagesStayCarried}
-use Rattle.laws.specs.Promises.{AreUnder}
+use Rattle.laws.specs.Promises.{AreSaid, AreSound}
 use Rattle.laws.proofs.Dying.{Goes, not_found, left_only, died, goes_by}
 use Rattle.laws.proofs.Marking.{within_stored, stored_marked}
 use Rattle.laws.proofs.Counts.{all-append, all_in, filter_all}
@@ -311,8 +311,7 @@ step_carries f old new e sends notes wf said a s = elim (goes f old new sends no
   | inr p ↦ moved_in old.broker _ new.broker (is_running p.move.next.phase) p.moves.broker (λ q. freed_all (by_connection (event_connection e)) (old.broker.queue q) (a q)) a
 ]
 
-pub run_carries : (f : Config) (hs : List Happening) (old new : State) → IsWellFormed f.topology → AreUnder f hs → AllByRecursion (λ (h : Happening). IsSaid h.event) hs → Run old hs new → AreCarried old.broker → AreCarried new.broker
-run_carries f [] old new wf under said r a = subst (λ (z : State). AreCarried z.broker) (sym r) a
-run_carries f (h ∷ hs) old new wf under said (e, s, r) a =
-    run_carries f hs h.after new wf under.1 said.1 r
-    (step_carries h.config h.before h.after h.event h.sends h.notes (subst (λ (g : Config). IsWellFormed g.topology) (sym under.0) wf) said.0 (subst (λ (z : State). AreCarried z.broker) (sym e) a) s)
+pub run_carries : (hs : List Happening) (old new : State) → AreSound hs → AreSaid hs → Run old hs new → AreCarried old.broker → AreCarried new.broker
+run_carries [] old new sound said r a = subst (λ (z : State). AreCarried z.broker) (sym r) a
+run_carries (h ∷ hs) old new sound said (e, s, r) a =
+    run_carries hs h.after new sound.1 said.1 r (step_carries h.config h.before h.after h.event h.sends h.notes sound.0.wf said.0 (subst (λ (z : State). AreCarried z.broker) (sym e) a) s)

@@ -11,33 +11,36 @@ use Rattle.model.specs.declared.events.Event.TheVariants as event
 use Rattle.laws.specs.Consistency.{WorldsStayConsistent}
 use Rattle.laws.proofs.Carried.{run_carries}
 use Rattle.laws.proofs.Linking.{IsLinked, linked_same, turns_linked, waits_linked, hears_linked, takes_linked, opens_linked, awaits_linked, loses_linked, same_linked, pumps_linked, new_is_linked, answers_linked, plays_linked}
-use Rattle.model.specs.Topology.{IsWellFormed}
-use Rattle.model.specs.Tracing.{AreTraced}
-use Rattle.laws.proofs.Traced.{stay_traced}
+use Rattle.model.specs.Headline.{IsSound}
+use Rattle.model.specs.Tracing.{AreKept, NoneStood}
+use Rattle.laws.proofs.Keeping.{stay_kept, run_unmarked}
 use Rattle.laws.proofs.Never.{run_begun}
-use Rattle.laws.proofs.Plays.{Told, said_each, under_each, told_same, told_turns, told_waits, told_taken, told_opens, told_loses, told_pumps, told_answers, told_plays}
+use Rattle.laws.proofs.Plays.{Told, said_each, sound_each, sound_last, told_same, told_turns, told_waits, told_taken, told_opens, told_loses, told_pumps, told_answers, told_plays}
 
 pub linked : (w : World) → IsConsistent w → IsLinked w
 linked w k = record { running = k.running; paused = k.paused; limits = k.limits }
 
--- what happened leaves messages that were counted, can be given out and are traced, under a topology that is well formed
+-- what happened leaves messages that were counted, can be given out and may stand where they do, under what is sound
 record Messages (w : World) : Type 0 where
   counted : AreCounted w.state.broker
   carried : AreCarried w.state.broker
-  traced : AreTraced w.config.topology w.state.broker
-  formed : IsWellFormed w.config.topology
+  kept : AreKept w.config w.state.broker
+  unmarked : NoneStood w.state.broker
+  sound : IsSound w.config
 
 told_messages : (hs : List Happening) (old new : World) → IsConsistent old → Told old hs new → Messages new
 told_messages hs old new k t =
     let f = old.config in
-    let under = under_each f hs t.each in
-    let said = said_each f hs t.each in
-    let begun = run_begun f hs old.state new.state under said (record { counted = k.counted; traced = k.traced }) t.run in
+    let last = new.config in
+    let sound = sound_each f last hs t.in_force k.sound in
+    let said = said_each hs t.each in
+    let begun = run_begun f last hs old.state new.state sound t.in_force said (record { counted = k.counted; kept = k.kept }) t.run in
     record {
       counted = begun.counted;
-      carried = run_carries f hs old.state new.state k.formed under said t.run k.carried;
-      traced = subst (λ (g : Config). AreTraced g.topology new.state.broker) (sym t.config) begun.traced;
-      formed = subst (λ (g : Config). IsWellFormed g.topology) (sym t.config) k.formed;
+      carried = run_carries hs old.state new.state sound said t.run k.carried;
+      kept = begun.kept;
+      unmarked = run_unmarked hs old.state new.state k.unmarked t.run;
+      sound = sound_last f last hs t.in_force k.sound;
     }
 
 -- where nothing of the state changes, and no output
@@ -47,8 +50,9 @@ consistent_same old new k config state outputs =
     record {
       counted = subst (λ (z : State). AreCounted z.broker) (sym state) k.counted;
       carried = subst (λ (z : State). AreCarried z.broker) (sym state) k.carried;
-      traced = subst (λ (g : Config). AreTraced g.topology new.state.broker) (sym config) (subst (λ (z : State). AreTraced old.config.topology z.broker) (sym state) k.traced);
-      formed = subst (λ (g : Config). IsWellFormed g.topology) (sym config) k.formed;
+      kept = subst (λ (g : Config). AreKept g new.state.broker) (sym config) (subst (λ (z : State). AreKept old.config z.broker) (sym state) k.kept);
+      unmarked = subst (λ (z : State). NoneStood z.broker) (sym state) k.unmarked;
+      sound = subst IsSound (sym config) k.sound;
       running = after.running;
       paused = after.paused;
       limits = after.limits;
@@ -58,16 +62,16 @@ consistent_same old new k config state outputs =
 kept_consistent : (old new : World) (hs : List Happening) → IsConsistent old → Told old hs new → IsLinked new → IsConsistent new
 kept_consistent old new hs k told after =
     let messages = told_messages hs old new k told in
-    record { counted = messages.counted; carried = messages.carried; traced = messages.traced; formed = messages.formed; running = after.running; paused = after.paused; limits = after.limits }
+    record { counted = messages.counted; carried = messages.carried; kept = messages.kept; unmarked = messages.unmarked; sound = messages.sound; running = after.running; paused = after.paused; limits = after.limits }
 
 pub turns_consistent : (old new : World) (c : ℕ) (hs : List Happening) → IsConsistent old → Turns old c hs new → IsConsistent new
 turns_consistent old new c hs k t = kept_consistent old new hs k (told_turns old new c hs t) (turns_linked old new c hs (linked old k) t)
 
 pub waits_consistent : (old new : World) (c : ℕ) → IsConsistent old → Waits old c new → IsConsistent new
-waits_consistent old new c k v = kept_consistent old new [] k (told_waits c old old new [] (record { run = refl; each = tt; config = refl }) v) (waits_linked old new c (linked old k) v)
+waits_consistent old new c k v = kept_consistent old new [] k (told_waits c old old new [] (record { run = refl; in_force = refl; each = tt }) v) (waits_linked old new c (linked old k) v)
 
 pub hears_consistent : (w : World) (c : ℕ) (bytes : List ℕ) → IsConsistent w → IsConsistent (with_heard w c bytes)
-hears_consistent w c bytes k = kept_consistent w (with_heard w c bytes) [] k (record { run = refl; each = tt; config = refl }) (hears_linked w c bytes (linked w k))
+hears_consistent w c bytes k = kept_consistent w (with_heard w c bytes) [] k (record { run = refl; in_force = refl; each = tt }) (hears_linked w c bytes (linked w k))
 
 pub takes_consistent : (old new : World) (c n : ℕ) (hs : List Happening) → IsConsistent old → Takes_off old c n hs new → IsConsistent new
 takes_consistent old new c n hs k t = kept_consistent old new hs k (told_taken c n old new hs t) (takes_linked old new c n hs (linked old k) t)
@@ -87,10 +91,10 @@ same_consistent old new hs k p = kept_consistent old new hs k (told_same old new
 pub pumps_consistent : (old new : World) (hs : List Happening) → IsConsistent old → Pumps old hs new → IsConsistent new
 pumps_consistent old new hs k p = kept_consistent old new hs k (told_pumps old new hs p) (pumps_linked old new hs (linked old k) p)
 
-pub new_is_consistent : (f : Config) → IsWellFormed f.topology → IsConsistent (new_world f)
-new_is_consistent f formed =
+pub new_is_consistent : (f : Config) → IsSound f → IsConsistent (new_world f)
+new_is_consistent f sound =
     let start = new_is_linked f in
-    record { counted = λ n q lt. refl; carried = λ q. tt; traced = stay_traced.empty f.topology; formed = formed; running = start.running; paused = start.paused; limits = start.limits }
+    record { counted = λ n q lt. refl; carried = λ q. tt; kept = stay_kept.empty f; unmarked = λ q e i. absurd i; sound = sound; running = start.running; paused = start.paused; limits = start.limits }
 
 pub stay_consistent : WorldsStayConsistent
 stay_consistent = record {

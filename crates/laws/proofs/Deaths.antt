@@ -13,7 +13,8 @@ use Rattle.model.specs.Message.{Message}
 use Rattle.model.specs.Entering.{comes_to, entry_notes}
 use Rattle.model.specs.Deaths.{TellsOfDeath, AreMarked, alone, added, marked_before, first_death}
 use Rattle.model.specs.Deliveries.{without_given, AreRejected}
-use Rattle.model.specs.Routed.{is_entry_into, note_at}
+use Rattle.model.specs.Broker.{body_bytes}
+use Rattle.model.specs.Routed.{Said, sized, is_entry_into, note_at}
 use Rattle.model.specs.Letters.{DiesInto, Rejection, AreRejections, none as no_rejection, next, rejection_notes}
 use Rattle.model.specs.declared.messages.Entry.{Entry}
 use Rattle.model.specs.declared.notes.Cause.TheVariants.{Rejected}
@@ -309,13 +310,13 @@ no_loss after (mid, first, rest, (more, is, dies), all, (end, same)) = some_targ
 -- ---- what notes of deaths don't say
 
 -- the first of these rejections, if there is one
-record HasFirst (t : Topology) (queues : Text → List Entry) (noted notes : List Note) : Type 0 where
+record HasFirst (t : Topology) (queues : Text → List Entry) (said : List Said) (notes : List Note) : Type 0 where
   of : Rejection t queues
   rest : List Note
-  is : notes ≡ rejection_notes t queues noted of ++ rest
-  more : AreRejections t queues (noted ++ rejection_notes t queues noted of) rest
+  is : notes ≡ rejection_notes t queues said of ++ rest
+  more : AreRejections t queues (said ++ sized (body_bytes of.entry) (rejection_notes t queues said of)) rest
 
-first_of : {t : Topology} {queues : Text → List Entry} {noted notes : List Note} → AreRejections t queues noted notes → (notes ≡ []) ⊎ HasFirst t queues noted notes
+first_of : {t : Topology} {queues : Text → List Entry} {said : List Said} {notes : List Note} → AreRejections t queues said notes → (notes ≡ []) ⊎ HasFirst t queues said notes
 first_of no_rejection = inl refl
 first_of (next {rest = rest} r more) = inr (record { of = r; rest = rest; is = refl; more = more })
 
@@ -342,8 +343,8 @@ record EntersBilling (more : List Note) : Type 0 where
   number : ℕ
   rest : List Note
   is : more ≡ Entered number (codes "billing") Dead ∷ rest
-  noted : List Note
-  others : AreRejections deaths while_in_q1 noted rest
+  said : List Said
+  others : AreRejections deaths while_in_q1 said rest
 
 abbrev queue_of : Note → Text
 queue_of (Left n q cause) = q
@@ -368,8 +369,8 @@ enters_billing more a = go (first_of a)
         record {
           number = f.of.entry.message.number;
           rest = f.rest;
-          is = ap (drop 1) f.is ∙ ap (λ (rs : List Text). map (note_at deaths while_in_q1 [] f.of.entry.message.number Dead) rs ++ f.rest) to;
-          noted = rejection_notes deaths while_in_q1 [] f.of;
+          is = ap (drop 1) f.is ∙ ap (λ (rs : List Text). map (note_at deaths while_in_q1 [] (body_bytes f.of.entry) f.of.entry.message.number Dead) rs ++ f.rest) to;
+          said = sized (body_bytes f.of.entry) (rejection_notes deaths while_in_q1 [] f.of);
           others = f.more;
         }
 
@@ -387,12 +388,12 @@ is_gone note = false
 
 -- behind it another message left, if there is more
 then_leaves : (note other : Note) (more : List Note) → AreRejections deaths while_in_q1 [] (Left 1 (codes "q1") Rejected ∷ note ∷ other ∷ more) → is_gone other ≡ true
-then_leaves note other more a = go (first_of (subst (AreRejections deaths while_in_q1 b.noted) (sym (ap (drop 1) b.is)) b.others))
+then_leaves note other more a = go (first_of (subst (AreRejections deaths while_in_q1 b.said) (sym (ap (drop 1) b.is)) b.others))
   where
     b : EntersBilling (note ∷ other ∷ more)
     b = enters_billing (note ∷ other ∷ more) a
 
-    go : ((other ∷ more) ≡ []) ⊎ HasFirst deaths while_in_q1 b.noted (other ∷ more) → is_gone other ≡ true
+    go : ((other ∷ more) ≡ []) ⊎ HasFirst deaths while_in_q1 b.said (other ∷ more) → is_gone other ≡ true
     go (inl e) = absurd (never_empty other more e)
     go (inr f) = ap (λ (ns : List Note). is_gone (first_note ns)) f.is
 
@@ -444,8 +445,8 @@ deaths_refuse = record {
   entered_another = λ a. false≢true (billing_first _ _ a);
   lost = no_loss;
   told_twice = not_twice;
-  forgets = λ holds. holds (codes "a") (lit≤ tt) (any_key _) to_billing_by_death;
-  forgets_second = λ holds. holds (codes "a") (lit≤ tt) (any_key _) to_q3_by_deaths;
-  forgets_route = λ holds. holds (codes "a") (lit≤ tt) (any_key _) (routed circle_leads);
+  forgets = λ holds. holds (codes "a") (lit≤ tt) (record { pattern = any_key _; kept_in = λ e i m. i }) to_billing_by_death;
+  forgets_second = λ holds. holds (codes "a") (lit≤ tt) (record { pattern = any_key _; kept_in = λ e i m. i }) to_q3_by_deaths;
+  forgets_route = λ holds. holds (codes "a") (lit≤ tt) (record { pattern = any_key _; kept_in = λ e i m. i }) (routed circle_leads);
   kept = λ key short covers comes. differ (codes "q2") (codes "q") refl (circle_comes refl comes);
 }

@@ -19,6 +19,7 @@ use Rattle.laws.proofs.Present.{step_present}
 use Rattle.laws.proofs.LoggedIn.{step_enters}
 use Rattle.laws.proofs.Settled.{step_settles}
 use Rattle.laws.proofs.Unrefused.{step_answers, step_purges}
+use Rattle.laws.proofs.Noted.{step_takes}
 use Rattle.laws.proofs.View.{goes}
 
 -- what is held and what is outstanding agree after a move of the phases
@@ -45,6 +46,7 @@ lasts_from (h ∷ hs) old new (e, s, r) a p =
       accounted = step_accounts h before s;
       gets = step_answers h s;
       purges = step_purges h s;
+      taken = step_takes h s;
     } in
     (here, lasts_from hs h.after new r here.agreed here.present)
 

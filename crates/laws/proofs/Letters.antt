@@ -1,23 +1,24 @@
 -- What becomes of each message that is rejected: it leaves, and its dead letter comes to each queue to which it goes on, once, or that queue is full.
 use Rattle.std.proofs.Common.{◌≡◌, ℕ, ◌+◌, ◌≤◌, List, [], ◌∷◌, ◌++◌, Bool, true, false, cond, eqb, length, refl, sym, ap, subst, ◌∙◌, arith, ◌⊎◌, map, Option, Some, None, inl, inr}
-use Rattle.std.specs.Prelude.{count_by, is_some, not, ◌&&◌, if◌then◌else◌}
+use Rattle.std.specs.Prelude.{count_by, filter, find, is_some, not, ◌&&◌, if◌then◌else◌}
 use Rattle.std.specs.Str.{bytes_eq}
-use Rattle.std.specs.List.{AllByRecursion}
+use Rattle.std.specs.List.{AllByRecursion, sum_by}
 use Rattle.std.proofs.Math.Bool.{and-false}
 use Rattle.std.proofs.lemmas.Bool.{false≢true}
-use Rattle.std.proofs.lemmas.List.Sums.{length-filter}
+use Rattle.std.proofs.lemmas.List.Elements.{filter-append}
+use Rattle.std.proofs.lemmas.List.Sums.{length-filter, sum_by-append, sum_by-cons}
 use Rattle.std.proofs.lemmas.Option.{same_Some}
 use Rattle.std.proofs.lemmas.Slice.Eq.{bytes_eq-Decides}
 use Rattle.model.specs.Words.{Text}
 use Rattle.model.specs.Topology.{Topology, IsIn, AreApart, queue_names}
 use Rattle.model.specs.Routing.{Routes, Picks, none, take, pass, Dies, key_after}
 use Rattle.model.specs.Message.{Message}
-use Rattle.model.specs.Broker.{Outstanding, is_ready, is_full, is_at, limit_of, queue_named}
+use Rattle.model.specs.Broker.{Outstanding, is_ready, is_full, body_bytes, ready_bytes, refuses, queue_named}
 use Rattle.model.specs.Entries.{is_held_as, without_first}
 use Rattle.model.specs.Entering.{entry_notes, comes_to}
 use Rattle.model.specs.Deaths.{IsDeath, DiesBy, DiesIn, MayDie, dead_letter, with_headers}
-use Rattle.model.specs.Deliveries.{holder_of, given_in, without_given, AreRejected}
-use Rattle.model.specs.Routed.{is_entry_into, is_full_after, note_at}
+use Rattle.model.specs.Deliveries.{holder_of, given_in, without_given, ready_in, AreRejected}
+use Rattle.model.specs.Routed.{Said, with_size, sized, is_said_into, bytes_into, is_full_after, note_at}
 use Rattle.model.specs.Letters.{DiesInto, Rejection, AreRejections, none as no_rejection, next, rejection_notes, IsOfNoRejection, is_dead_into, is_rejected}
 use Rattle.model.specs.declared.topologies.DeclaredQueue.{DeclaredQueue}
 use Rattle.model.specs.declared.messages.Mark.TheVariants.{Ready}
@@ -28,7 +29,7 @@ use Rattle.model.specs.declared.notes.Note.TheVariants.{Entered, Refused, Left}
 use Rattle.model.specs.declared.notes.Way.{Way}
 use Rattle.model.specs.declared.notes.Way.TheVariants as way
 use Rattle.laws.proofs.Counts.{count-append, count-cons, count-cons_no, count-cons_yes, count_none, all_each, in-append, in_from_contains}
-use Rattle.laws.proofs.Leaving.{is_leaving, one_for, at_queue, find_in, count_without, none_without, in_rest}
+use Rattle.laws.proofs.Leaving.{is_leaving, at_queue, find_in, none_without, in_rest}
 use Rattle.laws.proofs.Entering.{in_comes}
 use Rattle.laws.proofs.Dying.{HeldStay, contains_in, idle_if_held}
 use Rattle.laws.proofs.Targets.{same_as, count_most}
@@ -110,85 +111,148 @@ module _ (t : Topology) (apart : AreApart (queue_names t.queues)) (name : Text) 
 -- ---- queues behind some notes
 
 -- the queues as they stand behind these notes: what is held there was held before the event, and what can be given out could be, or has entered since
-pub record Follows (first : Text → List Entry) (noted : List Note) (now : Text → List Entry) : Type 0 where
+pub record Follows (first : Text → List Entry) (said : List Said) (now : Text → List Entry) : Type 0 where
   pub held : HeldStay first now
-  pub ready : (q : Text) → count_by is_ready (now q) ≡ count_by is_ready (first q) + count_by (is_entry_into q) noted
+  pub ready : (q : Text) → count_by is_ready (now q) ≡ count_by is_ready (first q) + count_by (is_said_into q) said
+  pub bytes : (q : Text) → ready_bytes (now q) ≡ ready_bytes (first q) + bytes_into q said
+
+-- without the first that passes the same are kept, where it isn't kept itself
+filter_without : {A : Type 0} (f p : A → Bool) (x : A) (xs : List A) → find p xs ≡ Some x → f x ≡ false → filter f (without_first p xs) ≡ filter f xs
+filter_without f p x [] e idle = absurd (false≢true (ap is_some e))
+filter_without {A = A} f p x (y ∷ ys) e idle = go (p y) (λ more. filter_without f p x ys more idle) e
+  where
+    go : (v : Bool) → (find p ys ≡ Some x → filter f (without_first p ys) ≡ filter f ys) → cond v (Some y) (find p ys) ≡ Some x → filter f (cond v ys (y ∷ without_first p ys)) ≡ filter f (y ∷ ys)
+    go true more e = sym (ap (λ (b : Bool). cond b (y ∷ filter f ys) (filter f ys)) (ap f (same_Some y x e) ∙ idle))
+    go false more e = ap (λ (zs : List A). cond (f y) (y ∷ zs) zs) (more e)
 
 -- a message that is held is not among those that can be given out
-ready_without : (c h : ℕ) (queues : Text → List Entry) (o : Outstanding) (found : Option Entry) → given_in c h queues o ≡ found → (q : Text) → count_by is_ready (without_given c h queues o q) ≡ count_by is_ready (queues q)
-ready_without c h queues o found is = at_queue (λ (q : Text) (es : List Entry). count_by is_ready es ≡ count_by is_ready (queues q)) queues o.queue _ (here found is) (λ q other. refl)
+ready_without : (c h : ℕ) (queues : Text → List Entry) (o : Outstanding) (found : Option Entry) → given_in c h queues o ≡ found → (q : Text) → filter is_ready (without_given c h queues o q) ≡ filter is_ready (queues q)
+ready_without c h queues o found is = at_queue (λ (q : Text) (es : List Entry). filter is_ready es ≡ filter is_ready (queues q)) queues o.queue _ (here found is) (λ q other. refl)
   where
-    here : (found : Option Entry) → given_in c h queues o ≡ found → count_by is_ready (without_first (is_held_as (holder_of c h o)) (queues o.queue)) ≡ count_by is_ready (queues o.queue)
-    here None none_there = ap (count_by is_ready) (none_without _ (queues o.queue) none_there)
+    here : (found : Option Entry) → given_in c h queues o ≡ found → filter is_ready (without_first (is_held_as (holder_of c h o)) (queues o.queue)) ≡ filter is_ready (queues o.queue)
+    here None none_there = ap (filter is_ready) (none_without _ (queues o.queue) none_there)
     here (Some e) there =
-        let less = count_without is_ready (is_held_as (holder_of c h o)) e (queues o.queue) there in
         let at = find_in (is_held_as (holder_of c h o)) e (queues o.queue) there in
-        let own : one_for (is_ready e) ≡ 0 = ap one_for (idle_if_held (holder_of c h o) e at.1) in
-        omega (arith, less, own)
+        filter_without is_ready (is_held_as (holder_of c h o)) e (queues o.queue) there (idle_if_held (holder_of c h o) e at.1)
 
-gone_follows : (c h : ℕ) (first old : Text → List Entry) (noted : List Note) (o : Outstanding) → Follows first noted old → Follows first noted (without_given c h old o)
-gone_follows c h first old noted o f = record {
+gone_follows : (c h : ℕ) (first old : Text → List Entry) (said : List Said) (o : Outstanding) → Follows first said old → Follows first said (without_given c h old o)
+gone_follows c h first old said o f = record {
   held = λ q e i idle. f.held q e (in_rest c h old o e q i) idle;
-  ready = λ q. ready_without c h old o (given_in c h old o) refl q ∙ f.ready q;
+  ready = λ q. sym (length-filter is_ready (without_given c h old o q)) ∙ ap length (ready_without c h old o (given_in c h old o) refl q) ∙ length-filter is_ready (old q) ∙ f.ready q;
+  bytes = λ q. ap (sum_by body_bytes) (ready_without c h old o (given_in c h old o) refl q) ∙ f.bytes q;
 }
 
-same_follows : (first now new : Text → List Entry) (noted : List Note) → Follows first noted now → ((q : Text) → new q ≡ now q) → Follows first noted new
-same_follows first now new noted f same = record {
+same_follows : (first now new : Text → List Entry) (said : List Said) → Follows first said now → ((q : Text) → new q ≡ now q) → Follows first said new
+same_follows first now new said f same = record {
   held = λ q e i idle. f.held q e (subst (IsIn e) (same q) i) idle;
   ready = λ q. ap (count_by is_ready) (same q) ∙ f.ready q;
+  bytes = λ q. ap ready_bytes (same q) ∙ f.bytes q;
 }
 
+-- what is said behind other notes is added
+bytes-append : (q : Text) (xs ys : List Said) → bytes_into q (xs ++ ys) ≡ bytes_into q xs + bytes_into q ys
+bytes-append q xs ys = ap (sum_by (λ (s : Said). s.size)) (filter-append (is_said_into q) xs ys) ∙ sum_by-append (λ (s : Said). s.size) (filter (is_said_into q) xs) (filter (is_said_into q) ys)
+
 -- what comes to a queue can be given out
-came_ready : (t : Topology) (entries : Text → List Entry) (m : Message) (n : ℕ) (q : Text) (rs : List Text) → count_by is_ready (comes_to t entries m q rs) ≡ count_by (is_entry_into q) (entry_notes t entries (length m.content.body) n way.Dead rs)
+came_ready : (t : Topology) (entries : Text → List Entry) (m : Message) (n : ℕ) (q : Text) (rs : List Text) → count_by is_ready (comes_to t entries m q rs) ≡ count_by (is_said_into q) (sized (length m.content.body) (entry_notes t entries (length m.content.body) n way.Dead rs))
 came_ready t entries m n q [] = refl
 came_ready t entries m n q (r ∷ rs) = go (bytes_eq r q) refl (is_full t entries r (length m.content.body)) (came_ready t entries m n q rs)
   where
-    notes : List Note
-    notes = entry_notes t entries (length m.content.body) n way.Dead rs
+    size : ℕ
+    size = length m.content.body
 
-    go : (same : Bool) → bytes_eq r q ≡ same → (full : Bool) → count_by is_ready (comes_to t entries m q rs) ≡ count_by (is_entry_into q) notes
-        → count_by is_ready (if same && not full then record { message = m; mark = Ready } ∷ comes_to t entries m q rs else comes_to t entries m q rs) ≡ count_by (is_entry_into q) ((if full then Refused n r else Entered n r way.Dead) ∷ notes)
-    go true s true more = more ∙ sym (count-cons_no (is_entry_into q) (Refused n r) notes refl)
-    go true s false more = count-cons_yes is_ready (record { message = m; mark = Ready }) (comes_to t entries m q rs) refl ∙ ap (λ (k : ℕ). 1 + k) more ∙ sym (count-cons_yes (is_entry_into q) (Entered n r way.Dead) notes s)
-    go false s true more = more ∙ sym (count-cons_no (is_entry_into q) (Refused n r) notes refl)
-    go false s false more = more ∙ sym (count-cons_no (is_entry_into q) (Entered n r way.Dead) notes s)
+    said : List Said
+    said = sized (length m.content.body) (entry_notes t entries (length m.content.body) n way.Dead rs)
+
+    go : (same : Bool) → bytes_eq r q ≡ same → (full : Bool) → count_by is_ready (comes_to t entries m q rs) ≡ count_by (is_said_into q) said
+        → count_by is_ready (if same && not full then record { message = m; mark = Ready } ∷ comes_to t entries m q rs else comes_to t entries m q rs) ≡ count_by (is_said_into q) (with_size size (if full then Refused n r else Entered n r way.Dead) ∷ said)
+    go true s true more = more ∙ sym (count-cons_no (is_said_into q) (with_size size (Refused n r)) said refl)
+    go true s false more = count-cons_yes is_ready (record { message = m; mark = Ready }) (comes_to t entries m q rs) refl ∙ ap (λ (k : ℕ). 1 + k) more ∙ sym (count-cons_yes (is_said_into q) (with_size size (Entered n r way.Dead)) said s)
+    go false s true more = more ∙ sym (count-cons_no (is_said_into q) (with_size size (Refused n r)) said refl)
+    go false s false more = more ∙ sym (count-cons_no (is_said_into q) (with_size size (Entered n r way.Dead)) said s)
+
+-- and its bytes with it
+came_bytes : (t : Topology) (entries : Text → List Entry) (m : Message) (n : ℕ) (q : Text) (rs : List Text) → ready_bytes (comes_to t entries m q rs) ≡ bytes_into q (sized (length m.content.body) (entry_notes t entries (length m.content.body) n way.Dead rs))
+came_bytes t entries m n q [] = refl
+came_bytes t entries m n q (r ∷ rs) = go (bytes_eq r q) refl (is_full t entries r (length m.content.body)) (came_bytes t entries m n q rs)
+  where
+    came : List Entry
+    came = filter is_ready (comes_to t entries m q rs)
+
+    into : List Said
+    into = filter (is_said_into q) (sized (length m.content.body) (entry_notes t entries (length m.content.body) n way.Dead rs))
+
+    entered : Said
+    entered = with_size (length m.content.body) (Entered n r way.Dead)
+
+    of_size : Said → ℕ
+    of_size s = s.size
+
+    with_it : sum_by body_bytes came ≡ sum_by of_size into → sum_by body_bytes (record { message = m; mark = Ready } ∷ came) ≡ sum_by of_size (entered ∷ into)
+    with_it more = sum_by-cons body_bytes (record { message = m; mark = Ready }) came ∙ ap (λ (k : ℕ). length m.content.body + k) more ∙ sym (sum_by-cons of_size entered into)
+
+    go : (same : Bool) → bytes_eq r q ≡ same → (full : Bool) → sum_by body_bytes came ≡ sum_by of_size into
+        → ready_bytes (if same && not full then record { message = m; mark = Ready } ∷ comes_to t entries m q rs else comes_to t entries m q rs)
+        ≡ bytes_into q (with_size (length m.content.body) (if full then Refused n r else Entered n r way.Dead) ∷ sized (length m.content.body) (entry_notes t entries (length m.content.body) n way.Dead rs))
+    go true s true more = more
+    go true s false more = with_it more ∙ sym (ap (λ (b : Bool). sum_by of_size (cond b (entered ∷ into) into)) s)
+    go false s true more = more
+    go false s false more = more ∙ sym (ap (λ (b : Bool). sum_by of_size (cond b (entered ∷ into) into)) s)
 
 came_idle : (t : Topology) (entries : Text → List Entry) (m : Message) (q : Text) (rs : List Text) (e : Entry) → IsIn e (comes_to t entries m q rs) → is_ready e ≡ true
 came_idle t entries m q rs e i = ap is_ready (in_comes t entries m q rs e i).is
 
+-- the ready bytes of two lists of entries are those of both
+ready-append : (xs ys : List Entry) → ready_bytes (xs ++ ys) ≡ ready_bytes xs + ready_bytes ys
+ready-append xs ys = ap (sum_by body_bytes) (filter-append is_ready xs ys) ∙ sum_by-append body_bytes (filter is_ready xs) (filter is_ready ys)
+
 -- ---- one rejection
 
 -- a queue is full as it stands, or as what was noted tells
-pub full_same : (t : Topology) (first gone : Text → List Entry) (noted : List Note) → Follows first noted gone → (size : ℕ) (r : Text) → is_full t gone r size ≡ is_full_after t first noted r
-full_same t first gone noted f size r = ap (is_at (limit_of (queue_named t.queues r))) (length-filter is_ready (gone r) ∙ f.ready r ∙ ap (λ (k : ℕ). k + count_by (is_entry_into r) noted) (sym (length-filter is_ready (first r))))
+pub full_same : (t : Topology) (first gone : Text → List Entry) (said : List Said) → Follows first said gone → (size : ℕ) (r : Text) → is_full t gone r size ≡ is_full_after t first said r size
+full_same t first gone said f size r =
+    ap (λ (count : ℕ). refuses (queue_named t.queues r) count (ready_bytes (gone r)) size) (length-filter is_ready (gone r) ∙ f.ready r ∙ ap (λ (k : ℕ). k + count_by (is_said_into r) said) (sym (length-filter is_ready (first r))))
+    ∙ ap (λ (bytes : ℕ). refuses (queue_named t.queues r) (ready_in (first r) + count_by (is_said_into r) said) bytes size) (f.bytes r)
 
 -- and so what is noted of the queues to which a message goes is the same
-pub same_notes : (t : Topology) (first gone : Text → List Entry) (noted : List Note) (size n : ℕ) (w : Way) → Follows first noted gone → (rs : List Text) → entry_notes t gone size n w rs ≡ map (note_at t first noted n w) rs
-same_notes t first gone noted size n w f [] = refl
-same_notes t first gone noted size n w f (r ∷ rs) =
-    ap (λ (full : Bool). (if full then Refused n r else Entered n r w) ∷ entry_notes t gone size n w rs) (full_same t first gone noted f size r)
-    ∙ ap (λ (ns : List Note). note_at t first noted n w r ∷ ns) (same_notes t first gone noted size n w f rs)
+pub same_notes : (t : Topology) (first gone : Text → List Entry) (said : List Said) (size n : ℕ) (w : Way) → Follows first said gone → (rs : List Text) → entry_notes t gone size n w rs ≡ map (note_at t first said size n w) rs
+same_notes t first gone said size n w f [] = refl
+same_notes t first gone said size n w f (r ∷ rs) =
+    ap (λ (full : Bool). (if full then Refused n r else Entered n r w) ∷ entry_notes t gone size n w rs) (full_same t first gone said f size r)
+    ∙ ap (λ (ns : List Note). note_at t first said size n w r ∷ ns) (same_notes t first gone said size n w f rs)
 
 -- before anything was noted they stand as they stood
 pub follows_itself : (first : Text → List Entry) → Follows first [] first
-follows_itself first = record { held = λ q e i idle. i; ready = λ q. let e : count_by (is_entry_into q) [] ≡ 0 = refl in omega (arith, e) }
+follows_itself first = record { held = λ q e i idle. i; ready = λ q. let e : count_by (is_said_into q) [] ≡ 0 = refl in omega (arith, e); bytes = λ q. let e : bytes_into q [] ≡ 0 = refl in omega (arith, e) }
 
 -- these notes are of a rejection, behind which the queues stand so
-record IsRejection (t : Topology) (first : Text → List Entry) (noted notes : List Note) (new : Text → List Entry) : Type 0 where
+record IsRejection (t : Topology) (first : Text → List Entry) (said : List Said) (notes : List Note) (new : Text → List Entry) : Type 0 where
   of : Rejection t first
-  noted_so : notes ≡ rejection_notes t first noted of
-  follows : Follows first (noted ++ notes) new
+  noted_so : notes ≡ rejection_notes t first said of
+  follows : Follows first (said ++ sized (body_bytes of.entry) notes) new
 
-module _ (t : Topology) (apart : AreApart (queue_names t.queues)) (c h : ℕ) (first old : Text → List Entry) (noted : List Note) (o : Outstanding) (e : Entry) (there : IsIn e (first o.queue)) (f : Follows first noted (without_given c h old o)) where
+module _ (t : Topology) (apart : AreApart (queue_names t.queues)) (c h : ℕ) (first old : Text → List Entry) (said : List Said) (o : Outstanding) (e : Entry) (there : IsIn e (first o.queue)) (f : Follows first said (without_given c h old o)) where
   abbrev gone : Text → List Entry
   gone = without_given c h old o
 
+  -- notes beside the size of this message
+  abbrev own : List Note → List Said
+  own notes = sized (body_bytes e) notes
+
   -- behind these notes
-  counted : (q : Text) (rest : List Note) → count_by (is_entry_into q) (noted ++ (Left e.message.number o.queue Rejected ∷ rest)) ≡ count_by (is_entry_into q) noted + count_by (is_entry_into q) rest
-  counted q rest = count-append (is_entry_into q) noted _ ∙ ap (λ (k : ℕ). count_by (is_entry_into q) noted + k) (count-cons_no (is_entry_into q) (Left e.message.number o.queue Rejected) rest refl)
+  counted : (q : Text) (notes rest : List Note) → notes ≡ Left e.message.number o.queue Rejected ∷ rest → count_by (is_said_into q) (said ++ own notes) ≡ count_by (is_said_into q) said + count_by (is_said_into q) (own rest)
+  counted q notes rest is =
+      ap (λ (ns : List Note). count_by (is_said_into q) (said ++ own ns)) is
+      ∙ count-append (is_said_into q) said (own (Left e.message.number o.queue Rejected ∷ rest))
+      ∙ ap (λ (k : ℕ). count_by (is_said_into q) said + k) (count-cons_no (is_said_into q) (with_size (body_bytes e) (Left e.message.number o.queue Rejected)) (own rest) refl)
+
+  weighed : (q : Text) (notes rest : List Note) → notes ≡ Left e.message.number o.queue Rejected ∷ rest → bytes_into q (said ++ own notes) ≡ bytes_into q said + bytes_into q (own rest)
+  weighed q notes rest is =
+      ap (λ (ns : List Note). bytes_into q (said ++ own ns)) is
+      ∙ bytes-append q said (own (Left e.message.number o.queue Rejected ∷ rest))
 
   -- it leaves, and nothing comes
-  leaves : (notes rest : List Note) (new : Text → List Entry) → notes ≡ Left e.message.number o.queue Rejected ∷ rest → (rest ≡ []) × ((q : Text) → new q ≡ gone q) → Picks (DiesInto t o.queue e.message.key) (queue_names t.queues) [] → IsRejection t first noted notes new
+  leaves : (notes rest : List Note) (new : Text → List Entry) → notes ≡ Left e.message.number o.queue Rejected ∷ rest → (rest ≡ []) × ((q : Text) → new q ≡ gone q) → Picks (DiesInto t o.queue e.message.key) (queue_names t.queues) [] → IsRejection t first said notes new
   leaves notes rest new is d routed = record {
     of = record { queue = o.queue; entry = e; stood = there; targets = []; routed = routed };
     noted_so = is ∙ ap (λ (ns : List Note). Left e.message.number o.queue Rejected ∷ ns) d.0;
@@ -197,18 +261,24 @@ module _ (t : Topology) (apart : AreApart (queue_names t.queues)) (c h : ℕ) (f
       ready = λ q.
           let now : count_by is_ready (new q) ≡ count_by is_ready (gone q) = ap (count_by is_ready) (d.1 q) in
           let was = f.ready q in
-          let more : count_by (is_entry_into q) (noted ++ notes) ≡ count_by (is_entry_into q) noted + count_by (is_entry_into q) rest = ap (λ (ns : List Note). count_by (is_entry_into q) (noted ++ ns)) is ∙ counted q rest in
-          let none_more : count_by (is_entry_into q) rest ≡ 0 = ap (count_by (is_entry_into q)) d.0 in
+          let more = counted q notes rest is in
+          let none_more : count_by (is_said_into q) (own rest) ≡ 0 = ap (λ (ns : List Note). count_by (is_said_into q) (own ns)) d.0 in
+          omega (arith, now, was, more, none_more);
+      bytes = λ q.
+          let now : ready_bytes (new q) ≡ ready_bytes (gone q) = ap ready_bytes (d.1 q) in
+          let was = f.bytes q in
+          let more = weighed q notes rest is in
+          let none_more : bytes_into q (own rest) ≡ 0 = ap (λ (ns : List Note). bytes_into q (own ns)) d.0 in
           omega (arith, now, was, more, none_more);
     };
   }
 
   -- it leaves, and its letter comes
   dies : (notes rest : List Note) (new : Text → List Entry) (p : DeclaredQueue) (exchange : Text) → notes ≡ Left e.message.number o.queue Rejected ∷ rest → queue_named t.queues o.queue ≡ Some p → p.dead_letter_exchange ≡ Some exchange
-      → IsDeath t p exchange gone e.message rest new → IsRejection t first noted notes new
+      → IsDeath t p exchange gone e.message rest new → IsRejection t first said notes new
   dies notes rest new p exchange is found dead d = record {
     of = record { queue = o.queue; entry = e; stood = there; targets = d.targets; routed = picks_on t apart o.queue e.message.key p exchange d.targets found dead d.routed };
-    noted_so = is ∙ ap (λ (ns : List Note). Left e.message.number o.queue Rejected ∷ ns) (d.noted ∙ same_notes t first gone noted (length e.message.content.body) e.message.number way.Dead f d.targets);
+    noted_so = is ∙ ap (λ (ns : List Note). Left e.message.number o.queue Rejected ∷ ns) (d.noted ∙ same_notes t first gone said (length e.message.content.body) e.message.number way.Dead f d.targets);
     follows = record {
       held = λ q x i idle. elim (in-append x (gone q) _ (subst (IsIn x) (d.left q) i)) [
         | inl j ↦ f.held q x j idle
@@ -217,42 +287,49 @@ module _ (t : Topology) (apart : AreApart (queue_names t.queues)) (c h : ℕ) (f
       ready = λ q.
           let letter = dead_letter e.message exchange (key_after p.dead_letter_key e.message.key) (with_headers e.message.content d.headers) in
           let now : count_by is_ready (new q) ≡ count_by is_ready (gone q) + count_by is_ready (comes_to t gone letter q d.targets) = ap (count_by is_ready) (d.left q) ∙ count-append is_ready (gone q) _ in
-          let came : count_by is_ready (comes_to t gone letter q d.targets) ≡ count_by (is_entry_into q) rest = came_ready t gone letter e.message.number q d.targets ∙ ap (count_by (is_entry_into q)) (sym d.noted) in
+          let came : count_by is_ready (comes_to t gone letter q d.targets) ≡ count_by (is_said_into q) (own rest) = came_ready t gone letter e.message.number q d.targets ∙ ap (λ (ns : List Note). count_by (is_said_into q) (own ns)) (sym d.noted) in
           let was = f.ready q in
-          let more : count_by (is_entry_into q) (noted ++ notes) ≡ count_by (is_entry_into q) noted + count_by (is_entry_into q) rest = ap (λ (ns : List Note). count_by (is_entry_into q) (noted ++ ns)) is ∙ counted q rest in
+          let more = counted q notes rest is in
+          omega (arith, now, came, was, more);
+      bytes = λ q.
+          let letter = dead_letter e.message exchange (key_after p.dead_letter_key e.message.key) (with_headers e.message.content d.headers) in
+          let now : ready_bytes (new q) ≡ ready_bytes (gone q) + ready_bytes (comes_to t gone letter q d.targets) = ap ready_bytes (d.left q) ∙ ready-append (gone q) (comes_to t gone letter q d.targets) in
+          let came : ready_bytes (comes_to t gone letter q d.targets) ≡ bytes_into q (own rest) = came_bytes t gone letter e.message.number q d.targets ∙ ap (λ (ns : List Note). bytes_into q (own ns)) (sym d.noted) in
+          let was = f.bytes q in
+          let more = weighed q notes rest is in
           omega (arith, now, came, was, more);
     };
   }
 
-  one_rejection : (notes rest : List Note) (new : Text → List Entry) → notes ≡ Left e.message.number o.queue Rejected ∷ rest → DiesIn t gone e.message rest new (queue_named t.queues o.queue) → IsRejection t first noted notes new
+  one_rejection : (notes rest : List Note) (new : Text → List Entry) → notes ≡ Left e.message.number o.queue Rejected ∷ rest → DiesIn t gone e.message rest new (queue_named t.queues o.queue) → IsRejection t first said notes new
   one_rejection notes rest new is = by (queue_named t.queues o.queue) refl
     where
-      through : (p : DeclaredQueue) (x : Option Text) → queue_named t.queues o.queue ≡ Some p → p.dead_letter_exchange ≡ x → DiesBy t p gone e.message rest new x → IsRejection t first noted notes new
+      through : (p : DeclaredQueue) (x : Option Text) → queue_named t.queues o.queue ≡ Some p → p.dead_letter_exchange ≡ x → DiesBy t p gone e.message rest new x → IsRejection t first said notes new
       through p None found plain d = leaves notes rest new is d (none_without_exchange t apart o.queue e.message.key p found plain)
       through p (Some exchange) found dead d = dies notes rest new p exchange is found dead d
 
-      by : (q : Option DeclaredQueue) → queue_named t.queues o.queue ≡ q → DiesIn t gone e.message rest new q → IsRejection t first noted notes new
+      by : (q : Option DeclaredQueue) → queue_named t.queues o.queue ≡ q → DiesIn t gone e.message rest new q → IsRejection t first said notes new
       by None found d = leaves notes rest new is d (none_without_queue t apart o.queue e.message.key found)
       by (Some p) found d = through p p.dead_letter_exchange found refl d
 
 -- ---- all of them
 
-rejections_from : (t : Topology) → AreApart (queue_names t.queues) → (c h : ℕ) (first : Text → List Entry) (os : List Outstanding) (old : Text → List Entry) (noted notes : List Note) (new : Text → List Entry) → Follows first noted old
-    → AreRejected t c h os old notes new → AreRejections t first noted notes
-rejections_from t apart c h first [] old noted notes new f (none_noted, same) = subst (AreRejections t first noted) (sym none_noted) no_rejection
-rejections_from t apart c h first (o ∷ os) old noted notes new f (mid, one, rest, may, all, more) = go (λ ns g. rejections_from t apart c h first os mid ns rest new g more) (given_in c h old o) refl may
+rejections_from : (t : Topology) → AreApart (queue_names t.queues) → (c h : ℕ) (first : Text → List Entry) (os : List Outstanding) (old : Text → List Entry) (said : List Said) (notes : List Note) (new : Text → List Entry) → Follows first said old
+    → AreRejected t c h os old notes new → AreRejections t first said notes
+rejections_from t apart c h first [] old said notes new f (none_noted, same) = subst (AreRejections t first said) (sym none_noted) no_rejection
+rejections_from t apart c h first (o ∷ os) old said notes new f (mid, one, rest, may, all, more) = go (λ known g. rejections_from t apart c h first os mid known rest new g more) (given_in c h old o) refl may
   where
-    go : ((ns : List Note) → Follows first ns mid → AreRejections t first ns rest) → (found : Option Entry) → given_in c h old o ≡ found → MayDie t o.queue (without_given c h old o) one mid found → AreRejections t first noted notes
+    go : ((known : List Said) → Follows first known mid → AreRejections t first known rest) → (found : Option Entry) → given_in c h old o ≡ found → MayDie t o.queue (without_given c h old o) one mid found → AreRejections t first said notes
     go others None is (none_noted, same) =
         let shorter : notes ≡ rest = all ∙ ap (λ (ns : List Note). ns ++ rest) none_noted in
-        subst (AreRejections t first noted) (sym shorter) (others noted (same_follows first (without_given c h old o) mid noted (gone_follows c h first old noted o f) same))
+        subst (AreRejections t first said) (sym shorter) (others said (same_follows first (without_given c h old o) mid said (gone_follows c h first old said o f) same))
     go others (Some e) is (left, noted_left, dies_so) =
         let at = find_in (is_held_as (holder_of c h o)) e (old o.queue) is in
         let there : IsIn e (first o.queue) = f.held o.queue e at.0 (idle_if_held (holder_of c h o) e at.1) in
-        let r = one_rejection t apart c h first old noted o e there (gone_follows c h first old noted o f) one left mid noted_left dies_so in
-        let after : AreRejections t first (noted ++ rejection_notes t first noted r.of) rest =
-        subst (λ (ns : List Note). AreRejections t first (noted ++ ns) rest) r.noted_so (others (noted ++ one) r.follows) in
-        subst (AreRejections t first noted) (sym (all ∙ ap (λ (ns : List Note). ns ++ rest) r.noted_so)) (next r.of after)
+        let r = one_rejection t apart c h first old said o e there (gone_follows c h first old said o f) one left mid noted_left dies_so in
+        let after : AreRejections t first (said ++ sized (body_bytes r.of.entry) (rejection_notes t first said r.of)) rest =
+        subst (λ (ns : List Note). AreRejections t first (said ++ sized (body_bytes r.of.entry) ns) rest) r.noted_so (others (said ++ sized (body_bytes r.of.entry) one) r.follows) in
+        subst (AreRejections t first said) (sym (all ∙ ap (λ (ns : List Note). ns ++ rest) r.noted_so)) (next r.of after)
 
 -- What is noted of messages that are rejected tells of each where its dead letter came.
 pub are_rejections : (t : Topology) → AreApart (queue_names t.queues) → (c h : ℕ) (os : List Outstanding) (old : Text → List Entry) (notes : List Note) (new : Text → List Entry) → AreRejected t c h os old notes new → AreRejections t old [] notes
@@ -266,13 +343,13 @@ other_note n q (Entered m r way.Publish) o = refl
 other_note n q _ o = refl
 
 -- a dead letter enters no queue oftener than it goes on to it
-letters_most : (t : Topology) (first : Text → List Entry) (noted : List Note) (k n : ℕ) (q : Text) (rs : List Text)
-    → count_by (is_dead_into n q) (map (note_at t first noted k way.Dead) rs) ≤ count_by (same_as q) rs
-letters_most t first noted k n q [] = omega arith
-letters_most t first noted k n q (r ∷ rs) = go (letters_most t first noted k n q rs) (is_full_after t first noted r) (same_as q r) refl
+letters_most : (t : Topology) (first : Text → List Entry) (said : List Said) (size k n : ℕ) (q : Text) (rs : List Text)
+    → count_by (is_dead_into n q) (map (note_at t first said size k way.Dead) rs) ≤ count_by (same_as q) rs
+letters_most t first said size k n q [] = omega arith
+letters_most t first said size k n q (r ∷ rs) = go (letters_most t first said size k n q rs) (is_full_after t first said r size) (same_as q r) refl
   where
     notes : List Note
-    notes = map (note_at t first noted k way.Dead) rs
+    notes = map (note_at t first said size k way.Dead) rs
 
     at_most : (b : Bool) → cond b 1 0 ≤ 1
     at_most true = omega arith
@@ -293,48 +370,48 @@ letters_most t first noted k n q (r ∷ rs) = go (letters_most t first noted k n
         omega (arith, one, all, more)
 
 -- those of another message are none of this one
-others_none : (t : Topology) (first : Text → List Entry) (noted : List Note) (k n : ℕ) (q : Text) (rs : List Text) → eqb k n ≡ false → count_by (is_dead_into n q) (map (note_at t first noted k way.Dead) rs) ≡ 0
-others_none t first noted k n q [] ne = refl
-others_none t first noted k n q (r ∷ rs) ne = go (is_full_after t first noted r) (others_none t first noted k n q rs ne)
+others_none : (t : Topology) (first : Text → List Entry) (said : List Said) (size k n : ℕ) (q : Text) (rs : List Text) → eqb k n ≡ false → count_by (is_dead_into n q) (map (note_at t first said size k way.Dead) rs) ≡ 0
+others_none t first said size k n q [] ne = refl
+others_none t first said size k n q (r ∷ rs) ne = go (is_full_after t first said r size) (others_none t first said size k n q rs ne)
   where
     notes : List Note
-    notes = map (note_at t first noted k way.Dead) rs
+    notes = map (note_at t first said size k way.Dead) rs
 
     go : (full : Bool) → count_by (is_dead_into n q) notes ≡ 0 → count_by (is_dead_into n q) ((if full then Refused k r else Entered k r way.Dead) ∷ notes) ≡ 0
     go true more = count-cons_no (is_dead_into n q) (Refused k r) notes refl ∙ more
     go false more = count-cons_no (is_dead_into n q) (Entered k r way.Dead) notes (ap (λ (b : Bool). b && bytes_eq r q) ne) ∙ more
 
 -- a rejection makes one letter at most for a queue
-rejection_once : (t : Topology) (first : Text → List Entry) (noted : List Note) (r : Rejection t first) → AreApart (queue_names t.queues) → (n : ℕ) (q : Text)
-    → count_by (is_dead_into n q) (rejection_notes t first noted r) ≤ count_by (is_rejected n) (rejection_notes t first noted r)
-rejection_once t first noted r apart n q = go (eqb r.entry.message.number n) refl
+rejection_once : (t : Topology) (first : Text → List Entry) (said : List Said) (r : Rejection t first) → AreApart (queue_names t.queues) → (n : ℕ) (q : Text)
+    → count_by (is_dead_into n q) (rejection_notes t first said r) ≤ count_by (is_rejected n) (rejection_notes t first said r)
+rejection_once t first said r apart n q = go (eqb r.entry.message.number n) refl
   where
     note : Note
     note = Left r.entry.message.number r.queue Rejected
 
     rest : List Note
-    rest = map (note_at t first noted r.entry.message.number way.Dead) r.targets
+    rest = map (note_at t first said (body_bytes r.entry) r.entry.message.number way.Dead) r.targets
 
     letters : count_by (is_dead_into n q) (note ∷ rest) ≡ count_by (is_dead_into n q) rest
     letters = count-cons_no (is_dead_into n q) note rest refl
 
     go : (own : Bool) → eqb r.entry.message.number n ≡ own → count_by (is_dead_into n q) (note ∷ rest) ≤ count_by (is_rejected n) (note ∷ rest)
     go true own =
-        let most = letters_most t first noted r.entry.message.number n q r.targets in
+        let most = letters_most t first said (body_bytes r.entry) r.entry.message.number n q r.targets in
         let once = count_most q r.routed apart in
         let left = count-cons_yes (is_rejected n) note rest own in
         omega (arith, letters, most, once, left)
     go false own =
-        let no = others_none t first noted r.entry.message.number n q r.targets own in
+        let no = others_none t first said (body_bytes r.entry) r.entry.message.number n q r.targets own in
         omega (arith, letters, no)
 
-rejections_once : (t : Topology) (first : Text → List Entry) (noted notes : List Note) → AreApart (queue_names t.queues) → AreRejections t first noted notes → (n : ℕ) (q : Text) → count_by (is_dead_into n q) notes ≤ count_by (is_rejected n) notes
-rejections_once t first noted notes apart no_rejection n q = omega arith
-rejections_once t first noted notes apart (next {rest = rest} r more) n q =
-    let one = rejection_once t first noted r apart n q in
+rejections_once : (t : Topology) (first : Text → List Entry) (said : List Said) (notes : List Note) → AreApart (queue_names t.queues) → AreRejections t first said notes → (n : ℕ) (q : Text) → count_by (is_dead_into n q) notes ≤ count_by (is_rejected n) notes
+rejections_once t first said notes apart no_rejection n q = omega arith
+rejections_once t first said notes apart (next {rest = rest} r more) n q =
+    let one = rejection_once t first said r apart n q in
     let after = rejections_once t first _ rest apart more n q in
-    let letters = count-append (is_dead_into n q) (rejection_notes t first noted r) rest in
-    let left = count-append (is_rejected n) (rejection_notes t first noted r) rest in
+    let letters = count-append (is_dead_into n q) (rejection_notes t first said r) rest in
+    let left = count-append (is_rejected n) (rejection_notes t first said r) rest in
     omega (arith, one, after, letters, left)
 
 -- Where what is noted is of rejections alone, or of none, no rejection made two letters in one queue.

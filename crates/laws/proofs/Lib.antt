@@ -15,6 +15,7 @@ pub mod View
 pub mod Channels
 pub mod Aside
 pub mod Unrefused
+pub mod Noted
 pub mod Returned
 pub mod Settled
 pub mod Accounted
@@ -28,14 +29,18 @@ pub mod Sent
 pub mod Balance
 pub mod Parts
 pub mod Ordered
+pub mod Fresh
 pub mod Giving
 pub mod Once
 pub mod Acks
 pub mod Safe
 pub mod Traced
+pub mod Keeping
+pub mod Marked
 pub mod Never
 pub mod Streams
 pub mod Reading
+pub mod Nacks
 pub mod Plays
 pub mod Linked
 pub mod Present
@@ -50,6 +55,9 @@ pub mod Sources
 pub mod Whole
 pub mod Rows
 pub mod Refusing
+pub mod Confirming
 pub mod Disagreeing
 pub mod Deaths
 pub mod Forms
+pub mod Unkept
+pub mod Reloading

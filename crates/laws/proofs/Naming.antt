@@ -8,6 +8,7 @@ use Rattle.model.specs.Naming.{AreNamed}
 use Rattle.model.specs.Arrivals.{World, Waits, IsSaid}
 use Rattle.model.specs.Alone.{event_connection}
 use Rattle.laws.specs.Consumers.{IsWorldNamed, WorldsStayNamed, PlaysStayNamed}
+use Rattle.laws.specs.Promises.{InForce, config_after}
 use Rattle.laws.proofs.View.{goes}
 use Rattle.laws.proofs.Plays.{IsTold, Told, told_turns, told_taken, told_opens, told_loses, told_pumps, told_plays}
 use Rattle.laws.proofs.Named.{onward, moved, stay_named}
@@ -18,14 +19,14 @@ step_named h said s a = elim (goes h.config h.before h.after h.sends h.notes h.e
   | inr p ↦ moved h.config.topology h.before.broker h.after.broker a (event_connection h.event) p.move.next.channel_max (is_running p.move.next.phase) p.moves.broker
 ]
 
-run_named : (f : Config) (hs : List Happening) (old new : State) → AllByRecursion (IsTold f) hs → Run old hs new → AreNamed f.topology old.broker → AreNamed f.topology new.broker
-run_named f [] old new told r a = subst (λ (z : State). AreNamed f.topology z.broker) (sym r) a
-run_named f (h ∷ hs) old new told (e, s, r) a =
-    let here : AreNamed h.config.topology h.before.broker = subst (λ (g : Config). AreNamed g.topology h.before.broker) (sym told.0.under) (subst (λ (z : State). AreNamed f.topology z.broker) (sym e) a) in
-    run_named f hs h.after new told.1 r (subst (λ (g : Config). AreNamed g.topology h.after.broker) told.0.under (step_named h told.0.said s here))
+run_named : (f last : Config) (hs : List Happening) (old new : State) → InForce f hs last → AllByRecursion IsTold hs → Run old hs new → AreNamed f.topology old.broker → AreNamed last.topology new.broker
+run_named f last [] old new force told r a = subst (λ (g : Config). AreNamed g.topology new.broker) (sym force) (subst (λ (z : State). AreNamed f.topology z.broker) (sym r) a)
+run_named f last (h ∷ hs) old new force told (e, s, r) a =
+    let here : AreNamed h.config.topology h.before.broker = subst (λ (g : Config). AreNamed g.topology h.before.broker) (sym force.0) (subst (λ (z : State). AreNamed f.topology z.broker) (sym e) a) in
+    run_named (config_after h) last hs h.after new force.1 told.1 r (step_named h told.0.said s here)
 
 told_named : (old new : World) (hs : List Happening) → Told old hs new → IsWorldNamed old → IsWorldNamed new
-told_named old new hs t a = subst (λ (f : Config). AreNamed f.topology new.state.broker) (sym t.config) (run_named old.config hs old.state new.state t.each t.run a)
+told_named old new hs t a = run_named old.config new.config hs old.state new.state t.in_force t.each t.run a
 
 waits_named : (old new : World) (c : ℕ) → IsWorldNamed old → Waits old c new → IsWorldNamed new
 waits_named old new c a w = subst (λ (f : Config). AreNamed f.topology new.state.broker) (sym w.config) (subst (λ (z : State). AreNamed old.config.topology z.broker) (sym w.state) a)

@@ -7,8 +7,9 @@ use Rattle.model.specs.Words.{Text}
 use Rattle.model.specs.Topology.{Topology, IsIn}
 use Rattle.model.specs.Message.{Message}
 use Rattle.model.specs.Broker.{Broker}
-use Rattle.model.specs.Tracing.{by_publish, by_death, AreTraced}
+use Rattle.model.specs.Tracing.{by_publish, AreKept}
 use Rattle.model.specs.Guarantee.{Covers}
+use Rattle.model.specs.Routing.{Later}
 use Rattle.model.specs.State.{Config, State, Step}
 use Rattle.model.specs.Arrivals.{IsSaid}
 use Rattle.model.specs.Run.{Happening, Run, AreCounted, has_number, notes_of}
@@ -22,15 +23,18 @@ use Rattle.model.specs.declared.notes.Note.TheVariants.{Published, Entered, Left
 use Rattle.model.specs.declared.notes.Way.TheVariants as way
 use Rattle.model.specs.declared.events.Send.{Send}
 use Rattle.model.specs.declared.events.Event.{Event}
-use Rattle.laws.specs.Promises.{AreSound, AreUnder, AreSaid, IsBegun}
+use Rattle.laws.specs.Promises.{AreSound, AreSaid, InForce, IsBegun, config_after}
 use Rattle.laws.proofs.Dying.{HasDied}
 use Rattle.laws.proofs.Entering.{picked}
 use Rattle.laws.proofs.Safe.{come_here}
-use Rattle.laws.proofs.Traced.{Rooted, before, now, rooted, exchange_of, key_of, step_came, step_traced}
+use Rattle.laws.proofs.Traced.{Rooted, before, now, rooted, exchange_of, key_of, step_came}
+use Rattle.laws.proofs.Keeping.{one_death, step_kept}
 use Rattle.laws.proofs.Leaving.{OfLeft}
 use Rattle.laws.proofs.Aside.{run_aside}
 use Rattle.laws.proofs.Routed.{run_routed, run_numbers}
 use Rattle.laws.proofs.Letters.{letters_once}
+use Rattle.laws.proofs.Fresh.{run_fresh}
+use Rattle.laws.proofs.Marked.{run_marks}
 use Rattle.laws.proofs.Counts.{all_each, all_in, in-append, count-cons, count-cons_yes}
 use Rattle.laws.proofs.View.{Publishes, Seen, CountsNone, seen_at, quiet_notes}
 use Rattle.laws.proofs.Balance.{number, confirm, first_note, entry_part, answer_part, noted, others_all, run_stays, counted_at, stands_counted}
@@ -43,7 +47,7 @@ is_published (Published n c h x key o) = true
 is_published note = false
 
 -- notes of other publishes don't tell of this one
-not_of_others : (n c h : ℕ) (x key : Text) (o : Option ℕ) (notes : List Note) → AreOfOthers n notes → IsIn (Published n c h x key o) notes → ⊥
+pub not_of_others : (n c h : ℕ) (x key : Text) (o : Option ℕ) (notes : List Note) → AreOfOthers n notes → IsIn (Published n c h x key o) notes → ⊥
 not_of_others n c h x key o notes a i =
     let no : eqb n n ≡ false = all_in (λ note. is_of_publish n note ≡ false) (Published n c h x key o) notes a i in
     false≢true (sym no ∙ eq-eqb n n refl)
@@ -58,7 +62,7 @@ not_among n e (x ∷ es) (inl same) is zero_of =
 not_among n e (x ∷ es) (inr i) is zero_of = let more = count-cons (has_number n) x es in not_among n e es i is (omega (arith, more, zero_of))
 
 -- the message was first sent to this exchange under this key
-abbrev IsSentTo : Message → Text → Text → Type 0
+abbrev pub IsSentTo : Message → Text → Text → Type 0
 IsSentTo m x key = (x ≡ m.first_exchange) × (key ≡ m.first_key)
 
 -- an event that is a publish
@@ -88,7 +92,7 @@ module _ (h : Happening) (p : Publishes h.config.topology h.before.broker h.afte
   own_known counted x key (inr s) = absurd (not_among (number p) s.entry (h.before.broker.queue s.queue) s.there s.number (counted (number p) s.queue (omega arith)))
 
   -- nor do other notes of its run tell others
-  own_in_all : (all : List Note) → Placed all h → (x key : Text) → IsNoted all (number p) x key → IsItsOwn x key
+  pub own_in_all : (all : List Note) → Placed all h → (x key : Text) → IsNoted all (number p) x key → IsItsOwn x key
   own_in_all all at x key (c, i, o, j) = anywhere (in-append note at.before (h.notes ++ at.after) (subst (IsIn note) at.split j))
     where
       note : Note
@@ -110,19 +114,18 @@ no_publish {notes = notes} quiet n x key (c, i, o, j) =
     false≢true (sym (all_in (λ note. is_published note ≡ false) (Published n c i x key o) notes (quiet_notes (λ (note : Note). is_published note ≡ false) (λ m r cause. refl) (λ m r. refl) (λ m r d. refl) quiet) j))
 
 -- what an event notes is allowed, however it is known where its publish was sent, if this agrees with what the messages that stand in queues say
-allowed_where : (h : Happening) (Sent : ℕ → Text → Text → Type 0) → Seen h.config.topology h.before.broker h.after.broker h.event h.sends h.notes
+pub allowed_where : (h : Happening) (Sent : ℕ → Text → Text → Type 0) → Seen h.config.topology h.before.broker h.after.broker h.event h.sends h.notes
     → ((p : Publishes h.config.topology h.before.broker h.after.broker h.event h.sends h.notes) (x key : Text) → Sent (number p) x key → IsItsOwn h p x key)
     → (CountsNone h.config.topology h.before.broker h.after.broker h.event h.sends h.notes → (q : Text) (y : Entry) → IsIn y (h.before.broker.queue q) → (x key : Text) → Sent y.message.number x key → IsSentTo y.message x key)
-    → IsSound h.config → IsSaid h.event → AreTraced h.config.topology h.before.broker → AllByRecursion (IsAllowed h.config.guarantees Sent) h.notes
-allowed_where h Sent (inl quiet) own known sound said traced = quiet_notes (IsAllowed h.config.guarantees Sent) (λ m r cause. tt) (λ m r. tt) died quiet
+    → IsSound h.config → IsSaid h.event → AreKept h.config h.before.broker → AllByRecursion (IsAllowed h.config.guarantees Sent) h.notes
+allowed_where h Sent (inl quiet) own known sound said kept = quiet_notes (IsAllowed h.config.guarantees Sent) (λ m r cause. tt) (λ m r. tt) died quiet
   where
     died : (n : ℕ) (r : Text) → HasDied h.config.topology h.before.broker.queue h.notes n r → IsAllowed h.config.guarantees Sent (Entered n r way.Dead)
     died n r d x key sent g in_gs m covers e =
-        let at = traced.each d.from d.entry d.there in
         let same = known quiet d.from d.entry d.there x key (subst (λ (k : ℕ). Sent k x key) (sym d.number) sent) in
         let covers' : Covers g d.entry.message.first_exchange d.entry.message.first_key = subst (λ (z : Text). Covers g z d.entry.message.first_key) same.0 (subst (λ (z : Text). Covers g x z) same.1 covers) in
-        come_here h.config.topology g (sound.hold g in_gs) m covers' at.short (by_death d.last at.come d.dies d.routes) e
-allowed_where h Sent (inr p) own known sound said traced = subst (AllByRecursion (IsAllowed h.config.guarantees Sent)) (sym (noted p)) (tt, others_all p _ (λ r. tt) entered tt (λ a. tt))
+        ((kept.each d.from d.entry d.there).safe g in_gs m covers').0 (subst (λ (z : Text). Later h.config.topology d.from d.entry.message.key z) e (one_death h.config.topology d.from d.exchange r d.entry.message.key d.last d.dies d.routes))
+allowed_where h Sent (inr p) own known sound said kept = subst (AllByRecursion (IsAllowed h.config.guarantees Sent)) (sym (noted p)) (tt, others_all p _ (λ r. tt) entered tt (λ a. tt))
   where
     entered : (r : Text) → IsIn r p.is.targets → IsAllowed h.config.guarantees Sent (Entered (number p) r way.Publish)
     entered r i x key sent g in_gs m covers e =
@@ -133,13 +136,13 @@ allowed_where h Sent (inr p) own known sound said traced = subst (AllByRecursion
 -- ---- what is known of messages that stand in queues
 
 -- at the event itself
-known_here : (h : Happening) → AreTraced h.config.topology h.before.broker → CountsNone h.config.topology h.before.broker h.after.broker h.event h.sends h.notes
+known_here : (h : Happening) → AreKept h.config h.before.broker → CountsNone h.config.topology h.before.broker h.after.broker h.event h.sends h.notes
     → (q : Text) (y : Entry) → IsIn y (h.before.broker.queue q) → (x key : Text) → WasSentTo h y.message.number x key → IsSentTo y.message x key
-known_here h traced quiet q y i x key (inl n) = absurd (no_publish quiet y.message.number x key n)
-known_here h traced quiet q y i x key (inr s) = let alike = traced.alike s.queue q s.entry y s.there i s.number in (sym s.exchange ∙ alike.exchange, sym s.first_key ∙ alike.key)
+known_here h kept quiet q y i x key (inl n) = absurd (no_publish quiet y.message.number x key n)
+known_here h kept quiet q y i x key (inr s) = let alike = kept.alike s.queue q s.entry y s.there i s.number in (sym s.exchange ∙ alike.exchange, sym s.first_key ∙ alike.key)
 
 -- what these notes say of the publish of a message is what the message says
-abbrev Agrees : List Note → Broker → Type 0
+abbrev pub Agrees : List Note → Broker → Type 0
 Agrees all b = (q : Text) (y : Entry) → IsIn y (b.queue q) → (x key : Text) → IsNoted all y.message.number x key → IsSentTo y.message x key
 
 -- the publishes of a run are counted after those of what stood there before it
@@ -147,7 +150,7 @@ agrees_at_first : (hs : List Happening) (old new : State) → AreCounted old.bro
 agrees_at_first hs old new counted r q y i x key (c, k, o, j) =
     absurd (not_of_others y.message.number c k x key o (notes_of hs) (run_of_others hs old new r y.message.number (stands_counted old.broker q y counted i)) j)
 
-agrees_on : (all : List Note) (h : Happening) → Placed all h → Step h.config h.before h.event h.sends h.notes h.after → Agrees all h.before.broker → Agrees all h.after.broker
+pub agrees_on : (all : List Note) (h : Happening) → Placed all h → Step h.config h.before h.event h.sends h.notes h.after → Agrees all h.before.broker → Agrees all h.after.broker
 agrees_on all h at s agrees q y i x key noted = by (rooted h.config.topology h.before.broker h.after.broker h.event h.sends h.notes q y (step_came h.config h.before h.after h.event h.sends h.notes s q y i))
   where
     by : Rooted h.config.topology h.before.broker h.after.broker h.event h.sends h.notes y.message → IsSentTo y.message x key
@@ -158,53 +161,45 @@ agrees_on all h at s agrees q y i x key noted = by (rooted h.config.topology h.b
 
 -- ---- runs
 
-sound_under : (f g : Config) → g ≡ f → IsSound f → IsSound g
-sound_under f g is sound = subst IsSound (sym is) sound
-
-traced_under : (f g : Config) (b : Broker) → g ≡ f → AreTraced f.topology b → AreTraced g.topology b
-traced_under f g b is traced = subst (λ (z : Config). AreTraced z.topology b) (sym is) traced
-
 -- the state before an event, and the one after it
-begun_at : (f : Config) (old : State) (h : Happening) → h.before ≡ old → h.config ≡ f → IsBegun f.topology old.broker → IsBegun h.config.topology h.before.broker
-begun_at f old h start is begun = record {
-  counted = subst (λ (z : State). AreCounted z.broker) (sym start) begun.counted;
-  traced = traced_under f h.config h.before.broker is (subst (λ (z : State). AreTraced f.topology z.broker) (sym start) begun.traced);
-}
+pub begun_at : (f : Config) (old : State) (h : Happening) → h.before ≡ old → h.config ≡ f → IsBegun f old.broker → IsBegun h.config h.before.broker
+begun_at f old h start is begun = subst (λ (g : Config). IsBegun g h.before.broker) (sym is) (subst (λ (z : State). IsBegun f z.broker) (sym start) begun)
 
-begun_after : (f : Config) (h : Happening) → h.config ≡ f → IsSaid h.event → IsBegun h.config.topology h.before.broker → Step h.config h.before h.event h.sends h.notes h.after → IsBegun f.topology h.after.broker
-begun_after f h is said begun s = record {
+pub begun_after : (h : Happening) → IsSound h.config → IsSaid h.event → IsBegun h.config h.before.broker → Step h.config h.before h.event h.sends h.notes h.after → IsBegun (config_after h) h.after.broker
+begun_after h sound said begun s = record {
   counted = counted_at h s begun.counted;
-  traced = traced_under h.config f h.after.broker (sym is) (step_traced h.config h.before h.after h.event h.sends h.notes said begun.counted begun.traced s);
+  kept = step_kept h.config h.before h.after h.event h.sends h.notes sound said begun.counted begun.kept s;
 }
 
--- In every run messages stay traced.
-pub run_begun : (f : Config) (hs : List Happening) (old new : State) → AreUnder f hs → AreSaid hs → IsBegun f.topology old.broker → Run old hs new → IsBegun f.topology new.broker
-run_begun f [] old new under said begun r = subst (λ (z : State). IsBegun f.topology z.broker) (sym r) begun
-run_begun f (h ∷ hs) old new under said begun (e, s, r) = run_begun f hs h.after new under.1 said.1 (begun_after f h under.0 said.0 (begun_at f old h e under.0 begun) s) r
+-- In every run messages may stand where they do.
+pub run_begun : (f last : Config) (hs : List Happening) (old new : State) → AreSound hs → InForce f hs last → AreSaid hs → IsBegun f old.broker → Run old hs new → IsBegun last new.broker
+run_begun f last [] old new sound force said begun r = subst (λ (g : Config). IsBegun g new.broker) (sym force) (subst (λ (z : State). IsBegun f z.broker) (sym r) begun)
+run_begun f last (h ∷ hs) old new sound force said begun (e, s, r) =
+    run_begun (config_after h) last hs h.after new sound.1 force.1 said.1 (begun_after h sound.0 said.0 (begun_at f old h e force.0 begun) s) r
 
 -- In every run no message, of a publish or a dead letter, entered a queue that was forbidden to its publish.
-pub run_allowed_in : (f : Config) (hs : List Happening) (old new : State) → IsSound f → AreUnder f hs → AreSaid hs → IsBegun f.topology old.broker → Run old hs new → AllByRecursion (AreAllowedIn (notes_of hs)) hs
-run_allowed_in f hs old new sound under said begun r = go hs old new r (places hs old new r) under said begun (agrees_at_first hs old new begun.counted r)
+pub run_allowed_in : (f last : Config) (hs : List Happening) (old new : State) → AreSound hs → InForce f hs last → AreSaid hs → IsBegun f old.broker → Run old hs new → AllByRecursion (AreAllowedIn (notes_of hs)) hs
+run_allowed_in f last hs old new sound force said begun r = go f hs old new r (places hs old new r) sound force said begun (agrees_at_first hs old new begun.counted r)
   where
     all : List Note
     all = notes_of hs
 
-    go : (es : List Happening) (from to : State) → Run from es to → AllByRecursion (Placed all) es → AreUnder f es → AreSaid es → IsBegun f.topology from.broker → Agrees all from.broker → AllByRecursion (AreAllowedIn all) es
-    go [] from to r at under said begun agrees = tt
-    go (e ∷ es) from to (start, s, r) at under said begun agrees =
-        let here = begun_at f from e start under.0 begun in
+    go : (g : Config) (es : List Happening) (from to : State) → Run from es to → AllByRecursion (Placed all) es → AreSound es → InForce g es last → AreSaid es → IsBegun g from.broker → Agrees all from.broker → AllByRecursion (AreAllowedIn all) es
+    go g [] from to r at sound force said begun agrees = tt
+    go g (e ∷ es) from to (start, s, r) at sound force said begun agrees =
+        let here = begun_at g from e start force.0 begun in
         let agrees' : Agrees all e.before.broker = subst (λ (z : State). Agrees all z.broker) (sym start) agrees in (
-          allowed_where e (IsNoted all) at.0.step (λ p x key. own_in_all e p all at.0 x key) (λ quiet q y i x key noted. agrees' q y i x key noted) (sound_under f e.config under.0 sound) said.0 here.traced,
-          go es e.after to r at.1 under.1 said.1 (begun_after f e under.0 said.0 here s) (agrees_on all e at.0 s agrees'),
+          allowed_where e (IsNoted all) at.0.step (λ p x key. own_in_all e p all at.0 x key) (λ quiet q y i x key noted. agrees' q y i x key noted) sound.0 said.0 here.kept,
+          go (config_after e) es e.after to r at.1 sound.1 force.1 said.1 (begun_after e sound.0 said.0 here s) (agrees_on all e at.0 s agrees'),
         )
 
 -- And each event by itself tells so.
-pub run_allowed : (f : Config) (hs : List Happening) (old new : State) → IsSound f → AreUnder f hs → AreSaid hs → IsBegun f.topology old.broker → Run old hs new → AllByRecursion AreAllowed hs
-run_allowed f [] old new sound under said begun r = tt
-run_allowed f (h ∷ hs) old new sound under said begun (e, s, r) =
-    let here = begun_at f old h e under.0 begun in (
-      allowed_where h (WasSentTo h) (seen_at h s) (λ p x key. own_known h p here.counted x key) (known_here h here.traced) (sound_under f h.config under.0 sound) said.0 here.traced,
-      run_allowed f hs h.after new sound under.1 said.1 (begun_after f h under.0 said.0 here s) r,
+pub run_allowed : (f last : Config) (hs : List Happening) (old new : State) → AreSound hs → InForce f hs last → AreSaid hs → IsBegun f old.broker → Run old hs new → AllByRecursion AreAllowed hs
+run_allowed f last [] old new sound force said begun r = tt
+run_allowed f last (h ∷ hs) old new sound force said begun (e, s, r) =
+    let here = begun_at f old h e force.0 begun in (
+      allowed_where h (WasSentTo h) (seen_at h s) (λ p x key. own_known h p here.counted x key) (known_here h here.kept) sound.0 said.0 here.kept,
+      run_allowed (config_after h) last hs h.after new sound.1 force.1 said.1 (begun_after h sound.0 said.0 here s) r,
     )
 
 -- ---- causes
@@ -259,22 +254,20 @@ run_letters_once hs old new sound r = letters_come_once hs sound (run_letters hs
 
 -- ---- all of it
 
-sound_each : (f : Config) (hs : List Happening) → IsSound f → AreUnder f hs → AreSound hs
-sound_each f [] sound under = tt
-sound_each f (h ∷ hs) sound under = (sound_under f h.config under.0 sound, sound_each f hs sound under.1)
-
 -- What happens in a run keeps the promises.
-pub run_keeps : (f : Config) (hs : List Happening) (old new : State) → IsSound f → AreUnder f hs → AreSaid hs → IsBegun f.topology old.broker → Run old hs new → KeepsEvents old.broker hs new.broker
-run_keeps f hs old new sound under said begun r = record {
-  entered = run_entered_once hs old new (sound_each f hs sound under) said r;
+pub run_keeps : (f last : Config) (hs : List Happening) (old new : State) → AreSound hs → InForce f hs last → AreSaid hs → IsBegun f old.broker → Run old hs new → KeepsEvents old.broker hs new.broker
+run_keeps f last hs old new sound force said begun r = record {
+  entered = run_entered_once hs old new sound said r;
   routed = run_routed hs old new r;
   numbered = run_numbers hs old new r;
-  never = run_allowed f hs old new sound under said begun r;
-  never_in_all = run_allowed_in f hs old new sound under said begun r;
+  never = run_allowed f last hs old new sound force said begun r;
+  never_in_all = run_allowed_in f last hs old new sound force said begun r;
   stays = run_stays hs old new r;
   causes = run_causes hs old new r;
   come = run_origins hs old new r;
-  letters = run_letters hs old new (sound_each f hs sound under) r;
-  once = run_letters_once hs old new (sound_each f hs sound under) r;
+  fresh = run_fresh hs old new r;
+  marked = run_marks hs old new r;
+  letters = run_letters hs old new sound r;
+  once = run_letters_once hs old new sound r;
   alone = run_aside hs old new r;
 }

@@ -46,14 +46,14 @@ abbrev pub AreOfOthers : ℕ → List Note → Type 0
 AreOfOthers n notes = AllByRecursion (λ (note : Note). is_of_publish n note ≡ false) notes
 
 -- an event notes only the publish that it counts
-step_of_others : (t : Topology) (old new : Broker) (e : Event) (sends : List Send) (notes : List Note) → Seen t old new e sends notes → (n : ℕ) → (n ≤ old.published) ⊎ (new.published < n) → AreOfOthers n notes
+pub step_of_others : (t : Topology) (old new : Broker) (e : Event) (sends : List Send) (notes : List Note) → Seen t old new e sends notes → (n : ℕ) → (n ≤ old.published) ⊎ (new.published < n) → AreOfOthers n notes
 step_of_others t old new e sends notes (inl q) n out = quiet_notes (λ (note : Note). is_of_publish n note ≡ false) (λ m r cause. refl) (λ m r. refl) (λ m r d. refl) q
 step_of_others t old new e sends notes (inr p) n out =
     let made : new.published ≡ old.published + 1 = p.is.left.counted in
     let ne : eqb (old.published + 1) n ≡ false = ne_eqb (old.published + 1) n (λ e. elim out [ inl le ↦ omega arith | inr lt ↦ omega arith ]) in
     subst (AreOfOthers n) (sym (noted p)) (ne, others_all p _ (λ r. refl) (λ r i. ne) refl (λ a. refl))
 
-step_grows : (t : Topology) (old new : Broker) (e : Event) (sends : List Send) (notes : List Note) → Seen t old new e sends notes → old.published ≤ new.published
+pub step_grows : (t : Topology) (old new : Broker) (e : Event) (sends : List Send) (notes : List Note) → Seen t old new e sends notes → old.published ≤ new.published
 step_grows t old new e sends notes (inl q) = let e = q.same in omega arith
 step_grows t old new e sends notes (inr p) = let e = p.is.left.counted in omega arith
 
@@ -136,7 +136,7 @@ acked_by_answer p =
 -- ---- routes
 
 -- the queue of a route is there
-routed_is_there : (t : Topology) (x key q : Text) → IsWellFormed t → Routes t x key q → IsIn q (queue_names t.queues)
+pub routed_is_there : (t : Topology) (x key q : Text) → IsWellFormed t → Routes t x key q → IsIn q (queue_names t.queues)
 routed_is_there t x key q wf (y, leads, edge) = go y q edge
   where
     go : (y q : Text) → Edge t (of_key key) y (place.Queue q) → IsIn q (queue_names t.queues)

@@ -3,12 +3,12 @@ use Rattle.std.proofs.Common.{◌≡◌, ◌≢◌, ◌+◌, ℕ, List, [], ◌�
 use Rattle.std.specs.Prelude.{◌==◌, if◌then◌else◌}
 use Rattle.std.proofs.lemmas.Bool.{eqb-true, eqb-false, false≢true}
 use Rattle.model.specs.Broker.{with_one}
-use Rattle.model.specs.Commands.{Stream, Yields, GoesOn, stays, goes as read_on, Ends, heard, new_stream, running_stream, with_max}
+use Rattle.model.specs.Commands.{Stream, Yields, GoesOn, stays, goes as read_on, Ends, heard, new_stream, running_stream}
 use Rattle.model.specs.Opening.{new_session}
 use Rattle.model.specs.Phases.{Session, running_session, no_session}
 use Rattle.model.specs.State.{Config, State, Step}
 use Rattle.model.specs.Run.{Happening}
-use Rattle.model.specs.Arrivals.{World, Wire, new_world, new_wire, wire_after, is_ended, is_over, is_gone, can_open, event_of, Reads, again, fresh, fault, SameToCome, still, waits, kept, Turns, Waits, Works, none_more, one_more, WorksOff, Takes_off, Delivers, Pumps, delivers, idles, Answers, Plays, with_heard}
+use Rattle.model.specs.Arrivals.{World, Wire, new_world, new_wire, wire_after, under_session, is_ended, is_over, is_gone, can_open, event_of, Reads, again, fresh, fault, SameToCome, still, waits, kept, Turns, Waits, Works, none_more, one_more, WorksOff, Takes_off, Delivers, Pumps, delivers, idles, Answers, Plays, with_heard}
 use Rattle.model.specs.declared.events.Command.{Command}
 use Rattle.model.specs.declared.events.Command.TheVariants.{Head, Plain, Full, TooLarge}
 use Rattle.model.specs.declared.events.Send.{Send}
@@ -108,7 +108,7 @@ one_all old new c after w a sessions wires here d =
 after_framed : (said : Bool) (s : Session) (next : Stream) (output : List ℕ) → said ≡ false → next.is_new ≡ false → OfWire said (wire_after s next output)
 after_framed said s next output framed new = by (is_ended s.phase)
   where
-    by : (v : Bool) → OfWire said (if v then record new_wire { output = output } else record { kept = None; stream = with_max s.frame_max next; output = output })
+    by : (v : Bool) → OfWire said (if v then record new_wire { output = output } else record { kept = None; stream = under_session s next; output = output })
     by true = sym framed
     by false = new ∙ sym framed
 

@@ -60,7 +60,7 @@ waiting-append (x ∷ xs) ys = go (is_fresh x) (waiting-append xs ys)
     go true e = ap (λ (ns : List ℕ). x.message.number ∷ ns) e
     go false e = e
 
-entered-append : (q : Text) (xs ys : List Note) → entered q (xs ++ ys) ≡ entered q xs ++ entered q ys
+pub entered-append : (q : Text) (xs ys : List Note) → entered q (xs ++ ys) ≡ entered q xs ++ entered q ys
 entered-append q [] ys = refl
 entered-append q (x ∷ xs) ys = ap (λ (ns : List ℕ). entered_by q x ++ ns) (entered-append q xs ys) ∙ sym (append_assoc (entered_by q x) (entered q xs) (entered q ys))
 
@@ -189,7 +189,7 @@ given_waits no_ack holder e es found = subst (IsPart (waiting (after_giving no_a
 -- ---- a publish
 
 -- what comes to a queue is what is noted as entered there
-comes_as_entered : (t : Topology) (entries : Text → List Entry) (m : Message) (q : Text) (w : Way) → m.redelivered ≡ false → (rs : List Text) → waiting (comes_to t entries m q rs) ≡ entered q (entry_notes t entries (length m.content.body) m.number w rs)
+pub comes_as_entered : (t : Topology) (entries : Text → List Entry) (m : Message) (q : Text) (w : Way) → m.redelivered ≡ false → (rs : List Text) → waiting (comes_to t entries m q rs) ≡ entered q (entry_notes t entries (length m.content.body) m.number w rs)
 comes_as_entered t entries m q w new [] = refl
 comes_as_entered t entries m q w new (r ∷ rs) = go (is_full t entries r (length m.content.body)) (bytes_eq r q) refl (comes_as_entered t entries m q w new rs)
   where
@@ -206,7 +206,7 @@ comes_as_entered t entries m q w new (r ∷ rs) = go (is_full t entries r (lengt
     go false true is e = ap (λ (b : Bool). ahead_if (not b) m.number (waiting rest)) new ∙ ap (λ (ns : List ℕ). m.number ∷ ns) e ∙ sym (ap (λ (b : Bool). (if b then m.number ∷ [] else []) ++ entered q notes) is)
     go false false is e = e ∙ sym (ap (λ (b : Bool). (if b then m.number ∷ [] else []) ++ entered q notes) is)
 
-entered_none : (q : Text) (notes : List Note) → AllByRecursion (λ (note : Note). entered_by q note ≡ []) notes → entered q notes ≡ []
+pub entered_none : (q : Text) (notes : List Note) → AllByRecursion (λ (note : Note). entered_by q note ≡ []) notes → entered q notes ≡ []
 entered_none q [] a = refl
 entered_none q (note ∷ notes) a = ap (λ (ns : List ℕ). ns ++ entered q notes) a.0 ∙ entered_none q notes a.1
 

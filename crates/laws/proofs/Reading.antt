@@ -107,7 +107,7 @@ method_ack h (BasicAck m) fits =
     bit false = refl
 method_ack h _ fits = refl
 
-cons_append : {A : Type 0} (o : Option A) (xs : List A) → cons_option o [] ++ xs ≡ cons_option o xs
+pub cons_append : {A : Type 0} (o : Option A) (xs : List A) → cons_option o [] ++ xs ≡ cons_option o xs
 cons_append None xs = refl
 cons_append (Some x) xs = refl
 

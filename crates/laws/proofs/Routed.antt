@@ -53,13 +53,13 @@ full_one p (x ∷ xs) e = go (p x) refl (full_one p xs) e
 
 module _ (h : Happening) (p : Publishes h.config.topology h.before.broker h.after.broker h.event h.sends h.notes) where
   abbrev IsRoom : Text → Type 0
-  IsRoom q = is_full_after h.config.topology h.before.broker.queue [] q ≡ false
+  IsRoom q = is_full_after h.config.topology h.before.broker.queue [] q (length (content p).body) ≡ false
 
   rooms : some_full p ≡ false → AllByRecursion IsRoom p.is.targets
   rooms e = all_each _ IsRoom (λ q no. sym (full_same h.config.topology h.before.broker.queue h.before.broker.queue [] (follows_itself h.before.broker.queue) (length (content p).body) q) ∙ no) p.is.targets
       (none_full (λ q. is_full h.config.topology h.before.broker.queue q (length (content p).body)) p.is.targets e)
 
-  one_full : some_full p ≡ true → (q : Text) × IsIn q p.is.targets × (is_full_after h.config.topology h.before.broker.queue [] q ≡ true)
+  one_full : some_full p ≡ true → (q : Text) × IsIn q p.is.targets × (is_full_after h.config.topology h.before.broker.queue [] q (length (content p).body) ≡ true)
   one_full e =
       let r = full_one (λ q. is_full h.config.topology h.before.broker.queue q (length (content p).body)) p.is.targets e in
       (r.0, r.1, sym (full_same h.config.topology h.before.broker.queue h.before.broker.queue [] (follows_itself h.before.broker.queue) (length (content p).body) r.0) ∙ r.2)

@@ -9,7 +9,7 @@ use Rattle.model.specs.Topology.{IsIn}
 use Rattle.model.specs.Frames.{Frame, frame_bytes, IsFrame, Begins}
 use Rattle.model.specs.Guarantee.{CoversKey}
 use Rattle.model.specs.Spelling.{method_frame, spelling}
-use Rattle.model.specs.Step.{consume_sends, return_of, returned_notes}
+use Rattle.model.specs.Step.{consume_sends, content_or_none, return_of, returned_notes}
 use Rattle.model.specs.Routing.{Routes, Picks, none as none_picked}
 use Rattle.model.specs.Topology.{Topology}
 use Rattle.model.specs.Consuming.{is_in_use, server_tag, first_free}
@@ -27,7 +27,7 @@ use Rattle.model.specs.declared.notes.Note.TheVariants.{Entered, Left}
 use Rattle.model.specs.declared.notes.Way.TheVariants.{Publish, Dead}
 use Rattle.model.specs.declared.notes.Cause.TheVariants.{Acked, Rejected}
 use Rattle.model.specs.declared.methods.Method.TheVariants.{ConfirmSelectOk, BasicAck}
-use Rattle.laws.specs.Rows.{first_published, first_sent, no_content, WordsOfKeys, FirstConsumer, RefusedConsumes, FirstInput, FirstOutput, BadEnd, TooLargeContent, HeadlineRefuses, select_ok, first_ack, multiple_ack, first_entry, with_entries, forbids, event_of_notes, one_event, vanishing, bad_end, wanted, first_acked, notes_without_entry, consumer_under, consuming_under}
+use Rattle.laws.specs.Rows.{first_published, first_sent, no_content, WordsOfKeys, FirstConsumer, RefusedConsumes, FullQueues, FirstInput, FirstOutput, BadEnd, TooLargeContent, HeadlineRefuses, select_ok, first_ack, multiple_ack, first_entry, with_entries, forbids, event_of_notes, one_event, vanishing, bad_end, wanted, first_acked, notes_without_entry, consumer_under, consuming_under}
 use Rattle.laws.proofs.Reading.{reading_apart, size_at, size_is, rest_is}
 
 pub words_of_keys : WordsOfKeys
@@ -88,7 +88,7 @@ unearned has =
     cc
 
 covers_new : CoversKey wanted (codes "new")
-covers_new = word none
+covers_new = record { pattern = word none; kept_in = λ e i m. i }
 
 nothing_entered : EnteredOnce notes_without_entry first_acked → ⊥
 nothing_entered once =
@@ -117,7 +117,7 @@ one_is_gone notes last new stays =
 
 forbidden : AreAllowed (event_of_notes (forbids ∷ []) (with_entries (first_entry ∷ [])) (Entered 1 (codes "bin") Dead ∷ []) (with_entries (first_entry ∷ []))) → ⊥
 forbidden allowed =
-    allowed.0 (codes "orders") (codes "new") (inr (record { queue = codes "audit"; entry = first_entry; there = inl refl; number = refl; exchange = refl; first_key = refl })) forbids (0, lit≤ tt, refl) refl (refl, word none) refl
+    allowed.0 (codes "orders") (codes "new") (inr (record { queue = codes "audit"; entry = first_entry; there = inl refl; number = refl; exchange = refl; first_key = refl })) forbids (0, lit≤ tt, refl) refl (refl, record { pattern = word none; kept_in = λ e i m. i }) refl
 
 -- one left by each of the two notes, where there was one
 both_left : Stays (with_entries (first_entry ∷ [])).broker (one_event (with_entries (first_entry ∷ [])) (Left 1 (codes "audit") Acked ∷ Left 1 (codes "audit") Acked ∷ []) (with_entries [])) (with_entries []).broker → ⊥
@@ -150,12 +150,12 @@ nothing = record { exchanges = []; queues = []; bindings = [] }
 
 -- nothing is routed where nothing is bound
 unrouted : EnterAsRouted (event_of_notes [] (with_entries []) (first_published ∷ Entered 1 (codes "audit") Publish ∷ []) (with_entries (first_entry ∷ []))) → ⊥
-unrouted enter = let e = enter 1 1 1 (codes "orders") (codes "new") None (inl refl) in nowhere e.targets e.goes_back e.routed (ap (drop 1) e.noted)
+unrouted enter = let e = enter 1 1 1 (codes "orders") (codes "new") None (inl refl) in nowhere (length (content_or_none e.given).body) e.targets e.goes_back e.routed (ap (drop 1) e.noted)
   where
-    nowhere : (targets : List Text) (back : Bool) → Picks (Routes nothing (codes "orders") (codes "new")) [] targets
-        → Entered 1 (codes "audit") Publish ∷ [] ≡ map (note_at nothing (with_entries []).broker.queue [] 1 Publish) targets ++ (returned_notes 1 back ++ []) → ⊥
-    nowhere targets true none_picked e = cc
-    nowhere targets false none_picked e = cc
+    nowhere : (size : ℕ) (targets : List Text) (back : Bool) → Picks (Routes nothing (codes "orders") (codes "new")) [] targets
+        → Entered 1 (codes "audit") Publish ∷ [] ≡ map (note_at nothing (with_entries []).broker.queue [] size 1 Publish) targets ++ (returned_notes 1 back ++ []) → ⊥
+    nowhere size targets true none_picked e = cc
+    nowhere size targets false none_picked e = cc
 
 -- the second has the number of the first
 same_number : CountUp 0 (filter_map number_in (first_published ∷ first_published ∷ [])) 2 → ⊥
@@ -245,3 +245,6 @@ first_consumes = record {
 
 pub refused_consumes : RefusedConsumes
 refused_consumes = record { no_queue = refl; exclusive = refl; in_use = refl; too_many = refl; spent = refl; none = refl }
+
+pub full_queues : FullQueues
+full_queues = record { long = refl; whole = refl; empty = refl; more = refl; passed = refl; count = refl; bytes = refl; neither = refl; unlimited = refl }

@@ -21,12 +21,12 @@ refixed None h f = refl
 refixed (Some k) h f = refl
 
 -- where a message comes under the key that a queue fixed, it comes that was there under its own
-comes_fixed : (t : Topology) (f : Option Text) (key : Text) {h : Option Text} {x q : Text} → Comes t (of_key (key_after f key)) h x q → Comes t (of_key key) (fixed_after h f) x q
+pub comes_fixed : (t : Topology) (f : Option Text) (key : Text) {h : Option Text} {x q : Text} → Comes t (of_key (key_after f key)) h x q → Comes t (of_key key) (fixed_after h f) x q
 comes_fixed t f key {h = h} {x = x} {q = q} (routed ro) = routed (subst (λ (r : Reading). RoutesBy t r x q) (same_reading h f key) ro)
 comes_fixed t f key {h = h} {x = x} {q = q} (dead {p = p} {exchange = y} last ro d c) =
     dead last (subst (λ (r : Reading). RoutesBy t r x p) (same_reading h f key) ro) d (subst (λ (o : Option Text). Comes t (of_key key) o y q) (sym (refixed last.dead_letter_key h f)) (comes_fixed t f key c))
 
-routes_after : (t : Topology) (f : Option Text) (key x q : Text) → Routes t x (key_after f key) q → RoutesBy t (reading_after f (of_key key)) x q
+pub routes_after : (t : Topology) (f : Option Text) (key x q : Text) → Routes t x (key_after f key) q → RoutesBy t (reading_after f (of_key key)) x q
 routes_after t None key x q r = r
 routes_after t (Some k) key x q r = r
 
@@ -63,7 +63,7 @@ forbidden t g x key q holds m covers short comes e =
 pub come_here : (t : Topology) (g : Guarantee) {x key y k p : Text} → Holds t g → g.mode ≡ Never → Covers g x key → length key ≤ 255 → HasCome t x key y k p → p ≡ g.queue → ⊥
 come_here t g {x = x} {key = key} {p = p} holds m covers short come = forbidden t g x key p holds m covers short (come_among come).here
 
-come_later : (t : Topology) (g : Guarantee) {x key y k p : Text} → Holds t g → g.mode ≡ Never → Covers g x key → length key ≤ 255 → HasCome t x key y k p → Later t p k g.queue → ⊥
+pub come_later : (t : Topology) (g : Guarantee) {x key y k p : Text} → Holds t g → g.mode ≡ Never → Covers g x key → length key ≤ 255 → HasCome t x key y k p → Later t p k g.queue → ⊥
 come_later t g {x = x} {key = key} holds m covers short come l = forbidden t g x key g.queue holds m covers short ((come_among come).later g.queue l) refl
 
 pub traced_are_safe : TracedAreSafe

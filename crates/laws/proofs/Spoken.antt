@@ -45,7 +45,7 @@ sent_append c hs ks =
     ap (λ (z : List Send). filter (λ s. receiver s == c) z) (flat_map-append (λ (h : Happening). h.sends) hs ks)
     ∙ filter-append (λ s. receiver s == c) (sends_of hs) (sends_of ks)
 
-own_sends : (c : ℕ) (sends : List Send) → AllByRecursion (λ s. receiver s ≡ c) sends → sends_to c sends ≡ sends
+pub own_sends : (c : ℕ) (sends : List Send) → AllByRecursion (λ s. receiver s ≡ c) sends → sends_to c sends ≡ sends
 own_sends c [] a = refl
 own_sends c (s ∷ sends) a = ap (λ (b : Bool). cond b (s ∷ sends_to c sends) (sends_to c sends)) (eq-eqb (receiver s) c a.0) ∙ ap (λ (z : List Send). s ∷ z) (own_sends c sends a.1)
 
@@ -164,7 +164,7 @@ speaks_at old new hs ks e s = subst (λ (z : List Happening). Speaks old z new) 
 
 -- ---- pauses
 
-settled_silent : (f : Config) (mid new : State) (c : ℕ) (was is : Bool) (hs : List Happening) → Pauses f mid c was is hs new → sends_of hs ≡ []
+pub settled_silent : (f : Config) (mid new : State) (c : ℕ) (was is : Bool) (hs : List Happening) → Pauses f mid c was is hs new → sends_of hs ≡ []
 settled_silent f mid new c false true hs (h, all, p) = ap sends_of all ∙ ap (λ (z : List Send). z ++ []) p.stepped.acts.sent
 settled_silent f mid new c true false hs (h, all, p) = ap sends_of all ∙ ap (λ (z : List Send). z ++ []) p.stepped.acts.sent
 settled_silent f mid new c true true hs p = ap sends_of p.0
@@ -182,7 +182,7 @@ awake_stands : (over paused : Bool) → (not over && not paused) ≡ true → ov
 awake_stands true paused e = absurd (false≢true e)
 awake_stands false paused e = refl
 
-puts_sends : (a b : World) (e : Event) (c : ℕ) (hs : List Happening) (p : Puts a e c hs b) → sends_of hs ≡ p.h.sends
+pub puts_sends : (a b : World) (e : Event) (c : ℕ) (hs : List Happening) (p : Puts a e c hs b) → sends_of hs ≡ p.h.sends
 puts_sends a b e c hs p =
     ap sends_of p.all ∙ ap (λ (z : List Send). p.h.sends ++ z) (settled_silent a.config p.mid b.state c _ _ p.rest p.pauses) ∙ append-nil p.h.sends
 

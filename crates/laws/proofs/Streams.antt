@@ -5,7 +5,7 @@ use Rattle.std.proofs.lemmas.Bool.{false≢true}
 use Rattle.model.specs.Words.{Text}
 use Rattle.model.specs.Frames.{Frame, frame_bytes, Begins, IsBroken}
 use Rattle.model.specs.Headers.{Header}
-use Rattle.model.specs.Commands.{Pending, Nothing, Wants_header, Wants_body, Drops, Taken, Goes_on, Makes, Breaks, Stream, TakesFirst, Takes, TakesOn, TakesPayload, TakesSized, Yields, first, now, later, Ends, early, short, broken, faulty, beyond, Commands, heard, with_max, awaited, is_on_wrong_channel, is_too_large, taken_body, taken_dropped, taken_header, taken_heartbeat, taken_method, GoesOn, stays, goes}
+use Rattle.model.specs.Commands.{Pending, Nothing, Wants_header, Wants_body, Drops, Taken, Goes_on, Makes, Breaks, Stream, TakesFirst, Takes, TakesOn, TakesPayload, TakesSized, Yields, first, now, later, Ends, early, short, broken, faulty, beyond, Commands, heard, with_max, keeping, awaited, is_on_wrong_channel, is_too_large, begun_body, taken_body, taken_dropped, taken_header, taken_heartbeat, taken_method, taken_piece, GoesOn, stays, goes}
 use Rattle.model.specs.declared.contents.Fields.{Fields as Properties}
 use Rattle.model.specs.declared.methods.Publish.{Publish}
 use Rattle.model.specs.declared.methods.Method.{Method}
@@ -69,7 +69,7 @@ cutting s last (d ∷ done) rest more end (next, y, r) c = (heard next more, yie
 
 pub tuning : (s last : Stream) (done : List CommandUnder) (more : List ℕ) → YieldsTuned s done last → YieldsTuned (heard s more) done (heard last more)
 tuning s last [] more e = ap (λ (z : Stream). heard z more) e
-tuning s last (d ∷ done) more (next, y, r) = (heard next more, yields_more more y, tuning (with_max d.frame_max next) last done more r)
+tuning s last (d ∷ done) more (next, y, r) = (heard next more, yields_more more y, tuning (keeping d.keeps (with_max d.frame_max next)) last done more r)
 
 -- ---- the first eight bytes
 
@@ -101,32 +101,40 @@ framed_heartbeat p f = by (f.channel == 0 && length f.payload == 0)
     by true = refl
     by false = refl
 
-framed_method : (h : ℕ) (r : Result Method ℕ) → is_head_made (taken_method h r) ≡ false
-framed_method h (Ok (BasicPublish p)) = refl
-framed_method h (Ok m) = refl
-framed_method h (Err code) = refl
+framed_method : (keeps : Bool) (h : ℕ) (r : Result Method ℕ) → is_head_made (taken_method keeps h r) ≡ false
+framed_method keeps h (Ok (BasicPublish p)) = refl
+framed_method keeps h (Ok m) = refl
+framed_method keeps h (Err code) = refl
 
-framed_header : (h : ℕ) (p : Publish) (r : Result Header ℕ) → is_head_made (taken_header h p r) ≡ false
-framed_header h p (Ok header) = framed_body h p header.properties header.size []
-framed_header h p (Err code) = refl
+framed_begun : (keeps : Bool) (h : ℕ) (p : Publish) (header : Header) → is_head_made (begun_body keeps h p header) ≡ false
+framed_begun true h p header = framed_body h p header.properties header.size []
+framed_begun false h p header = framed_dropped h header.size 0
 
-framed_sized : (p : Publish) (f : Frame) (r : Result ℕ ℕ) (taken : Taken) → TakesSized p f r taken → is_head_made taken ≡ false
-framed_sized p f (Ok size) taken t = from_either (is_too_large f.payload size) (λ e. ap is_head_made e ∙ framed_dropped f.channel size 0) (λ e. ap is_head_made e.2 ∙ framed_header f.channel p e.0) t
-framed_sized p f (Err code) taken t = ap is_head_made t
+framed_header : (keeps : Bool) (h : ℕ) (p : Publish) (r : Result Header ℕ) → is_head_made (taken_header keeps h p r) ≡ false
+framed_header keeps h p (Ok header) = framed_begun keeps h p header
+framed_header keeps h p (Err code) = refl
 
-framed_payload : (p : Pending) (f : Frame) (taken : Taken) → TakesPayload p f taken → is_head_made taken ≡ false
-framed_payload Nothing f taken t = ap is_head_made t.2 ∙ framed_method f.channel t.0
-framed_payload (Wants_header p) f taken t = framed_sized p f t.0 taken t.2
-framed_payload (Wants_body p properties size body) f taken t = ap is_head_made t ∙ framed_body f.channel p properties size (body ++ f.payload)
-framed_payload (Drops size count) f taken t = ap is_head_made t ∙ framed_dropped f.channel size (count + length f.payload)
+framed_piece : (keeps : Bool) (h : ℕ) (p : Publish) (properties : Properties) (size : ℕ) (body : Text) (piece : List ℕ) → is_head_made (taken_piece keeps h p properties size body piece) ≡ false
+framed_piece true h p properties size body piece = framed_body h p properties size (body ++ piece)
+framed_piece false h p properties size body piece = framed_dropped h size (length body + length piece)
 
-framed : (p : Pending) (f : Frame) (taken : Taken) → TakesOn p f taken → is_head_made taken ≡ false
-framed p f taken = from_either (f.kind == 8) (λ e. ap is_head_made e ∙ framed_heartbeat p f)
-    (from_either (is_on_wrong_channel f) (λ e. ap is_head_made e) (from_either (f.kind == awaited p) (framed_payload p f taken) (λ e. ap is_head_made e)))
+framed_sized : (keeps : Bool) (p : Publish) (f : Frame) (r : Result ℕ ℕ) (taken : Taken) → TakesSized keeps p f r taken → is_head_made taken ≡ false
+framed_sized keeps p f (Ok size) taken t = from_either (is_too_large f.payload size) (λ e. ap is_head_made e ∙ framed_dropped f.channel size 0) (λ e. ap is_head_made e.2 ∙ framed_header keeps f.channel p e.0) t
+framed_sized keeps p f (Err code) taken t = ap is_head_made t
+
+framed_payload : (keeps : Bool) (p : Pending) (f : Frame) (taken : Taken) → TakesPayload keeps p f taken → is_head_made taken ≡ false
+framed_payload keeps Nothing f taken t = ap is_head_made t.2 ∙ framed_method keeps f.channel t.0
+framed_payload keeps (Wants_header p) f taken t = framed_sized keeps p f t.0 taken t.2
+framed_payload keeps (Wants_body p properties size body) f taken t = ap is_head_made t ∙ framed_piece keeps f.channel p properties size body f.payload
+framed_payload keeps (Drops size count) f taken t = ap is_head_made t ∙ framed_dropped f.channel size (count + length f.payload)
+
+framed : (keeps : Bool) (p : Pending) (f : Frame) (taken : Taken) → TakesOn keeps p f taken → is_head_made taken ≡ false
+framed keeps p f taken = from_either (f.kind == 8) (λ e. ap is_head_made e ∙ framed_heartbeat p f)
+    (from_either (is_on_wrong_channel f) (λ e. ap is_head_made e) (from_either (f.kind == awaited p) (framed_payload keeps p f taken) (λ e. ap is_head_made e)))
 
 pub frames_read : {s next : Stream} {c : Command} → s.is_new ≡ false → Yields s c next → ReadsFrames c next
 frames_read n (first t) = absurd (false≢true (sym n ∙ t.awaited))
-frames_read n (now {s = s} {next = next} {c = c} t) = record { framed = framed (s.pending t.frame.channel) t.frame (Makes c) t.effect; begun = ap (λ (z : Stream). z.is_new) t.left ∙ n }
+frames_read n (now {s = s} {next = next} {c = c} t) = record { framed = framed s.keeps (s.pending t.frame.channel) t.frame (Makes c) t.effect; begun = ap (λ (z : Stream). z.is_new) t.left ∙ n }
 frames_read n (later t y) = frames_read (ap (λ (z : Stream). z.is_new) t.left ∙ n) y
 
 pub head_read : {s next : Stream} {c : Command} → s.is_new ≡ true → Yields s c next → ReadsHead s c next

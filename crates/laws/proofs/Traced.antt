@@ -1,6 +1,6 @@
 -- Where each message that stands in a queue came from, and so by which routes and deaths.
 use Rattle.std.proofs.Common.{◌≡◌, ◌≤◌, ◌+◌, arith, ℕ, List, [], ◌∷◌, Bool, true, false, refl, sym, ap, subst, ◌∙◌, map, length, not, Option, Some, None, inl, inr}
-use Rattle.std.specs.Prelude.{if◌then◌else◌}
+use Rattle.std.specs.Prelude.{◌&&◌, if◌then◌else◌}
 use Rattle.model.specs.Words.{Text}
 use Rattle.model.specs.Topology.{Topology, IsIn}
 use Rattle.model.specs.Arrivals.{IsSaid}
@@ -10,6 +10,7 @@ use Rattle.model.specs.Broker.{Outstanding, Channel, Connection, Broker, is_read
 use Rattle.model.specs.Entries.{is_under, by_channel, by_connection, freed}
 use Rattle.model.specs.Deliveries.{Settlement, Leaves, Rejects, Returns, AreSettled, AreLeft, AreReturned, with_queue, first_ready, holder_of, after_giving}
 use Rattle.model.specs.Message.{Message}
+use Rattle.model.specs.Order.{is_fresh}
 use Rattle.model.specs.Phases.{is_running}
 use Rattle.model.specs.Step.{Refusal, Ignored, Of_channel, Of_connection, Acts, Does, Gets, Settles, Performs, Refuses, Decides, OnConnection, OnLarge, IsDelivery, Is, channel_or_new, empty_publish, message, opened, refusal, refusal_of_large, with_freed, with_channel}
 use Rattle.model.specs.State.{Config, State, Step}
@@ -48,18 +49,41 @@ pub record AreSame (m o : Message) : Type 0 where
   pub exchange : m.exchange ≡ o.exchange
   pub key : m.key ≡ o.key
   pub content : m.content ≡ o.content
+  pub stood : m.stood ≡ o.stood
 
--- the entry is one of these, but for its mark and whether it was redelivered
+-- the entry is one of these, but for its mark and whether it was redelivered, which it is only where that one was given out
 pub record IsOneOf (es : List Entry) (x : Entry) : Type 0 where
   pub entry : Entry
   pub there : IsIn entry es
   pub same : AreSame x.message entry.message
+  pub marked : x.message.redelivered ≡ true → is_fresh entry ≡ false
+
+-- the entry is one of these, which was given out where this one is not as it entered
+record IsKeptOf (es : List Entry) (x : Entry) : Type 0 where
+  entry : Entry
+  there : IsIn entry es
+  same : AreSame x.message entry.message
+  given : is_fresh x ≡ false → is_fresh entry ≡ false
+
+-- one that is marked is not as it entered
+marked_given : (e : Entry) → e.message.redelivered ≡ true → is_fresh e ≡ false
+marked_given e is = ap (λ (b : Bool). is_ready e && not b) is ∙ go (is_ready e)
+  where
+    go : (v : Bool) → (v && false) ≡ false
+    go true = refl
+    go false = refl
+
+kept_is_one : (es : List Entry) (x : Entry) → IsKeptOf es x → IsOneOf es x
+kept_is_one es x k = record { entry = k.entry; there = k.there; same = k.same; marked = λ is. k.given (marked_given x is) }
 
 abbrev same_self : (m : Message) → AreSame m m
-same_self m = record { number = refl; first_exchange = refl; first_key = refl; exchange = refl; key = refl; content = refl }
+same_self m = record { number = refl; first_exchange = refl; first_key = refl; exchange = refl; key = refl; content = refl; stood = refl }
+
+itself_kept : (es : List Entry) (x : Entry) → IsIn x es → IsKeptOf es x
+itself_kept es x i = record { entry = x; there = i; same = same_self x.message; given = λ g. g }
 
 itself_one : (es : List Entry) (x : Entry) → IsIn x es → IsOneOf es x
-itself_one es x i = record { entry = x; there = i; same = same_self x.message }
+itself_one es x i = kept_is_one es x (itself_kept es x i)
 
 freed_same : (mine : Holder → Bool) (e : Entry) → AreSame (freed mine e).message e.message
 freed_same mine e = go e.message e.mark
@@ -72,28 +96,41 @@ freed_same mine e = go e.message e.mark
         made v = if v then record { message = record m { redelivered = true }; mark = Ready } else record { message = m; mark = Held g }
 
         by : (v : Bool) → AreSame (made v).message m
-        by true = record { number = refl; first_exchange = refl; first_key = refl; exchange = refl; key = refl; content = refl }
+        by true = record { number = refl; first_exchange = refl; first_key = refl; exchange = refl; key = refl; content = refl; stood = refl }
         by false = same_self m
 
-in_freed : (mine : Holder → Bool) (es : List Entry) (x : Entry) → IsIn x (map (freed mine) es) → IsOneOf es x
+-- what is freed was held
+freed_given : (mine : Holder → Bool) (e : Entry) → is_fresh (freed mine e) ≡ false → is_fresh e ≡ false
+freed_given mine e g = go e.message e.mark g
+  where
+    go : (m : Message) (k : Mark) → is_fresh (freed mine (record { message = m; mark = k })) ≡ false → is_fresh (record { message = m; mark = k }) ≡ false
+    go m Ready g = g
+    go m (Held holder) g = refl
+
+in_freed : (mine : Holder → Bool) (es : List Entry) (x : Entry) → IsIn x (map (freed mine) es) → IsKeptOf es x
 in_freed mine [] x i = absurd i
-in_freed mine (e ∷ es) x (inl is) = record { entry = e; there = inl refl; same = subst (λ (z : Entry). AreSame z.message e.message) (sym is) (freed_same mine e) }
-in_freed mine (e ∷ es) x (inr i) = let r = in_freed mine es x i in record { entry = r.entry; there = inr r.there; same = r.same }
+in_freed mine (e ∷ es) x (inl is) = record {
+  entry = e;
+  there = inl refl;
+  same = subst (λ (z : Entry). AreSame z.message e.message) (sym is) (freed_same mine e);
+  given = λ g. freed_given mine e (ap is_fresh (sym is) ∙ g);
+}
+in_freed mine (e ∷ es) x (inr i) = let r = in_freed mine es x i in record { entry = r.entry; there = inr r.there; same = r.same; given = r.given }
 
 given_one : (no_ack : Bool) (g : Holder) (e : Entry) (es : List Entry) → first_ready es ≡ Some e → (x : Entry) → IsIn x (after_giving no_ack g es) → IsOneOf es x
 given_one no_ack g e es found x i = elim (in_given no_ack g e es found x i) [
   | inl j ↦ itself_one es x j
-  | inr is ↦ record { entry = e; there = (find_in is_ready e es found).0; same = subst (λ (z : Entry). AreSame z.message e.message) (sym is) (same_self e.message) }
+  | inr is ↦ record { entry = e; there = (find_in is_ready e es found).0; same = subst (λ (z : Entry). AreSame z.message e.message) (sym is) (same_self e.message); marked = λ m. marked_given e (ap (λ (z : Entry). z.message.redelivered) (sym is) ∙ m) }
 ]
 
 -- ---- settled deliveries
 
 -- what stands in each new queue stood there before
 abbrev Stays : (Text → List Entry) → (Text → List Entry) → Type 0
-Stays old new = (q : Text) (x : Entry) → IsIn x (new q) → IsOneOf (old q) x
+Stays old new = (q : Text) (x : Entry) → IsIn x (new q) → IsKeptOf (old q) x
 
-one_of_one : (old mid : List Entry) (x : Entry) → ((y : Entry) → IsIn y mid → IsOneOf old y) → IsOneOf mid x → IsOneOf old x
-one_of_one old mid x before r =
+kept_of_kept : (old mid : List Entry) (x : Entry) → ((y : Entry) → IsIn y mid → IsKeptOf old y) → IsKeptOf mid x → IsKeptOf old x
+kept_of_kept old mid x before r =
     let b = before r.entry r.there in
     record {
       entry = b.entry;
@@ -105,22 +142,24 @@ one_of_one old mid x before r =
         exchange = r.same.exchange ∙ b.same.exchange;
         key = r.same.key ∙ b.same.key;
         content = r.same.content ∙ b.same.content;
+        stood = r.same.stood ∙ b.same.stood;
       };
+      given = λ g. b.given (r.given g);
     }
 
 stays_same : (old new : Text → List Entry) → ((q : Text) → new q ≡ old q) → Stays old new
-stays_same old new is q x i = itself_one (old q) x (subst (IsIn x) (is q) i)
+stays_same old new is q x i = itself_kept (old q) x (subst (IsIn x) (is q) i)
 
 left_stays : (cause : Cause) (c h : ℕ) (os : List Outstanding) (old : Text → List Entry) (notes : List Note) (new : Text → List Entry) → AreLeft cause c h os old notes new → Stays old new
 left_stays cause c h [] old notes new a q x i = stays_same old new a.1 q x i
 left_stays cause c h (o ∷ os) old notes new (mid, rest, is, all, more) q x i =
-    one_of_one (old q) (mid q) x (λ y j. itself_one (old q) y (in_rest c h old o y q (subst (IsIn y) (is q) j))) (left_stays cause c h os mid rest new more q x i)
+    kept_of_kept (old q) (mid q) x (λ y j. itself_kept (old q) y (in_rest c h old o y q (subst (IsIn y) (is q) j))) (left_stays cause c h os mid rest new more q x i)
 
 returned_stays : (c h : ℕ) (os : List Outstanding) (old new : Text → List Entry) → AreReturned c h os old new → Stays old new
 returned_stays c h [] old new same q x i = stays_same old new same q x i
 returned_stays c h (o ∷ os) old new (mid, is, more) q x i =
-    one_of_one (old q) (mid q) x
-    (λ y j. at_queue (λ (r : Text) (es : List Entry). IsIn y es → IsOneOf (old r) y) old o.queue _ (in_freed (is_under (holder_of c h o)) (old o.queue) y) (λ r other. itself_one (old r) y) q (subst (IsIn y) (is q) j))
+    kept_of_kept (old q) (mid q) x
+    (λ y j. at_queue (λ (r : Text) (es : List Entry). IsIn y es → IsKeptOf (old r) y) old o.queue _ (in_freed (is_under (holder_of c h o)) (old o.queue) y) (λ r other. itself_kept (old r) y) q (subst (IsIn y) (is q) j))
     (returned_stays c h os mid new more q x i)
 
 -- ---- where each entry came from
@@ -136,13 +175,13 @@ module _ (t : Topology) (old new : Broker) (sends : List Send) (notes : List Not
   AllCame e = (q : Text) (x : Entry) → IsIn x (new.queue q) → Came t old new e sends notes q x
 
   stays : (e : Event) → Stays old.queue new.queue → AllCame e
-  stays e s q x i = stood (s q x i)
+  stays e s q x i = stood (kept_is_one (old.queue q) x (s q x i))
 
   same : (e : Event) → ((q : Text) → new.queue q ≡ old.queue q) → AllCame e
   same e is = stays e (stays_same old.queue new.queue is)
 
   free : (e : Event) (mine : Holder → Bool) → ((q : Text) → new.queue q ≡ map (freed mine) (old.queue q)) → AllCame e
-  free e mine is q x i = stood (in_freed mine (old.queue q) x (subst (IsIn x) (is q) i))
+  free e mine is q x i = stood (kept_is_one (old.queue q) x (in_freed mine (old.queue q) x (subst (IsIn x) (is q) i)))
 
   -- one queue is another
   other : (e : Event) (name : Text) (entries : List Entry) → ((q : Text) → new.queue q ≡ with_queue old.queue name entries q) → ((x : Entry) → IsIn x entries → IsOneOf (old.queue name) x) → AllCame e
@@ -215,7 +254,7 @@ module _ (t : Topology) (old new : Broker) (sends : List Send) (notes : List Not
   too_large c h (Some conn) p = refuses (TooLarge c h) c h (ids_of empty_publish) (refusal_of_large conn h (old.channel c h)) p
 
   -- At each event of the broker it is known where each entry came from.
-  came : (e : Event) → Acts t old e sends notes new → AllCame e
+  pub came : (e : Event) → Acts t old e sends notes new → AllCame e
   came (Open c) p = same (Open c) p.left.queues
   came (First c bytes) p = same (First c bytes) p.left.queues
   came (Running c max k) p = free (Running c max k) (by_connection c) p.left.queues
@@ -238,6 +277,10 @@ step_came f old new e sends notes s = elim (goes f old new sends notes e s) [
   | inl p ↦ came f.topology old.broker new.broker sends notes e p.acts
   | inr a ↦ moved f.topology old.broker new.broker sends notes e (event_connection e) a.move.next.channel_max (is_running a.move.next.phase) a.moves.broker
 ]
+
+-- messages of one publish were first sent to the same place
+abbrev pub Alike : Broker → Type 0
+Alike b = (q r : Text) (e d : Entry) → IsIn e (b.queue q) → IsIn d (b.queue r) → e.message.number ≡ d.message.number → AreSentAlike e.message d.message
 
 -- ---- each is traced
 
@@ -285,18 +328,18 @@ module _ (t : Topology) (old new : Broker) (e : Event) (sends : List Send) (note
   apart : AreCounted old → (q : Text) (y : Entry) → IsIn y (old.queue q) → (n : ℕ) → n ≡ y.message.number → n ≡ old.published + 1 → ⊥
   apart counted q y i n is one = let le = stands_counted old q y counted i in omega (arith, le, is, one)
 
-  both_alike : AreCounted old → AreTraced t old → (m o : Message) → m.number ≡ o.number → Rooted m → Rooted o → AreSentAlike m o
-  both_alike counted traced m o e (before q y i n a) (before r z j k b) =
-      let s = traced.alike q r y z i j (sym n ∙ e ∙ k) in
+  pub both_alike : AreCounted old → Alike old → (m o : Message) → m.number ≡ o.number → Rooted m → Rooted o → AreSentAlike m o
+  both_alike counted alike m o e (before q y i n a) (before r z j k b) =
+      let s = alike q r y z i j (sym n ∙ e ∙ k) in
       record { exchange = a.exchange ∙ s.exchange ∙ sym b.exchange; key = a.key ∙ s.key ∙ sym b.key }
-  both_alike counted traced m o e (before q y i n a) (now p one x k) = absurd (apart counted q y i m.number n (e ∙ one))
-  both_alike counted traced m o e (now p one x k) (before r z j n b) = absurd (apart counted r z j o.number n (sym e ∙ one))
-  both_alike counted traced m o e (now p one x k) (now p' one' x' k') = record { exchange = x ∙ sym x'; key = k ∙ sym k' }
+  both_alike counted alike m o e (before q y i n a) (now p one x k) = absurd (apart counted q y i m.number n (e ∙ one))
+  both_alike counted alike m o e (now p one x k) (before r z j n b) = absurd (apart counted r z j o.number n (sym e ∙ one))
+  both_alike counted alike m o e (now p one x k) (now p' one' x' k') = record { exchange = x ∙ sym x'; key = k ∙ sym k' }
 
   pub traced_on : IsSaid e → AreCounted old → AreTraced t old → AllCame t old new sends notes e → AreTraced t new
   traced_on said counted traced all = record {
     each = λ q x i. each_come said traced q x (all q x i);
-    alike = λ q r x z i j same. both_alike counted traced x.message z.message same (rooted q x (all q x i)) (rooted r z (all r z j));
+    alike = λ q r x z i j same. both_alike counted traced.alike x.message z.message same (rooted q x (all q x i)) (rooted r z (all r z j));
   }
 
 pub stay_traced : MessagesStayTraced

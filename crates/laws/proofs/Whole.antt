@@ -1,36 +1,42 @@
 -- Certified delivery: whatever arrives, the headline holds of what is seen.
-use Rattle.std.proofs.Common.{◌≡◌, ◌<◌, ◌≤◌, ◌+◌, ℕ, List, [], ◌∷◌, ◌++◌, refl, sym, ap, subst, ◌∙◌, ◌⊎◌, inl, inr, arith}
-use Rattle.std.specs.Prelude.{filter_map, flat_map, ◌==◌, drop, slice_index_or}
+use Rattle.std.proofs.Common.{◌≡◌, ◌<◌, ◌≤◌, ◌+◌, ℕ, List, [], ◌∷◌, ◌++◌, refl, sym, ap, subst, ◌∙◌, ◌⊎◌, inl, inr, append-nil, arith}
+use Rattle.std.specs.Prelude.{filter_map, flat_map, ◌==◌, drop, slice_get, slice_index_or, Some}
 use Rattle.std.specs.List.{AllByRecursion}
 use Rattle.std.proofs.lemmas.Grind.{flat_map-append}
 use Rattle.std.proofs.lemmas.List.Elements.{filter-append, filter_map-append}
 use Rattle.std.proofs.lemmas.Option.{same_Some, slice_get_within}
 use Rattle.model.specs.Frames.{Frame, frame_bytes, IsFrame}
 use Rattle.model.specs.Consistent.{IsConsistent}
-use Rattle.model.specs.State.{Config, State}
+use Rattle.model.specs.State.{Config, State, Step}
 use Rattle.model.specs.Run.{Happening, Run, sends_of, put_out, empty_state}
 use Rattle.model.specs.Spelling.{frames_of, send_bytes, spelling, receiver, sends_to, eight_bytes}
 use Rattle.model.specs.Arrivals.{World, new_world, Turns, Pumps, Plays, Shows, Shown, Seen, shown}
 use Rattle.model.specs.Acks.{Ack, acks_in, HasAcksOf, acked}
+use Rattle.model.specs.Nacks.{Nack, nacks_in, nacks_of, HasNacks}
 use Rattle.model.specs.Order.{IsAfterThoseAhead, HoldsWhatWasGiven, GivesInOrder}
 use Rattle.model.specs.Headline.{IsSound, KeepsEvents, KeepsPromises}
 use Rattle.model.specs.declared.events.Send.{Send}
 use Rattle.model.specs.declared.events.Send.TheVariants as send
+use Rattle.model.specs.declared.events.Event.{Event}
 use Rattle.model.specs.declared.events.Arrival.{Arrival}
-use Rattle.laws.specs.Promises.{ack_sent}
+use Rattle.model.specs.declared.notes.Note.{Note}
+use Rattle.laws.specs.Promises.{ack_sent, nack_sent}
 use Rattle.laws.specs.Accounts.{Lasts}
+use Rattle.laws.specs.Delivery.{TurnsConfirm}
 use Rattle.laws.proofs.Kept.{run_lasts}
 use Rattle.laws.proofs.Giving.{held_are_given}
 use Rattle.laws.proofs.Ordered.{after_those_ahead, given_in_order}
 use Rattle.laws.proofs.Sources.{given_as_published}
 use Rattle.laws.proofs.Counts.{all-append, all_each, filter_all}
 use Rattle.laws.proofs.Reading.{sent_acks, frames_each}
-use Rattle.laws.proofs.Plays.{IsPut, IsTold, Told, said_each, under_each, told_turns, told_plays, told_pumps}
+use Rattle.laws.proofs.Plays.{IsPut, IsTold, Told, said_each, sound_each, told_turns, told_plays, told_pumps}
 use Rattle.laws.proofs.Speaking.{IsCommandSend, AreCommandSends}
-use Rattle.laws.proofs.Spoken.{sent_to, is_spoken}
-use Rattle.laws.proofs.Traced.{stay_traced}
+use Rattle.laws.proofs.Spoken.{sent_to, is_spoken, own_sends, puts_sends, settled_silent}
+use Rattle.laws.proofs.View.{IsAnswerAtMost, goes, acted, acted_commands}
+use Rattle.laws.proofs.Keeping.{stay_kept}
 use Rattle.laws.proofs.Never.{run_keeps}
 use Rattle.laws.proofs.Acks.{run_acks}
+use Rattle.laws.proofs.Nacks.{run_nacks, sent_nacks}
 
 -- ---- the output of one connection, as frames
 
@@ -79,6 +85,11 @@ nothing_put_out c (h ∷ hs) none = go (sends_to c h.sends) (nothing_put_out c h
     go [] rest e = rest e
     go (x ∷ first) rest e = absurd (cc)
 
+-- where nothing more is sent, what one happening sent is all that is put out
+put_out_once : (c : ℕ) (h : Happening) (rest : List Happening) → sends_to c h.sends ≡ h.sends → sends_of rest ≡ [] → put_out c (h ∷ rest) ≡ spelling h.frame_max h.sends
+put_out_once c h rest own none =
+    ap (λ (z : List ℕ). spelling h.frame_max (sends_to c h.sends) ++ z) (nothing_put_out c rest (ap (sends_to c) none)) ∙ append-nil _ ∙ ap (spelling h.frame_max) own
+
 greeting_put_out : (c : ℕ) (hs : List Happening) → sent_to c hs ≡ send.Greeting c ∷ [] → put_out c hs ≡ eight_bytes
 greeting_put_out c [] one = absurd (cc)
 greeting_put_out c (h ∷ hs) one = go (sends_to c h.sends) (greeting_put_out c hs) (sym (sent_on c h hs) ∙ one)
@@ -102,30 +113,76 @@ frames_fit_at c h p = go p.bounded
     go (inl e) = subst (λ (s : List Send). AllByRecursion (IsFrame 131072) (flat_map (frames_of h.frame_max) (sends_to c s))) (sym e) tt
     go (inr small) = weaker h.frame_max small _ (frames_each h.frame_max (sends_to c h.sends) (filter_all _ (λ x. receiver x == c) h.sends p.spelled))
 
-frames_fit : (f : Config) (c : ℕ) (hs : List Happening) → AllByRecursion (IsTold f) hs → AllByRecursion (IsFrame 131072) (frames_put c hs)
-frames_fit f c [] a = tt
-frames_fit f c (h ∷ hs) a = all-append (IsFrame 131072) (frames_at c h) (frames_put c hs) (frames_fit_at c h a.0.put) (frames_fit f c hs a.1)
+frames_fit : (c : ℕ) (hs : List Happening) → AllByRecursion IsTold hs → AllByRecursion (IsFrame 131072) (frames_put c hs)
+frames_fit c [] a = tt
+frames_fit c (h ∷ hs) a = all-append (IsFrame 131072) (frames_at c h) (frames_put c hs) (frames_fit_at c h a.0.put) (frames_fit c hs a.1)
 
-frames_acks : (f : Config) (c : ℕ) (hs : List Happening) → AllByRecursion (IsTold f) hs → acks_in (frames_put c hs) ≡ filter_map ack_sent (sends_to c (sends_of hs))
-frames_acks f c [] a = refl
-frames_acks f c (h ∷ hs) a =
+frames_acks : (c : ℕ) (hs : List Happening) → AllByRecursion IsTold hs → acks_in (frames_put c hs) ≡ filter_map ack_sent (sends_to c (sends_of hs))
+frames_acks c [] a = refl
+frames_acks c (h ∷ hs) a =
     filter_map-append _ (frames_at c h) (frames_put c hs)
     ∙ ap (λ (z : List Ack). z ++ acks_in (frames_put c hs)) (sent_acks h.frame_max (sends_to c h.sends) (filter_all _ (λ x. receiver x == c) h.sends a.0.put.spelled))
-    ∙ ap (λ (z : List Ack). filter_map ack_sent (sends_to c h.sends) ++ z) (frames_acks f c hs a.1)
+    ∙ ap (λ (z : List Ack). filter_map ack_sent (sends_to c h.sends) ++ z) (frames_acks c hs a.1)
     ∙ sym (filter_map-append ack_sent (sends_to c h.sends) (sends_to c (sends_of hs)))
     ∙ ap (λ (z : List Send). filter_map ack_sent z) (sym (filter-append (λ x. receiver x == c) h.sends (sends_of hs)))
 
-has_acks : (f : Config) (old new : State) (c : ℕ) (hs : List Happening) → AllByRecursion (IsTold f) hs → Run old hs new → AreCommandSends (sent_to c hs) ⊎ (sent_to c hs ≡ send.Greeting c ∷ []) → HasAcksOf (acked c hs) (put_out c hs)
-has_acks f old new c hs a run (inl commands) = record {
+has_acks : (old new : State) (c : ℕ) (hs : List Happening) → AllByRecursion IsTold hs → Run old hs new → AreCommandSends (sent_to c hs) ⊎ (sent_to c hs ≡ send.Greeting c ∷ []) → HasAcksOf (acked c hs) (put_out c hs)
+has_acks old new c hs a run (inl commands) = record {
   frames = frames_put c hs;
-  reading = inl (record { parts = put_out_is c hs commands; each = frames_fit f c hs a });
-  acks = frames_acks f c hs a ∙ run_acks hs old new run c;
+  reading = inl (record { parts = put_out_is c hs commands; each = frames_fit c hs a });
+  acks = frames_acks c hs a ∙ run_acks hs old new run c;
 }
-has_acks f old new c hs a run (inr greeting) = record {
+has_acks old new c hs a run (inr greeting) = record {
   frames = [];
   reading = inr (greeting_put_out c hs greeting, refl);
   acks = sym (ap (λ (z : List Send). filter_map ack_sent z) greeting) ∙ run_acks hs old new run c;
 }
+
+frames_nacks : (c : ℕ) (hs : List Happening) → AllByRecursion IsTold hs → nacks_in (frames_put c hs) ≡ filter_map nack_sent (sends_to c (sends_of hs))
+frames_nacks c [] a = refl
+frames_nacks c (h ∷ hs) a =
+    filter_map-append _ (frames_at c h) (frames_put c hs)
+    ∙ ap (λ (z : List Nack). z ++ nacks_in (frames_put c hs)) (sent_nacks h.frame_max (sends_to c h.sends) (filter_all _ (λ x. receiver x == c) h.sends a.0.put.spelled))
+    ∙ ap (λ (z : List Nack). filter_map nack_sent (sends_to c h.sends) ++ z) (frames_nacks c hs a.1)
+    ∙ sym (filter_map-append nack_sent (sends_to c h.sends) (sends_to c (sends_of hs)))
+    ∙ ap (λ (z : List Send). filter_map nack_sent z) (sym (filter-append (λ x. receiver x == c) h.sends (sends_of hs)))
+
+has_nacks : (old new : State) (c : ℕ) (hs : List Happening) → AllByRecursion IsTold hs → Run old hs new → AreCommandSends (sent_to c hs) ⊎ (sent_to c hs ≡ send.Greeting c ∷ []) → HasNacks (nacks_of c hs) (put_out c hs)
+has_nacks old new c hs a run (inl commands) = record {
+  frames = frames_put c hs;
+  reading = inl (record { parts = put_out_is c hs commands; each = frames_fit c hs a });
+  nacks = frames_nacks c hs a ∙ run_nacks hs old new run c;
+}
+has_nacks old new c hs a run (inr greeting) = record {
+  frames = [];
+  reading = inr (greeting_put_out c hs greeting, refl);
+  nacks = sym (ap (λ (z : List Send). filter_map nack_sent z) greeting) ∙ run_nacks hs old new run c;
+}
+
+-- ---- what one turn puts out
+
+-- one answer at most is a command, or the protocol header
+answer_spoken : (c : ℕ) (sends : List Send) → IsAnswerAtMost sends → AllByRecursion (λ s. receiver s ≡ c) sends → AreCommandSends sends ⊎ (sends ≡ send.Greeting c ∷ [])
+answer_spoken c [] few own = inl tt
+answer_spoken c (send.Greeting d ∷ sends) few own = inr (ap (λ (z : List Send). send.Greeting d ∷ z) few ∙ ap (λ (n : ℕ). send.Greeting n ∷ []) own.0)
+answer_spoken c (send.Command d h m content ∷ sends) few own = inl (tt, subst AreCommandSends (sym few.1) tt)
+
+-- so is what one step sends
+step_answers_so : (f : Config) (old new : State) (c : ℕ) (e : Event) (sends : List Send) (notes : List Note) → Step f old e sends notes new → AllByRecursion (λ s. receiver s ≡ c) sends → AreCommandSends sends ⊎ (sends ≡ send.Greeting c ∷ [])
+step_answers_so f old new c e sends notes s own = elim (goes f old new sends notes e s) [
+  | inl p ↦ inl (acted_commands f.topology old.broker new.broker e sends notes (acted f.topology old.broker new.broker sends notes e p.acts))
+  | inr a ↦ answer_spoken c sends (subst IsAnswerAtMost (sym a.moves.sent) a.few) own
+]
+
+pub turn_confirms : TurnsConfirm
+turn_confirms old new c hs t =
+    let p = t.puts in
+    let told = told_turns old new c hs t in
+    let own : sent_to c hs ≡ p.h.sends = ap (sends_to c) (puts_sends old new t.event c hs p) ∙ own_sends c p.h.sends p.own in
+    let spoken = subst (λ (z : List Send). AreCommandSends z ⊎ (z ≡ send.Greeting c ∷ [])) (sym own) (step_answers_so old.config old.state p.mid c t.event p.h.sends p.h.notes p.happens.stepped p.own) in (
+      p.output ∙ ap (λ (z : List ℕ). (old.wire c).output ++ z) (sym (put_out_once c p.h p.rest (own_sends c p.h.sends p.own) (settled_silent old.config p.mid new.state c _ _ p.rest p.pauses)) ∙ ap (put_out c) (sym p.all)),
+      record { acks = has_acks old.state new.state c hs told.each told.run spoken; nacks = has_nacks old.state new.state c hs told.each told.run spoken },
+    )
 
 -- ---- order
 
@@ -145,7 +202,7 @@ gives_in_order hs new r = record { in_order = λ q ns g. given_in_order q hs emp
 -- what happened in a consistent world
 told_keeps : (old new : World) (hs : List Happening) → IsSound old.config → IsConsistent old → Told old hs new → KeepsEvents old.state.broker hs new.state.broker
 told_keeps old new hs sound consistent told =
-    run_keeps old.config hs old.state new.state sound (under_each old.config hs told.each) (said_each old.config hs told.each) (record { counted = consistent.counted; traced = consistent.traced }) told.run
+    run_keeps old.config new.config hs old.state new.state (sound_each old.config new.config hs told.in_force sound) told.in_force (said_each hs told.each) (record { counted = consistent.counted; kept = consistent.kept }) told.run
 
 pub turn_keeps : (old new : World) (c : ℕ) (hs : List Happening) → IsSound old.config → IsConsistent old → Turns old c hs new → KeepsEvents old.state.broker hs new.state.broker
 turn_keeps old new c hs sound consistent turns = told_keeps old new hs sound consistent (told_turns old new c hs turns)
@@ -158,7 +215,7 @@ pub promises_hold : (f : Config) (hs : List Happening) (w : World) (seen : Seen)
     → IsSound f → Told (new_world f) hs w → ((c : ℕ) → AreCommandSends (sent_to c hs) ⊎ (sent_to c hs ≡ send.Greeting c ∷ [])) → Shows hs w seen → KeepsPromises hs w.state.broker seen.connections
 promises_hold f hs w seen sound told spoken shows =
     record {
-      events = run_keeps f hs empty_state w.state sound (under_each f hs told.each) (said_each f hs told.each) (record { counted = λ n q lt. refl; traced = stay_traced.empty f.topology }) told.run;
+      events = run_keeps f w.config hs empty_state w.state (sound_each f w.config hs told.in_force sound) told.in_force (said_each hs told.each) (record { counted = λ n q lt. refl; kept = stay_kept.empty f }) told.run;
       agreed = all_each Lasts _ (λ h l. l.agreed) hs lasts;
       present = all_each Lasts _ (λ h l. l.present) hs lasts;
       logged_in = all_each Lasts _ (λ h l. l.logged_in) hs lasts;
@@ -166,15 +223,20 @@ promises_hold f hs w seen sound told spoken shows =
       accounted = all_each Lasts _ (λ h l. l.accounted) hs lasts;
       gets = all_each Lasts _ (λ h l. l.gets) hs lasts;
       purges = all_each Lasts _ (λ h l. l.purges) hs lasts;
+      taken = all_each Lasts _ (λ h l. l.taken) hs lasts;
       order = gives_in_order hs w.state told.run;
       contents = given_as_published hs empty_state w.state (λ q. refl) told.run;
-      acks = λ i one e.
-          let within : i < w.given = subst (λ (n : ℕ). i < n) shows.counted (slice_get_within seen.connections i one e) in
-          let is : one ≡ shown hs w (i + 1) = same_Some one (shown hs w (i + 1)) (sym e ∙ shows.each i within) in
-          let output : one.output ≡ put_out (i + 1) hs = ap (λ (s : Shown). s.output) is in
-          subst (λ (z : List ℕ). HasAcksOf (acked (i + 1) hs) z) (sym output) (has_acks f empty_state w.state (i + 1) hs told.each told.run (spoken (i + 1)));
+      acks = λ i one e. subst (λ (z : List ℕ). HasAcksOf (acked (i + 1) hs) z) (sym (output i one e)) (has_acks empty_state w.state (i + 1) hs told.each told.run (spoken (i + 1)));
+      nacks = λ i one e. subst (λ (z : List ℕ). HasNacks (nacks_of (i + 1) hs) z) (sym (output i one e)) (has_nacks empty_state w.state (i + 1) hs told.each told.run (spoken (i + 1)));
     }
   where
+    -- what is seen of a connection is all that was put out for it
+    output : (i : ℕ) (one : Shown) → slice_get seen.connections i ≡ Some one → one.output ≡ put_out (i + 1) hs
+    output i one e =
+        let within : i < w.given = subst (λ (n : ℕ). i < n) shows.counted (slice_get_within seen.connections i one e) in
+        let is : one ≡ shown hs w (i + 1) = same_Some one (shown hs w (i + 1)) (sym e ∙ shows.each i within) in
+        ap (λ (s : Shown). s.output) is
+
     lasts : AllByRecursion Lasts hs
     lasts = run_lasts hs w.state told.run
 

@@ -9,6 +9,7 @@ use Rattle.model.specs.Phases.{running_session, no_session}
 use Rattle.model.specs.State.{State}
 use Rattle.model.specs.Run.{Happening, Run, empty_broker, empty_state}
 use Rattle.model.specs.Unrefused.{GetsAreAnswered, PurgesLeaveNone}
+use Rattle.model.specs.Noted.{PublishesAreTaken}
 use Rattle.model.specs.Settled.{SettlesAsAsked, NoneIsForgotten}
 use Rattle.model.specs.Alone.{ArePresent}
 use Rattle.model.specs.LoggedIn.{EntersByLogin}
@@ -31,8 +32,9 @@ pub record Lasts (h : Happening) : Type 0 where
   pub accounted : NoneIsForgotten h
   pub gets : GetsAreAnswered h
   pub purges : PurgesLeaveNone h
+  pub taken : PublishesAreTaken h
 
--- In every run from the empty broker what is held and what is outstanding agree, a channel is of a connection that runs, which logged in, what is settled is settled as the client asked, no delivery is forgotten, a get is answered, and a purge leaves none.
+-- In every run from the empty broker what is held and what is outstanding agree, a channel is of a connection that runs, which logged in, what is settled is settled as the client asked, no delivery is forgotten, a get is answered, a purge leaves none, and a publish is noted.
 abbrev pub DeliveriesAreAccountedFor : Type 0
 DeliveriesAreAccountedFor = (hs : List Happening) (new : State) → Run empty_state hs new → AllByRecursion Lasts hs
 

@@ -1,6 +1,6 @@
 -- Whatever arrives, the world keeps what every world keeps.
 use Rattle.std.specs.Prelude.{◌+◌, ℕ, List}
-use Rattle.model.specs.Topology.{IsWellFormed}
+use Rattle.model.specs.Headline.{IsSound}
 use Rattle.model.specs.State.{Config}
 use Rattle.model.specs.Run.{Happening}
 use Rattle.model.specs.Commands.{Stream}
@@ -9,9 +9,9 @@ use Rattle.model.specs.Consistent.{IsConsistent}
 use Rattle.model.specs.declared.events.Arrival.{Arrival}
 use Rattle.model.specs.declared.events.Event.TheVariants as event
 
--- So it is where no connection is, under a topology that is well formed, and each single thing that is done leaves it so.
+-- So it is where no connection is, under what is sound, and each single thing that is done leaves it so.
 pub record WorldsStayConsistent : Type 0 where
-  pub new_worlds : (f : Config) → IsWellFormed f.topology → IsConsistent (new_world f)
+  pub new_worlds : (f : Config) → IsSound f → IsConsistent (new_world f)
   pub turns : (old new : World) (c : ℕ) (hs : List Happening) → IsConsistent old → Turns old c hs new → IsConsistent new
   pub waits : (old new : World) (c : ℕ) → IsConsistent old → Waits old c new → IsConsistent new
   pub hears : (w : World) (c : ℕ) (bytes : List ℕ) → IsConsistent w → IsConsistent (with_heard w c bytes)

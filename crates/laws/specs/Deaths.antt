@@ -34,7 +34,7 @@ one_exchange name kind = record { name = name; kind = kind; internal = false; al
 
 -- a queue of this name, whose messages die to this exchange under this key
 abbrev pub queue_with : Text → Option Text → Option Text → DeclaredQueue
-queue_with name exchange key = record { name = name; limit = None; dead_letter_exchange = exchange; dead_letter_key = key }
+queue_with name exchange key = record { name = name; limit = None; byte_limit = None; dead_letter_exchange = exchange; dead_letter_key = key }
 
 -- a binding of the exchange of this name under this key to the queue of this name
 abbrev pub binding_to_queue : Text → Text → Text → Binding
@@ -73,7 +73,7 @@ content_with headers = record { properties = record no_properties { headers = he
 -- the first publish, which was sent to this exchange under the key `a`, as it stands now
 abbrev pub first_publish : Text → Text → Text → Option Text → Message
 first_publish published exchange key headers =
-    record { number = 1; first_exchange = published; first_key = codes "a"; exchange = exchange; key = key; content = content_with headers; redelivered = false }
+    record { number = 1; first_exchange = published; first_key = codes "a"; exchange = exchange; key = key; content = content_with headers; redelivered = false; stood = false }
 
 -- it was got from the queue of this name, on channel 1 of connection 1 under tag 1
 abbrev pub got_from : Text → Outstanding
@@ -122,7 +122,7 @@ pub record WorkedDeaths : Type 0 where
 
 -- what is sent to this exchange never comes to this queue
 abbrev pub never_to : Text → Text → Guarantee
-never_to exchange queue = record { mode = Never; exchange = exchange; pattern = codes "#"; queue = queue }
+never_to exchange queue = record { mode = Never; exchange = exchange; pattern = codes "#"; queue = queue; excepts = [] }
 
 -- the first publish, held in q1
 abbrev pub while_in_q1 : Text → List Entry

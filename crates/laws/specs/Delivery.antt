@@ -1,11 +1,12 @@
 -- Certified delivery, over every list of arrivals.
-use Rattle.std.specs.Prelude.{◌≡◌, ℕ, List}
+use Rattle.std.specs.Prelude.{◌≡◌, ◌++◌, ℕ, List}
 use Rattle.model.specs.Frames.{Frame}
 use Rattle.model.specs.State.{Config}
-use Rattle.model.specs.Run.{Happening}
+use Rattle.model.specs.Run.{Happening, put_out}
 use Rattle.model.specs.Consistent.{IsConsistent}
 use Rattle.model.specs.Arrivals.{World, new_world, Turns, Pumps, Plays, Shows, Seen}
 use Rattle.model.specs.Acks.{IsReading}
+use Rattle.model.specs.Nacks.{Confirms}
 use Rattle.model.specs.Headline.{IsSound, KeepsEvents, KeepsPromises}
 use Rattle.model.specs.declared.events.Arrival.{Arrival}
 
@@ -20,6 +21,10 @@ TurnsKeep = (old new : World) (c : ℕ) (hs : List Happening) → IsSound old.co
 -- and so do a delivery and the pause that it brings
 abbrev pub PumpsKeep : Type 0
 PumpsKeep = (old new : World) (hs : List Happening) → IsSound old.config → IsConsistent old → Pumps old hs new → KeepsEvents old.state.broker hs new.state.broker
+
+-- what is put out for a connection by one command, and by the pause that it brings, is behind what was put out before, and has the acks and the nacks of its own publishes
+abbrev pub TurnsConfirm : Type 0
+TurnsConfirm = (old new : World) (c : ℕ) (hs : List Happening) → Turns old c hs new → ((new.wire c).output ≡ (old.wire c).output ++ put_out c hs) × Confirms c hs (put_out c hs)
 
 -- Whatever arrives, the headline holds of what happened and of what was seen.
 abbrev pub HeadlineHolds : Config → Type 0

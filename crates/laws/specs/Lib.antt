@@ -2,10 +2,12 @@ pub mod Alone
 pub mod OneStep
 pub mod Promises
 pub mod Streams
+pub mod Unkept
 pub mod Openings
 pub mod Delivery
 pub mod Rows
 pub mod Accounts
+pub mod Confirming
 pub mod Deaths
 pub mod Consistency
 pub mod Agreeing
@@ -14,3 +16,4 @@ pub mod Tracing
 pub mod Consumers
 pub mod Order
 pub mod Forms
+pub mod Reloading

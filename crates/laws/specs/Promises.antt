@@ -1,15 +1,15 @@
 -- What every run keeps of the promises.
-use Rattle.std.specs.Prelude.{◌≡◌, ℕ, List, [], map, filter_map, Option, Some, None}
+use Rattle.std.specs.Prelude.{◌≡◌, ℕ, List, [], ◌∷◌, map, filter_map, Option, Some, None}
 use Rattle.std.specs.List.{AllByRecursion}
 use Rattle.model.specs.Words.{Text}
-use Rattle.model.specs.Topology.{Topology}
 use Rattle.model.specs.Broker.{Broker}
 use Rattle.model.specs.State.{Config, State}
-use Rattle.model.specs.Tracing.{AreTraced}
+use Rattle.model.specs.Tracing.{AreKept}
 use Rattle.model.specs.Run.{Happening, Run, AreCounted, notes_of, sends_of}
 use Rattle.model.specs.Spelling.{sends_to}
 use Rattle.model.specs.Arrivals.{IsSaid}
 use Rattle.model.specs.Acks.{Ack, EnteredOnce, acked, ack_for}
+use Rattle.model.specs.Nacks.{Nack, nacks_of}
 use Rattle.model.specs.Allowed.{AreAllowed, AreAllowedIn}
 use Rattle.model.specs.Causes.{HaveCauses, HaveOrigins}
 use Rattle.model.specs.Routed.{EnterAsRouted}
@@ -19,9 +19,9 @@ use Rattle.model.specs.Headline.{IsSound, KeepsEvents}
 use Rattle.model.specs.declared.events.Send.{Send}
 use Rattle.model.specs.declared.events.Send.TheVariants as send
 use Rattle.model.specs.declared.methods.Method.{Method}
-use Rattle.model.specs.declared.methods.Method.TheVariants.{BasicAck}
+use Rattle.model.specs.declared.methods.Method.TheVariants.{BasicAck, BasicNack}
 
--- ---- acks as they are sent
+-- ---- acks and nacks as they are sent
 
 -- a basic.ack on this channel
 abbrev pub ack_of : ℕ → Method → Option Ack
@@ -33,24 +33,39 @@ abbrev pub ack_sent : Send → Option Ack
 ack_sent (send.Greeting c) = None
 ack_sent (send.Command c h m content) = ack_of h m
 
+-- a basic.nack on this channel
+abbrev pub nack_of : ℕ → Method → Option Nack
+nack_of h (BasicNack m) = Some (record { channel = h; number = m.delivery_tag; multiple = m.multiple })
+nack_of h m = None
+
+-- the nack that a send is, if it is one
+abbrev pub nack_sent : Send → Option Nack
+nack_sent (send.Greeting c) = None
+nack_sent (send.Command c h m content) = nack_of h m
+
 -- ---- premises
 
 -- what was in force at each event was sound
 abbrev pub AreSound : List Happening → Type 0
 AreSound hs = AllByRecursion (λ (h : Happening). IsSound h.config) hs
 
--- the same was in force at each event
-abbrev pub AreUnder : Config → List Happening → Type 0
-AreUnder f hs = AllByRecursion (λ (h : Happening). h.config ≡ f) hs
+-- what is in force after the event
+abbrev pub config_after : Happening → Config
+config_after h = h.config
+
+-- The first configuration is in force at the first of these events, at each other what is in force after the one before it, and the last is after all of them.
+abbrev pub InForce : Config → List Happening → Config → Type 0
+InForce f [] last = last ≡ f
+InForce f (h ∷ hs) last = (h.config ≡ f) × InForce (config_after h) hs last
 
 -- each command is a method that has a spelling
 abbrev pub AreSaid : List Happening → Type 0
 AreSaid hs = AllByRecursion (λ (h : Happening). IsSaid h.event) hs
 
--- What stands in queues at the beginning: messages of publishes that were counted, each of which came to its queue under this topology.
-pub record IsBegun (t : Topology) (b : Broker) : Type 0 where
+-- What stands in queues at the beginning: messages of publishes that were counted, each of which may stand in its queue under what is in force.
+pub record IsBegun (f : Config) (b : Broker) : Type 0 where
   pub counted : AreCounted b
-  pub traced : AreTraced t b
+  pub kept : AreKept f b
 
 -- ---- laws of every run
 
@@ -62,13 +77,17 @@ AckedEnterOnce = (hs : List Happening) (old new : State) → AreSound hs → Are
 abbrev pub AcksAreAcked : Type 0
 AcksAreAcked = (hs : List Happening) (old new : State) → Run old hs new → (c : ℕ) → filter_map ack_sent (sends_to c (sends_of hs)) ≡ map ack_for (acked c hs)
 
+-- So are the nacks those of its publishes confirmed by nack.
+abbrev pub NacksAreNacked : Type 0
+NacksAreNacked = (hs : List Happening) (old new : State) → Run old hs new → (c : ℕ) → filter_map nack_sent (sends_to c (sends_of hs)) ≡ nacks_of c hs
+
 -- No message, of a publish or a dead letter, entered a queue that was forbidden to its publish.
 abbrev pub ForbiddenAreNotEntered : Type 0
-ForbiddenAreNotEntered = (f : Config) (hs : List Happening) (old new : State) → IsSound f → AreUnder f hs → AreSaid hs → IsBegun f.topology old.broker → Run old hs new → AllByRecursion (AreAllowedIn (notes_of hs)) hs
+ForbiddenAreNotEntered = (f last : Config) (hs : List Happening) (old new : State) → AreSound hs → InForce f hs last → AreSaid hs → IsBegun f old.broker → Run old hs new → AllByRecursion (AreAllowedIn (notes_of hs)) hs
 
 -- Nor, as each event by itself tells, one that was forbidden to what stood in a queue before it.
 abbrev pub ForbiddenAreNotEnteredAtEvents : Type 0
-ForbiddenAreNotEnteredAtEvents = (f : Config) (hs : List Happening) (old new : State) → IsSound f → AreUnder f hs → AreSaid hs → IsBegun f.topology old.broker → Run old hs new → AllByRecursion AreAllowed hs
+ForbiddenAreNotEnteredAtEvents = (f last : Config) (hs : List Happening) (old new : State) → AreSound hs → InForce f hs last → AreSaid hs → IsBegun f old.broker → Run old hs new → AllByRecursion AreAllowed hs
 
 -- What left a queue left it by an event that takes it out.
 abbrev pub CausesAreShown : Type 0
@@ -96,4 +115,4 @@ GivenAsPublished = (hs : List Happening) (old new : State) → ((q : Text) → o
 
 -- All of these, and the balance of every queue.
 abbrev pub RunsKeepEvents : Type 0
-RunsKeepEvents = (f : Config) (hs : List Happening) (old new : State) → IsSound f → AreUnder f hs → AreSaid hs → IsBegun f.topology old.broker → Run old hs new → KeepsEvents old.broker hs new.broker
+RunsKeepEvents = (f last : Config) (hs : List Happening) (old new : State) → AreSound hs → InForce f hs last → AreSaid hs → IsBegun f old.broker → Run old hs new → KeepsEvents old.broker hs new.broker

@@ -1,10 +1,10 @@
 -- Worked examples, that the checker computes: a definition that says something else shows at once.
-use Rattle.std.specs.Prelude.{◌≡◌, ◌++◌, ℕ, List, Bool, [], ◌∷◌, codes, true, false, Some, None, replicate, filter_map, if◌then◌else◌}
+use Rattle.std.specs.Prelude.{◌≡◌, ◌++◌, ℕ, List, Bool, [], ◌∷◌, codes, true, false, Option, Some, None, replicate, filter_map, if◌then◌else◌}
 use Rattle.std.specs.Str.{bytes_eq}
 use Rattle.model.specs.Words.{Text, words}
 use Rattle.model.specs.Topology.{Topology}
 use Rattle.model.specs.Guarantee.{Guarantee}
-use Rattle.model.specs.Broker.{Consumer, Channel, new_channel}
+use Rattle.model.specs.Broker.{Consumer, Channel, new_channel, refuses}
 use Rattle.model.specs.Deliveries.{first_ready, channel_after}
 use Rattle.model.specs.Consuming.{tag_for, consumer_of, with_consumer, may_take}
 use Rattle.model.specs.Frames.{frame_bytes, IsBroken}
@@ -31,6 +31,7 @@ use Rattle.model.specs.declared.messages.Mark.TheVariants.{Ready}
 use Rattle.model.specs.declared.events.Event.TheVariants.{Resume}
 use Rattle.model.specs.declared.notes.Cause.TheVariants.{Acked, Rejected}
 use Rattle.model.specs.declared.notes.Way.TheVariants.{Publish, Dead}
+use Rattle.model.specs.declared.topologies.DeclaredQueue.{DeclaredQueue}
 use Rattle.model.specs.declared.topologies.Mode.TheVariants.{Reaches, Never}
 use Rattle.model.specs.declared.events.Command.TheVariants.{TooLarge}
 use Rattle.model.specs.declared.methods.Method.TheVariants.{ConfirmSelect, BasicPublish}
@@ -102,7 +103,7 @@ pub record TooLargeContent : Type 0 where
 
 -- what is sent to `orders` under `new` reaches `audit`
 abbrev pub wanted : Guarantee
-wanted = record { mode = Reaches; exchange = codes "orders"; pattern = codes "new"; queue = codes "audit" }
+wanted = record { mode = Reaches; exchange = codes "orders"; pattern = codes "new"; queue = codes "audit"; excepts = [] }
 
 -- the first publish, confirmed by ack
 abbrev pub first_acked : AckedPublish
@@ -124,7 +125,7 @@ no_content = record { properties = no_properties; body = [] }
 
 -- the first publish as it stands in a queue
 abbrev pub first_entry : Entry
-first_entry = record { message = record { number = 1; first_exchange = codes "orders"; first_key = codes "new"; exchange = codes "orders"; key = codes "new"; content = no_content; redelivered = false }; mark = Ready }
+first_entry = record { message = record { number = 1; first_exchange = codes "orders"; first_key = codes "new"; exchange = codes "orders"; key = codes "new"; content = no_content; redelivered = false; stood = false }; mark = Ready }
 
 -- the entries of each queue, where only the one of this name has any
 abbrev pub one_queue : Text → List Entry → Text → List Entry
@@ -144,7 +145,7 @@ with_entries entries = record { broker = record empty_broker { published = 1; qu
 
 -- what is sent to `orders` under `new` never comes to `bin`
 abbrev pub forbids : Guarantee
-forbids = record { mode = Never; exchange = codes "orders"; pattern = codes "new"; queue = codes "bin" }
+forbids = record { mode = Never; exchange = codes "orders"; pattern = codes "new"; queue = codes "bin"; excepts = [] }
 
 -- these guarantees in force, over a topology with nothing in it
 abbrev pub under : List Guarantee → Config
@@ -241,7 +242,7 @@ pub record FirstConsumer : Type 0 where
 
 -- a topology with the queue `audit` alone
 abbrev pub audit_alone : Topology
-audit_alone = record { exchanges = []; queues = record { name = codes "audit"; limit = None; dead_letter_exchange = None; dead_letter_key = None } ∷ []; bindings = [] }
+audit_alone = record { exchanges = []; queues = record { name = codes "audit"; limit = None; byte_limit = None; dead_letter_exchange = None; dead_letter_key = None } ∷ []; bindings = [] }
 
 -- a channel with so many consumers, under the tag `mine`
 abbrev pub full_channel : ℕ → Channel
@@ -259,3 +260,23 @@ pub record RefusedConsumes : Type 0 where
   pub too_many : refusal_of_consume audit_alone (record (full_channel 256) { next_number = greatest }) (consume_of (codes "other")) ≡ Some (Of_connection 506)
   pub spent : refusal_of_consume audit_alone (record (full_channel 255) { next_number = greatest }) (consume_of (codes "other")) ≡ Some (Of_connection 541)
   pub none : refusal_of_consume audit_alone (full_channel 255) (consume_of (codes "other")) ≡ None
+
+-- the queue `audit` with these limits, of messages and of bytes
+abbrev pub audit_with : Option ℕ → Option ℕ → Option DeclaredQueue
+audit_with limit byte_limit = Some (record { name = codes "audit"; limit = limit; byte_limit = byte_limit; dead_letter_exchange = None; dead_letter_key = None })
+
+-- When a queue refuses a message, by how many messages are ready, how many bytes they have, and the size of the body.
+pub record FullQueues : Type 0 where
+  -- four bytes are taken and none more; no body is too small for a queue that has them
+  pub long : refuses (audit_with None (Some 4)) 0 0 5 ≡ true
+  pub whole : refuses (audit_with None (Some 4)) 0 0 4 ≡ false
+  pub empty : refuses (audit_with None (Some 4)) 1 4 0 ≡ false
+  pub more : refuses (audit_with None (Some 4)) 1 4 1 ≡ true
+  -- where a requeue passed the limit, not even an empty body is taken
+  pub passed : refuses (audit_with None (Some 4)) 2 7 0 ≡ true
+  -- either limit refuses by itself
+  pub count : refuses (audit_with (Some 2) (Some 4)) 2 0 0 ≡ true
+  pub bytes : refuses (audit_with (Some 2) (Some 4)) 1 3 2 ≡ true
+  pub neither : refuses (audit_with (Some 2) (Some 4)) 1 3 1 ≡ false
+  -- and a queue without limits takes all
+  pub unlimited : refuses (audit_with None None) 4294967296 4294967296 4294967296 ≡ false

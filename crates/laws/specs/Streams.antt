@@ -1,7 +1,7 @@
 -- What a stream says: over any pieces in which its bytes come, and before all frames.
 use Rattle.std.specs.Prelude.{◌≡◌, ◌<◌, ℕ, List, [], ◌∷◌, ◌++◌, length, Bool, true, false, Option, Some, None}
 use Rattle.model.specs.Words.{Text}
-use Rattle.model.specs.Commands.{Stream, TakesFirst, Yields, Ends, GoesOn, Commands, heard, with_max}
+use Rattle.model.specs.Commands.{Stream, TakesFirst, Yields, Ends, GoesOn, Commands, heard, with_max, keeping}
 use Rattle.model.specs.declared.events.Command.{Command}
 use Rattle.model.specs.declared.events.Command.TheVariants.{Head}
 
@@ -17,15 +17,16 @@ abbrev pub CuttingDoesNotMatter : Type 0
 CuttingDoesNotMatter = (s last : Stream) (done rest : List Command) (more : List ℕ) (end : Option ℕ)
     → YieldsAll s done last → Commands (heard last more) rest end → Commands (heard s more) (done ++ rest) end
 
--- a command, and the greatest frame that is agreed on once it is performed
+-- a command, the greatest frame that is agreed on once it is performed, and whether contents are kept then
 pub record CommandUnder : Type 0 where
   pub command : Command
   pub frame_max : ℕ
+  pub keeps : Bool
 
--- these commands come first, one after another, each behind frames of the size that was agreed on before it, and this is still to come
+-- these commands come first, one after another, each behind frames under what was agreed on before it, and this is still to come
 abbrev pub YieldsTuned : Stream → List CommandUnder → Stream → Type 0
 YieldsTuned s [] last = last ≡ s
-YieldsTuned s (p ∷ ps) last = (next : Stream) × Yields s p.command next × YieldsTuned (with_max p.frame_max next) ps last
+YieldsTuned s (p ∷ ps) last = (next : Stream) × Yields s p.command next × YieldsTuned (keeping p.keeps (with_max p.frame_max next)) ps last
 
 -- What was yielded before more bytes came is yielded with these behind, whatever was agreed on meanwhile, and what was still to come goes on by them.
 abbrev pub TuningDoesNotMatter : Type 0

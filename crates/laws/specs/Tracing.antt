@@ -1,4 +1,4 @@
--- Messages are traced: each came to its queue by the route of its publish and by deaths, and so none stands where a guarantee forbids it.
+-- Where messages stand: under one topology each came to its queue by the route of its publish and by deaths; and under whatever is in force none stands where a guarantee forbids it.
 use Rattle.std.specs.Prelude.{List}
 use Rattle.model.specs.Topology.{Topology}
 use Rattle.model.specs.Broker.{Broker}
@@ -6,7 +6,8 @@ use Rattle.model.specs.Step.{Acts}
 use Rattle.model.specs.State.{Config}
 use Rattle.model.specs.Run.{AreCounted, empty_broker}
 use Rattle.model.specs.Arrivals.{IsSaid}
-use Rattle.model.specs.Tracing.{AreTraced, AreSafe}
+use Rattle.model.specs.Tracing.{AreTraced, AreSafe, AreKept, NoneStood}
+use Rattle.model.specs.Reloading.{NothingStands, with_all_stood}
 use Rattle.model.specs.Headline.{IsSound}
 use Rattle.model.specs.declared.events.Send.{Send}
 use Rattle.model.specs.declared.events.Event.{Event}
@@ -20,3 +21,16 @@ pub record MessagesStayTraced : Type 0 where
 -- Where they are, none stands in a queue that a guarantee forbids it, nor may one come to such a queue by deaths.
 abbrev pub TracedAreSafe : Type 0
 TracedAreSafe = (f : Config) (b : Broker) → IsSound f → AreTraced f.topology b → AreSafe f.topology f.guarantees b
+
+-- In the empty broker each message may stand in its queue, and each event leaves it so, where what is in force is sound.
+pub record MessagesStayKept : Type 0 where
+  pub empty : (f : Config) → AreKept f empty_broker
+  pub acts : (f : Config) (old new : Broker) (e : Event) (sends : List Send) (notes : List Note) → IsSound f → IsSaid e → AreCounted old → AreKept f old → Acts f.topology old e sends notes new → AreKept f new
+
+-- A reload that nothing stands against leaves it so under what it puts in force.
+abbrev pub ReloadsKeep : Type 0
+ReloadsKeep = (f g : Config) (b : Broker) → AreKept f b → NothingStands f.topology g b → AreKept g (with_all_stood b)
+
+-- Where no message stood when a reload was done, none stands in a queue that a guarantee forbids it, nor may one come to such a queue by deaths.
+abbrev pub KeptAreSafe : Type 0
+KeptAreSafe = (f : Config) (b : Broker) → AreKept f b → NoneStood b → AreSafe f.topology f.guarantees b

@@ -9,18 +9,21 @@ ghost use Rattle.laws.specs.Accounts.{AccountsRefuse, DeliveriesAreAccountedFor}
 ghost use Rattle.laws.specs.Agreeing.{AgreementRefuses, BrokersStayAgreed};
 ghost use Rattle.laws.specs.Alone.{SoundForWords};
 ghost use Rattle.laws.specs.Carrying.{MessagesStayCarried, SendsAreOwn};
+ghost use Rattle.laws.specs.Confirming.{ConfirmsRefuse};
 ghost use Rattle.laws.specs.Consumers.{ConsumersAreMade, ConsumersStayNamed, DeliveriesAreAddressed, NextTagsAreFound, PlaysStayNamed, WorldsStayNamed};
 ghost use Rattle.laws.specs.Consistency.{PlaysStayConsistent, WorldsStayConsistent};
 ghost use Rattle.laws.specs.Deaths.{DeathsRefuse, WorkedDeaths};
-ghost use Rattle.laws.specs.Delivery.{OneReading, HeadlineHolds, PumpsKeep, TurnsKeep};
+ghost use Rattle.laws.specs.Delivery.{OneReading, HeadlineHolds, PumpsKeep, TurnsConfirm, TurnsKeep};
 ghost use Rattle.laws.specs.OneStep.{EveryRunBalances, EveryRunCounts, EveryRunStays};
 ghost use Rattle.laws.specs.Forms.{BodiesAreCut, FirstTells, MessagesCome};
 ghost use Rattle.laws.specs.Openings.{OpeningsReadByPhase};
-ghost use Rattle.laws.specs.Order.{GivenAfterThoseAhead, GivenInOrder, HeldAreGiven};
-ghost use Rattle.laws.specs.Promises.{AckedEnterOnce, AcksAreAcked, CausesAreShown, ForbiddenAreNotEntered, ForbiddenAreNotEnteredAtEvents, GivenAsPublished, LettersComeAsRouted, LettersComeOnce, OriginsAreShown, PublishesEnterAsRouted, RunsKeepEvents};
-ghost use Rattle.laws.specs.Rows.{WordsOfKeys, FirstInput, FirstOutput, BadEnd, TooLargeContent, HeadlineRefuses, FirstConsumer, RefusedConsumes};
-ghost use Rattle.laws.specs.Tracing.{MessagesStayTraced, TracedAreSafe};
+ghost use Rattle.laws.specs.Order.{EnteringIsFresh, GivenAfterThoseAhead, GivenInOrder, HeldAreGiven, MarksAreGiven};
+ghost use Rattle.laws.specs.Promises.{AckedEnterOnce, AcksAreAcked, CausesAreShown, ForbiddenAreNotEntered, ForbiddenAreNotEnteredAtEvents, GivenAsPublished, LettersComeAsRouted, LettersComeOnce, NacksAreNacked, OriginsAreShown, PublishesEnterAsRouted, RunsKeepEvents};
+ghost use Rattle.laws.specs.Rows.{WordsOfKeys, FirstInput, FirstOutput, BadEnd, TooLargeContent, HeadlineRefuses, FirstConsumer, RefusedConsumes, FullQueues};
+ghost use Rattle.laws.specs.Reloading.{NeverAcrossReloads};
+ghost use Rattle.laws.specs.Tracing.{KeptAreSafe, MessagesStayKept, MessagesStayTraced, ReloadsKeep, TracedAreSafe};
 ghost use Rattle.laws.specs.Streams.{CuttingDoesNotMatter, FaultsStay, GoingOnStays, FirstBytesComeFirst, TuningDoesNotMatter};
+ghost use Rattle.laws.specs.Unkept.{UnkeptIsUnseen};
 ghost use Rattle.model.specs.Guarantee.{Guarantee};
 ghost use Rattle.model.specs.State.{Config};
 ghost use Rattle.model.specs.Topology.{Topology};
@@ -59,6 +62,11 @@ pub fn acked_publishes_enter_once()
 /// In every run the acks sent to a connection are those of its publishes confirmed by ack, one by one.
 pub fn acks_are_those_noted()
     ensures { AcksAreAcked }
+{}
+
+/// In every run the nacks sent to a connection are those of its publishes confirmed by nack, one by one.
+pub fn nacks_are_those_noted()
+    ensures { NacksAreNacked }
 {}
 
 /// In every run no message, of a publish or a dead letter, entered a queue that was forbidden to its publish.
@@ -156,7 +164,8 @@ pub fn brokers_stay_agreed()
 
 /// In every run from the empty broker what is held and what is outstanding agree, a channel is open only on a connection that runs, which
 /// logged in, what is settled is settled as the client asked, no delivery is forgotten: it is outstanding still, or its message left, or can
-/// be given out again in its place; a get is answered, and a purge leaves nothing that can be given out.
+/// be given out again in its place; a get is answered, a purge leaves nothing that can be given out, and a publish is noted, and in confirm
+/// mode confirmed.
 pub fn deliveries_are_accounted_for()
     ensures { DeliveriesAreAccountedFor }
 {}
@@ -171,6 +180,28 @@ pub fn messages_stay_carried()
 /// topology stays.
 pub fn messages_stay_traced()
     ensures { MessagesStayTraced }
+{}
+
+/// Whatever happens, each message stands in a queue of the topology, and no guarantee in force forbids what it comes to by
+/// deaths from there, nor, unless it stood when the last reload was done, where it stands.
+pub fn messages_stay_kept()
+    ensures { MessagesStayKept }
+{}
+
+/// So it is after a reload that nothing stood against, under what it put in force.
+pub fn reloads_keep()
+    ensures { ReloadsKeep }
+{}
+
+/// No event enters a message where what was in force at it forbids it, whatever was reloaded before.
+pub fn never_across_reloads()
+    ensures { NeverAcrossReloads }
+{}
+
+/// Where no message stood when a reload was done, none stands in a queue that a guarantee forbids it, nor may it come to one
+/// by deaths.
+pub fn kept_messages_are_safe()
+    ensures { KeptAreSafe }
 {}
 
 /// No message that came so stands in a queue that a guarantee forbids it, nor may it come to one by deaths.
@@ -217,6 +248,13 @@ pub fn messages_are_given_in_order()
     ensures held { HeldAreGiven }
 {}
 
+/// What enters a queue stands at its end, in the order of the notes, and is not marked as redelivered; and nothing else comes to be marked
+/// so but what was given out of its queue.
+pub fn marks_tell_of_deliveries()
+    ensures fresh { EnteringIsFresh }
+    ensures marked { MarksAreGiven }
+{}
+
 /// To a queue comes a message, ready, as often as the queue is among those that it goes to, and not at all where it is full.
 pub fn messages_come_as_routed()
     ensures { MessagesCome }
@@ -237,9 +275,19 @@ pub fn one_reading()
     ensures { OneReading }
 {}
 
+/// A content that is only counted is not missed: outside Running a publish is answered as one that is too large.
+pub fn unkept_contents_are_unseen()
+    ensures { UnkeptIsUnseen }
+{}
+
 /// A turn keeps the promises of its own events.
 pub fn turns_keep()
     ensures { TurnsKeep }
+{}
+
+/// What a turn puts out has the acks and the nacks of its own publishes.
+pub fn turns_confirm()
+    ensures { TurnsConfirm }
 {}
 
 /// A pump keeps the promises of its own events.
@@ -252,8 +300,8 @@ pub fn headline()
     ensures { (f : Config) → HeadlineHolds f }
 {}
 
-/// Worked examples of the definitions, from the bytes of the first publish to what the headline refuses, of what is held and
-/// outstanding, and of dead letters.
+/// Worked examples of the definitions, from the bytes of the first publish to what the headline refuses, of full queues, of
+/// what is held and outstanding, and of dead letters.
 pub fn worked_examples()
     ensures words { WordsOfKeys }
     ensures input { FirstInput }
@@ -263,8 +311,10 @@ pub fn worked_examples()
     ensures refused { HeadlineRefuses }
     ensures consumer { FirstConsumer }
     ensures refused_consumers { RefusedConsumes }
+    ensures full_queues { FullQueues }
     ensures agreement { AgreementRefuses }
     ensures accounts { AccountsRefuse }
+    ensures confirms { ConfirmsRefuse }
     ensures deaths { WorkedDeaths }
     ensures refused_deaths { DeathsRefuse }
 {}

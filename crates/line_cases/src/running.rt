@@ -7,10 +7,11 @@ use line_words::{LineAnswer, Unanswered};
 use std::process::ExitCode;
 use std::{fs, io};
 
-/// Answers a line of this kind. One that is neither about routing nor about certificates is about the wire.
+/// Answers a line of this kind. One that is neither about routing, nor about certificates, nor about queues is about the wire.
 fn put_answer(out: &mut LineAnswer, rt: &HostRuntime, kind: &str, asked: &str) {
     if !routing_lines::answer(out, rt, kind, asked)
         && !certificate_lines::answer(out, rt, kind, asked)
+        && !store_lines::answer(out, kind, asked)
     {
         wire::answer(out, kind, asked);
     }

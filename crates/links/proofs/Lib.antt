@@ -2,3 +2,4 @@ pub mod Counting
 mod Opening
 pub mod Outcomes
 pub mod Setting
+mod Moving

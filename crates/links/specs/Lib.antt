@@ -2,3 +2,4 @@ pub mod Links
 pub mod Placed
 pub mod Consumers
 pub mod Counting
+pub mod Moving

@@ -9,4 +9,4 @@ mod links;
 mod slots;
 
 pub use link::Link;
-pub use links::Links;
+pub use links::{Links, moves_are_unseen};

@@ -2,7 +2,8 @@
 
 use crate::slots::{
     cancel_at, consume_at, count_at, count_consumers, forget_at, give_at, give_settled_at,
-    limit_at, number_of, open_at, open_channels, put_at, reserve_at, select_at, taker_of,
+    limit_at, number_of, open_at, open_channels, put_at, renumber_each, reserve_at, select_at,
+    taker_of,
 };
 use channel::{Channel, Consumer, Outstanding, SeatRefusal};
 use model::{Consume, Qos, Taker, Text};
@@ -41,6 +42,7 @@ impl Link {
     ghost use Rattle.links.specs.Consumers.{TellsOn};
     ghost use Rattle.links.specs.Consumers.{next_number};
     ghost use Rattle.links.specs.Counting.{consumers_counted};
+    ghost use Rattle.links.specs.Moving.{linked_moved};
     ghost use Rattle.links.specs.Links.{channel_in, outstanding_on, room_in, seats_in, PutsIn, CanCount, CanGive, HasRoom, SetsRoom};
 
     /// A connection with channels 1 to `channels` open and new.
@@ -251,5 +253,12 @@ impl Link {
         ensures { self.new ≡ record self.old { is_paused = is_paused } }
     {
         self.is_paused = is_paused;
+    }
+
+    /// Each queue that stood at a place of the table stands now at the place that it has there. It takes no memory.
+    pub(crate) fn renumber(&mut self, places: &[usize])
+        ensures { self.new ≡ linked_moved places.now self.old }
+    {
+        renumber_each(&mut self.channels, places);
     }
 }

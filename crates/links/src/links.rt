@@ -2,7 +2,9 @@
 //!
 //! A connection is looked up by its number in a map, and a channel stands in its connection at its number.
 
+ghost use Rattle.std.specs.Prelude.{◌≡◌};
 ghost use Rattle.links.specs.Counting.{CountsConsumers};
+ghost use Rattle.links.specs.Moving.{links_moved, MovesAreUnseen};
 
 use crate::link::Link;
 use channel::{Channel, Outstanding, SeatRefusal};
@@ -40,6 +42,7 @@ impl Links {
       Option,
       IsSome,
       IfSome,
+      IfOk,
       OnOk,
       OnErr,
       option_map,
@@ -52,6 +55,7 @@ impl Links {
     ghost use Rattle.channel.specs.Outstanding.{tag_of};
     ghost use Rattle.channel.specs.Open.{Open, with_qos, given_on, settled_on, without_settled, without_named, SeatsConsumer};
     ghost use Rattle.links.specs.Counting.{CountsConsumers};
+    ghost use Rattle.links.specs.Moving.{links_moved};
     ghost use Rattle.links.specs.Links.{linked_in, connection_of, channel_of, outstanding_on, room_in, seats_in, CanCount, CanGive, HasRoom, SetsRoom, PutsChannel, OpensLink, HoldsConnections};
 
     /// No connection runs. It takes no memory.
@@ -98,20 +102,22 @@ impl Links {
         count_consumers(&self.links, queue)
     }
 
-    /// The connection runs from now on, with channels 1 to `channels` open and new.
+    /// The connection runs from now on, with channels 1 to `channels` open and new. Gives what ran under its number before, if
+    /// anything did.
     pub fn open(
         &mut self,
         alloc: Global,
         connection: u64,
         channel_max: u16,
         channels: u16,
-    ) -> Result<(), AllocError>
+    ) -> Result<Option<Link>, AllocError>
         ensures ok { OnOk result (OpensLink self.old connection channel_max channels self.new) }
+        ensures before { IfOk result (λ link. link ≡ linked_in self.old connection) }
         ensures err { OnErr result (self.new ≡ self.old) }
     {
         let link = Link::new(alloc, channel_max, channels)?;
         match self.links.insert(connection, link) {
-            Ok(_) => Ok(()),
+            Ok(before) => Ok(before),
             Err(_) => Err(AllocError),
         }
     }
@@ -301,6 +307,28 @@ impl Links {
             link.put(number, channel);
         }
     }
+
+    /// Each queue that stood at a place of the table stands now at the place that it has there. It takes no memory.
+    pub fn renumber(&mut self, places: &[usize])
+        ensures { self.new ≡ links_moved places.now self.old }
+    {
+        renumber_all(&mut self.links, places);
+    }
+}
+
+/// Where each queue that a channel names has its name at its new place too, all is seen of the channels that was seen before.
+pub fn moves_are_unseen()
+    ensures { MovesAreUnseen }
+{}
+
+/// The same for these connections.
+fn renumber_all(links: &mut HashMap<u64, Link>, places: &[usize])
+    ensures { links.new.entries ≡ links_moved places.now links.old.entries }
+{
+    links.retain(|_, link| {
+        link.renumber(places);
+        true
+    });
 }
 
 /// How many consumers on all channels of these connections take from the queue at this place, at most the greatest number.

@@ -25,6 +25,8 @@ ghost use Rattle.std.specs.Prelude.{
   option_map,
   vec_len,
 };
+ghost use Rattle.channel.specs.Moving.{open_moved};
+ghost use Rattle.links.specs.Moving.{channels_moved};
 ghost use Rattle.model.specs.Words.{Text as Name};
 ghost use Rattle.model.specs.Broker.{new_channel};
 ghost use Rattle.model.specs.Step.{started, next_of, greatest};
@@ -341,5 +343,23 @@ pub(crate) fn taker_of(channel: &Channel, number: u64) -> Option<&Consumer>
         None
     } else {
         channel.taker(number)
+    }
+}
+
+/// The channel here is told where queues stand now.
+fn renumber_in(slot: &mut Option<Channel>, places: &[usize])
+    ensures { slot.new ≡ option_map (open_moved places.now) slot.old }
+{
+    if let Some(channel) = slot {
+        channel.renumber(places);
+    }
+}
+
+/// Each channel is told where queues stand now.
+pub(crate) fn renumber_each(channels: &mut [Option<Channel>], places: &[usize])
+    ensures { channels.new ≡ channels_moved places.now channels.old }
+{
+    for slot in channels.iter_mut() {
+        renumber_in(slot, places);
     }
 }

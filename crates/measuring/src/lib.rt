@@ -14,5 +14,5 @@ pub use engines::Measured;
 pub use meters::{processor_time, resident_bytes};
 pub use parts::{Part, print_parts};
 pub use shapes::{Keys, Shape};
-pub use topologies::built;
+pub use topologies::{LARGE, built};
 pub use written::{Texts, Written};

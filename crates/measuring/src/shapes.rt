@@ -1,6 +1,6 @@
 //! The shapes of what is measured.
 
-/// A topology. But for the last shape it has the exchange `x`, to which messages are sent.
+/// A topology. But for the last shapes it has the exchange `x`, to which messages are sent.
 #[derive(Clone, Copy, Drop)]
 pub enum Shape {
     /// A direct exchange, bound to one queue by each key.
@@ -13,6 +13,8 @@ pub enum Shape {
     Exchanges(u32),
     /// A direct exchange bound to one queue among so many.
     Queues(u32),
+    /// The same, where that queue has the greatest limit of bytes.
+    Limited(u32),
     /// A direct exchange bound to each of so many queues, `q0`, `q1` .., by a key of its own, `k.0`, `k.1` ..
     Keyed(u32),
     /// An exchange bound to the queue `q`: a fanout one where the number is 0; else a topic one, by `#` and by each pattern of at
@@ -23,6 +25,10 @@ pub enum Shape {
     /// 256 topic exchanges, so many of which lead on to the next, 256 queues, and as many bindings as there may be where
     /// all lead on.
     Linked(u32),
+    /// 256 topic exchanges, each of which but the last leads on to the next, by `#` and as its alternate exchange, and to a queue of
+    /// its own by 15 keys. The last leads to the queue `q` by `#` and by so many patterns, at most 15: the large one, and `#.a`,
+    /// `#.a.*` .., which a state of the large one tells. By other keys it leads elsewhere, so that there are 4,096 bindings.
+    Chained(u32),
 }
 
 /// How the routing keys of a load go.

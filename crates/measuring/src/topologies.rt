@@ -6,6 +6,9 @@ use exchange_graph::Topology;
 use model::{Binding, DeclaredQueue, Exchange, ExchangeKind, Place, Text};
 use std::alloc::Global;
 
+/// A pattern of one word that comes again, with 63,489 states.
+pub const LARGE: &str = "#.a.*.*.*.*.*.*.*.*.*.*.*.*.#.a.#.a.#.a.#.a.#.a.#.a.#.a";
+
 /// Exchanges, queues and bindings, as they are put together.
 #[derive(Drop)]
 struct Plan {
@@ -26,11 +29,16 @@ impl Plan {
     }
 
     fn put_exchange(&mut self, name: Text, kind: ExchangeKind) {
+        self.put_backed(name, kind, None);
+    }
+
+    /// An exchange with this alternate exchange.
+    fn put_backed(&mut self, name: Text, kind: ExchangeKind, alternate: Option<Text>) {
         let exchange = Exchange {
             name,
             kind,
             internal: false,
-            alternate: None,
+            alternate,
         };
         if self.exchanges.push(exchange).is_err() {
             self.texts.fail();
@@ -38,9 +46,15 @@ impl Plan {
     }
 
     fn put_queue(&mut self, name: Text) {
+        self.put_limited(name, None);
+    }
+
+    /// A queue with this limit of bytes.
+    fn put_limited(&mut self, name: Text, byte_limit: Option<u32>) {
         let queue = DeclaredQueue {
             name,
             limit: None,
+            byte_limit,
             dead_letter_exchange: None,
             dead_letter_key: None,
         };
@@ -171,12 +185,26 @@ fn among_exchanges(plan: &mut Plan, count: u32) {
     direct(plan);
 }
 
-fn among_queues(plan: &mut Plan, count: u32) {
+/// Queues to which nothing leads, one fewer than this.
+fn put_others(plan: &mut Plan, count: u32) {
     for place in 1..count {
         let name = plan.texts.numbered("p", place);
         plan.put_queue(name);
     }
+}
+
+fn among_queues(plan: &mut Plan, count: u32) {
+    put_others(plan, count);
     direct(plan);
+}
+
+/// As `direct`, among so many queues, where `q` has the greatest limit of bytes.
+fn limited(plan: &mut Plan, count: u32) {
+    put_others(plan, count);
+    plan.exchange("x", ExchangeKind::Direct);
+    let name = plan.texts.text(b"q");
+    plan.put_limited(name, Some(u32::MAX));
+    plan.bind("x", "q", "k");
 }
 
 /// The exchange of this number, among 256, is bound to its queue by one of the patterns.
@@ -268,6 +296,64 @@ fn starred(plan: &mut Plan) {
     }
 }
 
+/// One of the patterns by which the last exchange of a chain leads to the queue `q`: the large one, then `#.a`, `#.a.*` ..
+fn bind_last(plan: &mut Plan, place: u32) {
+    if place == 0 {
+        return plan.bind("x255", "q", LARGE);
+    }
+    let mut key = plan.key();
+    key.put_text("#.a");
+    for _ in 1..place {
+        key.put_text(".*");
+    }
+    let source = plan.texts.text(b"x255");
+    let queue = plan.texts.text(b"q");
+    let key = plan.texts.of(&key);
+    plan.put_binding(source, Place::Queue(queue), key);
+}
+
+/// A binding of an exchange of a chain to the queue of this number, by a key of its own.
+fn bind_aside(plan: &mut Plan, number: u32, queue: u32, place: u32) {
+    let mut key = plan.key();
+    key.put_text("other.");
+    key.put_number(u64::from(number));
+    key.put_text(".");
+    key.put_number(u64::from(place));
+    let source = plan.texts.numbered("x", number);
+    let queue = plan.texts.numbered("q", queue);
+    let key = plan.texts.of(&key);
+    plan.put_binding(source, Place::Queue(queue), key);
+}
+
+/// An exchange that leads on to the next one by every key, which is its alternate exchange as well.
+fn chained_exchange(plan: &mut Plan, number: u32) {
+    let name = plan.texts.numbered("x", number);
+    let next = plan.texts.numbered("x", number.saturating_add(1));
+    plan.put_backed(name, ExchangeKind::Topic, Some(next));
+    let queue = plan.texts.numbered("q", number);
+    plan.put_queue(queue);
+    for place in 0..15 {
+        bind_aside(plan, number, number, place);
+    }
+    plan.link_on(number);
+}
+
+/// 256 exchanges, each of which but the last leads on to the next, and 4,096 bindings.
+fn chained(plan: &mut Plan, patterns: u32) {
+    for number in 0..255 {
+        chained_exchange(plan, number);
+    }
+    plan.exchange("x255", ExchangeKind::Topic);
+    plan.queue("q");
+    plan.bind("x255", "q", "#");
+    for place in 0..patterns {
+        bind_last(plan, place);
+    }
+    for place in patterns..15 {
+        bind_aside(plan, 255, 0, place);
+    }
+}
+
 fn put_shape(plan: &mut Plan, shape: Shape) {
     match shape {
         Shape::Direct => direct(plan),
@@ -275,10 +361,12 @@ fn put_shape(plan: &mut Plan, shape: Shape) {
         Shape::Topic(bindings) => topic(plan, bindings),
         Shape::Exchanges(count) => among_exchanges(plan, count),
         Shape::Queues(count) => among_queues(plan, count),
+        Shape::Limited(count) => limited(plan, count),
         Shape::Keyed(count) => keyed(plan, count),
         Shape::Worded(words) => worded(plan, words),
         Shape::Starred => starred(plan),
         Shape::Linked(links) => linked(plan, links),
+        Shape::Chained(patterns) => chained(plan, patterns),
     }
 }
 

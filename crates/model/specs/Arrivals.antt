@@ -5,10 +5,10 @@ use Rattle.model.specs.Broker.{with_one}
 use Rattle.model.specs.State.{Config, State, Step}
 use Rattle.model.specs.Consuming.{CanDeliver}
 use Rattle.model.specs.Grammar.{IsMethod}
-use Rattle.model.specs.Phases.{Session}
+use Rattle.model.specs.Phases.{Session, is_running}
 use Rattle.model.specs.Run.{Happening, notes_of, put_out, empty_state}
 use Rattle.model.specs.Spelling.{spelling, receiver, IsSpelled}
-use Rattle.model.specs.Commands.{Stream, Yields, Ends, GoesOn, HasWithin, new_stream, running_stream, heard, with_max}
+use Rattle.model.specs.Commands.{Stream, Yields, Ends, GoesOn, HasWithin, new_stream, running_stream, heard, with_max, keeping}
 use Rattle.model.specs.declared.events.Phase.{Phase}
 use Rattle.model.specs.declared.events.Phase.TheVariants as phase
 use Rattle.model.specs.declared.events.Command.{Command}
@@ -140,9 +140,13 @@ pub record Puts (old : World) (e : Event) (c : ℕ) (hs : List Happening) (new :
   pub others : (d : ℕ) → d ≢ c → new.wire d ≡ old.wire d
   pub rests : (d : ℕ) → d ≢ c → new.state.session d ≡ old.state.session d
 
--- after a turn nothing is kept, and frames are as large as the session allows; of one that is over nothing more is read
+-- the same bytes under this session: frames are as large as it allows, and contents are kept if it runs
+abbrev pub under_session : Session → Stream → Stream
+under_session s next = keeping (is_running s.phase) (with_max s.frame_max next)
+
+-- after a turn nothing is kept, and what is still to come is under the session; of one that is over nothing more is read
 abbrev pub wire_after : Session → Stream → List ℕ → Wire
-wire_after s next output = if is_ended s.phase then record new_wire { output = output } else record { kept = None; stream = with_max s.frame_max next; output = output }
+wire_after s next output = if is_ended s.phase then record new_wire { output = output } else record { kept = None; stream = under_session s next; output = output }
 
 -- One command, or the fault of its stream, is performed for c.
 pub record Turns (old : World) (c : ℕ) (hs : List Happening) (new : World) : Type 0 where

@@ -1,5 +1,6 @@
 -- The broker's state, as if it were kept by hand: lists in arrival order, and records by name and number.
-use Rattle.std.specs.Prelude.{ℕ, List, [], ◌∷◌, length, filter, Bool, true, false, nat_le, ◌==◌, ◌&&◌, if◌then◌else◌, Option, Some, None, find}
+use Rattle.std.specs.Prelude.{ℕ, ◌+◌, List, [], ◌∷◌, length, filter, Bool, true, false, nat_lt, nat_le, ◌==◌, ◌&&◌, ◌||◌, if◌then◌else◌, Option, Some, None, find}
+use Rattle.std.specs.List.{sum_by}
 use Rattle.std.specs.Str.{bytes_eq}
 use Rattle.model.specs.Words.{Text}
 use Rattle.model.specs.Topology.{Topology}
@@ -76,6 +77,11 @@ abbrev pub is_at : Option ℕ → ℕ → Bool
 is_at None n = false
 is_at (Some limit) n = nat_le limit n
 
+-- a limit is passed
+abbrev pub is_past : Option ℕ → ℕ → Bool
+is_past None n = false
+is_past (Some limit) n = nat_lt limit n
+
 -- the queue of this name, as the topology declares it
 abbrev pub queue_named : List DeclaredQueue → Text → Option DeclaredQueue
 queue_named qs name = find (λ (q : DeclaredQueue). bytes_eq q.name name) qs
@@ -85,9 +91,26 @@ abbrev pub limit_of : Option DeclaredQueue → Option ℕ
 limit_of None = None
 limit_of (Some q) = q.limit
 
--- The queue refuses a message with a body of so many bytes: it has a limit and at least as many ready messages (RabbitMQ, "Queue Length Limit", reject-publish).
+-- how many bytes the bodies of its ready messages may have together; none where it has no such limit
+abbrev pub byte_limit_of : Option DeclaredQueue → Option ℕ
+byte_limit_of None = None
+byte_limit_of (Some q) = q.byte_limit
+
+-- how many bytes the body of the message has
+abbrev pub body_bytes : Entry → ℕ
+body_bytes e = length e.message.content.body
+
+-- how many bytes the bodies of the ready messages have together
+abbrev pub ready_bytes : List Entry → ℕ
+ready_bytes entries = sum_by body_bytes (filter is_ready entries)
+
+-- A queue with so many ready messages, whose bodies have so many bytes, refuses a message with a body of this size: its count has come to the limit, or with that body its bytes would pass theirs (RabbitMQ, "Queue Length Limit", reject-publish).
+abbrev pub refuses : Option DeclaredQueue → (count bytes size : ℕ) → Bool
+refuses q count bytes size = is_at (limit_of q) count || is_past (byte_limit_of q) (bytes + size)
+
+-- the queue of this name refuses a message with a body of this size
 abbrev pub is_full : Topology → (Text → List Entry) → Text → ℕ → Bool
-is_full t entries q size = is_at (limit_of (queue_named t.queues q)) (length (filter is_ready (entries q)))
+is_full t entries q size = refuses (queue_named t.queues q) (length (filter is_ready (entries q))) (ready_bytes (entries q)) size
 
 -- ---- one value changed
 

@@ -56,11 +56,20 @@ pub data Taken : Type 0 where
   Makes : (command : Command) → Taken
   Breaks : (code : ℕ) → Taken
 
+-- a publish of which nothing is kept
+abbrev pub no_publish : Publish
+no_publish = record { reserved = 0; exchange = []; routing_key = []; mandatory = false; immediate = false }
+
+-- what is kept of a publish until its content is whole: nothing, where contents are not kept (own)
+abbrev pub kept_publish : Bool → Publish → Publish
+kept_publish true p = p
+kept_publish false p = no_publish
+
 -- a publish waits for its content, any other method is a command
-abbrev pub taken_method : ℕ → Result Method ℕ → Taken
-taken_method h (Ok (BasicPublish p)) = Goes_on (Wants_header p)
-taken_method h (Ok m) = Makes (Plain h m)
-taken_method h (Err code) = Breaks code
+abbrev pub taken_method : Bool → ℕ → Result Method ℕ → Taken
+taken_method keeps h (Ok (BasicPublish p)) = Goes_on (Wants_header (kept_publish keeps p))
+taken_method keeps h (Ok m) = Makes (Plain h m)
+taken_method keeps h (Err code) = Breaks code
 
 -- past the declared size is a frame error; at it, the publish is complete
 abbrev pub taken_body : ℕ → Publish → Properties → ℕ → Text → Taken
@@ -76,10 +85,20 @@ taken_dropped h size count =
     else if count == size then Makes (TooLarge h)
     else Goes_on (Drops size count)
 
+-- a body of which nothing has come is awaited; where contents are not kept it is only counted, as one that is too large is (own)
+abbrev pub begun_body : Bool → ℕ → Publish → Header → Taken
+begun_body true h p header = taken_body h p header.properties header.size []
+begun_body false h p header = taken_dropped h header.size 0
+
 -- a header: its body is awaited, and with none declared the publish is complete; one that is refused breaks the stream
-abbrev pub taken_header : ℕ → Publish → Result Header ℕ → Taken
-taken_header h p (Ok header) = taken_body h p header.properties header.size []
-taken_header h p (Err code) = Breaks code
+abbrev pub taken_header : Bool → ℕ → Publish → Result Header ℕ → Taken
+taken_header keeps h p (Ok header) = begun_body keeps h p header
+taken_header keeps h p (Err code) = Breaks code
+
+-- one more piece of a body; where contents are not kept any more, what came of it is dropped (own)
+abbrev pub taken_piece : Bool → ℕ → Publish → Properties → ℕ → Text → List ℕ → Taken
+taken_piece true h p properties size body piece = taken_body h p properties size (body ++ piece)
+taken_piece false h p properties size body piece = taken_dropped h size (length body + length piece)
 
 -- the type of frame that a channel awaits
 abbrev pub awaited : Pending → ℕ
@@ -89,18 +108,18 @@ awaited (Wants_body p properties size body) = 3
 awaited (Drops size count) = 3
 
 -- A header by the size that it declares, where it declares one: of a content that is too large neither flags nor properties are read.
-abbrev pub TakesSized : Publish → Frame → Result ℕ ℕ → Taken → Type 0
-TakesSized p f (Ok size) taken =
+abbrev pub TakesSized : Bool → Publish → Frame → Result ℕ ℕ → Taken → Type 0
+TakesSized keeps p f (Ok size) taken =
     MatchBool (is_too_large f.payload size) (taken ≡ taken_dropped f.channel size 0)
-    ((r : Result Header ℕ) × SaysHeader f.payload r × (taken ≡ taken_header f.channel p r))
-TakesSized p f (Err code) taken = taken ≡ Breaks code
+    ((r : Result Header ℕ) × SaysHeader f.payload r × (taken ≡ taken_header keeps f.channel p r))
+TakesSized keeps p f (Err code) taken = taken ≡ Breaks code
 
--- a frame of the awaited type
-abbrev pub TakesPayload : Pending → Frame → Taken → Type 0
-TakesPayload Nothing f taken = (r : Result Method ℕ) × SaysMethod f.payload r × (taken ≡ taken_method f.channel r)
-TakesPayload (Wants_header p) f taken = (r : Result ℕ ℕ) × SaysSize f.payload r × TakesSized p f r taken
-TakesPayload (Wants_body p properties size body) f taken = taken ≡ taken_body f.channel p properties size (body ++ f.payload)
-TakesPayload (Drops size count) f taken = taken ≡ taken_dropped f.channel size (count + length f.payload)
+-- a frame of the awaited type, where contents are kept or not
+abbrev pub TakesPayload : Bool → Pending → Frame → Taken → Type 0
+TakesPayload keeps Nothing f taken = (r : Result Method ℕ) × SaysMethod f.payload r × (taken ≡ taken_method keeps f.channel r)
+TakesPayload keeps (Wants_header p) f taken = (r : Result ℕ ℕ) × SaysSize f.payload r × TakesSized keeps p f r taken
+TakesPayload keeps (Wants_body p properties size body) f taken = taken ≡ taken_piece keeps f.channel p properties size body f.payload
+TakesPayload keeps (Drops size count) f taken = taken ≡ taken_dropped f.channel size (count + length f.payload)
 
 -- a heartbeat is on channel 0 and empty, and then ignored (own)
 abbrev pub taken_heartbeat : Pending → Frame → Taken
@@ -111,11 +130,11 @@ abbrev pub is_on_wrong_channel : Frame → Bool
 is_on_wrong_channel f = nat_lt 255 f.channel || (f.channel == 0 && not (f.kind == 1))
 
 -- A whole frame, decided in this order: heartbeat, 504 channel-error, 505 unexpected-frame, and then its payload.
-abbrev pub TakesOn : Pending → Frame → Taken → Type 0
-TakesOn p f taken =
+abbrev pub TakesOn : Bool → Pending → Frame → Taken → Type 0
+TakesOn keeps p f taken =
     MatchBool (f.kind == 8) (taken ≡ taken_heartbeat p f)
     (MatchBool (is_on_wrong_channel f) (taken ≡ Breaks 504)
-    (MatchBool (f.kind == awaited p) (TakesPayload p f taken) (taken ≡ Breaks 505)))
+    (MatchBool (f.kind == awaited p) (TakesPayload keeps p f taken) (taken ≡ Breaks 505)))
 
 -- ---- a whole stream
 
@@ -125,6 +144,8 @@ pub record Stream : Type 0 where
   pub is_new : Bool
   -- the greatest frame, in bytes
   pub max : ℕ
+  -- contents are kept, for the connection runs: in any other phase no publish can be performed, and its content is only counted (own)
+  pub keeps : Bool
   pub pending : ℕ → Pending
   pub unread : List ℕ
 
@@ -152,7 +173,7 @@ pub record Takes (s : Stream) (taken : Taken) (next : Stream) : Type 0 where
   pub frame : Frame
   pub rest : List ℕ
   pub front : Begins s.max s.unread frame rest
-  pub effect : TakesOn (s.pending frame.channel) frame taken
+  pub effect : TakesOn s.keeps (s.pending frame.channel) frame taken
   pub left : next ≡ after_frame s frame.channel taken rest
 
 -- The next command is this one.
@@ -181,11 +202,11 @@ Commands s (c ∷ cs) end = (next : Stream) × Yields s c next × Commands next 
 
 -- a connection of which no byte has come: until limits are agreed on, a frame has at most 4,096 bytes (AMQP 0-9-1, frame-min-size)
 abbrev pub new_stream : Stream
-new_stream = record { is_new = true; max = 4096; pending = λ h. Nothing; unread = [] }
+new_stream = record { is_new = true; max = 4096; keeps = false; pending = λ h. Nothing; unread = [] }
 
 -- a connection that is opened as running
 abbrev pub running_stream : Stream
-running_stream = record { is_new = false; max = 131072; pending = λ h. Nothing; unread = [] }
+running_stream = record { is_new = false; max = 131072; keeps = true; pending = λ h. Nothing; unread = [] }
 
 -- the same bytes with more behind them
 abbrev pub heard : Stream → List ℕ → Stream
@@ -194,6 +215,10 @@ heard s bytes = record s { unread = s.unread ++ bytes }
 -- the same bytes, in frames of at most so many bytes from now on
 abbrev pub with_max : ℕ → Stream → Stream
 with_max max s = record s { max = max }
+
+-- the same bytes, whose contents are kept from now on, or only counted
+abbrev pub keeping : Bool → Stream → Stream
+keeping keeps s = record s { keeps = keeps }
 
 -- the command, if it has a method, is made of one that has a spelling, and its content is not too large
 abbrev pub IsCommand : Command → Type 0

@@ -1,12 +1,12 @@
 -- What every world keeps that a run from a broker with no connection reaches.
 use Rattle.std.specs.Prelude.{◌≡◌, ℕ, Some, is_some}
-use Rattle.model.specs.Topology.{IsWellFormed}
 use Rattle.model.specs.Broker.{Connection}
 use Rattle.model.specs.Phases.{is_running}
 use Rattle.model.specs.Run.{AreCounted}
 use Rattle.model.specs.Arrivals.{World, is_paused}
 use Rattle.model.specs.Sending.{AreCarried}
-use Rattle.model.specs.Tracing.{AreTraced}
+use Rattle.model.specs.Tracing.{AreKept, NoneStood}
+use Rattle.model.specs.Headline.{IsSound}
 
 -- What stands in two places is the same in both, and what stands in a queue can be sent:
 pub record IsConsistent (w : World) : Type 0 where
@@ -14,10 +14,12 @@ pub record IsConsistent (w : World) : Type 0 where
   pub counted : AreCounted w.state.broker
   -- and can be given out
   pub carried : AreCarried w.state.broker
-  -- it came to its queue by a route and by deaths
-  pub traced : AreTraced w.config.topology w.state.broker
-  -- under a topology that keeps what every topology keeps
-  pub formed : IsWellFormed w.config.topology
+  -- and may stand there
+  pub kept : AreKept w.config w.state.broker
+  -- none stood when a reload was done
+  pub unmarked : NoneStood w.state.broker
+  -- what is in force is sound
+  pub sound : IsSound w.config
   -- a connection is one of the broker's exactly while its phase is Running
   pub running : (c : ℕ) → is_some (w.state.broker.connection c) ≡ is_running (w.state.session c).phase
   -- and the broker knows it as paused exactly where its output is past the bound

@@ -66,7 +66,7 @@ with_headers content headers = record content { properties = record content.prop
 
 -- the message as it is sent on with this content: its number, its first exchange and its first key stay with it, and it counts as not delivered
 abbrev pub dead_letter : Message → Text → Text → Content → Message
-dead_letter m exchange key content = record m { exchange = exchange; key = key; content = content; redelivered = false }
+dead_letter m exchange key content = record m { exchange = exchange; key = key; content = content; redelivered = false; stood = false }
 
 -- A death of the message in the queue p, by which it goes to this exchange: under the queue's dead-letter key, or else its own key, to each routed queue in file order. It is not confirmed, nor returned where it is routed nowhere.
 pub record IsDeath (t : Topology) (p : DeclaredQueue) (exchange : Text) (queues : Text → List Entry) (m : Message) (notes : List Note) (new : Text → List Entry) : Type 0 where

@@ -1,4 +1,4 @@
--- Certified delivery: what is promised of a whole run, in the words of a client and of the topology's owner (own). Each promise is a definition of its own: Acks, Routed, Allowed, Causes, Letters, Order, Contents, Unrefused, Settled, Alone, LoggedIn.
+-- Certified delivery: what is promised of a whole run, in the words of a client and of the topology's owner (own). Each promise is a definition of its own: Acks, Nacks, Routed, Allowed, Causes, Letters, Order, Fresh, Contents, Unrefused, Noted, Settled, Alone, LoggedIn.
 use Rattle.std.specs.Prelude.{◌≡◌, ◌+◌, ℕ, List, [], filter_map, Some, slice_get}
 use Rattle.std.specs.List.{AllByRecursion}
 use Rattle.model.specs.Topology.{IsWellFormed}
@@ -9,13 +9,16 @@ use Rattle.model.specs.State.{Config}
 use Rattle.model.specs.Run.{Happening, notes_of, Stays, empty_broker}
 use Rattle.model.specs.Arrivals.{World, new_world, Plays, Shows, Seen, Shown}
 use Rattle.model.specs.Acks.{acked, HasAcksOf, EnteredOnce}
+use Rattle.model.specs.Nacks.{nacks_of, HasNacks}
 use Rattle.model.specs.Routed.{EnterAsRouted, number_in, CountUp}
 use Rattle.model.specs.Allowed.{AreAllowed, AreAllowedIn}
 use Rattle.model.specs.Causes.{HaveCauses, HaveOrigins}
 use Rattle.model.specs.Letters.{DieAsRouted, DieOnce}
 use Rattle.model.specs.Order.{GivesInOrder}
+use Rattle.model.specs.Fresh.{EnterFresh, MarksWhatWasGiven}
 use Rattle.model.specs.Contents.{AreSourced}
 use Rattle.model.specs.Unrefused.{GetsAreAnswered, PurgesLeaveNone}
+use Rattle.model.specs.Noted.{PublishesAreTaken}
 use Rattle.model.specs.Settled.{SettlesAsAsked, NoneIsForgotten}
 use Rattle.model.specs.Alone.{ChangesOwnAlone, ArePresent}
 use Rattle.model.specs.LoggedIn.{EntersByLogin}
@@ -39,6 +42,10 @@ pub record KeepsEvents (old : Broker) (hs : List Happening) (new : Broker) : Typ
   pub causes : AllByRecursion HaveCauses hs
   -- each message that entered a queue came by its own publish, noted at this event, or, as a dead letter, from a queue where it stood before the event and which it left there
   pub come : AllByRecursion HaveOrigins hs
+  -- what entered a queue stands at its end after the event, in the order of the notes, and is not marked as redelivered
+  pub fresh : AllByRecursion EnterFresh hs
+  -- and nothing else comes to be marked so but what was given out of its queue before the event
+  pub marked : AllByRecursion MarksWhatWasGiven hs
   -- each message that was rejected came, as its dead letter, to each queue to which it goes on from there, but where that queue was full; and no other dead letter came
   pub letters : AllByRecursion DieAsRouted hs
   -- so that of the messages of a number no more dead letters came to a queue than were rejected
@@ -63,12 +70,16 @@ pub record KeepsPromises (hs : List Happening) (last : Broker) (connections : Li
   pub gets : AllByRecursion GetsAreAnswered hs
   -- a purge left none that could be given out
   pub purges : AllByRecursion PurgesLeaveNone hs
+  -- a publish against which nothing stood was noted, and in confirm mode confirmed under the next number of its channel
+  pub taken : AllByRecursion PublishesAreTaken hs
   -- each message was given out to one that asked for messages of its queue, with the body and the properties with which it was published, but for headers that tell of its deaths
   pub contents : AreSourced [] hs
   -- messages were given out in order, and nothing came to be held in another way
   pub order : GivesInOrder hs
   -- the acks in a connection's output are those of its publishes confirmed by ack, one by one
   pub acks : (i : ℕ) (seen : Shown) → slice_get connections i ≡ Some seen → HasAcksOf (acked (i + 1) hs) seen.output
+  -- and the nacks are those of its publishes confirmed by nack
+  pub nacks : (i : ℕ) (seen : Shown) → slice_get connections i ≡ Some seen → HasNacks (nacks_of (i + 1) hs) seen.output
 
 -- The headline. These arrivals came, one by one, to a broker with no connection under this topology and these guarantees; of all that happened by them this was seen, outputs and notes; and the promises are kept.
 pub record CertifiedDelivery (f : Config) (arrivals : List Arrival) (seen : Seen) : Type 0 where

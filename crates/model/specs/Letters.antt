@@ -12,7 +12,8 @@ use Rattle.model.specs.declared.notes.Cause.TheVariants.{Rejected}
 use Rattle.model.specs.declared.notes.Note.{Note}
 use Rattle.model.specs.declared.notes.Note.TheVariants.{Entered, Left}
 use Rattle.model.specs.declared.notes.Way.TheVariants as way
-use Rattle.model.specs.Routed.{note_at}
+use Rattle.model.specs.Broker.{body_bytes}
+use Rattle.model.specs.Routed.{Said, sized, note_at}
 
 -- A message with this key that is rejected in the queue q goes on to the queue r: q dead-letters to an exchange, and the key that q fixes, or else the message's own, leads from there to r (RabbitMQ, "Dead Letter Exchanges").
 pub record DiesInto (t : Topology) (q key r : Text) : Type 0 where
@@ -30,13 +31,13 @@ pub record Rejection (t : Topology) (queues : Text → List Entry) : Type 0 wher
   pub routed : Picks (DiesInto t queue entry.message.key) (queue_names t.queues) targets
 
 -- it is noted of a rejection that its message left, and then of each queue to which the dead letter goes on
-abbrev pub rejection_notes : (t : Topology) (queues : Text → List Entry) → List Note → Rejection t queues → List Note
-rejection_notes t queues noted r = Left r.entry.message.number r.queue Rejected ∷ map (note_at t queues noted r.entry.message.number way.Dead) r.targets
+abbrev pub rejection_notes : (t : Topology) (queues : Text → List Entry) → List Said → Rejection t queues → List Note
+rejection_notes t queues said r = Left r.entry.message.number r.queue Rejected ∷ map (note_at t queues said (body_bytes r.entry) r.entry.message.number way.Dead) r.targets
 
--- Behind the first notes of an event, the others are of rejections, one after another.
-pub data AreRejections (t : Topology) (queues : Text → List Entry) : List Note → List Note → Type 0 where
-  none : {noted : List Note} → AreRejections t queues noted []
-  next : {noted rest : List Note} (r : Rejection t queues) → AreRejections t queues (noted ++ rejection_notes t queues noted r) rest → AreRejections t queues noted (rejection_notes t queues noted r ++ rest)
+-- Behind the first notes of an event, each beside the size of its message, the others are of rejections, one after another. A dead letter keeps the body, and so the size.
+pub data AreRejections (t : Topology) (queues : Text → List Entry) : List Said → List Note → Type 0 where
+  none : {said : List Said} → AreRejections t queues said []
+  next : {said : List Said} {rest : List Note} (r : Rejection t queues) → AreRejections t queues (said ++ sized (body_bytes r.entry) (rejection_notes t queues said r)) rest → AreRejections t queues said (rejection_notes t queues said r ++ rest)
 
 -- the note is of no rejection and of no dead letter
 abbrev pub IsOfNoRejection : Note → Type 0

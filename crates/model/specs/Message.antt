@@ -13,3 +13,5 @@ pub record Message : Type 0 where
   pub key : Text
   pub content : Content
   pub redelivered : Bool
+  -- it stood in a queue when the last reload was done
+  pub stood : Bool

@@ -1,12 +1,12 @@
 -- What a publish enters: each queue to which it is routed, but where that queue is full (AMQP 0-9-1, section 3.1.3; RabbitMQ, "Queue Length Limit").
-use Rattle.std.specs.Prelude.{◌≡◌, ◌+◌, ℕ, List, [], ◌∷◌, ◌++◌, map, count_by, Bool, true, false, Option, Some, None, ◌&&◌, if◌then◌else◌}
-use Rattle.std.specs.List.{AllByRecursion}
+use Rattle.std.specs.Prelude.{◌≡◌, ◌+◌, ℕ, List, [], ◌∷◌, ◌++◌, length, map, filter, count_by, Bool, true, false, Option, Some, None, ◌&&◌, if◌then◌else◌}
+use Rattle.std.specs.List.{AllByRecursion, sum_by}
 use Rattle.std.specs.Str.{bytes_eq}
 use Rattle.model.specs.Words.{Text}
 use Rattle.model.specs.Topology.{Topology, IsIn, queue_names}
 use Rattle.model.specs.Routing.{Routes, Picks}
-use Rattle.model.specs.Broker.{is_at, limit_of, queue_named}
-use Rattle.model.specs.Step.{is_none, returned_notes, confirm_notes}
+use Rattle.model.specs.Broker.{queue_named, ready_bytes, refuses}
+use Rattle.model.specs.Step.{content_or_none, is_none, returned_notes, confirm_notes}
 use Rattle.model.specs.Deliveries.{ready_in}
 use Rattle.model.specs.Run.{Happening}
 use Rattle.model.specs.declared.messages.Entry.{Entry}
@@ -26,13 +26,34 @@ abbrev pub is_entry_into : Text → Note → Bool
 is_entry_into q (Entered n r w) = bytes_eq r q
 is_entry_into q note = false
 
--- The queue is full behind these notes: it has a limit, and no fewer messages that could be given out before the event or have entered since (RabbitMQ, "Queue Length Limit", reject-publish).
-abbrev pub is_full_after : Topology → (Text → List Entry) → List Note → Text → Bool
-is_full_after t queues noted q = is_at (limit_of (queue_named t.queues q)) (ready_in (queues q) + count_by (is_entry_into q) noted)
+-- a note, beside the size of the body of the message that it speaks of
+pub record Said : Type 0 where
+  pub note : Note
+  pub size : ℕ
 
--- it is noted of a message and a queue to which it goes that it entered there in this way, or that the queue was full and refused it
-abbrev pub note_at : Topology → (Text → List Entry) → List Note → ℕ → Way → Text → Note
-note_at t queues noted n w q = if is_full_after t queues noted q then Refused n q else Entered n q w
+-- the note beside this size
+abbrev pub with_size : ℕ → Note → Said
+with_size size note = record { note = note; size = size }
+
+-- notes of one message, whose body has this size
+abbrev pub sized : ℕ → List Note → List Said
+sized size notes = map (with_size size) notes
+
+-- it is said that a message entered this queue
+abbrev pub is_said_into : Text → Said → Bool
+is_said_into q s = is_entry_into q s.note
+
+-- how many bytes the bodies have that entered this queue
+abbrev pub bytes_into : Text → List Said → ℕ
+bytes_into q said = sum_by (λ (s : Said). s.size) (filter (is_said_into q) said)
+
+-- Behind these notes the queue refuses a message with a body of this size: its limits count what could be given out before the event and what has entered since (RabbitMQ, "Queue Length Limit", reject-publish).
+abbrev pub is_full_after : Topology → (Text → List Entry) → List Said → Text → ℕ → Bool
+is_full_after t queues said q size = refuses (queue_named t.queues q) (ready_in (queues q) + count_by (is_said_into q) said) (ready_bytes (queues q) + bytes_into q said) size
+
+-- it is noted of a message with a body of this size, and of a queue to which it goes, that it entered there in this way, or that the queue was full and refused it
+abbrev pub note_at : Topology → (Text → List Entry) → List Said → ℕ → ℕ → Way → Text → Note
+note_at t queues said size n w q = if is_full_after t queues said q size then Refused n q else Entered n q w
 
 -- What an event notes of the publish of this number, which it is: that it came, then of each queue to which it is routed, in the order of the file, that it entered it or that the queue was full, then that it went back, where it is mandatory and routed nowhere, and where it has a confirm number the one answer to it: ack where no queue was full, and else nack.
 pub record EntersAsRouted (h : Happening) (n c k : ℕ) (x key : Text) (confirm : Option ℕ) : Type 0 where
@@ -45,10 +66,10 @@ pub record EntersAsRouted (h : Happening) (n c k : ℕ) (x key : Text) (confirm 
   pub routed : Picks (Routes h.config.topology x key) (queue_names h.config.topology.queues) targets
   pub goes_back : Bool
   pub reply : Answer
-  pub noted : h.notes ≡ Published n c k x key confirm ∷ (map (note_at h.config.topology h.before.broker.queue [] n way.Publish) targets ++ (returned_notes n goes_back ++ confirm_notes n confirm reply))
+  pub noted : h.notes ≡ Published n c k x key confirm ∷ (map (note_at h.config.topology h.before.broker.queue [] (length (content_or_none given).body) n way.Publish) targets ++ (returned_notes n goes_back ++ confirm_notes n confirm reply))
   pub returned : goes_back ≡ (publish.mandatory && is_none targets)
-  pub acked : reply ≡ answer.Ack → AllByRecursion (λ (q : Text). is_full_after h.config.topology h.before.broker.queue [] q ≡ false) targets
-  pub nacked : reply ≡ answer.Nack → (q : Text) × IsIn q targets × (is_full_after h.config.topology h.before.broker.queue [] q ≡ true)
+  pub acked : reply ≡ answer.Ack → AllByRecursion (λ (q : Text). is_full_after h.config.topology h.before.broker.queue [] q (length (content_or_none given).body) ≡ false) targets
+  pub nacked : reply ≡ answer.Nack → (q : Text) × IsIn q targets × (is_full_after h.config.topology h.before.broker.queue [] q (length (content_or_none given).body) ≡ true)
 
 -- each publish that the event notes entered queues so
 abbrev pub EnterAsRouted : Happening → Type 0

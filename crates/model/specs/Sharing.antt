@@ -13,6 +13,6 @@ abbrev pub first_key : Shared → Text
 first_key s = elim s.first [ None ↦ s.key | Some sent ↦ sent.value.key ]
 
 -- one copy, which may have been given out before
-abbrev pub message_of : Shared → Bool → Message
-message_of s redelivered =
-    record { number = s.number; first_exchange = first_exchange s; first_key = first_key s; exchange = s.exchange; key = s.key; content = s.content; redelivered = redelivered }
+abbrev pub message_of : Shared → Bool → Bool → Message
+message_of s redelivered stood =
+    record { number = s.number; first_exchange = first_exchange s; first_key = first_key s; exchange = s.exchange; key = s.key; content = s.content; redelivered = redelivered; stood = stood }

@@ -4,6 +4,7 @@ use Rattle.std.specs.Prelude.{◌≡◌, ◌+◌, ℕ, List, [], ◌∷◌, ◌+
 use Rattle.std.specs.List.{list_any}
 use Rattle.std.specs.Str.{bytes_eq}
 use Rattle.model.specs.Words.{Text}
+use Rattle.model.specs.Commands.{no_publish}
 use Rattle.model.specs.Topology.{Topology, queue_names}
 use Rattle.model.specs.Routing.{Routes, Picks}
 use Rattle.model.specs.Broker.{Outstanding, Channel, Connection, Broker, new_channel, queue_named, is_full, is_ready, with_one, with_pair, with_row}
@@ -287,7 +288,7 @@ connection_close c code cause = reply c 0 (ConnectionClose (record { reply_code 
 
 -- the message of publish n: the exchange and key that it was first sent to stay with it when it is dead-lettered
 abbrev pub message : ℕ → Publish → Content → Message
-message n p content = record { number = n; first_exchange = p.exchange; first_key = p.routing_key; exchange = p.exchange; key = p.routing_key; content = content; redelivered = false }
+message n p content = record { number = n; first_exchange = p.exchange; first_key = p.routing_key; exchange = p.exchange; key = p.routing_key; content = content; redelivered = false; stood = false }
 
 -- the publish is routed to no queue
 abbrev pub is_none : List Text → Bool
@@ -537,7 +538,7 @@ OnConnection t old c h m content sends notes new (Some conn) = Decides t old c h
 
 -- a publish with empty texts, which stands for one whose content is too large
 abbrev pub empty_publish : Method
-empty_publish = BasicPublish (record { reserved = 0; exchange = []; routing_key = []; mandatory = false; immediate = false })
+empty_publish = BasicPublish no_publish
 
 -- on a channel that is open it is a refusal of the channel: 311 content-too-large (own)
 abbrev pub refusal_of_large_on : Option Channel → Refusal

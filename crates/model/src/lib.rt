@@ -10,6 +10,7 @@ mod messages;
 mod methods;
 mod notes;
 mod numbers;
+mod obstacles;
 mod sizes;
 mod tables;
 mod texts;
@@ -24,6 +25,7 @@ pub use methods::{
 };
 pub use notes::{Answer, Cause, Note, Way};
 pub use numbers::{Ids, reply_text};
+pub use obstacles::Obstacle;
 pub use tables::Table;
 pub use texts::{Text, Token};
 pub use topologies::{Binding, DeclaredQueue, Exchange, ExchangeKind, Mode, Place};

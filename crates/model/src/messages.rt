@@ -43,6 +43,8 @@ impl Drop for Shared {
 pub struct Message {
     shared: Arc<Shared>,
     redelivered: bool,
+    /// It stood in a queue when the last reload was done.
+    stood: bool,
 }
 
 /// Written out, so that a drop is one call.
@@ -51,6 +53,7 @@ impl Drop for Message {
         let Message {
             shared: _,
             redelivered: _,
+            stood: _,
         } = self;
     }
 }
@@ -61,7 +64,7 @@ impl Model for Message {
 
     ghost Value = { Seen };
 
-    ghost view = { λ m. message_of m.shared.value m.redelivered };
+    ghost view = { λ m. message_of m.shared.value m.redelivered m.stood };
 }
 
 impl Message {
@@ -89,6 +92,7 @@ impl Message {
             Ok(shared) => Ok(Message {
                 shared,
                 redelivered: false,
+                stood: false,
             }),
             Err(_) => Err(AllocError),
         }
@@ -116,6 +120,7 @@ impl Message {
             Ok(shared) => Ok(Message {
                 shared,
                 redelivered: false,
+                stood: false,
             }),
             Err(_) => Err(AllocError),
         }
@@ -146,6 +151,7 @@ impl Message {
         Ok(Message {
             shared: Arc::try_clone(&self.shared)?,
             redelivered: self.redelivered,
+            stood: self.stood,
         })
     }
 
@@ -170,6 +176,26 @@ impl Message {
         &self.shared.key
     }
 
+    /// The exchange to which its publish was sent.
+    pub fn first_exchange(&self) -> &Text
+        ensures { result.now ≡ self.now.first_exchange }
+    {
+        match &self.shared.first {
+            Some(sent) => &sent.exchange,
+            None => &self.shared.exchange,
+        }
+    }
+
+    /// The key under which its publish came.
+    pub fn first_key(&self) -> &Text
+        ensures { result.now ≡ self.now.first_key }
+    {
+        match &self.shared.first {
+            Some(sent) => &sent.key,
+            None => &self.shared.key,
+        }
+    }
+
     /// Its properties and body.
     pub fn content(&self) -> &Content
         ensures { result.now ≡ self.now.content }
@@ -189,6 +215,13 @@ impl Message {
         ensures { self.new ≡ record self.old { redelivered = true } }
     {
         self.redelivered = true;
+    }
+
+    /// Marks it as one that stood in a queue when a reload was done.
+    pub fn stand(&mut self)
+        ensures { self.new ≡ record self.old { stood = true } }
+    {
+        self.stood = true;
     }
 }
 

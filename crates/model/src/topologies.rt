@@ -36,6 +36,8 @@ pub struct DeclaredQueue {
     pub name: Text,
     /// How many ready messages it takes before it refuses more.
     pub limit: Option<u32>,
+    /// How many bytes the bodies of its ready messages may have together.
+    pub byte_limit: Option<u32>,
     /// Where rejected messages go. Source: RabbitMQ, "Dead Letter Exchanges".
     pub dead_letter_exchange: Option<Text>,
     /// The key they go under, or else their own.

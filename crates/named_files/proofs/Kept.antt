@@ -38,4 +38,4 @@ known_kept a b P file k h = subst P (k file) h
 -- a file has at most 64 guarantees
 pub few_promised : (holds : Text → Known) (named : Option Text) (t : Topology) (gs : List Guarantee) → PromisesAt holds named t gs → length gs ≤ 64
 few_promised holds None t gs h = rw h (omega arith)
-few_promised holds (Some file) t gs h = (h.2.free TooMany).few gs h.2.is_file
+few_promised holds (Some file) t gs h = ((h.2.free TooMany).few gs h.2.is_file).guarantees

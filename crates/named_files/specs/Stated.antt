@@ -30,7 +30,7 @@ file_named file = option_map (λ f. f.now) file
 abbrev pub built_in : Topology
 built_in = record {
   exchanges = record { name = codes "orders"; kind = Direct; internal = false; alternate = None } ∷ [];
-  queues = record { name = codes "audit"; limit = None; dead_letter_exchange = None; dead_letter_key = None } ∷ [];
+  queues = record { name = codes "audit"; limit = None; byte_limit = None; dead_letter_exchange = None; dead_letter_key = None } ∷ [];
   bindings = record { source = codes "orders"; to = place.Queue (codes "audit"); key = codes "new" } ∷ [];
 }
 

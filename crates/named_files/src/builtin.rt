@@ -30,6 +30,7 @@ fn audit(alloc: Global) -> Result<Vec<DeclaredQueue>, AllocError>
     queues.push(DeclaredQueue {
         name: Text::from_slice(alloc, b"audit")?,
         limit: None,
+        byte_limit: None,
         dead_letter_exchange: None,
         dead_letter_key: None,
     })?;

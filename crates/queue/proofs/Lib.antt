@@ -1,5 +1,6 @@
 pub mod Places
 pub mod Slotted
-pub mod Requeued
+pub mod Bytes
 pub mod Purging
 pub mod Firsts
+pub mod Changing

@@ -15,7 +15,7 @@ use Rattle.model.specs.declared.messages.Mark.TheVariants.{Ready, Held}
 use Rattle.marks.specs.Places.{IsNextMark, Differs, bit_of}
 use Rattle.queue.specs.Line.{ready_count}
 use Rattle.queue.specs.declared.slots.Slot.{Slot}
-use Rattle.queue.specs.Slots.{somes, slot_has, changed, num, tally, is_held, SlotBits, BitsTurned, SlotsAreMarked, AreSigned, BitsShow, HasPlaces, contents}
+use Rattle.queue.specs.Slots.{somes, slot_has, changed, num, tally, SlotBits, BitTurned, SlotsAreMarked, AreSigned, BitsShow, HasPlaces, contents}
 use Rattle.queue.proofs.Places.{num-some, num-none, within, FirstAt, NonePasses, counted, tally-most, somes-most, count-set, length-set, count-fewer, OnlyAt}
 
 -- ---- one entry
@@ -36,15 +36,6 @@ held_not_ready mine (Some e) r = go e.mark r
     go Ready r = absurd (false≢true r)
     go (Held g) r = refl
 
--- what is not held by anyone is not held by these
-pub unheld : (mine : Holder → Bool) (o : Option Entry) → slot_has is_held o ≡ false → slot_has (is_held_by mine) o ≡ false
-unheld mine None h = refl
-unheld mine (Some e) h = ready_not_held mine (Some e) (go (is_ready e) h)
-  where
-    go : (b : Bool) → not b ≡ false → b ≡ true
-    go true h = refl
-    go false h = absurd (false≢true (sym h))
-
 some_of : {X : Type 0} (p : X → Bool) (o : Option X) → slot_has p o ≡ true → is_some o ≡ true
 some_of p None h = absurd (false≢true h)
 some_of p (Some x) h = refl
@@ -61,17 +52,9 @@ held_not_free : (holder : Holder) (o : Option Entry) → slot_has is_ready (chan
 held_not_free holder None = refl
 held_not_free holder (Some e) = refl
 
-now_held : (holder : Holder) (o : Option Entry) → slot_has is_ready o ≡ true → slot_has is_held (changed (held_as holder) o) ≡ true
-now_held holder None r = absurd (false≢true r)
-now_held holder (Some e) r = refl
-
 pub now_free : (p : Entry → Bool) (o : Option Entry) → slot_has p o ≡ true → slot_has is_ready (changed freed_now o) ≡ true
 now_free p None h = absurd (false≢true h)
 now_free p (Some e) h = refl
-
-pub freed_not_held : (o : Option Entry) → slot_has is_held (changed freed_now o) ≡ false
-freed_not_held None = refl
-freed_not_held (Some e) = refl
 
 pub freed_there : (mine : Holder → Bool) (e : Entry) → is_held_by mine e ≡ true → freed mine e ≡ freed_now e
 freed_there mine e h = go e.mark h
@@ -149,8 +132,8 @@ marked_set p slots v bit bit' i lt m d j = elim (eqb_tells j i) [
 ]
 
 pub signed_set : (slots : List (Option Entry)) (v : Option Entry) (bits bits' : SlotBits) (i : ℕ) → i < length slots → AreSigned slots bits
-    → BitsTurned bits bits' i (num (slot_has is_ready v)) (num (slot_has is_held v)) → AreSigned (set slots i v) bits'
-signed_set slots v bits bits' i lt s t = record { ready = marked_set is_ready slots v _ _ i lt s.ready t.ready_bit; held = marked_set is_held slots v _ _ i lt s.held t.held_bit }
+    → BitTurned bits bits' i (num (slot_has is_ready v)) → AreSigned (set slots i v) bits'
+signed_set slots v bits bits' i lt s t = marked_set is_ready slots v _ _ i lt s t.turned
 
 at_end : (xs : List (Option Entry)) (v : Option Entry) → get_or (xs ++ v ∷ []) (length xs) None ≡ v
 at_end [] v = refl
@@ -174,7 +157,7 @@ marked_push p slots v bit bit' m d j = elim (eqb_tells j (length slots)) [
 -- What was written, and how the counts changed.
 record Written (slots : List (Option Entry)) (v : Option Entry) (bits bits' : SlotBits) (ready ready' live live' i : ℕ) : Type 0 where
   there : i < length slots
-  turned : BitsTurned bits bits' i (num (slot_has is_ready v)) (num (slot_has is_held v))
+  turned : BitTurned bits bits' i (num (slot_has is_ready v))
   ready_count : ready' + num (slot_has is_ready (get_or slots i None)) ≡ ready + num (slot_has is_ready v)
   live_count : live' + num (is_some (get_or slots i None)) ≡ live + num (is_some v)
   apart : (h : Holder) → tally (is_held_as h) (somes (set slots i v)) ≤ 1
@@ -206,31 +189,26 @@ apart_held slots i holder h true e lt r f le =
 
 -- ---- the calls
 
--- the bits of a slot whose entry is ready again
-pub freed_turned : (o : Option Entry) (bits bits' : SlotBits) (i : ℕ) → slot_has is_ready (changed freed_now o) ≡ true → BitsTurned bits bits' i 1 0
-    → BitsTurned bits bits' i (num (slot_has is_ready (changed freed_now o))) (num (slot_has is_held (changed freed_now o)))
-freed_turned o bits bits' i f t = subst (λ (b : Bool). BitsTurned bits bits' i (num b) (num (slot_has is_held (changed freed_now o)))) (sym f) (subst (λ (b : Bool). BitsTurned bits bits' i 1 (num b)) (sym (freed_not_held o)) t)
-
 pub hold_shows : (slots now : List (Option Entry)) (bits bits' : SlotBits) (ready ready' live i : ℕ) (holder : Holder) → BitsShow slots bits ready live → IsNextMark (bit_of bits.ready) 0 i
-    → BitsTurned bits bits' i 0 1 → now ≡ set slots i (changed (held_as holder) (get_or slots i None)) → find (is_held_as holder) (somes slots) ≡ None → ready' + 1 ≡ ready
+    → BitTurned bits bits' i 0 → now ≡ set slots i (changed (held_as holder) (get_or slots i None)) → find (is_held_as holder) (somes slots) ≡ None → ready' + 1 ≡ ready
     → BitsShow now bits' ready' live
 hold_shows slots now bits bits' ready ready' live i holder s n t e f r =
     let o : Option Entry = get_or slots i None in
     let v : Option Entry = changed (held_as holder) o in
-    let p : FirstAt is_ready slots i = first_by_marks is_ready slots (bit_of bits.ready) i s.signed.ready n in
+    let p : FirstAt is_ready slots i = first_by_marks is_ready slots (bit_of bits.ready) i s.signed n in
     let lt : i < length slots = within is_ready slots i p.there in
     subst (λ (xs : List (Option Entry)). BitsShow xs bits' ready' live) (sym e) (shows_set slots v bits bits' ready ready' live live i s (record {
       there = lt;
-      turned = subst (λ (b : Bool). BitsTurned bits bits' i (num b) (num (slot_has is_held v))) (sym (held_not_free holder o)) (subst (λ (b : Bool). BitsTurned bits bits' i 0 (num b)) (sym (now_held holder o p.there)) t);
+      turned = subst (λ (b : Bool). BitTurned bits bits' i (num b)) (sym (held_not_free holder o)) t;
       ready_count = (let a = ap num p.there in let b = ap num (held_not_free holder o) in omega arith);
       live_count = ap (λ (b : Bool). live + num b) (sym (still_some (held_as holder) o));
       apart = λ h. apart_held slots i holder h (is_under h holder) refl lt p.there f (s.apart h);
     }))
 
 pub take_shows : (slots now : List (Option Entry)) (bits bits' : SlotBits) (ready ready' live live' i : ℕ) → BitsShow slots bits ready live → IsNextMark (bit_of bits.ready) 0 i
-    → BitsTurned bits bits' i 0 0 → now ≡ set slots i None → ready' + 1 ≡ ready → live' + 1 ≡ live → BitsShow now bits' ready' live'
+    → BitTurned bits bits' i 0 → now ≡ set slots i None → ready' + 1 ≡ ready → live' + 1 ≡ live → BitsShow now bits' ready' live'
 take_shows slots now bits bits' ready ready' live live' i s n t e r l =
-    let p : FirstAt is_ready slots i = first_by_marks is_ready slots (bit_of bits.ready) i s.signed.ready n in
+    let p : FirstAt is_ready slots i = first_by_marks is_ready slots (bit_of bits.ready) i s.signed n in
     let lt : i < length slots = within is_ready slots i p.there in
     subst (λ (xs : List (Option Entry)). BitsShow xs bits' ready' live') (sym e) (shows_set slots None bits bits' ready ready' live live' i s (record {
       there = lt;
@@ -241,7 +219,7 @@ take_shows slots now bits bits' ready ready' live live' i s n t e r l =
     }))
 
 pub release_shows : (slots now : List (Option Entry)) (bits bits' : SlotBits) (ready ready' live i : ℕ) (holder : Holder) → BitsShow slots bits ready live
-    → slot_has (is_held_as holder) (get_or slots i None) ≡ true → BitsTurned bits bits' i 1 0 → now ≡ set slots i (changed freed_now (get_or slots i None)) → ready' ≡ ready + 1
+    → slot_has (is_held_as holder) (get_or slots i None) ≡ true → BitTurned bits bits' i 1 → now ≡ set slots i (changed freed_now (get_or slots i None)) → ready' ≡ ready + 1
     → BitsShow now bits' ready' live
 release_shows slots now bits bits' ready ready' live i holder s h t e r =
     let o : Option Entry = get_or slots i None in
@@ -250,14 +228,14 @@ release_shows slots now bits bits' ready ready' live i holder s h t e r =
     let f : slot_has is_ready v ≡ true = now_free (is_held_as holder) o h in
     subst (λ (xs : List (Option Entry)). BitsShow xs bits' ready' live) (sym e) (shows_set slots v bits bits' ready ready' live live i s (record {
       there = lt;
-      turned = freed_turned o bits bits' i f t;
+      turned = subst (λ (b : Bool). BitTurned bits bits' i (num b)) (sym f) t;
       ready_count = (let a = ap num (held_not_ready (is_under holder) o h) in let b = ap num f in omega arith);
       live_count = ap (λ (b : Bool). live + num b) (sym (still_some freed_now o));
       apart = λ g. apart_less slots v i g lt (s.apart g) (ready_not_held (is_under g) v f);
     }))
 
 pub remove_shows : (slots now : List (Option Entry)) (bits bits' : SlotBits) (ready live live' i : ℕ) (holder : Holder) → BitsShow slots bits ready live
-    → slot_has (is_held_as holder) (get_or slots i None) ≡ true → BitsTurned bits bits' i 0 0 → now ≡ set slots i None → live' + 1 ≡ live → BitsShow now bits' ready live'
+    → slot_has (is_held_as holder) (get_or slots i None) ≡ true → BitTurned bits bits' i 0 → now ≡ set slots i None → live' + 1 ≡ live → BitsShow now bits' ready live'
 remove_shows slots now bits bits' ready live live' i holder s h t e l =
     let lt : i < length slots = within (is_held_as holder) slots i h in
     subst (λ (xs : List (Option Entry)). BitsShow xs bits' ready live') (sym e) (shows_set slots None bits bits' ready ready live live' i s (record {
@@ -269,11 +247,11 @@ remove_shows slots now bits bits' ready live live' i holder s h t e l =
     }))
 
 pub push_shows : (slots now : List (Option Entry)) (bits bits' : SlotBits) (ready ready' live live' : ℕ) (m : Message) → BitsShow slots bits ready live
-    → BitsTurned bits bits' (length slots) 1 0 → now ≡ slots ++ Some (record { message = m; mark = Ready }) ∷ [] → ready' ≡ ready + 1 → live' ≡ live + 1 → BitsShow now bits' ready' live'
+    → BitTurned bits bits' (length slots) 1 → now ≡ slots ++ Some (record { message = m; mark = Ready }) ∷ [] → ready' ≡ ready + 1 → live' ≡ live + 1 → BitsShow now bits' ready' live'
 push_shows slots now bits bits' ready ready' live live' m s t e r l =
     let v : Entry = record { message = m; mark = Ready } in
     subst (λ (xs : List (Option Entry)). BitsShow xs bits' ready' live') (sym e) (record {
-      signed = record { ready = marked_push is_ready slots (Some v) _ _ s.signed.ready t.ready_bit; held = marked_push is_held slots (Some v) _ _ s.signed.held t.held_bit };
+      signed = marked_push is_ready slots (Some v) _ _ s.signed t.turned;
       ready_count = (let a = s.ready_count in let b = counted_end is_ready slots v in omega arith);
       live_count = (let a = s.live_count in let b = length_end slots v in omega arith);
       apart = λ h. (let a = s.apart h in let b = counted_end (is_held_as h) slots v in omega arith);
@@ -292,7 +270,7 @@ push_shows slots now bits bits' ready ready' live live' m s t e r l =
 -- the counts have room for a step
 pub ready_least : (slots : List (Option Entry)) (bits : SlotBits) (ready live i : ℕ) → BitsShow slots bits ready live → IsNextMark (bit_of bits.ready) 0 i → (1 ≤ ready) × (1 ≤ live)
 ready_least slots bits ready live i s n =
-    let p : FirstAt is_ready slots i = first_by_marks is_ready slots (bit_of bits.ready) i s.signed.ready n in
+    let p : FirstAt is_ready slots i = first_by_marks is_ready slots (bit_of bits.ready) i s.signed n in
     let c = counted is_ready slots i p.there in
     let m = tally-most is_ready (somes slots) in
     let a = s.ready_count in let b = s.live_count in
@@ -393,17 +371,16 @@ marked_done p slots bit place places le len m k = elim (leb_tells places k) [
   | inr q ↦ let h = q.1 in m.below k (omega arith)
 ]
 
--- so it is with both bits
-pub record SignedBelow (slots : List (Option Entry)) (bits : SlotBits) (place places : ℕ) : Type 0 where
-  pub ready : MarkedBelow is_ready slots (bit_of bits.ready) place places
-  pub held : MarkedBelow is_held slots (bit_of bits.held) place places
+-- so it is with the ready ones
+abbrev pub SignedBelow : List (Option Entry) → SlotBits → ℕ → ℕ → Type 0
+SignedBelow slots bits place places = MarkedBelow is_ready slots (bit_of bits.ready) place places
 
 pub signed_more : (slots : List (Option Entry)) (bits bits' : SlotBits) (place places : ℕ) → place < places → SignedBelow slots bits place places
-    → BitsTurned bits bits' place (num (slot_has is_ready (get_or slots place None))) (num (slot_has is_held (get_or slots place None))) → SignedBelow slots bits' (place + 1) places
-signed_more slots bits bits' place places lt s t = record { ready = marked_more is_ready slots _ _ place places lt s.ready t.ready_bit; held = marked_more is_held slots _ _ place places lt s.held t.held_bit }
+    → BitTurned bits bits' place (num (slot_has is_ready (get_or slots place None))) → SignedBelow slots bits' (place + 1) places
+signed_more slots bits bits' place places lt s t = marked_more is_ready slots _ _ place places lt s t.turned
 
 pub signed_done : (slots : List Slot) (bits : SlotBits) (place places : ℕ) → places ≤ place → length slots ≤ places → SignedBelow (contents slots) bits place places → AreSigned (contents slots) bits
-signed_done slots bits place places le len s = record { ready = marked_done is_ready slots _ place places le len s.ready; held = marked_done is_held slots _ place places le len s.held }
+signed_done slots bits place places le len s = marked_done is_ready slots _ place places le len s
 
 -- ---- the ready ones taken out one by one
 

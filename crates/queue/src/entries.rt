@@ -2,7 +2,7 @@
 
 ghost use Rattle.std.specs.Prelude.{◌≡◌};
 ghost use Rattle.model.specs.Broker.{is_ready};
-ghost use Rattle.model.specs.Entries.{by_connection, is_under, is_held_by, is_held_as, freed_now};
+ghost use Rattle.model.specs.Entries.{is_under, is_held_as, freed, freed_now, held_as};
 
 use model::{Entry, Holder, Mark};
 
@@ -22,16 +22,6 @@ pub(crate) fn is_free(entry: &Entry) -> bool
     matches!(entry.mark, Mark::Ready)
 }
 
-/// The message is held on this connection.
-pub(crate) fn is_held_on(entry: &Entry, connection: u64) -> bool
-    ensures { result ≡ is_held_by (by_connection connection) entry.now }
-{
-    match &entry.mark {
-        Mark::Ready => false,
-        Mark::Held(holder) => holder.connection == connection,
-    }
-}
-
 /// The message is held under this delivery tag.
 pub(crate) fn is_held_under(entry: &Entry, holder: &Holder) -> bool
     ensures { result ≡ is_held_as holder.now entry.now }
@@ -48,4 +38,20 @@ pub(crate) fn free(entry: &mut Entry)
 {
     entry.mark = Mark::Ready;
     entry.message.redeliver();
+}
+
+/// The message is held from now on.
+pub(crate) fn hold(entry: &mut Entry, holder: Holder)
+    ensures { entry.new ≡ held_as holder entry.old }
+{
+    entry.mark = Mark::Held(holder);
+}
+
+/// The message is ready again, if it is held under this delivery tag.
+pub(crate) fn free_under(entry: &mut Entry, holder: &Holder)
+    ensures { entry.new ≡ freed (is_under holder.now) entry.old }
+{
+    if is_held_under(entry, holder) {
+        free(entry);
+    }
 }

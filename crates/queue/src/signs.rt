@@ -1,4 +1,4 @@
-//! Which slots have a ready message, and which one that is held.
+//! Which slots have a ready message.
 
 ghost use Rattle.std.specs.Prelude.{◌≡◌};
 
@@ -9,12 +9,11 @@ use std::marker::Model;
 /// A bit for each slot.
 type SlotMarks = Over<Over<Flat>>;
 
-/// Two sets of slots: those with a ready message, and those with one that is held.
+/// The set of slots with a ready message.
 #[derive(Drop)]
 pub(crate) struct SlotSigns {
     ready: SlotMarks,
-    held: SlotMarks,
-    /// Both sets have room for the slots below this.
+    /// There is room for the slots below this.
     places: usize,
 }
 
@@ -24,37 +23,34 @@ impl Model for SlotSigns {
 
     ghost Value = { SlotBits };
 
-    ghost view = { λ s. record { ready = s.ready; held = s.held; places = s.places } };
+    ghost view = { λ s. record { ready = s.ready; places = s.places } };
 
-    ghost invariant = { λ s. (s.places ≤ length s.ready * 64) × (s.places ≤ length s.held * 64) };
+    ghost invariant = { λ s. s.places ≤ length s.ready * 64 };
 }
 
 impl SlotSigns {
     ghost use Rattle.std.specs.Prelude.{◌≡◌, ◌<◌, ◌≤◌, ℕ, OnOk, OnErr, IfSome, IfNone};
     ghost use Rattle.marks.specs.Places.{bit_of, IsNextMark};
-    ghost use Rattle.queue.specs.Slots.{SameBits, BitsTurned};
+    ghost use Rattle.queue.specs.Slots.{SameBits, BitTurned};
 
-    /// Two empty sets, with room for no slot. It takes no memory.
+    /// An empty set, with room for no slot. It takes no memory.
     pub(crate) fn empty(alloc: Global) -> SlotSigns
         ensures ready { (k : ℕ) → bit_of result.ready k ≡ 0 }
-        ensures held { (k : ℕ) → bit_of result.held k ≡ 0 }
         ensures places { result.places ≡ 0 }
     {
         SlotSigns {
             ready: <Over<Over<Flat>>>::empty(alloc),
-            held: <Over<Over<Flat>>>::empty(alloc),
             places: 0,
         }
     }
 
-    /// Makes room for the slots below this. What is in the sets stays, also where memory is wanting.
+    /// Makes room for the slots below this. What is in the set stays, also where memory is wanting.
     pub(crate) fn grow(&mut self, places: usize) -> Result<(), AllocError>
         ensures same { SameBits self.old self.new }
         ensures room { OnOk result (self.new.places ≡ places) }
         ensures kept { OnErr result (self.new.places ≡ self.old.places) }
     {
         self.ready.grow(places)?;
-        self.held.grow(places)?;
         self.places = places;
         Ok(())
     }
@@ -74,38 +70,19 @@ impl SlotSigns {
         self.ready.first()
     }
 
-    /// The first slot with a message that is held, of those from `from` on.
-    pub(crate) fn next_held(&self, from: usize) -> Option<usize>
-        ensures some { IfSome result (λ place. IsNextMark (bit_of self.now.held) from place) }
-        ensures none { IfNone result ((k : ℕ) → from ≤ k → bit_of self.now.held k ≡ 0) }
-    {
-        self.held.next(from)
-    }
-
     /// A ready message stands in the slot.
     pub(crate) fn set_ready(&mut self, place: usize)
         requires { place < self.old.places }
-        ensures { BitsTurned self.old self.new place 1 0 }
+        ensures { BitTurned self.old self.new place 1 }
     {
         self.ready.set(place);
-        self.held.clear(place);
     }
 
-    /// A message that is held stands in the slot.
-    pub(crate) fn set_held(&mut self, place: usize)
-        requires { place < self.old.places }
-        ensures { BitsTurned self.old self.new place 0 1 }
-    {
-        self.ready.clear(place);
-        self.held.set(place);
-    }
-
-    /// Nothing stands in the slot.
+    /// Nothing stands in the slot, or a message that is held.
     pub(crate) fn clear(&mut self, place: usize)
         requires { place < self.old.places }
-        ensures { BitsTurned self.old self.new place 0 0 }
+        ensures { BitTurned self.old self.new place 0 }
     {
         self.ready.clear(place);
-        self.held.clear(place);
     }
 }

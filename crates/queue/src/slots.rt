@@ -1,14 +1,14 @@
-//! Slots in the order of arrival, and which of them are ready or held.
+//! Slots in the order of arrival, and which of them are ready.
 
-ghost use Rattle.std.specs.Prelude.{◌≡◌, ◌+◌, ◌<◌, ◌≤◌, ◌++◌, ◌∷◌, [], ℕ, false, true, length, map, get_or, vec_len, vec_capacity, slice_set, option_map, IfSome, IfNone, Some, None};
-ghost use Rattle.model.specs.Broker.{is_ready};
-ghost use Rattle.model.specs.Entries.{by_connection, freed, is_held_as, is_held_by, held_as, freed_now};
+ghost use Rattle.std.specs.Prelude.{◌≡◌, ◌+◌, ◌<◌, ◌≤◌, ◌++◌, ◌∷◌, [], ℕ, false, true, length, get_or, vec_len, vec_capacity, slice_set, option_map, IfSome, IfNone, Some, None};
+ghost use Rattle.model.specs.Broker.{is_ready, body_bytes};
+ghost use Rattle.model.specs.Entries.{is_held_as, held_as, freed_now};
 ghost use Rattle.marks.specs.Places.{bit_of};
-ghost use Rattle.queue.specs.Slots.{contents, somes, slot_has, changed, num, tally, is_held, AreSigned, BitsTurned};
+ghost use Rattle.queue.specs.Slots.{contents, somes, slot_has, slot_size, changed, num, AreSigned, BitTurned};
 
-use crate::entries::{free, is_free, is_held_on, is_held_under};
+use crate::entries::{free, hold, is_free, is_held_under};
 use crate::signs::SlotSigns;
-use model::{Entry, Holder, Mark};
+use model::{Entry, Holder};
 
 /// One place of a queue: the number of the arrival there, and what arrived, until it goes.
 #[derive(Drop)]
@@ -27,11 +27,11 @@ fn free_here(entry: &mut Option<Entry>)
 }
 
 /// What stands here is held from now on.
-fn hold(entry: &mut Option<Entry>, holder: Holder)
+fn hold_here(entry: &mut Option<Entry>, holder: Holder)
     ensures { entry.new ≡ changed (held_as holder) entry.old }
 {
     if let Some(entry) = entry {
-        entry.mark = Mark::Held(holder);
+        hold(entry, holder);
     }
 }
 
@@ -55,13 +55,13 @@ fn is_held_at(slots: &[Slot], place: usize, holder: &Holder) -> bool
     }
 }
 
-/// Whether an entry stands at this place that is held on this connection.
-fn is_on_at(slots: &[Slot], place: usize, connection: u64) -> bool
-    ensures { result ≡ slot_has (is_held_by (by_connection connection)) (get_or (contents slots.now) place None) }
+/// How many bytes the body has of what stands at this place; none where nothing does.
+pub(crate) fn bytes_at(slots: &[Slot], place: usize) -> usize
+    ensures { result ≡ slot_size body_bytes (get_or (contents slots.now) place None) }
 {
     match entry_at(slots, place) {
-        Some(entry) => is_held_on(entry, connection),
-        None => false,
+        Some(entry) => entry.message.content().body.len(),
+        None => 0,
     }
 }
 
@@ -119,7 +119,7 @@ pub(crate) fn hold_at(slots: &mut Vec<Slot>, place: usize, holder: Holder) -> u6
     ensures len { vec_len slots.new ≡ vec_len slots.old }
     ensures capacity { vec_capacity slots.new ≡ vec_capacity slots.old }
 {
-    hold(&mut slots[place].entry, holder);
+    hold_here(&mut slots[place].entry, holder);
     arrival_at(slots, place)
 }
 
@@ -166,10 +166,10 @@ fn drop_empty(slots: &mut Vec<Slot>)
     slots.retain(|slot| slot.entry.is_some());
 }
 
-/// Sets the bits of this place as its slot is.
+/// Sets the bit of this place as its slot is.
 fn sign(slots: &[Slot], signs: &mut SlotSigns, place: usize)
     requires { place < signs.old.places }
-    ensures { BitsTurned signs.old signs.new place (num (slot_has is_ready (get_or (contents slots.now) place None))) (num (slot_has is_held (get_or (contents slots.now) place None))) }
+    ensures { BitTurned signs.old signs.new place (num (slot_has is_ready (get_or (contents slots.now) place None))) }
 {
     match entry_at(slots, place) {
         None => signs.clear(place),
@@ -177,7 +177,7 @@ fn sign(slots: &[Slot], signs: &mut SlotSigns, place: usize)
             if is_free(entry) {
                 signs.set_ready(place);
             } else {
-                signs.set_held(place);
+                signs.clear(place);
             }
         }
     }
@@ -188,7 +188,6 @@ fn sign_all(slots: &[Slot], signs: &mut SlotSigns, places: usize)
     requires within { places ≤ signs.old.places }
     requires slots { length slots.now ≤ places }
     requires ready { (k : ℕ) → places ≤ k → bit_of signs.old.ready k ≡ 0 }
-    requires held { (k : ℕ) → places ≤ k → bit_of signs.old.held k ≡ 0 }
     ensures signed { AreSigned (contents slots.now) signs.new }
     ensures places { signs.new.places ≡ signs.old.places }
 {
@@ -197,7 +196,7 @@ fn sign_all(slots: &[Slot], signs: &mut SlotSigns, places: usize)
     }
 }
 
-/// Closes the gaps, where more than half of the slots are empty: then none is empty any more. Each has its bits.
+/// Closes the gaps, where more than half of the slots are empty: then none is empty any more. Each has its bit.
 pub(crate) fn close_gaps(slots: &mut Vec<Slot>, signs: &mut SlotSigns, live: usize)
     requires within { vec_len slots.old ≤ signs.old.places }
     requires signed { AreSigned (contents slots.old.items) signs.old }
@@ -213,46 +212,4 @@ pub(crate) fn close_gaps(slots: &mut Vec<Slot>, signs: &mut SlotSigns, live: usi
     }
     drop_empty(slots);
     sign_all(slots, signs, places);
-}
-
-/// Makes what stands at this place ready again, if it is held there. Tells whether it is.
-fn free_on(slots: &mut Vec<Slot>, signs: &mut SlotSigns, place: usize, connection: u64) -> bool
-    requires within { vec_len slots.old ≤ signs.old.places }
-    requires signed { AreSigned (contents slots.old.items) signs.old }
-    ensures contents { contents slots.new.items ≡ slice_set (contents slots.old.items) place (changed (freed (by_connection connection)) (get_or (contents slots.old.items) place None)) }
-    ensures ready { tally is_ready (somes (contents slots.new.items)) ≡ tally is_ready (somes (contents slots.old.items)) + num result }
-    ensures signed { AreSigned (contents slots.new.items) signs.new }
-    ensures places { signs.new.places ≡ signs.old.places }
-    ensures len { vec_len slots.new ≡ vec_len slots.old }
-    ensures capacity { vec_capacity slots.new ≡ vec_capacity slots.old }
-{
-    if !is_on_at(slots, place, connection) {
-        return false;
-    }
-    free_at(slots, place);
-    signs.set_ready(place);
-    true
-}
-
-/// Makes all ready again that is held on this connection. Tells how many there are. It
-/// takes time for each entry that is held by anyone, and none for those that are ready.
-pub(crate) fn requeue_in(slots: &mut Vec<Slot>, signs: &mut SlotSigns, connection: u64) -> usize
-    requires within { vec_len slots.old ≤ signs.old.places }
-    requires signed { AreSigned (contents slots.old.items) signs.old }
-    ensures contents { contents slots.new.items ≡ map (changed (freed (by_connection connection))) (contents slots.old.items) }
-    ensures ready { tally is_ready (somes (contents slots.new.items)) ≡ tally is_ready (somes (contents slots.old.items)) + result }
-    ensures signed { AreSigned (contents slots.new.items) signs.new }
-    ensures places { signs.new.places ≡ signs.old.places }
-    ensures len { vec_len slots.new ≡ vec_len slots.old }
-    ensures capacity { vec_capacity slots.new ≡ vec_capacity slots.old }
-{
-    let mut count = 0;
-    let mut from = 0;
-    while let Some(place) = signs.next_held(from) {
-        if free_on(slots, signs, place, connection) {
-            count += 1;
-        }
-        from = place + 1;
-    }
-    count
 }

@@ -1,7 +1,8 @@
 //! Lines about topic patterns and keys.
 
-use line_words::{LineAnswer, Unanswered, words_of};
-use topic_match::{BadPattern, Matcher, Pattern, Plain, covers_key, split};
+use line_words::{LineAnswer, Unanswered, number_of, words_of};
+use std::alloc::{AllocError, Global};
+use topic_match::{BadPattern, Matcher, Pattern, Plain, Trie, covers_key, split};
 
 /// Appends whether a text is a pattern.
 fn put_pattern(out: &mut LineAnswer, text: &str) {
@@ -62,21 +63,90 @@ fn put_places(out: &mut LineAnswer, places: &[usize]) {
     out.put_none_if_empty();
 }
 
-/// Appends the places of the patterns that match the key.
-fn put_matching(out: &mut LineAnswer, matcher: &Plain, key: &str) {
-    match matcher.matches(out.alloc(), key.as_bytes()) {
-        Ok(places) => put_places(out, places.as_slice()),
-        Err(_) => out.fail(Unanswered::Memory),
+/// The places that a matcher of these patterns finds.
+fn found_by<M: Matcher + Drop>(
+    alloc: Global,
+    patterns: Vec<Pattern>,
+    key: &str,
+) -> Result<Vec<usize>, AllocError> {
+    let matcher = M::new(alloc, patterns)?;
+    matcher.matches(alloc, key.as_bytes())
+}
+
+/// Appends the places that comparing one by one finds, and those that a trie finds, unless they are the same.
+fn put_both(out: &mut LineAnswer, plain: &[usize], trie: &[usize]) {
+    put_places(out, plain);
+    if plain != trie {
+        out.put(", by a trie");
+        put_places(out, trie);
     }
 }
 
 /// Appends the places of the texts that are patterns which match the key.
 fn put_places_of(out: &mut LineAnswer, key: &str, texts: &[&str]) {
     let patterns = patterns_of(out, texts);
-    match Plain::new(out.alloc(), patterns) {
-        Ok(matcher) => put_matching(out, &matcher, key),
+    let plain = found_by::<Plain>(out.alloc(), patterns, key);
+    let patterns = patterns_of(out, texts);
+    let trie = found_by::<Trie>(out.alloc(), patterns, key);
+    match (plain, trie) {
+        (Ok(plain), Ok(trie)) => put_both(out, plain.as_slice(), trie.as_slice()),
+        _ => out.fail(Unanswered::Memory),
+    }
+}
+
+/// What a trie of these patterns finds and counts.
+fn counted_by(
+    alloc: Global,
+    patterns: Vec<Pattern>,
+    key: &str,
+) -> Result<(Vec<usize>, usize), AllocError> {
+    Trie::new(alloc, patterns)?.matches_counted(alloc, key.as_bytes())
+}
+
+/// Appends the places that a trie of these patterns finds, and what it counts.
+fn put_counted(out: &mut LineAnswer, patterns: Vec<Pattern>, key: &str) {
+    match counted_by(out.alloc(), patterns, key) {
+        Ok((places, count)) => {
+            put_places(out, places.as_slice());
+            out.put(" count ");
+            out.put_number(count as u64);
+        }
         Err(_) => out.fail(Unanswered::Memory),
     }
+}
+
+/// Appends what a trie of these texts finds and counts.
+fn put_counted_of(out: &mut LineAnswer, key: &str, texts: &[&str]) {
+    let patterns = patterns_of(out, texts);
+    put_counted(out, patterns, key);
+}
+
+/// Appends a pattern, with a number in place of its `%`. `Form` says that it has none.
+fn push_numbered(out: &mut LineAnswer, patterns: &mut Vec<Pattern>, text: &str, number: u32) {
+    let Some((before, after)) = text.split_once('%') else {
+        return out.fail(Unanswered::Form);
+    };
+    match format!(in out.alloc(); "{before}{number}{after}") {
+        Ok(pattern) => push_pattern(out, patterns, pattern.as_str()),
+        Err(_) => out.fail(Unanswered::Memory),
+    }
+}
+
+/// The pattern of this text, once for each number.
+fn numbered(out: &mut LineAnswer, from: u32, to: u32, text: &str) -> Vec<Pattern> {
+    let mut patterns = Vec::new(out.alloc());
+    for number in from..to {
+        push_numbered(out, &mut patterns, text, number);
+    }
+    patterns
+}
+
+/// Appends what a trie of a pattern for each number finds and counts.
+fn put_numbered_counted(out: &mut LineAnswer, key: &str, from: &str, to: &str, text: &str) {
+    let from = number_of(out, from);
+    let to = number_of(out, to);
+    let patterns = numbered(out, from, to, text);
+    put_counted(out, patterns, key);
 }
 
 /// Answers a line about patterns, which is stated by words.
@@ -86,6 +156,10 @@ fn answer_of_words(out: &mut LineAnswer, kind: &str, words: &[&str]) {
         [pattern, key] if kind == "match" => put_matched(out, pattern, key),
         [key] if kind == "words" => put_words(out, key),
         [key, texts @ ..] if kind == "places" => put_places_of(out, key, texts),
+        [key, texts @ ..] if kind == "counted" => put_counted_of(out, key, texts),
+        [key, from, to, text] if kind == "numbered" => {
+            put_numbered_counted(out, key, from, to, text)
+        }
         _ => out.fail(Unanswered::Form),
     }
 }

@@ -2,7 +2,7 @@
 //!
 //! | kinds | asked of |
 //! |---|---|
-//! | `pattern`, `match`, `places`, `words` | `topic_match`: what is a pattern, and which keys it matches |
+//! | `pattern`, `match`, `places`, `counted`, `numbered`, `words` | `topic_match`: what is a pattern, and which keys it matches, by both matchers |
 //! | `definitions`, `definitions-hex` | `definitions`: whether a file is read, or why it is refused |
 //! | `counts`, `queue`, `exchange`, `user` | `definitions`: what a file sets up |
 //! | `route`, `visited` | `exchange_graph`: the queues to which a key leads; the exchanges that it passes |
@@ -18,7 +18,7 @@ use line_words::LineAnswer;
 pub use routes::put_route;
 
 /// The kinds of lines about patterns.
-const OF_PATTERNS: [&str; 4] = ["pattern", "match", "places", "words"];
+const OF_PATTERNS: [&str; 6] = ["pattern", "match", "places", "counted", "numbered", "words"];
 
 /// The kinds of lines about guarantees files.
 const OF_GUARANTEES: [&str; 4] = ["guarantees", "guarantees-hex", "guarantee", "covers"];

@@ -36,19 +36,20 @@ fn put_labelled(out: &mut LineAnswer, label: &str, name: &Option<Text>) {
     }
 }
 
-/// Appends the limit of a queue, if it has one.
-fn put_limit(out: &mut LineAnswer, limit: Option<u32>) {
+/// Appends a label and a limit of a queue, if it has one.
+fn put_limit(out: &mut LineAnswer, label: &str, limit: Option<u32>) {
     if let Some(limit) = limit {
-        out.put(", limit ");
+        out.put(label);
         out.put_number(u64::from(limit));
     }
 }
 
-/// Appends place, limit and dead lettering of a queue.
+/// Appends place, limits and dead lettering of a queue.
 fn put_declared(out: &mut LineAnswer, place: usize, queue: &DeclaredQueue) {
     out.put_number(place as u64);
     out.put_name(&queue.name);
-    put_limit(out, queue.limit);
+    put_limit(out, ", limit ", queue.limit);
+    put_limit(out, ", bytes ", queue.byte_limit);
     put_labelled(out, ", dead letters to ", &queue.dead_letter_exchange);
     put_labelled(out, ", under ", &queue.dead_letter_key);
 }

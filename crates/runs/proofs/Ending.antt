@@ -1,6 +1,5 @@
 -- What is written down at the end is what was seen.
 use Rattle.std.proofs.Common.{◌≡◌, ℕ, ◌+◌, ◌<◌, zero, suc, List, [], ◌∷◌, ◌++◌, Some, length, slice_get, refl, sym, ap, subst, ◌∙◌, arith}
-use Rattle.model.specs.Topology.{IsWellFormed}
 use Rattle.model.specs.State.{Config}
 use Rattle.model.specs.Run.{Happening}
 use Rattle.model.specs.Arrivals.{World, Seen, Shown, Shows, Plays, new_world, is_over}
@@ -12,8 +11,8 @@ use Rattle.runs.specs.Told.{taken_at, AreFinished, Records, TellsEvents}
 use Rattle.runs.specs.Runs.{PlaysAndTells, IsRunOf}
 
 -- a world with no connection
-no_records : (f : Config) → IsWellFormed f.topology → Records [] (new_world f) (record { connections = []; notes = [] })
-no_records f formed = record { noted = refl; counted = refl; each = λ i. refl; unopened = λ i le. (refl, refl); consistent = new_is_consistent f formed }
+no_records : (f : Config) → IsSound f → Records [] (new_world f) (record { connections = []; notes = [] })
+no_records f sound = record { noted = refl; counted = refl; each = λ i. refl; unopened = λ i le. (refl, refl); consistent = new_is_consistent f sound }
 
 element : (ss : List Shown) (i : ℕ) → i < length ss → (s : Shown) × (slice_get ss i ≡ Some s) × (taken_at ss i ≡ s.output)
 element [] i lt = absurd (omega arith)
@@ -36,7 +35,7 @@ is_run start last arrivals none s t sound fresh empty played f n =
     let plays : Plays (new_world start.config) arrivals hs last = subst (λ (z : World). Plays z arrivals hs last) fresh played.1 in
     let tells : TellsEvents (new_world start.config) (record { connections = []; notes = [] }) hs last s =
     subst (λ (z : Seen). TellsEvents (new_world start.config) z hs last s) empty (subst (λ (z : World). TellsEvents z none hs last s) fresh played.2) in
-    let shows : Shows hs last t = shows_at_end hs last s t (tells.keeps [] (no_records start.config sound.wf)) f n in
+    let shows : Shows hs last t = shows_at_end hs last s t (tells.keeps [] (no_records start.config sound)) f n in
     record {
       happenings = hs;
       plays = plays;

@@ -1,8 +1,7 @@
 //! Single calls of an engine.
 
-use crate::expectations::{Unmet, expect, expect_bytes, expect_number, value_of};
-use crate::topologies::in_force;
 use engine::{Engine, Turn};
+use scenario_parts::{Unmet, expect, expect_bytes, expect_number, in_force, value_of};
 use std::alloc::Global;
 
 /// An engine over a topology without exchanges and queues.

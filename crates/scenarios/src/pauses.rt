@@ -1,11 +1,10 @@
 //! A pause: a client that does not take its output gets no more of it than one command brings.
 
-use crate::expectations::{Unmet, expect, expect_number, value_of};
-use crate::topologies::in_force;
 use certificate::Checked;
 use engine::run;
 use model::{Arrival, Binding, DeclaredQueue, Exchange, ExchangeKind, Place, Text};
 use runs::Transcript;
+use scenario_parts::{Unmet, expect, expect_number, in_force, value_of};
 use std::alloc::{AllocError, Global};
 
 /// basic.publish to `orders` under the key `new` on channel 1, and a header of a body of 1,048,576 bytes.
@@ -43,6 +42,7 @@ fn shop(alloc: Global) -> Result<Checked, Unmet> {
     let audit = DeclaredQueue {
         name: Text::fixed(b"audit"),
         limit: None,
+        byte_limit: None,
         dead_letter_exchange: None,
         dead_letter_key: None,
     };

@@ -1,8 +1,8 @@
 //! Runs, and rounds over a wire that is scripted, of a machine on which no connection can be opened.
 
-use crate::expectations::{Unmet, expect, expect_number, value_of};
 use model::{Arrival, Note, Text};
 use runs::{Machine, run_over};
+use scenario_parts::{Unmet, expect, expect_number, value_of};
 use serving::{Accept, Read, Server, Wire, Write, serve};
 use std::alloc::{AllocError, Global};
 
@@ -20,6 +20,9 @@ impl<'a> Machine for Shut<'a> {
     ghost world = { λ s. new_world (record { topology = record { exchanges = []; queues = []; bindings = [] }; guarantees = []; users = [] }) };
 
     ghost left = { λ s. 0 };
+
+    // it may want memory for whatever is asked
+    ghost lacks = { λ w n. Unit {0} };
 
     fn open(&mut self, _alloc: Global) -> Result<Option<u64>, AllocError> {
         Err(AllocError)
@@ -71,7 +74,8 @@ struct OneCaller {
 impl Wire for OneCaller {
     ghost use Rattle.std.specs.Prelude.{None};
 
-    ghost told = { λ s. record { calls = None; failures = 0 } };
+    // its one socket is named once
+    ghost told = { λ s. record { calls = None; failures = 0; is_given = λ n. s.has_come; totals = λ n. None } };
 
     fn accept(&mut self) -> Accept {
         if self.has_come {

@@ -1,25 +1,8 @@
 //! Streams that take no byte.
 
-use crate::disk::ScenarioDisk;
-use crate::expectations::{Unmet, expect, expect_number};
+use scenario_parts::{Closed, ScenarioDisk, Unmet, expect, expect_number};
 use server::program;
 use std::alloc::Global;
-use std::io;
-use std::io::{ErrorKind, Write};
-
-/// A stream that takes no byte.
-#[derive(Drop)]
-struct Closed;
-
-impl Write for Closed {
-    fn write(&mut self, _buf: &[u8]) -> io::Result<usize> {
-        Err(io::Error::from(ErrorKind::BrokenPipe))
-    }
-
-    fn flush(&mut self) -> io::Result<()> {
-        Ok(())
-    }
-}
 
 /// The words that ask for a replay of the script.
 const REPLAY: [&str; 3] = ["warren", "replay", "script"];

@@ -1,3 +1,5 @@
 pub mod Listed
 pub mod Outcomes
 pub mod Kept
+pub mod Beginning
+pub mod Judged

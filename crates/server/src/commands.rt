@@ -1,8 +1,11 @@
 //! The program, but for the sockets: what a command answers is decided first, and printed then.
 
-ghost use Rattle.std.specs.Prelude.{◌≡◌, Some, map, option_map, MatchResult};
+ghost use Rattle.std.specs.Prelude.{◌≡◌, List, Some, map, option_map, MatchResult};
+ghost use Rattle.model.specs.Words.{Text};
+ghost use Rattle.engine.specs.World.{world_of};
+ghost use Rattle.serving.specs.Story.{served};
 ghost use Rattle.clap.specs.Words.{kind_of};
-ghost use Rattle.command_line.specs.CommandLine.{Check, Route, Verify, wanted_of};
+ghost use Rattle.command_line.specs.CommandLine.{AsksFor, Check, Route, Verify, wanted_of};
 ghost use Rattle.named_files.specs.Files.{AreKept};
 ghost use Rattle.named_files.specs.Stated.{FailsToState, file_named};
 ghost use Rattle.server.specs.Streams.{change};
@@ -17,7 +20,9 @@ ghost use Rattle.server.specs.Program.{
   ListsFile,
   ShowsError,
 };
+ghost use Rattle.server.specs.Clients.{RunsWithSockets};
 
+use crate::clients::{Ended, Listener, serve_arguments, serve_clients};
 use crate::filing::write_out;
 use crate::refusals::{CommandRefusal, Told, refuse_memory, tell, told_of};
 use crate::replaying::{BrokerFiles, replay};
@@ -190,6 +195,22 @@ fn refuse_words<E: Write>(err: &mut E, error: &Error) -> u8
     }
 }
 
+/// Does what was asked for, and gives the exit status. To serve takes sockets, of which this has none.
+fn answer_asked<F: Files, O: Write, E: Write>(
+    alloc: Global,
+    asked: Asked<'_>,
+    files: &mut F,
+    out: &mut O,
+    err: &mut E,
+) -> u8
+    ensures { (words : List Text) → AsksFor words (wanted_of asked.entry) → RunsAs words (F.holds files.old) (F.holds files.new) (change (O.contents out.old) (O.contents out.new)) (change (E.contents err.old) (E.contents err.new)) result }
+{
+    match answer(alloc, asked, files) {
+        Ok(output) => tried(put(out, output.text.as_slice()), output.status),
+        Err(told) => tell(alloc, err, told),
+    }
+}
+
 /// Does what the words ask for, and gives the exit status.
 ///
 /// The first word is the program's name. 0 is good; 1 is a guarantee that is broken, or a certificate that is not
@@ -209,8 +230,28 @@ pub fn program<S: AsStr, F: Files, O: Write, E: Write>(
         Ok(asked) => asked,
         Err(error) => return refuse_words(err, &error),
     };
-    match answer(alloc, asked, files) {
-        Ok(output) => tried(put(out, output.text.as_slice()), output.status),
-        Err(told) => tell(alloc, err, told),
+    answer_asked(alloc, asked, files, out, err)
+}
+
+/// Does what the words ask for, `serve` too, and gives the exit status; where clients were served, with what served them.
+///
+/// What isn't `serve` is done as `program` does it. `serve` tells on `out` where clients may come, once files are judged.
+pub fn program_with_sockets<S: AsStr, L: Listener, F: Files, O: Write, E: Write>(
+    alloc: Global,
+    words: &[S],
+    listener: &mut L,
+    files: &mut F,
+    out: &mut O,
+    err: &mut E,
+) -> Ended<L::Sockets>
+    ensures { RunsWithSockets (map S.text words.now) (F.holds files.old) (F.holds files.new) (listener.new ≡ listener.old) (L.listens listener.old) (change (O.contents out.old) (O.contents out.new)) (change (E.contents err.old) (E.contents err.new)) (option_map (λ s. served (world_of s.server.machine) s.server.peers (L.Sockets.told s.sockets)) result.service) result.status }
+{
+    let asked = match command(alloc, words) {
+        Ok(asked) => asked,
+        Err(error) => return Ended::without_clients(refuse_words(err, &error)),
+    };
+    if let Some(asked) = serve_arguments(asked) {
+        return serve_clients(alloc, asked, listener, files, out, err);
     }
+    Ended::without_clients(answer_asked(alloc, asked, files, out, err))
 }

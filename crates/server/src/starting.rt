@@ -1,11 +1,10 @@
 //! What `serve` begins with.
 
-ghost use Rattle.std.specs.Prelude.{MatchResult, Option};
-ghost use Rattle.model.specs.Words.{Text};
-ghost use Rattle.command_line.specs.CommandLine.{Serve};
+ghost use Rattle.std.specs.Prelude.{MatchResult};
 ghost use Rattle.engine.specs.World.{world_of};
 ghost use Rattle.named_files.specs.Files.{AreKept};
-ghost use Rattle.server.specs.Program.{Fails, IsStarted};
+ghost use Rattle.server.specs.Program.{IsStarted};
+ghost use Rattle.server.specs.Clients.{FailsToStart};
 
 use crate::refusals::Told;
 use crate::replaying::{BrokerFiles, in_force};
@@ -21,7 +20,7 @@ pub fn started<'a, F: Files>(
     certificates: &'a str,
     files: &mut F,
 ) -> Result<Engine, Told<'a>>
-    ensures started { MatchResult result (λ e. IsStarted (F.holds files.old) definitions.now guarantees.now certificates.now (world_of e)) (λ told. (listen : Text) (turns : Option Text) → Fails (F.holds files.old) (Serve definitions.now guarantees.now certificates.now listen turns) told.file.now told.why) }
+    ensures started { MatchResult result (λ e. IsStarted (F.holds files.old) definitions.now guarantees.now certificates.now (world_of e)) (λ told. FailsToStart (F.holds files.old) definitions.now guarantees.now certificates.now told.file.now told.why) }
     ensures files { AreKept (F.holds files.old) (F.holds files.new) }
 {
     let named = BrokerFiles {

@@ -12,6 +12,7 @@ use Rattle.serving.specs.Coming.{Attempt, whole, FallsShort, Attempts}
 use Rattle.serving.specs.Story.{Served, At, Filled, Deed, Met, Turned_away, Met_no_one, Heard, Heard_partly, Heard_nothing, Heard_end, Gave, Gave_partly, Gave_nothing, Gave_up, Pumped, Pumped_nothing, Pump_refused, Let_go, Paused, attempts, Table, DoesDeed, Story, Serves, PumpsUp}
 use Rattle.serving.specs.Fit.{IsFit}
 use Rattle.serving.specs.declared.peers.Peer.{Peer}
+use Rattle.runs.specs.Wants.{Lacks}
 
 -- ---- numbers of connections are only given
 
@@ -43,29 +44,29 @@ answers_le a b (arrival.Sent c n) hs p =
 answers_le a b arrival.Pump hs p = pumps_le a b hs p
 answers_le a b (arrival.Lose c) hs p = either a b _ hs (is_gone a c) (λ (l : Loses a c hs b). let g = l.given in omega (arith, g)) p
 
-short_le : (a b : World) (t : Arrival) (hs : List Happening) → FallsShort a t hs b → a.given ≤ b.given
-short_le a b arrival.Open hs p = let g = p.1.given in omega (arith, g)
-short_le a b (arrival.Ready k) hs p = let g = p.1.given in omega (arith, g)
-short_le a b (arrival.In c bytes) hs (inl p) = let g = p.1.given in omega (arith, g)
-short_le a b (arrival.In c bytes) hs (inr l) = let g = worked_given c (with_heard a c bytes) l.mid b hs l.works l.waits in omega (arith, g)
-short_le a b (arrival.Sent c n) hs l = let g = worked_given c l.mid l.works.mid b l.rest l.works.works l.works.waits in let h = l.takes.given in omega (arith, g, h)
-short_le a b arrival.Pump hs p = let g = p.1.given in omega (arith, g)
-short_le a b (arrival.Lose c) hs p = absurd p
+short_le : (L : Lacks) (a b : World) (t : Arrival) (hs : List Happening) → FallsShort L a t hs b → a.given ≤ b.given
+short_le L a b arrival.Open hs p = let g = p.1.given in omega (arith, g)
+short_le L a b (arrival.Ready k) hs p = let g = p.1.given in omega (arith, g)
+short_le L a b (arrival.In c bytes) hs (inl p) = let g = p.1.1.given in omega (arith, g)
+short_le L a b (arrival.In c bytes) hs (inr l) = let g = worked_given c (with_heard a c bytes) l.mid b hs l.works l.waits in omega (arith, g)
+short_le L a b (arrival.Sent c n) hs l = let g = worked_given c l.mid l.works.mid b l.rest l.works.works l.works.waits in let h = l.takes.given in omega (arith, g, h)
+short_le L a b arrival.Pump hs p = let g = p.1.1.given in omega (arith, g)
+short_le L a b (arrival.Lose c) hs p = absurd p
 
-brings_le : (a b : World) (t : Arrival) (x : Bool) (hs : List Happening) → MatchBool x (Answers a t hs b) (FallsShort a t hs b) → a.given ≤ b.given
-brings_le a b t true hs p = answers_le a b t hs p
-brings_le a b t false hs p = short_le a b t hs p
+brings_le : (L : Lacks) (a b : World) (t : Arrival) (x : Bool) (hs : List Happening) → MatchBool x (Answers a t hs b) (FallsShort L a t hs b) → a.given ≤ b.given
+brings_le L a b t true hs p = answers_le a b t hs p
+brings_le L a b t false hs p = short_le L a b t hs p
 
-pub attempts_le : (as' : List Attempt) (a b : World) (hs : List Happening) → Attempts a as' hs b → a.given ≤ b.given
-attempts_le [] a b hs p = let g = ap (λ (w : World). w.given) p.1 in omega (arith, g)
-attempts_le (t ∷ as') a b hs (mid, first, rest, e, br, p) = let g = brings_le a mid t.arrival t.is_whole first br in let h = attempts_le as' mid b rest p in omega (arith, g, h)
+pub attempts_le : (L : Lacks) (as' : List Attempt) (a b : World) (hs : List Happening) → Attempts L a as' hs b → a.given ≤ b.given
+attempts_le L [] a b hs p = let g = ap (λ (w : World). w.given) p.1 in omega (arith, g)
+attempts_le L (t ∷ as') a b hs (mid, first, rest, e, br, p) = let g = brings_le L a mid t.arrival t.is_whole first br in let h = attempts_le L as' mid b rest p in omega (arith, g, h)
 
 opened_given : (a b : World) (hs : List Happening) (x : Bool) (P : Type 0) → x ≡ true → (P → b.given ≡ a.given + 1) → MatchBool x P ((hs ≡ []) × Same a b) → b.given ≡ a.given + 1
 opened_given a b hs true P e f p = f p
 opened_given a b hs false P e f p = absurd (false≢true e)
 
-pub met_given : (a b : World) (hs : List Happening) → can_open a ≡ true → Attempts a (whole arrival.Open ∷ []) hs b → b.given ≡ a.given + 1
-met_given a b hs can (mid, first, rest, e, br, p) =
+pub met_given : (L : Lacks) (a b : World) (hs : List Happening) → can_open a ≡ true → Attempts L a (whole arrival.Open ∷ []) hs b → b.given ≡ a.given + 1
+met_given L a b hs can (mid, first, rest, e, br, p) =
     ap (λ (w : World). w.given) p.1 ∙ opened_given a mid first (can_open a) _ can (λ (o : Opens a _ _ first mid). o.given) br
 
 -- ---- the slots
@@ -120,12 +121,12 @@ fit_filled a b ps qs i p is more filled f = record {
     given j q (inl x) = let n = ap (λ (z : Peer). z.connection) x.1 in omega (arith, n, is, more)
     given j q (inr x) = let g = f.given j q x in omega (arith, g, more)
 
-fit_does : (a b : Served) (d : Deed) (hs : List Happening) → DoesDeed a d hs b → IsFit a.world a.peers → IsFit b.world b.peers
-fit_does a b d hs does f = go d does.table (attempts_le (attempts d) a.world b.world hs does.brings) does.brings
+fit_does : {L : Lacks} (a b : Served) (d : Deed) (hs : List Happening) → DoesDeed L a d hs b → IsFit a.world a.peers → IsFit b.world b.peers
+fit_does {L = L} a b d hs does f = go d does.table (attempts_le L (attempts d) a.world b.world hs does.brings) does.brings
   where
-    go : (d : Deed) → Table a d b.peers → a.world.given ≤ b.world.given → Attempts a.world (attempts d) hs b.world → IsFit b.world b.peers
-    go (Met i p) t le br = fit_filled a.world b.world a.peers b.peers i p t.1 (met_given a.world b.world hs t.0 br) t.3 f
-    go (Turned_away s o) t le br = fit_same a b le t.1 f
+    go : (d : Deed) → Table L a d b.peers → a.world.given ≤ b.world.given → Attempts L a.world (attempts d) hs b.world → IsFit b.world b.peers
+    go (Met i p) t le br = fit_filled a.world b.world a.peers b.peers i p t.1 (met_given L a.world b.world hs t.0 br) t.3 f
+    go (Turned_away s o) t le br = fit_same a b le t.3 f
     go (Met_no_one x) t le br = fit_same a b le t f
     go (Heard i p bytes) t le br = fit_same a b le t.1 f
     go (Heard_partly i p bytes) t le br = fit_freed a b i le t.1 f
@@ -141,15 +142,15 @@ fit_does a b d hs does f = go d does.table (attempts_le (attempts d) a.world b.w
     go (Let_go i p) t le br = fit_freed a b i le t.1.1 f
     go Paused t le br = fit_same a b le t f
 
-fit_story : (ds : List Deed) (a b : Served) (hs : List Happening) → Story a ds hs b → IsFit a.world a.peers → IsFit b.world b.peers
-fit_story [] a b hs s f = subst (λ (z : Served). IsFit z.world z.peers) (sym s.1) f
-fit_story (d ∷ ds) a b hs (mid, first, rest, e, does, s) f = fit_story ds mid b rest s (fit_does a mid d first does f)
+fit_story : (L : Lacks) (ds : List Deed) (a b : Served) (hs : List Happening) → Story L a ds hs b → IsFit a.world a.peers → IsFit b.world b.peers
+fit_story L [] a b hs s f = subst (λ (z : Served). IsFit z.world z.peers) (sym s.1) f
+fit_story L (d ∷ ds) a b hs (mid, first, rest, e, does, s) f = fit_story L ds mid b rest s (fit_does a mid d first does f)
 
-pub serves_fit : (a b : Served) (xs : List Ask) (p : Bool) → Serves a xs p b → IsFit a.world a.peers → IsFit b.world b.peers
-serves_fit a b xs p s f = fit_story s.deeds a b s.happenings s.story f
+pub serves_fit : {L : Lacks} (a b : Served) (xs : List Ask) (p : Bool) → Serves L a xs p b → IsFit a.world a.peers → IsFit b.world b.peers
+serves_fit {L = L} a b xs p s f = fit_story L s.deeds a b s.happenings s.story f
 
-pub pumps_fit : (n : ℕ) (a b : Served) (p : Bool) → PumpsUp n a p b → IsFit a.world a.peers → IsFit b.world b.peers
-pumps_fit n a b p s f = fit_story s.deeds a b s.happenings s.story f
+pub pumps_fit : {L : Lacks} (n : ℕ) (a b : Served) (p : Bool) → PumpsUp L n a p b → IsFit a.world a.peers → IsFit b.world b.peers
+pumps_fit {L = L} n a b p s f = fit_story L s.deeds a b s.happenings s.story f
 
 -- with no slot every server fits
 pub fit_none : (w : World) → IsFit w []

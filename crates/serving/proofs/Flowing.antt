@@ -10,7 +10,7 @@ use Rattle.model.specs.Phases.{Session, no_session, running_session}
 use Rattle.model.specs.Spelling.{sends_to, spelling}
 use Rattle.model.specs.Broker.{with_one}
 use Rattle.model.specs.Commands.{Stream}
-use Rattle.model.specs.Topology.{IsWellFormed}
+use Rattle.model.specs.Headline.{IsSound}
 use Rattle.model.specs.State.{Config, State}
 use Rattle.model.specs.Run.{Happening, put_out}
 use Rattle.model.specs.Arrivals.{World, Wire, new_world, is_over, is_gone, is_ended, can_open, Turns, Works, none_more, one_more, Waits, WorksOff, Same, with_heard, Takes_off, TakesAndWorks, Opens, Loses, Puts, Pumps, delivers, idles, Answers}
@@ -29,6 +29,7 @@ use Rattle.serving.specs.declared.peers.Peer.{Peer}
 use Rattle.laws.proofs.Consistency.{new_is_consistent}
 use Rattle.serving.proofs.Staying.{brings_stays, attempts_stay}
 use Rattle.serving.proofs.Pairs.{peer_of, PairsWith, pairs_in}
+use Rattle.runs.specs.Wants.{Lacks}
 
 -- of connection d these bytes were taken and those were put out
 pub record Accounts (d : ℕ) (taken put : List ℕ) (w : World) : Type 0 where
@@ -292,28 +293,28 @@ flows_answers d a b (arrival.Sent c n) hs k p = flows_sent d c n a b hs (is_gone
 flows_answers d a b arrival.Pump hs k p = flows_pumps d a b hs k p
 flows_answers d a b (arrival.Lose c) hs k p = flows_by d a b _ hs (is_gone a c) (λ (l : Loses a c hs b). flows_loses d c a b hs l) p
 
-flows_short : (d : ℕ) (a b : World) (t : Arrival) (hs : List Happening) → FallsShort a t hs b → Flows d a (taken_by d a t) hs b
-flows_short d a b arrival.Open hs p = flows_same d a b hs p
-flows_short d a b (arrival.Ready k) hs p = flows_same d a b hs p
-flows_short d a b (arrival.In c bytes) hs (inl p) = flows_same d a b hs p
-flows_short d a b (arrival.In c bytes) hs (inr l) = flows_heard d c a b bytes hs (flows_worked d c (with_heard a c bytes) l.mid b hs l.works l.waits)
-flows_short d a b (arrival.Sent c n) hs l = flows_taken d c n a l.mid l.works.mid b hs l.first l.rest l.all l.takes l.works.works l.works.waits
-flows_short d a b arrival.Pump hs p = flows_same d a b hs p
-flows_short d a b (arrival.Lose c) hs p = absurd p
+flows_short : (L : Lacks) (d : ℕ) (a b : World) (t : Arrival) (hs : List Happening) → FallsShort L a t hs b → Flows d a (taken_by d a t) hs b
+flows_short L d a b arrival.Open hs p = flows_same d a b hs p
+flows_short L d a b (arrival.Ready k) hs p = flows_same d a b hs p
+flows_short L d a b (arrival.In c bytes) hs (inl p) = flows_same d a b hs p.1
+flows_short L d a b (arrival.In c bytes) hs (inr l) = flows_heard d c a b bytes hs (flows_worked d c (with_heard a c bytes) l.mid b hs l.works l.waits)
+flows_short L d a b (arrival.Sent c n) hs l = flows_taken d c n a l.mid l.works.mid b hs l.first l.rest l.all l.takes l.works.works l.works.waits
+flows_short L d a b arrival.Pump hs p = flows_same d a b hs p.1
+flows_short L d a b (arrival.Lose c) hs p = absurd p
 
-flows_brings : (d : ℕ) (a b : World) (t : Arrival) (x : Bool) (hs : List Happening) → IsConsistent a → MatchBool x (Answers a t hs b) (FallsShort a t hs b) → Flows d a (taken_by d a t) hs b
-flows_brings d a b t true hs k p = flows_answers d a b t hs k p
-flows_brings d a b t false hs k p = flows_short d a b t hs p
+flows_brings : (L : Lacks) (d : ℕ) (a b : World) (t : Arrival) (x : Bool) (hs : List Happening) → IsConsistent a → MatchBool x (Answers a t hs b) (FallsShort L a t hs b) → Flows d a (taken_by d a t) hs b
+flows_brings L d a b t true hs k p = flows_answers d a b t hs k p
+flows_brings L d a b t false hs k p = flows_short L d a b t hs p
 
-flows_one : (d : ℕ) (a b : World) (t : Attempt) (hs : List Happening) → IsConsistent a → Attempts a (t ∷ []) hs b → Flows d a (taken_by d a t.arrival) hs b
-flows_one d a b t hs k (mid, first, rest, e, br, p) =
+flows_one : (L : Lacks) (d : ℕ) (a b : World) (t : Attempt) (hs : List Happening) → IsConsistent a → Attempts L a (t ∷ []) hs b → Flows d a (taken_by d a t.arrival) hs b
+flows_one L d a b t hs k (mid, first, rest, e, br, p) =
     flows_at d a b _ hs (first ++ rest) e (subst (λ (z : List ℕ). Flows d a z (first ++ rest) b) (append-nil (taken_by d a t.arrival))
-    (flows_then d a mid b (taken_by d a t.arrival) [] first rest (flows_brings d a mid t.arrival t.is_whole first k br) (flows_nothing d mid b rest p)))
+    (flows_then d a mid b (taken_by d a t.arrival) [] first rest (flows_brings L d a mid t.arrival t.is_whole first k br) (flows_nothing d mid b rest p)))
 
-flows_lost : (d : ℕ) (a b : World) (t : Attempt) (c : ℕ) (hs : List Happening) → IsConsistent a → Attempts a (t ∷ record { arrival = arrival.Lose c; is_whole = true } ∷ []) hs b → Flows d a (taken_by d a t.arrival) hs b
-flows_lost d a b t c hs k (mid, first, rest, e, br, p) =
+flows_lost : (L : Lacks) (d : ℕ) (a b : World) (t : Attempt) (c : ℕ) (hs : List Happening) → IsConsistent a → Attempts L a (t ∷ record { arrival = arrival.Lose c; is_whole = true } ∷ []) hs b → Flows d a (taken_by d a t.arrival) hs b
+flows_lost L d a b t c hs k (mid, first, rest, e, br, p) =
     flows_at d a b _ hs (first ++ rest) e (subst (λ (z : List ℕ). Flows d a z (first ++ rest) b) (append-nil (taken_by d a t.arrival))
-    (flows_then d a mid b (taken_by d a t.arrival) [] first rest (flows_brings d a mid t.arrival t.is_whole first k br) (flows_one d mid b (record { arrival = arrival.Lose c; is_whole = true }) rest (brings_stays a mid t.arrival t.is_whole first k br) p)))
+    (flows_then d a mid b (taken_by d a t.arrival) [] first rest (flows_brings L d a mid t.arrival t.is_whole first k br) (flows_one L d mid b (record { arrival = arrival.Lose c; is_whole = true }) rest (brings_stays L a mid t.arrival t.is_whole first k br) p)))
 
 -- ---- deeds
 
@@ -327,33 +328,33 @@ taken_written p q w bytes front pair =
     ∙ ap (λ (x : Bool). if x then bytes else []) pair
     ∙ sym (append-nil (if q.socket == p.socket then bytes else []))
 
-flows_deed : (p : Peer) (v w : Served) (d : Deed) (hs : List Happening) → IsConsistent v.world → DoesDeed v d hs w → PairsWith p (peer_of d) → Flows p.connection v.world (flat_map (written_to p.socket) (calls d)) hs w.world
-flows_deed p v w (Met i q) hs k does pair = flows_one p.connection v.world w.world (whole arrival.Open) hs k does.brings
-flows_deed p v w (Turned_away s o) hs k does pair = subst (λ (t : Arrival). Flows p.connection v.world (taken_by p.connection v.world t) hs w.world) does.table.0 (flows_one p.connection v.world w.world o hs k does.brings)
-flows_deed p v w (Met_no_one true) hs k does pair = flows_nothing p.connection v.world w.world hs does.brings
-flows_deed p v w (Met_no_one false) hs k does pair = flows_nothing p.connection v.world w.world hs does.brings
-flows_deed p v w (Heard i q bytes) hs k does pair = flows_one p.connection v.world w.world (whole (arrival.In q.connection bytes)) hs k does.brings
-flows_deed p v w (Heard_partly i q bytes) hs k does pair = flows_lost p.connection v.world w.world (short (arrival.In q.connection bytes)) q.connection hs k does.brings
-flows_deed p v w (Heard_nothing i q) hs k does pair = flows_nothing p.connection v.world w.world hs does.brings
-flows_deed p v w (Heard_end i q true) hs k does pair = flows_one p.connection v.world w.world (whole (arrival.Lose q.connection)) hs k does.brings
-flows_deed p v w (Heard_end i q false) hs k does pair = flows_one p.connection v.world w.world (whole (arrival.Lose q.connection)) hs k does.brings
-flows_deed p v w (Gave i q offered taken) hs k does pair =
-    subst (λ (z : List ℕ). Flows p.connection v.world z hs w.world) (taken_written p q v.world taken does.table.1 pair) (flows_one p.connection v.world w.world (whole (arrival.Sent q.connection (length taken))) hs k does.brings)
-flows_deed p v w (Gave_partly i q offered taken) hs k does pair =
-    subst (λ (z : List ℕ). Flows p.connection v.world z hs w.world) (taken_written p q v.world taken does.table.1 pair) (flows_lost p.connection v.world w.world (short (arrival.Sent q.connection (length taken))) q.connection hs k does.brings)
-flows_deed p v w (Gave_nothing i q offered) hs k does pair = flows_nothing p.connection v.world w.world hs does.brings
-flows_deed p v w (Gave_up i q offered) hs k does pair = flows_one p.connection v.world w.world (whole (arrival.Lose q.connection)) hs k does.brings
-flows_deed p v w Pumped hs k does pair = flows_one p.connection v.world w.world (whole arrival.Pump) hs k does.brings
-flows_deed p v w Pumped_nothing hs k does pair = flows_one p.connection v.world w.world (whole arrival.Pump) hs k does.brings
-flows_deed p v w Pump_refused hs k does pair = flows_one p.connection v.world w.world (short arrival.Pump) hs k does.brings
-flows_deed p v w (Let_go i q) hs k does pair = flows_nothing p.connection v.world w.world hs does.brings
-flows_deed p v w Paused hs k does pair = flows_nothing p.connection v.world w.world hs does.brings
+flows_deed : {L : Lacks} (p : Peer) (v w : Served) (d : Deed) (hs : List Happening) → IsConsistent v.world → DoesDeed L v d hs w → PairsWith p (peer_of d) → Flows p.connection v.world (flat_map (written_to p.socket) (calls d)) hs w.world
+flows_deed {L = L} p v w (Met i q) hs k does pair = flows_one L p.connection v.world w.world (whole arrival.Open) hs k does.brings
+flows_deed {L = L} p v w (Turned_away s o) hs k does pair = subst (λ (t : Arrival). Flows p.connection v.world (taken_by p.connection v.world t) hs w.world) does.table.0 (flows_one L p.connection v.world w.world o hs k does.brings)
+flows_deed {L = L} p v w (Met_no_one true) hs k does pair = flows_nothing p.connection v.world w.world hs does.brings
+flows_deed {L = L} p v w (Met_no_one false) hs k does pair = flows_nothing p.connection v.world w.world hs does.brings
+flows_deed {L = L} p v w (Heard i q bytes) hs k does pair = flows_one L p.connection v.world w.world (whole (arrival.In q.connection bytes)) hs k does.brings
+flows_deed {L = L} p v w (Heard_partly i q bytes) hs k does pair = flows_lost L p.connection v.world w.world (short (arrival.In q.connection bytes)) q.connection hs k does.brings
+flows_deed {L = L} p v w (Heard_nothing i q) hs k does pair = flows_nothing p.connection v.world w.world hs does.brings
+flows_deed {L = L} p v w (Heard_end i q true) hs k does pair = flows_one L p.connection v.world w.world (whole (arrival.Lose q.connection)) hs k does.brings
+flows_deed {L = L} p v w (Heard_end i q false) hs k does pair = flows_one L p.connection v.world w.world (whole (arrival.Lose q.connection)) hs k does.brings
+flows_deed {L = L} p v w (Gave i q offered taken) hs k does pair =
+    subst (λ (z : List ℕ). Flows p.connection v.world z hs w.world) (taken_written p q v.world taken does.table.1 pair) (flows_one L p.connection v.world w.world (whole (arrival.Sent q.connection (length taken))) hs k does.brings)
+flows_deed {L = L} p v w (Gave_partly i q offered taken) hs k does pair =
+    subst (λ (z : List ℕ). Flows p.connection v.world z hs w.world) (taken_written p q v.world taken does.table.1 pair) (flows_lost L p.connection v.world w.world (short (arrival.Sent q.connection (length taken))) q.connection hs k does.brings)
+flows_deed {L = L} p v w (Gave_nothing i q offered) hs k does pair = flows_nothing p.connection v.world w.world hs does.brings
+flows_deed {L = L} p v w (Gave_up i q offered) hs k does pair = flows_one L p.connection v.world w.world (whole (arrival.Lose q.connection)) hs k does.brings
+flows_deed {L = L} p v w Pumped hs k does pair = flows_one L p.connection v.world w.world (whole arrival.Pump) hs k does.brings
+flows_deed {L = L} p v w Pumped_nothing hs k does pair = flows_one L p.connection v.world w.world (whole arrival.Pump) hs k does.brings
+flows_deed {L = L} p v w Pump_refused hs k does pair = flows_one L p.connection v.world w.world (short arrival.Pump) hs k does.brings
+flows_deed {L = L} p v w (Let_go i q) hs k does pair = flows_nothing p.connection v.world w.world hs does.brings
+flows_deed {L = L} p v w Paused hs k does pair = flows_nothing p.connection v.world w.world hs does.brings
 
-flows_story : (p : Peer) (ds : List Deed) (v w : Served) (hs : List Happening) → IsConsistent v.world → Story v ds hs w → AllByRecursion (λ d. PairsWith p (peer_of d)) ds → Flows p.connection v.world (flat_map (written_to p.socket) (flat_map calls ds)) hs w.world
-flows_story p [] v w hs k s a = flows_nothing p.connection v.world w.world hs (s.0, ap (λ (z : Served). z.world) s.1)
-flows_story p (d ∷ ds) v w hs k (mid, first, rest, e, does, s) a =
+flows_story : (L : Lacks) (p : Peer) (ds : List Deed) (v w : Served) (hs : List Happening) → IsConsistent v.world → Story L v ds hs w → AllByRecursion (λ d. PairsWith p (peer_of d)) ds → Flows p.connection v.world (flat_map (written_to p.socket) (flat_map calls ds)) hs w.world
+flows_story L p [] v w hs k s a = flows_nothing p.connection v.world w.world hs (s.0, ap (λ (z : Served). z.world) s.1)
+flows_story L p (d ∷ ds) v w hs k (mid, first, rest, e, does, s) a =
     flows_at p.connection v.world w.world _ hs (first ++ rest) e (subst (λ (z : List ℕ). Flows p.connection v.world z (first ++ rest) w.world) (sym (flat_map-append (written_to p.socket) (calls d) (flat_map calls ds)))
-    (flows_then p.connection v.world mid.world w.world _ _ first rest (flows_deed p v mid d first k does a.0) (flows_story p ds mid w rest (attempts_stay (attempts d) v.world mid.world first k does.brings) s a.1)))
+    (flows_then p.connection v.world mid.world w.world _ _ first rest (flows_deed p v mid d first k does a.0) (flows_story L p ds mid w rest (attempts_stay L (attempts d) v.world mid.world first k does.brings) s a.1)))
 
 -- what was taken so far is a beginning of what was put out
 beginning : (d : ℕ) (taken put : List ℕ) (w : World) → Accounts d taken put w → (rest : List ℕ) × (taken ++ rest ≡ put)
@@ -363,8 +364,8 @@ beginning d taken put w acc = go acc.fits
     go (inl e) = ((w.wire d).output, e)
     go (inr g) = g.2
 
-pub are_beginnings : (f : Config) (ds : List Deed) (told : Told) (new : Served) (hs : List Happening) (xs : List Call) → IsWellFormed f.topology → told.calls ≡ Some xs → Story (served (new_world f) [] told) ds hs new → AreBeginnings ds hs
-are_beginnings f ds told new hs xs formed tells s p i =
+pub are_beginnings : (L : Lacks) (f : Config) (ds : List Deed) (told : Told) (new : Served) (hs : List Happening) → IsSound f → Story L (served (new_world f) [] told) ds hs new → AreBeginnings ds hs
+are_beginnings L f ds told new hs sound s p i =
     let start : Accounts p.connection [] [] (new_world f) = record { fits = inl refl; unopened = λ lt. (refl, refl, refl) } in
-    let flows = flows_story p ds (served (new_world f) [] told) new hs (new_is_consistent f formed) s (pairs_in ds (served (new_world f) [] told) new hs xs refl tells s p i) in
+    let flows = flows_story L p ds (served (new_world f) [] told) new hs (new_is_consistent f sound) s (pairs_in L ds (served (new_world f) [] told) new hs refl s p i) in
     beginning p.connection (flat_map (written_to p.socket) (flat_map calls ds)) (put_out p.connection hs) new.world (flows.keeps [] [] start)

@@ -13,6 +13,7 @@ use Rattle.model.specs.declared.events.Arrival.{Arrival}
 use Rattle.model.specs.declared.events.Arrival.TheVariants as arrival
 use Rattle.serving.specs.declared.peers.Peer.{Peer}
 use Rattle.serving.proofs.Pairs.{peer_of, PairsWith, pairs_in}
+use Rattle.runs.specs.Wants.{Lacks}
 
 joined_none : (p : Peer) → IsJoined p [] []
 joined_none p = record { pieces = refl; amounts = refl; losses = refl }
@@ -60,7 +61,7 @@ end_loss false = refl
 same_end : (x y : Bool) → x ≡ y → count_by (λ (b : Bool). b) (x ∷ []) ≡ count_by (λ (b : Bool). b) (y ∷ false ∷ []) + count_by (λ (b : Bool). b) (false ∷ [])
 same_end x y e = ap (λ (b : Bool). count_by (λ (b : Bool). b) (b ∷ [])) e ∙ end_loss y
 
-joined_one : (p : Peer) (v w : Served) (d : Deed) (hs : List Happening) → DoesDeed v d hs w → PairsWith p (peer_of d) → IsJoined p (calls d) (attempts d)
+joined_one : {L : Lacks} (p : Peer) (v w : Served) (d : Deed) (hs : List Happening) → DoesDeed L v d hs w → PairsWith p (peer_of d) → IsJoined p (calls d) (attempts d)
 joined_one p v w (Met i q) hs does pair = record { pieces = refl; amounts = refl; losses = refl }
 joined_one p v w (Turned_away s o) hs does pair = opening_joined p o _ does.table.0 (record { pieces = refl; amounts = refl; losses = refl })
 joined_one p v w (Met_no_one true) hs does pair = record { pieces = refl; amounts = refl; losses = refl }
@@ -80,10 +81,10 @@ joined_one p v w Pump_refused hs does pair = record { pieces = refl; amounts = r
 joined_one p v w (Let_go i q) hs does pair = record { pieces = refl; amounts = refl; losses = refl }
 joined_one p v w Paused hs does pair = record { pieces = refl; amounts = refl; losses = refl }
 
-joined_all : (p : Peer) (ds : List Deed) (v w : Served) (hs : List Happening) → Story v ds hs w → AllByRecursion (λ d. PairsWith p (peer_of d)) ds → IsJoined p (flat_map calls ds) (flat_map attempts ds)
-joined_all p [] v w hs s a = joined_none p
-joined_all p (d ∷ ds) v w hs (mid, first, rest, e, does, s) a = joined_then p (calls d) (flat_map calls ds) (attempts d) (flat_map attempts ds) (joined_one p v mid d first does a.0) (joined_all p ds mid w rest s a.1)
+joined_all : (L : Lacks) (p : Peer) (ds : List Deed) (v w : Served) (hs : List Happening) → Story L v ds hs w → AllByRecursion (λ d. PairsWith p (peer_of d)) ds → IsJoined p (flat_map calls ds) (flat_map attempts ds)
+joined_all L p [] v w hs s a = joined_none p
+joined_all L p (d ∷ ds) v w hs (mid, first, rest, e, does, s) a = joined_then p (calls d) (flat_map calls ds) (attempts d) (flat_map attempts ds) (joined_one p v mid d first does a.0) (joined_all L p ds mid w rest s a.1)
 
--- from a server with no socket, over a wire that tells its calls
-pub are_joined : (ds : List Deed) (v w : Served) (hs : List Happening) (xs : List Call) → v.peers ≡ [] → v.told.calls ≡ Some xs → Story v ds hs w → AreJoined ds
-are_joined ds v w hs xs none tells s p i = joined_all p ds v w hs s (pairs_in ds v w hs xs none tells s p i)
+-- from a server with no socket
+pub are_joined : (L : Lacks) (ds : List Deed) (v w : Served) (hs : List Happening) → v.peers ≡ [] → Story L v ds hs w → AreJoined ds
+are_joined L ds v w hs none s p i = joined_all L p ds v w hs s (pairs_in L ds v w hs none s p i)

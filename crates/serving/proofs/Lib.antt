@@ -9,4 +9,5 @@ pub mod Quieting
 pub mod Pairs
 pub mod Joining
 pub mod Flowing
+pub mod Counting
 pub mod Keeping

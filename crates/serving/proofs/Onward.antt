@@ -1,64 +1,115 @@
 -- One more deed, and what a server does after what it did.
-use Rattle.std.proofs.Common.{◌≡◌, ◌+◌, ℕ, List, [], ◌∷◌, ◌++◌, Bool, true, false, Option, Some, None, flat_map, count_by, refl, sym, ap, subst, ◌∙◌, append_assoc, append-nil, arith}
-use Rattle.std.specs.Prelude.{◌||◌, if◌then◌else◌}
+use Rattle.std.proofs.Common.{◌≡◌, ◌+◌, ◌⊎◌, inl, inr, ℕ, List, [], ◌∷◌, ◌++◌, length, Bool, true, false, Option, Some, None, flat_map, count_by, refl, sym, ap, subst, ◌∙◌, append_assoc, append-nil, arith}
+use Rattle.std.specs.Prelude.{◌==◌, ◌||◌, if◌then◌else◌, MatchBool}
+use Rattle.std.proofs.lemmas.Option.{none-some}
 use Rattle.std.specs.List.{list_any}
 use Rattle.std.proofs.lemmas.List.Concat.{flat_map-append}
 use Rattle.std.proofs.lemmas.List.Elements.{filter_map-append}
 use Rattle.std.proofs.lemmas.List.Folds.{list_any-append}
 use Rattle.std.proofs.lemmas.List.Sums.{sum_by-append}
+use Rattle.model.specs.Topology.{IsIn}
 use Rattle.model.specs.Run.{Happening}
 use Rattle.model.specs.Arrivals.{World}
-use Rattle.serving.specs.Wire.{Call, Rested, Ask, ask, asks, Told, told_after, and_these, is_failed}
+use Rattle.serving.specs.Wire.{Call, Accepted, Not_accepted, Accept_failed, Got, Nothing_got, Read_ended, Read_failed, Took, Nothing_taken, Write_failed, Closed, Rested, Ask, ask, asks, Totals, no_bytes, with_got, with_taken, total_after, totals_after, Told, Tells, Follows, is_failed}
 use Rattle.serving.specs.Coming.{Attempt, Brings, Attempts}
-use Rattle.serving.specs.Story.{Served, served, Deed, calls, is_done, is_pump, DoesDeed, Story, Serves}
+use Rattle.serving.specs.Story.{Served, served, Deed, calls, is_done, is_unasked, DoesDeed, Story, Serves}
 use Rattle.serving.specs.Rounds.{RestsUnless}
+use Rattle.runs.specs.Wants.{Lacks}
 
 -- ---- what a wire tells
 
-these_none : (told : Option (List Call)) → and_these told [] ≡ told
-these_none None = refl
-these_none (Some xs) = ap (λ (z : List Call). Some z) (append-nil xs)
+follows_none : (told : Option (List Call)) → Follows told [] told
+follows_none None = tt
+follows_none (Some xs) = (xs, refl, sym (append-nil xs))
 
-these_then : (told : Option (List Call)) (xs ys : List Call) → and_these (and_these told xs) ys ≡ and_these told (xs ++ ys)
-these_then None xs ys = refl
-these_then (Some zs) xs ys = ap (λ (z : List Call). Some z) (append_assoc zs xs ys)
+follows_then : (a b c : Option (List Call)) (xs ys : List Call) → Follows a xs b → Follows b ys c → Follows a (xs ++ ys) c
+follows_then a b None xs ys f g = tt
+follows_then a None (Some cs) xs ys f (before, is, all) = absurd (cc is)
+follows_then a (Some bs) (Some cs) xs ys (first, was, here) (before, is, all) =
+    let same : before ≡ bs = cc is in
+    (first, was, all ∙ ap (λ (z : List Call). z ++ ys) (same ∙ here) ∙ append_assoc first xs ys)
 
 failed_then : (n : ℕ) (xs ys : List Call) → (n + count_by is_failed xs) + count_by is_failed ys ≡ n + count_by is_failed (xs ++ ys)
 failed_then n xs ys =
     let e : count_by is_failed (xs ++ ys) ≡ count_by is_failed xs + count_by is_failed ys = sum_by-append _ xs ys in
     omega (arith, e)
 
-pub after_none : (told : Told) → told_after told [] ≡ told
-after_none told =
-    let none : told.failures + 0 ≡ told.failures = omega arith in
-    λ i. record { calls = these_none told.calls i; failures = none i }
+pub in_either : {A : Type 0} (x : A) (xs ys : List A) → IsIn x (xs ++ ys) → IsIn x xs ⊎ IsIn x ys
+in_either x [] ys i = inr i
+in_either x (y ∷ xs) ys (inl e) = inl (inl e)
+in_either x (y ∷ xs) ys (inr i) = go (in_either x xs ys i)
+  where
+    go : IsIn x xs ⊎ IsIn x ys → IsIn x (y ∷ xs) ⊎ IsIn x ys
+    go (inl j) = inl (inr j)
+    go (inr j) = inr j
 
-pub after_then : (told : Told) (xs ys : List Call) → told_after (told_after told xs) ys ≡ told_after told (xs ++ ys)
-after_then told xs ys = λ i. record { calls = these_then told.calls xs ys i; failures = failed_then told.failures xs ys i }
+totals-append : (s : ℕ) (o : Option Totals) (xs ys : List Call) → totals_after s o (xs ++ ys) ≡ totals_after s (totals_after s o xs) ys
+totals-append s o [] ys = refl
+totals-append s o (c ∷ xs) ys = totals-append s (total_after s o c) xs ys
 
--- two calls, one after the other
-pub after_two : (told mid now : Told) (x y : Call) → mid ≡ told_after told (x ∷ []) → now ≡ told_after mid (y ∷ []) → now ≡ told_after told (x ∷ y ∷ [])
-after_two told mid now x y e f = f ∙ ap (λ (z : Told). told_after z (y ∷ [])) e ∙ after_then told (x ∷ []) (y ∷ [])
+-- a choice between totals, before and after
+either_total : (s : ℕ) (ys : List Call) (t : Totals) (p q r u : Option Totals) (x : Bool) → (totals_after s p ys ≡ Some t → totals_after s q ys ≡ Some t) → (totals_after s r ys ≡ Some t → totals_after s u ys ≡ Some t)
+    → totals_after s (if x then p else r) ys ≡ Some t → totals_after s (if x then q else u) ys ≡ Some t
+either_total s ys t p q r u true f g e = f e
+either_total s ys t p q r u false f g e = g e
+
+-- totals that are told with none before are the same with any before: the socket came since
+totals_any : (s : ℕ) (o : Option Totals) (ys : List Call) (t : Totals) → totals_after s None ys ≡ Some t → totals_after s o ys ≡ Some t
+totals_any s o [] t e = absurd (none-some t e)
+totals_any s o (Accepted r ∷ ys) t e = either_total s ys t (Some no_bytes) (Some no_bytes) None o (r == s) (λ f. f) (totals_any s o ys t) e
+totals_any s o (Got r room bytes ∷ ys) t e = either_total s ys t None (with_got (length bytes) o) None o (r == s) (totals_any s (with_got (length bytes) o) ys t) (totals_any s o ys t) e
+totals_any s o (Took r offered taken ∷ ys) t e = either_total s ys t None (with_taken (length taken) o) None o (r == s) (totals_any s (with_taken (length taken) o) ys t) (totals_any s o ys t) e
+totals_any s o (Not_accepted ∷ ys) t e = totals_any s o ys t e
+totals_any s o (Accept_failed ∷ ys) t e = totals_any s o ys t e
+totals_any s o (Nothing_got r room ∷ ys) t e = totals_any s o ys t e
+totals_any s o (Read_ended r room ∷ ys) t e = totals_any s o ys t e
+totals_any s o (Read_failed r room ∷ ys) t e = totals_any s o ys t e
+totals_any s o (Nothing_taken r offered ∷ ys) t e = totals_any s o ys t e
+totals_any s o (Write_failed r offered ∷ ys) t e = totals_any s o ys t e
+totals_any s o (Closed r ∷ ys) t e = totals_any s o ys t e
+totals_any s o (Rested ∷ ys) t e = totals_any s o ys t e
+
+totals_then : (s : ℕ) (a b c : Option Totals) (xs ys : List Call) (t : Totals) → ((u : Totals) → b ≡ Some u → totals_after s a xs ≡ Some u) → (c ≡ Some t → totals_after s b ys ≡ Some t) → c ≡ Some t → totals_after s a (xs ++ ys) ≡ Some t
+totals_then s a None c xs ys t f g e = totals-append s a xs ys ∙ totals_any s (totals_after s a xs) ys t (g e)
+totals_then s a (Some u) c xs ys t f g e = totals-append s a xs ys ∙ ap (λ (o : Option Totals). totals_after s o ys) (f u refl) ∙ g e
+
+pub tells_none : (told : Told) → Tells told [] told
+tells_none told =
+    let none : told.failures ≡ told.failures + 0 = omega arith in
+    record { calls = follows_none told.calls; failures = none; kept = λ s e. e; given = λ s i. absurd i; totals = λ s t e. e }
+
+pub tells_then : (a b c : Told) (xs ys : List Call) → Tells a xs b → Tells b ys c → Tells a (xs ++ ys) c
+tells_then a b c xs ys s t = record {
+  calls = follows_then a.calls b.calls c.calls xs ys s.calls t.calls;
+  failures = t.failures ∙ ap (λ (n : ℕ). n + count_by is_failed ys) s.failures ∙ failed_then a.failures xs ys;
+  kept = λ n e. t.kept n (s.kept n e);
+  given = λ n i. given n (in_either (Accepted n) xs ys i);
+  totals = λ n u e. totals_then n (a.totals n) (b.totals n) (c.totals n) xs ys u (s.totals n) (t.totals n u) e;
+}
+  where
+    given : (n : ℕ) → IsIn (Accepted n) xs ⊎ IsIn (Accepted n) ys → c.is_given n ≡ true
+    given n (inl i) = t.kept n (s.given n i)
+    given n (inr i) = t.given n i
 
 -- ---- what a server does
 
-pub serves_not : (v : Served) → Serves v [] false v
-serves_not v = record { deeds = []; happenings = []; story = (refl, refl); asks = refl; unpumped = refl; done = refl }
+pub serves_not : {L : Lacks} (v : Served) → Serves L v [] false v
+serves_not v = record { deeds = []; happenings = []; story = (refl, refl); asks = refl; all_asked = refl; done = refl }
 
-pub story-append : (ds es : List Deed) (a b c : Served) (hs ks : List Happening) → Story a ds hs b → Story b es ks c → Story a (ds ++ es) (hs ++ ks) c
-story-append [] es a b c hs ks s t =
-    subst (λ (z : List Happening). Story a es (z ++ ks) c) (sym s.0) (subst (λ (z : Served). Story z es ks c) s.1 t)
-story-append (d ∷ ds) es a b c hs ks (mid, first, rest, e, does, s) t =
-    (mid, first, rest ++ ks, ap (λ (z : List Happening). z ++ ks) e ∙ append_assoc first rest ks, does, story-append ds es mid b c rest ks s t)
+pub story-append : (L : Lacks) (ds es : List Deed) (a b c : Served) (hs ks : List Happening) → Story L a ds hs b → Story L b es ks c → Story L a (ds ++ es) (hs ++ ks) c
+story-append L [] es a b c hs ks s t =
+    subst (λ (z : List Happening). Story L a es (z ++ ks) c) (sym s.0) (subst (λ (z : Served). Story L z es ks c) s.1 t)
+story-append L (d ∷ ds) es a b c hs ks (mid, first, rest, e, does, s) t =
+    (mid, first, rest ++ ks, ap (λ (z : List Happening). z ++ ks) e ∙ append_assoc first rest ks, does, story-append L ds es mid b c rest ks s t)
 
-pub serves_then : (a b c : Served) (xs ys : List Ask) (p q : Bool) → Serves a xs p b → Serves b ys q c → Serves a (xs ++ ys) (p || q) c
-serves_then a b c xs ys p q s t = record {
+pub serves_then : {L : Lacks} (a b c : Served) (xs ys : List Ask) (p q : Bool) → Serves L a xs p b → Serves L b ys q c → Serves L a (xs ++ ys) (p || q) c
+serves_then {L = L} a b c xs ys p q s t = record {
   deeds = s.deeds ++ t.deeds;
   happenings = s.happenings ++ t.happenings;
-  story = story-append s.deeds t.deeds a b c s.happenings t.happenings s.story t.story;
+  story = story-append L s.deeds t.deeds a b c s.happenings t.happenings s.story t.story;
   asks = ap asks (flat_map-append calls s.deeds t.deeds) ∙ filter_map-append ask (flat_map calls s.deeds) (flat_map calls t.deeds)
       ∙ ap (λ (z : List Ask). z ++ asks (flat_map calls t.deeds)) s.asks ∙ ap (λ (z : List Ask). xs ++ z) t.asks;
-  unpumped = list_any-append is_pump s.deeds t.deeds ∙ ap (λ (z : Bool). z || list_any is_pump t.deeds) s.unpumped ∙ t.unpumped;
+  all_asked = list_any-append is_unasked s.deeds t.deeds ∙ ap (λ (z : Bool). z || list_any is_unasked t.deeds) s.all_asked ∙ t.all_asked;
   done = list_any-append is_done s.deeds t.deeds ∙ ap (λ (z : Bool). z || list_any is_done t.deeds) s.done ∙ ap (λ (z : Bool). p || z) t.done;
 }
 
@@ -66,27 +117,28 @@ pub or_false : (p : Bool) → (p || false) ≡ p
 or_false true = refl
 or_false false = refl
 
-pub serves_one : (a b : Served) (xs : List Ask) (p : Bool) (d : Deed) (hs : List Happening) → DoesDeed a d hs b → asks (calls d) ≡ xs → is_pump d ≡ false → is_done d ≡ p → Serves a xs p b
+pub serves_one : {L : Lacks} (a b : Served) (xs : List Ask) (p : Bool) (d : Deed) (hs : List Happening) → DoesDeed L a d hs b → asks (calls d) ≡ xs → is_unasked d ≡ false → is_done d ≡ p → Serves L a xs p b
 serves_one a b xs p d hs does asked pump done = record {
   deeds = d ∷ [];
   happenings = hs;
   story = (b, hs, [], sym (append-nil hs), does, (refl, refl));
   asks = ap asks (append-nil (calls d)) ∙ asked;
-  unpumped = or_false (is_pump d) ∙ pump;
+  all_asked = or_false (is_unasked d) ∙ pump;
   done = or_false (is_done d) ∙ done;
 }
 
-pub attempt_one : (a b : World) (t : Attempt) (hs : List Happening) → Brings a t hs b → Attempts a (t ∷ []) hs b
-attempt_one a b t hs br = (b, hs, [], sym (append-nil hs), br, (refl, refl))
+pub attempt_one : (L : Lacks) (a b : World) (t : Attempt) (hs : List Happening) → Brings L a t hs b → Attempts L a (t ∷ []) hs b
+attempt_one L a b t hs br = (b, hs, [], sym (append-nil hs), br, (refl, refl))
 
-pub attempt_two : (a b c : World) (t u : Attempt) (hs ks : List Happening) → Brings a t hs b → Brings b u ks c → Attempts a (t ∷ u ∷ []) (hs ++ ks) c
-attempt_two a b c t u hs ks br cr = (b, hs, ks, refl, br, attempt_one b c u ks cr)
+pub attempt_two : (L : Lacks) (a b c : World) (t u : Attempt) (hs ks : List Happening) → Brings L a t hs b → Brings L b u ks c → Attempts L a (t ∷ u ∷ []) (hs ++ ks) c
+attempt_two L a b c t u hs ks br cr = (b, hs, ks, refl, br, attempt_one L b c u ks cr)
 
 -- ---- rests
 
-pub rests_once : (v : Served) (acted : Bool) (now : Told) → acted ≡ false → now ≡ told_after v.told (Rested ∷ []) → RestsUnless v acted (served v.world v.peers now)
-rests_once v acted now quiet e =
-    ap (λ (t : Told). served v.world v.peers t) e ∙ ap (λ (x : Bool). if x then v else record v { told = told_after v.told (Rested ∷ []) }) (sym quiet)
+pub rests_once : (v : Served) (acted : Bool) (now : Told) → acted ≡ false → Tells v.told (Rested ∷ []) now → RestsUnless v acted (served v.world v.peers now)
+rests_once v acted now quiet t =
+    let w = served v.world v.peers now in
+    subst (λ (x : Bool). MatchBool x (w ≡ v) ((w ≡ record v { told = now }) × Tells v.told (Rested ∷ []) now)) (sym quiet) (refl, t)
 
 pub rests_not : (v : Served) (acted : Bool) → acted ≡ true → RestsUnless v acted v
-rests_not v acted busy = ap (λ (x : Bool). if x then v else record v { told = told_after v.told (Rested ∷ []) }) (sym busy)
+rests_not v acted busy = subst (λ (x : Bool). MatchBool x (v ≡ v) ((v ≡ v) × Tells v.told (Rested ∷ []) v.told)) (sym busy) refl

@@ -1,16 +1,17 @@
 -- In every story a connection has one socket, and a socket one connection.
-use Rattle.std.proofs.Common.{◌≡◌, ◌≢◌, ◌≤◌, ℕ, ◌+◌, List, [], ◌∷◌, ◌++◌, Option, Some, None, refl, sym, ap, subst, ◌∙◌, ◌⊎◌, inl, inr, slice_set, arith}
-use Rattle.std.proofs.lemmas.Bool.{eq-eqb, ne_eqb}
+use Rattle.std.proofs.Common.{◌≡◌, ◌≢◌, ◌≤◌, true, ℕ, ◌+◌, List, [], ◌∷◌, ◌++◌, Option, Some, None, refl, sym, ap, subst, ◌∙◌, ◌⊎◌, inl, inr, slice_set, arith}
+use Rattle.std.proofs.lemmas.Bool.{eq-eqb, ne_eqb, false≢true}
 use Rattle.std.specs.Prelude.{◌==◌}
 use Rattle.std.specs.List.{AllByRecursion}
 use Rattle.model.specs.Topology.{IsIn}
 use Rattle.model.specs.Run.{Happening}
 use Rattle.laws.proofs.Counts.{in_front, in_back}
-use Rattle.serving.specs.Wire.{Call, Accepted, Told, told_after, and_these, IsFresh}
+use Rattle.serving.specs.Wire.{Call, Accepted, Tells, IsFresh}
 use Rattle.serving.specs.Story.{Served, At, Filled, Deed, Met, Turned_away, Met_no_one, Heard, Heard_partly, Heard_nothing, Heard_end, Gave, Gave_partly, Gave_nothing, Gave_up, Pumped, Pumped_nothing, Pump_refused, Let_go, Paused, attempts, Table, DoesDeed, Story}
 use Rattle.serving.specs.Joined.{met_by, all_met}
 use Rattle.serving.specs.declared.peers.Peer.{Peer}
 use Rattle.serving.proofs.Fits.{freed_at, filled_at, attempts_le, met_given}
+use Rattle.runs.specs.Wants.{Lacks}
 
 -- whose deed it is
 abbrev pub peer_of : Deed → Option Peer
@@ -35,59 +36,39 @@ abbrev pub SamePair : Peer → Peer → Type 0
 SamePair p q = (q.connection == p.connection) ≡ (q.socket == p.socket)
 
 -- the sockets met so far: each has its own connection
-record Knows (known : List Peer) (v : Served) : Type 0 where
-  slots : (i : ℕ) (p : Peer) → At v.peers i p → IsIn p known
-  given : (p : Peer) → IsIn p known → p.connection ≤ v.world.given
-  told : (xs : List Call) × (v.told.calls ≡ Some xs) × ((p : Peer) → IsIn p known → IsIn (Accepted p.socket) xs)
-  pairs : (p q : Peer) → IsIn p known → IsIn q known → SamePair p q
+pub record Knows (known : List Peer) (v : Served) : Type 0 where
+  pub slots : (i : ℕ) (p : Peer) → At v.peers i p → IsIn p known
+  pub given : (p : Peer) → IsIn p known → p.connection ≤ v.world.given
+  pub named : (p : Peer) → IsIn p known → v.told.is_given p.socket ≡ true
+  pub pairs : (p q : Peer) → IsIn p known → IsIn q known → SamePair p q
 
--- calls are told after those before them
-told_on : (known : List Peer) (old new : Told) (more : List Call) → new ≡ told_after old more → (xs : List Call) × (old.calls ≡ Some xs) × ((p : Peer) → IsIn p known → IsIn (Accepted p.socket) xs)
-    → (xs : List Call) × (new.calls ≡ Some xs) × ((p : Peer) → IsIn p known → IsIn (Accepted p.socket) xs)
-told_on known old new more e (xs, is, there) =
-    (xs ++ more, ap (λ (t : Told). t.calls) e ∙ ap (λ (z : Option (List Call)). and_these z more) is, λ p i. in_front (Accepted p.socket) xs more (there p i))
-
-knows_on : (known : List Peer) (v w : Served) (more : List Call) → ((i : ℕ) (p : Peer) → At w.peers i p → At v.peers i p) → v.world.given ≤ w.world.given → w.told ≡ told_after v.told more → Knows known v → Knows known w
-knows_on known v w more sub le e k = record {
+knows_on : (known : List Peer) (v w : Served) (more : List Call) → ((i : ℕ) (p : Peer) → At w.peers i p → At v.peers i p) → v.world.given ≤ w.world.given → Tells v.told more w.told → Knows known v → Knows known w
+knows_on known v w more sub le t k = record {
   slots = λ i p at. k.slots i p (sub i p at);
   given = λ p i. let g = k.given p i in omega (arith, g, le);
-  told = told_on known v.told w.told more e k.told;
+  named = λ p i. t.kept p.socket (k.named p i);
   pairs = k.pairs;
 }
 
-knows_same : (known : List Peer) (v w : Served) (more : List Call) → w.peers ≡ v.peers → v.world.given ≤ w.world.given → w.told ≡ told_after v.told more → Knows known v → Knows known w
+knows_same : (known : List Peer) (v w : Served) (more : List Call) → w.peers ≡ v.peers → v.world.given ≤ w.world.given → Tells v.told more w.told → Knows known v → Knows known w
 knows_same known v w more same le e k = knows_on known v w more (λ i p at. subst (λ (z : List (Option Peer)). At z i p) same at) le e k
 
-knows_freed : (known : List Peer) (v w : Served) (j : ℕ) (more : List Call) → w.peers ≡ slice_set v.peers j None → v.world.given ≤ w.world.given → w.told ≡ told_after v.told more → Knows known v → Knows known w
+knows_freed : (known : List Peer) (v w : Served) (j : ℕ) (more : List Call) → w.peers ≡ slice_set v.peers j None → v.world.given ≤ w.world.given → Tells v.told more w.told → Knows known v → Knows known w
 knows_freed known v w j more freed le e k = knows_on known v w more (λ i p at. freed_at v.peers j i p (subst (λ (z : List (Option Peer)). At z i p) freed at)) le e k
 
 -- one whose connection and socket both are new is paired with none before it
 new_pair : (p q : Peer) → q.connection ≢ p.connection → q.socket ≢ p.socket → SamePair p q
 new_pair p q c s = ne_eqb q.connection p.connection c ∙ sym (ne_eqb q.socket p.socket s)
 
-knows_met : (known : List Peer) (v w : Served) (i : ℕ) (p : Peer) → p.connection ≡ v.world.given + 1 → w.world.given ≡ v.world.given + 1 → IsFresh p.socket v.told → Filled v.peers i p w.peers → w.told ≡ told_after v.told (Accepted p.socket ∷ []) → Knows known v
+knows_met : (known : List Peer) (v w : Served) (i : ℕ) (p : Peer) → p.connection ≡ v.world.given + 1 → w.world.given ≡ v.world.given + 1 → IsFresh p.socket v.told → Filled v.peers i p w.peers → Tells v.told (Accepted p.socket ∷ []) w.told → Knows known v
     → Knows (p ∷ known) w
-knows_met known v w i p number more fresh filled e k = record {
+knows_met known v w i p number more fresh filled t k = record {
   slots = λ j q at. slot j q (filled_at v.peers w.peers i p filled j q at);
   given = λ q x. given q x;
-  told = (xs.0, xs.1, there);
-  pairs = pairs;
+  named = λ q x. named q x;
+  pairs = λ q r x y. pairs q r x y;
 }
   where
-    xs : (xs : List Call) × (w.told.calls ≡ Some xs) × ((q : Peer) → IsIn q (p ∷ known) → IsIn (Accepted q.socket) xs)
-    xs = (
-      k.told.0 ++ Accepted p.socket ∷ [],
-      ap (λ (t : Told). t.calls) e ∙ ap (λ (z : Option (List Call)). and_these z (Accepted p.socket ∷ [])) k.told.1,
-      go,
-    )
-      where
-        go : (q : Peer) → IsIn q (p ∷ known) → IsIn (Accepted q.socket) (k.told.0 ++ Accepted p.socket ∷ [])
-        go q (inl is) = in_back (Accepted q.socket) k.told.0 (Accepted p.socket ∷ []) (inl (ap (λ (z : Peer). Accepted z.socket) is))
-        go q (inr x) = in_front (Accepted q.socket) k.told.0 (Accepted p.socket ∷ []) (k.told.2 q x)
-
-    there : (q : Peer) → IsIn q (p ∷ known) → IsIn (Accepted q.socket) xs.0
-    there = xs.2
-
     slot : (j : ℕ) (q : Peer) → ((j ≡ i) × (q ≡ p)) ⊎ At v.peers j q → IsIn q (p ∷ known)
     slot j q (inl is) = inl is.1
     slot j q (inr at) = inr (k.slots j q at)
@@ -96,15 +77,19 @@ knows_met known v w i p number more fresh filled e k = record {
     given q (inl is) = let n = ap (λ (z : Peer). z.connection) is in omega (arith, n, number, more)
     given q (inr x) = let g = k.given q x in omega (arith, g, more)
 
+    named : (q : Peer) → IsIn q (p ∷ known) → w.told.is_given q.socket ≡ true
+    named q (inl is) = t.given q.socket (inl (ap (λ (z : Peer). Accepted z.socket) is))
+    named q (inr x) = t.kept q.socket (k.named q x)
+
     other : (q : Peer) → IsIn q known → (q.connection ≢ p.connection) × (q.socket ≢ p.socket)
-    other q x = (λ same. let g = k.given q x in omega (arith, g, number, same), λ same. fresh k.told.0 k.told.1 (subst (λ (s : ℕ). IsIn (Accepted s) k.told.0) same (k.told.2 q x)))
+    other q x = (λ same. let g = k.given q x in omega (arith, g, number, same), λ same. false≢true (sym fresh ∙ subst (λ (s : ℕ). v.told.is_given s ≡ true) same (k.named q x)))
 
     pairs : (q r : Peer) → IsIn q (p ∷ known) → IsIn r (p ∷ known) → SamePair q r
     pairs q r (inl x) (inl y) =
         let same : r ≡ q = y ∙ sym x in
         eq-eqb r.connection q.connection (ap (λ (z : Peer). z.connection) same) ∙ sym (eq-eqb r.socket q.socket (ap (λ (z : Peer). z.socket) same))
     pairs q r (inl x) (inr y) = subst (λ (z : Peer). SamePair z r) (sym x) (new_pair p r (other r y).0 (other r y).1)
-    pairs q r (inr x) (inl y) = subst (λ (z : Peer). SamePair q z) (sym y) (new_pair q p (λ e. (other q x).0 (sym e)) (λ e. (other q x).1 (sym e)))
+    pairs q r (inr x) (inl y) = subst (λ (z : Peer). SamePair q z) (sym y) (new_pair q p (λ f. (other q x).0 (sym f)) (λ f. (other q x).1 (sym f)))
     pairs q r (inr x) (inr y) = k.pairs q r x y
 
 -- ---- one deed
@@ -114,16 +99,16 @@ abbrev pub IsKnownIn : List Peer → Option Peer → Type 0
 IsKnownIn known None = Unit {0}
 IsKnownIn known (Some p) = IsIn p known
 
-record Goes (known : List Peer) (d : Deed) (w : Served) : Type 0 where
-  knows : Knows (met_by d ++ known) w
-  mine : IsKnownIn (met_by d ++ known) (peer_of d)
+pub record Goes (known : List Peer) (d : Deed) (w : Served) : Type 0 where
+  pub knows : Knows (met_by d ++ known) w
+  pub mine : IsKnownIn (met_by d ++ known) (peer_of d)
 
-goes : (known : List Peer) (v w : Served) (d : Deed) (hs : List Happening) → DoesDeed v d hs w → Knows known v → Goes known d w
-goes known v w d hs does k = go d does.table (attempts_le (attempts d) v.world w.world hs does.brings) does
+pub goes : {L : Lacks} (known : List Peer) (v w : Served) (d : Deed) (hs : List Happening) → DoesDeed L v d hs w → Knows known v → Goes known d w
+goes {L = L} known v w d hs does k = go d does.table (attempts_le L (attempts d) v.world w.world hs does.brings) does
   where
-    go : (d : Deed) → Table v d w.peers → v.world.given ≤ w.world.given → DoesDeed v d hs w → Goes known d w
-    go (Met i p) t le does = record { knows = knows_met known v w i p t.1 (met_given v.world w.world hs t.0 does.brings) t.2 t.3 does.told k; mine = inl refl }
-    go (Turned_away s o) t le does = record { knows = knows_same known v w _ t.1 le does.told k; mine = tt }
+    go : (d : Deed) → Table L v d w.peers → v.world.given ≤ w.world.given → DoesDeed L v d hs w → Goes known d w
+    go (Met i p) t le does = record { knows = knows_met known v w i p t.1 (met_given L v.world w.world hs t.0 does.brings) t.2 t.3 does.told k; mine = inl refl }
+    go (Turned_away s o) t le does = record { knows = knows_same known v w _ t.3 le does.told k; mine = tt }
     go (Met_no_one x) t le does = record { knows = knows_same known v w _ t le does.told k; mine = tt }
     go (Heard i p bytes) t le does = record { knows = knows_same known v w _ t.1 le does.told k; mine = k.slots i p t.0 }
     go (Heard_partly i p bytes) t le does = record { knows = knows_freed known v w i _ t.1 le does.told k; mine = k.slots i p t.0 }
@@ -167,11 +152,11 @@ record AllGo (known : List Peer) (ds : List Deed) (w : Served) : Type 0 where
   knows : Knows (known_after known ds) w
   mine : AllByRecursion (λ d. IsKnownIn (known_after known ds) (peer_of d)) ds
 
-all_go : (ds : List Deed) (known : List Peer) (v w : Served) (hs : List Happening) → Story v ds hs w → Knows known v → AllGo known ds w
-all_go [] known v w hs s k = record { knows = subst (Knows known) (sym s.1) k; mine = tt }
-all_go (d ∷ ds) known v w hs (mid, first, rest, e, does, s) k =
+all_go : (L : Lacks) (ds : List Deed) (known : List Peer) (v w : Served) (hs : List Happening) → Story L v ds hs w → Knows known v → AllGo known ds w
+all_go L [] known v w hs s k = record { knows = subst (Knows known) (sym s.1) k; mine = tt }
+all_go L (d ∷ ds) known v w hs (mid, first, rest, e, does, s) k =
     let one = goes known v mid d first does k in
-    let more = all_go ds (met_by d ++ known) mid w rest s one.knows in
+    let more = all_go L ds (met_by d ++ known) mid w rest s one.knows in
     record { knows = more.knows; mine = (option_known (met_by d ++ known) (known_after known (d ∷ ds)) (peer_of d) (stays_known ds (met_by d ++ known)) one.mine, more.mine) }
 
 -- the deed is of a connection exactly where it is of its socket
@@ -187,10 +172,12 @@ pairs_each known p f (d ∷ ds) a = (go (peer_of d) a.0, pairs_each known p f ds
     go None k = tt
     go (Some q) k = f q k
 
--- from a server with no socket, over a wire that tells its calls
-pub pairs_in : (ds : List Deed) (v w : Served) (hs : List Happening) (xs : List Call) → v.peers ≡ [] → v.told.calls ≡ Some xs → Story v ds hs w → (p : Peer) → IsIn p (all_met ds) → AllByRecursion (λ d. PairsWith p (peer_of d)) ds
-pairs_in ds v w hs xs none tells s p i =
-    let none_at : (j : ℕ) (q : Peer) → At v.peers j q → IsIn q [] = λ j q at. absurd (cc (none, at)) in
-    let start : Knows [] v = record { slots = none_at; given = λ q x. absurd x; told = (xs, tells, λ q x. absurd x); pairs = λ q r x y. absurd x } in
-    let all = all_go ds [] v w hs s start in
+-- with no socket none is known
+pub knows_none : (v : Served) → v.peers ≡ [] → Knows [] v
+knows_none v none = record { slots = λ j q at. absurd (cc (none, at)); given = λ q x. absurd x; named = λ q x. absurd x; pairs = λ q r x y. absurd x }
+
+-- from a server with no socket
+pub pairs_in : (L : Lacks) (ds : List Deed) (v w : Served) (hs : List Happening) → v.peers ≡ [] → Story L v ds hs w → (p : Peer) → IsIn p (all_met ds) → AllByRecursion (λ d. PairsWith p (peer_of d)) ds
+pairs_in L ds v w hs none s p i =
+    let all = all_go L ds [] v w hs s (knows_none v none) in
     pairs_each (known_after [] ds) p (λ q x. all.knows.pairs p q (met_known ds [] p i) x) ds all.mine

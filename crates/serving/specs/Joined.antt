@@ -1,10 +1,10 @@
 -- What came of each socket, connection by connection (own): the pieces that arrived for a connection are what was read from its socket.
-use Rattle.std.specs.Prelude.{◌≡◌, ◌+◌, ℕ, List, [], ◌∷◌, ◌++◌, length, filter_map, flat_map, count_by, Bool, false, not, ◌==◌, ◌&&◌, Option, Some, None, if◌then◌else◌}
+use Rattle.std.specs.Prelude.{◌≡◌, ◌+◌, ℕ, List, [], ◌∷◌, ◌++◌, length, filter_map, flat_map, sum_by, count_by, Bool, false, not, ◌==◌, ◌&&◌, Option, Some, None, if◌then◌else◌}
 use Rattle.model.specs.Topology.{IsIn}
 use Rattle.model.specs.Run.{Happening, put_out}
 use Rattle.model.specs.declared.events.Arrival.{Arrival}
 use Rattle.model.specs.declared.events.Arrival.TheVariants.{In, Sent, Lose}
-use Rattle.serving.specs.Wire.{Call, Got, Read_ended, Read_failed, Took, Write_failed}
+use Rattle.serving.specs.Wire.{Call, Told, Totals, Got, Read_ended, Read_failed, Took, Write_failed}
 use Rattle.serving.specs.Coming.{Attempt}
 use Rattle.serving.specs.Story.{Deed, Met, calls, attempts}
 use Rattle.serving.specs.declared.peers.Peer.{Peer}
@@ -91,6 +91,18 @@ pub record IsJoined (p : Peer) (asked : List Call) (arrived : List Attempt) : Ty
 -- each socket that was met has its own connection
 abbrev pub AreJoined : List Deed → Type 0
 AreJoined deeds = (p : Peer) → IsIn p (all_met deeds) → IsJoined p (flat_map calls deeds) (flat_map attempts deeds)
+
+-- how many bytes came in for a connection
+abbrev pub bytes_in : ℕ → List Attempt → ℕ
+bytes_in c arrived = sum_by length (filter_map (piece_for c) arrived)
+
+-- how many bytes of its output were taken
+abbrev pub bytes_out : ℕ → List Attempt → ℕ
+bytes_out c arrived = sum_by (λ (n : ℕ). n) (filter_map (amount_for c) arrived)
+
+-- where the totals of a socket that was met are told, as many bytes came in for its connection and were taken of its output
+abbrev pub AreCounted : List Deed → Told → Type 0
+AreCounted deeds told = (p : Peer) → IsIn p (all_met deeds) → (t : Totals) → told.totals p.socket ≡ Some t → (t.got ≡ bytes_in p.connection (flat_map attempts deeds)) × (t.taken ≡ bytes_out p.connection (flat_map attempts deeds))
 
 -- all that a socket took, in order, is a beginning of what was put out for its connection
 abbrev pub AreBeginnings : List Deed → List Happening → Type 0

@@ -1,12 +1,13 @@
 -- What a server does: what it asks of its wire, what is answered, and which arrivals it makes of that, and the pumps that it makes by itself (own).
-use Rattle.std.specs.Prelude.{◌≡◌, ◌≢◌, ◌≤◌, ◌+◌, ℕ, zero, suc, List, [], ◌∷◌, ◌++◌, length, take, flat_map, Bool, true, false, Option, Some, None, slice_index_or, slice_set, if◌then◌else◌, MatchBool}
+use Rattle.std.specs.Prelude.{◌≡◌, ◌≢◌, ◌≤◌, ◌+◌, ◌⊎◌, ℕ, zero, suc, List, [], ◌∷◌, ◌++◌, length, take, flat_map, count_by, is_some, Bool, true, false, Option, Some, None, slice_index_or, slice_set, if◌then◌else◌, MatchBool}
 use Rattle.std.specs.List.{list_any}
 use Rattle.model.specs.Run.{Happening}
 use Rattle.model.specs.Consuming.{CanDeliver}
 use Rattle.model.specs.Arrivals.{World, Answers, NoneCanDeliver, is_gone, can_open}
 use Rattle.model.specs.declared.events.Arrival.TheVariants as arrival
-use Rattle.serving.specs.Wire.{Call, Accepted, Not_accepted, Accept_failed, Got, Nothing_got, Read_ended, Read_failed, Took, Nothing_taken, Write_failed, Closed, Rested, Ask, asks, Told, told_after, IsFresh}
+use Rattle.serving.specs.Wire.{Call, Accepted, Not_accepted, Accept_failed, Got, Nothing_got, Read_ended, Read_failed, Took, Nothing_taken, Write_failed, Closed, Rested, Ask, asks, Told, Tells, IsFresh}
 use Rattle.serving.specs.Coming.{Attempt, whole, short, Brings, Attempts}
+use Rattle.runs.specs.Wants.{Lacks, To_open}
 use Rattle.serving.specs.declared.peers.Peer.{Peer}
 
 -- a machine's world, whose socket is which by slot, and what the wire tells
@@ -27,7 +28,7 @@ read_room = 65536
 pub data Deed : Type 0 where
   -- a socket came, and a connection was opened for it in this slot
   Met : (slot : ℕ) → (peer : Peer) → Deed
-  -- a socket came, and no connection could be opened, or there was no memory
+  -- a socket came, and no connection could be opened, or memory was refused: none was opened
   Turned_away : (socket : ℕ) → (opening : Attempt) → Deed
   Met_no_one : (is_failure : Bool) → Deed
   Heard : (slot : ℕ) → (peer : Peer) → (bytes : List ℕ) → Deed
@@ -107,6 +108,14 @@ is_pump Pumped_nothing = true
 is_pump Pump_refused = true
 is_pump deed = false
 
+-- it is a pump or a rest, which stands for no answer of the wire
+abbrev pub is_unasked : Deed → Bool
+is_unasked Pumped = true
+is_unasked Pumped_nothing = true
+is_unasked Pump_refused = true
+is_unasked Paused = true
+is_unasked deed = false
+
 -- ---- the slots
 
 -- this slot holds this peer
@@ -135,55 +144,64 @@ IsOutput w c bytes = bytes ≡ (w.wire c).output
 abbrev pub IsFront : World → ℕ → List ℕ → Type 0
 IsFront w c bytes = (n : ℕ) × (n ≤ length (w.wire c).output) × (bytes ≡ take n (w.wire c).output)
 
+-- no slot is free, so that one more needs memory
+abbrev pub NoneFree : List (Option Peer) → Type 0
+NoneFree ps = length ps ≤ count_by is_some ps
+
+-- why a socket is turned away: no more connections can be opened; or memory was wanting, for one or for its slot
+abbrev pub MayTurnAway : Lacks → World → List (Option Peer) → Bool → Type 0
+MayTurnAway L w ps true = can_open w ≡ false
+MayTurnAway L w ps false = L w To_open ⊎ NoneFree ps
+
 -- what a deed is about stands so in the slots, what a write was offered is all of the connection's own output and what it took the first of that, and a delivery could be made where one was
-abbrev pub Table : Served → Deed → List (Option Peer) → Type 0
-Table v (Met i p) new = (can_open v.world ≡ true) × (p.connection ≡ v.world.given + 1) × IsFresh p.socket v.told × Filled v.peers i p new
-Table v (Turned_away s o) new = (o.arrival ≡ arrival.Open) × (new ≡ v.peers)
-Table v (Met_no_one failed) new = new ≡ v.peers
-Table v (Heard i p bytes) new = KeepsPeer v.peers i p new
-Table v (Heard_partly i p bytes) new = Freed v.peers i p new
-Table v (Heard_nothing i p) new = KeepsPeer v.peers i p new
-Table v (Heard_end i p failed) new = Freed v.peers i p new
-Table v (Gave i p offered taken) new = IsOutput v.world p.connection offered × IsFront v.world p.connection taken × KeepsPeer v.peers i p new
-Table v (Gave_partly i p offered taken) new = IsOutput v.world p.connection offered × IsFront v.world p.connection taken × Freed v.peers i p new
-Table v (Gave_nothing i p offered) new = IsOutput v.world p.connection offered × KeepsPeer v.peers i p new
-Table v (Gave_up i p offered) new = IsOutput v.world p.connection offered × Freed v.peers i p new
-Table v Pumped new = ((c : ℕ) × CanDeliver v.world.state.broker c) × (new ≡ v.peers)
-Table v Pumped_nothing new = NoneCanDeliver v.world × (new ≡ v.peers)
-Table v Pump_refused new = new ≡ v.peers
-Table v (Let_go i p) new = (is_gone v.world p.connection ≡ true) × Freed v.peers i p new
-Table v Paused new = new ≡ v.peers
+abbrev pub Table : Lacks → Served → Deed → List (Option Peer) → Type 0
+Table L v (Met i p) new = (can_open v.world ≡ true) × (p.connection ≡ v.world.given + 1) × IsFresh p.socket v.told × Filled v.peers i p new
+Table L v (Turned_away s o) new = (o.arrival ≡ arrival.Open) × MayTurnAway L v.world v.peers o.is_whole × IsFresh s v.told × (new ≡ v.peers)
+Table L v (Met_no_one failed) new = new ≡ v.peers
+Table L v (Heard i p bytes) new = KeepsPeer v.peers i p new
+Table L v (Heard_partly i p bytes) new = Freed v.peers i p new
+Table L v (Heard_nothing i p) new = KeepsPeer v.peers i p new
+Table L v (Heard_end i p failed) new = Freed v.peers i p new
+Table L v (Gave i p offered taken) new = IsOutput v.world p.connection offered × IsFront v.world p.connection taken × KeepsPeer v.peers i p new
+Table L v (Gave_partly i p offered taken) new = IsOutput v.world p.connection offered × IsFront v.world p.connection taken × Freed v.peers i p new
+Table L v (Gave_nothing i p offered) new = IsOutput v.world p.connection offered × KeepsPeer v.peers i p new
+Table L v (Gave_up i p offered) new = IsOutput v.world p.connection offered × Freed v.peers i p new
+Table L v Pumped new = ((c : ℕ) × CanDeliver v.world.state.broker c) × (new ≡ v.peers)
+Table L v Pumped_nothing new = NoneCanDeliver v.world × (new ≡ v.peers)
+Table L v Pump_refused new = new ≡ v.peers
+Table L v (Let_go i p) new = (is_gone v.world p.connection ≡ true) × Freed v.peers i p new
+Table L v Paused new = new ≡ v.peers
 
 -- A socket that came is taken in, or it is not and nothing changes.
-abbrev pub TakesIn : World → List (Option Peer) → ℕ → Bool → World → List (Option Peer) → Type 0
-TakesIn old ps s true new now = (can_open old ≡ true) × ((hs : List Happening) × Answers old arrival.Open hs new) × ((i : ℕ) × Filled ps i (record { connection = old.given + 1; socket = s }) now)
-TakesIn old ps s false new now = ((o : Attempt) × (o.arrival ≡ arrival.Open) × Brings old o [] new) × (now ≡ ps)
+abbrev pub TakesIn : Lacks → World → List (Option Peer) → ℕ → Bool → World → List (Option Peer) → Type 0
+TakesIn L old ps s true new now = (can_open old ≡ true) × ((hs : List Happening) × Answers old arrival.Open hs new) × ((i : ℕ) × Filled ps i (record { connection = old.given + 1; socket = s }) now)
+TakesIn L old ps s false new now = ((o : Attempt) × (o.arrival ≡ arrival.Open) × MayTurnAway L old ps o.is_whole × Brings L old o [] new) × (now ≡ ps)
 
 -- One deed.
-pub record DoesDeed (old : Served) (d : Deed) (hs : List Happening) (new : Served) : Type 0 where
-  pub table : Table old d new.peers
-  pub brings : Attempts old.world (attempts d) hs new.world
-  pub told : new.told ≡ told_after old.told (calls d)
+pub record DoesDeed (L : Lacks) (old : Served) (d : Deed) (hs : List Happening) (new : Served) : Type 0 where
+  pub table : Table L old d new.peers
+  pub brings : Attempts L old.world (attempts d) hs new.world
+  pub told : Tells old.told (calls d) new.told
 
 -- These deeds, one after another.
-abbrev pub Story : Served → List Deed → List Happening → Served → Type 0
-Story old [] hs new = (hs ≡ []) × (new ≡ old)
-Story old (d ∷ ds) hs new = (mid : Served) × (first : List Happening) × (rest : List Happening) × (hs ≡ first ++ rest) × DoesDeed old d first mid × Story mid ds rest new
+abbrev pub Story : Lacks → Served → List Deed → List Happening → Served → Type 0
+Story L old [] hs new = (hs ≡ []) × (new ≡ old)
+Story L old (d ∷ ds) hs new = (mid : Served) × (first : List Happening) × (rest : List Happening) × (hs ≡ first ++ rest) × DoesDeed L old d first mid × Story L mid ds rest new
 
--- A server goes on so: it asks this of its wire, makes no pump, and does something or not.
-pub record Serves (old : Served) (asked : List Ask) (acted : Bool) (new : Served) : Type 0 where
+-- A server goes on so: it asks this of its wire, makes no pump and no rest, and does something or not.
+pub record Serves (L : Lacks) (old : Served) (asked : List Ask) (acted : Bool) (new : Served) : Type 0 where
   pub deeds : List Deed
   pub happenings : List Happening
-  pub story : Story old deeds happenings new
+  pub story : Story L old deeds happenings new
   pub asks : asks (flat_map calls deeds) ≡ asked
-  pub unpumped : list_any is_pump deeds ≡ false
+  pub all_asked : list_any is_unasked deeds ≡ false
   pub done : list_any is_done deeds ≡ acted
 
 -- One pump, and whether a message was delivered by it.
-pub record PumpsOnce (old : Served) (acted : Bool) (new : Served) : Type 0 where
+pub record PumpsOnce (L : Lacks) (old : Served) (acted : Bool) (new : Served) : Type 0 where
   pub deed : Deed
   pub happenings : List Happening
-  pub does : DoesDeed old deed happenings new
+  pub does : DoesDeed L old deed happenings new
   pub pump : is_pump deed ≡ true
   pub done : is_done deed ≡ acted
 
@@ -194,9 +212,9 @@ ArePumps (suc n) [] = ⊥
 ArePumps (suc n) (d ∷ ds) = (is_pump d ≡ true) × MatchBool (is_done d) (ArePumps n ds) (ds ≡ [])
 
 -- A server makes so many pumps at most, and delivers something by them or not.
-pub record PumpsUp (most : ℕ) (old : Served) (acted : Bool) (new : Served) : Type 0 where
+pub record PumpsUp (L : Lacks) (most : ℕ) (old : Served) (acted : Bool) (new : Served) : Type 0 where
   pub deeds : List Deed
   pub happenings : List Happening
-  pub story : Story old deeds happenings new
+  pub story : Story L old deeds happenings new
   pub pumps : ArePumps most deeds
   pub done : list_any is_done deeds ≡ acted

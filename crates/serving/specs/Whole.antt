@@ -1,15 +1,16 @@
 -- All that a server did from its start, and what is promised of it (own).
-use Rattle.std.specs.Prelude.{◌≡◌, ◌+◌, ℕ, zero, suc, List, [], ◌∷◌, map, flat_map, Some}
+use Rattle.std.specs.Prelude.{◌≡◌, ◌+◌, ℕ, zero, suc, List, [], ◌∷◌, map, flat_map}
 use Rattle.std.specs.List.{AllByRecursion}
 use Rattle.model.specs.State.{Config}
 use Rattle.model.specs.Run.{Happening}
 use Rattle.model.specs.Arrivals.{World, Shown, shown, new_world, Plays}
-use Rattle.model.specs.Headline.{KeepsPromises}
+use Rattle.model.specs.Headline.{IsSound, KeepsPromises}
 use Rattle.model.specs.declared.events.Arrival.{Arrival}
-use Rattle.serving.specs.Wire.{Call, Told, told_after}
+use Rattle.runs.specs.Wants.{Lacks}
+use Rattle.serving.specs.Wire.{Told, Tells}
 use Rattle.serving.specs.Coming.{Attempt, Attempts, IsWhole}
 use Rattle.serving.specs.Story.{Served, served, Deed, calls, attempts, Story}
-use Rattle.serving.specs.Joined.{AreJoined, AreBeginnings}
+use Rattle.serving.specs.Joined.{AreJoined, AreBeginnings, AreCounted}
 
 -- all that arrived at the machine by these deeds, in order
 abbrev pub arrived : List Deed → List Attempt
@@ -29,19 +30,23 @@ abbrev pub seen_of : List Happening → World → List Shown
 seen_of hs w = seen_after hs w 0 w.given
 
 -- What a server did from a world with no connection under this topology and these guarantees, over a wire that had told this.
-pub record IsServed (f : Config) (told : Told) (new : Served) : Type 0 where
+pub record IsServed (L : Lacks) (f : Config) (told : Told) (new : Served) : Type 0 where
+  -- what was in force at first is sound
+  pub sound : IsSound f
   pub deeds : List Deed
   pub happenings : List Happening
-  pub story : Story (served (new_world f) [] told) deeds happenings new
+  pub story : Story L (served (new_world f) [] told) deeds happenings new
   -- the wire was asked and answered this, and no more
-  pub asked : new.told ≡ told_after told (flat_map calls deeds)
+  pub asked : Tells told (flat_map calls deeds) new.told
   -- this arrived, each arrival whole or as far as memory went
-  pub arrives : Attempts (new_world f) (arrived deeds) happenings new.world
+  pub arrives : Attempts L (new_world f) (arrived deeds) happenings new.world
   -- where memory was never refused, the arrivals are played exactly
   pub plays : AllByRecursion IsWhole (arrived deeds) → Plays (new_world f) (arrivals_of (arrived deeds)) happenings new.world
   -- certified delivery, also where memory was refused
   pub promises : KeepsPromises happenings new.world.state.broker (seen_of happenings new.world)
-  -- over a wire that tells its calls, what arrived for a connection is what its socket gave and took
-  pub joined : (before : List Call) → told.calls ≡ Some before → AreJoined deeds
-  -- and what its socket took is a beginning of what was put out for it
-  pub written : (before : List Call) → told.calls ≡ Some before → AreBeginnings deeds happenings
+  -- what arrived for a connection is what its socket gave and took
+  pub joined : AreJoined deeds
+  -- what its socket took is a beginning of what was put out for it
+  pub written : AreBeginnings deeds happenings
+  -- and where the wire tells how many bytes its socket gave and took, so many arrived and were taken
+  pub counted : AreCounted deeds new.told

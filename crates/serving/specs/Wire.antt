@@ -1,5 +1,5 @@
 -- What is asked of a wire, and what it answers (own).
-use Rattle.std.specs.Prelude.{◌≡◌, ◌+◌, ℕ, List, ◌++◌, Option, Some, None, Bool, true, false, filter_map, count_by}
+use Rattle.std.specs.Prelude.{◌≡◌, ◌+◌, ℕ, List, [], ◌∷◌, ◌++◌, length, Option, Some, None, Bool, true, false, ◌==◌, if◌then◌else◌, filter_map, count_by}
 use Rattle.model.specs.Topology.{IsIn}
 
 -- One call of a wire, with its answer: a read with the room that it was offered, and a write with all bytes that it was offered.
@@ -49,20 +49,64 @@ is_failed (Read_failed s room) = true
 is_failed (Write_failed s offered) = true
 is_failed call = false
 
--- what a wire tells: its calls so far, or none where it can't tell them, and how many failed
+-- how many bytes a socket gave and took since it came
+pub record Totals : Type 0 where
+  pub got : ℕ
+  pub taken : ℕ
+
+-- as a socket comes
+abbrev pub no_bytes : Totals
+no_bytes = record { got = 0; taken = 0 }
+
+-- so many more were got
+abbrev pub with_got : ℕ → Option Totals → Option Totals
+with_got n None = None
+with_got n (Some t) = Some (record { got = t.got + n; taken = t.taken })
+
+-- so many more were taken
+abbrev pub with_taken : ℕ → Option Totals → Option Totals
+with_taken n None = None
+with_taken n (Some t) = Some (record { got = t.got; taken = t.taken + n })
+
+-- the totals of the socket s after a call: from the call on that accepted it
+abbrev pub total_after : ℕ → Option Totals → Call → Option Totals
+total_after s t (Accepted r) = if r == s then Some no_bytes else t
+total_after s t (Got r room bytes) = if r == s then with_got (length bytes) t else t
+total_after s t (Took r offered taken) = if r == s then with_taken (length taken) t else t
+total_after s t call = t
+
+-- the same after these calls
+abbrev pub totals_after : ℕ → Option Totals → List Call → Option Totals
+totals_after s t [] = t
+totals_after s t (call ∷ more) = totals_after s (total_after s t call) more
+
+-- What a wire tells.
 pub record Told : Type 0 where
+  -- its calls so far, or none where it can't tell them
   pub calls : Option (List Call)
+  -- how many of them failed
   pub failures : ℕ
+  -- whether a socket had this name
+  pub is_given : ℕ → Bool
+  -- what the socket of this name gave and took, or none where it can't tell that
+  pub totals : ℕ → Option Totals
 
--- calls that are told, and these after them
-abbrev pub and_these : Option (List Call) → List Call → Option (List Call)
-and_these None more = None
-and_these (Some calls) more = Some (calls ++ more)
+-- the calls that are told after these: those before and these, or none are told any more
+abbrev pub Follows : Option (List Call) → List Call → Option (List Call) → Type 0
+Follows old more None = Unit {0}
+Follows old more (Some calls) = (before : List Call) × (old ≡ Some before) × (calls ≡ before ++ more)
 
--- what a wire tells after these calls too
-abbrev pub told_after : Told → List Call → Told
-told_after told calls = record { calls = and_these told.calls calls; failures = told.failures + count_by is_failed calls }
+-- What a wire tells after these calls too.
+pub record Tells (old : Told) (more : List Call) (new : Told) : Type 0 where
+  pub calls : Follows old.calls more new.calls
+  pub failures : new.failures ≡ old.failures + count_by is_failed more
+  -- a name that was given stays given
+  pub kept : (s : ℕ) → old.is_given s ≡ true → new.is_given s ≡ true
+  -- and so is one that is accepted
+  pub given : (s : ℕ) → IsIn (Accepted s) more → new.is_given s ≡ true
+  -- where totals are told, they are those before with what these calls gave and took
+  pub totals : (s : ℕ) (t : Totals) → new.totals s ≡ Some t → totals_after s (old.totals s) more ≡ Some t
 
--- no socket of this name came before, as far as a wire tells
+-- no socket of this name came before
 abbrev pub IsFresh : ℕ → Told → Type 0
-IsFresh s told = (calls : List Call) → told.calls ≡ Some calls → IsIn (Accepted s) calls → ⊥
+IsFresh s told = told.is_given s ≡ false

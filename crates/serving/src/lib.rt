@@ -13,5 +13,5 @@ mod turns;
 mod wire;
 
 pub use peers::Peer;
-pub use servers::{Server, serve};
+pub use servers::{Server, new_is_served, serve};
 pub use wire::{Accept, Read, Wire, Write};

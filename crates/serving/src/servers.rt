@@ -4,6 +4,7 @@ ghost use Rattle.std.specs.Prelude.{◌≡◌, IfOk, []};
 ghost use Rattle.model.specs.Arrivals.{new_world};
 ghost use Rattle.model.specs.State.{Config};
 ghost use Rattle.model.specs.Headline.{IsSound};
+ghost use Rattle.serving.specs.Wire.{Told};
 ghost use Rattle.serving.specs.Story.{served};
 ghost use Rattle.serving.specs.Rounds.{IsRound, Rounds};
 ghost use Rattle.serving.specs.Whole.{IsServed};
@@ -60,7 +61,7 @@ impl<M: Machine> Server<M> {
     /// pumps, a write of all that waits for each with output, the end of those that are over with no output left, and a rest
     /// where nothing was done.
     pub fn round<W: Wire>(&mut self, alloc: Global, wire: &mut W)
-        ensures { IsRound (served (M.world self.old.machine) self.old.peers (W.told wire.old)) (served (M.world self.new.machine) self.new.peers (W.told wire.new)) }
+        ensures { IsRound M.lacks (served (M.world self.old.machine) self.old.peers (W.told wire.old)) (served (M.world self.new.machine) self.new.peers (W.told wire.new)) }
     {
         round(
             alloc,
@@ -80,13 +81,19 @@ impl<M: Machine> Server<M> {
     }
 }
 
-/// That many rounds.
-pub fn serve<M: Machine, W: Wire>(alloc: Global, server: &mut Server<M>, wire: &mut W, turns: u64)
-    ensures rounds { Rounds turns (served (M.world server.old.machine) server.old.peers (W.told wire.old)) (served (M.world server.new.machine) server.new.peers (W.told wire.new)) }
-    // From a new server of a machine with no connection: what arrived, and that the promises are kept.
-    ensures served { (f : Config) → M.world server.old.machine ≡ new_world f → server.old.peers ≡ [] → IsServed f (W.told wire.old) (served (M.world server.new.machine) server.new.peers (W.told wire.new)) }
+/// A new server of a machine with no connection is served: nothing was done yet.
+pub fn new_is_served<M: Machine, W: Wire>(server: &Server<M>, wire: &W)
+    ensures { (f : Config) → M.world server.now.machine ≡ new_world f → server.now.peers ≡ [] → IsServed M.lacks f (W.told wire.now) (served (M.world server.now.machine) server.now.peers (W.told wire.now)) }
 {
     server.is_sound();
+}
+
+/// That many rounds.
+pub fn serve<M: Machine, W: Wire>(alloc: Global, server: &mut Server<M>, wire: &mut W, turns: u64)
+    ensures rounds { Rounds M.lacks turns (served (M.world server.old.machine) server.old.peers (W.told wire.old)) (served (M.world server.new.machine) server.new.peers (W.told wire.new)) }
+    // Whatever was served before is served after: what arrived since the server was new, and that the promises are kept.
+    ensures served { (f : Config) (told : Told) → IsServed M.lacks f told (served (M.world server.old.machine) server.old.peers (W.told wire.old)) → IsServed M.lacks f told (served (M.world server.new.machine) server.new.peers (W.told wire.new)) }
+{
     for _ in 0..turns {
         server.round(alloc, wire);
     }

@@ -1,7 +1,9 @@
 //! Sockets of the operating system, as a wire.
 #![tactic(auto)]
 
-mod patience;
+mod counts;
+mod silence;
 mod sockets;
 
+pub use counts::Totals;
 pub use sockets::Sockets;

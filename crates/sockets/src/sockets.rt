@@ -1,6 +1,17 @@
 //! A listening socket and those that it accepted, none of which blocks.
 
-use crate::patience::Patience;
+ghost use Rattle.std.specs.Prelude.{◌≡◌, ◌≤◌, ◌<◌, ◌+◌, ◌*◌, ℕ, length};
+ghost use Rattle.serving.specs.Answered.{accept_call, read_call, write_call};
+ghost use Rattle.serving.specs.declared.wire.Accept.TheVariants as accept;
+ghost use Rattle.serving.specs.declared.wire.Read.TheVariants as read;
+ghost use Rattle.serving.specs.declared.wire.Write.TheVariants as write;
+ghost use Rattle.sockets.specs.Counts.{fails};
+
+use crate::counts::{
+    Count, PLACES, Totals, count_accept, count_read, count_write, place_of, totals_at,
+};
+use crate::silence::{Rounds, Voice};
+use mio::event::Event;
 use mio::net::{TcpListener, TcpStream};
 use mio::{Events, Interest, Poll, Token};
 use serving::{Accept, Read, Wire, Write};
@@ -13,11 +24,11 @@ use std::time::Duration;
 /// The token of the listening socket. The others have their names, which are never so great.
 const LISTENER: Token = Token(usize::MAX);
 
-/// How many places there are for sockets, which are more than a server has connections.
-const PLACES: u64 = 4096;
-
 /// How many sockets are accepted at most, so that each name is a number of its own, and none is the listener's token.
 const MOST_GIVEN: u64 = u64::MAX / PLACES - 1;
+
+/// How many sockets a rest tells of at most: as many as a server has connections, and the one that listens.
+const MOST_EVENTS: usize = 1025;
 
 /// A socket that was accepted.
 #[derive(Drop)]
@@ -26,12 +37,12 @@ struct Accepted {
     /// stands at its place later has another name.
     name: u64,
     stream: TcpStream,
-    patience: Patience,
+    voice: Voice,
 }
 
 /// The sockets of a server: one that listens, and those that it accepted, named by numbers that are never used again. None of
 /// them blocks but in `rest`, which waits at most 100 milliseconds for one of them to have something. A socket that had
-/// nothing is asked again after at most 256 turns and reads that got something, or once an event of a rest names it.
+/// nothing, or that gave less than it was asked for, is silent: it is asked in its turn, or once an event of a rest names it.
 #[derive(Drop)]
 pub struct Sockets {
     listener: TcpListener,
@@ -41,21 +52,29 @@ pub struct Sockets {
     accepted: Slab<Accepted>,
     /// How many sockets were accepted and kept.
     given: u64,
-    /// How many turns there were, and reads that got something.
-    now: u64,
-    /// How often the listening socket is not asked.
-    patience: Patience,
+    /// Whose turn it is to be asked.
+    rounds: Rounds,
+    /// Whether a socket may have come.
+    voice: Voice,
     failures: u64,
+    /// What each socket gave and took, by the places in their names.
+    counts: Vec<Option<Count>>,
+}
+
+/// What an event says of a socket, whose voice was this.
+fn heard(event: &Event, voice: Voice) -> Voice {
+    if event.is_read_closed() || event.is_error() {
+        Voice::Ending
+    } else if event.is_readable() {
+        Voice::Speaking
+    } else {
+        voice
+    }
 }
 
 /// Whether there is nothing now, but may be later.
 fn is_wait(error: &io::Error) -> bool {
     matches!(error.kind(), ErrorKind::WouldBlock | ErrorKind::Interrupted)
-}
-
-/// The place in a name.
-fn place_of(name: u64) -> usize {
-    (name % PLACES) as usize
 }
 
 /// The socket of this name, where it is still there.
@@ -75,22 +94,24 @@ fn listen(net: &impl Net, poll: &Poll, address: SocketAddr) -> io::Result<TcpLis
 }
 
 impl Sockets {
-    ghost use Rattle.std.specs.Prelude.{◌≡◌, ◌+◌, ◌≤◌, None, true, false, cond};
+    ghost use Rattle.std.specs.Prelude.{◌≡◌, ◌+◌, ◌≤◌, ◌<◌, ◌*◌, ℕ, length, IfSome, cond};
+    ghost use Rattle.sockets.specs.Told.{seen, told_by};
 
     /// Listens at this address.
     pub fn bind(net: &impl Net, alloc: Global, address: SocketAddr) -> io::Result<Sockets> {
         let poll = Poll::new(net)?;
         let listener = listen(net, &poll, address)?;
-        let events = Events::with_capacity(alloc, 256)?;
+        let events = Events::with_capacity(alloc, MOST_EVENTS)?;
         Ok(Sockets {
             listener,
             poll,
             events,
             accepted: Slab::new(alloc),
             given: 0,
-            now: 0,
-            patience: Patience::new(),
+            rounds: Rounds::new(),
+            voice: Voice::Speaking,
             failures: 0,
+            counts: vec![in alloc; None; PLACES as usize]?,
         })
     }
 
@@ -99,9 +120,18 @@ impl Sockets {
         self.listener.local_addr()
     }
 
+    /// How many bytes the socket of this name gave and took since it came, if that is counted.
+    pub fn totals(&self, name: u64) -> Option<Totals>
+        ensures { seen result ≡ (told_by self.now).totals name }
+    {
+        totals_at(&self.counts, name)
+    }
+
     /// Counts a failure, where one can still be counted.
     fn fail(&mut self) -> bool
-        ensures { self.new.failures ≡ self.old.failures + cond result 1 0 }
+        ensures failures { self.new.failures ≡ self.old.failures + cond result 1 0 }
+        ensures given { self.new.given ≡ self.old.given }
+        ensures counts { self.new.counts ≡ self.old.counts }
     {
         if self.failures == u64::MAX {
             return false;
@@ -112,7 +142,11 @@ impl Sockets {
 
     /// Keeps a socket that came, under a new name; it is closed where that cannot be.
     fn keep(&mut self, mut stream: TcpStream) -> Option<u64>
-        ensures { self.new.failures ≡ self.old.failures }
+        ensures failures { self.new.failures ≡ self.old.failures }
+        ensures counts { self.new.counts ≡ self.old.counts }
+        ensures given { self.old.given ≤ self.new.given }
+        ensures fresh { IfSome result (λ name. self.old.given * 4096 ≤ name) }
+        ensures named { IfSome result (λ name. name < self.new.given * 4096) }
     {
         if self.accepted.reserve(1).is_err() || stream.set_nodelay(true).is_err() {
             return None;
@@ -130,37 +164,26 @@ impl Sockets {
         let accepted = Accepted {
             name,
             stream,
-            patience: Patience::new(),
+            voice: Voice::Speaking,
         };
         self.accepted.insert_reserved(accepted);
         self.given += 1;
         Some(name)
     }
 
-    /// Those that an event of the last rest names are asked at once.
-    fn forget(&mut self)
-        ensures { self.new.failures ≡ self.old.failures }
+    /// Asks for a socket that came.
+    fn ask(&mut self) -> Accept
+        ensures failures { self.new.failures ≡ self.old.failures + fails (accept_call result) }
+        ensures counts { self.new.counts ≡ self.old.counts }
+        ensures given { self.old.given ≤ self.new.given }
+        ensures fresh { (s : ℕ) → result ≡ accept.Socket s → self.old.given * 4096 ≤ s }
+        ensures named { (s : ℕ) → result ≡ accept.Socket s → s < self.new.given * 4096 }
     {
-        for event in &self.events {
-            if event.token() == LISTENER {
-                self.patience = Patience::new();
-            } else if let Some(accepted) = named(&mut self.accepted, event.token().0 as u64) {
-                accepted.patience = Patience::new();
-            }
-        }
-    }
-}
-
-impl Wire for Sockets {
-    ghost use Rattle.std.specs.Prelude.{None};
-
-    ghost told = { λ sockets. record { calls = None; failures = sockets.failures } };
-
-    fn accept(&mut self) -> Accept {
-        self.now = self.now.saturating_add(1);
-        if self.patience.is_left(self.now) {
+        self.rounds.begin();
+        if !self.rounds.asks(self.voice) {
             return Accept::Nothing;
         }
+        self.voice = Voice::Speaking;
         match self.listener.accept() {
             Ok((stream, _)) => match self.keep(stream) {
                 Some(name) => Accept::Socket(name),
@@ -168,7 +191,7 @@ impl Wire for Sockets {
                 None => Accept::Nothing,
             },
             Err(error) if is_wait(&error) => {
-                self.patience.wait(self.now);
+                self.voice = self.rounds.silent();
                 Accept::Nothing
             }
             Err(_) if self.fail() => Accept::Failed,
@@ -176,22 +199,28 @@ impl Wire for Sockets {
         }
     }
 
-    fn read(&mut self, socket: u64, buffer: &mut [u8]) -> Read {
+    /// Reads from a socket.
+    fn read_from(&mut self, socket: u64, buffer: &mut [u8]) -> Read
+        ensures failures { (s room : ℕ) → self.new.failures ≡ self.old.failures + fails (read_call s room result buffer.new) }
+        ensures counts { self.new.counts ≡ self.old.counts }
+        ensures given { self.new.given ≡ self.old.given }
+        ensures within { (n : ℕ) → result ≡ read.Got n → n ≤ length buffer.new }
+    {
         let Some(accepted) = named(&mut self.accepted, socket) else {
             return Read::End;
         };
-        if accepted.patience.is_left(self.now) {
+        if !self.rounds.asks(accepted.voice) {
             return Read::Wait;
         }
+        let room = buffer.len();
         match accepted.stream.read(buffer) {
             Ok(0) => Read::End,
             Ok(count) => {
-                accepted.patience = Patience::new();
-                self.now = self.now.saturating_add(1);
+                accepted.voice = self.rounds.after_read(accepted.voice, count < room);
                 Read::Got(count)
             }
             Err(error) if is_wait(&error) => {
-                accepted.patience.wait(self.now);
+                accepted.voice = self.rounds.silent();
                 Read::Wait
             }
             Err(_) if self.fail() => Read::Failed,
@@ -199,7 +228,13 @@ impl Wire for Sockets {
         }
     }
 
-    fn write(&mut self, socket: u64, bytes: &[u8]) -> Write {
+    /// Writes to a socket.
+    fn write_to(&mut self, socket: u64, bytes: &[u8]) -> Write
+        ensures failures { (s : ℕ) → self.new.failures ≡ self.old.failures + fails (write_call s result bytes.now) }
+        ensures counts { self.new.counts ≡ self.old.counts }
+        ensures given { self.new.given ≡ self.old.given }
+        ensures within { (n : ℕ) → result ≡ write.Took n → n ≤ length bytes.now }
+    {
         let Some(accepted) = named(&mut self.accepted, socket) else {
             return Write::Wait;
         };
@@ -212,6 +247,48 @@ impl Wire for Sockets {
         }
     }
 
+    /// Those that an event of the last rest names are asked at once. If there was one, the others have nothing.
+    fn hear(&mut self)
+        ensures failures { self.new.failures ≡ self.old.failures }
+        ensures counts { self.new.counts ≡ self.old.counts }
+        ensures given { self.new.given ≡ self.old.given }
+    {
+        for event in &self.events {
+            if event.token() == LISTENER {
+                self.voice = Voice::Speaking;
+            } else if let Some(accepted) = named(&mut self.accepted, event.token().0 as u64) {
+                accepted.voice = heard(event, accepted.voice);
+            }
+        }
+        if !self.events.is_empty() {
+            self.rounds.tell();
+        }
+    }
+}
+
+impl Wire for Sockets {
+    ghost use Rattle.sockets.specs.Told.{told_by};
+
+    ghost told = { told_by };
+
+    fn accept(&mut self) -> Accept {
+        let answer = self.ask();
+        count_accept(&mut self.counts, answer);
+        answer
+    }
+
+    fn read(&mut self, socket: u64, buffer: &mut [u8]) -> Read {
+        let answer = self.read_from(socket, buffer);
+        count_read(&mut self.counts, socket, answer);
+        answer
+    }
+
+    fn write(&mut self, socket: u64, bytes: &[u8]) -> Write {
+        let answer = self.write_to(socket, bytes);
+        count_write(&mut self.counts, socket, answer);
+        answer
+    }
+
     fn close(&mut self, socket: u64) {
         if named(&mut self.accepted, socket).is_some() {
             self.accepted.try_remove(place_of(socket));
@@ -222,6 +299,6 @@ impl Wire for Sockets {
         let _ = self
             .poll
             .poll(&mut self.events, Some(Duration::from_millis(100)));
-        self.forget();
+        self.hear();
     }
 }

@@ -46,7 +46,7 @@ marked_more links start place marks b p = record {
   ];
 }
 
-none_set : (n i : ℕ) → IsSet (replicate n false) i → ⊥
+pub none_set : (n i : ℕ) → IsSet (replicate n false) i → ⊥
 none_set zero i s = false≢true s
 none_set (suc n) zero s = false≢true s
 none_set (suc n) (suc i) s = none_set n i s

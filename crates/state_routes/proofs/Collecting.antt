@@ -7,7 +7,7 @@ use Rattle.std.proofs.lemmas.List.Sums.{fold-append}
 use Rattle.model.specs.Words.{Text}
 use Rattle.model.specs.Topology.{Topology, IsIn, IsWellFormed, exchange_names}
 use Rattle.model.specs.Guarantee.{Guarantee}
-use Rattle.model.specs.Tracking.{Tracked, Met, own, by_bound, by_alternate, by_death, MayEnter, by_binding, by_name, IsTrackedList, Selects, same_tracked, once_more, keys_from, keys_by, keys_of, names_in}
+use Rattle.model.specs.Tracking.{Tracked, Met, own, by_bound, by_alternate, by_death, MayEnter, by_binding, by_name, IsTrackedList, Selects, as_topic, same_tracked, once_more, keys_from, keys_by, keys_of, names_in}
 use Rattle.model.specs.declared.topologies.Mode.{Mode}
 use Rattle.model.specs.declared.topologies.Exchange.{Exchange}
 use Rattle.model.specs.declared.topologies.DeclaredQueue.{DeclaredQueue}
@@ -22,14 +22,14 @@ use Rattle.state_routes.specs.Reach.{Chain, still, along, LinksAreWithin}
 use Rattle.state_routes.specs.Nodes.{node, count, end_node, link_of, links_of, alternate_links, any_links}
 use Rattle.state_routes.specs.declared.gates.Gate.{Gate}
 use Rattle.state_routes.specs.Deaths.{AreEntered, IsUnfixedEnd, dying, entry, default_entry, links_in, unfixed_end}
-use Rattle.state_routes.specs.Collected.{AreInReach, onto_tracked, keys_onto, keys_by_onto, names_onto, met_onto, collected}
+use Rattle.state_routes.specs.Collected.{AreInReach, onto_tracked, keys_onto, keys_by_onto, names_onto, names_if, topics_onto, met_onto, collected}
 use Rattle.state_routes.proofs.Numbers.{node_same, node_default, node_above, node_within}
 use Rattle.state_routes.proofs.Known.{alternate_in, from_alternates}
 use Rattle.state_routes.proofs.DeadLetters.{FromDeath, ToDeath, from_entered, to_entered, dying_tells, dying_has, unfixed_tells, link_of_gate, gate_of_link}
 use Rattle.state_routes.proofs.Chains.{chain_on}
 use Rattle.laws.proofs.Counts.{in_front, in_back, in-append}
 use Rattle.certificate_laws.proofs.Onces.{in_map, from_map}
-use Rattle.certificate_laws.proofs.Trackings.{contained, has_place}
+use Rattle.certificate_laws.proofs.Trackings.{contained, has_place, first_is}
 
 link_in : (xs : List Exchange) (q : Text) (b : Binding) (bs : List Binding) → IsIn b bs → IsIn (link_of xs q b) (links_of xs q bs)
 link_in xs q b [] i = absurd i
@@ -196,6 +196,10 @@ pub names_fold : (ps : List Tracked) (qs : List DeclaredQueue) → names_onto ps
 names_fold ps [] = refl
 names_fold ps (q ∷ qs) = names_fold (onto_tracked ps Direct q.name) qs
 
+pub topics_fold : (ps : List Tracked) (es : List Text) → topics_onto ps es ≡ fold (once_more same_tracked) ps (map as_topic es)
+topics_fold ps [] = refl
+topics_fold ps (e ∷ es) = topics_fold (onto_tracked ps Topic e) es
+
 -- the exchanges that are marked
 abbrev pub chosen : Topology → List Bool → List Exchange → List Exchange
 chosen t marks [] = []
@@ -220,12 +224,28 @@ selects t marks P (x ∷ xs) f = go (slice_index_or marks (node t.exchanges x.na
     go false e s = Selects.pass (λ p. false≢true (sym e ∙ (f x (inl refl)).1 p)) s
 
 pub tracked_list : (t : Topology) (g : Guarantee) (q : Text) (marks : List Bool) (ps : List Tracked) → IsWellFormed t → AreInReach t g.mode g.exchange q marks
-    → ps ≡ met_onto t marks (cond (slice_index_or marks 2 false) (names_onto (once_more same_tracked [] (record { kind = Topic; text = g.pattern })) t.queues) (once_more same_tracked [] (record { kind = Topic; text = g.pattern }))) t.exchanges
+    → ps ≡ collected t g.pattern g.excepts marks
     → IsTrackedList t g ps
 tracked_list t g q marks ps formed (deaths, entered, reached) is = go (slice_index_or marks 2 false) refl is
   where
-    first : Tracked
-    first = record { kind = Topic; text = g.pattern }
+    om : List Tracked → Tracked → List Tracked
+    om = once_more same_tracked
+
+    first : List Tracked
+    first = om [] (as_topic g.pattern)
+
+    topics : List Tracked
+    topics = topics_onto first g.excepts
+
+    keys : List Tracked
+    keys = flat_map (keys_of t) (chosen t marks t.exchanges)
+
+    -- what comes after the topic patterns
+    behind : (names : List Tracked) → fold om (fold om topics names) keys ≡ fold om first (map as_topic g.excepts ++ names ++ keys)
+    behind names =
+        ap (λ (z : List Tracked). fold om (fold om z names) keys) (topics_fold first g.excepts)
+        ∙ ap (λ (z : List Tracked). fold om z keys) (sym (fold-append om first (map as_topic g.excepts) names))
+        ∙ sym (fold-append om first (map as_topic g.excepts ++ names) keys)
 
     found : Selects (Met t g) t.exchanges (chosen t marks t.exchanges)
     found = selects t marks (Met t g) t.exchanges (λ x i. (
@@ -233,16 +253,16 @@ tracked_list t g q marks ps formed (deaths, entered, reached) is = go (slice_ind
       (λ m. reached.all (node t.exchanges x.name) (met_chain t g q deaths entered formed m)),
     ))
 
-    go : (v : Bool) → slice_index_or marks 2 false ≡ v → ps ≡ met_onto t marks (cond v (names_onto (once_more same_tracked [] first) t.queues) (once_more same_tracked [] first)) t.exchanges → IsTrackedList t g ps
+    go : (v : Bool) → slice_index_or marks 2 false ≡ v → ps ≡ met_onto t marks (names_if v topics t.queues) t.exchanges → IsTrackedList t g ps
     go true e p = record {
       met = chosen t marks t.exchanges;
       names = names_in t;
       selects = found;
       default_met = λ m. refl;
       default_unmet = λ n. absurd (n (chain_met t g q deaths entered formed (reached.sound 2 e) g.exchange refl own [] refl (inr refl)));
-      is = p ∙ met_fold t marks (names_onto (once_more same_tracked [] first) t.queues) t.exchanges
-          ∙ ap (λ (z : List Tracked). fold (once_more same_tracked) z (flat_map (keys_of t) (chosen t marks t.exchanges))) (names_fold (once_more same_tracked [] first) t.queues)
-          ∙ sym (fold-append (once_more same_tracked) (once_more same_tracked [] first) (names_in t) (flat_map (keys_of t) (chosen t marks t.exchanges)));
+      is = p ∙ met_fold t marks (names_onto topics t.queues) t.exchanges
+          ∙ ap (λ (z : List Tracked). fold om z keys) (names_fold topics t.queues)
+          ∙ behind (names_in t);
     }
     go false e p = record {
       met = chosen t marks t.exchanges;
@@ -250,10 +270,15 @@ tracked_list t g q marks ps formed (deaths, entered, reached) is = go (slice_ind
       selects = found;
       default_met = λ m. absurd (false≢true (sym e ∙ reached.all 2 (met_chain t g q deaths entered formed m)));
       default_unmet = λ n. refl;
-      is = p ∙ met_fold t marks (once_more same_tracked [] first) t.exchanges;
+      is = p ∙ met_fold t marks topics t.exchanges ∙ behind [];
     }
 
-pub tracked_from : (t : Topology) (g : Guarantee) (m : Mode) (x q pattern : Text) (marks seen : List Bool) (ps : List Tracked) → IsWellFormed t → m ≡ g.mode → x ≡ g.exchange → pattern ≡ g.pattern → seen ≡ marks → AreInReach t m x q marks → ps ≡ collected t pattern seen → IsTrackedList t g ps
-tracked_from t g m x q pattern marks seen ps f mo ex pa se r is =
+pub tracked_from : (t : Topology) (g : Guarantee) (m : Mode) (x q pattern : Text) (excepts : List Text) (marks seen : List Bool) (ps : List Tracked) → IsWellFormed t → m ≡ g.mode → x ≡ g.exchange → pattern ≡ g.pattern → excepts ≡ g.excepts → seen ≡ marks → AreInReach t m x q marks
+    → ps ≡ collected t pattern excepts seen → IsTrackedList t g ps
+tracked_from t g m x q pattern excepts marks seen ps f mo ex pa ec se r is =
     tracked_list t g q marks ps f (subst (λ (z : Mode). AreInReach t z g.exchange q marks) mo (subst (λ (z : Text). AreInReach t m z q marks) ex r))
-    (is ∙ ap (λ (z : Text). collected t z seen) pa ∙ ap (λ (z : List Bool). collected t g.pattern z) se)
+    (is ∙ ap (λ (z : Text). collected t z excepts seen) pa ∙ ap (λ (z : List Text). collected t g.pattern z seen) ec ∙ ap (λ (z : List Bool). collected t g.pattern g.excepts z) se)
+
+-- the guarantee's pattern is there
+pub some_tracked : (t : Topology) (g : Guarantee) (ps : List Tracked) → IsTrackedList t g ps → 0 < length ps
+some_tracked t g ps l = let r = first_is t g ps l in subst (λ (z : List Tracked). 0 < length z) (sym r.1) (omega arith)

@@ -27,7 +27,7 @@ use Rattle.state_routes.specs.Reach.{Chain, still, along}
 use Rattle.state_routes.specs.Nodes.{node, end_node, alternate_link, alternate_links}
 use Rattle.state_routes.specs.Gates.{tracked_place, test_by, kind_at, kind_or_direct, gate_of, binding_gates, has_queue, default_gate, gates_of, accepted, is_open, is_shut, passes, blocks, all_block, open_links, open_alternates, open_ways}
 use Rattle.state_routes.specs.Deaths.{entry, default_entry, AreEntered, dying, GoOn, IsEnd}
-use Rattle.state_routes.specs.Known.{AreOnce}
+use Rattle.certificate_laws.specs.Soundness.{AreOnce}
 use Rattle.state_routes.proofs.DeadLetters.{ToDeath, from_entered, to_entered, dying_tells, dying_has, fixed_goes, fixed_sent, sent_fixed}
 use Rattle.state_routes.proofs.Numbers.{node_same, node_default, node_above, found_same}
 use Rattle.laws.proofs.Counts.{in_front, in_back, in-append}
@@ -169,7 +169,7 @@ from_gates t q ps g i = go (has_queue t.queues q) refl i
     ]
     go false e j = inl (from_binding_gates t.exchanges q ps g t.bindings j)
 
-open_in : (m : Mode) (g : Gate) (gs : List Gate) (acc : List Bool) → IsIn g gs → passes m g.test acc ≡ true → IsIn g.link (open_links m gs acc)
+pub open_in : (m : Mode) (g : Gate) (gs : List Gate) (acc : List Bool) → IsIn g gs → passes m g.test acc ≡ true → IsIn g.link (open_links m gs acc)
 open_in m g [] acc i o = absurd i
 open_in m g (h ∷ hs) acc (inl e) o = subst (λ (v : Bool). IsIn g.link (cond v (h.link ∷ open_links m hs acc) (open_links m hs acc))) (sym (ap (λ (z : Gate). passes m z.test acc) (sym e) ∙ o)) (inl (ap (λ (z : Gate). z.link) e))
 open_in m g (h ∷ hs) acc (inr i) o = elim (passes m h.test acc) as (λ v. IsIn g.link (cond v (h.link ∷ open_links m hs acc) (open_links m hs acc))) [
@@ -186,10 +186,10 @@ from_open m l (h ∷ hs) acc i = go (passes m h.test acc) refl i (λ j. from_ope
     go true e (inr j) f = let r = f j in (r.0, inr r.1, r.2, r.3)
     go false e j f = let r = f j in (r.0, inr r.1, r.2, r.3)
 
-eqb_same : (n : ℕ) → eqb n n ≡ true
+pub eqb_same : (n : ℕ) → eqb n n ≡ true
 eqb_same n = search rules
 
-blocks_all : (m : Mode) (gs : List Gate) (from : ℕ) (acc : List Bool) → ((g : Gate) → IsIn g gs → g.link.from ≡ from → blocks m g.test acc ≡ true) → all_block m gs from acc ≡ true
+pub blocks_all : (m : Mode) (gs : List Gate) (from : ℕ) (acc : List Bool) → ((g : Gate) → IsIn g gs → g.link.from ≡ from → blocks m g.test acc ≡ true) → all_block m gs from acc ≡ true
 blocks_all m [] from acc f = refl
 blocks_all m (h ∷ hs) from acc f = go (eqb h.link.from from) (blocks m h.test acc) (λ e. f h (inl refl) (eqb-true h.link.from from e)) (blocks_all m hs from acc (λ g i. f g (inr i)))
   where
@@ -198,7 +198,7 @@ blocks_all m (h ∷ hs) from acc f = go (eqb h.link.from from) (blocks m h.test 
     go true false k e = absurd (false≢true (k refl))
     go false b k e = e
 
-all_block_at : (m : Mode) (gs : List Gate) (from : ℕ) (acc : List Bool) → all_block m gs from acc ≡ true → (g : Gate) → IsIn g gs → g.link.from ≡ from → blocks m g.test acc ≡ true
+pub all_block_at : (m : Mode) (gs : List Gate) (from : ℕ) (acc : List Bool) → all_block m gs from acc ≡ true → (g : Gate) → IsIn g gs → g.link.from ≡ from → blocks m g.test acc ≡ true
 all_block_at m [] from acc e g i s = absurd i
 all_block_at m (h ∷ hs) from acc e g i s = go (eqb h.link.from from) (blocks m h.test acc) refl refl e i (λ k j. all_block_at m hs from acc k g j s)
   where
@@ -229,7 +229,7 @@ from_alternates xs (z ∷ zs) l i = elim (in-append l (alternate_link xs z.name 
   | inr j ↦ let r = from_alternates xs zs l j in (r.0, r.1, inr r.2, r.3, r.4)
 ]
 
-blocked_in : (m : Mode) (gs : List Gate) (l : Hop) (ls : List Hop) (acc : List Bool) → IsIn l ls → all_block m gs l.from acc ≡ true → IsIn l (open_alternates m gs ls acc)
+pub blocked_in : (m : Mode) (gs : List Gate) (l : Hop) (ls : List Hop) (acc : List Bool) → IsIn l ls → all_block m gs l.from acc ≡ true → IsIn l (open_alternates m gs ls acc)
 blocked_in m gs l [] acc i e = absurd i
 blocked_in m gs l (k ∷ ks) acc (inl s) e = subst (λ (v : Bool). IsIn l (cond v (k ∷ open_alternates m gs ks acc) (open_alternates m gs ks acc))) (sym (ap (λ (z : Hop). all_block m gs z.from acc) (sym s) ∙ e)) (inl s)
 blocked_in m gs l (k ∷ ks) acc (inr i) e = elim (all_block m gs k.from acc) as (λ v. IsIn l (cond v (k ∷ open_alternates m gs ks acc) (open_alternates m gs ks acc))) [

@@ -2,6 +2,10 @@ pub mod Chains
 pub mod Numbers
 pub mod DeadLetters
 pub mod Known
+pub mod Leaving
+pub mod Spreading
+pub mod Keying
 pub mod Collecting
 pub mod Sure
-pub mod Once
+pub mod Fitting
+pub mod Placing

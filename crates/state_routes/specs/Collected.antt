@@ -35,14 +35,23 @@ abbrev pub names_onto : List Tracked → List DeclaredQueue → List Tracked
 names_onto ps [] = ps
 names_onto ps (q ∷ qs) = names_onto (onto_tracked ps Direct q.name) qs
 
+-- and these texts, as topic patterns
+abbrev pub topics_onto : List Tracked → List Text → List Tracked
+topics_onto ps [] = ps
+topics_onto ps (e ∷ es) = topics_onto (onto_tracked ps Topic e) es
+
+-- the names of the queues where the default exchange is met
+abbrev pub names_if : Bool → List Tracked → List DeclaredQueue → List Tracked
+names_if met ps queues = if met then names_onto ps queues else ps
+
 -- the keys of those of these exchanges that are marked
 abbrev pub met_onto : Topology → List Bool → List Tracked → List Exchange → List Tracked
 met_onto t marks ps [] = ps
 met_onto t marks ps (x ∷ xs) = met_onto t marks (if slice_index_or marks (node t.exchanges x.name) false then keys_by_onto ps x.kind x.name t.bindings else ps) xs
 
--- the pattern, then the queue names where the default exchange is marked, then the keys of the marked exchanges
-abbrev pub collected : Topology → Text → List Bool → List Tracked
-collected t pattern marks = met_onto t marks (if slice_index_or marks 2 false then names_onto (onto_tracked [] Topic pattern) t.queues else onto_tracked [] Topic pattern) t.exchanges
+-- the pattern, then those that take keys out, then the queue names where the default exchange is marked, then the keys of the marked exchanges
+abbrev pub collected : Topology → Text → List Text → List Bool → List Tracked
+collected t pattern excepts marks = met_onto t marks (names_if (slice_index_or marks 2 false) (topics_onto (onto_tracked [] Topic pattern) excepts) t.queues) t.exchanges
 
 -- the marks are those of the exchanges that a message may meet under its own key, of a `never` also as a dead letter
 abbrev pub AreInReach : Topology → Mode → Text → Text → List Bool → Type 0

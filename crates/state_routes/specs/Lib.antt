@@ -2,5 +2,10 @@ pub mod Reach
 pub mod Nodes
 pub mod Gates
 pub mod Deaths
+pub mod Exits
+pub mod Following
 pub mod Known
+pub mod Keys
 pub mod Collected
+pub mod Fitting
+pub mod Placing

@@ -51,7 +51,7 @@ fn same_kind(one: ExchangeKind, other: ExchangeKind) -> bool
 }
 
 /// Whether this is the tracked pattern.
-pub fn is_same(pattern: &Tracked, kind: ExchangeKind, text: &[u8]) -> bool
+fn is_same(pattern: &Tracked, kind: ExchangeKind, text: &[u8]) -> bool
     ensures { result ≡ same_tracked (record { kind = kind; text = text.now }) pattern.now }
 {
     let alike = same_kind(kind, pattern.kind());

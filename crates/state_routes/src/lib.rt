@@ -6,11 +6,17 @@
 #![tactic(auto)]
 
 mod deaths;
+mod exits;
+mod following;
 mod gates;
+mod keys;
 mod nodes;
+mod patterns;
+mod places;
 mod reach;
 mod routes;
 mod tracking;
 
+pub use places::places_to;
 pub use routes::Routes;
 pub use tracking::tracked_patterns;

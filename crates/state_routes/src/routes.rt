@@ -6,14 +6,16 @@ ghost use Rattle.model.specs.Topology.{Topology as Shown};
 ghost use Rattle.model.specs.declared.topologies.Mode.{Mode as Promise};
 ghost use Rattle.model.specs.Certificates.{IsKept};
 ghost use Rattle.model.specs.Positions.{FitsEach};
-ghost use Rattle.state_routes.specs.Gates.{accepted, open_ways};
-ghost use Rattle.state_routes.specs.Reach.{AreReached, Chain};
-ghost use Rattle.state_routes.specs.Known.{AreOnce, IsBounded, IsKeptBy, IsKnown, LeadsBy, keeps};
+ghost use Rattle.state_routes.specs.Gates.{accepted};
+ghost use Rattle.state_routes.specs.Exits.{IsBounded, open_through};
+ghost use Rattle.state_routes.specs.Reach.{Chain};
+ghost use Rattle.certificate_laws.specs.Soundness.{AreOnce};
+ghost use Rattle.state_routes.specs.Known.{IsKeptBy, IsKnown, LeadsBy, keeps};
 
 use crate::deaths::all_gates;
-use crate::gates::{Gate, add_alternates, add_open};
+use crate::exits::{Exits, exits_of};
+use crate::following::reached_through;
 use crate::nodes::{alternate_links, node};
-use crate::reach::{Hop, reached};
 use exchange_graph::Topology;
 use model::Mode;
 use std::alloc::{AllocError, Global};
@@ -24,20 +26,19 @@ use word_automata::{Letters, accepts};
 #[derive(Drop)]
 pub struct Routes {
     mode: Mode,
-    gates: Vec<Gate>,
-    alternates: Vec<Hop>,
-    count: usize,
+    exits: Vec<Exits>,
     start: usize,
 }
 
 impl Model for Routes {
-    ghost use Rattle.state_routes.specs.Known.{Leading, IsBounded};
+    ghost use Rattle.state_routes.specs.Known.{Leading};
+    ghost use Rattle.state_routes.specs.Exits.{IsBounded};
 
     ghost Value = { Leading };
 
-    ghost view = { λ r. record { mode = r.mode; gates = r.gates.items; alternates = r.alternates.items; count = r.count; start = r.start } };
+    ghost view = { λ r. record { mode = r.mode; exits = r.exits.items; start = r.start } };
 
-    ghost invariant = { λ r. IsBounded r.gates.items r.alternates.items r.count r.start };
+    ghost invariant = { λ r. IsBounded r.exits.items r.start };
 }
 
 /// Which patterns accept the words of a state.
@@ -52,54 +53,18 @@ fn accepted(alloc: Global, letters: &Letters, state: &[u64]) -> Result<Vec<bool>
     Ok(found)
 }
 
-/// The links that are open where these patterns accept.
-fn open_ways(
-    alloc: Global,
-    mode: Mode,
-    gates: &[Gate],
-    alternates: &[Hop],
-    accepted: &[bool],
-) -> Result<Vec<Hop>, AllocError>
-    ensures { IfOk result (λ links. links.items ≡ open_ways mode gates.now alternates.now accepted.now) }
-{
-    let mut links = Vec::new(alloc);
-    add_open(mode, &mut links, gates, accepted)?;
-    add_alternates(mode, &mut links, gates, alternates, accepted)?;
-    Ok(links)
-}
-
-/// The places to which the open links lead from the start.
-fn open_marks(
-    alloc: Global,
-    mode: Mode,
-    gates: &[Gate],
-    alternates: &[Hop],
-    accepted: &[bool],
-    count: usize,
-    start: usize,
-) -> Result<Vec<bool>, AllocError>
-    requires { IsBounded gates.now alternates.now count start }
-    ensures { IfOk result (λ marks. AreReached (open_ways mode gates.now alternates.now accepted.now) count start marks.items) }
-{
-    let links = open_ways(alloc, mode, gates, alternates, accepted)?;
-    let marks = reached(alloc, links.as_slice(), count, start)?;
-    Ok(marks)
-}
-
 /// Whether open links lead from the start to the queue.
 fn leads_there(
     alloc: Global,
     mode: Mode,
-    gates: &[Gate],
-    alternates: &[Hop],
+    exits: &[Exits],
     accepted: &[bool],
-    count: usize,
     start: usize,
 ) -> Result<bool, AllocError>
-    requires { IsBounded gates.now alternates.now count start }
-    ensures { IfOk result (λ yes. Decides yes (Chain (open_ways mode gates.now alternates.now accepted.now) start 0)) }
+    requires { IsBounded exits.now start }
+    ensures { IfOk result (λ yes. Decides yes (Chain (open_through mode exits.now accepted.now) start 0)) }
 {
-    let marks = open_marks(alloc, mode, gates, alternates, accepted, count, start)?;
+    let marks = reached_through(alloc, mode, exits, accepted, start)?;
     Ok(marks[0])
 }
 
@@ -126,12 +91,14 @@ impl Routes {
         ensures { IfOk result (λ r. IsKnown topology.now mode exchange.now queue.now letters.now r) }
     {
         topology.is_well_formed();
+        let exchanges = topology.exchanges();
+        let gates = all_gates(alloc, topology, mode, queue, letters.patterns())?;
+        let alternates = alternate_links(alloc, exchanges, exchanges)?;
+        let count = exchanges.len() + 4;
         Ok(Routes {
             mode,
-            gates: all_gates(alloc, topology, mode, queue, letters.patterns())?,
-            alternates: alternate_links(alloc, topology.exchanges(), topology.exchanges())?,
-            count: topology.exchanges().len() + 4,
-            start: node(topology.exchanges(), exchange),
+            exits: exits_of(alloc, count, gates.as_slice(), alternates.as_slice())?,
+            start: node(exchanges, exchange),
         })
     }
 
@@ -144,10 +111,8 @@ impl Routes {
         let yes = leads_there(
             alloc,
             self.mode,
-            self.gates.as_slice(),
-            self.alternates.as_slice(),
+            self.exits.as_slice(),
             accepted.as_slice(),
-            self.count,
             self.start,
         )?;
         Ok(yes)

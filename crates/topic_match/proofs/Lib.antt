@@ -1,3 +1,14 @@
 pub mod Loops
 pub mod Taken
 pub mod Some
+pub mod Joins
+pub mod Counting
+pub mod Chains
+pub mod Lists
+pub mod Walking
+pub mod Grown
+pub mod Ending
+pub mod Law
+pub mod Sorting
+pub mod Stepping
+pub mod Pairs

@@ -1,4 +1,11 @@
+pub mod Attempts
+pub mod Beginnings
+pub mod Building
+pub mod Counts
+pub mod Ends
+pub mod Nodes
 pub mod Patterns
 pub mod Places
 pub mod Taking
-pub mod Attempts
+pub mod Tries
+pub mod Walks

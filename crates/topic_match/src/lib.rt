@@ -2,14 +2,24 @@
 #![tactic(auto)]
 
 mod attempts;
+mod building;
+mod children;
+mod counts;
+mod ends;
 mod matchers;
 mod matching;
+mod nodes;
 mod patterns;
 mod pieces;
+mod places;
 mod plain;
+mod steps;
+mod tries;
+mod walks;
 
 pub use matchers::Matcher;
 pub use matching::covers_key;
 pub use patterns::{BadPattern, Pattern, is_pattern, tokens_of};
 pub use pieces::split;
 pub use plain::Plain;
+pub use tries::Trie;

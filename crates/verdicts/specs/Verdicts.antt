@@ -7,7 +7,7 @@ use Rattle.model.specs.Guarantee.{Guarantee, Holds, AllHold}
 use Rattle.model.specs.Certificates.{Certificate}
 use Rattle.guarantee_search.specs.Verdicts.{FindsVerdict}
 use Rattle.guarantee_search.specs.declared.verdicts.UndecidedCause.{UndecidedCause}
-use Rattle.guarantee_search.specs.declared.verdicts.UndecidedCause.TheVariants.{TooManyStates, KeyTooLong, Unfit}
+use Rattle.guarantee_search.specs.declared.verdicts.UndecidedCause.TheVariants.{TooManyStates, KeyTooLong}
 use Rattle.guarantee_search.specs.declared.verdicts.Verdict.{Verdict}
 use Rattle.guarantee_search.specs.declared.verdicts.Verdict.TheVariants.{Yes, No, Undecided}
 use Rattle.scripts.specs.Transcript.{line, name_word}
@@ -54,7 +54,6 @@ certificates_in (Undecided why ∷ vs) = certificates_in vs
 abbrev pub undecided_word : UndecidedCause → Text
 undecided_word TooManyStates = codes "states"
 undecided_word KeyTooLong = codes "key"
-undecided_word Unfit = codes "form"
 
 -- the names of a path, each behind a space
 abbrev pub names_text : List Text → Text

@@ -101,7 +101,6 @@ fn undecided_word(cause: UndecidedCause) -> &'static str
     match cause {
         UndecidedCause::TooManyStates => "states",
         UndecidedCause::KeyTooLong => "key",
-        UndecidedCause::Unfit => "form",
     }
 }
 

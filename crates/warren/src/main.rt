@@ -3,11 +3,7 @@
 
 ghost use Rattle.std.specs.Prelude.{◌≤◌, length, IfOk};
 
-use command_line::{Asked, command};
-use server::{
-    CommandRefusal, Files, NotWritten, Told, Unread, program, refuse_memory, started, tell,
-};
-use serving::{Server, serve};
+use server::{Files, Listener, Listening, NotWritten, Unread, program_with_sockets};
 use sockets::Sockets;
 use std::alloc::Global;
 use std::io::{Read, Write};
@@ -101,113 +97,41 @@ fn refuse<W: Write>(err: &mut W, error: &io::Error) -> u8 {
     3
 }
 
-/// What `serve` is asked for.
-#[derive(Clone, Copy, Drop)]
-struct Serving<'a> {
-    definitions: &'a str,
-    guarantees: &'a str,
-    certificates: &'a str,
-    listen: &'a str,
-    turns: Option<&'a str>,
+/// What opens sockets of the system.
+#[derive(Drop)]
+struct System<'a> {
+    rt: &'a HostRuntime,
 }
 
-/// What the words ask of `serve`, if they name it.
-fn asked_to_serve<'a>(alloc: Global, words: &'a [String]) -> Option<Serving<'a>> {
-    match command(alloc, words) {
-        Ok(
-            Asked::Serve {
-                definitions,
-                guarantees,
-                certificates,
-                listen,
-                turns,
-            },
-        ) => Some(Serving {
-            definitions,
-            guarantees,
-            certificates,
-            listen,
-            turns,
-        }),
-        _ => None,
+impl Listener for System<'_> {
+    ghost use Rattle.std.specs.Prelude.{⊤};
+
+    type Sockets = Sockets;
+
+    ghost listens = { λ _ _ _. ⊤ };
+
+    fn listen(&mut self, alloc: Global, address: &str) -> Option<Listening<Sockets>> {
+        let address = address.parse::<SocketAddr>().ok()?;
+        let sockets = Sockets::bind(self.rt, alloc, address).ok()?;
+        let address = sockets.local_addr().ok()?;
+        let address = format!(in alloc; "{address}").ok()?;
+        Some(Listening { sockets, address })
     }
-}
-
-/// How many turns are served: without a number, more than will ever come.
-fn turns_of(given: Option<&str>) -> u64 {
-    match given {
-        Some(text) => text.parse::<u64>().unwrap_or(u64::MAX),
-        None => u64::MAX,
-    }
-}
-
-/// Sockets at the address of this text.
-fn listening(rt: &HostRuntime, address: &str) -> Option<Sockets> {
-    let address = address.parse::<SocketAddr>().ok()?;
-    Sockets::bind(rt, rt.alloc(), address).ok()
-}
-
-/// Tells where clients may come.
-fn tell_address<O: Write>(sockets: &Sockets, out: &mut O) -> io::Result<()> {
-    let address = sockets.local_addr()?;
-    writeln!(out, "warren: listening on {address}")?;
-    out.flush()
-}
-
-/// Serves clients, and gives the status once all turns are over.
-fn serve_clients<O: Write, E: Write>(
-    rt: &HostRuntime,
-    asked: Serving<'_>,
-    files: &mut Disk<'_>,
-    out: &mut O,
-    err: &mut E,
-) -> u8 {
-    let alloc = rt.alloc();
-    let engine = match started(
-        alloc,
-        asked.definitions,
-        asked.guarantees,
-        asked.certificates,
-        files,
-    ) {
-        Ok(engine) => engine,
-        Err(told) => return tell(alloc, err, told),
-    };
-    let Ok(mut server) = Server::new(alloc, engine) else {
-        return refuse_memory(err);
-    };
-    let Some(mut sockets) = listening(rt, asked.listen) else {
-        let why = CommandRefusal::NotListening;
-        return tell(alloc, err, Told { file: "", why });
-    };
-    if tell_address(&sockets, out).is_err() {
-        return 4;
-    }
-    serve(alloc, &mut server, &mut sockets, turns_of(asked.turns));
-    0
 }
 
 /// Does what the words ask for, and gives the status.
-fn run<O: Write, E: Write>(
-    rt: &HostRuntime,
-    words: &[String],
-    files: &mut Disk<'_>,
-    out: &mut O,
-    err: &mut E,
-) -> u8 {
-    match asked_to_serve(rt.alloc(), words) {
-        Some(asked) => serve_clients(rt, asked, files, out, err),
-        None => program(rt.alloc(), words, files, out, err),
-    }
+fn run<O: Write, E: Write>(rt: &HostRuntime, words: &[String], out: &mut O, err: &mut E) -> u8 {
+    let mut files = Disk { rt };
+    let mut system = System { rt };
+    program_with_sockets(rt.alloc(), words, &mut system, &mut files, out, err).status
 }
 
 fn main(rt: HostRuntime) -> ExitCode {
     let mut out = io::writer(&rt);
     let error_stream = rt.stderr();
     let mut err = io::writer(&error_stream);
-    let mut files = Disk { rt: &rt };
     let status = match words(&rt) {
-        Ok(words) => run(&rt, words.as_slice(), &mut files, &mut out, &mut err),
+        Ok(words) => run(&rt, words.as_slice(), &mut out, &mut err),
         Err(error) => refuse(&mut err, &error),
     };
     ExitCode::from(status)

@@ -85,6 +85,21 @@ impl Core {
         }
     }
 
+    /// Whether a delivery can be made to the consumer of these numbers: it may take a message now, and its queue has one.
+    pub fn can_deliver(&self, pick: Pick) -> bool
+        ensures yes { result ≡ true → IsPick (broker_of self.now) pick }
+        ensures no { IsPick (broker_of self.now) pick → result ≡ true }
+    {
+        match self.taker(pick) {
+            Some(consumer) => {
+                self.depot.is_whole();
+                self.depot.is_named(consumer.queue);
+                self.depot.first_ready(consumer.queue).is_some()
+            }
+            None => false,
+        }
+    }
+
     /// Whether the consumer of these numbers may take a message now, from whatever queue.
     pub fn may_take(&self, pick: Pick) -> bool
         ensures yes { result ≡ true → (k : One) × TakesAs self.now pick k }

@@ -26,11 +26,10 @@ impl Core {
         ensures topology { topology_kept self.new ≡ topology_kept self.old }
         ensures err { OnErr result (self.new ≡ self.old) }
     {
-        let was_there = self.runs(connection);
-        self.links.open(alloc, connection, channel_max, channels)?;
-        if was_there {
-            self.depot.requeue_connection(connection);
-        }
+        self.depot.is_whole();
+        places_are_named();
+        let before = self.links.open(alloc, connection, channel_max, channels)?;
+        put_back_all(&mut self.depot, connection, before.as_ref());
         Ok(())
     }
 

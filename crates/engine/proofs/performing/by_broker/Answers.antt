@@ -1,4 +1,4 @@
-use Rattle.broker_core.specs.State.{topology_kept, broker_of}
+use Rattle.broker.specs.Turns.{topology_kept, broker_of}
 use Rattle.engine.proofs.Replies.{broker_sends}
 use Rattle.engine.proofs.performing.by_broker.Goals as goal
 

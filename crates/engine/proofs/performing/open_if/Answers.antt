@@ -1,5 +1,5 @@
 use Rattle.std.proofs.Common.{refl, ◌∙◌}
-use Rattle.broker_core.specs.State.{broker_of}
+use Rattle.broker.specs.Turns.{broker_of}
 use Rattle.engine.proofs.Asked.{unmoved}
 use Rattle.engine.proofs.performing.open_if.Goals as goal
 

@@ -1,5 +1,5 @@
 use Rattle.std.proofs.Common.{◌∙◌}
-use Rattle.broker_core.specs.State.{topology_kept, broker_of}
+use Rattle.broker.specs.Turns.{topology_kept, broker_of}
 use Rattle.engine.specs.Performing.{DecidesByPhase, rules_of}
 use Rattle.engine.proofs.Asked.{decides_elsewhere, ok_map}
 use Rattle.engine.proofs.performing.perform.Goals as goal

@@ -1,5 +1,5 @@
 use Rattle.std.proofs.Common.{Some, set, sym, ap}
-use Rattle.broker_core.specs.State.{broker_of}
+use Rattle.broker.specs.Turns.{broker_of}
 use Rattle.engine.specs.Engines.{IsLinkPlace}
 use Rattle.engine.specs.Pumping.{OutputChanges}
 use Rattle.engine.proofs.Asked.{ok_map}

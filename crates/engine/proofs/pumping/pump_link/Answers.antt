@@ -1,4 +1,4 @@
-use Rattle.broker_core.specs.State.{topology_kept, broker_of}
+use Rattle.broker.specs.Turns.{topology_kept, broker_of}
 use Rattle.engine.proofs.Replies.{delivery_sends}
 use Rattle.engine.proofs.pumping.pump_link.Goals as goal
 

@@ -1,4 +1,4 @@
-use Rattle.broker_core.specs.State.{broker_of}
+use Rattle.broker.specs.Turns.{broker_of}
 use Rattle.engine.proofs.turning.do_event.Goals as goal
 
 pub returns-clause-ok : goal.returns-clause-ok

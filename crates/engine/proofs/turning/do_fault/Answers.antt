@@ -1,10 +1,8 @@
 use Rattle.std.proofs.Common.{ℕ, refl, ap, ◌∙◌}
-use Rattle.model.specs.Commands.{with_max}
-use Rattle.assembly.specs.Held.{stream_of}
 use Rattle.engine.proofs.turning.do_fault.Goals as goal
 
 pub returns-in-Ok : goal.returns-in-Ok
-returns-in-Ok c = record { ok = record { performed = c.in-Ok.ensures.ok; number = refl; none_kept = c.requires.kept; stream = c.set_max.ensures ∙ ap (λ (n : ℕ). with_max n (stream_of c.args.link.now.stream)) c.frame_max.ensures.value }; broker_kept = tt; link_kept = tt; topology = c.do_event-done.ensures.topology }
+returns-in-Ok c = record { ok = record { performed = c.in-Ok.ensures.ok; number = refl; none_kept = c.requires.kept; stream = c.follow.ensures }; broker_kept = tt; link_kept = tt; topology = c.do_event-done.ensures.topology }
 
 pub returns-in-Err : goal.returns-in-Err
 returns-in-Err c =

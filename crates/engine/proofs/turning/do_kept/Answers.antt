@@ -1,12 +1,10 @@
 use Rattle.std.proofs.Common.{ℕ, refl, ap, ◌∙◌}
-use Rattle.model.specs.Commands.{with_max}
-use Rattle.assembly.specs.Held.{stream_of}
 use Rattle.engine.proofs.Turned.{performed_is}
 use Rattle.engine.proofs.turning.do_kept.Goals as goal
 
 pub returns-in-Ok : goal.returns-in-Ok
 returns-in-Ok c = record {
-  ok = λ e h. performed_is _ _ _ c.args.link.now _ c.in-Some.event e c.in-Ok.notes.items c.args.link.now.kept c.in-Some.is h (record { performed = c.in-Ok.ensures.ok; number = refl; none_kept = c.forget.ensures; stream = c.set_max.ensures ∙ ap (λ (n : ℕ). with_max n (stream_of c.args.link.now.stream)) c.frame_max.ensures.value });
+  ok = λ e h. performed_is _ _ _ c.args.link.now _ c.in-Some.event e c.in-Ok.notes.items c.args.link.now.kept c.in-Some.is h (record { performed = c.in-Ok.ensures.ok; number = refl; none_kept = c.forget.ensures; stream = c.follow.ensures });
   broker_kept = tt;
   link_kept = tt;
   topology = c.do_event-done.ensures.topology;

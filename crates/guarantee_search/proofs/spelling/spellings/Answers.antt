@@ -1,13 +1,19 @@
-use Rattle.std.proofs.Common.{◌≡◌, ◌++◌, ◌∷◌, [], List, subst, ap, ◌∙◌}
+use Rattle.std.proofs.Common.{◌≡◌, ◌++◌, ◌∷◌, [], List, sym, subst, ap, ◌∙◌}
+use Rattle.std.specs.List.{AllByRecursion}
 use Rattle.model.specs.Words.{Text}
 use Rattle.model.specs.Topology.{IsIn}
-use Rattle.guarantee_search.proofs.Wording.{spelled}
+use Rattle.model.specs.Searches.{IsWord}
+use Rattle.guarantee_search.specs.Spellings.{IsFilled}
+use Rattle.guarantee_search.proofs.Wording.{named_filled, spelled}
 use Rattle.guarantee_search.proofs.spelling.spellings.Goals as goal
+
+pub are_words-requires : goal.are_words-requires
+are_words-requires c = subst (λ (z : List Text). AllByRecursion IsFilled z) (sym c.names.ensures) (named_filled c.args.letters.now c.requires)
 
 pub returns : goal.returns
 returns c =
     let made : c.push.new.self.items ≡ c.in_ok-words.words.items ++ c.in_ok-other_word.field-0 ∷ [] = c.in_ok-push.ensures.items in
     spelled c.args.letters.now c.push.new.self.items c.in_ok-other_word.field-0
-    (made ∙ ap (λ (z : List Text). z ++ c.in_ok-other_word.field-0 ∷ []) (c.in_ok-words.ensures ∙ c.names.ensures))
-    c.requires c.in_ok-other_word.ensures.word
-    (subst (λ (z : List Text). IsIn c.in_ok-other_word.field-0 z → ⊥) c.names-2.ensures c.in_ok-other_word.ensures.other)
+    (made ∙ ap (λ (z : List Text). z ++ c.in_ok-other_word.field-0 ∷ []) (c.in_ok-words.ensures ∙ c.names-2.ensures))
+    (subst (λ (z : List Text). AllByRecursion IsWord z) c.names.ensures c.are_words.ensures) c.in_ok-other_word.ensures.word
+    (subst (λ (z : List Text). IsIn c.in_ok-other_word.field-0 z → ⊥) c.names-3.ensures c.in_ok-other_word.ensures.other)

@@ -1,6 +1,18 @@
+use Rattle.std.proofs.Common.{List, sym, subst}
+use Rattle.std.specs.Prelude.{All}
+use Rattle.model.specs.Guarantee.{Guarantee}
+use Rattle.guarantees.specs.declared.bad.BadGuarantees.TheVariants.{Worded}
+use Rattle.guarantees.specs.Causes.{IsGuaranteeWorded}
+use Rattle.guarantees.specs.Reads.{AreAccepted}
+use Rattle.guarantees.proofs.Keeping.{all_worded}
 use Rattle.guarantees.proofs.Whole.{accepted}
 use Rattle.guarantees.proofs.reading.read_guarantees.Goals as goal
 
+pub kept-requires : goal.kept-requires
+kept-requires c =
+    all_worded c.in_ok-stated.stated.items (subst (λ (z : List Guarantee). All IsGuaranteeWorded z) c.as_slice.ensures.value (c.in_ok-judge.ensures Worded))
+
 pub returns : goal.returns
 returns c =
-    accepted c.args.bytes.now c.args.topology.now c.in_ok-guarantees.guarantees.items c.in_ok-guarantees.ensures (rw (← c.as_slice.ensures.value) c.in_ok-judge.ensures)
+    subst (λ (z : List Guarantee). AreAccepted z c.args.topology.now c.args.bytes.now) (sym c.in_ok-guarantees.ensures)
+    (accepted c.args.bytes.now c.args.topology.now c.in_ok-stated.stated.items c.in_ok-stated.ensures (rw (← c.as_slice.ensures.value) c.in_ok-judge.ensures))

@@ -6,4 +6,4 @@ pub loop-place-preserved : goal.loop-place-preserved
 loop-place-preserved c = (signed_more _ _ _ _ _ (omega arith) c.loop-place.invariant.0 c.sign.ensures, c.sign.ensures.places ∙ c.loop-place.invariant.1)
 
 pub returns-clause-signed : goal.returns-clause-signed
-returns-clause-signed c = signed_done c.args.slots.now _ _ _ (omega arith) c.requires.slots c.loop-place.invariant.0
+returns-clause-signed c = signed_done c.args.slots.now c.loop-place.signs _ _ (omega arith) c.requires.slots c.loop-place.invariant.0

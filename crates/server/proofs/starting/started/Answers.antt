@@ -1,11 +1,16 @@
-use Rattle.std.specs.Prelude.{[], None}
+use Rattle.std.specs.Prelude.{[], Some, None}
 use Rattle.engine.specs.InForce.{in_force}
-use Rattle.command_line.specs.CommandLine.{Serve}
-use Rattle.server.specs.Program.{serves, wanting}
+use Rattle.command_line.specs.CommandLine.{Replay, Serve}
+use Rattle.server.specs.Program.{replays, serves, wanting}
+use Rattle.server.proofs.Judged.{judged_of}
 use Rattle.server.proofs.starting.started.Goals as goal
 
 pub returns-in-Err-clause-started : goal.returns-in-Err-clause-started
-returns-in-Err-clause-started g c = λ listen turns. c.in-Err.ensures.force (Serve c.args.definitions.now c.args.guarantees.now c.args.certificates.now listen turns) serves
+returns-in-Err-clause-started g c = record {
+  fails = λ listen turns. c.in-Err.ensures.force (Serve c.args.definitions.now c.args.guarantees.now c.args.certificates.now listen turns) serves;
+  judged = judged_of _ (Replay [] (Some c.args.definitions.now) (Some c.args.guarantees.now) (Some c.args.certificates.now)) _ _ tt
+      (c.in-Err.ensures.force (Replay [] (Some c.args.definitions.now) (Some c.args.guarantees.now) (Some c.args.certificates.now)) replays);
+}
 
 pub returns-in-Ok-new-clause-started : goal.returns-in-Ok-new-clause-started
 returns-in-Ok-new-clause-started g c = (
@@ -15,4 +20,4 @@ returns-in-Ok-new-clause-started g c = (
 )
 
 pub returns-in-Err-new-clause-started : goal.returns-in-Err-new-clause-started
-returns-in-Err-new-clause-started g c = λ listen turns. rw c.from.ensures wanting
+returns-in-Err-new-clause-started g c = record { fails = λ listen turns. rw c.from.ensures wanting; judged = rw c.from.ensures tt }

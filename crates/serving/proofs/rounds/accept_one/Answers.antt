@@ -1,5 +1,5 @@
-use Rattle.std.proofs.Common.{◌≡◌, [], ◌∷◌, false, true}
-use Rattle.serving.specs.Wire.{Not_accepted, Accept_failed, told_after}
+use Rattle.std.proofs.Common.{[], ◌∷◌, false, true}
+use Rattle.serving.specs.Wire.{Not_accepted, Accept_failed, Tells}
 use Rattle.serving.specs.Story.{TakesIn}
 use Rattle.serving.proofs.Deeds.{met, turned_away, met_nothing, met_failure}
 use Rattle.serving.proofs.rounds.accept_one.Goals as goal
@@ -8,26 +8,26 @@ pub returns-then-not-take_in-clause-serves : goal.returns-then-not-take_in-claus
 returns-then-not-take_in-clause-serves g c =
     let world = g.M.Machine.world in
     let told = g.W.Wire.told in
-    let out : TakesIn (world c.args.machine.now) c.args.peers.now.slots c.in-Socket.socket false (world c.take_in.new.machine) c.take_in.new.peers.slots = rw c.if-not-take_in.true at c.take_in.ensures.takes in
+    let out : TakesIn g.M.Machine.lacks (world c.args.machine.now) c.args.peers.now.slots c.in-Socket.socket false (world c.take_in.new.machine) c.take_in.new.peers.slots = rw c.if-not-take_in.true at c.take_in.ensures.takes in
     turned_away (world c.args.machine.now) (world c.take_in.new.machine) c.args.peers.now.slots c.take_in.new.peers.slots c.in-Socket.socket (told c.args.wire.now) (told c.accept.new.self) (told c.close.new.self)
-    out c.in-Socket.ensures.told c.close.ensures
+    out (c.accept.ensures.fresh c.in-Socket.socket c.in-Socket.is) c.in-Socket.ensures.told c.close.ensures
 
 pub returns-else-not-take_in-clause-serves : goal.returns-else-not-take_in-clause-serves
 returns-else-not-take_in-clause-serves g c =
     let world = g.M.Machine.world in
     let told = g.W.Wire.told in
-    let taken : TakesIn (world c.args.machine.now) c.args.peers.now.slots c.in-Socket.socket true (world c.take_in.new.machine) c.take_in.new.peers.slots = rw c.if-not-take_in.false at c.take_in.ensures.takes in
+    let taken : TakesIn g.M.Machine.lacks (world c.args.machine.now) c.args.peers.now.slots c.in-Socket.socket true (world c.take_in.new.machine) c.take_in.new.peers.slots = rw c.if-not-take_in.false at c.take_in.ensures.takes in
     met (world c.args.machine.now) (world c.take_in.new.machine) c.args.peers.now.slots c.take_in.new.peers.slots c.in-Socket.socket (told c.args.wire.now) (told c.accept.new.self)
     taken (c.accept.ensures.fresh c.in-Socket.socket c.in-Socket.is) c.in-Socket.ensures.told
 
 pub returns-in-Nothing-clause-serves : goal.returns-in-Nothing-clause-serves
 returns-in-Nothing-clause-serves g c =
     let told = g.W.Wire.told in
-    let e : told c.accept.new.self ≡ told_after (told c.args.wire.now) (Not_accepted ∷ []) = rw c.in-Nothing.is at c.accept.ensures.told in
+    let e : Tells (told c.args.wire.now) (Not_accepted ∷ []) (told c.accept.new.self) = rw c.in-Nothing.is at c.accept.ensures.told in
     met_nothing (g.M.Machine.world c.args.machine.now) c.args.peers.now.slots (told c.args.wire.now) (told c.accept.new.self) e
 
 pub returns-in-Failed-clause-serves : goal.returns-in-Failed-clause-serves
 returns-in-Failed-clause-serves g c =
     let told = g.W.Wire.told in
-    let e : told c.accept.new.self ≡ told_after (told c.args.wire.now) (Accept_failed ∷ []) = rw c.in-Failed.is at c.accept.ensures.told in
+    let e : Tells (told c.args.wire.now) (Accept_failed ∷ []) (told c.accept.new.self) = rw c.in-Failed.is at c.accept.ensures.told in
     met_failure (g.M.Machine.world c.args.machine.now) c.args.peers.now.slots (told c.args.wire.now) (told c.accept.new.self) e

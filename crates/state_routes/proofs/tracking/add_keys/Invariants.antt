@@ -3,4 +3,4 @@ use Rattle.state_routes.specs.Collected.{keys_onto}
 use Rattle.state_routes.proofs.tracking.add_keys.Given as goal
 
 abbrev pub invariant-loop-binding : goal.invariant-loop-binding
-invariant-loop-binding l = keys_onto l.list.items l.kind l.name (drop l.binding-index l.bindings) ≡ keys_onto l.fn.list.items l.kind l.name l.bindings
+invariant-loop-binding l = keys_onto l.list l.kind l.name (drop l.binding-index l.bindings) ≡ keys_onto l.fn.list l.kind l.name l.bindings

@@ -3,4 +3,4 @@ use Rattle.state_routes.specs.Collected.{met_onto}
 use Rattle.state_routes.proofs.tracking.add_met.Given as goal
 
 abbrev pub invariant-loop-exchange : goal.invariant-loop-exchange
-invariant-loop-exchange l = met_onto l.topology l.marks l.list.items (drop l.exchange-index l.exchanges) ≡ met_onto l.topology l.marks l.fn.list.items l.exchanges
+invariant-loop-exchange l = met_onto l.topology l.marks l.list (drop l.exchange-index l.exchanges) ≡ met_onto l.topology l.marks l.fn.list l.exchanges

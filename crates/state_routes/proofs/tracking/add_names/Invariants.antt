@@ -3,4 +3,4 @@ use Rattle.state_routes.specs.Collected.{names_onto}
 use Rattle.state_routes.proofs.tracking.add_names.Given as goal
 
 abbrev pub invariant-loop-queue : goal.invariant-loop-queue
-invariant-loop-queue l = names_onto l.list.items (drop l.queue-index l.queues) ≡ names_onto l.fn.list.items l.queues
+invariant-loop-queue l = names_onto l.list (drop l.queue-index l.queues) ≡ names_onto l.fn.list l.queues

@@ -1,48 +1,46 @@
-use Rattle.std.proofs.Common.{◌≡◌, ◌∙◌, ap, false, refl, sym, subst}
-use Rattle.std.specs.Prelude.{is_some}
-use Rattle.model.specs.Agreement.{IsAgreed}
+use Rattle.std.proofs.Common.{◌≡◌, ◌∙◌, ap, refl}
+use Rattle.std.specs.Option.{option_copied}
 use Rattle.model.specs.Entries.{by_connection}
-use Rattle.depot.specs.Store.{Store}
 use Rattle.links.specs.Links.{linked_in}
-use Rattle.broker_core.specs.State.{Kept, broker_of}
-use Rattle.broker_core.proofs.Freed.{absent, none_held, requeued_is}
+use Rattle.broker_core.specs.State.{Kept, topology_kept}
+use Rattle.broker_core.proofs.Freed.{connection_is_freed, within_at}
 use Rattle.broker_core.proofs.Placing.{placed_opened}
-use Rattle.broker_core.proofs.Stepping.{opened_is}
+use Rattle.broker_core.proofs.Stepping.{IsFreed, opened_is}
 use Rattle.broker_core.proofs.cores.Core.open.Goals as goal
 
-pub returns-then-was_there-clause-ok : goal.returns-then-was_there-clause-ok
-returns-then-was_there-clause-ok c =
+pub put_back_all-requires : goal.put_back_all-requires
+put_back_all-requires c =
     let old : Kept = record { store = c.self.inside.depot; links = c.self.inside.links } in
-    let new : Kept = record { store = c.requeue_connection.new.self; links = c.open.new.self } in
+    let before : option_copied c.as_ref.result ≡ linked_in old.links c.args.connection = c.as_ref.ensures.value ∙ c.in_ok-before.ensures.before in
+    within_at old c.args.connection (option_copied c.as_ref.result) before c.self.invariant
+
+pub returns-clause-ok : goal.returns-clause-ok
+returns-clause-ok c =
+    let old : Kept = record { store = c.self.inside.depot; links = c.self.inside.links } in
+    let new : Kept = record { store = c.put_back_all.new.depot; links = c.open.new.self } in
+    let before : option_copied c.as_ref.result ≡ linked_in old.links c.args.connection = c.as_ref.ensures.value ∙ c.in_ok-before.ensures.before in
+    let freed : IsFreed (by_connection c.args.connection) old.store new.store =
+    connection_is_freed c.places_are_named.ensures old c.args.self.now c.args.connection (option_copied c.as_ref.result) new.store c.self.view_is c.is_whole.ensures c.self.invariant c.requires before c.put_back_all.ensures in
     rw (← c.self.view_is)
     (record {
       sent = refl;
       noted = refl;
-      left = opened_is old new c.args.connection c.args.channel_max c.args.channels (requeued_is (by_connection c.args.connection) old.store new.store c.requeue_connection.ensures) c.in_ok-open.ensures.ok;
+      left = opened_is old new c.args.connection c.args.channel_max c.args.channels freed c.in_ok-before.ensures.ok;
     })
 
-pub invariant_of-self-then-was_there : goal.invariant_of-self-then-was_there
-invariant_of-self-then-was_there c =
+pub invariant_of-self-2 : goal.invariant_of-self-2
+invariant_of-self-2 c =
     let old : Kept = record { store = c.self.inside.depot; links = c.self.inside.links } in
-    let new : Kept = record { store = c.requeue_connection.new.self; links = c.open.new.self } in
-    placed_opened old new c.args.connection c.args.channel_max c.args.channels (ap (λ (s : Store). s.topology) c.requeue_connection.ensures) c.in_ok-open.ensures.ok c.self.invariant
+    let new : Kept = record { store = c.put_back_all.new.depot; links = c.open.new.self } in
+    let before : option_copied c.as_ref.result ≡ linked_in old.links c.args.connection = c.as_ref.ensures.value ∙ c.in_ok-before.ensures.before in
+    let freed : IsFreed (by_connection c.args.connection) old.store new.store =
+    connection_is_freed c.places_are_named.ensures old c.args.self.now c.args.connection (option_copied c.as_ref.result) new.store c.self.view_is c.is_whole.ensures c.self.invariant c.requires before c.put_back_all.ensures in
+    placed_opened old new c.args.connection c.args.channel_max c.args.channels freed.topology c.in_ok-before.ensures.ok c.self.invariant
 
-pub returns-else-was_there-clause-ok : goal.returns-else-was_there-clause-ok
-returns-else-was_there-clause-ok c =
-    let connection = c.args.connection in
+pub returns-clause-topology : goal.returns-clause-topology
+returns-clause-topology c =
     let old : Kept = record { store = c.self.inside.depot; links = c.self.inside.links } in
-    let new : Kept = record { store = c.self.inside.depot; links = c.open.new.self } in
-    let agreed : IsAgreed (broker_of old) = subst (λ (k : Kept). IsAgreed (broker_of k)) (sym c.self.view_is) c.requires in
-    let none : is_some (linked_in old.links connection) ≡ false = ap (λ (k : Kept). is_some (linked_in k.links connection)) c.self.view_is ∙ sym c.runs-was_there.ensures ∙ c.if-was_there.false in
-    rw (← c.self.view_is)
-    (record {
-      sent = refl;
-      noted = refl;
-      left = opened_is old new connection c.args.channel_max c.args.channels (none_held old connection (absent (linked_in old.links connection) none) agreed) c.in_ok-open.ensures.ok;
-    })
-
-pub invariant_of-self-else-was_there : goal.invariant_of-self-else-was_there
-invariant_of-self-else-was_there c =
-    let old : Kept = record { store = c.self.inside.depot; links = c.self.inside.links } in
-    let new : Kept = record { store = c.self.inside.depot; links = c.open.new.self } in
-    placed_opened old new c.args.connection c.args.channel_max c.args.channels refl c.in_ok-open.ensures.ok c.self.invariant
+    let before : option_copied c.as_ref.result ≡ linked_in old.links c.args.connection = c.as_ref.ensures.value ∙ c.in_ok-before.ensures.before in
+    let freed : IsFreed (by_connection c.args.connection) old.store c.put_back_all.new.depot =
+    connection_is_freed c.places_are_named.ensures old c.args.self.now c.args.connection (option_copied c.as_ref.result) c.put_back_all.new.depot c.self.view_is c.is_whole.ensures c.self.invariant c.requires before c.put_back_all.ensures in
+    freed.topology ∙ ap topology_kept c.self.view_is

@@ -4,7 +4,7 @@ use Rattle.model.specs.Commands.{running_stream}
 use Rattle.model.specs.Phases.{running_session}
 use Rattle.model.specs.Step.{Acts}
 use Rattle.model.specs.declared.events.Event.TheVariants as event
-use Rattle.broker_core.specs.State.{topology_kept, broker_of}
+use Rattle.broker.specs.Turns.{topology_kept, broker_of}
 use Rattle.runs.specs.Opened.{IsOpened}
 use Rattle.engine.specs.declared.connected.Connected.{Connected}
 use Rattle.engine.specs.World.{Parts, world_of, IsNew}

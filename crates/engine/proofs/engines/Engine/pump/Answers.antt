@@ -8,28 +8,34 @@ use Rattle.runs.specs.Opened.{Idles}
 use Rattle.engine.specs.World.{Parts, world_of}
 use Rattle.engine.specs.Pumping.{IsPump}
 use Rattle.engine.proofs.Asked.{on_err}
-use Rattle.engine.proofs.Delivered.{picked_pumps, picked_not, picked_stays, picked_none}
+use Rattle.engine.proofs.Delivered.{picked_engine, picked_pumps, picked_not, picked_stays, picked_none}
 use Rattle.engine.proofs.engines.Engine.pump.Goals as goal
 
 pub pump_among-requires-clause-picked : goal.pump_among-requires-clause-picked
-pump_among-requires-clause-picked c = subst (λ (b : Kept). IsPick (broker_of b) c.in-Some.pick) (sym c.in-Some.ensures.same) c.in-Some.ensures.some
+pump_among-requires-clause-picked c = subst (λ (b : Kept). IsPick (broker_of b) c.in-Some.pick) (sym c.in-Some.ensures.kept) c.in-Some.ensures.some
 
 pub pump_among-requires-clause-named : goal.pump_among-requires-clause-named
-pump_among-requires-clause-named c = subst (λ (b : Kept). AreNamed (topology_kept b) (broker_of b)) (sym c.in-Some.ensures.same) c.self.invariant.named
+pump_among-requires-clause-named c = subst (λ (b : Kept). AreNamed (topology_kept b) (broker_of b)) (sym c.in-Some.ensures.kept) c.self.invariant.named
 
 pub invariant_of-self : goal.invariant_of-self
 invariant_of-self c =
     let i = c.self.inside in
     let old : Parts = record { broker = i.broker; guarantees = i.guarantees.items; users = i.users.items; given = i.given; links = i.links.items } in
-    picked_stays c.pump_among.result (λ v. v.items) old _ c.pick.new.self c.in-Some.pick.connection c.self.invariant c.in-Some.ensures.same (record { topology = c.pump_among.ensures.topology; guarantees = refl; users = refl; given = refl })
+    picked_stays c.pump_among.result (λ v. v.items) old _ c.pick.new.self c.in-Some.pick.connection c.self.invariant c.in-Some.ensures.kept (record { topology = c.pump_among.ensures.topology; guarantees = refl; users = refl; given = refl })
     c.in-Some.ensures.some.0 c.pump_among.ensures.ok c.pump_among.ensures.err
 
 pub invariant_of-self-in-Some : goal.invariant_of-self-in-Some
 invariant_of-self-in-Some c =
     let i = c.self.inside in
     let old : Parts = record { broker = i.broker; guarantees = i.guarantees.items; users = i.users.items; given = i.given; links = i.links.items } in
-    picked_stays c.pump_among.result (λ v. v.items) old _ c.pick.new.self c.in-Some.pick.connection c.self.invariant c.in-Some.ensures.same (record { topology = c.pump_among.ensures.topology; guarantees = refl; users = refl; given = refl })
+    picked_stays c.pump_among.result (λ v. v.items) old _ c.pick.new.self c.in-Some.pick.connection c.self.invariant c.in-Some.ensures.kept (record { topology = c.pump_among.ensures.topology; guarantees = refl; users = refl; given = refl })
     c.in-Some.ensures.some.0 c.pump_among.ensures.ok c.pump_among.ensures.err
+
+pub invariant_of-self-in-None : goal.invariant_of-self-in-None
+invariant_of-self-in-None c =
+    let i = c.self.inside in
+    let old : Parts = record { broker = i.broker; guarantees = i.guarantees.items; users = i.users.items; given = i.given; links = i.links.items } in
+    picked_engine old c.pick.new.self c.in-None.ensures.kept c.self.invariant
 
 pub returns-in_err-notes-in-Some-clause-err : goal.returns-in_err-notes-in-Some-clause-err
 returns-in_err-notes-in-Some-clause-err c =
@@ -37,7 +43,7 @@ returns-in_err-notes-in-Some-clause-err c =
     let old : Parts = record { broker = i.broker; guarantees = i.guarantees.items; users = i.users.items; given = i.given; links = i.links.items } in
     let new : Parts = record old { broker = c.pump_among.new.broker; links = c.pump_among.new.links.items } in
     on_err c.from_residual.result _ (subst (λ (p : Parts). Same (world_of p) (world_of new)) c.self.view_is
-    (picked_not old new c.pick.new.self c.in-Some.pick.connection c.self.invariant c.in-Some.ensures.same (record { topology = c.pump_among.ensures.topology; guarantees = refl; users = refl; given = refl })
+    (picked_not old new c.pick.new.self c.in-Some.pick.connection c.self.invariant c.in-Some.ensures.kept (record { topology = c.pump_among.ensures.topology; guarantees = refl; users = refl; given = refl })
     c.in-Some.ensures.some.0 c.in_err-notes-in-Some.ensures.err))
 
 pub returns-in_err-notes-in-Some-clause-wanted : goal.returns-in_err-notes-in-Some-clause-wanted
@@ -53,10 +59,10 @@ returns-in_ok-notes-in-Some-clause-ok c =
     let new : Parts = record old { broker = c.pump_among.new.broker; links = c.pump_among.new.links.items } in
     let notes = c.in_ok-notes-in-Some.notes.items in
     subst (λ (p : Parts). IsPump (world_of p) notes (world_of new)) c.self.view_is
-    (picked_pumps old new c.pick.new.self c.in-Some.pick.connection notes c.self.invariant c.in-Some.ensures.same (record { topology = c.pump_among.ensures.topology; guarantees = refl; users = refl; given = refl }) c.in_ok-notes-in-Some.ensures.ok)
+    (picked_pumps old new c.pick.new.self c.in-Some.pick.connection notes c.self.invariant c.in-Some.ensures.kept (record { topology = c.pump_among.ensures.topology; guarantees = refl; users = refl; given = refl }) c.in_ok-notes-in-Some.ensures.ok)
 
 pub returns-in-None-clause-ok : goal.returns-in-None-clause-ok
 returns-in-None-clause-ok c =
     let i = c.self.inside in
     let old : Parts = record { broker = i.broker; guarantees = i.guarantees.items; users = i.users.items; given = i.given; links = i.links.items } in
-    subst (λ (p : Parts). Idles (world_of p) (world_of (record old { broker = c.pick.new.self }))) c.self.view_is (picked_none old c.pick.new.self c.in-None.ensures.same (c.in-None.ensures.none refl))
+    subst (λ (p : Parts). Idles (world_of p) (world_of (record old { broker = c.pick.new.self }))) c.self.view_is (picked_none old c.pick.new.self c.in-None.ensures.kept (c.in-None.ensures.none refl))

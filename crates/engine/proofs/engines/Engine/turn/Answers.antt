@@ -1,6 +1,6 @@
 use Rattle.std.proofs.Common.{List, refl, subst, Some}
 use Rattle.model.specs.declared.messages.User.{User}
-use Rattle.broker_core.specs.State.{topology_kept, broker_of}
+use Rattle.broker.specs.Turns.{topology_kept, broker_of}
 use Rattle.engine.specs.World.{Parts}
 use Rattle.engine.specs.Performing.{rules_of}
 use Rattle.engine.specs.Engines.{IsLinkPlace, LinksTook}
@@ -20,10 +20,10 @@ returns-in-Some c =
     let new : Parts = record { broker = c.turn_at.new.broker; guarantees = i.guarantees.items; users = i.users.items; given = i.given; links = c.turn_at.new.links.items } in
     let place : IsLinkPlace i.links.items c.args.c (Some c.in-Some.place) = rw (← c.deref.ensures.value) c.in-Some.ensures.place in
     let out = took old new c.args.c c.in-Some.place c.turn_at.result c.self.invariant (record { topology = c.turn_at.ensures.topology; guarantees = refl; users = refl; given = refl }) place (subst (λ (us : List User). LinksTook (rules_of (topology_kept i.broker) us) (broker_of i.broker) i.links.items c.in-Some.place c.turn_at.result (broker_of c.turn_at.new.broker) c.turn_at.new.links.items) c.as_slice.ensures.value c.turn_at.ensures.took) in
-    record { ok = rw (← c.self.view_is) out.ok; fewer = rw (← c.self.view_is) out.fewer; err = rw (← c.self.view_is) out.err; awake = rw (← c.self.view_is) out.awake }
+    record { ok = rw (← c.self.view_is) out.ok; fewer = rw (← c.self.view_is) out.fewer; err = rw (← c.self.view_is) out.err; awake = rw (← c.self.view_is) out.awake; more = rw (← c.self.view_is) out.more }
 
 pub returns-in-None : goal.returns-in-None
 returns-in-None c =
     let i = c.self.inside in
     let old : Parts = record { broker = i.broker; guarantees = i.guarantees.items; users = i.users.items; given = i.given; links = i.links.items } in
-    record { ok = rw (← c.self.view_is) (not_there old c.args.c (rw (← c.deref.ensures.value) c.in-None.ensures.place)); fewer = tt; err = tt; awake = tt }
+    record { ok = rw (← c.self.view_is) (not_there old c.args.c (rw (← c.deref.ensures.value) c.in-None.ensures.place)); fewer = tt; err = tt; awake = tt; more = tt }

@@ -1,18 +1,36 @@
-use Rattle.std.proofs.Common.{◌∙◌, ◌+◌, List, length, ap, subst}
-use Rattle.model.specs.Tracking.{Tracked}
+use Rattle.std.proofs.Common.{◌∙◌, ◌+◌, List, length, ap}
 use Rattle.model.specs.declared.topologies.Exchange.{Exchange}
-use Rattle.state_routes.specs.Deaths.{AreGates}
 use Rattle.state_routes.specs.Nodes.{node, alternate_links}
-use Rattle.state_routes.proofs.Sure.{bounded_as}
+use Rattle.state_routes.proofs.Sure.{alternates_below, bounded_as, gates_as, gates_below, known_as}
 use Rattle.state_routes.proofs.routes.Routes.new.Goals as goal
+
+pub exits_of-requires-clause-gates : goal.exits_of-requires-clause-gates
+exits_of-requires-clause-gates c =
+    gates_below c.args.topology.now c.args.mode c.args.queue.now c.args.letters.now c.as_slice.result.now (length c.exchanges-exchanges.result.now + 4)
+    (gates_as c.args.topology.now c.args.mode c.args.queue.now c.args.letters.now _ _ _ c.patterns.ensures c.as_slice.ensures.value c.in_ok-gates.ensures)
+    (ap (λ (xs : List Exchange). length xs + 4) c.exchanges-exchanges.ensures)
+
+pub exits_of-requires-clause-alternates : goal.exits_of-requires-clause-alternates
+exits_of-requires-clause-alternates c =
+    alternates_below c.args.topology.now c.as_slice-2.result.now (length c.exchanges-exchanges.result.now + 4)
+    (c.as_slice-2.ensures.value ∙ c.in_ok-alternates.ensures ∙ ap (λ (xs : List Exchange). alternate_links xs xs) c.exchanges-exchanges.ensures)
+    (ap (λ (xs : List Exchange). length xs + 4) c.exchanges-exchanges.ensures)
 
 pub invariant_of-result : goal.invariant_of-result
 invariant_of-result c =
-    bounded_as c.args.topology.now c.args.mode c.args.exchange.now c.args.queue.now c.args.letters.now
-    c.in_ok-all_gates.field-0.items c.in_ok-alternate_links.field-0.items (length c.exchanges-3.result.now + 4) c.node.result
-    (subst (λ (z : List Tracked). AreGates c.args.topology.now c.args.mode c.args.queue.now z c.in_ok-all_gates.field-0.items) c.patterns.ensures c.in_ok-all_gates.ensures)
-    (c.in_ok-alternate_links.ensures
-    ∙ ap (λ (xs : List Exchange). alternate_links xs c.exchanges-2.result.now) c.exchanges.ensures
-    ∙ ap (λ (xs : List Exchange). alternate_links c.args.topology.now.exchanges xs) c.exchanges-2.ensures)
-    (ap (λ (xs : List Exchange). length xs + 4) c.exchanges-3.ensures)
-    (c.node.ensures.is ∙ ap (λ (xs : List Exchange). node xs c.args.exchange.now) c.exchanges-4.ensures)
+    bounded_as c.args.topology.now c.args.mode c.args.exchange.now c.args.queue.now c.args.letters.now c.as_slice.result.now c.as_slice-2.result.now (length c.exchanges-exchanges.result.now + 4) c.node.result c.in_ok-exits_of.field-0.items
+    (gates_as c.args.topology.now c.args.mode c.args.queue.now c.args.letters.now _ _ _ c.patterns.ensures c.as_slice.ensures.value c.in_ok-gates.ensures)
+    (c.as_slice-2.ensures.value ∙ c.in_ok-alternates.ensures ∙ ap (λ (xs : List Exchange). alternate_links xs xs) c.exchanges-exchanges.ensures)
+    (ap (λ (xs : List Exchange). length xs + 4) c.exchanges-exchanges.ensures)
+    (c.node.ensures.is ∙ ap (λ (xs : List Exchange). node xs c.args.exchange.now) c.exchanges-exchanges.ensures)
+    c.in_ok-exits_of.ensures
+
+pub returns : goal.returns
+returns c =
+    known_as c.args.topology.now c.args.mode c.args.exchange.now c.args.queue.now c.args.letters.now c.as_slice.result.now c.as_slice-2.result.now (length c.exchanges-exchanges.result.now + 4) c.node.result c.in_ok-exits_of.field-0.items
+    c.is_well_formed.ensures
+    (gates_as c.args.topology.now c.args.mode c.args.queue.now c.args.letters.now _ _ _ c.patterns.ensures c.as_slice.ensures.value c.in_ok-gates.ensures)
+    (c.as_slice-2.ensures.value ∙ c.in_ok-alternates.ensures ∙ ap (λ (xs : List Exchange). alternate_links xs xs) c.exchanges-exchanges.ensures)
+    (ap (λ (xs : List Exchange). length xs + 4) c.exchanges-exchanges.ensures)
+    (c.node.ensures.is ∙ ap (λ (xs : List Exchange). node xs c.args.exchange.now) c.exchanges-exchanges.ensures)
+    c.in_ok-exits_of.ensures

@@ -1,0 +1,16 @@
+-- A fault that a stream keeps stands in it.
+use Rattle.std.proofs.Common.{◌≡◌, ℕ, List, Option, Some, None, subst}
+use Rattle.model.specs.Commands.{Stream, Ends, heard, stays}
+use Rattle.laws.proofs.Streams.{fault_stays}
+use Rattle.assembly.specs.Onward.{Stops, IsBrokenBy}
+
+-- whatever comes behind it
+pub broken_more : (fault : Option ℕ) (s : Stream) (more : List ℕ) → IsBrokenBy fault s → IsBrokenBy fault (heard s more)
+broken_more None s more b = tt
+broken_more (Some code) s more b = fault_stays s code more b
+
+-- and it is the answer
+pub broken_stops : (fault : Option ℕ) (s : Stream) (code : ℕ) → fault ≡ Some code → IsBrokenBy fault s → Stops s (Some code) s
+broken_stops fault s code is b =
+    let ends : Ends s (Some code) = subst (λ (o : Option ℕ). IsBrokenBy o s) is b in
+    record { same = stays; ends = ends; still = ends }

@@ -1,0 +1,135 @@
+//! How long the patterns that match a key are looked for: compared one by one, and by a trie.
+
+use measuring::processor_time;
+use std::alloc::{AllocError, Global};
+use std::io;
+use topic_match::{Matcher, Pattern, Plain, Trie};
+
+/// How many keys are looked for.
+const KEYS: u32 = 100_000;
+
+/// Adds the pattern of this text.
+fn add(alloc: Global, patterns: &mut Vec<Pattern>, text: &str) -> Result<(), AllocError> {
+    match Pattern::read(alloc, text.as_bytes()) {
+        Ok(pattern) => patterns.push(pattern)?,
+        Err(_) => return Err(AllocError),
+    }
+    Ok(())
+}
+
+/// Adds a pattern that no key matches.
+fn add_other(alloc: Global, patterns: &mut Vec<Pattern>, place: u32) -> Result<(), AllocError> {
+    match format!(in alloc; "other.{place}.*") {
+        Ok(text) => add(alloc, patterns, text.as_str()),
+        Err(_) => Err(AllocError),
+    }
+}
+
+/// So many patterns, of which `k.#` is the last and the others match no key.
+fn others(alloc: Global, count: u32) -> Result<Vec<Pattern>, AllocError> {
+    let mut patterns = Vec::new(alloc);
+    for place in 1..count {
+        add_other(alloc, &mut patterns, place)?;
+    }
+    add(alloc, &mut patterns, "k.#")?;
+    Ok(patterns)
+}
+
+/// Patterns with several `#`.
+fn several(alloc: Global) -> Result<Vec<Pattern>, AllocError> {
+    let mut patterns = Vec::new(alloc);
+    add(alloc, &mut patterns, "#.a.#.a.#.a.#.b")?;
+    Ok(patterns)
+}
+
+/// Adds the key of this number.
+fn add_key(alloc: Global, keys: &mut Vec<String>, number: u32) -> Result<(), AllocError> {
+    match format!(in alloc; "k.{number}") {
+        Ok(key) => keys.push(key)?,
+        Err(_) => return Err(AllocError),
+    }
+    Ok(())
+}
+
+/// Keys of which none comes again.
+fn fresh(alloc: Global) -> Result<Vec<String>, AllocError> {
+    let mut keys = Vec::new(alloc);
+    for number in 0..KEYS {
+        add_key(alloc, &mut keys, number)?;
+    }
+    Ok(keys)
+}
+
+/// A key of 128 words, again and again.
+fn long(alloc: Global) -> Result<Vec<String>, AllocError> {
+    let mut keys = Vec::new(alloc);
+    for _ in 0..KEYS / 10 {
+        let mut key = String::new(alloc);
+        for _ in 0..127 {
+            key.push_str("a.")?;
+        }
+        key.push_str("a")?;
+        keys.push(key)?;
+    }
+    Ok(keys)
+}
+
+/// How many places are found for these keys, and 0 where memory is wanting.
+fn count_found<M: Matcher>(alloc: Global, matcher: &M, keys: &[String]) -> usize {
+    let mut count: usize = 0;
+    for key in keys {
+        if let Ok(places) = matcher.matches(alloc, key.as_bytes()) {
+            count = count.saturating_add(places.len());
+        }
+    }
+    count
+}
+
+/// Prints how long a matcher of these patterns is made, and how long one of these keys takes on average.
+fn measure<M: Matcher + Drop>(
+    rt: &HostRuntime,
+    name: &str,
+    patterns: Vec<Pattern>,
+    keys: &[String],
+) -> io::Result<()> {
+    let start = processor_time(rt)?;
+    let Ok(matcher) = M::new(rt.alloc(), patterns) else {
+        return println!(rt; "{name}: memory was refused");
+    };
+    let made = processor_time(rt)?.saturating_sub(start) / 1_000;
+    let start = processor_time(rt)?;
+    let count = count_found(rt.alloc(), &matcher, keys);
+    let taken = processor_time(rt)?.saturating_sub(start) / (keys.len().max(1) as u64);
+    println!(rt; "{name}: made in {made} microseconds, {taken} ns a key, {count} places found")
+}
+
+/// Prints both matchers over so many patterns, and keys of which none comes again.
+fn measure_fresh(rt: &HostRuntime, count: u32) -> io::Result<()> {
+    let alloc = rt.alloc();
+    let (Ok(plain), Ok(trie), Ok(keys)) = (others(alloc, count), others(alloc, count), fresh(alloc))
+    else {
+        return println!(rt; "{count} patterns: memory was refused");
+    };
+    println!(rt; "{count} patterns")?;
+    measure::<Plain>(rt, "  one by one", plain, keys.as_slice())?;
+    measure::<Trie>(rt, "  by a trie", trie, keys.as_slice())
+}
+
+/// Prints both matchers over a pattern with several `#`, and a key of 128 words.
+fn measure_long(rt: &HostRuntime) -> io::Result<()> {
+    let alloc = rt.alloc();
+    let (Ok(plain), Ok(trie), Ok(keys)) = (several(alloc), several(alloc), long(alloc)) else {
+        return println!(rt; "a key of 128 words: memory was refused");
+    };
+    println!(rt; "#.a.#.a.#.a.#.b and a key of 128 words")?;
+    measure::<Plain>(rt, "  one by one", plain, keys.as_slice())?;
+    measure::<Trie>(rt, "  by a trie", trie, keys.as_slice())
+}
+
+/// Prints how long the patterns that match a key are looked for.
+pub fn measure_all(rt: &HostRuntime) -> io::Result<()> {
+    measure_fresh(rt, 1)?;
+    measure_fresh(rt, 1_000)?;
+    measure_fresh(rt, 4_096)?;
+    measure_long(rt)
+}

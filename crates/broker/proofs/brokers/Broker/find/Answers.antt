@@ -1,0 +1,33 @@
+use Rattle.std.proofs.Common.{ℕ, refl, sym, subst}
+use Rattle.model.specs.Consuming.{CanDeliver}
+use Rattle.broker.specs.Roster.{Rings, HasConsumer}
+use Rattle.broker.specs.Turns as seen
+use Rattle.broker.specs.Turns.{WithTurn}
+use Rattle.broker_core.specs.State.{Kept, broker_of, topology_kept}
+use Rattle.broker_core.specs.declared.picks.Pick.{Pick}
+use Rattle.broker_core.specs.Picked.{IsPick, IsPickFrom}
+use Rattle.broker_core.proofs.Picking.{pick_from}
+use Rattle.broker.proofs.Outcomes.{if_some}
+use Rattle.broker.proofs.Seated.{holds, serves, serves_kept, running_still}
+use Rattle.broker.proofs.brokers.Broker.find.Goals as goal
+
+pub returns-clause-none : goal.returns-clause-none
+returns-clause-none c = λ e d can.
+    let made : CanDeliver (broker_of c.self.inside.core) d = subst (λ (b : WithTurn). CanDeliver (seen.broker_of b) d) (sym c.self.view_is) can in
+    let p : Pick = record { connection = d; channel = made.number; number = made.consumer.number } in
+    let from = pick_from c.self.inside.core d made in
+    let has : HasConsumer (topology_kept c.self.inside.core) (broker_of c.self.inside.core) from.place p = record { consumer = made.consumer; was = (made.channel, made.taker.there, made.taker.its); numbered = refl; within = from.within; named = from.named } in
+    c.pick-self-inside.ensures.none e from.place p (c.self.invariant.seated from.place p has) (record { pick = (made, refl, refl); within = from.within; named = from.named })
+
+pub returns-clause-some : goal.returns-clause-some
+returns-clause-some c =
+    if_some c.pick-self-inside.result (λ p. (place : ℕ) × IsPickFrom c.self.inside.core place p) (λ p. IsPick (seen.broker_of c.args.self.now) p) (λ p from. subst (λ (b : WithTurn). IsPick (seen.broker_of b) p) c.self.view_is from.1.pick) c.pick-self-inside.ensures.some
+
+pub invariant_of-self : goal.invariant_of-self
+invariant_of-self c =
+    let kept : Kept = c.self.inside.core in
+    let before : Rings = c.self.inside.roster in
+    let after : Rings = c.pick-self-inside.new.self in
+    serves kept after
+    (serves_kept kept before after c.pick-self-inside.ensures.kept c.pick-self-inside.ensures.len (holds kept before c.self.invariant))
+    (running_still (broker_of kept) (broker_of kept) before.lists after.lists (λ d none. none) c.pick-self-inside.ensures.no_list c.self.invariant.running)

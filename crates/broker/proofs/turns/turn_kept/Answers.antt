@@ -1,0 +1,15 @@
+use Rattle.std.proofs.Common.{◌∙◌, sym, subst}
+use Rattle.std.proofs.lemmas.Bool.{false≢true}
+use Rattle.std.proofs.lemmas.Option.{same_Some}
+use Rattle.broker_core.specs.State.{broker_of}
+use Rattle.broker_core.specs.Picked.{IsPick}
+use Rattle.broker_core.specs.declared.picks.Pick.{Pick}
+use Rattle.broker.proofs.turns.turn_kept.Goals as goal
+
+pub returns-then-can_deliver-clause-some : goal.returns-then-can_deliver-clause-some
+returns-then-can_deliver-clause-some c = c.can_deliver.ensures.yes c.if-can_deliver.true
+
+pub returns-clause-none : goal.returns-clause-none
+returns-clause-none c = λ e p is pick.
+    let same = same_Some p c.in-Some.pick (sym is ∙ c.in-Some.is) in
+    absurd (false≢true (sym c.if-can_deliver.false ∙ c.can_deliver.ensures.no (subst (λ (q : Pick). IsPick (broker_of c.args.core.now) q) same pick)))

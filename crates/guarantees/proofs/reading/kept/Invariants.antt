@@ -1,0 +1,9 @@
+use Rattle.std.proofs.Common.{◌≡◌, ◌++◌, length}
+use Rattle.std.specs.Prelude.{All}
+use Rattle.std.specs.Vec.Iter.{into_iter_items, into_iter_len}
+use Rattle.guarantees.specs.Causes.{ArePatterns}
+use Rattle.guarantees.proofs.Keeping.{KeptSoFar}
+use Rattle.guarantees.proofs.reading.kept.Given as goal
+
+abbrev pub invariant-loop-one : goal.invariant-loop-one
+invariant-loop-one l = KeptSoFar l.found.items (into_iter_items l.one-iterator) (into_iter_items l.initial.one-iterator) (into_iter_len l.one-iterator)

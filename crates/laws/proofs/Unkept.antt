@@ -1,0 +1,73 @@
+-- Outside Running a publish and one whose content is too large have the same answer: no phase looks at what is published.
+use Rattle.std.proofs.Common.{◌≡◌, ℕ, List, Bool, true, false, refl, ◌∙◌, sym, Option}
+use Rattle.std.specs.Prelude.{MatchBool}
+use Rattle.std.proofs.lemmas.Bool.{false≢true}
+use Rattle.model.specs.Phases.{Session, Move, is_running}
+use Rattle.model.specs.Opening.{LogsIn, MovesInOpening, IsAnswered, opening_move}
+use Rattle.model.specs.State.{Config, State, Step, AnswersBy, OfCommand, OfLarge}
+use Rattle.model.specs.Commands.{no_publish}
+use Rattle.model.specs.declared.messages.User.{User}
+use Rattle.model.specs.declared.contents.Content.{Content}
+use Rattle.model.specs.declared.methods.Publish.{Publish}
+use Rattle.model.specs.declared.methods.Method.TheVariants.{BasicPublish}
+use Rattle.model.specs.declared.events.Phase.{Phase}
+use Rattle.model.specs.declared.events.Phase.TheVariants as phase
+use Rattle.model.specs.declared.events.Send.{Send}
+use Rattle.model.specs.declared.notes.Note.{Note}
+use Rattle.laws.specs.Unkept.{UnkeptIsUnseen}
+
+-- a publish is no login
+logs_alike : (users : List User) (a b : Publish) (q : Phase) → LogsIn users q (BasicPublish a) → LogsIn users q (BasicPublish b)
+logs_alike users a b phase.Header l = l
+logs_alike users a b phase.Start l = l
+logs_alike users a b phase.Tune l = l
+logs_alike users a b phase.Open l = l
+logs_alike users a b phase.Running l = l
+logs_alike users a b phase.Closing l = l
+logs_alike users a b phase.Over l = l
+
+moves_alike : (c : ℕ) (is_user : Bool) (s : Session) (h : ℕ) (a b : Publish) (q : Phase) → opening_move c is_user s q h (BasicPublish a) ≡ opening_move c is_user s q h (BasicPublish b)
+moves_alike c is_user s h a b phase.Header = refl
+moves_alike c is_user s h a b phase.Start = refl
+moves_alike c is_user s h a b phase.Tune = refl
+moves_alike c is_user s h a b phase.Open = refl
+moves_alike c is_user s h a b phase.Running = refl
+moves_alike c is_user s h a b phase.Closing = refl
+moves_alike c is_user s h a b phase.Over = refl
+
+judged_alike : (users : List User) (a b : Publish) (q : Phase) (is_user : Bool) → MatchBool is_user (LogsIn users q (BasicPublish a)) (LogsIn users q (BasicPublish a) → ⊥)
+    → MatchBool is_user (LogsIn users q (BasicPublish b)) (LogsIn users q (BasicPublish b) → ⊥)
+judged_alike users a b q true l = logs_alike users a b q l
+judged_alike users a b q false n = λ l. n (logs_alike users b a q l)
+
+opened_alike : (users : List User) (c h : ℕ) (s : Session) (move : Move) (a b : Publish) → MovesInOpening users c s h (BasicPublish a) move → MovesInOpening users c s h (BasicPublish b) move
+opened_alike users c h s move a b m = record {
+  is_user = m.is_user;
+  login = judged_alike users a b s.phase m.is_user m.login;
+  moved = m.moved ∙ moves_alike c m.is_user s h a b s.phase;
+}
+
+answered_alike : (users : List User) (c h : ℕ) (s : Session) (move : Move) (a b : Publish) (q : Phase) → IsAnswered users c s q h (BasicPublish a) move → IsAnswered users c s q h (BasicPublish b) move
+answered_alike users c h s move a b phase.Header m = opened_alike users c h s move a b m
+answered_alike users c h s move a b phase.Start m = opened_alike users c h s move a b m
+answered_alike users c h s move a b phase.Tune m = opened_alike users c h s move a b m
+answered_alike users c h s move a b phase.Open m = opened_alike users c h s move a b m
+answered_alike users c h s move a b phase.Running m = opened_alike users c h s move a b m
+answered_alike users c h s move a b phase.Closing m = m
+answered_alike users c h s move a b phase.Over m = opened_alike users c h s move a b m
+
+pub unseen : UnkeptIsUnseen
+unseen f old c h p content sends notes new outside = by (old.session c).phase outside
+  where
+    answers : (q : Phase) (a b : Publish) → AnswersBy f.users old q c h (BasicPublish a) sends notes new → AnswersBy f.users old q c h (BasicPublish b) sends notes new
+    answers q a b x = record { move = x.move; answered = answered_alike f.users c h (old.session c) x.move a b q x.answered; moves = x.moves }
+
+    by : (q : Phase) → is_running q ≡ false
+        → (OfCommand f old q c h (BasicPublish p) content sends notes new → OfLarge f old q c h sends notes new) × (OfLarge f old q c h sends notes new → OfCommand f old q c h (BasicPublish p) content sends notes new)
+    by phase.Header e = (answers phase.Header p no_publish, answers phase.Header no_publish p)
+    by phase.Start e = (answers phase.Start p no_publish, answers phase.Start no_publish p)
+    by phase.Tune e = (answers phase.Tune p no_publish, answers phase.Tune no_publish p)
+    by phase.Open e = (answers phase.Open p no_publish, answers phase.Open no_publish p)
+    by phase.Running e = absurd (false≢true (sym e))
+    by phase.Closing e = (answers phase.Closing p no_publish, answers phase.Closing no_publish p)
+    by phase.Over e = (answers phase.Over p no_publish, answers phase.Over no_publish p)

@@ -1,0 +1,15 @@
+use Rattle.std.proofs.Common.{◌∷◌, [], subst}
+use Rattle.serving.specs.Wire.{Follows}
+use Rattle.serving.specs.Answered.{accept_call}
+use Rattle.memory_wire.specs.Logs.{told_by}
+use Rattle.memory_wire.specs.declared.logs.Log.{Log}
+use Rattle.memory_wire.proofs.Telling.{tells_one, accepted_lt}
+use Rattle.memory_wire.proofs.wires.MemoryWireWire.accept.Goals as goal
+
+pub returns-clause-told : goal.returns-clause-told
+returns-clause-told c =
+    let call = accept_call c.next-answer.result in
+    let next = c.next-answer.ensures in
+    tells_one (told_by c.args.self.now.log) (told_by c.add.new.self) c.args.self.now.come c.next-answer.new.self.come call
+    (subst (λ (l : Log). Follows (told_by l) (call ∷ []) (told_by c.add.new.self)) next.log (c.add.ensures call c.logged_accept.ensures)) next.unfailing next.come
+    (λ s e. accepted_lt s c.next-answer.new.self.come c.next-answer.result next.given e)

@@ -1,0 +1,110 @@
+//! A wire of which one call fails.
+
+ghost use Rattle.std.specs.Prelude.{◌≡◌, true, false};
+
+use serving::{Accept, Read, Wire, Write};
+
+/// The calls of a wire that can fail.
+#[derive(Clone, Copy, PartialEq, Eq, Drop)]
+pub enum Asked {
+    Accept,
+    Read,
+    Write,
+}
+
+/// A wire whose call of this kind fails that comes as the `left`th of them; no other fails.
+#[derive(Drop)]
+pub struct Failing<W: Wire> {
+    pub wire: W,
+    asked: Asked,
+    left: u64,
+    has_failed: bool,
+    /// The socket whose read or write has failed.
+    victim: Option<u64>,
+}
+
+impl<W: Wire> Failing<W> {
+    /// Over this wire the call of this kind fails that is the `count`th; none does where that is 0.
+    pub fn new(wire: W, asked: Asked, count: u64) -> Failing<W>
+    where
+        W: Drop,
+        ensures wire { result.wire ≡ wire }
+        ensures has_failed { result.has_failed ≡ false }
+    {
+        Failing {
+            wire,
+            asked,
+            left: count,
+            has_failed: false,
+            victim: None,
+        }
+    }
+
+    /// Whether the call has failed.
+    pub fn has_failed(&self) -> bool
+        ensures { result ≡ self.now.has_failed }
+    {
+        self.has_failed
+    }
+
+    /// The socket whose read or write has failed.
+    pub fn victim(&self) -> Option<u64>
+        ensures { result ≡ self.now.victim }
+    {
+        self.victim
+    }
+
+    /// Whether this call is to fail.
+    fn is_due(&mut self, asked: Asked, socket: Option<u64>) -> bool
+        ensures wire { self.new.wire ≡ self.old.wire }
+        ensures due { result ≡ true → self.old.has_failed ≡ false }
+        ensures now { result ≡ true → self.new.has_failed ≡ true }
+        ensures not { result ≡ false → self.new.has_failed ≡ self.old.has_failed }
+    {
+        if self.has_failed || self.left == 0 || asked != self.asked {
+            return false;
+        }
+        self.left -= 1;
+        if self.left > 0 {
+            return false;
+        }
+        self.has_failed = true;
+        self.victim = socket;
+        true
+    }
+}
+
+impl<W: Wire> Wire for Failing<W> {
+    ghost use Rattle.memory_wire.specs.Passed.{told_failing};
+
+    ghost told = { λ f. told_failing (W.told f.wire) f.has_failed };
+
+    fn accept(&mut self) -> Accept {
+        if self.is_due(Asked::Accept, None) {
+            return Accept::Failed;
+        }
+        self.wire.accept()
+    }
+
+    fn read(&mut self, socket: u64, buffer: &mut [u8]) -> Read {
+        if self.is_due(Asked::Read, Some(socket)) {
+            return Read::Failed;
+        }
+        self.wire.read(socket, buffer)
+    }
+
+    fn write(&mut self, socket: u64, bytes: &[u8]) -> Write {
+        if self.is_due(Asked::Write, Some(socket)) {
+            return Write::Failed;
+        }
+        self.wire.write(socket, bytes)
+    }
+
+    fn close(&mut self, socket: u64) {
+        self.wire.close(socket);
+    }
+
+    fn rest(&mut self) {
+        self.wire.rest();
+    }
+}

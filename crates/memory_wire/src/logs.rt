@@ -1,0 +1,137 @@
+//! Calls of a wire, written down.
+
+ghost use Rattle.std.specs.Prelude.{◌≡◌, ◌≤◌, ℕ, [], ◌∷◌, ◌++◌, length, map, flat_map, IfOk, OnOk, Some};
+ghost use Rattle.serving.specs.Answered.{accept_call, read_call, write_call};
+ghost use Rattle.serving.specs.Wire.{Call, Follows};
+ghost use Rattle.serving.specs.Joined.{written_to};
+ghost use Rattle.serving.specs.declared.wire.Read.TheVariants as read;
+ghost use Rattle.memory_wire.specs.Logs.{call_of, told_by};
+
+use serving::{Accept, Read, Write};
+use std::alloc::{AllocError, Global};
+
+/// One call, with its answer.
+#[derive(Drop)]
+pub enum Logged {
+    Accepted(u64),
+    NotAccepted,
+    AcceptFailed,
+    /// The socket, the room of the read, and what it got.
+    Got(u64, usize, Vec<u8>),
+    NothingGot(u64, usize),
+    Ended(u64, usize),
+    ReadFailed(u64, usize),
+    /// The socket, what it was offered, and how many bytes of that it took.
+    Took(u64, Vec<u8>, usize),
+    NothingTaken(u64, Vec<u8>),
+    WriteFailed(u64, Vec<u8>),
+    Closed(u64),
+    Rested,
+}
+
+/// All calls so far, or none any more: one could not be kept.
+#[derive(Drop)]
+pub struct Log {
+    pub calls: Vec<Logged>,
+    pub is_whole: bool,
+}
+
+/// An accept, as it is logged.
+pub(crate) fn logged_accept(answer: Accept) -> Logged
+    ensures { call_of result ≡ accept_call answer }
+{
+    match answer {
+        Accept::Socket(socket) => Logged::Accepted(socket),
+        Accept::Nothing => Logged::NotAccepted,
+        Accept::Failed => Logged::AcceptFailed,
+    }
+}
+
+/// A read that left this at the front of the buffer, as it is logged.
+pub(crate) fn logged_read(
+    alloc: Global,
+    socket: u64,
+    room: usize,
+    answer: Read,
+    buffer: &[u8],
+) -> Result<Logged, AllocError>
+    requires { (n : ℕ) → answer ≡ read.Got n → n ≤ length buffer.now }
+    ensures { IfOk result (λ l. call_of l ≡ read_call socket room answer buffer.now) }
+{
+    match answer {
+        Read::Got(count) => Ok(Logged::Got(
+            socket,
+            room,
+            Vec::from_slice(alloc, &buffer[..count])?,
+        )),
+        Read::Wait => Ok(Logged::NothingGot(socket, room)),
+        Read::End => Ok(Logged::Ended(socket, room)),
+        Read::Failed => Ok(Logged::ReadFailed(socket, room)),
+    }
+}
+
+/// A write of these bytes, as it is logged.
+pub(crate) fn logged_write(
+    alloc: Global,
+    socket: u64,
+    answer: Write,
+    offered: &[u8],
+) -> Result<Logged, AllocError>
+    ensures { IfOk result (λ l. call_of l ≡ write_call socket answer offered.now) }
+{
+    let offered = Vec::from_slice(alloc, offered)?;
+    match answer {
+        Write::Took(count) => Ok(Logged::Took(socket, offered, count)),
+        Write::Wait => Ok(Logged::NothingTaken(socket, offered)),
+        Write::Failed => Ok(Logged::WriteFailed(socket, offered)),
+    }
+}
+
+/// Adds the bytes that were taken by this call, if it is a write to this socket.
+fn add_taken(bytes: &mut Vec<u8>, call: &Logged, socket: u64) -> Result<(), AllocError>
+    ensures { OnOk result (bytes.new.items ≡ bytes.old.items ++ written_to socket (call_of call.now)) }
+{
+    match call {
+        Logged::Took(name, offered, count) if *name == socket => {
+            bytes.extend_from_slice(&offered[..(*count).min(offered.len())])
+        }
+        _ => Ok(()),
+    }
+}
+
+impl Log {
+    /// One with no call.
+    pub fn new(alloc: Global) -> Log
+        ensures { told_by result ≡ Some [] }
+    {
+        Log {
+            calls: Vec::new(alloc),
+            is_whole: true,
+        }
+    }
+
+    /// Writes a call down, or none any more where there is no memory.
+    pub(crate) fn add(&mut self, call: Result<Logged, AllocError>)
+        ensures { (made : Call) → IfOk call (λ l. call_of l ≡ made) → Follows (told_by self.old) (made ∷ []) (told_by self.new) }
+    {
+        match call {
+            Ok(call) => {
+                if self.calls.push(call).is_err() {
+                    self.is_whole = false;
+                }
+            }
+            Err(_) => self.is_whole = false,
+        }
+    }
+
+    /// All bytes that writes to this socket took, in order.
+    pub fn taken_by(&self, alloc: Global, socket: u64) -> Result<Vec<u8>, AllocError>
+        ensures { IfOk result (λ bytes. bytes.items ≡ flat_map (written_to socket) (map call_of self.now.calls.items)) }
+    {
+        let mut bytes = Vec::new(alloc);
+        for call in &self.calls {
+            add_taken(&mut bytes, call, socket)?;
+        }
+        Ok(bytes)
+    }
+}

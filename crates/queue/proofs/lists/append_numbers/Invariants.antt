@@ -1,0 +1,11 @@
+use Rattle.std.proofs.Common.{◌≡◌, ◌++◌, map, filter, drop, vec_capacity}
+use Rattle.model.specs.Broker.{is_ready}
+use Rattle.model.specs.Entries.{number_of}
+use Rattle.queue.proofs.lists.append_numbers.Given as goal
+
+-- what was appended, with what is still to be, is all of it
+abbrev pub invariant-loop-entry : goal.invariant-loop-entry
+invariant-loop-entry l = record {
+  numbers : l.numbers.items ++ map number_of (filter is_ready (drop l.entry-index l.entries)) ≡ l.initial.numbers.items ++ map number_of (filter is_ready l.entries);
+  capacity : vec_capacity l.numbers ≡ vec_capacity l.initial.numbers;
+}

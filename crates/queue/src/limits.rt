@@ -1,0 +1,24 @@
+//! Limits of a queue. Source: RabbitMQ, "Queue Length Limit", reject-publish.
+
+ghost use Rattle.std.specs.Prelude.{◌≡◌, ◌+◌};
+ghost use Rattle.model.specs.Broker as seen;
+
+/// Whether so many messages are as many as this limit, or more.
+pub(crate) fn is_at(limit: Option<u32>, messages: usize) -> bool
+    ensures { result ≡ seen.is_at limit messages }
+{
+    match limit {
+        None => false,
+        Some(limit) => limit as usize <= messages,
+    }
+}
+
+/// Whether so many bytes, with a body of `size` bytes, are more than this limit.
+pub(crate) fn is_past(byte_limit: Option<u32>, bytes: u128, size: usize) -> bool
+    ensures { result ≡ seen.is_past byte_limit (bytes + size) }
+{
+    match byte_limit {
+        None => false,
+        Some(byte_limit) => (byte_limit as u128) < bytes.saturating_add(size as u128),
+    }
+}

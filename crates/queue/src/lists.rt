@@ -1,0 +1,211 @@
+//! Entries in a vector, and what is done to them.
+
+ghost use Rattle.std.specs.Prelude.{◌≡◌, ◌<◌, ◌≤◌, ◌+◌, ◌∷◌, ◌++◌, [], take, drop, get_or, find, filter, map, not, is_some, option_map, vec_len, vec_capacity};
+ghost use Rattle.std.specs.List.{position_from};
+ghost use Rattle.model.specs.Broker as seen;
+ghost use Rattle.model.specs.Broker.{is_ready};
+ghost use Rattle.model.specs.Entries.{is_under, is_held_as, held_as, change_first, without_first, number_of};
+ghost use Rattle.queue.specs.Line as seen_line;
+ghost use Rattle.queue.specs.Slots as slots;
+ghost use Rattle.queue.specs.Line.{requeued};
+
+use crate::entries::{free_under, hold, is_free, is_held_under};
+use model::{Entry, Holder};
+
+/// How many of the entries are ready.
+pub(crate) fn ready_count(entries: &[Entry]) -> usize
+    ensures { result ≡ seen_line.ready_count entries.now }
+{
+    entries.iter().filter(|entry| is_free(entry)).count()
+}
+
+/// How many bytes the body of the entry has if it is ready, else none.
+fn ready_size(entry: &Entry) -> usize
+    ensures { result ≡ slots.ready_size entry.now }
+{
+    if is_free(entry) {
+        entry.message.content().body.len()
+    } else {
+        0
+    }
+}
+
+/// How many bytes the bodies of the ready entries have.
+pub(crate) fn ready_bytes(entries: &[Entry]) -> u128
+    ensures { result ≡ seen.ready_bytes entries.now }
+{
+    let mut bytes = 0;
+    for entry in entries {
+        bytes += ready_size(entry) as u128;
+    }
+    bytes
+}
+
+/// The first entry that can be given out.
+pub(crate) fn first_ready(entries: &[Entry]) -> Option<&Entry>
+    ensures { option_map (λ e. e.now) result ≡ find is_ready entries.now }
+{
+    entries.iter().find(|entry| is_free(entry))
+}
+
+/// The place of the first entry that can be given out.
+fn place_ready(entries: &[Entry]) -> Option<usize>
+    ensures { result ≡ position_from is_ready 0 entries.now }
+{
+    entries.iter().position(|entry| is_free(entry))
+}
+
+/// Gives the first entry out that can be. Tells whether there is one.
+pub(crate) fn hold_first(entries: &mut Vec<Entry>, holder: Holder) -> bool
+    ensures told { result ≡ is_some (find is_ready entries.old.items) }
+    ensures entries { entries.new.items ≡ change_first is_ready (held_as holder) entries.old.items }
+    ensures len { vec_len entries.new ≡ vec_len entries.old }
+    ensures capacity { vec_capacity entries.new ≡ vec_capacity entries.old }
+{
+    match place_ready(entries) {
+        None => false,
+        Some(place) => {
+            hold(&mut entries[place], holder);
+            true
+        }
+    }
+}
+
+/// Takes the entry at this place out.
+fn take_at(entries: &mut Vec<Entry>, place: usize) -> Entry
+    requires { place < vec_len entries.old }
+    ensures entry { result ≡ get_or entries.old.items place result }
+    ensures entries { entries.new.items ≡ take place entries.old.items ++ drop (place + 1) entries.old.items }
+    ensures len { vec_len entries.new ≤ vec_len entries.old }
+    ensures capacity { vec_capacity entries.new ≡ vec_capacity entries.old }
+{
+    entries.remove(place)
+}
+
+/// Takes the first entry out that can be given out.
+pub(crate) fn take_first(entries: &mut Vec<Entry>) -> Option<Entry>
+    ensures taken { result ≡ find is_ready entries.old.items }
+    ensures entries { entries.new.items ≡ without_first is_ready entries.old.items }
+    ensures len { vec_len entries.new ≤ vec_len entries.old }
+    ensures capacity { vec_capacity entries.new ≡ vec_capacity entries.old }
+{
+    match place_ready(entries) {
+        None => None,
+        Some(place) => Some(take_at(entries, place)),
+    }
+}
+
+/// The first entry that is held under this tag.
+pub(crate) fn first_held<'a>(entries: &'a [Entry], holder: &Holder) -> Option<&'a Entry>
+    ensures { option_map (λ e. e.now) result ≡ find (is_held_as holder.now) entries.now }
+{
+    entries.iter().find(|entry| is_held_under(entry, holder))
+}
+
+/// Makes all entries ready again that are held under this tag. Tells whether there is one.
+pub(crate) fn release(entries: &mut Vec<Entry>, holder: &Holder) -> bool
+    ensures told { result ≡ is_some (find (is_held_as holder.now) entries.old.items) }
+    ensures entries { entries.new.items ≡ requeued (is_under holder.now) entries.old.items }
+    ensures len { vec_len entries.new ≡ vec_len entries.old }
+    ensures capacity { vec_capacity entries.new ≡ vec_capacity entries.old }
+{
+    let is_held = first_held(entries, holder).is_some();
+    free_all(entries, holder);
+    is_held
+}
+
+/// Makes all entries ready again that are held under this tag.
+fn free_all(entries: &mut [Entry], holder: &Holder)
+    ensures { entries.new ≡ requeued (is_under holder.now) entries.old }
+{
+    for entry in entries.iter_mut() {
+        free_under(entry, holder);
+    }
+}
+
+/// The place of the first entry that is held under this tag.
+fn place_held(entries: &[Entry], holder: &Holder) -> Option<usize>
+    ensures { result ≡ position_from (is_held_as holder.now) 0 entries.now }
+{
+    entries
+        .iter()
+        .position(|entry| is_held_under(entry, holder))
+}
+
+/// Takes the first entry out that is held under this tag.
+fn take_held(entries: &mut Vec<Entry>, holder: &Holder) -> Option<Entry>
+    ensures taken { result ≡ find (is_held_as holder.now) entries.old.items }
+    ensures entries { entries.new.items ≡ without_first (is_held_as holder.now) entries.old.items }
+    ensures len { vec_len entries.new ≤ vec_len entries.old }
+    ensures capacity { vec_capacity entries.new ≡ vec_capacity entries.old }
+{
+    match place_held(entries, holder) {
+        None => None,
+        Some(place) => Some(take_at(entries, place)),
+    }
+}
+
+/// Drops all entries that are held under this tag.
+fn drop_held(entries: &mut Vec<Entry>, holder: &Holder)
+    ensures entries { entries.new.items ≡ filter (λ e. not (is_held_as holder.now e)) entries.old.items }
+    ensures len { vec_len entries.new ≤ vec_len entries.old }
+    ensures capacity { vec_capacity entries.new ≡ vec_capacity entries.old }
+{
+    entries.retain(|entry| !is_held_under(entry, holder));
+}
+
+/// Takes all entries out that are held under this tag, and gives the first of them. Nothing here asks that there is but one.
+pub(crate) fn remove(entries: &mut Vec<Entry>, holder: &Holder) -> Option<Entry>
+    ensures taken { result ≡ find (is_held_as holder.now) entries.old.items }
+    ensures entries { entries.new.items ≡ filter (λ e. not (is_held_as holder.now e)) entries.old.items }
+    ensures len { vec_len entries.new ≤ vec_len entries.old }
+    ensures capacity { vec_capacity entries.new ≡ vec_capacity entries.old }
+{
+    let entry = take_held(entries, holder);
+    drop_held(entries, holder);
+    entry
+}
+
+/// Appends the publish number of the entry if it is ready. There is room for it.
+fn append_number(entry: &Entry, numbers: &mut Vec<u64>)
+    requires { vec_len numbers.old + seen_line.ready_count (entry.now ∷ []) ≤ vec_capacity numbers.old }
+    ensures numbers { numbers.new.items ≡ numbers.old.items ++ map number_of (filter is_ready (entry.now ∷ [])) }
+    ensures capacity { vec_capacity numbers.new ≡ vec_capacity numbers.old }
+{
+    if is_free(entry) {
+        numbers.push_reserved(entry.message.number());
+    }
+}
+
+/// Appends the publish numbers of the ready entries, in order. There is room for them.
+fn append_numbers(entries: &[Entry], numbers: &mut Vec<u64>)
+    requires { vec_len numbers.old + seen_line.ready_count entries.now ≤ vec_capacity numbers.old }
+    ensures numbers { numbers.new.items ≡ numbers.old.items ++ map number_of (filter is_ready entries.now) }
+    ensures capacity { vec_capacity numbers.new ≡ vec_capacity numbers.old }
+{
+    for entry in entries {
+        append_number(entry, numbers);
+    }
+}
+
+/// Drops the ready entries.
+fn drop_ready(entries: &mut Vec<Entry>)
+    ensures entries { entries.new.items ≡ filter (λ e. not (is_ready e)) entries.old.items }
+    ensures len { vec_len entries.new ≤ vec_len entries.old }
+    ensures capacity { vec_capacity entries.new ≡ vec_capacity entries.old }
+{
+    entries.retain(|entry| !is_free(entry));
+}
+
+/// Takes the ready entries out, and appends their publish numbers. There is room for them.
+pub(crate) fn purge(entries: &mut Vec<Entry>, numbers: &mut Vec<u64>)
+    requires { vec_len numbers.old + seen_line.ready_count entries.old.items ≤ vec_capacity numbers.old }
+    ensures entries { entries.new.items ≡ filter (λ e. not (is_ready e)) entries.old.items }
+    ensures numbers { numbers.new.items ≡ numbers.old.items ++ map number_of (filter is_ready entries.old.items) }
+    ensures len { vec_len entries.new ≤ vec_len entries.old }
+    ensures capacity { vec_capacity entries.new ≡ vec_capacity entries.old }
+    ensures numbers_capacity { vec_capacity numbers.new ≡ vec_capacity numbers.old }
+{
+    append_numbers(entries, numbers);
+    drop_ready(entries);
+}

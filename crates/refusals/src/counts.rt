@@ -1,0 +1,71 @@
+//! Which calls were made again.
+
+use std::io::{self, Write};
+
+/// How often each kind of call was made again, because memory was wanting.
+#[derive(Clone, Copy, Drop)]
+pub struct Counts {
+    pub opens: u64,
+    pub feeds: u64,
+    pub turns: u64,
+    pub pumps: u64,
+    pub definitions: u64,
+    pub guarantees: u64,
+    pub checks: u64,
+    pub admits: u64,
+    pub searches: u64,
+    pub disproves: u64,
+    /// How often an output stood otherwise after a call that was refused.
+    pub differing: u64,
+    /// Whether all of it was made again.
+    pub wholes: u64,
+}
+
+impl Counts {
+    /// None.
+    pub fn new() -> Counts {
+        Counts {
+            opens: 0,
+            feeds: 0,
+            turns: 0,
+            pumps: 0,
+            definitions: 0,
+            guarantees: 0,
+            checks: 0,
+            admits: 0,
+            searches: 0,
+            disproves: 0,
+            differing: 0,
+            wholes: 0,
+        }
+    }
+
+    /// Whether each output stood as before wherever a call was refused.
+    pub fn is_sound(&self) -> bool {
+        self.differing == 0
+    }
+
+    /// Prints them as one line.
+    pub fn put<W: Write>(&self, out: &mut W) -> io::Result<()> {
+        write!(
+            out,
+            "again: opens {} feeds {} turns {} pumps {} ",
+            self.opens, self.feeds, self.turns, self.pumps
+        )?;
+        write!(
+            out,
+            "definitions {} guarantees {} checks {} admits {} ",
+            self.definitions, self.guarantees, self.checks, self.admits
+        )?;
+        writeln!(
+            out,
+            "searches {} disproves {} differing {} wholes {}",
+            self.searches, self.disproves, self.differing, self.wholes
+        )
+    }
+}
+
+/// One more.
+pub fn count(sum: &mut u64) {
+    *sum = sum.saturating_add(1);
+}

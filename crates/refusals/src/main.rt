@@ -1,0 +1,62 @@
+//! Calls that may want memory, each of which is made once more where it was refused, and nothing else is different.
+//!
+//! Standard input has sections (`sections`): files, scripts over them, and single calls. What is printed says what each
+//! came to, so it is the same whichever growth was refused, but for the last line, which counts the calls that were made
+//! again.
+#![tactic(auto)]
+
+mod asking;
+mod counts;
+mod noting;
+mod put_out;
+mod replaying;
+mod running;
+mod sections;
+
+use counts::Counts;
+use running::answered;
+use std::alloc::Global;
+use std::io::{self, ErrorKind, Read as _, Write as _};
+use std::process::ExitCode;
+
+/// The most bytes of standard input that are read.
+const LIMIT: u64 = 16_777_216;
+
+/// Standard input.
+fn input(rt: &HostRuntime) -> io::Result<String> {
+    let mut text = String::new(rt.alloc());
+    rt.reader().take(LIMIT).read_to_string(&mut text)?;
+    Ok(text)
+}
+
+/// What the sections come to; where something else than one of their calls was refused, once more, which is counted too.
+fn tried(alloc: Global, input: &str) -> io::Result<(String, Counts)> {
+    let mut counts = Counts::new();
+    match answered(alloc, input, &mut counts) {
+        Ok(text) => Ok((text, counts)),
+        Err(error) if error.kind() == ErrorKind::OutOfMemory => {
+            let mut counts = Counts::new();
+            counts.wholes = 1;
+            let text = answered(alloc, input, &mut counts)?;
+            Ok((text, counts))
+        }
+        Err(error) => Err(error),
+    }
+}
+
+fn main(rt: HostRuntime) -> io::Result<ExitCode> {
+    let alloc = rt.alloc();
+    let input = match input(&rt) {
+        Ok(input) => input,
+        Err(_) => return Ok(ExitCode::from(4)),
+    };
+    let (text, counts) = tried(alloc, input.as_str())?;
+    let mut out = io::writer(&rt);
+    out.write_all(text.as_bytes())?;
+    counts.put(&mut out)?;
+    if counts.is_sound() {
+        Ok(ExitCode::SUCCESS)
+    } else {
+        Ok(ExitCode::FAILURE)
+    }
+}

@@ -1,0 +1,222 @@
+//! A replay of which each call is made once more that met want of memory.
+
+use crate::counts::{Counts, count};
+use crate::noting::{hex_word, note_line};
+use crate::put_out::Outputs;
+use engine::{Engine, Refused, Turn};
+use model::{Arrival, Note};
+use scripts::put_line;
+use std::alloc::{AllocError, Global};
+
+/// The most commands that one arrival brings.
+const MOST_COMMANDS: u64 = 1 << 32;
+
+/// An engine, with what it has put out and noted.
+#[derive(Drop)]
+pub struct Replay {
+    engine: Engine,
+    /// What stood in the outputs before the last call.
+    outputs: Outputs,
+    /// What was taken of the output of each connection that was opened.
+    taken: Vec<Vec<u8>>,
+    notes: Vec<Note>,
+}
+
+/// The number of a connection that was opened; none where no more can be opened.
+fn number_of(opened: Result<u64, Refused>) -> Result<Option<u64>, AllocError> {
+    match opened {
+        Ok(number) => Ok(Some(number)),
+        Err(Refused::Memory) => Err(AllocError),
+        Err(_) => Ok(None),
+    }
+}
+
+/// The notes of the command that a turn performed, if it performed one.
+fn notes_of(turn: Turn) -> Option<Vec<Note>> {
+    match turn {
+        Turn::Did(notes) => Some(notes),
+        _ => None,
+    }
+}
+
+impl Replay {
+    /// Of this engine, on which no connection was opened yet. It takes no memory.
+    pub fn new(alloc: Global, engine: Engine) -> Replay {
+        Replay {
+            engine,
+            outputs: Outputs::new(alloc),
+            taken: Vec::new(alloc),
+            notes: Vec::new(alloc),
+        }
+    }
+
+    /// Looks at the outputs before a call.
+    fn look(&mut self) -> Result<(), AllocError> {
+        self.outputs.look(&self.engine, self.taken.len() as u64)
+    }
+
+    /// Counts where a refused call has left another output than before.
+    fn compare(&self, counts: &mut Counts) {
+        if !self.outputs.still_stand(&self.engine) {
+            count(&mut counts.differing);
+        }
+    }
+
+    /// Writes down that a connection was opened, if one was.
+    fn add(&mut self, alloc: Global, number: Option<u64>) -> Result<(), AllocError> {
+        if number.is_some() {
+            self.taken.push(Vec::new(alloc))?;
+        }
+        Ok(())
+    }
+
+    /// A connection of which no byte has come.
+    fn open(&mut self, alloc: Global, counts: &mut Counts) -> Result<(), AllocError> {
+        self.look()?;
+        let number = match number_of(self.engine.open(alloc)) {
+            Ok(number) => number,
+            Err(_) => {
+                count(&mut counts.opens);
+                self.compare(counts);
+                number_of(self.engine.open(alloc))?
+            }
+        };
+        self.add(alloc, number)
+    }
+
+    /// A connection that runs at once.
+    fn open_ready(&mut self, alloc: Global, k: u8, counts: &mut Counts) -> Result<(), AllocError> {
+        self.look()?;
+        let number = match number_of(self.engine.open_ready(alloc, k)) {
+            Ok(number) => number,
+            Err(_) => {
+                count(&mut counts.opens);
+                self.compare(counts);
+                number_of(self.engine.open_ready(alloc, k))?
+            }
+        };
+        self.add(alloc, number)
+    }
+
+    /// Bytes of a connection.
+    fn feed(&mut self, c: u64, bytes: &[u8], counts: &mut Counts) -> Result<(), AllocError> {
+        self.look()?;
+        if self.engine.feed(c, bytes).is_ok() {
+            return Ok(());
+        }
+        count(&mut counts.feeds);
+        self.compare(counts);
+        self.engine.feed(c, bytes)
+    }
+
+    /// The next command of a connection.
+    fn turn(&mut self, alloc: Global, c: u64, counts: &mut Counts) -> Result<Turn, AllocError> {
+        self.look()?;
+        match self.engine.turn(alloc, c) {
+            Ok(turn) => Ok(turn),
+            Err(_) => {
+                count(&mut counts.turns);
+                self.compare(counts);
+                self.engine.turn(alloc, c)
+            }
+        }
+    }
+
+    /// One delivery, if any can be made.
+    fn pump(&mut self, alloc: Global, counts: &mut Counts) -> Result<(), AllocError> {
+        self.look()?;
+        let notes = match self.engine.pump(alloc) {
+            Ok(notes) => notes,
+            Err(_) => {
+                count(&mut counts.pumps);
+                self.compare(counts);
+                self.engine.pump(alloc)?
+            }
+        };
+        match notes {
+            Some(mut notes) => self.notes.append(&mut notes),
+            None => Ok(()),
+        }
+    }
+
+    /// Commands of a connection, until it is idle, paused or over.
+    fn work(&mut self, alloc: Global, c: u64, counts: &mut Counts) -> Result<(), AllocError> {
+        for _ in 0..MOST_COMMANDS {
+            match notes_of(self.turn(alloc, c, counts)?) {
+                Some(mut notes) => self.notes.append(&mut notes)?,
+                None => return Ok(()),
+            }
+        }
+        Ok(())
+    }
+
+    /// So many bytes of a connection's output are written down as taken.
+    fn gather(&mut self, c: u64, most: u64) -> Result<(), AllocError> {
+        let output = self.engine.output(c);
+        let front = if most < output.len() as u64 {
+            &output[..most as usize]
+        } else {
+            output
+        };
+        match self.taken.get_mut(c.saturating_sub(1) as usize) {
+            Some(taken) => taken.extend_from_slice(front),
+            None => Ok(()),
+        }
+    }
+
+    /// One arrival, and all that it brings.
+    pub fn arrive(
+        &mut self,
+        alloc: Global,
+        arrival: &Arrival,
+        counts: &mut Counts,
+    ) -> Result<(), AllocError> {
+        match arrival {
+            Arrival::Open => self.open(alloc, counts),
+            Arrival::Ready(k) => self.open_ready(alloc, *k, counts),
+            Arrival::In(c, bytes) => {
+                self.feed(*c, bytes.as_bytes(), counts)?;
+                self.work(alloc, *c, counts)
+            }
+            Arrival::Sent(c, n) => {
+                self.gather(*c, *n)?;
+                self.engine.sent(*c, *n);
+                self.work(alloc, *c, counts)
+            }
+            Arrival::Pump => self.pump(alloc, counts),
+            Arrival::Lose(c) => {
+                self.gather(*c, u64::MAX)?;
+                self.engine.lose(*c);
+                Ok(())
+            }
+        }
+    }
+
+    /// What was put out for each connection and noted, as `replay` prints it.
+    pub fn text(mut self, alloc: Global) -> Result<Vec<u8>, AllocError> {
+        let mut text = Vec::new(alloc);
+        for place in 0..self.taken.len() as u64 {
+            let c = place.saturating_add(1);
+            self.gather(c, u64::MAX)?;
+            self.put_connection(alloc, c, &mut text)?;
+        }
+        for note in &self.notes {
+            put_line(&mut text, note_line(alloc, note)?)?;
+        }
+        Ok(text)
+    }
+
+    /// The lines of one connection.
+    fn put_connection(&self, alloc: Global, c: u64, text: &mut Vec<u8>) -> Result<(), AllocError> {
+        let taken: &[u8] = match self.taken.get(c.saturating_sub(1) as usize) {
+            Some(taken) => taken.as_slice(),
+            None => &[],
+        };
+        let bytes = hex_word(alloc, taken)?;
+        put_line(text, format!(in alloc; "out {c} {bytes}\n")?)?;
+        if self.engine.is_over(c) {
+            put_line(text, format!(in alloc; "over {c}\n")?)?;
+        }
+        Ok(())
+    }
+}

@@ -1,0 +1,180 @@
+//! What the sections come to, in their order.
+
+use crate::asking::{
+    Setting, admitted, certificates_of, checked, definitions_of, disproved, guarantees_of, searched,
+};
+use crate::counts::Counts;
+use crate::replaying::Replay;
+use crate::sections::{Section, sections_of};
+use certificate_check::CertFault;
+use engine::Engine;
+use guarantee_search::Verdict;
+use scripts::{BadScript, read_script};
+use std::alloc::{AllocError, Global};
+use std::io::{self, ErrorKind};
+
+/// The files that are in force where none was named.
+const NO_GUARANTEES: &str = "{\"guarantees\":[]}";
+
+const NO_CERTIFICATES: &str = "[]";
+
+/// Appends a line.
+fn put(out: &mut String, line: &str) -> io::Result<()> {
+    out.push_str(line)?;
+    out.push_str("\n")?;
+    Ok(())
+}
+
+/// The word for what a check told.
+fn outcome_word(outcome: &Result<(), CertFault>) -> &'static str {
+    match outcome {
+        Ok(()) => "ok",
+        Err(CertFault::Start) => "fault 1",
+        Err(CertFault::Open { .. }) => "fault 2",
+        Err(CertFault::Missed { .. }) => "fault 3",
+        Err(CertFault::Forbidden { .. }) => "fault 4",
+        Err(CertFault::Form) => "fault 5",
+        Err(CertFault::Memory) => "memory",
+    }
+}
+
+/// The certificate of each guarantee is checked.
+fn put_checks(
+    alloc: Global,
+    setting: Setting<'_>,
+    counts: &mut Counts,
+    out: &mut String,
+) -> io::Result<()> {
+    let (topology, _) = definitions_of(alloc, setting, counts)?.into_parts();
+    let guarantees = guarantees_of(alloc, setting, &topology, counts)?;
+    let certificates = certificates_of(alloc, setting)?;
+    for (guarantee, certificate) in guarantees.iter().zip(certificates.iter()) {
+        let outcome = checked(alloc, &topology, guarantee, certificate, counts);
+        put(out, outcome_word(&outcome))?;
+    }
+    Ok(())
+}
+
+/// All of it is admitted.
+fn put_admission(
+    alloc: Global,
+    setting: Setting<'_>,
+    counts: &mut Counts,
+    out: &mut String,
+) -> io::Result<()> {
+    match admitted(alloc, setting, counts)? {
+        Ok(_) => put(out, "admitted"),
+        Err((_, CertFault::Memory)) => Err(io::Error::from(AllocError)),
+        Err((place, fault)) => {
+            let word = outcome_word(&Err(fault));
+            let number = place.saturating_add(1);
+            let line = format!(in alloc; "{number} {word}")?;
+            put(out, line.as_str())
+        }
+    }
+}
+
+/// The verdict on each guarantee, and whether a refutation is seen to show what it is to show.
+fn put_verdicts(
+    alloc: Global,
+    setting: Setting<'_>,
+    counts: &mut Counts,
+    out: &mut String,
+) -> io::Result<()> {
+    let (topology, _) = definitions_of(alloc, setting, counts)?.into_parts();
+    let guarantees = guarantees_of(alloc, setting, &topology, counts)?;
+    for guarantee in &guarantees {
+        match searched(alloc, &topology, guarantee, counts)? {
+            Verdict::Yes(certificate) => {
+                let states = certificate.states().len();
+                let line = format!(in alloc; "yes states {states}")?;
+                put(out, line.as_str())?;
+            }
+            Verdict::No(refutation) => {
+                let seen = disproved(alloc, &topology, guarantee, &refutation, counts);
+                put(out, if seen { "no, disproved" } else { "no" })?;
+            }
+            Verdict::Undecided(_) => put(out, "undecided")?,
+        }
+    }
+    Ok(())
+}
+
+/// A script is run over the files.
+fn put_run(
+    alloc: Global,
+    setting: Setting<'_>,
+    script: &str,
+    counts: &mut Counts,
+    out: &mut String,
+) -> io::Result<()> {
+    let arrivals = match read_script(alloc, script.as_bytes()) {
+        Ok(arrivals) => arrivals,
+        Err(BadScript::Memory) => return Err(io::Error::from(AllocError)),
+        Err(BadScript::Line(number)) => {
+            let line = format!(in alloc; "script {number}")?;
+            return put(out, line.as_str());
+        }
+    };
+    let (_, users) = definitions_of(alloc, setting, counts)?.into_parts();
+    let checked = match admitted(alloc, setting, counts)? {
+        Ok(checked) => checked,
+        Err(_) => return Err(io::Error::from(ErrorKind::InvalidData)),
+    };
+    let mut replay = Replay::new(alloc, Engine::new(alloc, checked, users)?);
+    for arrival in &arrivals {
+        replay.arrive(alloc, arrival, counts)?;
+    }
+    let text = replay.text(alloc)?;
+    match str::from_utf8(text.as_slice()) {
+        Ok(text) => Ok(out.push_str(text)?),
+        Err(_) => Err(io::Error::from(ErrorKind::InvalidData)),
+    }
+}
+
+/// One section: a file is in force from now on, or a call is made over those that are.
+fn put_section<'a>(
+    alloc: Global,
+    section: Section<'a>,
+    setting: &mut Setting<'a>,
+    counts: &mut Counts,
+    out: &mut String,
+) -> io::Result<()> {
+    match section.name {
+        "definitions" => {
+            setting.definitions = section.text;
+            setting.guarantees = NO_GUARANTEES;
+            setting.certificates = NO_CERTIFICATES;
+            Ok(())
+        }
+        "guarantees" => {
+            setting.guarantees = section.text;
+            Ok(())
+        }
+        "certificates" => {
+            setting.certificates = section.text;
+            Ok(())
+        }
+        "check" => put_checks(alloc, *setting, counts, out),
+        "admit" => put_admission(alloc, *setting, counts, out),
+        "search" => put_verdicts(alloc, *setting, counts, out),
+        _ => {
+            put(out, section.name)?;
+            put_run(alloc, *setting, section.text, counts, out)
+        }
+    }
+}
+
+/// What is printed of the sections. A section of another name than those of files and calls is a script.
+pub fn answered(alloc: Global, input: &str, counts: &mut Counts) -> io::Result<String> {
+    let mut setting = Setting {
+        definitions: "",
+        guarantees: NO_GUARANTEES,
+        certificates: NO_CERTIFICATES,
+    };
+    let mut out = String::new(alloc);
+    for section in sections_of(alloc, input)? {
+        put_section(alloc, section, &mut setting, counts, &mut out)?;
+    }
+    Ok(out)
+}

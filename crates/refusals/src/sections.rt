@@ -1,0 +1,32 @@
+//! Sections of the input.
+//!
+//! A line `==== NAME` begins a section, whose text is what stands up to the next such line. What stands before the first
+//! says nothing.
+
+use std::alloc::Global;
+use std::io;
+
+/// What stands before the name of a section.
+const MARK: &str = "==== ";
+
+/// A text under its name.
+#[derive(Clone, Copy, Drop)]
+pub struct Section<'a> {
+    pub name: &'a str,
+    pub text: &'a str,
+}
+
+/// The sections of a text, in their order.
+pub fn sections_of(alloc: Global, text: &str) -> io::Result<Vec<Section<'_>>> {
+    let mut sections = Vec::new(alloc);
+    for part in text.split(MARK).skip(1) {
+        match part.split_once('\n') {
+            Some((name, text)) => sections.push(Section { name, text })?,
+            None => sections.push(Section {
+                name: part,
+                text: "",
+            })?,
+        }
+    }
+    Ok(sections)
+}

@@ -1,0 +1,30 @@
+-- The entries of a queue, gone over from slot to slot.
+use Rattle.std.proofs.Common.{◌≡◌, ℕ, List, [], ◌∷◌, length}
+use Rattle.model.specs.Words.{Text}
+use Rattle.model.specs.Topology.{Topology}
+use Rattle.model.specs.Guarantee.{Guarantee}
+use Rattle.model.specs.Reloading.{Endangers}
+use Rattle.model.specs.declared.messages.Entry.{Entry}
+use Rattle.model.specs.declared.obstacles.Obstacle.{Obstacle}
+use Rattle.model.specs.declared.obstacles.Obstacle.TheVariants.{Breaks}
+use Rattle.std.proofs.Common.{Some, None}
+use Rattle.reloading.specs.First.{TellsFirst}
+use Rattle.reloading.specs.Obstacles.{TellsEntry}
+use Rattle.reloading.proofs.First.{Passed, passed_front, passed_before, passed_all}
+
+-- the entry is endangered
+abbrev pub IsEndangered : Topology → Guarantee → Text → Entry → Type 0
+IsEndangered t g q e = Endangers t g q e.message
+
+module _ (t : Topology) (g : Guarantee) (number : ℕ) (q : Text) (es : List Entry) where
+  pub entry_told : (e : Entry) (now then' : List Entry) (o : Obstacle) → now ≡ e ∷ then' → Passed (IsEndangered t g q) es now → Endangers t g q e.message → o ≡ Breaks q e.message.first_key number → TellsFirst (TellsEntry t g number q) es (Some o)
+  entry_told e now then' o is p endangers told = record {
+    place = length p.passed;
+    one = e;
+    there = passed_front (IsEndangered t g q) es e now then' is p;
+    tells = (endangers, told);
+    none_before = passed_before (IsEndangered t g q) es now p;
+  }
+
+  pub none_told : (now : List Entry) → now ≡ [] → Passed (IsEndangered t g q) es now → TellsFirst (TellsEntry t g number q) es None
+  none_told now is p = passed_all (IsEndangered t g q) es now is p

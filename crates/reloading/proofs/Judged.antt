@@ -1,0 +1,122 @@
+-- From what is told place by place to what stands against a reload.
+use Rattle.std.proofs.Common.{◌≡◌, ℕ, zero, suc, ◌+◌, List, [], ◌∷◌, Bool, Option, Some, None, refl, sym, subst, ◌∙◌, inl, inr}
+use Rattle.std.specs.Prelude.{slice_get}
+use Rattle.model.specs.Words.{Text}
+use Rattle.model.specs.Topology.{Topology, IsIn, queue_names}
+use Rattle.model.specs.Guarantee.{Guarantee}
+use Rattle.model.specs.Broker.{Broker}
+use Rattle.model.specs.State.{Config}
+use Rattle.model.specs.Reloading.{IsInUse, by_entry, by_consumer, Endangers, Spot, IsBefore, IsDanger, NoneIsStranded, IsObstacle, NothingStands}
+use Rattle.model.specs.declared.messages.Entry.{Entry}
+use Rattle.model.specs.declared.obstacles.Obstacle.{Obstacle}
+use Rattle.laws.proofs.Counts.{in_from_contains}
+use Rattle.laws.proofs.Returned.{place_of}
+use Rattle.reloading.specs.First.{IsToldFirst, TellsFirst}
+use Rattle.reloading.specs.Standing.{IsStanding}
+use Rattle.reloading.specs.Obstacles.{IsUsed, TellsUse, TellsQueue, TellsEntry, TellsEntries, TellsQueues, Judges}
+
+in_at : {A : Type 0} (xs : List A) (i : ℕ) (x : A) → slice_get xs i ≡ Some x → IsIn x xs
+in_at [] i x e = absurd (cc)
+in_at (y ∷ ys) zero x e = inl (let h : Some y ≡ Some x = e in cc)
+in_at (y ∷ ys) (suc i) x e = inr (in_at ys i x e)
+
+module _ (old : Topology) (g : Config) (entries : ℕ → ℕ → List Entry) (consumed : ℕ → Bool) (b : Broker) (s : IsStanding old entries consumed b) where
+  abbrev pub names : List Text
+  names = queue_names old.queues
+
+  -- ---- queues in use
+
+  used : (p : ℕ) (q : Text) → slice_get names p ≡ Some q → IsInUse b q → IsUsed (entries p 0) (consumed p)
+  used p q at (by_entry e i) = inl (λ none. subst (IsIn e) (s.queue p q at ∙ none) i)
+  used p q at (by_consumer c h ch k there among takes) = inr ((s.consumers p q at).1 (record { connection = c; number = h; channel = ch; there = there; consumer = k; among = among; takes = takes }))
+
+  by_some : (q : Text) (es : List Entry) → b.queue q ≡ es → (es ≡ [] → ⊥) → IsInUse b q
+  by_some q [] e some = absurd (some refl)
+  by_some q (x ∷ xs) e some = by_entry x (subst (IsIn x) (sym e) (inl refl))
+
+  in_use : (p : ℕ) (q : Text) → slice_get names p ≡ Some q → IsUsed (entries p 0) (consumed p) → IsInUse b q
+  in_use p q at (inl some) = by_some q (entries p 0) (s.queue p q at) some
+  in_use p q at (inr y) = let c = (s.consumers p q at).0 y in by_consumer c.connection c.number c.channel c.consumer c.there c.among c.takes
+
+  pub stranded_stands : (o : Obstacle) → TellsFirst (TellsQueue g.topology entries consumed) names (Some o) → IsObstacle old g b o
+  stranded_stands o first =
+      let q = first.one in
+      subst (IsObstacle old g b) (sym first.tells.1.1) (record {
+        place = first.place;
+        named = first.there;
+        stranded = record { was = in_at names first.place q first.there; gone = first.tells.0; in_use = in_use first.place q first.there first.tells.1.0 };
+        none_before = λ i r lt at str. first.none_before i r lt at str.gone (used i r at str.in_use);
+      })
+
+  pub none_stranded : TellsFirst (TellsQueue g.topology entries consumed) names None → NoneIsStranded old g.topology b
+  none_stranded none q str = let p = place_of q names str.was in none p.0 q p.1 str.gone (used p.0 q p.1 str.in_use)
+
+  -- ---- messages that are endangered
+
+  entry_at : (p : ℕ) (q : Text) (j : ℕ) (e : Entry) → slice_get names p ≡ Some q → slice_get (b.queue q) j ≡ Some e → slice_get (entries p 0) j ≡ Some e
+  entry_at p q j e at there = subst (λ (es : List Entry). slice_get es j ≡ Some e) (s.queue p q at) there
+
+  pub breach_stands : NoneIsStranded old g.topology b → (o : Obstacle) → TellsFirst (TellsQueues g.topology names entries) g.guarantees (Some o) → IsObstacle old g b o
+  breach_stands none o first = subst (IsObstacle old g b) (sym third.tells.1) (
+    none,
+    record {
+      spot = spot;
+      guarantee = u;
+      entry = e;
+      danger = record { guarantee = first.there; queue = second.there; entry = subst (λ (es : List Entry). slice_get es third.place ≡ Some e) (sym (s.queue second.place q second.there)) third.there; endangers = third.tells.0 };
+      none_before = before;
+      key_is = refl;
+      number_is = refl;
+    },
+  )
+    where
+      u : Guarantee
+      u = first.one
+
+      second : IsToldFirst (TellsEntries g.topology u (first.place + 1) entries) names o
+      second = first.tells
+
+      q : Text
+      q = second.one
+
+      third : IsToldFirst (TellsEntry g.topology u (first.place + 1) q) (entries second.place 0) o
+      third = second.tells
+
+      e : Entry
+      e = third.one
+
+      spot : Spot
+      spot = record { guarantee = first.place; queue = second.place; entry = third.place }
+
+      before : (r : Spot) (v : Guarantee) (p : Text) (d : Entry) → IsBefore r spot → IsDanger old g b r v p d → ⊥
+      before r v p d (inl lt) k = first.none_before r.guarantee v lt k.guarantee r.queue p k.queue r.entry d (entry_at r.queue p r.entry d k.queue k.entry) k.endangers
+      before r v p d (inr (same, inl lt)) k =
+          let at : Some v ≡ Some u = sym k.guarantee ∙ subst (λ (i : ℕ). slice_get g.guarantees i ≡ Some u) (sym same) first.there in
+          let is : v ≡ u = cc in
+          second.none_before r.queue p lt k.queue r.entry d (entry_at r.queue p r.entry d k.queue k.entry) (subst (λ (z : Guarantee). Endangers g.topology z p d.message) is k.endangers)
+      before r v p d (inr (same, inr (here, lt))) k =
+          let at : Some v ≡ Some u = sym k.guarantee ∙ subst (λ (i : ℕ). slice_get g.guarantees i ≡ Some u) (sym same) first.there in
+          let is : v ≡ u = cc in
+          let named : Some p ≡ Some q = sym k.queue ∙ subst (λ (i : ℕ). slice_get names i ≡ Some q) (sym here) second.there in
+          let of : p ≡ q = cc in
+          let there : slice_get (entries second.place 0) r.entry ≡ Some d = subst (λ (i : ℕ). slice_get (entries i 0) r.entry ≡ Some d) here (entry_at r.queue p r.entry d k.queue k.entry) in
+          third.none_before r.entry d lt there (subst (λ (z : Text). Endangers g.topology u z d.message) of (subst (λ (z : Guarantee). Endangers g.topology z p d.message) is k.endangers))
+
+  pub nothing_stands : NoneIsStranded old g.topology b → TellsFirst (TellsQueues g.topology names entries) g.guarantees None → NothingStands old g b
+  nothing_stands none quiet = record {
+    none_stranded = none;
+    none_endangered = λ u q e has there i.
+        let n = place_of u g.guarantees (in_from_contains g.guarantees u has.0 has.1 has.2) in
+        let p = place_of q names there in
+        let j = place_of e (b.queue q) i in
+        quiet n.0 u n.1 p.0 q p.1 j.0 e (entry_at p.0 q j.0 e p.1 j.1);
+  }
+
+  pub breach_judges : NoneIsStranded old g.topology b → (o : Option Obstacle) → TellsFirst (TellsQueues g.topology names entries) g.guarantees o → Judges old g b o
+  breach_judges none None quiet = nothing_stands none quiet
+  breach_judges none (Some o) first = breach_stands none o first
+
+-- of a queue that is gone
+pub gone_tells : (new : Topology) (entries : ℕ → ℕ → List Entry) (consumed : ℕ → Bool) (p : ℕ) (q : Text) (o : Option Obstacle) → (IsIn q (queue_names new.queues) → ⊥) → TellsUse (entries p 0) (consumed p) q o → TellsQueue new entries consumed p q o
+gone_tells new entries consumed p q None gone told = λ g used. told used
+gone_tells new entries consumed p q (Some o) gone told = (gone, told)

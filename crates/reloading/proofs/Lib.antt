@@ -1,0 +1,4 @@
+pub mod First
+pub mod Leading
+pub mod Entries
+pub mod Judged

@@ -1,0 +1,19 @@
+-- The first of a list of which something is told (own).
+use Rattle.std.specs.Prelude.{◌≡◌, ◌<◌, ℕ, List, Option, Some, None, slice_get}
+
+-- This is told of the one at some place, and nothing of those before it.
+pub record IsToldFirst {X Y : Type 0} (Tells : ℕ → X → Option Y → Type 0) (xs : List X) (told : Y) : Type 0 where
+  pub place : ℕ
+  pub one : X
+  pub there : slice_get xs place ≡ Some one
+  pub tells : Tells place one (Some told)
+  pub none_before : (i : ℕ) (x : X) → i < place → slice_get xs i ≡ Some x → Tells i x None
+
+-- nothing is told of those before this place
+abbrev pub TellsNoneBelow : {X Y : Type 0} → (ℕ → X → Option Y → Type 0) → List X → ℕ → Type 0
+TellsNoneBelow {X = X} Tells xs place = (i : ℕ) (x : X) → i < place → slice_get xs i ≡ Some x → Tells i x None
+
+-- what is told of the first of which anything is, or nothing of any
+abbrev pub TellsFirst : {X Y : Type 0} → (ℕ → X → Option Y → Type 0) → List X → Option Y → Type 0
+TellsFirst Tells xs (Some told) = IsToldFirst Tells xs told
+TellsFirst {X = X} Tells xs None = (i : ℕ) (x : X) → slice_get xs i ≡ Some x → Tells i x None

@@ -1,0 +1,97 @@
+//! Messages that wait and that a new guarantee endangers.
+
+ghost use Rattle.std.specs.Prelude.{◌≡◌, ◌<◌, ◌-◌, ◌^◌, IfOk};
+ghost use Rattle.model.specs.Topology.{queue_names};
+ghost use Rattle.model.specs.declared.obstacles.Obstacle.TheVariants.{Breaks};
+ghost use Rattle.reloading.specs.First.{TellsFirst};
+ghost use Rattle.reloading.specs.Obstacles.{TellsEntries, TellsQueues};
+
+use crate::dangers::{endangers_next, may_endanger};
+use crate::standing::Standing;
+use exchange_graph::Topology;
+use guarantees::Guarantee;
+use model::{Message, Mode, Obstacle, Text};
+use std::alloc::{AllocError, Global};
+
+/// A message in this queue breaks the guarantee of this number.
+fn breaks(queue: &Text, message: &Message, guarantee: usize) -> Result<Obstacle, AllocError>
+    ensures { IfOk result (λ o. o ≡ Breaks queue.now message.now.first_key guarantee) }
+{
+    Ok(Obstacle::Breaks {
+        queue: queue.clone()?,
+        key: message.first_key().clone()?,
+        guarantee,
+    })
+}
+
+/// The first message of the queue at this place that the guarantee of this number endangers.
+fn first_of_queue<S: Standing>(
+    alloc: Global,
+    standing: &S,
+    topology: &Topology,
+    guarantee: &Guarantee,
+    number: usize,
+    place: usize,
+    queue: &Text,
+) -> Result<Option<Obstacle>, AllocError>
+    ensures { IfOk result (λ o. TellsEntries topology.now guarantee.now number (S.entries standing.now) place queue.now o) }
+{
+    let name = queue.as_bytes();
+    if !may_endanger(topology, guarantee, name) {
+        return Ok(None);
+    }
+    let mut slot = 0;
+    let mut passed = None;
+    'entries: while let Some(found) = standing.next(place, slot) {
+        let message = &found.entry.message;
+        if endangers_next(alloc, topology, guarantee, name, passed, message)? {
+            return Ok(Some(breaks(queue, message, number)?));
+        }
+        passed = Some(message);
+        slot = found.behind;
+    }
+    Ok(None)
+}
+
+/// The first message of all queues that the guarantee at this place endangers.
+fn first_of_guarantee<S: Standing>(
+    alloc: Global,
+    standing: &S,
+    old: &Topology,
+    topology: &Topology,
+    guarantee: &Guarantee,
+    at: usize,
+) -> Result<Option<Obstacle>, AllocError>
+    requires { at < 2 ^ 64 - 1 }
+    ensures { IfOk result (λ o. TellsQueues topology.now (queue_names old.now.queues) (S.entries standing.now) at guarantee.now o) }
+{
+    for place in 0..old.queues().len() {
+        let queue = &old.queue(place).name;
+        let first = first_of_queue(alloc, standing, topology, guarantee, at + 1, place, queue)?;
+        match first {
+            Some(first) => return Ok(Some(first)),
+            None => {}
+        }
+    }
+    Ok(None)
+}
+
+/// The first message that one of the guarantees endangers, guarantee by guarantee.
+pub fn first_breach<S: Standing>(
+    alloc: Global,
+    standing: &S,
+    old: &Topology,
+    topology: &Topology,
+    guarantees: &[Guarantee],
+) -> Result<Option<Obstacle>, AllocError>
+    ensures { IfOk result (λ o. TellsFirst (TellsQueues topology.now (queue_names old.now.queues) (S.entries standing.now)) guarantees.now o) }
+{
+    for at in 0..guarantees.len() {
+        let first = first_of_guarantee(alloc, standing, old, topology, &guarantees[at], at)?;
+        match first {
+            Some(first) => return Ok(Some(first)),
+            None => {}
+        }
+    }
+    Ok(None)
+}

@@ -1,0 +1,32 @@
+//! The judgement.
+
+ghost use Rattle.std.specs.Prelude.{IfOk};
+ghost use Rattle.reloading.specs.Obstacles.{JudgesReload};
+
+use crate::breaches::first_breach;
+use crate::standing::Standing;
+use crate::stranded::first_stranded;
+use exchange_graph::Topology;
+use guarantees::Guarantee;
+use model::Obstacle;
+use std::alloc::{AllocError, Global};
+
+/// The first thing that stands against a reload from the old topology to this one with these guarantees, or nothing where
+/// nothing does. Where memory is wanting nothing is told. It changes nothing.
+///
+/// Queues in use that are gone are looked at first, in the order of the old file; then, guarantee by guarantee, queue by queue
+/// of the old file and entry by entry, messages that could come by deaths where they are forbidden.
+pub fn obstacle<S: Standing>(
+    alloc: Global,
+    standing: &S,
+    old: &Topology,
+    topology: &Topology,
+    guarantees: &[Guarantee],
+) -> Result<Option<Obstacle>, AllocError>
+    ensures { IfOk result (JudgesReload old.now (S.entries standing.now) (S.consumed standing.now) topology.now guarantees.now) }
+{
+    match first_stranded(standing, old, topology)? {
+        Some(stranded) => Ok(Some(stranded)),
+        None => first_breach(alloc, standing, old, topology, guarantees),
+    }
+}

@@ -1,0 +1,76 @@
+//! Single dead-letter steps.
+
+use exchange_graph::Topology;
+use model::{DeclaredQueue, Exchange, ExchangeKind, Text};
+use scenario_parts::{Unmet, expect, expect_bytes, value_of};
+use std::alloc::Global;
+
+/// A queue of this name, with the exchange `D` for its dead letters.
+fn dying(name: &'static [u8], key: Option<Text>) -> DeclaredQueue {
+    DeclaredQueue {
+        name: Text::fixed(name),
+        limit: None,
+        byte_limit: None,
+        dead_letter_exchange: Some(Text::fixed(b"D")),
+        dead_letter_key: key,
+    }
+}
+
+/// A queue of this name, whose messages don't die.
+fn undying(name: &'static [u8]) -> DeclaredQueue {
+    DeclaredQueue {
+        name: Text::fixed(name),
+        limit: None,
+        byte_limit: None,
+        dead_letter_exchange: None,
+        dead_letter_key: None,
+    }
+}
+
+/// The queue `fixed` gives its dead letters the key `pay`, `kept` leaves them theirs, and those of `plain` are none.
+fn topology(alloc: Global) -> Result<Topology, Unmet> {
+    let mut exchanges = Vec::new(alloc);
+    let exchange = Exchange {
+        name: Text::fixed(b"D"),
+        kind: ExchangeKind::Direct,
+        internal: false,
+        alternate: None,
+    };
+    value_of("Vec::push", exchanges.push(exchange))?;
+    let mut queues = Vec::new(alloc);
+    value_of("Vec::push", queues.push(undying(b"plain")))?;
+    value_of(
+        "Vec::push",
+        queues.push(dying(b"fixed", Some(Text::fixed(b"pay")))),
+    )?;
+    value_of("Vec::push", queues.push(dying(b"kept", None)))?;
+    value_of(
+        "Topology::build",
+        Topology::build(alloc, exchanges, queues, Vec::new(alloc)),
+    )
+}
+
+/// Expects that a message of the key `a` goes from this queue to `D` as a dead letter, under this key.
+fn expect_step(topology: &Topology, queue: &[u8], key: &[u8]) -> Result<(), Unmet> {
+    let step = value_of(
+        "Topology::dead_route",
+        topology.dead_route(queue, b"a").ok_or(()),
+    )?;
+    expect_bytes("the exchange", step.exchange, b"D")?;
+    expect_bytes("the key", step.key, key)
+}
+
+/// A dead letter goes to the exchange of its queue, under the queue's key or its own.
+pub(crate) fn a_dead_letter_goes_to_the_exchange_of_its_queue(alloc: Global) -> Result<(), Unmet> {
+    let topology = topology(alloc)?;
+    expect_step(&topology, b"fixed", b"pay")?;
+    expect_step(&topology, b"kept", b"a")?;
+    expect(
+        "a queue without a dead-letter exchange sends none on",
+        topology.dead_route(b"plain", b"a").is_none(),
+    )?;
+    expect(
+        "a queue that is not there sends none on",
+        topology.dead_route(b"absent", b"a").is_none(),
+    )
+}

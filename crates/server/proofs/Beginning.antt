@@ -1,0 +1,76 @@
+-- What comes of telling where clients may come, and of serving.
+use Rattle.std.proofs.Common.{◌≡◌, ℕ, Bool, true, false, List, [], Option, Some, None, inl, inr, refl, sym, subst, ap, ◌∙◌}
+use Rattle.std.proofs.lemmas.Option.{same_Some}
+use Rattle.clap.specs.Words.{kind_of}
+use Rattle.clap.specs.declared.error.Error.{Error}
+use Rattle.model.specs.Words.{Text}
+use Rattle.model.specs.State.{Config}
+use Rattle.model.specs.Arrivals.{World, new_world}
+use Rattle.engine.specs.Wanting.{engine_lacks}
+use Rattle.command_line.specs.CommandLine.{Wanted, Serve, AsksFor, AreWordsRefused}
+use Rattle.named_files.specs.Files.{Known}
+use Rattle.serving.specs.Wire.{Told}
+use Rattle.serving.specs.Story.{Served, served}
+use Rattle.serving.specs.Rounds.{Rounds}
+use Rattle.serving.specs.Whole.{IsServed}
+use Rattle.serving.specs.declared.peers.Peer.{Peer}
+use Rattle.server.specs.Streams.{OutputStream, GetsText, PutsOut, TriesPut}
+use Rattle.server.specs.Program.{IsStarted, ShowsError, out_of_memory}
+use Rattle.server.specs.Clients.{IsTaken, Openings, CanCome, Begins, ServesClients, IsTurns, IsNotServe}
+
+-- ---- the line
+
+pub taken : (s : OutputStream) (bytes line : Text) (done : Bool) → bytes ≡ line → done ≡ true → IsTaken s bytes done → GetsText s line
+taken s bytes line done same e h = subst (λ (t : Text). GetsText s t) same (subst (λ (b : Bool). IsTaken s bytes b) e h)
+
+pub not_taken : (s : OutputStream) (bytes line : Text) (done : Bool) → bytes ≡ line → done ≡ false → IsTaken s bytes done → (d : Bool) × PutsOut s line d
+not_taken s bytes line done same e h = subst (λ (t : Text). (d : Bool) × PutsOut s t d) same (subst (λ (b : Bool). IsTaken s bytes b) e h)
+
+-- ---- a service
+
+-- a broker that was just started, with no connection, and sockets
+pub begins : (holds : Text → Known) (d g c : Text) (may : Openings) (out err : OutputStream) (w : World) (ps : List (Option Peer)) (t : Told)
+    → IsStarted holds d g c w → ps ≡ [] → CanCome may t out err → Begins holds d g c may out err (served w ps t)
+begins holds d g c may out err w ps t s none can = record {
+  force = s.0;
+  in_force = s.1;
+  told = t;
+  can_come = can;
+  is = ap (λ (x : World). served x ps t) s.2 ∙ ap (λ (xs : List (Option Peer)). served (new_world s.0) xs t) none;
+}
+
+-- so many rounds of it
+pub serves_clients : (holds : Text → Known) (d g c : Text) (turns : Option Text) (may : Openings) (out err : OutputStream) (start end : Served) (count : ℕ)
+    → Begins holds d g c may out err start → IsTurns turns count → Rounds engine_lacks count start end
+    → ((f : Config) → start.world ≡ new_world f → start.peers ≡ [] → IsServed engine_lacks f start.told end) → ServesClients holds d g c turns may out err end
+serves_clients holds d g c turns may out err start end count b counted turns_are kept = record {
+  force = b.force;
+  in_force = b.in_force;
+  start = b.told;
+  can_come = b.can_come;
+  count = count;
+  counted = counted;
+  rounds = subst (λ (v : Served). Rounds engine_lacks count v end) b.is turns_are;
+  kept = subst (λ (t : Told). IsServed engine_lacks b.force t end) (ap (λ (v : Served). v.told) b.is) (kept b.force (ap (λ (v : Served). v.world) b.is) (ap (λ (v : Served). v.peers) b.is));
+}
+
+-- ---- the words
+
+-- words ask for one command
+pub asked_once : (words : List Text) (v w : Wanted) → AsksFor words v → AsksFor words w → v ≡ w
+asked_once words v w a b = same_Some v w (sym a.named ∙ b.named)
+
+pub asks_same : (words : List Text) (v w : Wanted) → v ≡ w → AsksFor words v → AsksFor words w
+asks_same words v w e a = subst (λ (x : Wanted). AsksFor words x) e a
+
+-- where words that ask for a command are refused, want of memory was told
+pub memory_told : (words : List Text) (e : Error) (err : OutputStream) (n : ℕ) (wanted : Wanted) → AreWordsRefused words e → ShowsError (kind_of e) err n → AsksFor words wanted → TriesPut err out_of_memory 4 n
+memory_told words e err n wanted is shown asks =
+    elim is [
+      | inl memory ↦ elim shown [ inl told ↦ told.1 | inr other ↦ absurd (other.0 memory) ]
+      | inr nothing ↦ absurd (nothing wanted asks)
+    ]
+
+-- what is not to serve was not asked to
+pub not_to_serve : (words : List Text) (wanted : Wanted) (d g c l : Text) (t : Option Text) → AsksFor words wanted → IsNotServe wanted → AsksFor words (Serve d g c l t) → ⊥
+not_to_serve words wanted d g c l t a not b = subst (λ (w : Wanted). IsNotServe w) (asked_once words wanted (Serve d g c l t) a b) not

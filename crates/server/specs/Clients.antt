@@ -1,0 +1,141 @@
+-- What `serve` comes to (own): files are judged, clients may come, and are served.
+use Rattle.std.specs.Prelude.{◌≡◌, ◌<◌, ◌^◌, ◌++◌, ℕ, Bool, true, false, List, [], ◌∷◌, Option, Some, None, codes, ⊤}
+use Rattle.std.specs.Str.Parse.{IsNumeral, digits_value, without_leading_plus}
+use Rattle.model.specs.Words.{Text}
+use Rattle.model.specs.State.{Config}
+use Rattle.model.specs.Arrivals.{new_world}
+use Rattle.serving.specs.Wire.{Told}
+use Rattle.serving.specs.Story.{Served, served}
+use Rattle.serving.specs.Rounds.{Rounds}
+use Rattle.serving.specs.Whole.{IsServed}
+use Rattle.engine.specs.Wanting.{engine_lacks}
+use Rattle.command_line.specs.CommandLine.{Wanted, Check, Verify, Replay, Serve, Route, AsksFor}
+use Rattle.named_files.specs.Files.{Known, AreKept}
+use Rattle.server.specs.declared.refusals.CommandRefusal.{CommandRefusal}
+use Rattle.server.specs.declared.refusals.CommandRefusal.TheVariants.{Line, Refused, TooLong, Unread, Unwritten, NoExchange, Certificate, NotListening, Memory}
+use Rattle.server.specs.Streams.{OutputStream, GetsNothing, GetsText, PutsOut, TriesPut}
+use Rattle.server.specs.Program.{Fails, IsInForce, RunsAs, RefusesWith, out_of_memory}
+
+-- ---- what is judged
+
+-- a refusal that has to do with no socket
+abbrev pub IsOfFiles : CommandRefusal → Type 0
+IsOfFiles (Line n) = ⊤
+IsOfFiles (Refused n) = ⊤
+IsOfFiles TooLong = ⊤
+IsOfFiles Unread = ⊤
+IsOfFiles Unwritten = ⊤
+IsOfFiles NoExchange = ⊤
+IsOfFiles (Certificate n fault) = ⊤
+IsOfFiles NotListening = ⊥
+IsOfFiles Memory = ⊤
+
+-- Why no broker is started over these files, and the file of which this is told.
+pub record FailsToStart (holds : Text → Known) (definitions guarantees certificates file : Text) (why : CommandRefusal) : Type 0 where
+  pub fails : (listen : Text) (turns : Option Text) → Fails holds (Serve definitions guarantees certificates listen turns) file why
+  pub judged : IsOfFiles why
+
+-- ---- sockets
+
+-- Sockets at which clients can come: what they have told, and their address.
+pub record Opened : Type 0 where
+  pub told : Told
+  pub address : Text
+
+-- what may come of opening sockets: none, or these
+abbrev pub Openings : Type 1
+Openings = Option Opened → Type 0
+
+-- the line that tells where clients may come
+abbrev pub listening_line : Text → Text
+listening_line address = codes "warren: listening on " ++ (address ++ 10 ∷ [])
+
+-- a stream took the text, to be read at once; or it did not, or not so
+abbrev pub IsTaken : OutputStream → Text → Bool → Type 0
+IsTaken s text true = GetsText s text
+IsTaken s text false = (done : Bool) × PutsOut s text done
+
+-- the line was put out, and nothing was complained of
+abbrev pub IsTold : Text → OutputStream → OutputStream → Type 0
+IsTold address out err = GetsText out (listening_line address) × GetsNothing err
+
+-- Why it was not: memory was wanting, which was told, or the stream did not take it.
+pub data IsUntold (address : Text) (out err : OutputStream) : ℕ → Type 0 where
+  wanting : {status : ℕ} → GetsNothing out → TriesPut err out_of_memory 4 status → IsUntold address out err status
+  untaken : (done : Bool) → PutsOut out (listening_line address) done → GetsNothing err → IsUntold address out err 4
+
+-- Sockets that have told this were opened, and it was told where clients may come.
+pub record CanCome (may : Openings) (told : Told) (out err : OutputStream) : Type 0 where
+  pub address : Text
+  pub opened : may (Some (record { told = told; address = address }))
+  pub is_told : IsTold address out err
+
+-- No client can come, or none was told where, with this status.
+pub data NobodyComes (may : Openings) (out err : OutputStream) : ℕ → Type 0 where
+  shut : {status : ℕ} → may None → GetsNothing out → RefusesWith err [] NotListening status → NobodyComes may out err status
+  untold : {status : ℕ} (opened : Opened) → may (Some opened) → IsUntold opened.address out err status → NobodyComes may out err status
+
+-- ---- `serve`
+
+-- so many turns: the number that is given, and else more than will ever come
+abbrev pub IsTurns : Option Text → ℕ → Type 0
+IsTurns None turns = turns ≡ 18446744073709551615
+IsTurns (Some text) turns = IsNumeral 10 (without_leading_plus text) → digits_value 10 (without_leading_plus text) < 2 ^ 64
+    → turns ≡ digits_value 10 (without_leading_plus text)
+
+-- How `serve` ends where no client was served, with this status. The files are judged before sockets are opened.
+pub data EndsUnserved (holds : Text → Known) (definitions guarantees certificates : Text) (Unasked : Type 0) (may : Openings) (out err : OutputStream) : ℕ → Type 0 where
+  refused : {file : Text} {status : ℕ} (why : CommandRefusal) → FailsToStart holds definitions guarantees certificates file why → Unasked
+      → GetsNothing out → RefusesWith err file why status → EndsUnserved holds definitions guarantees certificates Unasked may out err status
+  unheard : {status : ℕ} (force : Config) → IsInForce holds (Some definitions) (Some guarantees) (Some certificates) force
+      → NobodyComes may out err status → EndsUnserved holds definitions guarantees certificates Unasked may out err status
+
+-- A broker was just started over these files, with no connection, sockets were opened, and it was told where clients may come.
+pub record Begins (holds : Text → Known) (definitions guarantees certificates : Text) (may : Openings) (out err : OutputStream) (start : Served) : Type 0 where
+  pub force : Config
+  pub in_force : IsInForce holds (Some definitions) (Some guarantees) (Some certificates) force
+  pub told : Told
+  pub can_come : CanCome may told out err
+  pub is : start ≡ served (new_world force) [] told
+
+-- Clients were served: from a broker that was just started over these files, in so many rounds, once it was told where they may come.
+pub record ServesClients (holds : Text → Known) (definitions guarantees certificates : Text) (turns : Option Text) (may : Openings) (out err : OutputStream) (end : Served) : Type 0 where
+  pub force : Config
+  pub in_force : IsInForce holds (Some definitions) (Some guarantees) (Some certificates) force
+  pub start : Told
+  pub can_come : CanCome may start out err
+  pub count : ℕ
+  pub counted : IsTurns turns count
+  pub rounds : Rounds engine_lacks count (served (new_world force) [] start) end
+  -- all that arrived at the broker, and that certified delivery holds of it
+  pub kept : IsServed engine_lacks force start end
+
+-- How `serve` ends: with what was served as it was left, where clients could come, and this status.
+abbrev pub ServeEnds : (Text → Known) → Text → Text → Text → Option Text → Type 0 → Openings → OutputStream → OutputStream → Option Served → ℕ → Type 0
+ServeEnds holds definitions guarantees certificates turns Unasked may out err None status =
+    EndsUnserved holds definitions guarantees certificates Unasked may out err status
+ServeEnds holds definitions guarantees certificates turns Unasked may out err (Some end) status =
+    ServesClients holds definitions guarantees certificates turns may out err end × (status ≡ 0)
+
+-- ---- the whole program
+
+-- a command other than `serve`
+abbrev pub IsNotServe : Wanted → Type 0
+IsNotServe (Check definitions guarantees out) = ⊤
+IsNotServe (Verify definitions guarantees certificates) = ⊤
+IsNotServe (Replay script definitions guarantees certificates) = ⊤
+IsNotServe (Serve definitions guarantees certificates listen turns) = ⊥
+IsNotServe (Route definitions exchange key) = ⊤
+
+-- the words ask to serve these files at this address, for so many turns
+abbrev pub AsksToServe : List Text → Text → Text → Text → Text → Option Text → Type 0
+AsksToServe words definitions guarantees certificates listen turns = AsksFor words (Serve definitions guarantees certificates listen turns)
+
+-- What a call comes to that can open sockets, by what may come of that at an address.
+pub data RunsWithSockets (words : List Text) (before after : Text → Known) (Unasked : Type 0) (may : Text → Openings) (out err : OutputStream) : Option Served → ℕ → Type 0 where
+  -- what it comes to without them, unless it is to serve; then memory was wanting before that was read
+  without : {status : ℕ} → RunsAs words before after out err status → Unasked
+      → ((definitions guarantees certificates listen : Text) (turns : Option Text) → AsksToServe words definitions guarantees certificates listen turns → TriesPut err out_of_memory 4 status)
+      → RunsWithSockets words before after Unasked may out err None status
+  serves : {end : Option Served} {status : ℕ} (definitions guarantees certificates listen : Text) (turns : Option Text) → AsksToServe words definitions guarantees certificates listen turns → AreKept before after
+      → ServeEnds before definitions guarantees certificates turns Unasked (may listen) out err end status → RunsWithSockets words before after Unasked may out err end status

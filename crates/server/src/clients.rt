@@ -1,0 +1,262 @@
+//! What `serve` does: files are judged first, then clients may come, which is told, and then they are served.
+
+ghost use Rattle.std.specs.Prelude.{◌≡◌, None, [], option_map, IfSome, IfOk, MatchResult, string_bytes};
+ghost use Rattle.command_line.specs.CommandLine.{Serve, wanted_of};
+ghost use Rattle.engine.specs.World.{world_of};
+ghost use Rattle.named_files.specs.Files.{AreKept};
+ghost use Rattle.named_files.specs.Stated.{file_named};
+ghost use Rattle.serving.specs.Story.{served};
+ghost use Rattle.server.specs.Program.{IsStarted};
+ghost use Rattle.server.specs.Clients.{
+  Begins,
+  CanCome,
+  EndsUnserved,
+  FailsToStart,
+  IsTaken,
+  IsNotServe,
+  IsTold,
+  IsTurns,
+  IsUntold,
+  NobodyComes,
+  ServeEnds,
+  listening_line,
+};
+ghost use Rattle.server.specs.Streams.{change};
+
+use crate::refusals::{CommandRefusal, Told, refuse_memory, tell};
+use crate::starting::started;
+use crate::streams::put;
+use command_line::Asked;
+use engine::Engine;
+use named_files::Files;
+use serving::{Server, Wire, new_is_served, serve};
+use std::alloc::{AllocError, Global};
+use std::io::Write;
+
+/// What `serve` is asked for.
+#[derive(Clone, Copy, Drop)]
+pub(crate) struct ServeArguments<'a> {
+    pub definitions: &'a str,
+    pub guarantees: &'a str,
+    pub certificates: &'a str,
+    /// The address at which clients are to come.
+    pub listen: &'a str,
+    /// How many turns, where a number is given.
+    pub turns: Option<&'a str>,
+}
+
+/// Sockets at which clients can come, and their address as it is told.
+#[derive(Drop)]
+pub struct Listening<W> {
+    pub sockets: W,
+    pub address: String,
+}
+
+/// What opens sockets at which clients can come.
+pub trait Listener {
+    type Sockets: Wire + Drop;
+
+    ghost use Rattle.std.specs.Prelude.{List, ℕ, Option, option_map, string_bytes};
+    ghost use Rattle.server.specs.Clients.{Opened};
+
+    // what a call with this text may come to
+    ghost listens: { Self → List ℕ → Option Opened → Type 0 };
+
+    /// Sockets at the address of this text, unless it is none or no client can come there.
+    fn listen(&mut self, alloc: Global, address: &str) -> Option<Listening<Self::Sockets>>
+        ensures { listens self.old address.now (option_map (λ l. record { told = Self.Sockets.told l.sockets; address = string_bytes l.address }) result) };
+}
+
+/// A server of a broker, and its sockets.
+#[derive(Drop)]
+pub struct Service<W: Wire> {
+    pub server: Server<Engine>,
+    pub sockets: W,
+}
+
+/// How `serve` ended: its status, and where clients could come what served them, as it was left.
+#[derive(Drop)]
+pub struct Ended<W: Wire> {
+    pub status: u8,
+    pub service: Option<Service<W>>,
+}
+
+impl<W: Wire> Ended<W> {
+    ghost use Rattle.std.specs.Prelude.{◌≡◌, None};
+
+    /// No client was served, and this is the status.
+    pub(crate) fn without_clients(status: u8) -> Ended<W>
+        ensures { result ≡ record { status = status; service = None } }
+    {
+        Ended {
+            status,
+            service: None,
+        }
+    }
+}
+
+/// The arguments of `serve`, where that is asked for.
+pub(crate) fn serve_arguments(asked: Asked<'_>) -> Option<ServeArguments<'_>>
+    ensures some { IfSome result (λ a. wanted_of asked.entry ≡ Serve a.definitions.now a.guarantees.now a.certificates.now a.listen.now (file_named a.turns)) }
+    ensures none { result ≡ None → IsNotServe (wanted_of asked.entry) }
+{
+    match asked {
+        Asked::Serve {
+            definitions,
+            guarantees,
+            certificates,
+            listen,
+            turns,
+        } => Some(ServeArguments {
+            definitions,
+            guarantees,
+            certificates,
+            listen,
+            turns,
+        }),
+        _ => None,
+    }
+}
+
+/// How many turns are served: without a number, more than will ever come.
+fn turns_of(given: Option<&str>) -> u64
+    ensures { IsTurns (file_named given.entry) result }
+{
+    match given {
+        Some(text) => text.parse::<u64>().unwrap_or(u64::MAX),
+        None => u64::MAX,
+    }
+}
+
+/// The line that tells where clients may come.
+fn line_of(alloc: Global, address: &str) -> Result<String, AllocError>
+    ensures { IfOk result (λ text. string_bytes text ≡ listening_line address.now) }
+{
+    format!(in alloc; "warren: listening on {address}\n")
+}
+
+/// Puts a text on a stream, to be read at once. Tells whether the stream took it.
+fn put_at_once<O: Write>(out: &mut O, text: &[u8]) -> bool
+    ensures { IsTaken (change (O.contents out.old) (O.contents out.new)) text.now result }
+{
+    if put(out, text).is_err() {
+        return false;
+    }
+    out.flush().is_ok()
+}
+
+/// Tells where clients may come; or gives the status.
+fn tell_address<O: Write, E: Write>(
+    alloc: Global,
+    address: &str,
+    out: &mut O,
+    err: &mut E,
+) -> Result<(), u8>
+    ensures { MatchResult result (λ _. IsTold address.now (change (O.contents out.old) (O.contents out.new)) (change (E.contents err.old) (E.contents err.new))) (λ status. IsUntold address.now (change (O.contents out.old) (O.contents out.new)) (change (E.contents err.old) (E.contents err.new)) status) }
+{
+    let Ok(line) = line_of(alloc, address) else {
+        return Err(refuse_memory(err));
+    };
+    if put_at_once(out, line.as_bytes()) {
+        Ok(())
+    } else {
+        Err(4)
+    }
+}
+
+/// Sockets at this address, once it is told that clients may come there; or the status.
+fn open_sockets<L: Listener, O: Write, E: Write>(
+    alloc: Global,
+    address: &str,
+    listener: &mut L,
+    out: &mut O,
+    err: &mut E,
+) -> Result<L::Sockets, u8>
+    ensures { MatchResult result (λ sockets. CanCome (L.listens listener.old address.now) (L.Sockets.told sockets) (change (O.contents out.old) (O.contents out.new)) (change (E.contents err.old) (E.contents err.new))) (λ status. NobodyComes (L.listens listener.old address.now) (change (O.contents out.old) (O.contents out.new)) (change (E.contents err.old) (E.contents err.new)) status) }
+{
+    let Some(Listening { sockets, address }) = listener.listen(alloc, address) else {
+        let why = CommandRefusal::NotListening;
+        return Err(tell(alloc, err, Told { file: "", why }));
+    };
+    match tell_address(alloc, address.as_str(), out, err) {
+        Ok(()) => Ok(sockets),
+        Err(status) => Err(status),
+    }
+}
+
+/// A server with no socket, of a broker over what is in force by these files.
+fn new_server<'a, F: Files>(
+    alloc: Global,
+    asked: ServeArguments<'a>,
+    files: &mut F,
+) -> Result<Server<Engine>, Told<'a>>
+    ensures starts { MatchResult result (λ s. IsStarted (F.holds files.old) asked.entry.definitions.now asked.entry.guarantees.now asked.entry.certificates.now (world_of s.machine) × (s.peers ≡ [])) (λ told. FailsToStart (F.holds files.old) asked.entry.definitions.now asked.entry.guarantees.now asked.entry.certificates.now told.file.now told.why) }
+    ensures files { AreKept (F.holds files.old) (F.holds files.new) }
+{
+    let engine = match started(
+        alloc,
+        asked.definitions,
+        asked.guarantees,
+        asked.certificates,
+        files,
+    ) {
+        Ok(engine) => engine,
+        Err(told) => return Err(told),
+    };
+    match Server::new(alloc, engine) {
+        Ok(server) => Ok(server),
+        Err(error) => Err(Told::from(error)),
+    }
+}
+
+/// A service that clients can come to; or the status.
+fn begin<L: Listener, F: Files, O: Write, E: Write>(
+    alloc: Global,
+    asked: ServeArguments<'_>,
+    listener: &mut L,
+    files: &mut F,
+    out: &mut O,
+    err: &mut E,
+) -> Result<Service<L::Sockets>, u8>
+    ensures ready { MatchResult result (λ s. Begins (F.holds files.old) asked.entry.definitions.now asked.entry.guarantees.now asked.entry.certificates.now (L.listens listener.old asked.entry.listen.now) (change (O.contents out.old) (O.contents out.new)) (change (E.contents err.old) (E.contents err.new)) (served (world_of s.server.machine) s.server.peers (L.Sockets.told s.sockets))) (λ status. EndsUnserved (F.holds files.old) asked.entry.definitions.now asked.entry.guarantees.now asked.entry.certificates.now (listener.new ≡ listener.old) (L.listens listener.old asked.entry.listen.now) (change (O.contents out.old) (O.contents out.new)) (change (E.contents err.old) (E.contents err.new)) status) }
+    ensures files { AreKept (F.holds files.old) (F.holds files.new) }
+{
+    let server = match new_server(alloc, asked, files) {
+        Ok(server) => server,
+        Err(told) => return Err(tell(alloc, err, told)),
+    };
+    match open_sockets(alloc, asked.listen, listener, out, err) {
+        Ok(sockets) => Ok(Service { server, sockets }),
+        Err(status) => Err(status),
+    }
+}
+
+/// Serves clients over sockets at an address, over what is in force by files, which are judged first. No file is changed.
+///
+/// Refused as `program` refuses, before the listener is asked. Where clients may come is told on `out`.
+pub(crate) fn serve_clients<L: Listener, F: Files, O: Write, E: Write>(
+    alloc: Global,
+    asked: ServeArguments<'_>,
+    listener: &mut L,
+    files: &mut F,
+    out: &mut O,
+    err: &mut E,
+) -> Ended<L::Sockets>
+    ensures ends { ServeEnds (F.holds files.old) asked.entry.definitions.now asked.entry.guarantees.now asked.entry.certificates.now (file_named asked.entry.turns) (listener.new ≡ listener.old) (L.listens listener.old asked.entry.listen.now) (change (O.contents out.old) (O.contents out.new)) (change (E.contents err.old) (E.contents err.new)) (option_map (λ s. served (world_of s.server.machine) s.server.peers (L.Sockets.told s.sockets)) result.service) result.status }
+    ensures files { AreKept (F.holds files.old) (F.holds files.new) }
+{
+    let Service {
+        mut server,
+        mut sockets,
+    } = match begin(alloc, asked, listener, files, out, err) {
+        Ok(service) => service,
+        Err(status) => return Ended::without_clients(status),
+    };
+    let turns = turns_of(asked.turns);
+    new_is_served(&server, &sockets);
+    serve(alloc, &mut server, &mut sockets, turns);
+    Ended {
+        status: 0,
+        service: Some(Service { server, sockets }),
+    }
+}

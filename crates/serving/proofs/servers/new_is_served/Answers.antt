@@ -1,0 +1,10 @@
+use Rattle.std.proofs.Common.{subst}
+use Rattle.model.specs.Arrivals.{World}
+use Rattle.model.specs.Headline.{IsSound}
+use Rattle.serving.proofs.Keeping.{new_served}
+use Rattle.serving.proofs.servers.new_is_served.Goals as goal
+
+pub returns : goal.returns
+returns g c = λ f fresh none.
+    let sound = subst (λ (w : World). IsSound w.config) fresh c.is_sound.ensures in
+    new_served f (g.M.Machine.world c.args.server.now.machine) c.args.server.now.peers (g.W.Wire.told c.args.wire.now) sound fresh none

@@ -1,0 +1,283 @@
+//! Clients of the system beside one another: three at once, one that closes, and one that does not read.
+
+use crate::watched::Watched;
+use engine::Engine;
+use scenario_parts::{
+    OPENED, OPENING, Unmet, expect, expect_bytes, expect_number, expect_opened_and_acked, joined,
+    new_broker, opening_and_publish, value_of,
+};
+use serving::{Server, serve};
+use sockets::Sockets;
+use std::alloc::{AllocError, Global};
+use std::io;
+use std::io::{ErrorKind, Read as _, Write as _};
+use std::net::{Net, OpenStream as _, SocketAddr, TcpStream};
+
+/// A broker that is served over sockets of the system, which are watched.
+#[derive(Drop)]
+struct Service {
+    server: Server<Engine>,
+    sockets: Watched<Sockets>,
+}
+
+impl Service {
+    /// At a port that is free.
+    fn new<N: Net>(net: &N, alloc: Global) -> Result<Service, Unmet> {
+        let broker = new_broker(alloc)?;
+        let server = value_of("Server::new", Server::new(alloc, broker))?;
+        let address = value_of("parse", "127.0.0.1:0".parse::<SocketAddr>())?;
+        let sockets = value_of("Sockets::bind", Sockets::bind(net, alloc, address))?;
+        Ok(Service {
+            server,
+            sockets: Watched::new(sockets),
+        })
+    }
+
+    /// A client that comes, and never waits.
+    fn connect<N: Net>(&self, net: &N) -> Result<N::Stream, Unmet> {
+        let address = value_of("Sockets::local_addr", self.sockets.sockets.local_addr())?;
+        let client = value_of("TcpStream::connect", TcpStream::connect(net, address))?;
+        value_of("set_nonblocking", client.set_nonblocking(true))?;
+        Ok(client)
+    }
+
+    /// So many rounds. Those in which nothing comes wait.
+    fn serve(&mut self, alloc: Global, turns: u64) {
+        serve(alloc, &mut self.server, &mut self.sockets, turns);
+    }
+}
+
+/// Writes what a client sends, and serves it.
+fn send<S: io::Write>(
+    alloc: Global,
+    service: &mut Service,
+    client: &mut S,
+    bytes: &[u8],
+) -> Result<(), Unmet> {
+    value_of("write_all", client.write_all(bytes))?;
+    service.serve(alloc, 4);
+    Ok(())
+}
+
+/// How a client's answers ended.
+#[derive(Clone, Copy, PartialEq, Eq, Drop)]
+enum Ending {
+    /// Nothing more is there now.
+    Open,
+    /// The server closed the socket.
+    Closed,
+}
+
+/// Reads what is there for a client, behind what it read before.
+fn read_there<S: io::Read>(client: &mut S, answer: &mut Vec<u8>) -> Result<Ending, Unmet> {
+    match client.read_to_end(answer) {
+        Ok(_) => Ok(Ending::Closed),
+        Err(error) if error.kind() == ErrorKind::WouldBlock => Ok(Ending::Open),
+        Err(_) => Err(Unmet::Call("read_to_end")),
+    }
+}
+
+/// Expects that this, and no more, is there for a client, whose socket is open or closed.
+fn expect_there<S: io::Read>(
+    alloc: Global,
+    client: &mut S,
+    expected: &[u8],
+    ending: Ending,
+) -> Result<(), Unmet> {
+    let mut answer: Vec<u8> = Vec::new(alloc);
+    let ended = read_there(client, &mut answer)?;
+    expect_bytes("the answer", answer.as_slice(), expected)?;
+    expect("the socket is open or closed as expected", ended == ending)
+}
+
+/// Expects that a client's opening and its publish are answered.
+fn expect_answered<S: io::Read>(alloc: Global, client: &mut S) -> Result<(), Unmet> {
+    let mut answer: Vec<u8> = Vec::new(alloc);
+    read_there(client, &mut answer)?;
+    expect_opened_and_acked(alloc, answer.as_slice())
+}
+
+/// Three clients come at once, and each is answered.
+pub(crate) fn three_clients_of_the_system_are_served<N: Net>(
+    net: &N,
+    alloc: Global,
+) -> Result<(), Unmet> {
+    let mut service = Service::new(net, alloc)?;
+    let mut first = service.connect(net)?;
+    let mut second = service.connect(net)?;
+    let mut third = service.connect(net)?;
+    let bytes = opening_and_publish(alloc)?;
+    value_of("write_all", first.write_all(bytes.as_slice()))?;
+    value_of("write_all", second.write_all(bytes.as_slice()))?;
+    value_of("write_all", third.write_all(bytes.as_slice()))?;
+    service.serve(alloc, 8);
+    expect_answered(alloc, &mut first)?;
+    expect_answered(alloc, &mut second)?;
+    expect_answered(alloc, &mut third)
+}
+
+/// connection.close with code 200.
+const CLOSE: &[u8] =
+    b"\x01\x00\x00\x00\x00\x00\x0b\x00\x0a\x00\x32\x00\xc8\x00\x00\x00\x00\x00\xce";
+
+/// connection.close-ok.
+const CLOSE_OK: &[u8] = b"\x01\x00\x00\x00\x00\x00\x04\x00\x0a\x00\x33\xce";
+
+/// The socket of a client that says goodbye is closed while the server goes on.
+pub(crate) fn a_client_that_closes_its_connection_loses_its_socket<N: Net>(
+    net: &N,
+    alloc: Global,
+) -> Result<(), Unmet> {
+    let mut service = Service::new(net, alloc)?;
+    let mut client = service.connect(net)?;
+    send(alloc, &mut service, &mut client, OPENING)?;
+    expect_there(alloc, &mut client, OPENED, Ending::Open)?;
+    send(alloc, &mut service, &mut client, CLOSE)?;
+    expect_number("the number of closed sockets", service.sockets.closes, 1)?;
+    expect_there(alloc, &mut client, CLOSE_OK, Ending::Closed)
+}
+
+/// basic.get of `audit` on channel 1, to be acknowledged.
+const GET: &[u8] = b"\x01\x00\x01\x00\x00\x00\x0d\x00\x3c\x00\x46\x00\x00\x05audit\x00\xce";
+
+/// get-ok of the message of `PUBLISH` with delivery tag 1, given out before and the last, and its content.
+const GOT_AGAIN: &[u8] =
+    b"\x01\x00\x01\x00\x00\x00\x1c\x00\x3c\x00\x47\x00\x00\x00\x00\x00\x00\x00\x01\x01\x06orders\x03new\x00\x00\x00\x00\xce\x02\x00\x01\x00\x00\x00\x0e\x00\x3c\x00\x00\x00\x00\x00\x00\x00\x00\x00\x02\x00\x00\xce\x03\x00\x01\x00\x00\x00\x02hi\xce";
+
+/// What a client held whose socket ended is given to another, while the server goes on.
+pub(crate) fn what_a_client_held_that_went_away_is_given_to_another<N: Net>(
+    net: &N,
+    alloc: Global,
+) -> Result<(), Unmet> {
+    let mut service = Service::new(net, alloc)?;
+    let mut first = service.connect(net)?;
+    let mut second = service.connect(net)?;
+    send(alloc, &mut service, &mut second, OPENING)?;
+    send(
+        alloc,
+        &mut service,
+        &mut first,
+        opening_and_publish(alloc)?.as_slice(),
+    )?;
+    send(alloc, &mut service, &mut first, GET)?;
+    let mut answer: Vec<u8> = Vec::new(alloc);
+    read_there(&mut first, &mut answer)?;
+    drop(first);
+    service.serve(alloc, 4);
+    expect_number("the number of closed sockets", service.sockets.closes, 1)?;
+    send(alloc, &mut service, &mut second, GET)?;
+    expect_there(
+        alloc,
+        &mut second,
+        joined(alloc, OPENED, GOT_AGAIN)?.as_slice(),
+        Ending::Open,
+    )
+}
+
+/// basic.publish to `orders` under the key `new` on channel 1, and a header of a body of 1,048,576 bytes.
+const LARGE_PUBLISH: &[u8] =
+    b"\x01\x00\x01\x00\x00\x00\x12\x00\x3c\x00\x28\x00\x00\x06orders\x03new\x00\xce\x02\x00\x01\x00\x00\x00\x0e\x00\x3c\x00\x00\x00\x00\x00\x00\x00\x10\x00\x00\x00\x00\xce";
+
+/// A body frame of 65,536 bytes on channel 1.
+fn body_frame(alloc: Global) -> Result<Vec<u8>, AllocError> {
+    let mut frame = Vec::from_slice(alloc, b"\x03\x00\x01\x00\x01\x00\x00")?;
+    frame.extend_from_slice(&vec![in alloc; 120; 65_536]?)?;
+    frame.push(206)?;
+    Ok(frame)
+}
+
+/// Publishes a message of 1,048,576 bytes.
+fn publish_large<S: io::Write>(
+    alloc: Global,
+    service: &mut Service,
+    client: &mut S,
+) -> Result<(), Unmet> {
+    send(alloc, service, client, LARGE_PUBLISH)?;
+    let frame = value_of("body_frame", body_frame(alloc))?;
+    for _ in 0..16 {
+        send(alloc, service, client, frame.as_slice())?;
+    }
+    Ok(())
+}
+
+/// `GET`, and basic.recover with requeue on channel 1.
+const GET_AND_RECOVER: &[u8] =
+    b"\x01\x00\x01\x00\x00\x00\x0d\x00\x3c\x00\x46\x00\x00\x05audit\x00\xce\x01\x00\x01\x00\x00\x00\x05\x00\x3c\x00\x6e\x01\xce";
+
+/// How often the message is got: more often than the system keeps answers for.
+const GETS: u64 = 12;
+
+/// What each time has: the frames of get-ok, a header, and the body in nine frames, with 8 bytes beside each payload, and
+/// recover-ok.
+const GET_FRAMES: u64 = 12;
+
+/// .. and their bytes: 36 and 22, 1,048,576 and 72, and 12.
+const GET_BYTES: u64 = 1_048_718;
+
+/// What is behind the frame at the front.
+fn behind_frame(bytes: &[u8]) -> Option<&[u8]> {
+    let [_, _, _, a, b, c, d, ref rest @ ..] = *bytes else {
+        return None;
+    };
+    let size = u32::from_be_bytes([a, b, c, d]);
+    let (_, rest) = rest.split_at_checked(size as usize)?;
+    match rest {
+        [206, rest @ ..] => Some(rest),
+        _ => None,
+    }
+}
+
+/// How many frames these bytes are, if they are frames.
+fn count_frames(bytes: &[u8]) -> Option<u64> {
+    let mut rest = bytes;
+    let mut count = 0u64;
+    for _ in 0..bytes.len() {
+        if rest.is_empty() {
+            break;
+        }
+        rest = behind_frame(rest)?;
+        count = count.saturating_add(1);
+    }
+    if rest.is_empty() { Some(count) } else { None }
+}
+
+/// Reads what comes for a client while it is served, until it has so many bytes.
+fn read_served<S: io::Read>(
+    alloc: Global,
+    service: &mut Service,
+    client: &mut S,
+    wanted: u64,
+) -> Result<Vec<u8>, Unmet> {
+    let mut answer: Vec<u8> = Vec::new(alloc);
+    for _ in 0..500 {
+        read_there(client, &mut answer)?;
+        if answer.len() as u64 >= wanted {
+            break;
+        }
+        service.serve(alloc, 1);
+    }
+    Ok(answer)
+}
+
+/// A client that does not read, so that its socket takes a part of what is written, gets each byte once when it does.
+pub(crate) fn a_client_that_reads_late_gets_each_byte_once<N: Net>(
+    net: &N,
+    alloc: Global,
+) -> Result<(), Unmet> {
+    let mut service = Service::new(net, alloc)?;
+    let mut client = service.connect(net)?;
+    send(alloc, &mut service, &mut client, OPENING)?;
+    expect_there(alloc, &mut client, OPENED, Ending::Open)?;
+    publish_large(alloc, &mut service, &mut client)?;
+    for _ in 0..GETS {
+        send(alloc, &mut service, &mut client, GET_AND_RECOVER)?;
+    }
+    expect("a write was short", service.sockets.short_writes > 0)?;
+    let wanted = GETS * GET_BYTES;
+    let answer = read_served(alloc, &mut service, &mut client, wanted)?;
+    expect_number("the number of bytes", answer.len() as u64, wanted)?;
+    expect(
+        "the bytes are frames, as many as were asked for",
+        count_frames(answer.as_slice()) == Some(GETS * GET_FRAMES),
+    )
+}

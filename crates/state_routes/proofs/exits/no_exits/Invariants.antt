@@ -1,0 +1,5 @@
+use Rattle.state_routes.specs.Exits.{AreEmpty}
+use Rattle.state_routes.proofs.exits.no_exits.Given as goal
+
+abbrev pub invariant-loop-place : goal.invariant-loop-place
+invariant-loop-place l = AreEmpty l.place l.exits.items

@@ -1,0 +1,5 @@
+use Rattle.state_routes.specs.Placing.{RiseBelow}
+use Rattle.state_routes.proofs.places.places_of.Given as goal
+
+abbrev pub invariant-loop-place : goal.invariant-loop-place
+invariant-loop-place l = RiseBelow l.place l.places.items

@@ -1,0 +1,23 @@
+-- How marks spread from place to place.
+use Rattle.std.specs.Prelude.{◌≡◌, ◌≤◌, ◌⊎◌, ◌+◌, ℕ, List, Bool, length}
+use Rattle.model.specs.Topology.{IsIn}
+use Rattle.exchange_graph.specs.Marks.{IsSet, unset}
+use Rattle.state_routes.specs.declared.reach.Hop.{Hop}
+use Rattle.state_routes.specs.Reach.{Chain}
+
+-- The ends of these links are marked, and those that were not wait to be left.
+pub record Enters (links : List Hop) (marks : List Bool) (rest : List ℕ) (marks' : List Bool) (rest' : List ℕ) : Type 0 where
+  pub size : length marks' ≡ length marks
+  pub kept : (i : ℕ) → IsSet marks i → IsSet marks' i
+  pub all : (l : Hop) → IsIn l links → IsSet marks' l.to
+  pub only : (i : ℕ) → IsSet marks' i → IsSet marks i ⊎ ((l : Hop) × IsIn l links × (l.to ≡ i) × IsIn i rest')
+  pub waiting : (i : ℕ) → IsIn i rest → IsIn i rest'
+  pub marked : (i : ℕ) → IsIn i rest' → IsIn i rest ⊎ IsSet marks' i
+  pub fewer : unset marks' + unset marks' + length rest' ≤ unset marks + unset marks + length rest
+
+-- The start is marked, only what chains lead to is, and from each marked place that does not wait to be left links lead to marked ones.
+pub record Spreads (links : List Hop) (start : ℕ) (marks : List Bool) (rest : List ℕ) : Type 0 where
+  pub begun : IsSet marks start
+  pub sound : (i : ℕ) → IsSet marks i → Chain links start i
+  pub waiting : (i : ℕ) → IsIn i rest → IsSet marks i
+  pub closed : (l : Hop) → IsIn l links → IsSet marks l.from → IsSet marks l.to ⊎ IsIn l.from rest

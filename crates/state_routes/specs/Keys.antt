@@ -1,0 +1,29 @@
+-- Patterns as texts, by the kind of exchange that compares them.
+use Rattle.std.specs.Prelude.{List, [], ◌∷◌, ◌++◌}
+use Rattle.model.specs.Words.{Text}
+use Rattle.model.specs.Topology.{IsIn}
+use Rattle.model.specs.Tracking.{Tracked}
+use Rattle.model.specs.declared.topologies.ExchangeKind.{ExchangeKind}
+use Rattle.model.specs.declared.topologies.ExchangeKind.TheVariants.{Direct, Fanout, Topic}
+
+-- texts for each kind
+pub record ByKind : Type 0 where
+  pub direct : List Text
+  pub fanout : List Text
+  pub topic : List Text
+
+-- those of one kind
+abbrev pub texts_by : ByKind → ExchangeKind → List Text
+texts_by keys Direct = keys.direct
+texts_by keys Fanout = keys.fanout
+texts_by keys Topic = keys.topic
+
+-- one more of a kind
+abbrev pub with_text : ByKind → ExchangeKind → Text → ByKind
+with_text keys Direct text = record keys { direct = keys.direct ++ text ∷ [] }
+with_text keys Fanout text = record keys { fanout = keys.fanout ++ text ∷ [] }
+with_text keys Topic text = record keys { topic = keys.topic ++ text ∷ [] }
+
+-- these are the texts of the patterns, each under its kind
+abbrev pub AreKeysOf : ByKind → List Tracked → Type 0
+AreKeysOf keys ps = (kind : ExchangeKind) (text : Text) → (IsIn text (texts_by keys kind) → IsIn (record { kind = kind; text = text }) ps) × (IsIn (record { kind = kind; text = text }) ps → IsIn text (texts_by keys kind))

@@ -1,0 +1,264 @@
+//! Which patterns a slice keeps track of.
+
+ghost use Rattle.std.specs.Prelude.{◌<◌, ◌+◌, length, IfOk, OnOk};
+ghost use Rattle.model.specs.Certificates.{ArePlaces};
+ghost use Rattle.state_routes.specs.Placing.{RiseBelow};
+
+use crate::gates::kind_at;
+use crate::keys::Keys;
+use crate::nodes::{alternate_links, node};
+use crate::reach::Hop;
+use crate::tracking::met;
+use exchange_graph::Topology;
+use guarantees::Guarantee;
+use model::{Binding, DeclaredQueue, ExchangeKind, Mode, Place};
+use std::alloc::{AllocError, Global};
+use word_automata::Tracked;
+
+/// Whether the place is marked.
+fn is_marked(marks: &[bool], place: usize) -> bool {
+    match marks.get(place) {
+        Some(mark) => *mark,
+        None => false,
+    }
+}
+
+/// Marks the place.
+fn mark(marks: &mut [bool], place: usize) {
+    if place < marks.len() {
+        marks[place] = true;
+    }
+}
+
+/// The number of the exchange where dead letters of this queue go, whatever their key; 1 if they go nowhere.
+fn death_end(topology: &Topology, last: &DeclaredQueue) -> usize {
+    match &last.dead_letter_exchange {
+        Some(exchange) => node(topology.exchanges(), exchange.as_bytes()),
+        None => 1,
+    }
+}
+
+/// Where what comes to the queue of this name may go on: 0 for the guarantee's own, 1 for one from which nothing goes on
+/// that matters to a promise of this mode.
+fn queue_end(topology: &Topology, mode: Mode, queue: &[u8], name: &[u8]) -> usize {
+    if name == queue {
+        return 0;
+    }
+    match mode {
+        Mode::Reaches => 1,
+        Mode::Never => match topology.queue_at(name) {
+            Some(place) => death_end(topology, topology.queue(place)),
+            None => 1,
+        },
+    }
+}
+
+/// Where a binding may lead from and to.
+fn binding_way(topology: &Topology, mode: Mode, queue: &[u8], binding: &Binding) -> Hop {
+    let to = match &binding.to {
+        Place::Exchange(name) => node(topology.exchanges(), name.as_bytes()),
+        Place::Queue(name) => queue_end(topology, mode, queue, name.as_bytes()),
+    };
+    Hop {
+        from: node(topology.exchanges(), binding.source.as_bytes()),
+        to,
+    }
+}
+
+/// Where each binding may lead from and to, in the order of the file.
+fn binding_ways(
+    alloc: Global,
+    topology: &Topology,
+    mode: Mode,
+    queue: &[u8],
+) -> Result<Vec<Hop>, AllocError> {
+    let mut ways = Vec::new(alloc);
+    for binding in topology.bindings() {
+        ways.push(binding_way(topology, mode, queue, binding))?;
+    }
+    Ok(ways)
+}
+
+/// Where the default exchange may lead, by each queue in the order of the file.
+fn default_ways(
+    alloc: Global,
+    topology: &Topology,
+    mode: Mode,
+    queue: &[u8],
+) -> Result<Vec<Hop>, AllocError> {
+    let mut ways = Vec::new(alloc);
+    for last in topology.queues() {
+        let to = queue_end(topology, mode, queue, last.name.as_bytes());
+        ways.push(Hop { from: 2, to })?;
+    }
+    Ok(ways)
+}
+
+/// Marks where a way starts that ends at a mark, and tells whether it was not marked yet.
+fn mark_start(way: &Hop, marks: &mut [bool]) -> bool {
+    let is_new = is_marked(marks, way.to) && !is_marked(marks, way.from);
+    if is_new {
+        mark(marks, way.from);
+    }
+    is_new
+}
+
+/// Marks where the ways start that end at marks, and tells whether one was not marked yet.
+fn mark_starts(ways: &[Hop], marks: &mut [bool]) -> bool {
+    let mut is_new = false;
+    for way in ways {
+        is_new = is_new | mark_start(way, marks);
+    }
+    is_new
+}
+
+/// Marks the guarantee's queue, and every place from which ways lead to it.
+fn leading(alloc: Global, ways: &[Hop], count: usize) -> Result<Vec<bool>, AllocError> {
+    let mut marks = vec![in alloc; false; count]?;
+    mark(marks.as_mut_slice(), 0);
+    for _pass in 0..count {
+        if !mark_starts(ways, marks.as_mut_slice()) {
+            return Ok(marks);
+        }
+    }
+    Ok(marks)
+}
+
+/// Whether the way starts where a covered message may be, and leads on to the guarantee's queue.
+fn counts(ways: &[Hop], at: usize, met: &[bool], leading: &[bool]) -> bool {
+    match ways.get(at) {
+        Some(way) => is_marked(met, way.from) && is_marked(leading, way.to),
+        None => false,
+    }
+}
+
+/// Adds the keys of the bindings that count.
+fn add_binding_keys(
+    alloc: Global,
+    keys: &mut Keys,
+    topology: &Topology,
+    ways: &[Hop],
+    met: &[bool],
+    leading: &[bool],
+) -> Result<(), AllocError> {
+    let bindings = topology.bindings();
+    for at in 0..bindings.len() {
+        let binding = &bindings[at];
+        if counts(ways, at, met, leading) {
+            let kind = kind_at(topology, binding.source.as_bytes());
+            keys.enter(alloc, kind, binding.key.as_bytes())?;
+        }
+    }
+    Ok(())
+}
+
+/// Adds the names of the queues that count.
+fn add_queue_names(
+    alloc: Global,
+    keys: &mut Keys,
+    topology: &Topology,
+    ways: &[Hop],
+    met: &[bool],
+    leading: &[bool],
+) -> Result<(), AllocError> {
+    let queues = topology.queues();
+    for at in 0..queues.len() {
+        if counts(ways, at, met, leading) {
+            keys.enter(alloc, ExchangeKind::Direct, queues[at].name.as_bytes())?;
+        }
+    }
+    Ok(())
+}
+
+/// Adds the patterns that take keys out.
+fn add_excepts(alloc: Global, keys: &mut Keys, guarantee: &Guarantee) -> Result<(), AllocError> {
+    for except in guarantee.excepts() {
+        keys.enter(alloc, ExchangeKind::Topic, except.as_bytes())?;
+    }
+    Ok(())
+}
+
+/// The keys by which a message may come nearer to the guarantee's queue, of a `never` also as a dead letter under any key;
+/// and those that take keys out. Every binding and every alternate exchange is taken as possible.
+fn keys_of(alloc: Global, topology: &Topology, guarantee: &Guarantee) -> Result<Keys, AllocError> {
+    let mode = guarantee.mode();
+    let queue = guarantee.queue().as_bytes();
+    let of_bindings = binding_ways(alloc, topology, mode, queue)?;
+    let of_default = default_ways(alloc, topology, mode, queue)?;
+    let mut ways = alternate_links(alloc, topology.exchanges(), topology.exchanges())?;
+    ways.extend_from_slice(of_bindings.as_slice())?;
+    ways.extend_from_slice(of_default.as_slice())?;
+    let leading = leading(alloc, ways.as_slice(), topology.exchanges().len() + 4)?;
+    let met = met(
+        alloc,
+        topology,
+        mode,
+        guarantee.exchange().as_bytes(),
+        queue,
+    )?;
+    let mut keys = Keys::none(alloc);
+    add_binding_keys(
+        alloc,
+        &mut keys,
+        topology,
+        of_bindings.as_slice(),
+        met.as_slice(),
+        leading.as_slice(),
+    )?;
+    add_queue_names(
+        alloc,
+        &mut keys,
+        topology,
+        of_default.as_slice(),
+        met.as_slice(),
+        leading.as_slice(),
+    )?;
+    add_excepts(alloc, &mut keys, guarantee)?;
+    Ok(keys)
+}
+
+/// Whether the pattern is one of these keys.
+fn is_key(keys: &Keys, pattern: &Tracked) -> bool {
+    keys.has(pattern.kind(), pattern.text().as_bytes())
+}
+
+/// Adds a place behind the others, if it is to be there.
+#[tactic(auto, using(crate::proofs::Placing::placed, crate::proofs::Placing::passed))]
+fn add_place(places: &mut Vec<u64>, place: usize, there: bool) -> Result<(), AllocError>
+    requires { RiseBelow place places.old.items }
+    ensures { OnOk result (RiseBelow (place + 1) places.new.items) }
+{
+    if !there {
+        return Ok(());
+    }
+    places.push(place as u64)?;
+    Ok(())
+}
+
+/// The first place, and that of each pattern that is one of these keys.
+fn places_of(alloc: Global, list: &[Tracked], keys: &Keys) -> Result<Vec<u64>, AllocError>
+    requires { 0 < length list.now }
+    ensures { IfOk result (λ places. ArePlaces list.now places.items) }
+{
+    let mut places = Vec::new(alloc);
+    places.push(0)?;
+    for place in 1..list.len() {
+        add_place(&mut places, place, is_key(keys, &list[place]))?;
+    }
+    Ok(places)
+}
+
+/// The places that a slice keeps track of: those of the guarantee's pattern, of the patterns that take keys out, and of the
+/// keys whose destination is the guarantee's queue or may lead to it.
+pub fn places_to(
+    alloc: Global,
+    topology: &Topology,
+    guarantee: &Guarantee,
+    list: &[Tracked],
+) -> Result<Vec<u64>, AllocError>
+    requires { 0 < length list.now }
+    ensures { IfOk result (λ places. ArePlaces list.now places.items) }
+{
+    let keys = keys_of(alloc, topology, guarantee)?;
+    places_of(alloc, list, &keys)
+}

@@ -1,0 +1,18 @@
+use Rattle.std.proofs.Common.{◌++◌, ◌∷◌, [], List, ap, ◌∙◌, subst}
+use Rattle.std.specs.Prelude.{Decides}
+use Rattle.model.specs.Topology.{IsIn}
+use Rattle.model.specs.declared.texts.Token.{Token}
+use Rattle.model.specs.declared.texts.Token.TheVariants.{Word}
+use Rattle.topic_match.proofs.Stepping.{steps_same, steps_more}
+use Rattle.topic_match.proofs.steps.steps_of.Goals as goal
+
+pub loop-word-preserved-then-has_word : goal.loop-word-preserved-then-has_word
+loop-word-preserved-then-has_word c =
+    steps_same c.loop-word.steps.items c.args.words.now c.loop-word.word-index c.word-item.result c.has_word.result c.loop-word-test.true c.word-item.is
+    (subst (λ (z : List Token). Decides c.has_word.result (IsIn (Word c.word-item.result) z)) c.as_slice.ensures.value c.has_word.ensures) c.if-has_word.true c.loop-word.invariant
+
+pub loop-word-preserved : goal.loop-word-preserved
+loop-word-preserved c =
+    steps_more c.loop-word.steps.items c.push-in-loop-word.new.self.items c.args.words.now c.loop-word.word-index c.word-item.result c.in_ok-clone.field-0 c.has_word.result c.loop-word-test.true c.word-item.is
+    (subst (λ (z : List Token). Decides c.has_word.result (IsIn (Word c.word-item.result) z)) c.as_slice.ensures.value c.has_word.ensures) c.if-has_word.false c.in_ok-clone.ensures
+    (c.in_ok-push-3.ensures.items ∙ ap (λ (z : Token). c.loop-word.steps.items ++ z ∷ []) c.by-in-loop-word.ensures) c.loop-word.invariant

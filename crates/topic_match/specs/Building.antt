@@ -1,0 +1,16 @@
+-- How nodes are added.
+use Rattle.std.specs.Prelude.{◌≡◌, ◌<◌, ℕ, List, [], length, slice_index_or}
+use Rattle.model.specs.declared.texts.Token.{Token}
+use Rattle.topic_match.specs.Nodes.{beginning_at}
+use Rattle.topic_match.specs.declared.nodes.Node.{Node}
+
+-- the nodes stay what they were, and there are no fewer
+pub record AreGrown (patterns : List (List Token)) (old new : List Node) : Type 0 where
+  pub kept : (c : ℕ) → c < length old → c < length new
+  pub same : (c : ℕ) → c < length old → beginning_at patterns new c ≡ beginning_at patterns old c
+
+-- the first so many patterns end at these nodes
+pub record EndAt (patterns : List (List Token)) (nodes : List Node) (n : ℕ) (ends : List ℕ) : Type 0 where
+  pub size : length ends ≡ n
+  pub within : (p : ℕ) → p < n → slice_index_or ends p 0 < length nodes
+  pub are : (p : ℕ) → p < n → beginning_at patterns nodes (slice_index_or ends p 0) ≡ slice_index_or patterns p []

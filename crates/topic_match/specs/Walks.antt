@@ -1,0 +1,57 @@
+-- The nodes whose beginnings match some of the first words of a key.
+use Rattle.std.specs.Prelude.{◌≡◌, ◌+◌, ◌≤◌, ◌<◌, ℕ, Bool, List, [], ◌∷◌, ◌++◌, length, take}
+use Rattle.model.specs.Words.{Text, Matches}
+use Rattle.model.specs.Topology.{IsIn}
+use Rattle.model.specs.declared.texts.Token.{Token}
+use Rattle.model.specs.declared.texts.Token.TheVariants.{Word, One, Any}
+use Rattle.topic_match.specs.Beginnings.{AllApart}
+use Rattle.topic_match.specs.Counts.{AreCounts, trues}
+use Rattle.topic_match.specs.Nodes.{beginning_at}
+use Rattle.topic_match.specs.declared.nodes.Node.{Node}
+use Rattle.topic_match.specs.declared.nodes.Met.{Met}
+
+-- the tokens that can take these words, each once
+pub record AreSteps (steps : List Token) (words : List Text) : Type 0 where
+  pub apart : AllApart steps
+  pub any : IsIn Any steps
+  pub one : IsIn One steps
+  pub each : (w : Text) → IsIn w words → IsIn (Word w) steps
+
+-- they go on by one of these
+abbrev pub GoesOn : List Token → List Token → List Token → Type 0
+GoesOn b steps ts = (t : Token) × (rest : List Token) × IsIn t steps × (ts ≡ b ++ t ∷ rest)
+
+abbrev pub nodes_of : List Met → List ℕ
+nodes_of [] = []
+nodes_of (m ∷ ms) = m.node ∷ nodes_of ms
+
+-- These are the nodes, each once, whose beginnings are such and match some of the first words, and of each is told how many.
+pub record AreMet (patterns : List (List Token)) (nodes : List Node) (words : List Text) (Such : List Token → Type 0) (met : List Met) : Type 0 where
+  pub apart : AllApart (nodes_of met)
+  pub within : (m : Met) → IsIn m met → m.node < length nodes
+  pub such : (m : Met) → IsIn m met → Such (beginning_at patterns nodes m.node)
+  pub counts : (m : Met) → IsIn m met → AreCounts (beginning_at patterns nodes m.node) words m.counts.items
+  pub all : (c i : ℕ) → c < length nodes → i ≤ length words → Matches (beginning_at patterns nodes c) (take i words) → Such (beginning_at patterns nodes c) → IsIn c (nodes_of met)
+
+-- such are added
+pub record AreAdded (patterns : List (List Token)) (nodes : List Node) (words : List Text) (Such : List Token → Type 0) (old new : List Met) : Type 0 where
+  pub more : List Met
+  pub is_added : new ≡ old ++ more
+  pub are : AreMet patterns nodes words Such more
+
+-- the node that a token leads to, and how many words its beginning matches
+pub record IsStep (patterns : List (List Token)) (nodes : List Node) (words : List Text) (at : ℕ) (token : Token) (next : ℕ) (counts : List Bool) : Type 0 where
+  pub later : at < next
+  pub within : next < length nodes
+  pub begins : beginning_at patterns nodes next ≡ beginning_at patterns nodes at ++ token ∷ []
+  pub are : AreCounts (beginning_at patterns nodes next) words counts
+
+-- by this token no word of the key goes on
+abbrev pub IsBarren : List (List Token) → List Node → List Text → ℕ → Token → Type 0
+IsBarren patterns nodes words at token = (c i : ℕ) (rest : List Token) → c < length nodes → beginning_at patterns nodes c ≡ beginning_at patterns nodes at ++ token ∷ rest
+    → Matches (beginning_at patterns nodes c) (take i words) → i ≤ length words → ⊥
+
+-- how many numbers of words are told of all these nodes together
+abbrev pub told_in : List Met → ℕ
+told_in [] = 0
+told_in (m ∷ ms) = trues m.counts.items + told_in ms

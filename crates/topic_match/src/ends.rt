@@ -1,0 +1,90 @@
+//! Which patterns end at a node, and the places of those that match.
+
+ghost use Rattle.std.specs.Prelude.{◌≡◌, ◌<◌, ◌++◌, ◌∷◌, ℕ, [], All, length, IfOk, OnOk, slice_index_or, slice_set, if◌then◌else◌, false};
+ghost use Rattle.model.specs.Topology.{IsIn};
+ghost use Rattle.topic_match.specs.Ends.{AreEnding, AreFound, AreRising, AreSound};
+
+use crate::nodes::Met;
+use crate::places::Places;
+use std::alloc::{AllocError, Global};
+
+/// One place more in the list of a node.
+fn add_at(lists: &mut Vec<Places>, node: usize, place: usize) -> Result<(), AllocError>
+    requires { node < length lists.old.items }
+    ensures { OnOk result (lists.new.items ≡ slice_set lists.old.items node (slice_index_or lists.old.items node [] ++ place ∷ [])) }
+{
+    lists[node].add(place)
+}
+
+/// As many lists that have no place.
+fn no_places(alloc: Global, count: usize) -> Result<Vec<Places>, AllocError>
+    ensures size { IfOk result (λ lists. length lists.items ≡ count) }
+    ensures none { IfOk result (λ lists. (c : ℕ) → slice_index_or lists.items c [] ≡ []) }
+{
+    let mut lists = Vec::new(alloc);
+    for place in 0..count {
+        lists.push(Places::none(alloc))?;
+    }
+    Ok(lists)
+}
+
+/// The patterns that end at each node, by their places.
+pub fn ending(alloc: Global, count: usize, ends: &[usize]) -> Result<Vec<Places>, AllocError>
+    requires { (p : ℕ) → p < length ends.now → slice_index_or ends.now p 0 < count }
+    ensures { IfOk result (λ lists. AreEnding ends.now count (length ends.now) lists.items) }
+{
+    let mut lists = no_places(alloc, count)?;
+    for pattern in 0..ends.len() {
+        add_at(&mut lists, ends[pattern], pattern)?;
+    }
+    Ok(lists)
+}
+
+/// Adds the patterns that end at a node, where its beginning matches so many words.
+fn add_places(
+    found: &mut Vec<usize>,
+    lists: &[Places],
+    met: &Met,
+    count: usize,
+) -> Result<(), AllocError>
+    requires node { met.now.node < length lists.now }
+    requires count { count < length met.now.counts.items }
+    ensures { OnOk result (found.new.items ≡ found.old.items ++ (if slice_index_or met.now.counts.items count false then slice_index_or lists.now met.now.node [] else [])) }
+{
+    if met.counts[count] {
+        found.extend_from_slice(lists[met.node].as_slice())?;
+    }
+    Ok(())
+}
+
+/// The patterns that end at these nodes and match so many words.
+fn found_at(
+    alloc: Global,
+    lists: &[Places],
+    met: &[Met],
+    count: usize,
+) -> Result<Vec<usize>, AllocError>
+    requires { AreSound lists.now met.now count }
+    ensures { IfOk result (λ found. AreFound lists.now met.now count found.items) }
+{
+    let mut found = Vec::new(alloc);
+    for at in 0..met.len() {
+        add_places(&mut found, lists, &met[at], count)?;
+    }
+    Ok(found)
+}
+
+/// The patterns that end at these nodes and match so many words, rising.
+pub fn rising_at(
+    alloc: Global,
+    lists: &[Places],
+    met: &[Met],
+    count: usize,
+) -> Result<Vec<usize>, AllocError>
+    requires { AreSound lists.now met.now count }
+    ensures { IfOk result (λ found. AreRising lists.now met.now count found.items) }
+{
+    let mut found = found_at(alloc, lists, met, count)?;
+    found.sort()?;
+    Ok(found)
+}

@@ -1,0 +1,148 @@
+//! A list of patterns as the tree of their beginnings.
+
+ghost use Rattle.std.specs.Prelude.{◌≡◌, [], IfOk};
+ghost use Rattle.topic_match.specs.Beginnings.{Begins, IsCounted};
+ghost use Rattle.topic_match.specs.Counts.{AreCounts};
+ghost use Rattle.topic_match.specs.Nodes.{AreLinked};
+ghost use Rattle.topic_match.specs.Places.{AreMatches};
+ghost use Rattle.topic_match.specs.Walks.{AreMet, told_in};
+
+use crate::building::nodes_of;
+use crate::counts::trues;
+use crate::ends::{ending, rising_at};
+use crate::matchers::Matcher;
+use crate::nodes::{Met, Node};
+use crate::patterns::Pattern;
+use crate::pieces::split;
+use crate::places::Places;
+use crate::steps::steps_of;
+use crate::walks::walk;
+use model::Text;
+use std::alloc::{AllocError, Global};
+use std::marker::Model;
+
+/// How many words no token matches: none.
+fn first_counts(alloc: Global, words: &[Text]) -> Result<Vec<bool>, AllocError>
+    ensures { IfOk result (λ counts. AreCounts [] words.now counts.items) }
+{
+    let mut counts = Vec::new(alloc);
+    counts.push(true)?;
+    for place in 0..words.len() {
+        counts.push(false)?;
+    }
+    Ok(counts)
+}
+
+/// How many numbers of words are told of all these nodes together.
+fn told_in(met: &[Met]) -> Result<usize, AllocError>
+    ensures { IfOk result (λ count. count ≡ told_in met.now) }
+{
+    let mut count: usize = 0;
+    for each in met {
+        let Some(more) = count.checked_add(trues(each.counts.as_slice())) else {
+            return Err(AllocError);
+        };
+        count = more;
+    }
+    Ok(count)
+}
+
+/// The nodes whose beginnings match some of these words, from the first on.
+fn met_by(
+    alloc: Global,
+    patterns: &[Pattern],
+    nodes: &[Node],
+    chains: &[usize],
+    words: &[Text],
+) -> Result<Vec<Met>, AllocError>
+    requires { AreLinked patterns.now nodes.now chains.now }
+    ensures { IfOk result (λ met. AreMet patterns.now nodes.now words.now (Begins []) met.items) }
+{
+    let steps = steps_of(alloc, words)?;
+    let root = Met {
+        node: 0,
+        counts: first_counts(alloc, words)?,
+    };
+    let mut met = Vec::new(alloc);
+    walk(
+        alloc,
+        patterns,
+        nodes,
+        chains,
+        steps.as_slice(),
+        words,
+        root,
+        &mut met,
+    )?;
+    Ok(met)
+}
+
+/// Patterns of which each beginning is kept once.
+#[derive(Drop)]
+pub struct Trie {
+    patterns: Vec<Pattern>,
+    nodes: Vec<Node>,
+    chains: Vec<usize>,
+    ends: Vec<usize>,
+    places: Vec<Places>,
+}
+
+impl Model for Trie {
+    ghost use Rattle.std.specs.Prelude.{List};
+    ghost use Rattle.model.specs.declared.texts.Token.{Token};
+    ghost use Rattle.topic_match.specs.Tries.{IsTrie};
+
+    ghost Value = { List (List Token) };
+
+    ghost view = { λ t. t.patterns.items };
+
+    ghost invariant = { λ t. IsTrie t.patterns.items t.nodes.items t.chains.items t.ends.items t.places.items };
+}
+
+impl Trie {
+    /// The places, rising, of the patterns that match the key, and the number of pairs of a beginning of a pattern and a
+    /// number of first words of the key that it matches.
+    pub fn matches_counted(
+        &self,
+        alloc: Global,
+        key: &[u8],
+    ) -> Result<(Vec<usize>, usize), AllocError>
+        ensures places { IfOk result (λ found. AreMatches self.now key.now found.0.items) }
+        ensures count { IfOk result (λ found. IsCounted self.now key.now found.1) }
+    {
+        if self.patterns.is_empty() {
+            return Ok((Vec::new(alloc), 0));
+        }
+        let words = split(alloc, key)?;
+        let met = met_by(
+            alloc,
+            self.patterns.as_slice(),
+            self.nodes.as_slice(),
+            self.chains.as_slice(),
+            words.as_slice(),
+        )?;
+        let places = rising_at(alloc, self.places.as_slice(), met.as_slice(), words.len())?;
+        Ok((places, told_in(met.as_slice())?))
+    }
+}
+
+impl Matcher for Trie {
+    ghost listed = { λ p. p };
+
+    fn new(alloc: Global, patterns: Vec<Pattern>) -> Result<Trie, AllocError> {
+        let (nodes, chains, ends) = nodes_of(alloc, patterns.as_slice())?;
+        let places = ending(alloc, nodes.len(), ends.as_slice())?;
+        Ok(Trie {
+            patterns,
+            nodes,
+            chains,
+            ends,
+            places,
+        })
+    }
+
+    fn matches(&self, alloc: Global, key: &[u8]) -> Result<Vec<usize>, AllocError> {
+        let (places, _) = self.matches_counted(alloc, key)?;
+        Ok(places)
+    }
+}

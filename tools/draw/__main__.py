@@ -1,0 +1,146 @@
+#!/usr/bin/env python3
+"""Draws a definitions file: exchanges, queues, bindings with their keys, alternates and dead letters, and what `warren check` said."""
+
+import argparse
+import json
+import os
+import shutil
+import subprocess
+import sys
+
+sys.path.insert(0, os.path.dirname(os.path.abspath(__file__)))
+from topology import BadFile, Step, Topology, read_guarantees, read_verdicts  # noqa: E402
+
+SHAPES = {"topic": "hexagon", "direct": "box", "fanout": "ellipse"}
+MOST_KEYS = 4
+DONE, FAILED = 0, 3
+
+
+def words():
+    parser = argparse.ArgumentParser(prog="draw", description=__doc__, epilog="Without --svg Graphviz's text is printed. Status: 0 drawn, 3 not.")
+    parser.add_argument("definitions", help="a definitions file")
+    parser.add_argument("--guarantees", help="the guarantees file that was checked")
+    parser.add_argument("--verdicts", help="what `warren check` printed of them; what breaks a guarantee is red")
+    parser.add_argument("--svg", help="the file for the picture; this wants Graphviz's program dot")
+    given = parser.parse_args()
+    if given.verdicts and not given.guarantees:
+        parser.error("--verdicts wants --guarantees")
+    return given
+
+
+# ---- Graphviz's text
+
+
+def quoted(*lines):
+    """A text of Graphviz, of these lines."""
+    return '"' + "\\n".join(it.replace("\\", "\\\\").replace('"', '\\"').replace("\n", " ") for it in lines) + '"'
+
+
+def node(kind, name):
+    return quoted(f"{kind} {name}")
+
+
+def settings(**given):
+    told = ", ".join(f"{name}={value}" for name, value in given.items() if value)
+    return f" [{told}]" if told else ""
+
+
+def place(exchange):
+    """An exchange, the default one among them."""
+    if not exchange.name:
+        return f"  {node('exchange', '')}" + settings(label=quoted("default exchange"), shape="plaintext")
+    label = quoted(exchange.name, exchange.kind + (", internal" if exchange.internal else ""))
+    return f"  {node('exchange', exchange.name)}" + settings(label=label, shape=SHAPES.get(exchange.kind, "box"), style="filled", fillcolor='"#e8f0fe"')
+
+
+def store(queue, missed):
+    label = quoted(queue.name, *queue.limits)
+    return f"  {node('queue', queue.name)}" + settings(label=label, shape="cylinder", style="filled", fillcolor='"#fff4d6"', color='"red"' if missed else "")
+
+
+def edge(step, keys, red):
+    style = "dashed" if step.kind in ("alternate", "dead letters") else ""
+    shown = keys[:MOST_KEYS] + [f".. and {len(keys) - MOST_KEYS} more"] * (len(keys) > MOST_KEYS)
+    label = quoted(*shown) if any(shown) else ""
+    colour = '"red"' if red else ""
+    return f"  {node(*step.source)} -> {node(*step.target)}" + settings(label=label, style=style, color=colour, fontcolor=colour)
+
+
+def legend(lines):
+    """What was said of each guarantee, below the picture, each line at its left."""
+    told = "".join(it.replace("\\", "\\\\").replace('"', '\\"') + "\\l" for it in lines)
+    return [f'  label="{told}"', '  labeljust=l', '  fontname="Helvetica"', "  fontsize=11"] if lines else []
+
+
+def text_of(topology, broken, lines):
+    steps = {}
+    for it in topology.steps():
+        steps.setdefault((it.kind, it.source, it.target), (it, []))[1].append(it.label)
+    drawn = {(it.source, it.target) for it, _ in steps.values()}
+    for source, target in sorted(broken.steps - drawn):
+        steps[source, target] = (Step("default", source, target, ""), [""])
+    names = {it.name for it in topology.exchanges}
+    default = any(("exchange", "") in (it.source, it.target) for it, _ in steps.values())
+    out = ["digraph topology {", "  rankdir=LR", '  node [fontname="Helvetica", fontsize=11]', '  edge [fontname="Helvetica", fontsize=10]']
+    out += legend(lines)
+    out += [place(it) for it in topology.exchanges if it.name or default]
+    out += [store(it, it.name in broken.missed) for it in topology.queues]
+    for it, keys in steps.values():
+        if it.source[0] == "exchange" and it.source[1] not in names:
+            continue
+        out.append(edge(it, keys, (it.source, it.target) in broken.steps))
+    return "\n".join(out) + "\n}\n"
+
+
+# ---- the program
+
+
+def read_json(name):
+    try:
+        with open(name, "rb") as file:
+            return json.loads(file.read().decode("utf-8"))
+    except (ValueError, RecursionError):
+        raise BadFile(f"{name} is not JSON") from None
+
+
+def read_lines(name):
+    with open(name, encoding="utf-8", errors="replace") as file:
+        return file.read().splitlines()
+
+
+def draw(given):
+    topology = Topology(read_json(given.definitions))
+    guarantees = read_guarantees(read_json(given.guarantees)) if given.guarantees else []
+    verdicts = read_verdicts(read_lines(given.verdicts), len(guarantees)) if given.verdicts else {}
+    for it in guarantees:
+        topology.with_default(it.exchange)
+    broken = topology.broken(guarantees, verdicts)
+    lines = [f"{number} {it}" + (f": {verdicts[number].told}" if number in verdicts else "") for number, it in enumerate(guarantees, 1)]
+    text = text_of(topology, broken, lines)
+    if not given.svg:
+        sys.stdout.write(text)
+        return
+    if not shutil.which("dot"):
+        raise BadFile("there is no program dot (Graphviz) here; without --svg its text is printed")
+    done = subprocess.run(["dot", "-Tsvg"], input=text.encode(), capture_output=True)
+    if done.returncode:
+        raise BadFile(f"dot failed: {done.stderr.decode(errors='replace').strip()}")
+    with open(given.svg, "wb") as file:
+        file.write(done.stdout)
+
+
+def main():
+    for stream in (sys.stdout, sys.stderr):
+        stream.reconfigure(encoding="utf-8", errors="backslashreplace")
+    try:
+        draw(words())
+        return DONE
+    except BadFile as error:
+        print(f"draw: {error}", file=sys.stderr)
+    except OSError as error:
+        print(f"draw: {error.filename}: {error.strerror}", file=sys.stderr)
+    return FAILED
+
+
+if __name__ == "__main__":
+    sys.exit(main())

@@ -1,0 +1,111 @@
+#!/usr/bin/env python3
+"""Makes a definitions file that warren takes out of an export of RabbitMQ, and tells what it changed or left out."""
+
+import argparse
+import json
+import os
+import sys
+
+sys.path.insert(0, os.path.dirname(os.path.abspath(__file__)))
+from causes import MOST_BYTES, NotJson, causes_in, causes_of, read_json  # noqa: E402
+from convert import NoFile, convert  # noqa: E402
+
+TAKEN, REFUSED, FAILED = 0, 1, 3
+
+
+def words():
+    parser = argparse.ArgumentParser(prog="from_rabbitmq", description=__doc__, epilog="Status: 0 written, or taken as it is; 1 with --check: it is refused; 3 no file was made.")
+    parser.add_argument("export", help="the export of RabbitMQ (GET /api/definitions); - is standard input")
+    parser.add_argument("file", nargs="?", help="the file to be written; without it, standard output")
+    parser.add_argument("--check", action="store_true", help="write nothing, and tell all causes for which warren refuses the export as it is")
+    parser.add_argument("--vhost", help="the virtual host to take; without it \"/\", or the only one")
+    return parser.parse_args()
+
+
+def read(name):
+    if name == "-":
+        return sys.stdin.buffer.read()
+    with open(name, "rb") as file:
+        return file.read()
+
+
+def text_of(definitions):
+    """The file, an entry a line."""
+    lists = []
+    for name, entries in definitions.items():
+        lines = ",\n".join("    " + json.dumps(it, ensure_ascii=False) for it in entries)
+        lists.append(f'  "{name}": [\n{lines}\n  ]' if entries else f'  "{name}": []')
+    return "{\n" + ",\n".join(lists) + "\n}\n"
+
+
+def check(data):
+    causes = causes_of(data)
+    for it in sorted(causes, key=lambda it: it.number):
+        print(f"refused {it.number}: {it.entry}: {it.what}")
+    if not causes:
+        print("nothing stands against it: warren takes it as it is")
+        return TAKEN
+    print(f"{len(causes)} causes; warren tells the least: refused {min(it.number for it in causes)}")
+    return REFUSED
+
+
+def mended_bytes(data, tell):
+    """The bytes without what Windows puts before them."""
+    for mark, coding in ((b"\xef\xbb\xbf", "utf-8-sig"), (b"\xff\xfe", "utf-16"), (b"\xfe\xff", "utf-16")):
+        if data.startswith(mark):
+            tell("file: is now UTF-8 without a byte order mark (refused 1)")
+            try:
+                return data.decode(coding).encode("utf-8")
+            except ValueError:
+                raise NotJson(f"it begins as {coding}, and is not") from None
+    return data
+
+
+def line(change):
+    cause = f" (refused {change.number})" if change.number else ""
+    return f"{change.entry}: {change.what}{cause}" + (f". CHANGES MEANING: {change.meaning}" if change.meaning else "")
+
+
+def tell(text):
+    print(text, file=sys.stderr)
+
+
+def make(data, file, vhost):
+    made, changes = convert(read_json(mended_bytes(data, tell)), vhost)
+    left = causes_in(made)
+    text = text_of(made).encode("utf-8")
+    for it in changes:
+        tell(line(it))
+    if left or len(text) > MOST_BYTES:
+        for it in left:
+            tell(f"NOT MENDED: {it.entry}: {it.what} (refused {it.number})")
+        raise NoFile("this has to be mended by hand")
+    if file is None:
+        sys.stdout.buffer.write(text)
+    else:
+        with open(file, "wb") as out:
+            out.write(text)
+    counts = ", ".join(f"{name} {len(made[name])}" for name in ("exchanges", "queues", "bindings", "users"))
+    graver = sum(1 for it in changes if it.meaning)
+    tell(f"written: {counts}; changes {len(changes)}, of these {graver} change the meaning. Messages are in memory alone, durable or not.")
+    return TAKEN
+
+
+def main():
+    for stream in (sys.stdout, sys.stderr):
+        stream.reconfigure(errors="backslashreplace")
+    given = words()
+    try:
+        data = read(given.export)
+        return check(data) if given.check else make(data, given.file, given.vhost)
+    except NotJson as error:
+        tell(f"from_rabbitmq: {given.export} is not JSON (refused 1): {error}")
+    except NoFile as error:
+        tell(f"from_rabbitmq: {given.export}: {error}")
+    except OSError as error:
+        tell(f"from_rabbitmq: {error.filename or given.export}: {error.strerror}")
+    return FAILED
+
+
+if __name__ == "__main__":
+    sys.exit(main())

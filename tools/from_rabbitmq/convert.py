@@ -1,0 +1,481 @@
+"""A definitions file that warren takes, out of an export of RabbitMQ, and what had to be changed for it.
+
+Nothing here is proved. A file that is written has none of the causes of `causes.py`; whether warren takes it, warren says.
+"""
+
+import re
+from collections import Counter, namedtuple
+
+from causes import (
+    BINDING,
+    EMPTY_ARRAYS,
+    ENTRIES,
+    EXCHANGE,
+    EXCHANGE_ARGUMENTS,
+    LENGTH_LIMITS,
+    MOST_NUMBER,
+    PERMISSION,
+    QUEUE,
+    QUEUE_ARGUMENTS,
+    TYPES,
+    is_of,
+    name_of,
+    quoted,
+    wrong_hash,
+    wrong_name,
+    wrong_pattern,
+)
+
+# number: the cause for which warren would have refused it; meaning: what is no longer as it was, or nothing
+Change = namedtuple("Change", "number entry what meaning")
+
+# exchanges that every virtual host of RabbitMQ has and no export lists
+PREDECLARED = {"amq.direct": "direct", "amq.fanout": "fanout", "amq.topic": "topic"}
+
+# arguments of queues that are left out, each with what is then no longer as it was; nothing where all is as before
+LEFT_OUT = {
+    "x-message-ttl": "messages no longer expire",
+    "x-expires": "the queue is no longer deleted when nobody uses it",
+    "x-max-priority": "messages are given out as they came, whatever their priority",
+    "x-single-active-consumer": "all consumers of the queue get messages, in turn",
+    "x-delivery-limit": "a message may be given out again any number of times",
+    "x-dead-letter-strategy": "a dead letter that a full queue refuses is gone",
+    "x-queue-mode": "messages are in memory alone",
+    "x-queue-version": None,
+    "x-queue-master-locator": None,
+    "x-queue-leader-locator": None,
+    "x-quorum-initial-group-size": None,
+    "x-initial-cluster-size": None,
+    "x-max-age": "messages no longer go with age",
+    "x-stream-max-segment-size-bytes": None,
+}
+TYPE_LEFT_OUT = {
+    "classic": None,
+    "quorum": "there is one copy of each message, in memory alone",
+    "stream": "a message is gone once it is acknowledged, and nothing can be read again",
+}
+
+# settings of policies that are arguments of queues, and of exchanges
+OF_QUEUES = ("message-ttl", "expires", "max-length", "max-length-bytes", "overflow", "dead-letter-exchange", "dead-letter-routing-key")
+OF_QUEUES += ("delivery-limit", "queue-mode", "queue-version", "dead-letter-strategy", "max-age")
+APPLIES_TO_QUEUES = ("all", "queues", "classic_queues", "quorum_queues", "streams")
+APPLIES_TO_EXCHANGES = ("all", "exchanges")
+
+
+class NoFile(Exception):
+    """No file can be made of this export; the text says why."""
+
+
+class Conversion:
+    """What is being made of an export, and what was changed so far."""
+
+    def __init__(self, export, vhost=None):
+        if not isinstance(export, dict):
+            raise NoFile("the export is no JSON object")
+        self.export = export
+        self.changes = []
+        self.lists = {name: self._entries(name) for name in ENTRIES}
+        self.vhost = self._choose_vhost(vhost)
+        self.policies = self._policies()
+
+    def tell(self, number, entry, what, meaning=None):
+        self.changes.append(Change(number, entry, what, meaning))
+
+    # ---- what stands in the export
+
+    def _entries(self, name):
+        entries = self.export.get(name)
+        if not isinstance(entries, list):
+            meaning = "nobody may log in" if name == "users" else None
+            self.tell(2, "file", f"member {quoted(name)} is missing, or is no array: an empty one is added", meaning)
+            return []
+        for place, it in enumerate(entries):
+            if not isinstance(it, dict):
+                self.tell(2, f"{name[:-1]} {place + 1}", "is no object: left out", "it is not there")
+        return [it for it in entries if isinstance(it, dict)]
+
+    def _choose_vhost(self, wanted):
+        names = [it["name"] for it in self.lists["vhosts"] if isinstance(it.get("name"), str)]
+        named = [it for name in ENTRIES for it in self.lists[name]] + self._array("policies") + self._array("parameters")
+        names += [it["vhost"] for it in named if isinstance(it.get("vhost"), str)]
+        names = list(dict.fromkeys(names))
+        if wanted is None:
+            wanted = "/" if "/" in names or not names else names[0]
+            if wanted != "/" and len(names) > 1:
+                raise NoFile(f"it has the virtual hosts {', '.join(map(quoted, names))}: choose one by --vhost")
+        elif wanted not in names:
+            raise NoFile(f"it has no virtual host {quoted(wanted)}")
+        if not self.lists["vhosts"]:
+            self.tell(3, "file", "no virtual host is listed: \"/\" is added")
+        elif wanted != "/":
+            self.tell(3, f"vhost {quoted(wanted)}", "is now called \"/\"", "clients connect to \"/\"")
+        for name in names:
+            if name != wanted:
+                self.tell(3, f"vhost {quoted(name)}", "left out, with all that is in it", "it is not there")
+        return wanted
+
+    def _policies(self):
+        policies = []
+        for it in self._array("policies"):
+            called = f"policy {quoted(it.get('name'))}"
+            if it.get("vhost", self.vhost) != self.vhost:
+                continue
+            try:
+                pattern = re.compile(it["pattern"])
+                settings = dict(it["definition"])
+            except (KeyError, TypeError, ValueError, re.error, RecursionError):
+                self.tell(7, called, "left out: its pattern or its settings cannot be read", "its settings are not there")
+                continue
+            priority = it.get("priority", 0)
+            priority = priority if isinstance(priority, (int, float)) else 0
+            policies.append((priority, called, pattern, it.get("apply-to", "all"), settings))
+        return sorted(policies, key=lambda it: -it[0])
+
+    def _array(self, name):
+        entries = self.export.get(name)
+        return [it for it in entries if isinstance(it, dict)] if isinstance(entries, list) else []
+
+    def _here(self, name):
+        """The entries of the chosen virtual host, each with how it is called."""
+        kept = []
+        for place, it in enumerate(self.lists[name]):
+            called = name_of(name[:-1], it, place)
+            if "vhost" in it and it["vhost"] != self.vhost:
+                self.tell(3, called, f"left out: it is of the virtual host {quoted(it['vhost'])}")
+                continue
+            if "vhost" not in it:
+                self.tell(2, called, "member \"vhost\" is missing: \"/\" is added")
+            kept.append((called, it))
+        return kept
+
+    def _once(self, name, entries):
+        """The entries whose names are texts that did not come before."""
+        kept, seen = [], set()
+        for called, it in entries:
+            if not isinstance(it.get("name"), str):
+                self.tell(2, called, "left out: it has no name that is a text", "it is not there")
+            elif it["name"] in seen:
+                self.tell(4, called, "left out: one of this name came before")
+            else:
+                seen.add(it["name"])
+                kept.append((called, it))
+        return kept
+
+    # ---- parts of entries
+
+    def _truth(self, called, it, name, meaning=None):
+        value = it.get(name)
+        if not isinstance(value, bool):
+            self.tell(2, called, f"member {quoted(name)} is missing, or no truth value: it is now false", meaning)
+            return False
+        return value
+
+    def _arguments(self, called, it):
+        arguments = it.get("arguments")
+        if not isinstance(arguments, dict):
+            self.tell(2, called, "member \"arguments\" is missing, or is no object: now there are none")
+            return {}
+        return dict(arguments)
+
+    def _stays(self, called, it, meaning):
+        if self._truth(called, it, "auto_delete"):
+            self.tell(7, called, "auto_delete is now false", meaning)
+        return False
+
+    def _other_members(self, called, it, members):
+        for name in it:
+            if name not in members and not (name == "type" and members is QUEUE):
+                self.tell(7, called, f"member {quoted(name)} is left out")
+
+    def _policy_of(self, name, applies):
+        for _, called, pattern, to, settings in self.policies:
+            if to in applies and pattern.search(name):
+                return called, settings
+        return None, {}
+
+    def _with_policy(self, called, name, arguments, applies, known, prefix):
+        """The arguments, and what the policy that matches this name adds to them."""
+        policy, settings = self._policy_of(name, applies)
+        for setting, value in settings.items():
+            if setting not in known:
+                continue
+            argument = prefix + setting
+            own = arguments.get(argument)
+            if own is None:
+                arguments[argument] = value
+            elif is_of(own, int) and is_of(value, int):
+                arguments[argument] = min(own, value)
+            else:
+                continue
+            self.tell(7, called, f"{argument} {quoted_value(arguments[argument])} is added, from {policy}")
+
+    # ---- users
+
+    def users(self):
+        permitted = {}
+        for called, it in self._here("permissions"):
+            if all(isinstance(it.get(name), str) for name in ("user", *PERMISSION)):
+                permitted.setdefault(it["user"], []).append(it)
+            else:
+                self.tell(2, called, "left out: a member is missing or no text")
+        kept = [it for called, it in self._once("users", [(name_of("user", it, place), it) for place, it in enumerate(self.lists["users"])]) if self._is_kept(called, it, permitted)]
+        names = [it["name"] for it in kept]
+        for user in permitted:
+            if user not in names:
+                self.tell(12, f"permission {quoted(user)}", "left out: there is no such user here")
+        users = [{name: it[name] for name in ("name", "password_hash", "hashing_algorithm")} | {"tags": it.get("tags", [])} for it in kept]
+        return users, [{"user": name, "vhost": "/", **PERMISSION} for name in names]
+
+    def _is_kept(self, called, user, permitted):
+        cannot = "this user can no longer log in"
+        if any(not isinstance(user.get(name), str) for name in ("password_hash", "hashing_algorithm")):
+            self.tell(2, called, "left out: it has no password hash", cannot)
+        elif wrong_name(user["name"]):
+            self.tell(9, called, f"left out: {wrong_name(user['name'])}", cannot)
+        elif wrong_hash(user):
+            self.tell(13, called, f"left out: its {wrong_hash(user)}", cannot)
+        elif user["name"] not in permitted:
+            self.tell(12, called, "left out: it has no permission in this virtual host")
+        else:
+            self._tell_rights(called, permitted[user["name"]])
+            if user.get("limits"):
+                self.tell(0, called, "its limits are ignored", "it may have any number of connections and channels")
+            return True
+        return False
+
+    def _tell_rights(self, called, rights):
+        if len(rights) > 1:
+            self.tell(12, called, "its further permissions are left out")
+        before = rights[0]
+        if before["configure"] != PERMISSION["configure"]:
+            self.tell(12, called, f"configure {quoted(before['configure'])} is now \"^$\"", "it may declare, bind and delete nothing")
+        for name, where in (("write", "publish to each exchange"), ("read", "consume from each queue")):
+            if before[name] != PERMISSION[name]:
+                self.tell(12, called, f"{name} {quoted(before[name])} is now \".*\"", f"it may {where}")
+
+    # ---- exchanges
+
+    def exchanges(self):
+        kept = []
+        for called, it in self._once("exchanges", self._here("exchanges")):
+            kind = self._type(called, it)
+            wrong = wrong_name(it["name"])
+            if wrong:
+                self.tell(9, called, f"left out: {wrong}", "it is not there")
+            elif kind:
+                kept.append(self._exchange(called, it, kind))
+        return kept
+
+    def _type(self, called, it):
+        kind = it.get("type")
+        arguments = it.get("arguments")
+        delayed = arguments.get("x-delayed-type") if isinstance(arguments, dict) else None
+        if kind in TYPES:
+            return kind
+        if kind == "x-delayed-message" and delayed in TYPES:
+            self.tell(6, called, f"type \"x-delayed-message\" is now {quoted(delayed)}", "messages are no longer delayed")
+            return delayed
+        self.tell(6, called, f"left out: its type is {quoted(kind)}", "it is not there, nor what it was bound to by this exchange")
+        return None
+
+    def _exchange(self, called, it, kind):
+        arguments = self._arguments(called, it)
+        self._with_policy(called, it["name"], arguments, APPLIES_TO_EXCHANGES, ("alternate-exchange",), "")
+        self._other_members(called, it, EXCHANGE)
+        kept = {}
+        for name, value in arguments.items():
+            if name in EXCHANGE_ARGUMENTS and isinstance(value, str):
+                kept[name] = value
+            elif name in EXCHANGE_ARGUMENTS:
+                self.tell(2, called, f"argument {quoted(name)} is left out: it is no text", "what it did is not done")
+            else:
+                self.tell(7, called, f"argument {quoted(name)} is left out", None if name == "x-delayed-type" else "what it did is not done")
+        return {
+            "name": it["name"],
+            "vhost": "/",
+            "type": kind,
+            "durable": self._truth(called, it, "durable"),
+            "auto_delete": self._stays(called, it, "it is no longer deleted with its last binding"),
+            "internal": self._truth(called, it, "internal", "clients may publish to it, though it may have been internal"),
+            "arguments": kept,
+        }
+
+    # ---- queues
+
+    def queues(self):
+        kept = []
+        for called, it in self._once("queues", self._here("queues")):
+            wrong = "it has no name" if not it["name"] else wrong_pattern(it["name"])
+            if wrong:
+                self.tell(9, called, f"left out: its name {wrong}" if it["name"] else "left out: it has no name", "it is not there")
+            else:
+                kept.append(self._queue(called, it))
+        return kept
+
+    def _queue(self, called, it):
+        arguments = self._arguments(called, it)
+        if "type" in it:
+            told = "x-queue-type" in arguments
+            self.tell(7, called, f"member \"type\" {quoted_value(it['type'])} is left out", None if told else self._type_meaning(it["type"]))
+        self._with_policy(called, it["name"], arguments, APPLIES_TO_QUEUES, OF_QUEUES, "x-")
+        self._other_members(called, it, QUEUE)
+        return {
+            "name": it["name"],
+            "vhost": "/",
+            "durable": self._truth(called, it, "durable"),
+            "auto_delete": self._stays(called, it, "it is no longer deleted with its last consumer, and keeps its messages"),
+            "arguments": self._queue_arguments(called, arguments),
+        }
+
+    def _queue_arguments(self, called, arguments):
+        kept = {}
+        for name, value in arguments.items():
+            if name in QUEUE_ARGUMENTS and is_of(value, QUEUE_ARGUMENTS[name]):
+                kept[name] = value
+            elif name in LENGTH_LIMITS and type(value) is int and value > MOST_NUMBER:
+                kept[name] = MOST_NUMBER
+                self.tell(2, called, f"{name} {value} is now {MOST_NUMBER}", "the limit is lower")
+            elif name in QUEUE_ARGUMENTS:
+                self.tell(2, called, f"argument {quoted(name)} is left out: it is of the wrong kind", "what it did is not done")
+            else:
+                self._leave_out(called, name, value)
+        self._mend_overflow(called, kept)
+        self._mend_dead_letters(called, kept)
+        return kept
+
+    def _type_meaning(self, kind):
+        return TYPE_LEFT_OUT.get(kind, "the queue is like any other") if isinstance(kind, str) else None
+
+    def _leave_out(self, called, name, value):
+        meaning = LEFT_OUT.get(name, "what it did is not done")
+        if name == "x-queue-type":
+            meaning = self._type_meaning(value)
+        elif name == "x-queue-mode" and value != "lazy" or name == "x-dead-letter-strategy" and value != "at-least-once":
+            meaning = None
+        self.tell(7, called, f"argument {quoted(name)} {quoted_value(value)} is left out", meaning)
+
+    def _mend_overflow(self, called, kept):
+        limited = any(limit in kept for limit in LENGTH_LIMITS)
+        overflow = kept.get("x-overflow")
+        if overflow not in (None, "reject-publish"):
+            refuses = "a full queue refuses what comes and keeps what it has"
+            if overflow == "reject-publish-dlx":
+                refuses = "what a full queue refuses makes no dead letter"
+            self.tell(7, called, f"x-overflow {quoted(overflow)} is now \"reject-publish\"", refuses if limited else None)
+            kept["x-overflow"] = "reject-publish"
+        elif overflow is None and limited:
+            self.tell(8, called, "x-overflow \"reject-publish\" is added", "a full queue refuses what comes and keeps what it has; RabbitMQ drops the oldest")
+            kept["x-overflow"] = "reject-publish"
+
+    def _mend_dead_letters(self, called, kept):
+        key = kept.get("x-dead-letter-routing-key")
+        if key is None:
+            return
+        if "x-dead-letter-exchange" not in kept:
+            self.tell(7, called, "x-dead-letter-routing-key is left out: there is no x-dead-letter-exchange")
+            del kept["x-dead-letter-routing-key"]
+        elif wrong_pattern(key):
+            self.tell(9, called, f"its dead letters are left out: their key {wrong_pattern(key)}", "what is rejected is gone")
+            del kept["x-dead-letter-routing-key"], kept["x-dead-letter-exchange"]
+
+    # ---- what names an exchange or a queue
+
+    def with_predeclared(self, exchanges, queues):
+        """The exchanges, with those that every virtual host has where something names them."""
+        names = {it["name"] for it in exchanges}
+        wanted = [it.get("source") for _, it in self._quietly("bindings")]
+        wanted += [it.get("destination") for _, it in self._quietly("bindings") if it.get("destination_type") == "exchange"]
+        wanted += [it["arguments"].get("alternate-exchange") for it in exchanges]
+        wanted += [it["arguments"].get("x-dead-letter-exchange") for it in queues]
+        added = []
+        for name, kind in PREDECLARED.items():
+            if name in wanted and name not in names:
+                self.tell(5, f"exchange {quoted(name)}", "is added: RabbitMQ has it, and no export lists it")
+                added.append({"name": name, "vhost": "/", "type": kind, "durable": True, "auto_delete": False, "internal": False, "arguments": {}})
+        return exchanges + added
+
+    def _quietly(self, name):
+        return [(None, it) for it in self.lists[name] if it.get("vhost", self.vhost) == self.vhost]
+
+    def drop_absent(self, exchanges, queues):
+        """Takes out alternate and dead-letter exchanges that are not there."""
+        names = {it["name"] for it in exchanges}
+        for it in exchanges:
+            other = it["arguments"].get("alternate-exchange")
+            if other is not None and other not in names:
+                del it["arguments"]["alternate-exchange"]
+                self.tell(11, f"exchange {quoted(it['name'])}", f"its alternate exchange {quoted(other)} is left out: it is not there", "what no binding takes is gone")
+        for it in queues:
+            dead = it["arguments"].get("x-dead-letter-exchange")
+            if dead and dead not in names:
+                del it["arguments"]["x-dead-letter-exchange"]
+                it["arguments"].pop("x-dead-letter-routing-key", None)
+                self.tell(11, f"queue {quoted(it['name'])}", f"its dead-letter exchange {quoted(dead)} is left out: it is not there", "what is rejected is gone")
+
+    def bindings(self, exchanges, queues):
+        types = {it["name"]: it["type"] for it in exchanges}
+        kept = []
+        for called, it in self._here("bindings"):
+            wrong = self._against_binding(it, types, {q["name"] for q in queues})
+            if wrong:
+                number, what, meaning = wrong
+                self.tell(number, called, f"left out: {what}", meaning)
+                continue
+            for name in self._arguments(called, it):
+                self.tell(7, called, f"argument {quoted(name)} is left out")
+            self._other_members(called, it, BINDING)
+            kept.append({name: it[name] for name in BINDING if name not in ("vhost", "arguments")} | {"vhost": "/", "arguments": {}})
+        return kept
+
+    def _against_binding(self, it, types, queues):
+        """Why a binding has to be left out: the cause, the text, and what is no longer as it was."""
+        lost = "it no longer leads there"
+        for name in ("source", "destination", "destination_type", "routing_key"):
+            if not isinstance(it.get(name), str):
+                return 2, f"its member {quoted(name)} is missing or no text", lost
+        if it["source"] == "":
+            as_named = it["destination_type"] == "queue" and it["routing_key"] == it["destination"]
+            return 5, "the default exchange leads to each queue by its name anyway", None if as_named else lost
+        if it["source"] not in types:
+            return 5, f"exchange {quoted(it['source'])} is not there", lost
+        if it["destination_type"] not in ("queue", "exchange"):
+            return 7, f"its destination_type is {quoted(it['destination_type'])}", lost
+        if it["destination"] not in (queues if it["destination_type"] == "queue" else types):
+            return 5, f"{it['destination_type']} {quoted(it['destination'])} is not there", lost
+        if wrong_pattern(it["routing_key"]):
+            return 9, f"its key {wrong_pattern(it['routing_key'])}", lost
+        return None
+
+    # ---- the rest
+
+    def tell_rest(self):
+        for _, called, _, _, settings in self.policies:
+            others = [name for name in settings if name not in OF_QUEUES and name != "alternate-exchange"]
+            also = f", but not {', '.join(others)}" if others else ""
+            self.tell(7, called, f"left out: its settings are copied to each queue and exchange that it matches{also}", "those settings do nothing" if others else None)
+        for it in self._array("parameters"):
+            here = it.get("vhost", self.vhost) == self.vhost
+            self.tell(7, f"parameter {quoted(it.get('name'))}", f"of {quoted(it.get('component'))}: left out", "what it did is not done" if here else None)
+        for it in self._array("topic_permissions"):
+            here = it.get("vhost", self.vhost) == self.vhost
+            self.tell(7, f"topic permission {quoted(it.get('user'))}", "left out", "this user may publish and consume under every key" if here else None)
+        for name in EMPTY_ARRAYS:
+            if name in self.export and not isinstance(self.export[name], list):
+                self.tell(2, "file", f"member {quoted(name)} is no array: it is left out")
+
+
+def quoted_value(value):
+    return quoted(value) if isinstance(value, str) else str(value) if isinstance(value, (bool, int, float)) else "?"
+
+
+def convert(export, vhost=None):
+    """The definitions that warren is to take, and the changes that lead there."""
+    work = Conversion(export, vhost)
+    users, permissions = work.users()
+    queues = work.queues()
+    exchanges = work.with_predeclared(work.exchanges(), queues)
+    work.drop_absent(exchanges, queues)
+    bindings = work.bindings(exchanges, queues)
+    work.tell_rest()
+    made = {"vhosts": [{"name": "/"}], "users": users, "permissions": permissions, "exchanges": exchanges, "queues": queues, "bindings": bindings}
+    return made, work.changes

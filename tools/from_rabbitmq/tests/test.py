@@ -1,0 +1,260 @@
+"""The tests of from_rabbitmq, which want Python 3 alone: python3 tools/from_rabbitmq/tests/test.py
+
+What is expected was written by hand: the causes of crates/line_cases/data/definitions.lines, the lines of thirty.told, and what
+declare.py declared that warren does not take.
+"""
+
+import copy
+import json
+import os
+import random
+import subprocess
+import sys
+import unittest
+
+HERE = os.path.dirname(os.path.abspath(__file__))
+TOOL = os.path.dirname(HERE)
+ROWS = os.path.join(TOOL, "../../crates/line_cases/data")
+sys.path.insert(0, TOOL)
+from causes import NotJson, causes_in, causes_of, read_json  # noqa: E402
+from convert import NoFile, convert  # noqa: E402
+
+
+def export(name):
+    with open(os.path.join(HERE, "exports", name), "rb") as file:
+        return file.read()
+
+
+def run(*words, given=b""):
+    done = subprocess.run([sys.executable, TOOL, *words], input=given, capture_output=True)
+    return done.returncode, done.stdout.decode(), done.stderr.decode()
+
+
+class Rows(unittest.TestCase):
+    """The least cause is the one that stands in the rows of the reader of definitions files."""
+
+    def expanded(self, name):
+        lines = []
+        with open(os.path.join(ROWS, name), encoding="utf-8") as file:
+            for line in file.read().split("\n"):
+                if line.startswith("repeat "):
+                    _, first, last, text = line.split(" ", 3)
+                    line = ",".join(text.replace("%", str(it)) for it in range(int(first), int(last)))
+                lines.append(line)
+        return "\n".join(lines)
+
+    def bytes_of(self, asked):
+        kind, _, rest = asked.partition(" ")
+        if kind == "definitions-hex":
+            parts = (word.split("*") for word in rest.split())
+            return b"".join(bytes.fromhex(it[0]) * (int(it[1]) if it[1:] else 1) for it in parts)
+        name, *edits = rest.split(" | ")
+        text = self.expanded(name)
+        for edit in edits:
+            old, _, new = edit.partition(" =>")
+            self.assertIn(old, text)
+            text = text.replace(old, new.removeprefix(" "), 1)
+        return text.encode()
+
+    def test_each(self):
+        with open(os.path.join(ROWS, "definitions.lines"), encoding="utf-8") as file:
+            rows = [line.rstrip("\n").rpartition(" -> ") for line in file if line.startswith("definitions")]
+        self.assertGreater(len(rows), 100)
+        for asked, _, wanted in rows:
+            with self.subTest(asked[:150]):
+                causes = causes_of(self.bytes_of(asked.rstrip()))
+                told = f"refused {min(it.number for it in causes)}" if causes else "read"
+                self.assertEqual(told, wanted)
+
+
+class Told(unittest.TestCase):
+    def test_a_file_of_many_causes_is_told_whole(self):
+        status, out, _ = run("--check", os.path.join(HERE, "thirty.json"))
+        with open(os.path.join(HERE, "thirty.told"), encoding="utf-8") as file:
+            wanted = file.read().splitlines()
+        self.assertEqual(status, 1)
+        self.assertEqual(out.splitlines()[-1], wanted[-1])
+        self.assertEqual(sorted(out.splitlines()), sorted(wanted))
+        numbers = [int(line.split(":")[0].split()[1]) for line in out.splitlines()[:-1]]
+        self.assertEqual(numbers, sorted(numbers))
+
+    def test_a_file_that_is_taken(self):
+        with open(os.path.join(ROWS, "files/whole.json"), "rb") as file:
+            self.assertEqual(run("--check", "-", given=file.read())[0], 0)
+
+
+# of each entry in declare.py that warren does not take as it is: the cause, and whether its meaning changes
+OF_BOTH = {
+    ('vhost "office"', 3, True),
+    ('user "robot"', 13, True),
+    ('user "till"', 12, True),
+    ('user "guest"', 12, True),
+    ('user "clerk"', 12, False),
+    ('permission "robot"', 12, False),
+    ('permission "guest"', 3, False),
+    ('permission "clerk"', 3, False),
+    ('exchange "desk"', 3, False),
+    ('queue "tray"', 3, False),
+    ('binding "desk" to queue "tray", key "#"', 3, False),
+    ('queue "session"', 7, True),
+    ('queue "packing"', 7, True),
+    ('queue "packing"', 7, False),
+    ('queue "packing"', 8, True),
+    ('queue "audit"', 7, True),
+    ('queue "billing"', 8, True),
+    ('queue "billing"', 11, True),
+    ('queue "lost"', 7, True),
+    ('queue "replay"', 7, True),
+    ('queue "odd..name"', 9, True),
+    ('exchange "by_header"', 6, True),
+    ('exchange "payments"', 7, False),
+    ('exchange "amq.topic"', 5, False),
+    ('binding "by_header" to queue "audit", key ""', 5, True),
+    ('binding "shop" to queue "odd..name", key "odd.*"', 5, True),
+    ('binding "payments" to queue "billing", key "paid"', 7, False),
+    ('policy "deaths"', 7, True),
+    ('policy "others"', 7, False),
+    ('parameter "limits"', 7, False),
+    ('topic permission "clerk"', 7, False),
+}
+# rabbitmqctl leaves out `internal` and the exchange that is internal, and gives each queue a type
+OF_CONTROL = OF_BOTH | {(f'exchange "{name}"', 2, True) for name in ("shop", "payments", "strays")}
+OF_CONTROL |= {(f'queue "{name}"', 7, False) for name in ("session", "dead", "lost", "billing", "audit", "replay")}
+OF_CONTROL |= {
+    (f"binding {it}", 5, True)
+    for it in (
+        '"shop" to exchange "records", key "orders.#"',
+        '"payments" to exchange "records", key "paid"',
+        '"records" to queue "audit", key ""',
+        '"records" to queue "replay", key ""',
+    )
+}
+OF_OFFICE = {
+    ("file", 2, False),
+    ("file", 2, True),
+    ("file", 3, False),
+    ('exchange "desk"', 2, False),
+    ('queue "tray"', 2, False),
+    ('binding "desk" to queue "tray", key "#"', 2, False),
+    ('parameter "limits"', 7, True),
+}
+
+
+class Exports(unittest.TestCase):
+    """Exports of RabbitMQ 3.10.8, taken of what declare.py declares."""
+
+    def changes(self, name, wanted):
+        made, changes = convert(read_json(export(name)))
+        self.assertEqual({(it.entry, it.number, it.meaning is not None) for it in changes}, wanted)
+        self.assertEqual(causes_in(made), [])
+        return made
+
+    def test_of_the_management_interface(self):
+        made = self.changes("shop_and_office.json", OF_BOTH)
+        queues = {it["name"]: it["arguments"] for it in made["queues"]}
+        self.assertEqual(queues["packing"], {"x-dead-letter-exchange": "strays", "x-max-length": 50, "x-overflow": "reject-publish"})
+        self.assertEqual(queues["billing"], {"x-max-length": 1000, "x-overflow": "reject-publish"})
+        self.assertEqual(sorted(queues), ["audit", "billing", "dead", "lost", "packing", "replay", "session"])
+        exchanges = {it["name"]: it for it in made["exchanges"]}
+        self.assertEqual(exchanges["payments"]["arguments"], {"alternate-exchange": "strays"})
+        self.assertTrue(exchanges["records"]["internal"])
+        self.assertEqual(len(made["bindings"]), 8)
+        self.assertEqual([it["name"] for it in made["users"]], [it["user"] for it in made["permissions"]])
+
+    def test_of_one_virtual_host(self):
+        made = self.changes("office_alone.json", OF_OFFICE)
+        self.assertEqual(made["queues"][0]["arguments"], {"x-max-length": 5, "x-overflow": "reject-publish"})
+
+    def test_of_rabbitmqctl(self):
+        made = self.changes("control.json", OF_CONTROL)
+        self.assertEqual(len(made["bindings"]), 4)
+
+    def test_another_virtual_host_is_chosen(self):
+        made, changes = convert(read_json(export("shop_and_office.json")), "office")
+        self.assertEqual([it["name"] for it in made["queues"]], ["tray"])
+        self.assertEqual(sorted(it["name"] for it in made["users"]), ["clerk", "guest"])
+        self.assertIn('vhost "office"', [it.entry for it in changes])
+        with self.assertRaises(NoFile):
+            convert(read_json(export("shop_and_office.json")), "nowhere")
+
+    def test_newer_forms(self):
+        """Written by hand in the form of RabbitMQ 4: metadata and limits of hosts, a queue type for each queue, a delayed exchange."""
+        made, changes = convert(read_json(export("newer.json")))
+        self.assertEqual(causes_in(made), [])
+        self.assertEqual([it["type"] for it in made["exchanges"]], ["topic"])
+        self.assertEqual(made["queues"][0]["arguments"], {})
+        told = {(it.entry, it.number, it.meaning is not None) for it in changes}
+        wanted = {('user "app"', 12, True), ('user "app"', 0, True), ('queue "jobs"', 7, True), ('exchange "later"', 6, True), ('exchange "later"', 7, False)}
+        self.assertEqual(told, wanted | {('parameter "ops"', 7, True)})
+
+
+class Bad(unittest.TestCase):
+    """Whatever stands in a file, the answer is a line and a status."""
+
+    def test_no_file_is_made_of(self):
+        inputs = [b"", b"{", b"[]", b"null", b"7", b'"', b"\xff\xfe", b"\xff\xfe{", b"\x00" * 100, b"[" * 100_000, b'{"a":' * 5_000, b"NaN", b" " * 16_777_216]
+        inputs += [b'{"vhosts":1e999}', b'{"vhosts":' + b"9" * 10_000 + b"}", b'{"vhosts":"\\ud800"}', b"[" * 8_000_000, os.urandom(1000), b'{"vhosts":[{"name":"a"},{"name":"b"}]}']
+        for given in inputs:
+            with self.subTest(given[:20]):
+                status, out, said = run("-", given=given)
+                self.assertEqual((status, out), (3, ""))
+                self.assertNotIn("Traceback", said)
+                self.assertTrue(said.startswith("from_rabbitmq: ") or "\nfrom_rabbitmq: " in said)
+                status, out, said = run("--check", "-", given=given)
+                self.assertEqual((status, said), (1, ""))
+                self.assertTrue(out.splitlines()[-1].startswith("1 causes") or len(given) < 100)
+
+    def test_files_that_are_not_there(self):
+        self.assertEqual(run("/nowhere/export.json")[0], 3)
+        self.assertEqual(run("/")[0], 3)
+        self.assertEqual(run(os.path.join(HERE, "exports/office_alone.json"), "/nowhere/file.json")[0], 3)
+
+    def test_what_windows_writes(self):
+        text = export("office_alone.json").decode()
+        for coding in ("utf-8-sig", "utf-16"):
+            status, out, said = run("-", given=text.encode(coding))
+            self.assertEqual(status, 0)
+            self.assertIn("byte order mark", said)
+            self.assertEqual(causes_of(out.encode()), [])
+
+    def test_too_many_entries_are_not_mended(self):
+        value = json.loads(export("office_alone.json"))
+        value["queues"] = [{**value["queues"][0], "name": f"q{it}"} for it in range(257)]
+        value["bindings"] = []
+        status, out, said = run("-", given=json.dumps(value).encode())
+        self.assertEqual((status, out), (3, ""))
+        self.assertIn("NOT MENDED: file: 257 queues; 256 are the most (refused 10)", said)
+
+    def test_any_member_may_be_anything(self):
+        """A member of an export is replaced by something else: what is made is taken, or it is said why nothing is made."""
+        chance = random.Random(1)
+        others = [None, True, 0, -1, 5_000_000_000, 1.5, "", "a..b", ".", "x" * 300, "q", [], {}, [1], {"a": 1}, "headers", ["x"], {"x-max-length": -1}]
+        for name in ("shop_and_office.json", "control.json", "newer.json"):
+            for _ in range(150):
+                value = json.loads(export(name))
+                for _ in range(chance.randint(1, 4)):
+                    self.replace(value, chance, others)
+                causes_in(value)
+                try:
+                    made, _ = convert(value)
+                except NoFile:
+                    continue
+                self.assertEqual(causes_in(made), [])
+                json.dumps(made)
+
+    def replace(self, value, chance, others):
+        while True:
+            if isinstance(value, dict) and value:
+                key = chance.choice(sorted(value))
+            elif isinstance(value, list) and value:
+                key = chance.randrange(len(value))
+            else:
+                return
+            if chance.random() < 0.3 or not isinstance(value[key], (dict, list)):
+                value[key] = copy.deepcopy(chance.choice(others))
+                return
+            value = value[key]
+
+
+if __name__ == "__main__":
+    unittest.main()

@@ -1,0 +1,91 @@
+#!/usr/bin/env python3
+"""Checks the pages that users read: no sentence of more than 40 words, no link that leads nowhere, no README of more than 150 lines.
+
+And that each entry of docs/DECISIONS.md is once in its index.
+"""
+
+import os
+import re
+import sys
+
+PAGES = ["README.md", "CHANGELOG.md", "tools/README.md"]
+PAGES += [f"docs/{it}.md" for it in ("GUARANTEES", "SECURITY", "LIMITS", "OPERATIONS", "CLIENTS", "FORMATS", "PROTOCOL", "PROMISE")]
+PAGES += [f"examples/{it}/README.md" for it in ("first_publish", "shop", "clients", "load", "deploy")]
+MOST_WORDS = 40
+MOST_LINES = 150
+BEGINS = re.compile(r"^\s*([-*]|\d+\.) ")
+LINK = re.compile(r"\]\(([^)]+)\)")
+
+
+def without_code(text):
+    return re.sub(r"^```.*?^```", "\n", text, flags=re.MULTILINE | re.DOTALL)
+
+
+def parts(text):
+    """What is read by itself: a paragraph, a bullet, a heading, an item of a table. Each with its line."""
+    part, at = [], 0
+    for number, line in enumerate(text.splitlines() + [""], 1):
+        if line.startswith("|") or line.startswith("#") or BEGINS.match(line) or not line.strip():
+            yield at, " ".join(part)
+            part = []
+        if line.startswith("|"):
+            yield from ((number, item) for cell in line.strip("|").split("|") for item in cell.split(";"))
+        elif line.strip():
+            part, at = part + [BEGINS.sub("", line).strip("# ")], at if part else number
+
+
+def sentences(text):
+    """The sentences of a part; what stands in backticks is one word."""
+    plain = re.sub(r"`[^`]*`", "code", text)
+    return re.split(r"(?<=[.!?])\s+(?=[A-Z*\"(\[]|code\b|warren\b)", plain)
+
+
+def headings_of(path):
+    """The headings of a page, as links name them."""
+    with open(path, encoding="utf-8") as file:
+        lines = re.findall(r"^#+ (.*)$", without_code(file.read()), re.MULTILINE)
+    return [re.sub(r"[^a-z0-9 _-]", "", it.lower()).replace(" ", "-") for it in lines]
+
+
+def wrong_in(root, page):
+    with open(os.path.join(root, page), encoding="utf-8") as file:
+        text = file.read()
+    counts = []
+    for at, part in parts(without_code(text)):
+        for it in sentences(part):
+            counts.append(len(it.split()))
+            if counts[-1] > MOST_WORDS:
+                yield f"{page}: {counts[-1]} words: {it[:70]} .."
+    for target in LINK.findall(text):
+        name, _, heading = target.partition("#")
+        path = os.path.join(root, os.path.dirname(page), name) if name else os.path.join(root, page)
+        if "://" not in target and not (os.path.exists(path) and (not heading or heading in headings_of(path))):
+            yield f"{page}: {target} leads nowhere"
+    lines = text.count("\n")
+    if page == "README.md" and lines > MOST_LINES:
+        yield f"{page}: {lines} lines; {MOST_LINES} are the most"
+
+
+def wrong_in_index(root):
+    with open(os.path.join(root, "docs/DECISIONS.md"), encoding="utf-8") as file:
+        index, _, entries = file.read().partition("\n## 20")
+    listed = re.findall(r"^- (?:~~)?(.*?)(?:~~)?$", index, re.MULTILINE)
+    there = [re.sub(r"\s+", " ", it).rstrip(".,") for it in re.findall(r"^(?:\*\([^)]*\)\* )?\*\*(.+?)\*\*", entries, re.MULTILINE | re.DOTALL)]
+    for it in there:
+        if listed.count(it) != 1:
+            yield f"docs/DECISIONS.md: {listed.count(it)} lines by subject: {it}"
+    for it in listed:
+        if it not in there:
+            yield f"docs/DECISIONS.md: no entry: {it}"
+
+
+def main(root):
+    wrong = [it for page in PAGES for it in wrong_in(root, page)] + list(wrong_in_index(root))
+    for it in wrong:
+        print(it)
+    print(f"{len(PAGES)} pages, {len(wrong)} faults")
+    return 1 if wrong else 0
+
+
+if __name__ == "__main__":
+    sys.exit(main(sys.argv[1] if sys.argv[1:] else "."))
