@@ -1,11 +1,13 @@
 //! The content of a dead letter.
 
-ghost use Rattle.std.specs.Prelude.{◌≡◌, ◌<◌, ◌++◌, length, IfOk, OnOk, option_map};
+ghost use Rattle.std.specs.Prelude.{◌≡◌, ◌<◌, ◌++◌, length, IfOk, OnOk, Some};
+ghost use Rattle.model.specs.Deaths;
 ghost use Rattle.model.specs.Deaths.{first_death};
 ghost use Rattle.deaths.specs.Marked.{text_field, IsMarked};
 
 use field_table::has_field;
-use model::{Content, Text};
+use headers::{fields_of, headers_of};
+use model::{Content, Properties, Table, Text};
 use std::alloc::{AllocError, Global};
 
 /// The field that names the queue of the first death.
@@ -27,28 +29,27 @@ pub fn marked(
 ) -> Result<Content, AllocError>
     ensures { IfOk result (IsMarked queue.now exchange.now content.now) }
 {
-    let Some(headers) = headers_of(content) else {
+    let Some(headers) = headers_of(&content.properties) else {
         let made = with_death(alloc, &[], queue.as_bytes(), exchange.as_bytes())?;
-        return content.with_headers(alloc, &made);
+        return with_headers(alloc, content, &made);
     };
     if has_field(headers, QUEUE) {
         return content.clone();
     }
     let longer = with_death(alloc, headers, queue.as_bytes(), exchange.as_bytes())?;
-    content.with_headers(alloc, &longer)
+    with_headers(alloc, content, &longer)
 }
 
-/// The pairs of its headers, where it has any.
-fn headers_of(content: &Content) -> Option<&[u8]>
-    ensures { option_map (λ h. h.now) result ≡ content.now.properties.headers }
+/// The same body, shared, with the same properties but for the headers, of which these are the pairs.
+fn with_headers(alloc: Global, content: &Content, headers: &[u8]) -> Result<Content, AllocError>
+    ensures { IfOk result (λ c. c ≡ Deaths.with_headers content.now (Some headers.now)) }
 {
-    match content.properties.fields() {
-        None => None,
-        Some(fields) => match &fields.headers {
-            None => None,
-            Some(headers) => Some(headers.as_bytes()),
-        },
-    }
+    let mut fields = fields_of(alloc, &content.properties)?;
+    fields.headers = Some(Table::from_pairs(Text::from_slice(alloc, headers)?));
+    Ok(Content {
+        properties: Properties::new(alloc, fields)?,
+        body: content.body.clone()?,
+    })
 }
 
 /// These headers, and behind them the fields of a first death.

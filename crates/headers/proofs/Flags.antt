@@ -82,7 +82,7 @@ number_of false (suc zero) lt e = absurd (cc)
 number_of false (suc (suc n)) lt e = absurd (omega arith)
 
 -- one bit more
-split_flags : (f n : ℕ) → f % 2 ^ (n + 3) ≡ (f / 2 ^ (n + 2) % 2) * 2 ^ (n + 2) + f % 2 ^ (n + 2)
+pub split_flags : (f n : ℕ) → f % 2 ^ (n + 3) ≡ (f / 2 ^ (n + 2) % 2) * 2 ^ (n + 2) + f % 2 ^ (n + 2)
 split_flags f n =
     let e : 1 + (n + 2) ≡ n + 3 = omega arith in
     subst (λ (i : ℕ). f % 2 ^ i ≡ (f / 2 ^ (n + 2) % 2) * 2 ^ (n + 2) + f % 2 ^ (n + 2)) e (mod-pow-add f 1 (n + 2))
@@ -157,16 +157,16 @@ same_len [] (o ∷ os) h = absurd h
 same_len (r ∷ rs) [] h = absurd h
 same_len (r ∷ rs) (o ∷ os) h = ap (λ (i : ℕ). suc i) (same_len rs os h.1)
 
-bit_is : (b : Bool) → eqb (cond b 1 0) 1 ≡ b
+pub bit_is : (b : Bool) → eqb (cond b 1 0) 1 ≡ b
 bit_is true = refl
 bit_is false = refl
 
 -- the same number, by its highest digit and what is below it
-record Digits (f w c low : ℕ) : Type 0 where
-  high : f / w % 2 ≡ c
-  rest : f % w ≡ low
+pub record Digits (f w c low : ℕ) : Type 0 where
+  pub high : f / w % 2 ≡ c
+  pub rest : f % w ≡ low
 
-digits : (f w c low : ℕ) → low < w → f % w < w → (f / w % 2) * w + f % w ≡ c * w + low → Digits f w c low
+pub digits : (f w c low : ℕ) → low < w → f % w < w → (f / w % 2) * w + f % w ≡ c * w + low → Digits f w c low
 digits f w c low lt under e = record {
   high = sym (div-mul-add (f / w % 2) w (f % w) under) ∙ ap (λ (i : ℕ). i / w) e ∙ div-mul-add c w low lt;
   rest = sym (mod-mul-add (f / w % 2) w (f % w) under) ∙ ap (λ (i : ℕ). i % w) e ∙ mod-mul-add c w low lt;

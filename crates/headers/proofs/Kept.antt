@@ -5,8 +5,9 @@ use Rattle.std.specs.List.{AllByRecursion, flat_map}
 use Rattle.std.proofs.lemmas.Bool.{eqb-true, eq-eqb}
 use Rattle.std.proofs.Math.Nat.{mod-eq_of_lt}
 use Rattle.model.specs.Words.{Text}
-use Rattle.model.specs.Grammar.{Argument, Octet, Long_long, Short_text, Field_table}
-use Rattle.model.specs.Headers.{no_properties, text_of, octet_of, time_of, table_of, properties_of, flags, value_of, IsValue, AreProperties}
+use Rattle.model.specs.Grammar.{Argument}
+use Rattle.model.specs.Headers.{text_of, octet_of, time_of, table_of, properties_of, flags, value_of, IsValue, AreProperties}
+use Rattle.model.specs.Properties.{text_told, octet_told, time_told, table_told, properties_told}
 use Rattle.model.specs.declared.contents.Fields.{Fields as Properties}
 use Rattle.field_table.specs.Arguments.{an_octet, a_short_text, a_long_long, a_field_table, IsArgumentWhole}
 use Rattle.model.specs.Options.{◌>>=◌}
@@ -293,64 +294,25 @@ sized_again p pairs fits is lt =
 
 -- ---- told apart
 
-text_back : Option Argument → Option Text
-text_back (Some (Short_text t)) = Some t
-text_back _ = None
-
-octet_back : Option Argument → Option ℕ
-octet_back (Some (Octet n)) = Some n
-octet_back _ = None
-
-time_back : Option Argument → Option ℕ
-time_back (Some (Long_long n)) = Some n
-time_back _ = None
-
-table_back : Option Argument → Option (List ℕ)
-table_back (Some (Field_table t)) = Some t
-table_back _ = None
-
-text_same : (t : Option Text) → text_back (text_of t) ≡ t
-unfolding text_back
+text_same : (t : Option Text) → text_told (text_of t) ≡ t
 text_same None = refl
 text_same (Some t) = refl
 
-octet_same : (n : Option ℕ) → octet_back (octet_of n) ≡ n
-unfolding octet_back
+octet_same : (n : Option ℕ) → octet_told (octet_of n) ≡ n
 octet_same None = refl
 octet_same (Some n) = refl
 
-time_same : (n : Option ℕ) → time_back (time_of n) ≡ n
-unfolding time_back
+time_same : (n : Option ℕ) → time_told (time_of n) ≡ n
 time_same None = refl
 time_same (Some n) = refl
 
-table_same : (t : Option (List ℕ)) → table_back (table_of t) ≡ t
-unfolding table_back
+table_same : (t : Option (List ℕ)) → table_told (table_of t) ≡ t
 table_same None = refl
 table_same (Some t) = refl
 
-rebuilt : List (Option Argument) → Properties
-rebuilt (a ∷ b ∷ c ∷ d ∷ e ∷ f ∷ g ∷ h ∷ i ∷ j ∷ k ∷ l ∷ m ∷ n ∷ []) = record {
-  content_type = text_back a;
-  content_encoding = text_back b;
-  headers = table_back c;
-  delivery_mode = octet_back d;
-  priority = octet_back e;
-  correlation_id = text_back f;
-  reply_to = text_back g;
-  expiration = text_back h;
-  message_id = text_back i;
-  timestamp = time_back j;
-  kind = text_back k;
-  user_id = text_back l;
-  app_id = text_back m;
-  reserved = text_back n;
-}
-rebuilt _ = no_properties
-
-rebuilt_same : (p : Properties) → rebuilt (properties_of p) ≡ p
-unfolding rebuilt
-rebuilt_same p =
+pub told_same : (p : Properties) → properties_told (properties_of p) ≡ p
+unfolding properties_told
+told_same p =
     rw (
       text_same p.content_type,
       text_same p.content_encoding,
@@ -369,4 +331,4 @@ rebuilt_same p =
     ) refl
 
 pub same_properties : (p q : Properties) → properties_of p ≡ properties_of q → p ≡ q
-same_properties p q e = sym (rebuilt_same p) ∙ ap rebuilt e ∙ rebuilt_same q
+same_properties p q e = sym (told_same p) ∙ ap properties_told e ∙ told_same q

@@ -31,14 +31,20 @@ from_place n k bytes front e = sym (take-append-drop n (drop k bytes)) ∙ ap (�
 abbrev pub headed : ℕ → ℕ → List ℕ → List ℕ
 headed size flags rest = to_be_bytes w16 60 ++ to_be_bytes w16 0 ++ to_be_bytes w64 size ++ to_be_bytes w16 flags ++ rest
 
+-- flags and what follows them, behind the size
+pub behind_size : (payload rest : List ℕ) (size flags : ℕ) → IsBytes payload → Fields payload size flags rest → drop 12 payload ≡ to_be_bytes w16 flags ++ rest
+behind_size payload rest size flags are f =
+    let long : 14 ≤ length payload = f.long in
+    let bits : to_be_bytes w16 flags ≡ take 2 (drop 12 payload) = ap (λ (n : ℕ). to_be_bytes w16 n) (sym f.flags_are) ∙ two_at 12 payload are (omega arith) in
+    from_place 2 12 payload (to_be_bytes w16 flags) bits ∙ ap (λ (z : List ℕ). to_be_bytes w16 flags ++ z) f.rest_is
+
 pub spelled : (payload rest : List ℕ) (size flags : ℕ) → IsBytes payload → Fields payload size flags rest → payload ≡ headed size flags rest
 spelled payload rest size flags are f =
     let long : 14 ≤ length payload = f.long in
     let class : to_be_bytes w16 60 ≡ take 2 (drop 0 payload) = ap (λ (n : ℕ). to_be_bytes w16 n) (sym f.class_is) ∙ two_at 0 payload are (omega arith) in
     let weight : to_be_bytes w16 0 ≡ take 2 (drop 2 payload) = ap (λ (n : ℕ). to_be_bytes w16 n) (sym f.weight_is) ∙ two_at 2 payload are (omega arith) in
     let number : to_be_bytes w64 size ≡ take 8 (drop 4 payload) = ap (λ (n : ℕ). to_be_bytes w64 n) (sym f.size_is) ∙ eight_at 4 payload are (omega arith) in
-    let bits : to_be_bytes w16 flags ≡ take 2 (drop 12 payload) = ap (λ (n : ℕ). to_be_bytes w16 n) (sym f.flags_are) ∙ two_at 12 payload are (omega arith) in
-    let last : drop 12 payload ≡ to_be_bytes w16 flags ++ rest = from_place 2 12 payload (to_be_bytes w16 flags) bits ∙ ap (λ (z : List ℕ). to_be_bytes w16 flags ++ z) f.rest_is in
+    let last : drop 12 payload ≡ to_be_bytes w16 flags ++ rest = behind_size payload rest size flags are f in
     let third : drop 4 payload ≡ to_be_bytes w64 size ++ to_be_bytes w16 flags ++ rest = from_place 8 4 payload (to_be_bytes w64 size) number ∙ ap (λ (z : List ℕ). to_be_bytes w64 size ++ z) last in
     let second : drop 2 payload ≡ to_be_bytes w16 0 ++ to_be_bytes w64 size ++ to_be_bytes w16 flags ++ rest = from_place 2 2 payload (to_be_bytes w16 0) weight ∙ ap (λ (z : List ℕ). to_be_bytes w16 0 ++ z) third in
     from_place 2 0 payload (to_be_bytes w16 60) class ∙ ap (λ (z : List ℕ). to_be_bytes w16 60 ++ z) second

@@ -1,5 +1,5 @@
 -- What the fields and the properties of a payload say tells what the payload says.
-use Rattle.std.proofs.Common.{◌≡◌, ◌≢◌, ℕ, ◌^◌, ◌%◌, ◌<◌, ◌+◌, ◌≤◌, List, [], ◌++◌, length, Option, Some, None, Ok, Err, refl, sym, ap, subst, ◌∙◌, arith, inl, inr}
+use Rattle.std.proofs.Common.{◌≡◌, ◌≢◌, ℕ, ◌^◌, ◌%◌, ◌<◌, ◌≤◌, List, [], ◌++◌, length, Option, Some, None, Ok, Err, refl, sym, ap, subst, ◌∙◌, arith, inl, inr}
 use Rattle.std.specs.List.{flat_map}
 use Rattle.model.specs.Tables.{IsTable}
 use Rattle.model.specs.Grammar.{Argument, class_at}
@@ -11,7 +11,6 @@ use Rattle.headers.specs.Properties.{properties_at}
 use Rattle.headers.specs.Unread.{HeadersAreWhole, headers_in, GivesProperties}
 use Rattle.headers.specs.Laws.{OneHeader}
 use Rattle.headers.specs.Reading.{Fields, HeaderIsRefused, IsHeaderOr}
-use Rattle.headers.specs.declared.contents.Header.{Header}
 use Rattle.headers.specs.declared.contents.BadHeader.{BadHeader}
 use Rattle.headers.specs.declared.contents.BadHeader.TheVariants.{FrameError, SyntaxError, Memory}
 use Rattle.headers.proofs.Flags.{flags-below, flags-fours}

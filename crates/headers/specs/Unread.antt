@@ -10,6 +10,7 @@ use Rattle.headers.specs.declared.contents.BadHeader.{BadHeader}
 use Rattle.headers.specs.declared.contents.BadHeader.TheVariants.{FrameError, SyntaxError, Memory}
 use Rattle.headers.specs.declared.optional.Front.{Front}
 use Rattle.headers.specs.declared.optional.Back.{Back}
+use Rattle.headers.specs.declared.optional.Parts.{Parts}
 
 -- a text that is present, as an argument
 abbrev pub text_in : Option (Bor (List ℕ)) → Option Argument
@@ -33,6 +34,10 @@ back_in b =
     text_in b.expiration ∷ text_in b.message_id ∷ time_of b.timestamp ∷ text_in b.kind ∷ text_in b.user_id ∷ text_in b.app_id
     ∷ text_in b.reserved ∷ []
 
+-- all fourteen
+abbrev pub parts_in : Parts → List (Option Argument)
+parts_in p = front_in p.front ++ back_in p.back
+
 -- ---- tables
 
 -- the bytes of a table, if there is one, are pairs
@@ -45,32 +50,15 @@ abbrev pub pairs_in : Option (Bor (List ℕ)) → Option (List ℕ)
 pairs_in None = None
 pairs_in (Some t) = Some t.now
 
--- the bytes of the table are no pairs, or memory was refused
-abbrev pub NoHeaders : Option (List ℕ) → BadHeader → Type 0
-NoHeaders pairs FrameError = ⊥
-NoHeaders pairs SyntaxError = HeadersAreWhole pairs → ⊥
-NoHeaders pairs Memory = ⊤
-
--- a copy of the table, or why there is none
-abbrev pub IsHeadersOr : Option (Bor (List ℕ)) → Result (Option (List ℕ)) BadHeader → Type 0
-IsHeadersOr pairs (Ok t) = (t ≡ pairs_in pairs) × HeadersAreWhole t
-IsHeadersOr pairs (Err e) = NoHeaders (pairs_in pairs) e
-
 -- ---- what becomes of what was read
 
--- the same properties, with a table that is one
-abbrev pub Copies : Front → Back → Result Properties BadHeader → Type 0
-Copies front back (Ok p) = (properties_of p ≡ front_in front ++ back_in back) × HeadersAreWhole p.headers
-Copies front back (Err e) = NoHeaders (pairs_in front.headers) e
-
--- the first seven are these, with a table that is one
-abbrev pub CopiesFront : Front → Properties → Result ⊤ BadHeader → Type 0
-CopiesFront front p (Ok _) = (front_of p ≡ front_in front) × HeadersAreWhole p.headers
-CopiesFront front p (Err e) = NoHeaders (pairs_in front.headers) e
+-- the first seven are these
+abbrev pub CopiesFront : Front → Properties → Type 0
+CopiesFront front p = front_of p ≡ front_in front
 
 -- the other seven are these, and the first are as they were
 abbrev pub CopiesBack : Back → Properties → Properties → Type 0
-CopiesBack back before after = (back_of after ≡ back_in back) × (front_of after ≡ front_of before) × (after.headers ≡ before.headers)
+CopiesBack back before after = (back_of after ≡ back_in back) × (front_of after ≡ front_of before)
 
 -- the pairs of the headers among the properties, which stand third
 abbrev pub headers_in : List (Option Argument) → Option (List ℕ)

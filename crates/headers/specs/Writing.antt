@@ -44,7 +44,11 @@ back_flags p =
     flag (is_some p.expiration) 256 + flag (is_some p.message_id) 128 + flag (is_some p.timestamp) 64 + flag (is_some p.kind) 32
     + flag (is_some p.user_id) 16 + flag (is_some p.app_id) 8 + flag (is_some p.reserved) 4
 
--- class, weight, size and flags
+-- class, weight and size
+abbrev pub sized : ℕ → List ℕ
+sized size = to_be_bytes w16 60 ++ to_be_bytes w16 0 ++ to_be_bytes w64 size
+
+-- and flags
 abbrev pub fixed : ℕ → ℕ → List ℕ
 fixed size flags = to_be_bytes w16 60 ++ to_be_bytes w16 0 ++ to_be_bytes w64 size ++ to_be_bytes w16 flags
 

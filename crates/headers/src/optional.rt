@@ -4,8 +4,8 @@ ghost use Rattle.std.specs.Prelude.{◌≡◌, ◌<◌, option_map};
 ghost use Rattle.model.specs.Headers.{octet_of, time_of};
 ghost use Rattle.field_table.specs.Arguments.{an_octet, a_short_text, a_long_long, a_field_table};
 ghost use Rattle.headers.specs.Properties;
-ghost use Rattle.headers.specs.Properties.{option_at, options_at, front_rows, back_rows};
-ghost use Rattle.headers.specs.Unread.{text_in, table_in, front_in, back_in};
+ghost use Rattle.headers.specs.Properties.{option_at, options_at, properties_at, front_rows, back_rows};
+ghost use Rattle.headers.specs.Unread.{text_in, table_in, front_in, back_in, parts_in};
 
 use field_table::{long_long_at, octet_at, pairs_at, short_text_at};
 
@@ -33,8 +33,34 @@ pub(crate) struct Back<'a> {
     pub(crate) reserved: Option<&'a [u8]>,
 }
 
+/// All fourteen.
+#[derive(Clone, Copy, Drop)]
+pub(crate) struct Parts<'a> {
+    pub(crate) front: Front<'a>,
+    pub(crate) back: Back<'a>,
+}
+
+/// All of the bytes, as the properties of these flags.
+pub(crate) fn parts_at(flags: u16, bytes: &[u8]) -> Option<Parts<'_>>
+    ensures { option_map parts_in result ≡ properties_at flags bytes.now }
+{
+    if flags % 4 != 0 {
+        return None;
+    }
+    let Some((front, rest)) = front_at(flags, bytes) else {
+        return None;
+    };
+    let Some((back, rest)) = back_at(flags, rest) else {
+        return None;
+    };
+    if !rest.is_empty() {
+        return None;
+    }
+    Some(Parts { front, back })
+}
+
 /// The first seven properties that are flagged, and the bytes after them.
-pub(crate) fn front_at(flags: u16, bytes: &[u8]) -> Option<(Front<'_>, &[u8])>
+fn front_at(flags: u16, bytes: &[u8]) -> Option<(Front<'_>, &[u8])>
     ensures { option_map (λ x. (front_in x.0, x.1.now)) result ≡ options_at flags front_rows bytes.now }
 {
     let Some((content_type, rest)) = text_at(has(flags, 15), bytes) else {
@@ -71,7 +97,7 @@ pub(crate) fn front_at(flags: u16, bytes: &[u8]) -> Option<(Front<'_>, &[u8])>
 }
 
 /// The other properties that are flagged, and the bytes after them.
-pub(crate) fn back_at(flags: u16, bytes: &[u8]) -> Option<(Back<'_>, &[u8])>
+fn back_at(flags: u16, bytes: &[u8]) -> Option<(Back<'_>, &[u8])>
     ensures { option_map (λ x. (back_in x.0, x.1.now)) result ≡ options_at flags back_rows bytes.now }
 {
     let Some((expiration, rest)) = text_at(has(flags, 8), bytes) else {

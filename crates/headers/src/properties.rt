@@ -1,65 +1,78 @@
 //! Properties are read.
 
-ghost use Rattle.std.specs.Prelude.{◌≡◌, IfOk};
-ghost use Rattle.model.specs.Headers.{text_of, properties_of};
+ghost use Rattle.std.specs.Prelude.{◌≡◌, ◌++◌, MatchBool, IfOk};
+ghost use Rattle.std.specs.Int.{w16, to_be_bytes};
+ghost use Rattle.model.specs.Headers.{text_of, table_of, properties_of};
 ghost use Rattle.headers.specs.Properties.{properties_at};
-ghost use Rattle.headers.specs.Unread.{text_in, front_in, back_in, GivesProperties, Copies, CopiesFront, CopiesBack, IsHeadersOr};
+ghost use Rattle.headers.specs.Unread.{text_in, table_in, pairs_in, front_in, parts_in, HeadersAreWhole, GivesProperties, CopiesFront, CopiesBack};
 
 use crate::contents::BadHeader;
-use crate::optional::{Back, Front, back_at, front_at};
+use crate::optional::{Back, Front, Parts, parts_at};
 use field_table::is_table;
 use model::{Fields, Properties, Table, Text};
 use std::alloc::{AllocError, Global};
 
-/// All of the bytes, as the properties of these flags.
+/// All of the bytes, as the properties of these flags. `spelled` has the flags, and the bytes behind them.
 pub(crate) fn properties_in(
     alloc: Global,
     flags: u16,
     bytes: &[u8],
+    spelled: &[u8],
 ) -> Result<Properties, BadHeader>
+    requires { spelled.now ≡ to_be_bytes w16 flags ++ bytes.now }
     ensures { GivesProperties result (properties_at flags bytes.now) }
 {
     if flags == 0 && bytes.is_empty() {
         return Ok(Properties::none());
     }
-    flagged_in(alloc, flags, bytes)
+    flagged_in(alloc, flags, bytes, spelled)
 }
 
 /// The same, where there may be some.
-fn flagged_in(alloc: Global, flags: u16, bytes: &[u8]) -> Result<Properties, BadHeader>
+fn flagged_in(
+    alloc: Global,
+    flags: u16,
+    bytes: &[u8],
+    spelled: &[u8],
+) -> Result<Properties, BadHeader>
+    requires { spelled.now ≡ to_be_bytes w16 flags ++ bytes.now }
     ensures { GivesProperties result (properties_at flags bytes.now) }
 {
-    if flags % 4 != 0 {
-        return Err(BadHeader::SyntaxError);
-    }
-    let Some((front, rest)) = front_at(flags, bytes) else {
+    let Some(parts) = parts_at(flags, bytes) else {
         return Err(BadHeader::SyntaxError);
     };
-    let Some((back, rest)) = back_at(flags, rest) else {
-        return Err(BadHeader::SyntaxError);
-    };
-    if !rest.is_empty() {
+    if !is_whole(parts.front.headers) {
         return Err(BadHeader::SyntaxError);
     }
-    copied(alloc, front, back)
-}
-
-/// The properties of their own.
-fn copied(alloc: Global, front: Front<'_>, back: Back<'_>) -> Result<Properties, BadHeader>
-    ensures { Copies front.entry back.entry result }
-{
-    let mut fields = Fields::none();
-    copy_front(alloc, &mut fields, &front)?;
-    copy_back(alloc, &mut fields, &back)?;
-    match Properties::new(alloc, fields) {
+    match Properties::spelled(alloc, spelled) {
         Ok(properties) => Ok(properties),
         Err(_) => Err(BadHeader::Memory),
     }
 }
 
+/// Whether the bytes of the table, if there is one, are pairs.
+fn is_whole(pairs: Option<&[u8]>) -> bool
+    ensures { MatchBool result (HeadersAreWhole (pairs_in pairs.entry)) (HeadersAreWhole (pairs_in pairs.entry) → ⊥) }
+{
+    match pairs {
+        None => true,
+        Some(pairs) => is_table(pairs),
+    }
+}
+
+/// The properties one by one, of their own.
+pub(crate) fn copied(alloc: Global, parts: &Parts<'_>) -> Result<Fields, AllocError>
+    ensures { IfOk result (λ p. properties_of p ≡ parts_in parts.now) }
+{
+    let mut fields = Fields::none();
+    copy_front(alloc, &mut fields, &parts.front)?;
+    copy_back(alloc, &mut fields, &parts.back)?;
+    Ok(fields)
+}
+
 /// Copies the first seven properties.
-fn copy_front(alloc: Global, fields: &mut Fields, front: &Front<'_>) -> Result<(), BadHeader>
-    ensures { CopiesFront front.now fields.new result }
+fn copy_front(alloc: Global, fields: &mut Fields, front: &Front<'_>) -> Result<(), AllocError>
+    ensures { IfOk result (λ _. CopiesFront front.now fields.new) }
 {
     fields.content_type = text(alloc, front.content_type)?;
     fields.content_encoding = text(alloc, front.content_encoding)?;
@@ -99,19 +112,14 @@ fn text(alloc: Global, bytes: Option<&[u8]>) -> Result<Option<Text>, AllocError>
 }
 
 /// A copy of the table, if there is one.
-fn table(alloc: Global, pairs: Option<&[u8]>) -> Result<Option<Table>, BadHeader>
-    ensures { IsHeadersOr pairs.entry result }
+fn table(alloc: Global, pairs: Option<&[u8]>) -> Result<Option<Table>, AllocError>
+    ensures { IfOk result (λ t. table_of t ≡ table_in pairs.entry) }
 {
     match pairs {
         None => Ok(None),
-        Some(pairs) => {
-            if !is_table(pairs) {
-                return Err(BadHeader::SyntaxError);
-            }
-            match Text::from_slice(alloc, pairs) {
-                Ok(pairs) => Ok(Some(Table::from_pairs(pairs))),
-                Err(_) => Err(BadHeader::Memory),
-            }
-        }
+        Some(pairs) => match Text::from_slice(alloc, pairs) {
+            Ok(pairs) => Ok(Some(Table::from_pairs(pairs))),
+            Err(error) => Err(error),
+        },
     }
 }

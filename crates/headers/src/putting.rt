@@ -2,7 +2,7 @@
 
 ghost use Rattle.std.specs.Prelude.{◌≡◌, ◌+◌, ◌≤◌, ◌++◌, length, vec_len, vec_capacity};
 ghost use Rattle.model.specs.Headers.{text_of, table_of, octet_of, time_of, value_of, IsValue};
-ghost use Rattle.headers.specs.Writing.{front_of, back_of, values, AreValues, fixed};
+ghost use Rattle.headers.specs.Writing.{front_of, back_of, values, AreValues, sized, fixed};
 
 use field_table::put_bytes;
 use model::{Fields, Table, Text};
@@ -14,9 +14,19 @@ pub(crate) fn put_fixed(out: &mut Vec<u8>, size: u64, flags: u16)
     ensures len { vec_len out.new ≡ vec_len out.old + 14 }
     ensures capacity { vec_capacity out.old ≤ vec_capacity out.new }
 {
+    put_sized(out, size);
+    put_bytes(out, &flags.to_be_bytes());
+}
+
+/// Appends class, weight and size.
+pub(crate) fn put_sized(out: &mut Vec<u8>, size: u64)
+    requires { vec_len out.old + 12 ≤ vec_capacity out.old }
+    ensures items { out.new.items ≡ out.old.items ++ sized size }
+    ensures len { vec_len out.new ≡ vec_len out.old + 12 }
+    ensures capacity { vec_capacity out.old ≤ vec_capacity out.new }
+{
     put_bytes(out, &[0, 60, 0, 0]);
     put_bytes(out, &size.to_be_bytes());
-    put_bytes(out, &flags.to_be_bytes());
 }
 
 /// Appends the first seven properties.

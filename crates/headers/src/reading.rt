@@ -28,7 +28,7 @@ pub fn read_header(alloc: Global, payload: &[u8]) -> Result<Header, BadHeader>
 {
     match fields_at(payload) {
         None => Err(BadHeader::FrameError),
-        Some((size, flags, rest)) => match properties_in(alloc, flags, rest) {
+        Some((size, flags, rest)) => match properties_in(alloc, flags, rest, &payload[12..]) {
             Ok(properties) => Ok(Header { size, properties }),
             Err(refusal) => Err(refusal),
         },

@@ -3,12 +3,13 @@
 ghost use Rattle.std.specs.Prelude.{◌≡◌, ◌+◌, ◌<◌, ◌≤◌, ◌++◌, length, vec_len, vec_capacity, OnOk, IfErr, Err};
 ghost use Rattle.model.specs.Headers.{header_bytes, AreProperties};
 ghost use Rattle.headers.specs.declared.contents.UnwrittenHeader.TheVariants.{Memory};
-ghost use Rattle.headers.specs.Writing.{CountsHeader, PropertiesRefused};
+ghost use Rattle.headers.specs.Writing.{sized, CountsHeader, PropertiesRefused};
 
 use crate::contents::UnwrittenHeader;
 use crate::measuring::{back_flags, back_len, front_flags, front_len};
-use crate::putting::{put_back, put_fixed, put_front};
-use model::{Fields, Properties};
+use crate::putting::{put_back, put_fixed, put_front, put_sized};
+use field_table::put_bytes;
+use model::{Fields, Form, Properties};
 
 /// Appends the payload of the header frame of a body of `size` bytes to `out`. On an error `out` is as it was.
 pub fn write_header(
@@ -38,9 +39,9 @@ pub fn write_header(
 pub fn spelled_len(properties: &Properties) -> Option<usize>
     ensures { CountsHeader properties.now result }
 {
-    match properties.fields() {
-        None => Some(14),
-        Some(fields) => fields_len(fields),
+    match properties.form() {
+        Form::Spelled(bytes) => Some(12 + bytes.len()),
+        Form::Apart(fields) => fields_len(fields),
     }
 }
 
@@ -61,10 +62,21 @@ pub fn put_header(out: &mut Vec<u8>, size: u64, properties: &Properties)
     ensures len { vec_len out.new ≡ vec_len out.old + length (header_bytes size properties.now) }
     ensures capacity { vec_capacity out.old ≤ vec_capacity out.new }
 {
-    match properties.fields() {
-        None => put_fixed(out, size, 0),
-        Some(fields) => put_fields(out, size, fields),
+    match properties.form() {
+        Form::Spelled(bytes) => put_spelled(out, size, bytes),
+        Form::Apart(fields) => put_fields(out, size, fields),
     }
+}
+
+/// The same with flags and values as they are spelled.
+fn put_spelled(out: &mut Vec<u8>, size: u64, bytes: &[u8])
+    requires { vec_len out.old + 12 + length bytes.now ≤ vec_capacity out.old }
+    ensures items { out.new.items ≡ out.old.items ++ sized size ++ bytes.now }
+    ensures len { vec_len out.new ≡ vec_len out.old + 12 + length bytes.now }
+    ensures capacity { vec_capacity out.old ≤ vec_capacity out.new }
+{
+    put_sized(out, size);
+    put_bytes(out, bytes);
 }
 
 /// The same with the properties one by one.

@@ -9,7 +9,7 @@ use Rattle.model.specs.Topology.{Topology}
 use Rattle.model.specs.Guarantee.{Guarantee}
 use Rattle.model.specs.Broker.{Broker}
 use Rattle.model.specs.Step.{answer_of, confirm_method, confirm_notes, confirm_sends, reply, returned_sends}
-use Rattle.model.specs.State.{State}
+use Rattle.model.specs.State.{State, Step}
 use Rattle.model.specs.Spelling.{receiver, sends_to}
 use Rattle.model.specs.Run.{Happening, Run, sends_of}
 use Rattle.model.specs.Acks.{Ack, is_ack_of, acked_as, acked_at, acked, ack_for}
@@ -78,11 +78,26 @@ step_acks t old new e sends notes (inr p) gs c =
     ∙ one_ack p gs c (confirm p) (some_full p) _ (acked_by_answer p)
     ∙ ap (map ack_for) (sym (publish_acked p gs c notes))
 
+-- the acks that an event sends to a connection are those of its publishes
+abbrev pub SendsItsAcks : ℕ → Happening → Type 0
+SendsItsAcks c h = acks_to c h.sends ≡ map ack_for (acked_at c h)
+
+pub event_acks : (c : ℕ) (h : Happening) → Step h.config h.before h.event h.sends h.notes h.after → SendsItsAcks c h
+event_acks c h s = step_acks h.config.topology h.before.broker h.after.broker h.event h.sends h.notes (seen_at h s) h.config.guarantees c
+
+-- so are those of them all
+pub all_acks : (c : ℕ) (hs : List Happening) → AllByRecursion (SendsItsAcks c) hs → filter_map ack_sent (sends_to c (sends_of hs)) ≡ map ack_for (acked c hs)
+all_acks c [] each = refl
+all_acks c (h ∷ hs) each =
+    acks_to-append c h.sends (sends_of hs)
+    ∙ ap (λ (xs : List Ack). acks_to c h.sends ++ xs) (all_acks c hs each.1)
+    ∙ ap (λ (xs : List Ack). xs ++ map ack_for (acked c hs)) each.0
+    ∙ sym (map-append ack_for (acked_at c h) (acked c hs))
+
 -- In every run the acks sent to a connection are those of its publishes confirmed by ack, one by one.
 pub run_acks : (hs : List Happening) (old new : State) → Run old hs new → (c : ℕ) → filter_map ack_sent (sends_to c (sends_of hs)) ≡ map ack_for (acked c hs)
-run_acks [] old new r c = refl
-run_acks (h ∷ hs) old new (e, s, r) c =
-    acks_to-append c h.sends (sends_of hs)
-    ∙ ap (λ (xs : List Ack). acks_to c h.sends ++ xs) (run_acks hs h.after new r c)
-    ∙ ap (λ (xs : List Ack). xs ++ map ack_for (acked c hs)) (step_acks h.config.topology h.before.broker h.after.broker h.event h.sends h.notes (seen_at h s) h.config.guarantees c)
-    ∙ sym (map-append ack_for (acked_at c h) (acked c hs))
+run_acks hs old new r c = all_acks c hs (each hs old new r)
+  where
+    each : (hs : List Happening) (old new : State) → Run old hs new → AllByRecursion (SendsItsAcks c) hs
+    each [] old new r = tt
+    each (h ∷ hs) old new (e, s, r) = (event_acks c h s, each hs h.after new r)

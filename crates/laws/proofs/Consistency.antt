@@ -2,20 +2,21 @@
 use Rattle.std.proofs.Common.{◌≡◌, ◌+◌, ℕ, List, [], refl, sym, subst}
 use Rattle.model.specs.State.{Config, State}
 use Rattle.model.specs.Run.{Happening, AreCounted}
+use Rattle.model.specs.History.{Occurrence, events_of}
 use Rattle.model.specs.Sending.{AreCarried}
 use Rattle.model.specs.Commands.{Stream}
-use Rattle.model.specs.Arrivals.{World, new_world, Same, Turns, Waits, Pumps, Takes_off, Opens, Loses, Answers, Plays, with_heard}
+use Rattle.model.specs.Arrivals.{World, new_world, Same, Turns, Waits, Pumps, Takes_off, Opens, Loses, Reloads, with_heard}
 use Rattle.model.specs.Consistent.{IsConsistent}
-use Rattle.model.specs.declared.events.Arrival.{Arrival}
 use Rattle.model.specs.declared.events.Event.TheVariants as event
-use Rattle.laws.specs.Consistency.{WorldsStayConsistent}
+use Rattle.laws.specs.Consistency.{WorldsStayConsistent, PlaysStayConsistent}
 use Rattle.laws.proofs.Carried.{run_carries}
-use Rattle.laws.proofs.Linking.{IsLinked, linked_same, turns_linked, waits_linked, hears_linked, takes_linked, opens_linked, awaits_linked, loses_linked, same_linked, pumps_linked, new_is_linked, answers_linked, plays_linked}
+use Rattle.laws.proofs.Linking.{IsLinked, linked_same, turns_linked, waits_linked, hears_linked, takes_linked, opens_linked, awaits_linked, loses_linked, same_linked, pumps_linked, new_is_linked, reloads_linked, plays_linked}
+use Rattle.laws.proofs.Histories.{ToldOver, histories_keep, sounds_over, carried_over, over_reloads, over_plays}
 use Rattle.model.specs.Headline.{IsSound}
-use Rattle.model.specs.Tracing.{AreKept, NoneStood}
-use Rattle.laws.proofs.Keeping.{stay_kept, run_unmarked}
+use Rattle.model.specs.Tracing.{AreKept}
+use Rattle.laws.proofs.Keeping.{stay_kept}
 use Rattle.laws.proofs.Never.{run_begun}
-use Rattle.laws.proofs.Plays.{Told, said_each, sound_each, sound_last, told_same, told_turns, told_waits, told_taken, told_opens, told_loses, told_pumps, told_answers, told_plays}
+use Rattle.laws.proofs.Plays.{Told, said_each, sound_each, sound_last, told_same, told_turns, told_waits, told_taken, told_opens, told_loses, told_pumps}
 
 pub linked : (w : World) → IsConsistent w → IsLinked w
 linked w k = record { running = k.running; paused = k.paused; limits = k.limits }
@@ -25,7 +26,6 @@ record Messages (w : World) : Type 0 where
   counted : AreCounted w.state.broker
   carried : AreCarried w.state.broker
   kept : AreKept w.config w.state.broker
-  unmarked : NoneStood w.state.broker
   sound : IsSound w.config
 
 told_messages : (hs : List Happening) (old new : World) → IsConsistent old → Told old hs new → Messages new
@@ -39,7 +39,6 @@ told_messages hs old new k t =
       counted = begun.counted;
       carried = run_carries hs old.state new.state sound said t.run k.carried;
       kept = begun.kept;
-      unmarked = run_unmarked hs old.state new.state k.unmarked t.run;
       sound = sound_last f last hs t.in_force k.sound;
     }
 
@@ -51,7 +50,6 @@ consistent_same old new k config state outputs =
       counted = subst (λ (z : State). AreCounted z.broker) (sym state) k.counted;
       carried = subst (λ (z : State). AreCarried z.broker) (sym state) k.carried;
       kept = subst (λ (g : Config). AreKept g new.state.broker) (sym config) (subst (λ (z : State). AreKept old.config z.broker) (sym state) k.kept);
-      unmarked = subst (λ (z : State). NoneStood z.broker) (sym state) k.unmarked;
       sound = subst IsSound (sym config) k.sound;
       running = after.running;
       paused = after.paused;
@@ -62,7 +60,7 @@ consistent_same old new k config state outputs =
 kept_consistent : (old new : World) (hs : List Happening) → IsConsistent old → Told old hs new → IsLinked new → IsConsistent new
 kept_consistent old new hs k told after =
     let messages = told_messages hs old new k told in
-    record { counted = messages.counted; carried = messages.carried; kept = messages.kept; unmarked = messages.unmarked; sound = messages.sound; running = after.running; paused = after.paused; limits = after.limits }
+    record { counted = messages.counted; carried = messages.carried; kept = messages.kept; sound = messages.sound; running = after.running; paused = after.paused; limits = after.limits }
 
 pub turns_consistent : (old new : World) (c : ℕ) (hs : List Happening) → IsConsistent old → Turns old c hs new → IsConsistent new
 turns_consistent old new c hs k t = kept_consistent old new hs k (told_turns old new c hs t) (turns_linked old new c hs (linked old k) t)
@@ -94,7 +92,28 @@ pumps_consistent old new hs k p = kept_consistent old new hs k (told_pumps old n
 pub new_is_consistent : (f : Config) → IsSound f → IsConsistent (new_world f)
 new_is_consistent f sound =
     let start = new_is_linked f in
-    record { counted = λ n q lt. refl; carried = λ q. tt; kept = stay_kept.empty f; unmarked = λ q e i. absurd i; sound = sound; running = start.running; paused = start.paused; limits = start.limits }
+    record { counted = λ n q lt. refl; carried = λ q. tt; kept = stay_kept.empty f; sound = sound; running = start.running; paused = start.paused; limits = start.limits }
+
+-- ---- arrivals
+
+-- what happened over a history, and what links the world
+over_consistent : (old new : World) (os : List Occurrence) → IsConsistent old → ToldOver old os new → IsLinked new → IsConsistent new
+over_consistent old new os k told after =
+    let said = said_each (events_of os) told.each in
+    let keeps = histories_keep old.config new.config os old.state new.state k.sound told.offered said (record { counted = k.counted; kept = k.kept }) told.history in
+    let sounds = sounds_over old.config new.config os old.state new.state k.sound told.offered told.history in
+    record {
+      counted = keeps.begun.counted;
+      carried = carried_over old.config new.config os old.state new.state told.history sounds said k.carried;
+      kept = keeps.begun.kept;
+      sound = keeps.sound;
+      running = after.running;
+      paused = after.paused;
+      limits = after.limits;
+    }
+
+pub reloads_consistent : (old new : World) (offered : Config) (os : List Occurrence) → IsSound offered → IsConsistent old → Reloads old offered os new → IsConsistent new
+reloads_consistent old new offered os sound k p = over_consistent old new os k (over_reloads old new offered os sound p) (reloads_linked old new offered os (linked old k) p)
 
 pub stay_consistent : WorldsStayConsistent
 stay_consistent = record {
@@ -107,12 +126,8 @@ stay_consistent = record {
   awaits = awaits_consistent;
   loses = loses_consistent;
   pumps = pumps_consistent;
+  reloads = reloads_consistent;
 }
 
--- ---- arrivals
-
-pub answers_consistent : (old new : World) (a : Arrival) (hs : List Happening) → IsConsistent old → Answers old a hs new → IsConsistent new
-answers_consistent old new a hs k p = kept_consistent old new hs k (told_answers old new a hs p) (answers_linked old new a hs (linked old k) p)
-
-pub plays_consistent : (old new : World) (arrivals : List Arrival) (hs : List Happening) → IsConsistent old → Plays old arrivals hs new → IsConsistent new
-plays_consistent old new arrivals hs k p = kept_consistent old new hs k (told_plays old new arrivals hs p) (plays_linked old new arrivals hs (linked old k) p)
+pub plays_consistent : PlaysStayConsistent
+plays_consistent old new arrivals os offered k p = over_consistent old new os k (over_plays old new arrivals os offered p) (plays_linked old new arrivals os (linked old k) p)

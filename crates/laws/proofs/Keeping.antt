@@ -12,15 +12,15 @@ use Rattle.model.specs.Guarantee.{Covers}
 use Rattle.model.specs.Headline.{IsSound}
 use Rattle.model.specs.Message.{Message}
 use Rattle.model.specs.Reloading.{NothingStands, by_entry, stood_now}
-use Rattle.model.specs.Run.{Happening, Run, AreCounted}
+use Rattle.model.specs.Run.{AreCounted}
 use Rattle.model.specs.State.{Config, State, Step}
-use Rattle.model.specs.Tracing.{by_publish, IsKept, AreKept, NoneStood}
+use Rattle.model.specs.Tracing.{by_publish, IsKept, AreKept}
 use Rattle.model.specs.declared.topologies.DeclaredQueue.{DeclaredQueue}
 use Rattle.model.specs.declared.messages.Entry.{Entry}
 use Rattle.model.specs.declared.events.Send.{Send}
 use Rattle.model.specs.declared.events.Event.{Event}
 use Rattle.model.specs.declared.notes.Note.{Note}
-use Rattle.laws.specs.Tracing.{KeptAreSafe, MessagesStayKept, ReloadsKeep}
+use Rattle.laws.specs.Tracing.{MessagesStayKept, ReloadsKeep}
 use Rattle.laws.proofs.Dying.{IsLetter}
 use Rattle.laws.proofs.Entering.{picked}
 use Rattle.laws.proofs.Once.{key_is_short, routed_is_there}
@@ -100,28 +100,9 @@ stay_kept = record {
 pub step_kept : (f : Config) (old new : State) (e : Event) (sends : List Send) (notes : List Note) → IsSound f → IsSaid e → AreCounted old.broker → AreKept f old.broker → Step f old e sends notes new → AreKept f new.broker
 step_kept f old new e sends notes sound said counted kept s = kept_on f old.broker new.broker e sends notes sound said counted kept (step_came f old new e sends notes s)
 
--- ---- where no reload was done
-
--- no step marks a message
-step_unmarked : (f : Config) (old new : State) (e : Event) (sends : List Send) (notes : List Note) → NoneStood old.broker → Step f old e sends notes new → NoneStood new.broker
-step_unmarked f old new e sends notes none s q x i = by (step_came f old new e sends notes s q x i)
-  where
-    by : Came f.topology old.broker new.broker e sends notes q x → x.message.stood ≡ false
-    by (stood o) = o.same.stood ∙ none q o.entry o.there
-    by (by_letter l) = ap (λ (y : Entry). y.message.stood) l.is
-    by (published p j is) = ap (λ (y : Entry). y.message.stood) is
-
-pub run_unmarked : (hs : List Happening) (old new : State) → NoneStood old.broker → Run old hs new → NoneStood new.broker
-run_unmarked [] old new none r = subst (λ (z : State). NoneStood z.broker) (sym r) none
-run_unmarked (h ∷ hs) old new none (e, s, r) =
-    run_unmarked hs h.after new (step_unmarked h.config h.before h.after h.event h.sends h.notes (subst (λ (z : State). NoneStood z.broker) (sym e) none) s) r
-
-pub kept_are_safe : KeptAreSafe
-kept_are_safe f b kept none q e i g is_in m covers = let at = (kept.each q e i).safe g is_in m covers in (at.1 (none q e i), at.0)
-
 -- ---- a reload
 
-in_or_not : (x : Text) (xs : List Text) → IsIn x xs ⊎ (IsIn x xs → ⊥)
+pub in_or_not : (x : Text) (xs : List Text) → IsIn x xs ⊎ (IsIn x xs → ⊥)
 in_or_not x [] = inr (λ i. i)
 in_or_not x (y ∷ ys) = go (bytes_eq x y) refl (in_or_not x ys)
   where

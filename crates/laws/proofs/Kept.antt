@@ -34,7 +34,7 @@ step_agreed h s a = elim (goes h.config h.before h.after h.sends h.notes h.event
   | inr q ↦ moved_agreed h.config.topology h.before.broker h.after.broker (event_connection h.event) q.move.next.channel_max (is_running q.move.next.phase) a q.moves.broker
 ]
 
-lasts_from : (hs : List Happening) (old new : State) → Run old hs new → IsAgreed old.broker → ArePresent old → AllByRecursion Lasts hs
+pub lasts_from : (hs : List Happening) (old new : State) → Run old hs new → IsAgreed old.broker → ArePresent old → AllByRecursion Lasts hs
 lasts_from [] old new r a p = tt
 lasts_from (h ∷ hs) old new (e, s, r) a p =
     let before : IsAgreed h.before.broker = subst (λ (z : State). IsAgreed z.broker) (sym e) a in

@@ -46,6 +46,8 @@ pub mod Linked
 pub mod Present
 pub mod LoggedIn
 pub mod Kept
+pub mod Reloading
+pub mod Histories
 pub mod Linking
 pub mod Consistency
 pub mod Spoken
@@ -60,4 +62,3 @@ pub mod Disagreeing
 pub mod Deaths
 pub mod Forms
 pub mod Unkept
-pub mod Reloading

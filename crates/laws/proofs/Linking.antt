@@ -1,17 +1,19 @@
 -- Whatever arrives, the broker has the connections that run, knows which of them are paused, and has the channel-max of each.
-use Rattle.std.proofs.Common.{◌≡◌, ◌≢◌, ◌+◌, ℕ, List, [], ◌∷◌, Bool, true, false, cond, refl, sym, ap, subst, ◌∙◌}
+use Rattle.std.proofs.Common.{◌≡◌, ◌≢◌, ◌+◌, ℕ, List, [], ◌∷◌, Bool, true, false, cond, refl, sym, ap, subst, ◌∙◌, inl, inr}
 use Rattle.std.specs.Prelude.{◌&&◌, ◌==◌, not}
 use Rattle.std.proofs.lemmas.Bool.{ne_eqb, eqb-true, eqb-false, false≢true}
 use Rattle.model.specs.Broker.{with_one}
 use Rattle.model.specs.State.{Config, State}
 use Rattle.model.specs.Run.{Happening}
+use Rattle.model.specs.History.{Occurrence}
 use Rattle.model.specs.Commands.{Stream}
-use Rattle.model.specs.Arrivals.{IsSaid, World, Wire, new_world, is_over, is_paused, is_past_bound, is_gone, can_open, Same, Turns, Waits, Works, none_more, one_more, WorksOff, Puts, Delivers, Pumps, delivers, idles, Takes_off, Opens, Loses, Answers, Plays, with_heard}
+use Rattle.model.specs.Arrivals.{IsSaid, World, Wire, new_world, is_over, is_paused, is_past_bound, is_gone, can_open, Same, Turns, Waits, Works, none_more, one_more, WorksOff, Puts, Delivers, Pumps, delivers, idles, Takes_off, Opens, Loses, Reloads, Answers, Plays, with_heard}
 use Rattle.model.specs.declared.events.Arrival.{Arrival}
 use Rattle.model.specs.declared.events.Arrival.TheVariants as arrival
 use Rattle.model.specs.declared.events.Event.{Event}
 use Rattle.model.specs.declared.events.Event.TheVariants as event
 use Rattle.laws.proofs.Counts.{from_either}
+use Rattle.laws.proofs.Reloading.{all_marked, state_left, linked_marked}
 use Rattle.laws.proofs.Linked.{Agrees, with_here, read_agrees, settled_agrees, step_agrees}
 
 -- the broker has exactly the connections that run, knows those as paused whose output is past the bound, and has the channel-max of each
@@ -115,14 +117,22 @@ works_linked c old new hs k (one_more {mid = m} {first = f} {rest = r} t more e)
 works_off_linked : (c : ℕ) (old new : World) (hs : List Happening) → IsLinked old → WorksOff old c hs new → IsLinked new
 works_off_linked c old new hs k w = waits_linked w.mid new c (works_linked c old w.mid hs k w.works) w.waits
 
-pub answers_linked : (old new : World) (a : Arrival) (hs : List Happening) → IsLinked old → Answers old a hs new → IsLinked new
-answers_linked old new arrival.Open hs k p = from_either (can_open old) (λ o. awaits_linked old new _ hs k o) (same_linked old new hs k) p
-answers_linked old new (arrival.Ready n) hs k p = from_either (can_open old) (λ o. opens_linked old new n _ hs k o) (same_linked old new hs k) p
-answers_linked old new (arrival.In c bytes) hs k p = from_either (is_over old c) (same_linked old new hs k) (λ w. works_off_linked c (with_heard old c bytes) new hs (hears_linked old c bytes k) w) p
-answers_linked old new (arrival.Sent c n) hs k p = from_either (is_gone old c) (same_linked old new hs k) (λ t. works_off_linked c t.mid new t.rest (takes_linked old t.mid c n t.first k t.takes) t.works) p
-answers_linked old new arrival.Pump hs k p = pumps_linked old new hs k p
-answers_linked old new (arrival.Lose c) hs k p = from_either (is_gone old c) (same_linked old new hs k) (λ o. loses_linked old new c hs k o) p
+-- a reload changes no connection
+pub reloads_linked : (old new : World) (offered : Config) (os : List Occurrence) → IsLinked old → Reloads old offered os new → IsLinked new
+reloads_linked old new offered os k p = elim (state_left p.r p.decided) [
+  | inl e ↦ linked_same (record old { state = all_marked old.state }) new (linked_marked old.state (is_paused old) k) (sym p.after ∙ e ∙ ap all_marked p.before) (λ d. ap (λ (w : Wire). w.output) (p.wires d))
+  | inr e ↦ linked_same old new k (sym p.after ∙ e ∙ p.before) (λ d. ap (λ (w : Wire). w.output) (p.wires d))
+]
 
-pub plays_linked : (old new : World) (arrivals : List Arrival) (hs : List Happening) → IsLinked old → Plays old arrivals hs new → IsLinked new
-plays_linked old new [] hs k p = same_linked old new hs k p
-plays_linked old new (a ∷ arrivals) hs k (mid, first, rest, e, brings, p) = plays_linked mid new arrivals rest (answers_linked old mid a first k brings) p
+pub answers_linked : (old new : World) (a : Arrival Config) (os : List Occurrence) → IsLinked old → Answers old a os new → IsLinked new
+answers_linked old new arrival.Open os k (hs, e, p) = from_either (can_open old) (λ o. awaits_linked old new _ hs k o) (same_linked old new hs k) p
+answers_linked old new (arrival.Ready n) os k (hs, e, p) = from_either (can_open old) (λ o. opens_linked old new n _ hs k o) (same_linked old new hs k) p
+answers_linked old new (arrival.In c bytes) os k (hs, e, p) = from_either (is_over old c) (same_linked old new hs k) (λ w. works_off_linked c (with_heard old c bytes) new hs (hears_linked old c bytes k) w) p
+answers_linked old new (arrival.Sent c n) os k (hs, e, p) = from_either (is_gone old c) (same_linked old new hs k) (λ t. works_off_linked c t.mid new t.rest (takes_linked old t.mid c n t.first k t.takes) t.works) p
+answers_linked old new arrival.Pump os k (hs, e, p) = pumps_linked old new hs k p
+answers_linked old new (arrival.Lose c) os k (hs, e, p) = from_either (is_gone old c) (same_linked old new hs k) (λ o. loses_linked old new c hs k o) p
+answers_linked old new (arrival.Reload g) os k p = reloads_linked old new g os k p
+
+pub plays_linked : (old new : World) (arrivals : List (Arrival Config)) (os : List Occurrence) → IsLinked old → Plays old arrivals os new → IsLinked new
+plays_linked old new [] os k p = same_linked old new [] k (refl, p.1)
+plays_linked old new (a ∷ arrivals) os k (mid, first, rest, e, brings, p) = plays_linked mid new arrivals rest (answers_linked old mid a first k brings) p

@@ -10,7 +10,7 @@ use Rattle.model.specs.Topology.{Topology}
 use Rattle.model.specs.Grammar.{IsMethod, method_bytes, octet}
 use Rattle.model.specs.Broker.{Broker}
 use Rattle.model.specs.Step.{answer_of, confirm_method, confirm_notes, confirm_sends, reply, returned_notes, returned_sends}
-use Rattle.model.specs.State.{State}
+use Rattle.model.specs.State.{State, Step}
 use Rattle.model.specs.Spelling.{pieces_of, content_frames, frames_of, method_frame, body_frame, IsSpelled, receiver, sends_to}
 use Rattle.model.specs.Run.{Happening, Run, sends_of}
 use Rattle.model.specs.Acks.{first_bit}
@@ -119,13 +119,28 @@ step_nacks t old new e sends notes (inr p) c =
     ∙ one_nack p c (confirm p) (some_full p) _ (nacked_by_answer p)
     ∙ sym (publish_nacked p c notes)
 
+-- the nacks that an event sends to a connection are those of its publishes
+abbrev pub SendsItsNacks : ℕ → Happening → Type 0
+SendsItsNacks c h = nacks_to c h.sends ≡ filter_map (nack_as c h.notes) h.notes
+
+pub event_nacks : (c : ℕ) (h : Happening) → Step h.config h.before h.event h.sends h.notes h.after → SendsItsNacks c h
+event_nacks c h s = step_nacks h.config.topology h.before.broker h.after.broker h.event h.sends h.notes (seen_at h s) c
+
+-- so are those of them all
+pub all_nacks : (c : ℕ) (hs : List Happening) → AllByRecursion (SendsItsNacks c) hs → filter_map nack_sent (sends_to c (sends_of hs)) ≡ nacks_of c hs
+all_nacks c [] each = refl
+all_nacks c (h ∷ hs) each =
+    nacks_to-append c h.sends (sends_of hs)
+    ∙ ap (λ (xs : List Nack). nacks_to c h.sends ++ xs) (all_nacks c hs each.1)
+    ∙ ap (λ (xs : List Nack). xs ++ nacks_of c hs) each.0
+
 -- In every run the nacks sent to a connection are those of its publishes confirmed by nack, one by one.
 pub run_nacks : (hs : List Happening) (old new : State) → Run old hs new → (c : ℕ) → filter_map nack_sent (sends_to c (sends_of hs)) ≡ nacks_of c hs
-run_nacks [] old new r c = refl
-run_nacks (h ∷ hs) old new (e, s, r) c =
-    nacks_to-append c h.sends (sends_of hs)
-    ∙ ap (λ (xs : List Nack). nacks_to c h.sends ++ xs) (run_nacks hs h.after new r c)
-    ∙ ap (λ (xs : List Nack). xs ++ nacks_of c hs) (step_nacks h.config.topology h.before.broker h.after.broker h.event h.sends h.notes (seen_at h s) c)
+run_nacks hs old new r c = all_nacks c hs (each hs old new r)
+  where
+    each : (hs : List Happening) (old new : State) → Run old hs new → AllByRecursion (SendsItsNacks c) hs
+    each [] old new r = tt
+    each (h ∷ hs) old new (e, s, r) = (event_nacks c h s, each hs h.after new r)
 
 -- ---- those that are read
 

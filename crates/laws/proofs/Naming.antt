@@ -1,16 +1,22 @@
 -- In every world that a run reaches consumers are named as they should be.
-use Rattle.std.proofs.Common.{ℕ, List, [], ◌∷◌, sym, subst, inl, inr}
+use Rattle.std.proofs.Common.{ℕ, List, [], ◌∷◌, refl, sym, subst, inl, inr}
 use Rattle.std.specs.List.{AllByRecursion}
 use Rattle.model.specs.State.{Config, State, Step}
 use Rattle.model.specs.Phases.{is_running}
 use Rattle.model.specs.Run.{Happening, Run}
 use Rattle.model.specs.Naming.{AreNamed}
-use Rattle.model.specs.Arrivals.{World, Waits, IsSaid}
+use Rattle.model.specs.History.{Occurrence}
+use Rattle.model.specs.Arrivals.{World, Waits, IsSaid, Reloads, Answers, can_open, is_over, is_gone, with_heard}
+use Rattle.model.specs.declared.events.Event.TheVariants as event
+use Rattle.model.specs.declared.events.Arrival.{Arrival}
+use Rattle.model.specs.declared.events.Arrival.TheVariants as arrival
 use Rattle.model.specs.Alone.{event_connection}
 use Rattle.laws.specs.Consumers.{IsWorldNamed, WorldsStayNamed, PlaysStayNamed}
 use Rattle.laws.specs.Promises.{InForce, config_after}
 use Rattle.laws.proofs.View.{goes}
-use Rattle.laws.proofs.Plays.{IsTold, Told, told_turns, told_taken, told_opens, told_loses, told_pumps, told_plays}
+use Rattle.laws.proofs.Counts.{from_either}
+use Rattle.laws.proofs.Plays.{IsTold, Told, told_same, told_turns, told_taken, told_opens, told_heard, told_works_off, told_taken_and_works, told_loses, told_pumps}
+use Rattle.laws.proofs.Reloading.{named_reloaded}
 use Rattle.laws.proofs.Named.{onward, moved, stay_named}
 
 step_named : (h : Happening) → IsSaid h.event → Step h.config h.before h.event h.sends h.notes h.after → AreNamed h.config.topology h.before.broker → AreNamed h.config.topology h.after.broker
@@ -31,6 +37,11 @@ told_named old new hs t a = run_named old.config new.config hs old.state new.sta
 waits_named : (old new : World) (c : ℕ) → IsWorldNamed old → Waits old c new → IsWorldNamed new
 waits_named old new c a w = subst (λ (f : Config). AreNamed f.topology new.state.broker) (sym w.config) (subst (λ (z : State). AreNamed old.config.topology z.broker) (sym w.state) a)
 
+reloads_named : (old new : World) (offered : Config) (os : List Occurrence) → IsWorldNamed old → Reloads old offered os new → IsWorldNamed new
+reloads_named old new offered os a p =
+    let before : AreNamed p.r.config.topology p.r.before.broker = subst (λ (f : Config). AreNamed f.topology p.r.before.broker) (sym p.under) (subst (λ (z : State). AreNamed old.config.topology z.broker) (sym p.before) a) in
+    subst (λ (f : Config). AreNamed f.topology new.state.broker) p.in_force (subst (λ (z : State). AreNamed p.r.in_force.topology z.broker) p.after (named_reloaded p.r p.decided before))
+
 pub worlds_named : WorldsStayNamed
 worlds_named = record {
   new_worlds = λ f. stay_named.empty f.topology;
@@ -41,7 +52,19 @@ worlds_named = record {
   opens = λ old new e s hs said a o. told_named old new hs (told_opens old new e s hs said o) a;
   loses = λ old new c hs a o. told_named old new hs (told_loses old new c hs o) a;
   pumps = λ old new hs a p. told_named old new hs (told_pumps old new hs p) a;
+  reloads = reloads_named;
 }
 
+answers_named : (old new : World) (a : Arrival Config) (os : List Occurrence) → IsWorldNamed old → Answers old a os new → IsWorldNamed new
+answers_named old new arrival.Open os k (hs, e, p) = from_either (can_open old) (λ o. told_named old new hs (told_opens old new (event.Open _) _ hs tt o) k) (λ s. told_named old new hs (told_same old new hs s) k) p
+answers_named old new (arrival.Ready n) os k (hs, e, p) = from_either (can_open old) (λ o. told_named old new hs (told_opens old new (event.Running _ 255 n) _ hs tt o) k) (λ s. told_named old new hs (told_same old new hs s) k) p
+answers_named old new (arrival.In c bytes) os k (hs, e, p) =
+    from_either (is_over old c) (λ s. told_named old new hs (told_same old new hs s) k) (λ w. told_named old new hs (told_heard old new c bytes hs (told_works_off c (with_heard old c bytes) new hs w)) k) p
+answers_named old new (arrival.Sent c n) os k (hs, e, p) = from_either (is_gone old c) (λ s. told_named old new hs (told_same old new hs s) k) (λ t. told_named old new hs (told_taken_and_works c n old new hs t) k) p
+answers_named old new arrival.Pump os k (hs, e, p) = told_named old new hs (told_pumps old new hs p) k
+answers_named old new (arrival.Lose c) os k (hs, e, p) = from_either (is_gone old c) (λ s. told_named old new hs (told_same old new hs s) k) (λ o. told_named old new hs (told_loses old new c hs o) k) p
+answers_named old new (arrival.Reload g) os k p = reloads_named old new g os k p
+
 pub plays_named : PlaysStayNamed
-plays_named old new arrivals hs a p = told_named old new hs (told_plays old new arrivals hs p) a
+plays_named old new [] os k p = told_named old new [] (told_same old new [] (refl, p.1)) k
+plays_named old new (a ∷ arrivals) os k (mid, first, rest, e, brings, p) = plays_named mid new arrivals rest (answers_named old mid a first k brings) p

@@ -257,17 +257,19 @@ run_letters_once hs old new sound r = letters_come_once hs sound (run_letters hs
 -- What happens in a run keeps the promises.
 pub run_keeps : (f last : Config) (hs : List Happening) (old new : State) → AreSound hs → InForce f hs last → AreSaid hs → IsBegun f old.broker → Run old hs new → KeepsEvents old.broker hs new.broker
 run_keeps f last hs old new sound force said begun r = record {
-  entered = run_entered_once hs old new sound said r;
-  routed = run_routed hs old new r;
-  numbered = run_numbers hs old new r;
-  never = run_allowed f last hs old new sound force said begun r;
-  never_in_all = run_allowed_in f last hs old new sound force said begun r;
+  each = record {
+    entered = run_entered_once hs old new sound said r;
+    routed = run_routed hs old new r;
+    numbered = run_numbers hs old new r;
+    never = run_allowed f last hs old new sound force said begun r;
+    never_in_all = run_allowed_in f last hs old new sound force said begun r;
+    causes = run_causes hs old new r;
+    come = run_origins hs old new r;
+    fresh = run_fresh hs old new r;
+    marked = run_marks hs old new r;
+    letters = run_letters hs old new sound r;
+    once = run_letters_once hs old new sound r;
+    alone = run_aside hs old new r;
+  };
   stays = run_stays hs old new r;
-  causes = run_causes hs old new r;
-  come = run_origins hs old new r;
-  fresh = run_fresh hs old new r;
-  marked = run_marks hs old new r;
-  letters = run_letters hs old new sound r;
-  once = run_letters_once hs old new sound r;
-  alone = run_aside hs old new r;
 }

@@ -200,7 +200,7 @@ keeps_reaches t g x key holds m covers short =
     let r : Keeps Reaches t g.exchange key g.queue = subst (λ (m : Mode). Keeps m t g.exchange key g.queue) m k in
     subst (λ (z : Text). Routes t z key g.queue) (sym covers.0) r
 
-each_entered_once : (all : List Note) (h : Happening) → Placed all h → IsSound h.config → IsSaid h.event → (c : ℕ) → AllByRecursion (EnteredOnce all) (acked_at c h)
+pub each_entered_once : (all : List Note) (h : Happening) → Placed all h → IsSound h.config → IsSaid h.event → (c : ℕ) → AllByRecursion (EnteredOnce all) (acked_at c h)
 each_entered_once all h at sound said c = by at.step
   where
     by : Seen h.config.topology h.before.broker h.after.broker h.event h.sends h.notes → AllByRecursion (EnteredOnce all) (acked_at c h)

@@ -8,7 +8,8 @@ use Rattle.model.specs.Opening.{new_session}
 use Rattle.model.specs.Phases.{Session, running_session, no_session}
 use Rattle.model.specs.State.{Config, State, Step}
 use Rattle.model.specs.Run.{Happening}
-use Rattle.model.specs.Arrivals.{World, Wire, new_world, new_wire, wire_after, under_session, is_ended, is_over, is_gone, can_open, event_of, Reads, again, fresh, fault, SameToCome, still, waits, kept, Turns, Waits, Works, none_more, one_more, WorksOff, Takes_off, Delivers, Pumps, delivers, idles, Answers, Plays, with_heard}
+use Rattle.model.specs.History.{Occurrence}
+use Rattle.model.specs.Arrivals.{World, Wire, new_world, new_wire, wire_after, under_session, is_ended, is_over, is_gone, can_open, event_of, Reads, again, fresh, fault, SameToCome, still, waits, kept, Turns, Waits, Works, none_more, one_more, WorksOff, Takes_off, Delivers, Pumps, delivers, idles, Reloads, Answers, Plays, with_heard}
 use Rattle.model.specs.declared.events.Command.{Command}
 use Rattle.model.specs.declared.events.Command.TheVariants.{Head, Plain, Full, TooLarge}
 use Rattle.model.specs.declared.events.Send.{Send}
@@ -23,6 +24,7 @@ use Rattle.laws.proofs.Counts.{from_either}
 use Rattle.laws.proofs.Streams.{head_read, head_awaited, frames_read}
 use Rattle.laws.proofs.View.{is_read, goes, Performed, Answered}
 use Rattle.laws.proofs.Linked.{with_here}
+use Rattle.laws.proofs.Reloading.{all_marked, state_left}
 use Rattle.laws.proofs.Spoken.{read_no_header, read_is, settled_sessions}
 
 -- ---- what is read
@@ -194,19 +196,30 @@ works_all c old new hs (one_more {mid = m} {first = f} {rest = r} t more e) a = 
 works_off_all : (c : ℕ) (old new : World) (hs : List Happening) → WorksOff old c hs new → All old → All new
 works_off_all c old new hs w a = waits_all c w.mid new w.waits (works_all c old w.mid hs w.works a)
 
-answer_all : (old new : World) (t : Arrival) (hs : List Happening) → Answers old t hs new → All old → All new
-answer_all old new arrival.Open hs p a =
-    from_either (can_open old) (λ o. one_all old new (old.given + 1) new_session (record new_wire { stream = new_stream }) a o.happens.stepped.steps.session o.wires refl) (λ s. same_all old new a s.1.state s.1.wires) p
-answer_all old new (arrival.Ready k) hs p a =
-    from_either (can_open old) (λ o. one_all old new (old.given + 1) (record running_session { channel_max = 255 }) (record new_wire { stream = running_stream }) a o.happens.stepped.session o.wires refl) (λ s. same_all old new a s.1.state s.1.wires) p
-answer_all old new (arrival.In c bytes) hs p a = from_either (is_over old c) (λ s. same_all old new a s.1.state s.1.wires) (λ w. works_off_all c (with_heard old c bytes) new hs w (heard_all old c bytes a)) p
-answer_all old new (arrival.Sent c n) hs p a = from_either (is_gone old c) (λ s. same_all old new a s.1.state s.1.wires) (λ t. works_off_all c t.mid new t.rest t.works (takes_all c n old t.mid t.first t.takes a)) p
-answer_all old new arrival.Pump hs p a = pumps_all old new hs p a
-answer_all old new (arrival.Lose c) hs p a = from_either (is_gone old c) (λ s. same_all old new a s.1.state s.1.wires) (λ o. one_all old new c no_session new_wire a o.happens.stepped.session o.wires refl) p
+-- a reload changes neither what is to come nor a phase
+reload_all : (old new : World) (offered : Config) (os : List Occurrence) → Reloads old offered os new → All old → All new
+reload_all old new offered os p a d = wire_as _ _ (old.wire d) (new.wire d) (session_as (old.state.session d) (new.state.session d) session) (p.wires d) (a d)
+  where
+    session : new.state.session d ≡ old.state.session d
+    session = elim (state_left p.r p.decided) [
+      | inl e ↦ ap (λ (z : State). z.session d) (sym p.after ∙ e ∙ ap all_marked p.before)
+      | inr e ↦ ap (λ (z : State). z.session d) (sym p.after ∙ e ∙ p.before)
+    ]
 
-play_all : (old new : World) (arrivals : List Arrival) (hs : List Happening) → Plays old arrivals hs new → All old → All new
-play_all old new [] hs p a = same_all old new a p.1.state p.1.wires
-play_all old new (t ∷ arrivals) hs (mid, first, rest, e, brings, p) a = play_all mid new arrivals rest p (answer_all old mid t first brings a)
+answer_all : (old new : World) (t : Arrival Config) (os : List Occurrence) → Answers old t os new → All old → All new
+answer_all old new arrival.Open os (hs, e, p) a =
+    from_either (can_open old) (λ o. one_all old new (old.given + 1) new_session (record new_wire { stream = new_stream }) a o.happens.stepped.steps.session o.wires refl) (λ s. same_all old new a s.1.state s.1.wires) p
+answer_all old new (arrival.Ready k) os (hs, e, p) a =
+    from_either (can_open old) (λ o. one_all old new (old.given + 1) (record running_session { channel_max = 255 }) (record new_wire { stream = running_stream }) a o.happens.stepped.session o.wires refl) (λ s. same_all old new a s.1.state s.1.wires) p
+answer_all old new (arrival.In c bytes) os (hs, e, p) a = from_either (is_over old c) (λ s. same_all old new a s.1.state s.1.wires) (λ w. works_off_all c (with_heard old c bytes) new hs w (heard_all old c bytes a)) p
+answer_all old new (arrival.Sent c n) os (hs, e, p) a = from_either (is_gone old c) (λ s. same_all old new a s.1.state s.1.wires) (λ t. works_off_all c t.mid new t.rest t.works (takes_all c n old t.mid t.first t.takes a)) p
+answer_all old new arrival.Pump os (hs, e, p) a = pumps_all old new hs p a
+answer_all old new (arrival.Lose c) os (hs, e, p) a = from_either (is_gone old c) (λ s. same_all old new a s.1.state s.1.wires) (λ o. one_all old new c no_session new_wire a o.happens.stepped.session o.wires refl) p
+answer_all old new (arrival.Reload g) os p a = reload_all old new g os p a
+
+play_all : (old new : World) (arrivals : List (Arrival Config)) (os : List Occurrence) → Plays old arrivals os new → All old → All new
+play_all old new [] os p a = same_all old new a p.1.state p.1.wires
+play_all old new (t ∷ arrivals) os (mid, first, rest, e, brings, p) a = play_all mid new arrivals rest p (answer_all old mid t first brings a)
 
 pub read_by_phase : OpeningsReadByPhase
-read_by_phase f arrivals hs w p = play_all (new_world f) w arrivals hs p (λ c. refl)
+read_by_phase f arrivals os w p = play_all (new_world f) w arrivals os p (λ c. refl)

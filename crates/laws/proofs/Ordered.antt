@@ -361,7 +361,7 @@ module _ (t : Topology) (old new : Broker) (sends : List Send) (notes : List Not
   moved c max false is = same is.queues
 
 -- and so each step
-step_ordered : (h : Happening) → Step h.config h.before h.event h.sends h.notes h.after → (q : Text) → IsPart (waiting (h.after.broker.queue q)) (waiting (h.before.broker.queue q) ++ entered q h.notes)
+pub step_ordered : (h : Happening) → Step h.config h.before h.event h.sends h.notes h.after → (q : Text) → IsPart (waiting (h.after.broker.queue q)) (waiting (h.before.broker.queue q) ++ entered q h.notes)
 step_ordered h s = elim (goes h.config h.before h.after h.sends h.notes h.event s) [
   | inl p ↦ ordered h.config.topology h.before.broker h.after.broker h.sends h.notes h.event p.acts
   | inr a ↦ moved h.config.topology h.before.broker h.after.broker h.sends h.notes (event_connection h.event) a.move.next.channel_max (is_running a.move.next.phase) a.moves.broker
@@ -383,7 +383,7 @@ one_given no_ack holder e old now entering found fresh is =
     ∙ first_waited no_ack holder e old found
     ))
 
-giving_ordered : (h : Happening) (q : Text) (e : Entry) → GivesOut h q e → e.message.redelivered ≡ false → IsPart (e.message.number ∷ waiting (h.after.broker.queue q)) (waiting (h.before.broker.queue q) ++ entered q h.notes)
+pub giving_ordered : (h : Happening) (q : Text) (e : Entry) → GivesOut h q e → e.message.redelivered ≡ false → IsPart (e.message.number ∷ waiting (h.after.broker.queue q)) (waiting (h.before.broker.queue q) ++ entered q h.notes)
 giving_ordered h q e (to_get {c = c} {k = k} {m = m} ch is there found p) fresh = one_given m.no_ack _ e (h.before.broker.queue q) (h.after.broker.queue q) _ found fresh (after_one h.before.broker h.after.broker c k ch m.no_ack q taker.Get p.left)
 giving_ordered h q e (to_consumer {c = c} is d) fresh =
     one_given d.made.consumer.no_ack _ e (h.before.broker.queue q) (h.after.broker.queue q) _ d.made.first fresh (after_one h.before.broker h.after.broker c d.made.number d.made.channel d.made.consumer.no_ack q (taker.Consumer d.made.consumer.number) d.makes.left)

@@ -1,19 +1,17 @@
--- Whatever arrives, what happens is a run, under what is in force, of commands that were said and sends that were put out.
+-- Whatever is done, what happens is a run, under what is in force, of commands that were said and sends that were put out.
 use Rattle.std.proofs.Common.{◌≡◌, ◌≤◌, ℕ, List, [], ◌∷◌, ◌++◌, Bool, true, false, refl, sym, subst, ◌⊎◌, inl, inr}
 use Rattle.std.specs.List.{AllByRecursion}
 use Rattle.model.specs.State.{Config, State, Step}
 use Rattle.model.specs.Run.{Happening, Run}
 use Rattle.model.specs.Spelling.{IsSpelled}
 use Rattle.model.specs.Commands.{Stream}
-use Rattle.model.specs.Arrivals.{World, Turns, Works, none_more, one_more, Waits, WorksOff, Answers, Same, with_heard, is_over, is_gone, can_open, Opens, Loses, Pumps, delivers, idles, Takes_off, TakesAndWorks, Puts, Pauses, Happens, IsSaid, Plays}
+use Rattle.model.specs.Arrivals.{World, Turns, Works, none_more, one_more, Waits, WorksOff, Same, with_heard, Opens, Loses, Pumps, delivers, idles, Takes_off, TakesAndWorks, Puts, Pauses, Happens, IsSaid}
 use Rattle.model.specs.declared.events.Send.{Send}
 use Rattle.model.specs.declared.events.Event.{Event}
 use Rattle.model.specs.declared.events.Event.TheVariants as event
-use Rattle.model.specs.declared.events.Arrival.{Arrival}
-use Rattle.model.specs.declared.events.Arrival.TheVariants as arrival
 use Rattle.model.specs.Headline.{IsSound}
 use Rattle.laws.specs.Promises.{AreSaid, AreSound, InForce, config_after}
-use Rattle.laws.proofs.Counts.{all-append, from_either}
+use Rattle.laws.proofs.Counts.{all-append}
 
 -- ---- what is told of the happenings of a run
 
@@ -146,7 +144,7 @@ told_waits c a m b hs t v = record {
   each = t.each;
 }
 
-told_works_off : (c : ℕ) (a b : World) (hs : List Happening) → WorksOff a c hs b → Told a hs b
+pub told_works_off : (c : ℕ) (a b : World) (hs : List Happening) → WorksOff a c hs b → Told a hs b
 told_works_off c a b hs w = told_waits c a w.mid b hs (told_works c a w.mid hs w.works) w.waits
 
 -- the bytes heard change neither what is in force nor the broker
@@ -158,7 +156,7 @@ told_taken c n a b hs t =
     let s = settled_is a.config a.state b.state c _ _ hs t.pauses in
     record { run = s.run; in_force = stays_in_force a.config b.config hs t.config s.in_force; each = s.each }
 
-told_taken_and_works : (c n : ℕ) (a b : World) (hs : List Happening) → TakesAndWorks a c n hs b → Told a hs b
+pub told_taken_and_works : (c n : ℕ) (a b : World) (hs : List Happening) → TakesAndWorks a c n hs b → Told a hs b
 told_taken_and_works c n a b hs t = told_at a b hs (t.first ++ t.rest) t.all (told-append a t.mid b t.first t.rest (told_taken c n a t.mid t.first t.takes) (told_works_off c t.mid b t.rest t.works))
 
 -- one happening without sends
@@ -176,17 +174,3 @@ told_loses a b c hs o = told_one a b (event.Lose c) o.h hs tt o.all o.happens o.
 pub told_pumps : (a b : World) (hs : List Happening) → Pumps a hs b → Told a hs b
 told_pumps a b hs (delivers {c = c} d) = told_puts a b (event.Deliver c) c hs tt d.puts
 told_pumps a b hs (idles n p) = told_same a b hs p
-
-pub told_answers : (a b : World) (t : Arrival) (hs : List Happening) → Answers a t hs b → Told a hs b
-told_answers a b arrival.Open hs p = from_either (can_open a) (λ o. told_opens a b (event.Open _) _ hs tt o) (told_same a b hs) p
-told_answers a b (arrival.Ready k) hs p = from_either (can_open a) (λ o. told_opens a b (event.Running _ 255 k) _ hs tt o) (told_same a b hs) p
-told_answers a b (arrival.In c bytes) hs p = from_either (is_over a c) (told_same a b hs) (λ w. told_heard a b c bytes hs (told_works_off c (with_heard a c bytes) b hs w)) p
-told_answers a b (arrival.Sent c n) hs p = from_either (is_gone a c) (told_same a b hs) (λ w. told_taken_and_works c n a b hs w) p
-told_answers a b arrival.Pump hs p = told_pumps a b hs p
-told_answers a b (arrival.Lose c) hs p = from_either (is_gone a c) (told_same a b hs) (λ o. told_loses a b c hs o) p
-
--- Whatever arrives, what happens is a run.
-pub told_plays : (old new : World) (arrivals : List Arrival) (hs : List Happening) → Plays old arrivals hs new → Told old hs new
-told_plays old new [] hs p = told_same old new hs p
-told_plays old new (a ∷ arrivals) hs (mid, first, rest, e, brings, p) =
-    told_at old new hs (first ++ rest) e (told-append old mid new first rest (told_answers old mid a first brings) (told_plays mid new arrivals rest p))

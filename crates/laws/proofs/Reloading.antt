@@ -1,102 +1,178 @@
--- No message enters a forbidden queue, whatever is reloaded between the events.
-use Rattle.std.proofs.Common.{◌≡◌, ℕ, ◌<◌, ◌≤◌, List, [], ◌∷◌, ◌++◌, refl, sym, ap, subst, ◌∙◌, append_assoc, arith, inl, inr}
-use Rattle.model.specs.State.{Config, State}
-use Rattle.model.specs.Run.{has_number, AreCounted}
+-- What a reload leaves: all that was kept before it is kept after it, under what it put in force.
+use Rattle.std.proofs.Common.{◌≡◌, ℕ, ◌≤◌, List, [], ◌∷◌, Bool, true, false, refl, sym, ap, subst, ◌∙◌, map, ◌⊎◌, inl, inr, Some}
+use Rattle.std.specs.Prelude.{is_some, if◌then◌else◌}
+use Rattle.std.specs.Str.{bytes_eq}
+use Rattle.std.specs.List.{AllByRecursion}
+use Rattle.std.proofs.lemmas.Bool.{false≢true}
+use Rattle.std.proofs.lemmas.Slice.Eq.{bytes_eq-Decides}
+use Rattle.model.specs.Words.{Text}
+use Rattle.model.specs.Topology.{IsIn, queue_names}
+use Rattle.model.specs.Broker.{Broker, Channel, Consumer, queue_named}
+use Rattle.model.specs.Entries.{is_held_as}
+use Rattle.model.specs.Agreement.{IsAgreed, IsOutstanding}
+use Rattle.model.specs.Alone.{ArePresent}
 use Rattle.model.specs.Allowed.{IsNoted}
-use Rattle.model.specs.Broker.{Broker}
+use Rattle.model.specs.Step.{Is}
+use Rattle.model.specs.State.{Config, State}
+use Rattle.model.specs.Run.{Happening, has_number, AreCounted}
+use Rattle.model.specs.Order.{is_fresh, waiting}
+use Rattle.model.specs.Contents.{IsOfPublish}
 use Rattle.model.specs.Headline.{IsSound}
-use Rattle.model.specs.Reloading.{NothingStands, stood_now, with_all_stood}
+use Rattle.model.specs.Naming.{AreNamedOn, AreNamed}
+use Rattle.model.specs.Sending.{IsCarried, AreCarried}
+use Rattle.model.specs.Reloading.{NothingStands, by_consumer, stood_now, with_all_stood}
+use Rattle.model.specs.History.{Reload, IsDecided}
+use Rattle.model.specs.declared.topologies.DeclaredQueue.{DeclaredQueue}
 use Rattle.model.specs.declared.messages.Entry.{Entry}
+use Rattle.model.specs.declared.messages.Holder.{Holder}
 use Rattle.model.specs.declared.notes.Note.{Note}
-use Rattle.laws.specs.Promises.{IsBegun, config_after}
-use Rattle.laws.specs.Reloading.{Occurrence, Of_event, Reloads, RunsOver, AreGood, EachIsAllowed, EachIsAllowedIn, notes_over, NeverAcrossReloads}
-use Rattle.laws.proofs.Counts.{count-map, all-append}
-use Rattle.laws.proofs.Balance.{stands_counted}
-use Rattle.laws.proofs.Keeping.{reload_kept, all_stood}
-use Rattle.laws.proofs.Once.{AreOfOthers, Placed, step_grows, step_of_others}
-use Rattle.laws.proofs.Never.{run_begun, run_allowed, not_of_others, allowed_where, own_in_all, Agrees, agrees_on, begun_at, begun_after}
-use Rattle.laws.proofs.View.{seen_at}
+use Rattle.laws.specs.Promises.{IsBegun}
+use Rattle.laws.proofs.Counts.{count-map}
+use Rattle.laws.proofs.Keeping.{in_or_not, all_stood, reload_kept}
+use Rattle.laws.proofs.Linked as linked
+use Rattle.laws.proofs.Never.{Agrees}
+use Rattle.laws.proofs.Once.{AreOfOthers}
+use Rattle.laws.proofs.Sources.{AreOfPublishes}
 
--- ---- what stands at a reload
+-- ---- the state after it
 
-reload_begun : (f to : Config) (b : Broker) → NothingStands f.topology to b → IsBegun f b → IsBegun to (with_all_stood b)
-reload_begun f to b nothing begun = record {
-  counted = λ n q lt. count-map (has_number n) stood_now (λ x. refl) (b.queue q) ∙ begun.counted n q lt;
-  kept = reload_kept f to b begun.kept nothing;
+-- the state in which each message that waits is marked
+abbrev pub all_marked : State → State
+all_marked s = record s { broker = with_all_stood s.broker }
+
+same_broker : (made new : Broker) → Is made new → new ≡ made
+same_broker made new is = λ i. record { published = is.counted i; queue = λ q. is.queues q i; connection = λ c. is.connections c i; channel = λ c h. is.channels c h i }
+
+-- it is that before it, with each message marked where the reload was done
+pub state_left : (r : Reload) → IsDecided r → (r.after ≡ all_marked r.before) ⊎ (r.after ≡ r.before)
+state_left r (inl d) = inl (λ i. record { broker = same_broker (with_all_stood r.before.broker) r.after.broker d.broker i; session = λ c. d.session c i })
+state_left r (inr d) = inr d.after
+
+-- what marks leave as it was is left so by a reload
+pub over_reload : (Keeps : State → Type 0) → ((s : State) → Keeps s → Keeps (all_marked s)) → (r : Reload) → IsDecided r → Keeps r.before → Keeps r.after
+over_reload Keeps marks r d k = elim (state_left r d) [ inl e ↦ subst Keeps (sym e) (marks r.before k) | inr e ↦ subst Keeps (sym e) k ]
+
+-- ---- what marks leave
+
+pub counted_marked : (b : Broker) → AreCounted b → AreCounted (with_all_stood b)
+counted_marked b counted n q lt = count-map (has_number n) stood_now (λ x. refl) (b.queue q) ∙ counted n q lt
+
+carried_all : (es : List Entry) → AllByRecursion (λ (e : Entry). IsCarried e.message) es → AllByRecursion (λ (e : Entry). IsCarried e.message) (map stood_now es)
+carried_all [] a = tt
+carried_all (e ∷ es) a = (record { exchange = a.0.exchange; key = a.0.key; content = a.0.content }, carried_all es a.1)
+
+pub carried_marked : (b : Broker) → AreCarried b → AreCarried (with_all_stood b)
+carried_marked b carried q = carried_all (b.queue q) (carried q)
+
+in_stood : (e : Entry) (es : List Entry) → IsIn e es → IsIn (stood_now e) (map stood_now es)
+in_stood e [] i = absurd i
+in_stood e (x ∷ xs) (inl is) = inl (ap stood_now is)
+in_stood e (x ∷ xs) (inr i) = inr (in_stood e xs i)
+
+outstanding_marked : (b : Broker) (q : Text) (holder : Holder) → IsOutstanding b q holder → IsOutstanding (with_all_stood b) q holder
+outstanding_marked b q holder o = record { channel = o.channel; there = o.there; delivery = o.delivery; outstanding = o.outstanding; tag = o.tag; queue = o.queue; by = o.by }
+
+pub agreed_marked : (b : Broker) → IsAgreed b → IsAgreed (with_all_stood b)
+agreed_marked b a = record {
+  held = λ q e holder i mark.
+      let s = all_stood (b.queue q) e i in
+      outstanding_marked b q holder (a.held q s.entry holder s.there (sym (ap (λ (z : Entry). z.mark) s.is) ∙ mark));
+  given = λ c h ch o there i.
+      let was = a.given c h ch o there i in
+      record { entry = stood_now was.entry; there = in_stood was.entry (b.queue o.queue) was.there; mark = was.mark };
+  apart = λ q holder. subst (λ (n : ℕ). n ≤ 1) (sym (count-map (is_held_as holder) stood_now (λ x. refl) (b.queue q))) (a.apart q holder);
+  rising = a.rising;
+  before = a.before;
+  closed = a.closed;
 }
 
-reload_agrees : (all : List Note) (b : Broker) → Agrees all b → Agrees all (with_all_stood b)
-reload_agrees all b agrees q y i x key noted =
+pub present_marked : (s : State) → ArePresent s → ArePresent (all_marked s)
+present_marked s p = record { connections = p.connections; channels = p.channels }
+
+pub sourced_marked : (before : List Happening) (b : Broker) → AreOfPublishes before b.queue → AreOfPublishes before (with_all_stood b).queue
+sourced_marked before b all q e i =
+    let s = all_stood (b.queue q) e i in
+    let was = all q s.entry s.there in
+    subst (λ (z : Entry). IsOfPublish before z.message) (sym s.is) (record { published = was.published; was = was.was; content = was.content })
+
+pub waiting_marked : (es : List Entry) → waiting (map stood_now es) ≡ waiting es
+waiting_marked [] = refl
+waiting_marked (e ∷ es) = ap (λ (ns : List ℕ). if is_fresh e then e.message.number ∷ ns else ns) (waiting_marked es)
+
+pub agrees_marked : (all : List Note) (b : Broker) → Agrees all b → Agrees all (with_all_stood b)
+agrees_marked all b agrees q y i x key noted =
     let s = all_stood (b.queue q) y i in
     let was = agrees q s.entry s.there x key (subst (λ (n : ℕ). IsNoted all n x key) (ap (λ (z : Entry). z.message.number) s.is) noted) in
     (was.0 ∙ sym (ap (λ (z : Entry). z.message.first_exchange) s.is), was.1 ∙ sym (ap (λ (z : Entry). z.message.first_key) s.is))
 
--- ---- which notes are of which publish
+pub linked_marked : (s : State) (is_paused : ℕ → Bool) → linked.Agrees s.broker s.session is_paused → linked.Agrees (with_all_stood s.broker) s.session is_paused
+linked_marked s is_paused a = record { running = a.running; paused = a.paused; limits = a.limits }
 
-others_over : (f g : Config) (os : List Occurrence) (old new : State) → RunsOver f old os g new → (n : ℕ) → n ≤ old.broker.published → AreOfOthers n (notes_over os)
-others_over f g [] old new r n le = tt
-others_over f g (Of_event h ∷ os) old new (is, e, s, r) n le =
-    let v = seen_at h s in
-    let t = h.config.topology in
-    let from : n ≤ h.before.broker.published = subst (λ (z : State). n ≤ z.broker.published) (sym e) le in
-    let grows = step_grows t h.before.broker h.after.broker h.event h.sends h.notes v in
-    all-append _ h.notes (notes_over os) (step_of_others t h.before.broker h.after.broker h.event h.sends h.notes v n (inl from)) (others_over (config_after h) g os h.after new r n (omega (arith, from, grows)))
-others_over f g (Reloads to ∷ os) old new (nothing, r) n le = others_over to g os _ new r n le
+-- ---- what follows from what was judged
 
-agrees_first : (f g : Config) (os : List Occurrence) (old new : State) → AreCounted old.broker → RunsOver f old os g new → Agrees (notes_over os) old.broker
-agrees_first f g os old new counted r q y i x key (c, k, o, j) =
-    absurd (not_of_others y.message.number c k x key o (notes_over os) (others_over f g os old new r y.message.number (stands_counted old.broker q y counted i)) j)
+pub begun_reloaded : (r : Reload) → IsDecided r → IsBegun r.config r.before.broker → IsBegun r.in_force r.after.broker
+begun_reloaded r (inl d) begun =
+    subst (λ (f : Config). IsBegun f r.after.broker) (sym d.in_force) (
+    subst (IsBegun r.offered) (sym (same_broker (with_all_stood r.before.broker) r.after.broker d.broker)) (record {
+      counted = counted_marked r.before.broker begun.counted;
+      kept = reload_kept r.config r.offered r.before.broker begun.kept d.nothing;
+    }))
+begun_reloaded r (inr d) begun = subst (λ (f : Config). IsBegun f r.after.broker) (sym d.in_force) (subst (λ (s : State). IsBegun r.config s.broker) (sym d.after) begun)
 
--- ---- all notes
+pub sound_reloaded : (r : Reload) → IsDecided r → IsSound r.config → IsSound r.offered → IsSound r.in_force
+sound_reloaded r (inl d) sound offered = subst IsSound (sym d.in_force) offered
+sound_reloaded r (inr d) sound offered = subst IsSound (sym d.in_force) sound
 
-in_all : (all : List Note) (f g : Config) (os : List Occurrence) (old new : State) (before : List Note) → IsSound f → AreGood os → IsBegun f old.broker → Agrees all old.broker → RunsOver f old os g new
-    → all ≡ before ++ notes_over os → ((n : ℕ) → old.broker.published < n → AreOfOthers n before) → EachIsAllowedIn all os
-in_all all f g [] old new before sound good begun agrees r e earlier = tt
-in_all all f g (Of_event h ∷ os) old new before sound good begun agrees (is, start, s, r) e earlier =
-    let t = h.config.topology in
-    let v = seen_at h s in
-    let grows = step_grows t h.before.broker h.after.broker h.event h.sends h.notes v in
-    let first : h.before.broker.published ≡ old.broker.published = ap (λ (z : State). z.broker.published) start in
-    let here = begun_at f old h start is begun in
-    let sound' : IsSound h.config = subst IsSound (sym is) sound in
-    let agrees' : Agrees all h.before.broker = subst (λ (z : State). Agrees all z.broker) (sym start) agrees in
-    let at : Placed all h = record { step = v; before = before; after = notes_over os; split = e; earlier = λ n lt. earlier n (omega (arith, lt, first)); later = others_over (config_after h) g os h.after new r } in (
-      allowed_where h (IsNoted all) v (λ p x key. own_in_all h p all at x key) (λ quiet q y i x key noted. agrees' q y i x key noted) sound' good.0 here.kept,
-      in_all all (config_after h) g os h.after new (before ++ h.notes) sound' good.1 (begun_after h sound' good.0 here s) (agrees_on all h at s agrees') r (e ∙ sym (append_assoc before h.notes (notes_over os)))
-          (λ n lt. all-append _ before h.notes (earlier n (omega (arith, grows, lt, first))) (step_of_others t h.before.broker h.after.broker h.event h.sends h.notes v n (inr lt))),
-    )
-in_all all f g (Reloads to ∷ os) old new before sound good begun agrees (nothing, r) e earlier =
-    in_all all to g os _ new before good.0 good.1 (reload_begun f to old.broker nothing begun) (reload_agrees all old.broker agrees) r e earlier
+-- nothing that a reload notes is of a publish
+pub reload_of_others : (r : Reload) → IsDecided r → (n : ℕ) → AreOfOthers n r.notes
+reload_of_others r (inl d) n = subst (AreOfOthers n) (sym d.noted) (refl, tt)
+reload_of_others r (inr d) n = subst (AreOfOthers n) (sym d.noted) (refl, tt)
 
--- ---- each event by itself
+-- ---- consumers
 
-record Ends (os : List Occurrence) (g : Config) (new : State) : Type 0 where
-  never : EachIsAllowed os
-  begun : IsBegun g new.broker
-  sound : IsSound g
+named_there : (qs : List DeclaredQueue) (name : Text) → is_some (queue_named qs name) ≡ true → IsIn name (queue_names qs)
+named_there [] name e = absurd (false≢true e)
+named_there (q ∷ qs) name e = by (named_there qs name) (bytes_eq q.name name) refl e
+  where
+    by : (is_some (queue_named qs name) ≡ true → IsIn name (queue_names qs)) → (b : Bool) → bytes_eq q.name name ≡ b → is_some (if b then Some q else queue_named qs name) ≡ true → IsIn name (q.name ∷ queue_names qs)
+    by rest true is found = inl (sym ((bytes_eq-Decides q.name name).0 is))
+    by rest false is found = inr (rest found)
 
-ends : (f g : Config) (os : List Occurrence) (old new : State) → IsSound f → AreGood os → IsBegun f old.broker → RunsOver f old os g new → Ends os g new
-ends f g [] old new sound good begun (e, s) = record {
-  never = tt;
-  begun = subst (λ (z : Config). IsBegun z new.broker) (sym e) (subst (λ (z : State). IsBegun f z.broker) (sym s) begun);
-  sound = subst IsSound (sym e) sound;
+there_named : (qs : List DeclaredQueue) (name : Text) → IsIn name (queue_names qs) → is_some (queue_named qs name) ≡ true
+there_named [] name i = absurd i
+there_named (q ∷ qs) name i = by (there_named qs name) (bytes_eq q.name name) refl i
+  where
+    by : (IsIn name (queue_names qs) → is_some (queue_named qs name) ≡ true) → (b : Bool) → bytes_eq q.name name ≡ b → IsIn name (q.name ∷ queue_names qs) → is_some (if b then Some q else queue_named qs name) ≡ true
+    by rest true is i = refl
+    by rest false is (inl e) = absurd (false≢true (sym is ∙ (bytes_eq-Decides q.name name).1 (sym e)))
+    by rest false is (inr i) = rest i
+
+-- the queue of a consumer is not gone
+consumed_there : (f g : Config) (b : Broker) → NothingStands f.topology g b → (c h : ℕ) (ch : Channel) → b.channel c h ≡ Some ch → (k : Consumer) → IsIn k ch.consumers → is_some (queue_named f.topology.queues k.queue) ≡ true → is_some (queue_named g.topology.queues k.queue) ≡ true
+consumed_there f g b nothing c h ch there k i named = elim (in_or_not k.queue (queue_names g.topology.queues)) [
+  | inl is ↦ there_named g.topology.queues k.queue is
+  | inr gone ↦ absurd (nothing.none_stranded k.queue (record { was = named_there f.topology.queues k.queue named; gone = gone; in_use = by_consumer c h ch k there i refl }))
+]
+
+each_of : {A : Type 0} (P Q : A → Type 0) (xs : List A) → AllByRecursion P xs → ((x : A) → IsIn x xs → P x → Q x) → AllByRecursion Q xs
+each_of P Q [] a f = tt
+each_of P Q (x ∷ xs) a f = (f x (inl refl) a.0, each_of P Q xs a.1 (λ y i. f y (inr i)))
+
+named_on : (f g : Config) (b : Broker) → NothingStands f.topology g b → (c h : ℕ) (ch : Channel) → b.channel c h ≡ Some ch → AreNamedOn f.topology ch → AreNamedOn g.topology ch
+named_on f g b nothing c h ch there named = record {
+  queues = each_of (λ (k : Consumer). is_some (queue_named f.topology.queues k.queue) ≡ true) (λ (k : Consumer). is_some (queue_named g.topology.queues k.queue) ≡ true) ch.consumers named.queues
+      (λ k i was. consumed_there f g b nothing c h ch there k i was);
+  spelled = named.spelled;
+  apart = named.apart;
+  rising = named.rising;
+  before = named.before;
+  given = named.given;
+  few = named.few;
 }
-ends f g (Of_event h ∷ os) old new sound good begun (is, start, s, r) =
-    let last = config_after h in
-    let sound' : IsSound h.config = subst IsSound (sym is) sound in
-    let after = run_begun f last (h ∷ []) old h.after (sound', tt) (is, refl) (good.0, tt) begun (start, s, refl) in
-    let rest = ends last g os h.after new sound' good.1 after r in
-    record { never = ((run_allowed f last (h ∷ []) old h.after (sound', tt) (is, refl) (good.0, tt) begun (start, s, refl)).0, rest.never); begun = rest.begun; sound = rest.sound }
-ends f g (Reloads to ∷ os) old new sound good begun (nothing, r) =
-    let rest = ends to g os _ new good.0 good.1 (reload_begun f to old.broker nothing begun) r in
-    record { never = rest.never; begun = rest.begun; sound = rest.sound }
 
-pub never_across : NeverAcrossReloads
-never_across f g os old new sound good begun r =
-    let e = ends f g os old new sound good begun r in
-    record {
-      never = e.never;
-      never_in_all = in_all (notes_over os) f g os old new [] sound good begun (agrees_first f g os old new begun.counted r) r refl (λ n lt. tt);
-      begun = e.begun;
-      sound = e.sound;
-    }
+pub named_reloaded : (r : Reload) → IsDecided r → AreNamed r.config.topology r.before.broker → AreNamed r.in_force.topology r.after.broker
+named_reloaded r (inl d) named =
+    subst (λ (f : Config). AreNamed f.topology r.after.broker) (sym d.in_force) (
+    subst (AreNamed r.offered.topology) (sym (same_broker (with_all_stood r.before.broker) r.after.broker d.broker))
+    (λ c h ch there. named_on r.config r.offered r.before.broker d.nothing c h ch there (named c h ch there)))
+named_reloaded r (inr d) named = subst (λ (f : Config). AreNamed f.topology r.after.broker) (sym d.in_force) (subst (λ (s : State). AreNamed r.config.topology s.broker) (sym d.after) named)

@@ -104,7 +104,7 @@ run_routed (h ∷ hs) old new (e, s, r) = (step_routed h (seen_at h s), run_rout
 
 -- ---- numbers
 
-next_on : (first mid last : ℕ) (ns ms : List ℕ) → CountUp first ns mid → CountUp mid ms last → CountUp first (ns ++ ms) last
+pub next_on : (first mid last : ℕ) (ns ms : List ℕ) → CountUp first ns mid → CountUp mid ms last → CountUp first (ns ++ ms) last
 next_on first mid last [] ms e more = subst (λ (n : ℕ). CountUp n ms last) e more
 next_on first mid last (n ∷ ns) ms (e, rest) more = (e, next_on n mid last ns ms rest more)
 

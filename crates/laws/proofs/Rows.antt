@@ -16,6 +16,8 @@ use Rattle.model.specs.Consuming.{is_in_use, server_tag, first_free}
 use Rattle.model.specs.Broker.{Consumer, Broker}
 use Rattle.model.specs.State.{State}
 use Rattle.model.specs.Run.{Stays}
+use Rattle.model.specs.Reloading.{by_entry, stood_now}
+use Rattle.model.specs.History.{Of_reload, IsDecided, StaysOver}
 use Rattle.model.specs.Acks.{Ack, acks_in, HasAcksOf, IsReading, EnteredOnce, ack_for}
 use Rattle.model.specs.Allowed.{AreAllowed}
 use Rattle.model.specs.Causes.{HaveOrigins, DiesAt}
@@ -23,11 +25,12 @@ use Rattle.model.specs.Routed.{EnterAsRouted, note_at, number_in, CountUp}
 use Rattle.model.specs.Letters.{DieOnce}
 use Rattle.model.specs.Contents.{HasSource, given_out, sent_back, HaveSources}
 use Rattle.model.specs.declared.notes.Note.{Note}
-use Rattle.model.specs.declared.notes.Note.TheVariants.{Entered, Left}
+use Rattle.model.specs.declared.notes.Note.TheVariants.{Entered, Left, Reloaded, ReloadRefused}
+use Rattle.model.specs.declared.messages.Entry.{Entry}
 use Rattle.model.specs.declared.notes.Way.TheVariants.{Publish, Dead}
 use Rattle.model.specs.declared.notes.Cause.TheVariants.{Acked, Rejected}
 use Rattle.model.specs.declared.methods.Method.TheVariants.{ConfirmSelectOk, BasicAck}
-use Rattle.laws.specs.Rows.{first_published, first_sent, no_content, WordsOfKeys, FirstConsumer, RefusedConsumes, FullQueues, FirstInput, FirstOutput, BadEnd, TooLargeContent, HeadlineRefuses, select_ok, first_ack, multiple_ack, first_entry, with_entries, forbids, event_of_notes, one_event, vanishing, bad_end, wanted, first_acked, notes_without_entry, consumer_under, consuming_under}
+use Rattle.laws.specs.Rows.{first_published, first_sent, no_content, WordsOfKeys, FirstConsumer, RefusedConsumes, FullQueues, FirstInput, FirstOutput, BadEnd, TooLargeContent, HeadlineRefuses, select_ok, first_ack, multiple_ack, first_entry, with_entries, forbids, event_of_notes, one_event, reload_of_none, vanishing, bad_end, wanted, first_acked, notes_without_entry, consumer_under, consuming_under}
 use Rattle.laws.proofs.Reading.{reading_apart, size_at, size_is, rest_is}
 
 pub words_of_keys : WordsOfKeys
@@ -173,6 +176,18 @@ no_source has = from has.0
 two_of_one : DieOnce (event_of_notes [] (with_entries (first_entry ∷ [])) (Left 1 (codes "audit") Rejected ∷ Entered 1 (codes "bin") Dead ∷ Entered 1 (codes "bin") Dead ∷ []) (with_entries [])) → ⊥
 two_of_one once = let most : 2 ≤ 1 = once 1 (codes "bin") in omega (arith, most)
 
+-- one waited, and none does
+lost_by_reload : StaysOver (with_entries (first_entry ∷ [])).broker (Of_reload (reload_of_none (with_entries (first_entry ∷ [])) (with_entries [])) ∷ []) (with_entries []).broker → ⊥
+lost_by_reload stays = elim stays.1 [
+  | inl is ↦ let none : 0 ≡ 1 = ap (λ (es : List Entry). length es) (is.queues (codes "audit")) in zero_is_not_one none
+  | inr e ↦ let none : 0 ≡ 1 = ap (λ (b : Broker). length (b.queue (codes "audit"))) e in zero_is_not_one none
+]
+
+-- the queue is in use, and gone
+stranded_by_reload : IsDecided (reload_of_none (with_entries (first_entry ∷ [])) (with_entries (stood_now first_entry ∷ []))) → ⊥
+stranded_by_reload (inl done) = done.nothing.none_stranded (codes "audit") (record { was = inl refl; gone = λ i. i; in_use = by_entry first_entry (inl refl) })
+stranded_by_reload (inr refused) = let other : Reloaded ∷ [] ≡ ReloadRefused refused.obstacle ∷ [] = refused.noted in cc
+
 pub headline_refuses : HeadlineRefuses
 headline_refuses = record {
   output_without_ack = no_ack_there;
@@ -190,6 +205,8 @@ headline_refuses = record {
   entered_without_route = unrouted;
   one_number_for_two = same_number;
   content_of_no_publish = no_source;
+  reload_loses_one = lost_by_reload;
+  reload_strands_one = stranded_by_reload;
   two_letters_of_one = two_of_one;
 }
 

@@ -27,7 +27,7 @@ use Rattle.laws.proofs.View.{Publishes, IsGiven, seen_at}
 -- ---- messages of publishes
 
 -- each message in these queues is of a publish among these events
-abbrev AreOfPublishes : List Happening → (Text → List Entry) → Type 0
+abbrev pub AreOfPublishes : List Happening → (Text → List Entry) → Type 0
 AreOfPublishes before queues = (q : Text) (e : Entry) → IsIn e (queues q) → IsOfPublish before e.message
 
 -- of more events too
@@ -84,7 +84,7 @@ module _ (before : List Happening) (h : Happening) where
     noted = (p.c, p.h, confirm p, subst (IsIn (first_note p)) (sym (noted p)) (inl refl));
   }
 
-  of_came : AreOfPublishes before h.before.broker.queue → (q : Text) (x : Entry) → Came h.config.topology h.before.broker h.after.broker h.event h.sends h.notes q x → IsOfPublish (before ++ h ∷ []) x.message
+  pub of_came : AreOfPublishes before h.before.broker.queue → (q : Text) (x : Entry) → Came h.config.topology h.before.broker h.after.broker h.event h.sends h.notes q x → IsOfPublish (before ++ h ∷ []) x.message
   of_came all q x (stood o) = of_same (before ++ h ∷ []) x.message o.entry.message o.same (of_before before (h ∷ []) o.entry.message (all q o.entry o.there))
   of_came all q x (by_letter l) =
       let r = of_before before (h ∷ []) l.entry.message (all l.from l.entry l.there) in
@@ -111,7 +111,7 @@ module _ (before : List Happening) (h : Happening) where
   of_publish c k publish came own false (Some n) answered.Ack = tt
   of_publish c k publish came own false (Some n) answered.Nack = tt
 
-  sources : AreOfPublishes before h.before.broker.queue → Step h.config h.before h.event h.sends h.notes h.after → HaveSources before h
+  pub sources : AreOfPublishes before h.before.broker.queue → Step h.config h.before h.event h.sends h.notes h.after → HaveSources before h
   sources all s = elim (seen_at h s) [
     | inl q ↦ all_each (IsGiven h.before.broker h.event h.sends h.notes h.after.broker) (HasSource before h) (of_given all) (filter_map content_in h.sends) q.contents
     | inr p ↦

@@ -1,5 +1,5 @@
 -- Whatever arrives, what a connection was sent so far is as its phase says: commands, or the protocol header alone.
-use Rattle.std.proofs.Common.{◌≡◌, ◌≢◌, ◌<◌, ◌+◌, ℕ, List, [], ◌∷◌, ◌++◌, Bool, true, false, cond, refl, sym, ap, subst, ◌∙◌, ◌⊎◌, inl, inr, append-nil, append_assoc, arith, Option}
+use Rattle.std.proofs.Common.{◌≡◌, ◌≢◌, ◌<◌, ◌+◌, ℕ, List, [], ◌∷◌, ◌++◌, Bool, true, false, cond, refl, sym, ap, subst, ◌∙◌, map, ◌⊎◌, inl, inr, append-nil, append_assoc, arith, Option}
 use Rattle.std.specs.Prelude.{◌==◌, ◌&&◌, filter, not, is_some}
 use Rattle.std.specs.List.{AllByRecursion}
 use Rattle.std.proofs.lemmas.Grind.{flat_map-append}
@@ -11,8 +11,9 @@ use Rattle.model.specs.Opening.{new_session}
 use Rattle.model.specs.Phases.{Session, running_session, no_session, is_running, after_method, after_sends, to_phase}
 use Rattle.model.specs.State.{Config, State, Step}
 use Rattle.model.specs.Run.{Happening, sends_of}
+use Rattle.model.specs.History.{Occurrence, Of_event, events_of}
 use Rattle.model.specs.Spelling.{receiver, sends_to}
-use Rattle.model.specs.Arrivals.{World, new_world, is_ended, is_over, is_paused, is_gone, can_open, event_of, Reads, again, fresh, fault, Pauses, Puts, Turns, Waits, Works, none_more, one_more, WorksOff, Same, Takes_off, Opens, Loses, Answers, Plays, with_heard, Delivers, Pumps, delivers, idles}
+use Rattle.model.specs.Arrivals.{World, new_world, is_ended, is_over, is_paused, is_gone, can_open, event_of, Reads, again, fresh, fault, Pauses, Puts, Turns, Waits, Works, none_more, one_more, WorksOff, Same, Takes_off, Opens, Loses, Reloads, Answers, Plays, with_heard, Delivers, Pumps, delivers, idles}
 use Rattle.model.specs.declared.methods.Method.{Method}
 use Rattle.model.specs.declared.methods.Method.TheVariants.{ConnectionClose, ConnectionCloseOk}
 use Rattle.model.specs.declared.events.Command.{Command}
@@ -32,6 +33,8 @@ use Rattle.laws.specs.Openings.{is_header}
 use Rattle.laws.proofs.Speaking.{IsCommandSend, AreCommandSends, Spoken, spoken_commands, spoken_over, spoken_on}
 use Rattle.laws.proofs.View.{session_after, is_read, goes, acted, acted_commands, Performed, Answered}
 use Rattle.laws.proofs.Linked.{with_here}
+use Rattle.laws.proofs.Reloading.{all_marked, state_left}
+use Rattle.laws.proofs.Histories.{events-mapped, events-append}
 use Rattle.laws.proofs.Linking.{IsLinked, new_is_linked, answers_linked}
 
 -- ---- what is sent to one connection
@@ -291,23 +294,40 @@ waits_speaks c old mid new hs s v d sent was =
 works_off_speaks : (c : ℕ) (old new : World) (hs : List Happening) → WorksOff old c hs new → Speaks old hs new
 works_off_speaks c old new hs w = waits_speaks c old w.mid new hs (works_speaks c old w.mid hs w.works) w.waits
 
-pub answer_speaks : (old new : World) (a : Arrival) (hs : List Happening) → IsLinked old → Answers old a hs new → Speaks old hs new
-answer_speaks old new arrival.Open hs k p = from_either (can_open old) (λ o. opens_speaks old new _ _ new_session hs o o.happens.stepped.steps.session refl) (speaks_same old new hs) p
-answer_speaks old new (arrival.Ready n) hs k p = from_either (can_open old) (λ o. opens_speaks old new _ _ (record running_session { channel_max = 255 }) hs o o.happens.stepped.session tt) (speaks_same old new hs) p
-answer_speaks old new (arrival.In c bytes) hs k p = from_either (is_over old c) (speaks_same old new hs) (λ w. works_off_speaks c (with_heard old c bytes) new hs w) p
-answer_speaks old new (arrival.Sent c n) hs k p =
-    from_either (is_gone old c) (speaks_same old new hs) (λ t. speaks_at old new hs (t.first ++ t.rest) t.all (speaks_append old t.mid new t.first t.rest (takes_speaks c n old t.mid t.first t.takes) (works_off_speaks c t.mid new t.rest t.works))) p
-answer_speaks old new arrival.Pump hs k p = pumps_speaks old new hs k p
-answer_speaks old new (arrival.Lose c) hs k p = from_either (is_gone old c) (speaks_same old new hs) (λ o. loses_speaks old new c hs o) p
+events_speak : (old new : World) (os : List Occurrence) (hs : List Happening) → os ≡ map Of_event hs → Speaks old hs new → Speaks old (events_of os) new
+events_speak old new os hs e s = speaks_at old new (events_of os) hs (ap events_of e ∙ events-mapped hs) s
 
-play_speaks : (old new : World) (arrivals : List Arrival) (hs : List Happening) → IsLinked old → Plays old arrivals hs new → Speaks old hs new
-play_speaks old new [] hs k p = speaks_same old new hs p
-play_speaks old new (a ∷ arrivals) hs k (mid, first, rest, e, brings, p) =
-    speaks_at old new hs (first ++ rest) e (speaks_append old mid new first rest (answer_speaks old mid a first k brings) (play_speaks mid new arrivals rest (answers_linked old mid a first k brings) p))
+-- nothing is sent by a reload
+reloads_speak : (old new : World) (offered : Config) (os : List Occurrence) → Reloads old offered os new → Speaks old (events_of os) new
+reloads_speak old new offered os p c sent s = speaks_nothing old new (events_of os) c sent p.given session (ap (λ (z : List Occurrence). sent_to c (events_of z)) p.all) s
+  where
+    session : new.state.session c ≡ old.state.session c
+    session = elim (state_left p.r p.decided) [
+      | inl e ↦ ap (λ (z : State). z.session c) (sym p.after ∙ e ∙ ap all_marked p.before)
+      | inr e ↦ ap (λ (z : State). z.session c) (sym p.after ∙ e ∙ p.before)
+    ]
+
+pub answer_speaks : (old new : World) (a : Arrival Config) (os : List Occurrence) → IsLinked old → Answers old a os new → Speaks old (events_of os) new
+answer_speaks old new arrival.Open os k (hs, e, p) =
+    events_speak old new os hs e (from_either (can_open old) (λ o. opens_speaks old new _ _ new_session hs o o.happens.stepped.steps.session refl) (speaks_same old new hs) p)
+answer_speaks old new (arrival.Ready n) os k (hs, e, p) =
+    events_speak old new os hs e (from_either (can_open old) (λ o. opens_speaks old new _ _ (record running_session { channel_max = 255 }) hs o o.happens.stepped.session tt) (speaks_same old new hs) p)
+answer_speaks old new (arrival.In c bytes) os k (hs, e, p) = events_speak old new os hs e (from_either (is_over old c) (speaks_same old new hs) (λ w. works_off_speaks c (with_heard old c bytes) new hs w) p)
+answer_speaks old new (arrival.Sent c n) os k (hs, e, p) =
+    events_speak old new os hs e (from_either (is_gone old c) (speaks_same old new hs) (λ t. speaks_at old new hs (t.first ++ t.rest) t.all (speaks_append old t.mid new t.first t.rest (takes_speaks c n old t.mid t.first t.takes) (works_off_speaks c t.mid new t.rest t.works))) p)
+answer_speaks old new arrival.Pump os k (hs, e, p) = events_speak old new os hs e (pumps_speaks old new hs k p)
+answer_speaks old new (arrival.Lose c) os k (hs, e, p) = events_speak old new os hs e (from_either (is_gone old c) (speaks_same old new hs) (λ o. loses_speaks old new c hs o) p)
+answer_speaks old new (arrival.Reload g) os k p = reloads_speak old new g os p
+
+play_speaks : (old new : World) (arrivals : List (Arrival Config)) (os : List Occurrence) → IsLinked old → Plays old arrivals os new → Speaks old (events_of os) new
+play_speaks old new [] os k p = speaks_same old new (events_of os) (ap events_of p.0, p.1)
+play_speaks old new (a ∷ arrivals) os k (mid, first, rest, e, brings, p) =
+    speaks_at old new (events_of os) (events_of first ++ events_of rest) (ap events_of e ∙ events-append first rest)
+    (speaks_append old mid new (events_of first) (events_of rest) (answer_speaks old mid a first k brings) (play_speaks mid new arrivals rest (answers_linked old mid a first k brings) p))
 
 -- From the start on a connection was sent commands, or the protocol header alone.
 pub spoken_from_start : (f : Config) (hs : List Happening) (w : World) → Speaks (new_world f) hs w → (c : ℕ) → AreCommandSends (sent_to c hs) ⊎ (sent_to c hs ≡ send.Greeting c ∷ [])
 spoken_from_start f hs w speaks c = spoken_over c (w.state.session c).phase (sent_to c hs) (speaks c [] (record { spoken = inl tt; unopened = λ lt. (refl, refl) })).spoken
 
-pub is_spoken : (f : Config) (arrivals : List Arrival) (hs : List Happening) (w : World) → Plays (new_world f) arrivals hs w → (c : ℕ) → AreCommandSends (sent_to c hs) ⊎ (sent_to c hs ≡ send.Greeting c ∷ [])
-is_spoken f arrivals hs w p c = spoken_from_start f hs w (play_speaks (new_world f) w arrivals hs (new_is_linked f) p) c
+pub is_spoken : (f : Config) (arrivals : List (Arrival Config)) (os : List Occurrence) (w : World) → Plays (new_world f) arrivals os w → (c : ℕ) → AreCommandSends (sent_to c (events_of os)) ⊎ (sent_to c (events_of os) ≡ send.Greeting c ∷ [])
+is_spoken f arrivals os w p c = spoken_from_start f (events_of os) w (play_speaks (new_world f) w arrivals os (new_is_linked f) p) c

@@ -1,19 +1,16 @@
 -- Outside Running a publish and one whose content is too large have the same answer: no phase looks at what is published.
-use Rattle.std.proofs.Common.{◌≡◌, ℕ, List, Bool, true, false, refl, ◌∙◌, sym, Option}
+use Rattle.std.proofs.Common.{◌≡◌, ℕ, List, Bool, true, false, refl, ◌∙◌, sym}
 use Rattle.std.specs.Prelude.{MatchBool}
 use Rattle.std.proofs.lemmas.Bool.{false≢true}
 use Rattle.model.specs.Phases.{Session, Move, is_running}
 use Rattle.model.specs.Opening.{LogsIn, MovesInOpening, IsAnswered, opening_move}
-use Rattle.model.specs.State.{Config, State, Step, AnswersBy, OfCommand, OfLarge}
+use Rattle.model.specs.State.{AnswersBy, OfCommand, OfLarge}
 use Rattle.model.specs.Commands.{no_publish}
 use Rattle.model.specs.declared.messages.User.{User}
-use Rattle.model.specs.declared.contents.Content.{Content}
 use Rattle.model.specs.declared.methods.Publish.{Publish}
 use Rattle.model.specs.declared.methods.Method.TheVariants.{BasicPublish}
 use Rattle.model.specs.declared.events.Phase.{Phase}
 use Rattle.model.specs.declared.events.Phase.TheVariants as phase
-use Rattle.model.specs.declared.events.Send.{Send}
-use Rattle.model.specs.declared.notes.Note.{Note}
 use Rattle.laws.specs.Unkept.{UnkeptIsUnseen}
 
 -- a publish is no login

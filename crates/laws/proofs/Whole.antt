@@ -1,6 +1,6 @@
 -- Certified delivery: whatever arrives, the headline holds of what is seen.
 use Rattle.std.proofs.Common.{◌≡◌, ◌<◌, ◌≤◌, ◌+◌, ℕ, List, [], ◌∷◌, ◌++◌, refl, sym, ap, subst, ◌∙◌, ◌⊎◌, inl, inr, append-nil, arith}
-use Rattle.std.specs.Prelude.{filter_map, flat_map, ◌==◌, drop, slice_get, slice_index_or, Some}
+use Rattle.std.specs.Prelude.{filter_map, flat_map, map, ◌==◌, drop, slice_get, slice_index_or, Some}
 use Rattle.std.specs.List.{AllByRecursion}
 use Rattle.std.proofs.lemmas.Grind.{flat_map-append}
 use Rattle.std.proofs.lemmas.List.Elements.{filter-append, filter_map-append}
@@ -8,28 +8,24 @@ use Rattle.std.proofs.lemmas.Option.{same_Some, slice_get_within}
 use Rattle.model.specs.Frames.{Frame, frame_bytes, IsFrame}
 use Rattle.model.specs.Consistent.{IsConsistent}
 use Rattle.model.specs.State.{Config, State, Step}
-use Rattle.model.specs.Run.{Happening, Run, sends_of, put_out, empty_state}
+use Rattle.model.specs.Run.{Happening, sends_of, put_out, empty_state}
+use Rattle.model.specs.History.{Occurrence, events_of}
 use Rattle.model.specs.Spelling.{frames_of, send_bytes, spelling, receiver, sends_to, eight_bytes}
-use Rattle.model.specs.Arrivals.{World, new_world, Turns, Pumps, Plays, Shows, Shown, Seen, shown}
-use Rattle.model.specs.Acks.{Ack, acks_in, HasAcksOf, acked}
+use Rattle.model.specs.Arrivals.{World, new_world, Turns, Pumps, Shows, Shown, Seen, shown}
+use Rattle.model.specs.Acks.{Ack, acks_in, HasAcksOf, acked, ack_for}
 use Rattle.model.specs.Nacks.{Nack, nacks_in, nacks_of, HasNacks}
-use Rattle.model.specs.Order.{IsAfterThoseAhead, HoldsWhatWasGiven, GivesInOrder}
 use Rattle.model.specs.Headline.{IsSound, KeepsEvents, KeepsPromises}
 use Rattle.model.specs.declared.events.Send.{Send}
 use Rattle.model.specs.declared.events.Send.TheVariants as send
 use Rattle.model.specs.declared.events.Event.{Event}
-use Rattle.model.specs.declared.events.Arrival.{Arrival}
 use Rattle.model.specs.declared.notes.Note.{Note}
 use Rattle.laws.specs.Promises.{ack_sent, nack_sent}
 use Rattle.laws.specs.Accounts.{Lasts}
-use Rattle.laws.specs.Delivery.{TurnsConfirm}
-use Rattle.laws.proofs.Kept.{run_lasts}
-use Rattle.laws.proofs.Giving.{held_are_given}
-use Rattle.laws.proofs.Ordered.{after_those_ahead, given_in_order}
-use Rattle.laws.proofs.Sources.{given_as_published}
+use Rattle.laws.specs.Delivery.{TurnsConfirm, HeadlineHolds}
+use Rattle.laws.proofs.Histories.{ToldOver, Lasting, histories_keep, lasting, decided_each, sourced_over, gives_in_order, acks_over, nacks_over, over_plays}
 use Rattle.laws.proofs.Counts.{all-append, all_each, filter_all}
 use Rattle.laws.proofs.Reading.{sent_acks, frames_each}
-use Rattle.laws.proofs.Plays.{IsPut, IsTold, Told, said_each, sound_each, told_turns, told_plays, told_pumps}
+use Rattle.laws.proofs.Plays.{IsPut, IsTold, Told, said_each, sound_each, told_turns, told_pumps}
 use Rattle.laws.proofs.Speaking.{IsCommandSend, AreCommandSends}
 use Rattle.laws.proofs.Spoken.{sent_to, is_spoken, own_sends, puts_sends, settled_silent}
 use Rattle.laws.proofs.View.{IsAnswerAtMost, goes, acted, acted_commands}
@@ -126,16 +122,16 @@ frames_acks c (h ∷ hs) a =
     ∙ sym (filter_map-append ack_sent (sends_to c h.sends) (sends_to c (sends_of hs)))
     ∙ ap (λ (z : List Send). filter_map ack_sent z) (sym (filter-append (λ x. receiver x == c) h.sends (sends_of hs)))
 
-has_acks : (old new : State) (c : ℕ) (hs : List Happening) → AllByRecursion IsTold hs → Run old hs new → AreCommandSends (sent_to c hs) ⊎ (sent_to c hs ≡ send.Greeting c ∷ []) → HasAcksOf (acked c hs) (put_out c hs)
-has_acks old new c hs a run (inl commands) = record {
+has_acks : (c : ℕ) (hs : List Happening) → AllByRecursion IsTold hs → filter_map ack_sent (sends_to c (sends_of hs)) ≡ map ack_for (acked c hs) → AreCommandSends (sent_to c hs) ⊎ (sent_to c hs ≡ send.Greeting c ∷ []) → HasAcksOf (acked c hs) (put_out c hs)
+has_acks c hs a own (inl commands) = record {
   frames = frames_put c hs;
   reading = inl (record { parts = put_out_is c hs commands; each = frames_fit c hs a });
-  acks = frames_acks c hs a ∙ run_acks hs old new run c;
+  acks = frames_acks c hs a ∙ own;
 }
-has_acks old new c hs a run (inr greeting) = record {
+has_acks c hs a own (inr greeting) = record {
   frames = [];
   reading = inr (greeting_put_out c hs greeting, refl);
-  acks = sym (ap (λ (z : List Send). filter_map ack_sent z) greeting) ∙ run_acks hs old new run c;
+  acks = sym (ap (λ (z : List Send). filter_map ack_sent z) greeting) ∙ own;
 }
 
 frames_nacks : (c : ℕ) (hs : List Happening) → AllByRecursion IsTold hs → nacks_in (frames_put c hs) ≡ filter_map nack_sent (sends_to c (sends_of hs))
@@ -147,16 +143,16 @@ frames_nacks c (h ∷ hs) a =
     ∙ sym (filter_map-append nack_sent (sends_to c h.sends) (sends_to c (sends_of hs)))
     ∙ ap (λ (z : List Send). filter_map nack_sent z) (sym (filter-append (λ x. receiver x == c) h.sends (sends_of hs)))
 
-has_nacks : (old new : State) (c : ℕ) (hs : List Happening) → AllByRecursion IsTold hs → Run old hs new → AreCommandSends (sent_to c hs) ⊎ (sent_to c hs ≡ send.Greeting c ∷ []) → HasNacks (nacks_of c hs) (put_out c hs)
-has_nacks old new c hs a run (inl commands) = record {
+has_nacks : (c : ℕ) (hs : List Happening) → AllByRecursion IsTold hs → filter_map nack_sent (sends_to c (sends_of hs)) ≡ nacks_of c hs → AreCommandSends (sent_to c hs) ⊎ (sent_to c hs ≡ send.Greeting c ∷ []) → HasNacks (nacks_of c hs) (put_out c hs)
+has_nacks c hs a own (inl commands) = record {
   frames = frames_put c hs;
   reading = inl (record { parts = put_out_is c hs commands; each = frames_fit c hs a });
-  nacks = frames_nacks c hs a ∙ run_nacks hs old new run c;
+  nacks = frames_nacks c hs a ∙ own;
 }
-has_nacks old new c hs a run (inr greeting) = record {
+has_nacks c hs a own (inr greeting) = record {
   frames = [];
   reading = inr (greeting_put_out c hs greeting, refl);
-  nacks = sym (ap (λ (z : List Send). filter_map nack_sent z) greeting) ∙ run_nacks hs old new run c;
+  nacks = sym (ap (λ (z : List Send). filter_map nack_sent z) greeting) ∙ own;
 }
 
 -- ---- what one turn puts out
@@ -181,21 +177,8 @@ turn_confirms old new c hs t =
     let own : sent_to c hs ≡ p.h.sends = ap (sends_to c) (puts_sends old new t.event c hs p) ∙ own_sends c p.h.sends p.own in
     let spoken = subst (λ (z : List Send). AreCommandSends z ⊎ (z ≡ send.Greeting c ∷ [])) (sym own) (step_answers_so old.config old.state p.mid c t.event p.h.sends p.h.notes p.happens.stepped p.own) in (
       p.output ∙ ap (λ (z : List ℕ). (old.wire c).output ++ z) (sym (put_out_once c p.h p.rest (own_sends c p.h.sends p.own) (settled_silent old.config p.mid new.state c _ _ p.rest p.pauses)) ∙ ap (put_out c) (sym p.all)),
-      record { acks = has_acks old.state new.state c hs told.each told.run spoken; nacks = has_nacks old.state new.state c hs told.each told.run spoken },
+      record { acks = has_acks c hs told.each (run_acks hs old.state new.state told.run c) spoken; nacks = has_nacks c hs told.each (run_nacks hs old.state new.state told.run c) spoken },
     )
-
--- ---- order
-
-all_ahead : (hs : List Happening) → AllByRecursion IsAfterThoseAhead hs
-all_ahead [] = tt
-all_ahead (h ∷ hs) = (after_those_ahead h, all_ahead hs)
-
-all_held : (hs : List Happening) (old new : State) → Run old hs new → AllByRecursion HoldsWhatWasGiven hs
-all_held [] old new r = tt
-all_held (h ∷ hs) old new (e, s, r) = (held_are_given h s, all_held hs h.after new r)
-
-gives_in_order : (hs : List Happening) (new : State) → Run empty_state hs new → GivesInOrder hs
-gives_in_order hs new r = record { in_order = λ q ns g. given_in_order q hs empty_state new ns r g; ahead = all_ahead hs; held = all_held hs empty_state new r }
 
 -- ---- the promises
 
@@ -210,26 +193,30 @@ turn_keeps old new c hs sound consistent turns = told_keeps old new hs sound con
 pub pump_keeps : (old new : World) (hs : List Happening) → IsSound old.config → IsConsistent old → Pumps old hs new → KeepsEvents old.state.broker hs new.state.broker
 pump_keeps old new hs sound consistent pumps = told_keeps old new hs sound consistent (told_pumps old new hs pumps)
 
--- of what is a run, and spoke to each connection as its phase says
-pub promises_hold : (f : Config) (hs : List Happening) (w : World) (seen : Seen)
-    → IsSound f → Told (new_world f) hs w → ((c : ℕ) → AreCommandSends (sent_to c hs) ⊎ (sent_to c hs ≡ send.Greeting c ∷ [])) → Shows hs w seen → KeepsPromises hs w.state.broker seen.connections
-promises_hold f hs w seen sound told spoken shows =
+-- of what is a history, and spoke to each connection as its phase says
+pub promises_hold : (f : Config) (os : List Occurrence) (w : World) (seen : Seen)
+    → IsSound f → ToldOver (new_world f) os w → ((c : ℕ) → AreCommandSends (sent_to c (events_of os)) ⊎ (sent_to c (events_of os) ≡ send.Greeting c ∷ [])) → Shows os w seen → KeepsPromises os w.state.broker seen.connections
+promises_hold f os w seen sound told spoken shows =
     record {
-      events = run_keeps f w.config hs empty_state w.state (sound_each f w.config hs told.in_force sound) told.in_force (said_each hs told.each) (record { counted = λ n q lt. refl; kept = stay_kept.empty f }) told.run;
-      agreed = all_each Lasts _ (λ h l. l.agreed) hs lasts;
-      present = all_each Lasts _ (λ h l. l.present) hs lasts;
-      logged_in = all_each Lasts _ (λ h l. l.logged_in) hs lasts;
-      settled = all_each Lasts _ (λ h l. l.settled) hs lasts;
-      accounted = all_each Lasts _ (λ h l. l.accounted) hs lasts;
-      gets = all_each Lasts _ (λ h l. l.gets) hs lasts;
-      purges = all_each Lasts _ (λ h l. l.purges) hs lasts;
-      taken = all_each Lasts _ (λ h l. l.taken) hs lasts;
-      order = gives_in_order hs w.state told.run;
-      contents = given_as_published hs empty_state w.state (λ q. refl) told.run;
-      acks = λ i one e. subst (λ (z : List ℕ). HasAcksOf (acked (i + 1) hs) z) (sym (output i one e)) (has_acks empty_state w.state (i + 1) hs told.each told.run (spoken (i + 1)));
-      nacks = λ i one e. subst (λ (z : List ℕ). HasNacks (nacks_of (i + 1) hs) z) (sym (output i one e)) (has_nacks empty_state w.state (i + 1) hs told.each told.run (spoken (i + 1)));
+      events = (histories_keep f w.config os empty_state w.state sound told.offered (said_each hs told.each) (record { counted = λ n q lt. refl; kept = stay_kept.empty f }) told.history).kept;
+      reloads = decided_each f w.config os empty_state w.state told.history;
+      agreed = lasts.agreed;
+      present = lasts.present;
+      logged_in = all_each Lasts _ (λ h l. l.logged_in) hs lasts.events;
+      settled = all_each Lasts _ (λ h l. l.settled) hs lasts.events;
+      accounted = all_each Lasts _ (λ h l. l.accounted) hs lasts.events;
+      gets = all_each Lasts _ (λ h l. l.gets) hs lasts.events;
+      purges = all_each Lasts _ (λ h l. l.purges) hs lasts.events;
+      taken = all_each Lasts _ (λ h l. l.taken) hs lasts.events;
+      order = gives_in_order f w.config os w.state told.history;
+      contents = sourced_over [] f w.config os empty_state w.state told.history (λ q e i. absurd i);
+      acks = λ i one e. subst (λ (z : List ℕ). HasAcksOf (acked (i + 1) hs) z) (sym (output i one e)) (has_acks (i + 1) hs told.each (acks_over f w.config os empty_state w.state told.history (i + 1)) (spoken (i + 1)));
+      nacks = λ i one e. subst (λ (z : List ℕ). HasNacks (nacks_of (i + 1) hs) z) (sym (output i one e)) (has_nacks (i + 1) hs told.each (nacks_over f w.config os empty_state w.state told.history (i + 1)) (spoken (i + 1)));
     }
   where
+    hs : List Happening
+    hs = events_of os
+
     -- what is seen of a connection is all that was put out for it
     output : (i : ℕ) (one : Shown) → slice_get seen.connections i ≡ Some one → one.output ≡ put_out (i + 1) hs
     output i one e =
@@ -237,9 +224,8 @@ promises_hold f hs w seen sound told spoken shows =
         let is : one ≡ shown hs w (i + 1) = same_Some one (shown hs w (i + 1)) (sym e ∙ shows.each i within) in
         ap (λ (s : Shown). s.output) is
 
-    lasts : AllByRecursion Lasts hs
-    lasts = run_lasts hs w.state told.run
+    lasts : Lasting os
+    lasts = lasting f w.config os w.state told.history
 
-pub headline_holds : (f : Config) (arrivals : List Arrival) (hs : List Happening) (w : World) (seen : Seen)
-    → IsSound f → Plays (new_world f) arrivals hs w → Shows hs w seen → KeepsPromises hs w.state.broker seen.connections
-headline_holds f arrivals hs w seen sound plays shows = promises_hold f hs w seen sound (told_plays (new_world f) w arrivals hs plays) (is_spoken f arrivals hs w plays) shows
+pub headline_holds : (f : Config) → HeadlineHolds f
+headline_holds f arrivals os w seen sound offered plays shows = promises_hold f os w seen sound (over_plays (new_world f) w arrivals os offered plays) (is_spoken f arrivals os w plays) shows

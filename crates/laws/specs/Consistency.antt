@@ -3,11 +3,13 @@ use Rattle.std.specs.Prelude.{◌+◌, ℕ, List}
 use Rattle.model.specs.Headline.{IsSound}
 use Rattle.model.specs.State.{Config}
 use Rattle.model.specs.Run.{Happening}
+use Rattle.model.specs.History.{Occurrence}
 use Rattle.model.specs.Commands.{Stream}
-use Rattle.model.specs.Arrivals.{World, new_world, Turns, Waits, Takes_off, Opens, Loses, Pumps, Plays, with_heard}
+use Rattle.model.specs.Arrivals.{World, new_world, Turns, Waits, Takes_off, Opens, Loses, Pumps, Reloads, Plays, with_heard}
 use Rattle.model.specs.Consistent.{IsConsistent}
 use Rattle.model.specs.declared.events.Arrival.{Arrival}
 use Rattle.model.specs.declared.events.Event.TheVariants as event
+use Rattle.laws.specs.Reloading.{AreOffered}
 
 -- So it is where no connection is, under what is sound, and each single thing that is done leaves it so.
 pub record WorldsStayConsistent : Type 0 where
@@ -20,7 +22,8 @@ pub record WorldsStayConsistent : Type 0 where
   pub awaits : (old new : World) (s : Stream) (hs : List Happening) → IsConsistent old → Opens old (event.Open (old.given + 1)) s hs new → IsConsistent new
   pub loses : (old new : World) (c : ℕ) (hs : List Happening) → IsConsistent old → Loses old c hs new → IsConsistent new
   pub pumps : (old new : World) (hs : List Happening) → IsConsistent old → Pumps old hs new → IsConsistent new
+  pub reloads : (old new : World) (offered : Config) (os : List Occurrence) → IsSound offered → IsConsistent old → Reloads old offered os new → IsConsistent new
 
--- And so it is after any arrivals.
+-- And so it is after any arrivals, where what each reload offers is sound.
 abbrev pub PlaysStayConsistent : Type 0
-PlaysStayConsistent = (old new : World) (arrivals : List Arrival) (hs : List Happening) → IsConsistent old → Plays old arrivals hs new → IsConsistent new
+PlaysStayConsistent = (old new : World) (arrivals : List (Arrival Config)) (os : List Occurrence) → AreOffered arrivals → IsConsistent old → Plays old arrivals os new → IsConsistent new

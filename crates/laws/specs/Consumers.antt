@@ -9,7 +9,8 @@ use Rattle.model.specs.Step.{greatest, channel_or_new, Acts, IsDelivery}
 use Rattle.model.specs.State.{Config}
 use Rattle.model.specs.Commands.{Stream}
 use Rattle.model.specs.Run.{Happening, empty_broker}
-use Rattle.model.specs.Arrivals.{IsSaid, World, new_world, Turns, Waits, Takes_off, Opens, Loses, Pumps, Plays, with_heard}
+use Rattle.model.specs.History.{Occurrence}
+use Rattle.model.specs.Arrivals.{IsSaid, World, new_world, Turns, Waits, Takes_off, Opens, Loses, Pumps, Reloads, Plays, with_heard}
 use Rattle.model.specs.Naming.{AreNamedOn, AreNamed}
 use Rattle.model.specs.Sending.{AreCarried, IsAddressed}
 use Rattle.model.specs.declared.events.Send.{Send}
@@ -44,10 +45,11 @@ pub record WorldsStayNamed : Type 0 where
   pub opens : (old new : World) (e : Event) (s : Stream) (hs : List Happening) → IsSaid e → IsWorldNamed old → Opens old e s hs new → IsWorldNamed new
   pub loses : (old new : World) (c : ℕ) (hs : List Happening) → IsWorldNamed old → Loses old c hs new → IsWorldNamed new
   pub pumps : (old new : World) (hs : List Happening) → IsWorldNamed old → Pumps old hs new → IsWorldNamed new
+  pub reloads : (old new : World) (offered : Config) (os : List Occurrence) → IsWorldNamed old → Reloads old offered os new → IsWorldNamed new
 
 -- And so it is after any arrivals.
 abbrev pub PlaysStayNamed : Type 0
-PlaysStayNamed = (old new : World) (arrivals : List Arrival) (hs : List Happening) → IsWorldNamed old → Plays old arrivals hs new → IsWorldNamed new
+PlaysStayNamed = (old new : World) (arrivals : List (Arrival Config)) (os : List Occurrence) → IsWorldNamed old → Plays old arrivals os new → IsWorldNamed new
 
 -- ---- consumers that come
 

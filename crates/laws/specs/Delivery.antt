@@ -1,14 +1,16 @@
--- Certified delivery, over every list of arrivals.
+-- Certified delivery, over every list of arrivals, reloads among them.
 use Rattle.std.specs.Prelude.{◌≡◌, ◌++◌, ℕ, List}
 use Rattle.model.specs.Frames.{Frame}
 use Rattle.model.specs.State.{Config}
 use Rattle.model.specs.Run.{Happening, put_out}
+use Rattle.model.specs.History.{Occurrence}
 use Rattle.model.specs.Consistent.{IsConsistent}
 use Rattle.model.specs.Arrivals.{World, new_world, Turns, Pumps, Plays, Shows, Seen}
 use Rattle.model.specs.Acks.{IsReading}
 use Rattle.model.specs.Nacks.{Confirms}
 use Rattle.model.specs.Headline.{IsSound, KeepsEvents, KeepsPromises}
 use Rattle.model.specs.declared.events.Arrival.{Arrival}
+use Rattle.laws.specs.Reloading.{AreOffered}
 
 -- a client reads an output in one way
 abbrev pub OneReading : Type 0
@@ -26,7 +28,7 @@ PumpsKeep = (old new : World) (hs : List Happening) → IsSound old.config → I
 abbrev pub TurnsConfirm : Type 0
 TurnsConfirm = (old new : World) (c : ℕ) (hs : List Happening) → Turns old c hs new → ((new.wire c).output ≡ (old.wire c).output ++ put_out c hs) × Confirms c hs (put_out c hs)
 
--- Whatever arrives, the headline holds of what happened and of what was seen.
+-- Whatever arrives, the headline holds of what happened and of what was seen, where what each reload offers is sound.
 abbrev pub HeadlineHolds : Config → Type 0
-HeadlineHolds f = (arrivals : List Arrival) (hs : List Happening) (w : World) (seen : Seen)
-    → IsSound f → Plays (new_world f) arrivals hs w → Shows hs w seen → KeepsPromises hs w.state.broker seen.connections
+HeadlineHolds f = (arrivals : List (Arrival Config)) (os : List Occurrence) (w : World) (seen : Seen)
+    → IsSound f → AreOffered arrivals → Plays (new_world f) arrivals os w → Shows os w seen → KeepsPromises os w.state.broker seen.connections

@@ -1,7 +1,7 @@
 -- Where the first eight bytes of a connection stand: they are awaited in Header, and of any other connection frames are read.
 use Rattle.std.specs.Prelude.{◌≡◌, ℕ, List, Bool, true, false, Option, Some, None}
 use Rattle.model.specs.State.{Config}
-use Rattle.model.specs.Run.{Happening}
+use Rattle.model.specs.History.{Occurrence}
 use Rattle.model.specs.Commands.{Stream}
 use Rattle.model.specs.Arrivals.{World, new_world, Plays}
 use Rattle.model.specs.declared.events.Command.{Command}
@@ -33,4 +33,4 @@ ReadsByPhase w c = AreToCome (is_header (w.state.session c).phase) (w.wire c).ke
 
 -- Whatever arrives, so it is of each connection.
 abbrev pub OpeningsReadByPhase : Type 0
-OpeningsReadByPhase = (f : Config) (arrivals : List Arrival) (hs : List Happening) (w : World) → Plays (new_world f) arrivals hs w → (c : ℕ) → ReadsByPhase w c
+OpeningsReadByPhase = (f : Config) (arrivals : List (Arrival Config)) (os : List Occurrence) (w : World) → Plays (new_world f) arrivals os w → (c : ℕ) → ReadsByPhase w c

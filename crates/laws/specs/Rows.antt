@@ -15,6 +15,8 @@ use Rattle.model.specs.Commands.{Goes_on, Makes, Breaks, Drops, is_too_large, ta
 use Rattle.model.specs.Step.{channel_close, connection_close, select_sends, confirm_sends, consume_sends, empty_publish, return_of, greatest, Of_channel, Of_connection, refusal_of_consume}
 use Rattle.model.specs.Phases.{no_session}
 use Rattle.model.specs.State.{Config, State}
+use Rattle.model.specs.History.{Reload, Of_reload, IsDecided, StaysOver}
+use Rattle.model.specs.Reloading.{stood_now}
 use Rattle.model.specs.Run.{Happening, Stays, empty_broker}
 use Rattle.model.specs.Acks.{Acked as AckedPublish, HasAcksOf, EnteredOnce}
 use Rattle.model.specs.Allowed.{AreAllowed}
@@ -36,7 +38,7 @@ use Rattle.model.specs.declared.topologies.Mode.TheVariants.{Reaches, Never}
 use Rattle.model.specs.declared.events.Command.TheVariants.{TooLarge}
 use Rattle.model.specs.declared.methods.Method.TheVariants.{ConfirmSelect, BasicPublish}
 use Rattle.model.specs.declared.notes.Note.{Note}
-use Rattle.model.specs.declared.notes.Note.TheVariants.{Published, Entered, Confirmed, Left}
+use Rattle.model.specs.declared.notes.Note.TheVariants.{Published, Entered, Confirmed, Left, Reloaded}
 use Rattle.model.specs.declared.notes.Answer.TheVariants.{Ack}
 
 -- ---- words of keys
@@ -163,6 +165,14 @@ one_event old notes new = event_of_notes [] old notes new ∷ []
 abbrev pub vanishing : List Note → List Note → State → List Happening
 vanishing first second last = event_of_notes [] (with_entries (first_entry ∷ [])) first (with_entries []) ∷ event_of_notes [] (with_entries []) second last ∷ []
 
+-- a topology with the queue `audit` alone in force
+abbrev pub with_audit : Config
+with_audit = record (under []) { topology = record { exchanges = []; queues = record { name = codes "audit"; limit = None; byte_limit = None; dead_letter_exchange = None; dead_letter_key = None } ∷ []; bindings = [] } }
+
+-- a reload between two states, noted as done, by which an empty topology is in force in its place
+abbrev pub reload_of_none : State → State → Reload
+reload_of_none old new = record { config = with_audit; offered = under []; before = old; notes = Reloaded ∷ []; after = new; in_force = under [] }
+
 -- Each promise of the headline fails where it should: an output, notes or events that break it.
 pub record HeadlineRefuses : Type 0 where
   -- an output from which the ack of an acked publish is missing
@@ -195,6 +205,10 @@ pub record HeadlineRefuses : Type 0 where
   pub one_number_for_two : CountUp 0 (filter_map number_in (first_published ∷ first_published ∷ [])) 2 → ⊥
   -- a content that is given out and that no publish came with
   pub content_of_no_publish : HaveSources [] (record (event_of_notes [] (with_entries (first_entry ∷ [])) [] (with_entries (first_entry ∷ []))) { sends = return_of 1 1 first_sent no_content ∷ [] }) → ⊥
+  -- a reload by which a message that waits is gone
+  pub reload_loses_one : StaysOver (with_entries (first_entry ∷ [])).broker (Of_reload (reload_of_none (with_entries (first_entry ∷ [])) (with_entries [])) ∷ []) (with_entries []).broker → ⊥
+  -- one that is done although a queue in use is gone
+  pub reload_strands_one : IsDecided (reload_of_none (with_entries (first_entry ∷ [])) (with_entries (stood_now first_entry ∷ []))) → ⊥
   -- two dead letters of one message, in one queue
   pub two_letters_of_one : DieOnce (event_of_notes [] (with_entries (first_entry ∷ [])) (Left 1 (codes "audit") Rejected ∷ Entered 1 (codes "bin") Dead ∷ Entered 1 (codes "bin") Dead ∷ []) (with_entries [])) → ⊥
 

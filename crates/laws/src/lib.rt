@@ -20,8 +20,8 @@ ghost use Rattle.laws.specs.Openings.{OpeningsReadByPhase};
 ghost use Rattle.laws.specs.Order.{EnteringIsFresh, GivenAfterThoseAhead, GivenInOrder, HeldAreGiven, MarksAreGiven};
 ghost use Rattle.laws.specs.Promises.{AckedEnterOnce, AcksAreAcked, CausesAreShown, ForbiddenAreNotEntered, ForbiddenAreNotEnteredAtEvents, GivenAsPublished, LettersComeAsRouted, LettersComeOnce, NacksAreNacked, OriginsAreShown, PublishesEnterAsRouted, RunsKeepEvents};
 ghost use Rattle.laws.specs.Rows.{WordsOfKeys, FirstInput, FirstOutput, BadEnd, TooLargeContent, HeadlineRefuses, FirstConsumer, RefusedConsumes, FullQueues};
-ghost use Rattle.laws.specs.Reloading.{NeverAcrossReloads};
-ghost use Rattle.laws.specs.Tracing.{KeptAreSafe, MessagesStayKept, MessagesStayTraced, ReloadsKeep, TracedAreSafe};
+ghost use Rattle.laws.specs.Reloading.{HistoriesKeep};
+ghost use Rattle.laws.specs.Tracing.{MessagesStayKept, MessagesStayTraced, ReloadsKeep, TracedAreSafe};
 ghost use Rattle.laws.specs.Streams.{CuttingDoesNotMatter, FaultsStay, GoingOnStays, FirstBytesComeFirst, TuningDoesNotMatter};
 ghost use Rattle.laws.specs.Unkept.{UnkeptIsUnseen};
 ghost use Rattle.model.specs.Guarantee.{Guarantee};
@@ -193,15 +193,10 @@ pub fn reloads_keep()
     ensures { ReloadsKeep }
 {}
 
-/// No event enters a message where what was in force at it forbids it, whatever was reloaded before.
-pub fn never_across_reloads()
-    ensures { NeverAcrossReloads }
-{}
-
-/// Where no message stood when a reload was done, none stands in a queue that a guarantee forbids it, nor may it come to one
-/// by deaths.
-pub fn kept_messages_are_safe()
-    ensures { KeptAreSafe }
+/// Whatever is reloaded between them, events keep the promises, each by what was in force at it: no event enters a message where that
+/// forbids it, also one that came under what was in force before.
+pub fn histories_keep()
+    ensures { HistoriesKeep }
 {}
 
 /// No message that came so stands in a queue that a guarantee forbids it, nor may it come to one by deaths.

@@ -1,12 +1,13 @@
--- Everything that comes, and all that is done for it (own): pieces of bytes, openings, output taken, deliveries, losses.
-use Rattle.std.specs.Prelude.{◌≡◌, ◌≢◌, ◌+◌, ◌<◌, ◌≤◌, ℕ, suc, zero, List, [], ◌∷◌, ◌++◌, length, drop, Bool, true, false, nat_lt, nat_le, ◌&&◌, not, Option, Some, None, ◌⊎◌, MatchBool, if◌then◌else◌, slice_get}
+-- Everything that comes, and all that is done for it (own): pieces of bytes, openings, output taken, deliveries, losses, and reloads.
+use Rattle.std.specs.Prelude.{◌≡◌, ◌≢◌, ◌+◌, ◌<◌, ◌≤◌, ℕ, suc, zero, List, [], ◌∷◌, ◌++◌, map, length, drop, Bool, true, false, nat_lt, nat_le, ◌&&◌, not, Option, Some, None, ◌⊎◌, MatchBool, if◌then◌else◌, slice_get}
 use Rattle.std.specs.List.{AllByRecursion}
 use Rattle.model.specs.Broker.{with_one}
 use Rattle.model.specs.State.{Config, State, Step}
 use Rattle.model.specs.Consuming.{CanDeliver}
 use Rattle.model.specs.Grammar.{IsMethod}
 use Rattle.model.specs.Phases.{Session, is_running}
-use Rattle.model.specs.Run.{Happening, notes_of, put_out, empty_state}
+use Rattle.model.specs.Run.{Happening, put_out, empty_state}
+use Rattle.model.specs.History.{Occurrence, Of_event, Of_reload, Reload, IsDecided, events_of, notes_over}
 use Rattle.model.specs.Spelling.{spelling, receiver, IsSpelled}
 use Rattle.model.specs.Commands.{Stream, Yields, Ends, GoesOn, HasWithin, new_stream, running_stream, heard, with_max, keeping}
 use Rattle.model.specs.declared.events.Phase.{Phase}
@@ -16,7 +17,7 @@ use Rattle.model.specs.declared.events.Command.TheVariants.{Head, Plain, Full, T
 use Rattle.model.specs.declared.events.Event.{Event}
 use Rattle.model.specs.declared.events.Event.TheVariants as event
 use Rattle.model.specs.declared.events.Arrival.{Arrival}
-use Rattle.model.specs.declared.events.Arrival.TheVariants.{Open, Ready, In, Sent, Pump, Lose}
+use Rattle.model.specs.declared.events.Arrival.TheVariants as arrival
 use Rattle.model.specs.declared.methods.Method.TheVariants.{BasicPublish}
 use Rattle.model.specs.declared.notes.Note.{Note}
 
@@ -261,19 +262,47 @@ pub data Pumps : World → List Happening → World → Type 0 where
   delivers : {old new : World} {c : ℕ} {hs : List Happening} → Delivers old c hs new → Pumps old hs new
   idles : {old new : World} {hs : List Happening} → NoneCanDeliver old → Nothing_happens old hs new → Pumps old hs new
 
--- What one arrival brings: one for a connection that is gone does nothing, nor do bytes for one that is over.
-abbrev pub Answers : World → Arrival → List Happening → World → Type 0
-Answers old Open hs new = MatchBool (can_open old) (Opens old (event.Open (old.given + 1)) new_stream hs new) (Nothing_happens old hs new)
-Answers old (Ready k) hs new = MatchBool (can_open old) (Opens old (event.Running (old.given + 1) 255 k) running_stream hs new) (Nothing_happens old hs new)
-Answers old (In c bytes) hs new = MatchBool (is_over old c) (Nothing_happens old hs new) (WorksOff (with_heard old c bytes) c hs new)
-Answers old (Sent c n) hs new = MatchBool (is_gone old c) (Nothing_happens old hs new) (TakesAndWorks old c n hs new)
-Answers old Pump hs new = Pumps old hs new
-Answers old (Lose c) hs new = MatchBool (is_gone old c) (Nothing_happens old hs new) (Loses old c hs new)
+-- What is offered is put in force, or refused for the first thing that stands against it; connections stay, with all that they have still to say and to take.
+pub record Reloads (old : World) (offered : Config) (os : List Occurrence) (new : World) : Type 0 where
+  pub r : Reload
+  pub all : os ≡ Of_reload r ∷ []
+  pub under : r.config ≡ old.config
+  pub offers : r.offered ≡ offered
+  pub before : r.before ≡ old.state
+  pub after : r.after ≡ new.state
+  pub in_force : r.in_force ≡ new.config
+  pub decided : IsDecided r
+  pub given : new.given ≡ old.given
+  pub wires : (c : ℕ) → new.wire c ≡ old.wire c
+
+-- events alone happened, of which this holds
+abbrev pub ByEvents : List Occurrence → (List Happening → Type 0) → Type 0
+ByEvents os Holds = (hs : List Happening) × (os ≡ map Of_event hs) × Holds hs
+
+-- What one arrival brings: one for a connection that is gone does nothing, nor do bytes for one that is over. A reload offers a configuration.
+abbrev pub Answers : World → Arrival Config → List Occurrence → World → Type 0
+Answers old arrival.Open os new = ByEvents os (λ hs. MatchBool (can_open old) (Opens old (event.Open (old.given + 1)) new_stream hs new) (Nothing_happens old hs new))
+Answers old (arrival.Ready k) os new = ByEvents os (λ hs. MatchBool (can_open old) (Opens old (event.Running (old.given + 1) 255 k) running_stream hs new) (Nothing_happens old hs new))
+Answers old (arrival.In c bytes) os new = ByEvents os (λ hs. MatchBool (is_over old c) (Nothing_happens old hs new) (WorksOff (with_heard old c bytes) c hs new))
+Answers old (arrival.Sent c n) os new = ByEvents os (λ hs. MatchBool (is_gone old c) (Nothing_happens old hs new) (TakesAndWorks old c n hs new))
+Answers old arrival.Pump os new = ByEvents os (λ hs. Pumps old hs new)
+Answers old (arrival.Lose c) os new = ByEvents os (λ hs. MatchBool (is_gone old c) (Nothing_happens old hs new) (Loses old c hs new))
+Answers old (arrival.Reload offered) os new = Reloads old offered os new
 
 -- A whole list of arrivals.
-abbrev pub Plays : World → List Arrival → List Happening → World → Type 0
-Plays old [] hs new = (hs ≡ []) × Same old new
-Plays old (a ∷ as') hs new = (mid : World) × (first : List Happening) × (rest : List Happening) × (hs ≡ first ++ rest) × Answers old a first mid × Plays mid as' rest new
+abbrev pub Plays : World → List (Arrival Config) → List Occurrence → World → Type 0
+Plays old [] os new = (os ≡ []) × Same old new
+Plays old (a ∷ as') os new = (mid : World) × (first : List Occurrence) × (rest : List Occurrence) × (os ≡ first ++ rest) × Answers old a first mid × Plays mid as' rest new
+
+-- the arrival as it is where its setup stands for this
+abbrev pub told : {S T : Type 0} → (S → T) → Arrival S → Arrival T
+told f arrival.Open = arrival.Open
+told f (arrival.Ready k) = arrival.Ready k
+told f (arrival.In c bytes) = arrival.In c bytes
+told f (arrival.Sent c n) = arrival.Sent c n
+told f arrival.Pump = arrival.Pump
+told f (arrival.Lose c) = arrival.Lose c
+told f (arrival.Reload s) = arrival.Reload (f s)
 
 -- ---- what a run is seen by
 
@@ -291,8 +320,8 @@ pub record Seen : Type 0 where
 abbrev pub shown : List Happening → World → ℕ → Shown
 shown hs w c = record { output = put_out c hs; is_over = is_over w c }
 
--- The notes are those of what happened, and each output is the spelling of what was sent to its connection.
-pub record Shows (hs : List Happening) (w : World) (seen : Seen) : Type 0 where
-  pub noted : seen.notes ≡ notes_of hs
+-- The notes are those of what happened and of what was reloaded, and each output is the spelling of what was sent to its connection.
+pub record Shows (os : List Occurrence) (w : World) (seen : Seen) : Type 0 where
+  pub noted : seen.notes ≡ notes_over os
   pub counted : length seen.connections ≡ w.given
-  pub each : (i : ℕ) → i < w.given → slice_get seen.connections i ≡ Some (shown hs w (i + 1))
+  pub each : (i : ℕ) → i < w.given → slice_get seen.connections i ≡ Some (shown (events_of os) w (i + 1))

@@ -5,7 +5,7 @@ use Rattle.model.specs.Phases.{is_running}
 use Rattle.model.specs.Run.{AreCounted}
 use Rattle.model.specs.Arrivals.{World, is_paused}
 use Rattle.model.specs.Sending.{AreCarried}
-use Rattle.model.specs.Tracing.{AreKept, NoneStood}
+use Rattle.model.specs.Tracing.{AreKept}
 use Rattle.model.specs.Headline.{IsSound}
 
 -- What stands in two places is the same in both, and what stands in a queue can be sent:
@@ -16,8 +16,6 @@ pub record IsConsistent (w : World) : Type 0 where
   pub carried : AreCarried w.state.broker
   -- and may stand there
   pub kept : AreKept w.config w.state.broker
-  -- none stood when a reload was done
-  pub unmarked : NoneStood w.state.broker
   -- what is in force is sound
   pub sound : IsSound w.config
   -- a connection is one of the broker's exactly while its phase is Running

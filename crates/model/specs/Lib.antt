@@ -12,6 +12,8 @@ pub mod Searches
 pub mod Frames
 pub mod Grammar
 pub mod Headers
+pub mod Properties
+pub mod Forms
 pub mod Message
 pub mod Sharing
 pub mod Broker
@@ -31,6 +33,8 @@ pub mod Sending
 pub mod Phases
 pub mod State
 pub mod Run
+pub mod Reloading
+pub mod History
 pub mod Arrivals
 pub mod Acks
 pub mod Nacks
@@ -48,7 +52,6 @@ pub mod Alone
 pub mod LoggedIn
 pub mod Headline
 pub mod Tracing
-pub mod Reloading
 pub mod Consistent
 pub mod Agreement
 pub mod Naming

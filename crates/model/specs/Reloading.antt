@@ -1,5 +1,5 @@
 -- A reload, by which another configuration is in force: what stands against it, and what it leaves (own).
-use Rattle.std.specs.Prelude.{◌≡◌, ◌<◌, ◌+◌, ℕ, List, map, Some, ◌⊎◌, true, Contains, slice_get}
+use Rattle.std.specs.Prelude.{◌≡◌, ◌<◌, ◌+◌, ℕ, map, Some, ◌⊎◌, true, Contains, slice_get}
 use Rattle.model.specs.Words.{Text}
 use Rattle.model.specs.Topology.{Topology, IsIn, queue_names}
 use Rattle.model.specs.Routing.{Later}

@@ -1,6 +1,6 @@
 //! Contents: what a publish carries beside its method.
 
-ghost use Rattle.std.specs.Prelude.{◌≡◌, IfOk, Some};
+ghost use Rattle.std.specs.Prelude.{◌≡◌, IfOk};
 ghost use Rattle.model.specs.Headers.{no_properties};
 
 use crate::tables::Table;
@@ -74,14 +74,14 @@ impl Fields {
         }
     }
 
-    /// The same fields but for the headers, sharing their bytes.
-    fn with_headers(&self, headers: Table) -> Result<Fields, AllocError>
-        ensures { IfOk result (λ fields. fields ≡ record self.now { headers = Some headers }) }
+    /// The same fields, sharing their bytes.
+    pub fn clone(&self) -> Result<Fields, AllocError>
+        ensures { IfOk result (λ fields. fields ≡ self.now) }
     {
         Ok(Fields {
             content_type: shared(&self.content_type)?,
             content_encoding: shared(&self.content_encoding)?,
-            headers: Some(headers),
+            headers: shared_table(&self.headers)?,
             delivery_mode: self.delivery_mode,
             priority: self.priority,
             correlation_id: shared(&self.correlation_id)?,
@@ -107,36 +107,76 @@ fn shared(text: &Option<Text>) -> Result<Option<Text>, AllocError>
     }
 }
 
+/// The same table, where there is one, sharing its bytes.
+fn shared_table(table: &Option<Table>) -> Result<Option<Table>, AllocError>
+    ensures { IfOk result (λ same. same ≡ table.now) }
+{
+    match table {
+        None => Ok(None),
+        Some(table) => Ok(Some(table.clone()?)),
+    }
+}
+
+/// Flags and values of no property at all.
+const NONE: &[u8] = &[0, 0];
+
+/// Where properties stand.
+#[derive(Drop)]
+enum Kept {
+    /// There is none at all.
+    Empty,
+    /// Flags and values, as a header has them behind the size of the body.
+    Spelled(Arc<Vec<u8>>),
+    /// One by one.
+    Apart(Arc<Fields>),
+}
+
+/// Properties in the form in which they are kept.
+#[derive(Clone, Copy, Drop)]
+pub enum Form<'a> {
+    /// Flags and values, as a header has them behind the size of the body.
+    Spelled(&'a [u8]),
+    /// One by one.
+    Apart(&'a Fields),
+}
+
 /// The properties of a content, in 16 bytes of their own. Clones share them, and where there are none there is no block.
+///
+/// Those that were read stay as they were spelled, so they take the room of those that are there.
 pub struct Properties {
-    fields: Option<Arc<Fields>>,
+    kept: Kept,
 }
 
 /// Written out, so that a drop is one call.
 impl Drop for Properties {
     fn drop(self) {
-        let Properties { fields: _ } = self;
+        let Properties { kept: _ } = self;
     }
 }
 
 impl Model for Properties {
-    ghost use Rattle.std.specs.Prelude.{Some, None};
     ghost use Rattle.model.specs.Headers.{no_properties};
+    ghost use Rattle.model.specs.Properties.{spelled_by, IsSpelling};
     ghost use Rattle.model.specs.declared.contents.Fields.{Fields as Seen};
+    ghost use Rattle.model.specs.declared.contents.Kept.TheVariants.{Empty, Spelled, Apart};
 
     ghost Value = { Seen };
 
-    ghost view = { λ p. elim p.fields [ None ↦ no_properties | Some shared ↦ shared.value ] };
+    ghost view = { λ p. elim p.kept [ Empty ↦ no_properties | Spelled shared ↦ spelled_by shared.value.items | Apart shared ↦ shared.value ] };
+
+    ghost invariant = { λ p. elim p.kept [ Empty ↦ Unit {0} | Spelled shared ↦ IsSpelling shared.value.items | Apart shared ↦ Unit {0} ] };
 }
 
 impl Properties {
-    ghost use Rattle.std.specs.Prelude.{MatchOption};
+    ghost use Rattle.model.specs.Headers.{AreProperties};
+    ghost use Rattle.model.specs.Properties.{properties_bytes, IsSpelling};
+    ghost use Rattle.model.specs.Forms.{IsFormOf};
 
     /// No property at all. It takes no memory.
     pub fn none() -> Properties
         ensures { result ≡ no_properties }
     {
-        Properties { fields: None }
+        Properties { kept: Kept::Empty }
     }
 
     /// These properties.
@@ -145,42 +185,47 @@ impl Properties {
     {
         match Arc::new(alloc, fields) {
             Ok(shared) => Ok(Properties {
-                fields: Some(shared),
+                kept: Kept::Apart(shared),
             }),
             Err(_) => Err(AllocError),
         }
     }
 
-    /// The properties one by one. `None` tells that there is none at all.
-    pub fn fields(&self) -> Option<&Fields>
-        ensures { MatchOption result (self.now ≡ no_properties) (λ fields. fields.now ≡ self.now) }
+    /// The properties that these flags and values spell, as a copy of them.
+    pub fn spelled(alloc: Global, bytes: &[u8]) -> Result<Properties, AllocError>
+        requires { IsSpelling bytes.now }
+        ensures { IfOk result (λ p. AreProperties p × (bytes.now ≡ properties_bytes p)) }
     {
-        match &self.fields {
-            None => None,
-            Some(shared) => Some(&**shared),
+        match Arc::new(alloc, Vec::from_slice(alloc, bytes)?) {
+            Ok(shared) => Ok(Properties {
+                kept: Kept::Spelled(shared),
+            }),
+            Err(_) => Err(AllocError),
         }
     }
 
-    /// The same properties but for the headers, of which these are the pairs. The others share their bytes.
-    pub fn with_headers(&self, alloc: Global, headers: &[u8]) -> Result<Properties, AllocError>
-        ensures { IfOk result (λ p. p ≡ record self.now { headers = Some headers.now }) }
+    /// The properties, in the form in which they are kept.
+    pub fn form(&self) -> Form<'_>
+        ensures { IsFormOf self.now result }
     {
-        let headers = Table::from_pairs(Text::from_slice(alloc, headers)?);
-        let fields = match &self.fields {
-            None => Fields::none().with_headers(headers)?,
-            Some(shared) => shared.with_headers(headers)?,
-        };
-        Properties::new(alloc, fields)
+        match &self.kept {
+            Kept::Empty => Form::Spelled(NONE),
+            Kept::Spelled(shared) => Form::Spelled(shared.as_slice()),
+            Kept::Apart(shared) => Form::Apart(&**shared),
+        }
     }
 
     /// The same properties, sharing their bytes.
     pub fn clone(&self) -> Result<Properties, AllocError>
         ensures { IfOk result (λ p. p ≡ self.now) }
     {
-        match &self.fields {
-            None => Ok(Properties::none()),
-            Some(shared) => Ok(Properties {
-                fields: Some(Arc::try_clone(shared)?),
+        match &self.kept {
+            Kept::Empty => Ok(Properties::none()),
+            Kept::Spelled(shared) => Ok(Properties {
+                kept: Kept::Spelled(Arc::try_clone(shared)?),
+            }),
+            Kept::Apart(shared) => Ok(Properties {
+                kept: Kept::Apart(Arc::try_clone(shared)?),
             }),
         }
     }
@@ -203,18 +248,6 @@ impl Drop for Content {
 }
 
 impl Content {
-    ghost use Rattle.model.specs.Deaths.{with_headers};
-
-    /// The same body, shared, with the same properties but for the headers, of which these are the pairs.
-    pub fn with_headers(&self, alloc: Global, headers: &[u8]) -> Result<Content, AllocError>
-        ensures { IfOk result (λ c. c ≡ with_headers self.now (Some headers.now)) }
-    {
-        Ok(Content {
-            properties: self.properties.with_headers(alloc, headers)?,
-            body: self.body.clone()?,
-        })
-    }
-
     /// The same content, sharing its bytes.
     pub fn clone(&self) -> Result<Content, AllocError>
         ensures { IfOk result (λ c. c ≡ self.now) }

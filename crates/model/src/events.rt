@@ -146,9 +146,10 @@ impl Drop for Event {
     }
 }
 
-/// What a run is given, one after another. Connections are numbered from 1 in the order of their openings.
+/// What a run is given, one after another. Connections are numbered from 1 in the order of their openings. `S` is what a
+/// machine is set up by.
 #[derive(Drop)]
-pub enum Arrival {
+pub enum Arrival<S> {
     /// A connection whose first eight bytes are awaited.
     Open,
     /// A connection that runs at once, with channels 1 to this one open.
@@ -161,6 +162,8 @@ pub enum Arrival {
     Pump,
     /// A connection is lost.
     Lose(u64),
+    /// This is to be in force from now on.
+    Reload(S),
 }
 
 /// Where a connection stands in its life. Source: AMQP 0-9-1, section 2.2.4, "The Connection Class".

@@ -16,7 +16,7 @@ mod tables;
 mod texts;
 mod topologies;
 
-pub use contents::{Content, Fields, Properties};
+pub use contents::{Content, Fields, Form, Properties};
 pub use events::{Arrival, Command, Event, Phase, Send};
 pub use messages::{Entry, Holder, Mark, Message, Taker, User};
 pub use methods::{

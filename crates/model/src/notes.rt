@@ -1,5 +1,6 @@
 //! Notes: what the broker tells of each step, for audit and for the theorems.
 
+use crate::obstacles::Obstacle;
 use crate::texts::Text;
 
 /// How a publish was confirmed.
@@ -31,7 +32,8 @@ pub enum Cause {
     Purged,
 }
 
-/// One thing that happened to a message. `number` is its publish number: publishes count from 1 over the whole broker.
+/// One thing that happened to a message, or a reload. `number` is the publish number of the message: publishes count from 1 over the
+/// whole broker.
 pub enum Note {
     /// A publish was taken; `confirm` is its confirm number on its channel, in confirm mode.
     Published {
@@ -68,6 +70,10 @@ pub enum Note {
         queue: Text,
         cause: Cause,
     },
+    /// A reload was done: what it offered is in force.
+    Reloaded,
+    /// A reload was refused, as this stands against it: nothing changed.
+    ReloadRefused(Obstacle),
 }
 
 /// Written out, so that a drop is one call.
@@ -101,6 +107,8 @@ impl Drop for Note {
                 queue: _,
                 cause: _,
             } => {}
+            Note::Reloaded => {}
+            Note::ReloadRefused(_) => {}
         }
     }
 }

@@ -1,6 +1,8 @@
 -- What the fields and the properties say tells what the payload says.
+use Rattle.std.proofs.Common.{◌∙◌}
+use Rattle.std.proofs.lemmas.List.{take_rest}
 use Rattle.model.specs.Headers.{no_header}
-use Rattle.headers.proofs.Parts.{not_header}
+use Rattle.headers.proofs.Parts.{behind_size, not_header}
 use Rattle.headers.proofs.Told.{header_said, header_refused, header_only, header_none}
 use Rattle.headers.proofs.reading.read_header.Goals as goal
 
@@ -9,6 +11,10 @@ returns-in-None-clause-tells c = no_header c.in-None.ensures
 
 pub returns-in-None-clause-only : goal.returns-in-None-clause-only
 returns-in-None-clause-only c = λ h lt fits e. not_header c.args.payload.now _ h.size _ e c.in-None.ensures
+
+pub properties_in-requires : goal.properties_in-requires
+properties_in-requires c =
+    take_rest c.args.payload.now 12 ∙ behind_size c.args.payload.now c.in-Some.rest.now c.in-Some.size c.in-Some.flags (λ i. (c.type_inv.payload i).fits) c.in-Some.ensures
 
 pub returns-in-Ok-clause-tells : goal.returns-in-Ok-clause-tells
 returns-in-Ok-clause-tells c =

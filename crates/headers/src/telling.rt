@@ -1,0 +1,55 @@
+//! Properties are told one by one.
+
+ghost use Rattle.std.specs.Prelude.{◌≡◌, IfOk, option_map};
+ghost use Rattle.model.specs.Headers.{properties_of};
+ghost use Rattle.model.specs.Properties.{spelled_by, IsSpelling};
+ghost use Rattle.headers.specs.Unread.{parts_in};
+
+use crate::optional::{Parts, parts_at};
+use crate::properties::copied;
+use byteorder::{BigEndian, ByteOrder};
+use model::{Fields, Form, Properties};
+use std::alloc::{AllocError, Global};
+
+/// The properties one by one: a copy, which shares their bytes where they are kept so.
+pub fn fields_of(alloc: Global, properties: &Properties) -> Result<Fields, AllocError>
+    ensures { IfOk result (λ fields. fields ≡ properties.now) }
+{
+    match properties.form() {
+        Form::Spelled(bytes) => spelled_fields(alloc, bytes),
+        Form::Apart(fields) => fields.clone(),
+    }
+}
+
+/// The pairs of the headers, where there are any.
+pub fn headers_of(properties: &Properties) -> Option<&[u8]>
+    ensures { option_map (λ h. h.now) result ≡ properties.now.headers }
+{
+    match properties.form() {
+        Form::Spelled(bytes) => spelled_parts(bytes).front.headers,
+        Form::Apart(fields) => match &fields.headers {
+            None => None,
+            Some(headers) => Some(headers.as_bytes()),
+        },
+    }
+}
+
+/// The properties that flags and values spell.
+fn spelled_fields(alloc: Global, bytes: &[u8]) -> Result<Fields, AllocError>
+    requires { IsSpelling bytes.now }
+    ensures { IfOk result (λ fields. fields ≡ spelled_by bytes.now) }
+{
+    copied(alloc, &spelled_parts(bytes))
+}
+
+/// The same, as bytes.
+fn spelled_parts(bytes: &[u8]) -> Parts<'_>
+    requires { IsSpelling bytes.now }
+    ensures { parts_in result ≡ properties_of (spelled_by bytes.now) }
+{
+    let (flags, values) = bytes.split_at(2);
+    match parts_at(BigEndian::read_u16(flags), values) {
+        Some(parts) => parts,
+        None => unreachable!(),
+    }
+}

@@ -1,0 +1,99 @@
+-- Properties as the bytes of a header spell them, and what such bytes tell. Source: AMQP 0-9-1, section 4.2.6.1, "The Content Header".
+use Rattle.std.specs.Prelude.{◌≡◌, ◌+◌, ◌/◌, ◌%◌, ◌^◌, ◌==◌, ℕ, List, [], ◌∷◌, ◌++◌, length, take, drop, slice_index, if◌then◌else◌, Bool, Option, Some, None, flat_map}
+use Rattle.std.specs.Int.{w16, w32, w64, to_be_bytes, from_be_bytes}
+use Rattle.model.specs.Words.{Text}
+use Rattle.model.specs.Grammar.{Argument, Octet, Long_long, Short_text, Field_table, argument}
+use Rattle.model.specs.Headers.{no_properties, properties_of, flags, value_of, AreProperties}
+use Rattle.model.specs.declared.contents.Fields.{Fields as Properties}
+
+-- flags and values, as they stand in a header behind the size of the body
+abbrev pub properties_bytes : Properties → List ℕ
+properties_bytes p = to_be_bytes w16 (flags (properties_of p)) ++ flat_map value_of (properties_of p)
+
+-- ---- what bytes tell
+
+-- the value with which bytes begin, by its sort
+abbrev pub First : Type 0
+First = List ℕ → Argument
+
+-- a text behind its length
+abbrev pub first_text : First
+first_text bytes = Short_text (take (slice_index bytes 0) (drop 1 bytes))
+
+-- an octet
+abbrev pub first_octet : First
+first_octet bytes = Octet (slice_index bytes 0)
+
+-- a time, in eight bytes
+abbrev pub first_time : First
+first_time bytes = Long_long (from_be_bytes w64 (take 8 bytes))
+
+-- the pairs of a table behind their length
+abbrev pub first_table : First
+first_table bytes = Field_table (take (from_be_bytes w32 (take 4 bytes)) (drop 4 bytes))
+
+-- the sorts of the fourteen properties, in the order of their flags
+abbrev pub sorts : List First
+sorts =
+    first_text ∷ first_text ∷ first_table ∷ first_octet ∷ first_octet ∷ first_text ∷ first_text ∷ first_text ∷ first_text ∷ first_time ∷ first_text ∷ first_text
+    ∷ first_text ∷ first_text ∷ []
+
+-- the flags have this bit
+abbrev pub is_flagged : ℕ → ℕ → Bool
+is_flagged flags bit = flags / 2 ^ bit % 2 == 1
+
+-- a value for each property that is flagged, the first by the highest bit, the last by bit 2
+unfoldable pub values_told : ℕ → List First → List ℕ → List (Option Argument)
+values_told flags [] bytes = []
+values_told flags (first ∷ others) bytes =
+    if is_flagged flags (length others + 2) then (Some (first bytes) ∷ values_told flags others (drop (length (argument (first bytes))) bytes))
+    else (None ∷ values_told flags others bytes)
+
+-- the text of a value
+abbrev pub text_told : Option Argument → Option Text
+text_told (Some (Short_text t)) = Some t
+text_told _ = None
+
+-- its octet
+abbrev pub octet_told : Option Argument → Option ℕ
+octet_told (Some (Octet n)) = Some n
+octet_told _ = None
+
+-- its time
+abbrev pub time_told : Option Argument → Option ℕ
+time_told (Some (Long_long n)) = Some n
+time_told _ = None
+
+-- the pairs of its table
+abbrev pub table_told : Option Argument → Option (List ℕ)
+table_told (Some (Field_table t)) = Some t
+table_told _ = None
+
+-- the properties of fourteen values
+unfoldable pub properties_told : List (Option Argument) → Properties
+properties_told (a ∷ b ∷ c ∷ d ∷ e ∷ f ∷ g ∷ h ∷ i ∷ j ∷ k ∷ l ∷ m ∷ n ∷ []) = record {
+  content_type = text_told a;
+  content_encoding = text_told b;
+  headers = table_told c;
+  delivery_mode = octet_told d;
+  priority = octet_told e;
+  correlation_id = text_told f;
+  reply_to = text_told g;
+  expiration = text_told h;
+  message_id = text_told i;
+  timestamp = time_told j;
+  kind = text_told k;
+  user_id = text_told l;
+  app_id = text_told m;
+  reserved = text_told n;
+}
+properties_told _ = no_properties
+
+-- the properties that bytes spell, if they spell any
+unfoldable pub spelled_by : List ℕ → Properties
+spelled_by bytes = properties_told (values_told (from_be_bytes w16 (take 2 bytes)) sorts (drop 2 bytes))
+
+-- The bytes are flags and values of properties that have a spelling.
+pub record IsSpelling (bytes : List ℕ) : Type 0 where
+  pub fits : AreProperties (spelled_by bytes)
+  pub spelled : bytes ≡ properties_bytes (spelled_by bytes)
