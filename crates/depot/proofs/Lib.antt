@@ -3,6 +3,7 @@ pub mod Changes
 pub mod Turning
 pub mod Naming
 pub mod Named
+pub mod Moved
 pub mod Signing
 pub mod Planned
 pub mod Rejected

@@ -10,7 +10,8 @@ use Rattle.exchange_graph.specs.Marks.{queue_name}
 use Rattle.depot.specs.Store.{Store, entries_named, queue_at, with_entries_at, IsStoreWhole}
 use Rattle.depot.proofs.Naming.{names-length, is_in, other_name, listed_at}
 
-listed-put : (names : List Text) (lists : List (List Entry)) (i : ℕ) (x : List Entry) (q : Text) → AreApart names → length names ≡ length lists → i < length names
+-- another list at one place: its name has that, and any other what it had
+pub listed-put : (names : List Text) (lists : List (List Entry)) (i : ℕ) (x : List Entry) (q : Text) → AreApart names → length names ≡ length lists → i < length names
     → listed names (set lists i x) q ≡ cond (bytes_eq (get_or names i []) q) x (listed names lists q)
 listed-put [] lists i x q apart len lt = absurd (omega arith)
 listed-put (n ∷ ns) [] i x q apart len lt = absurd (omega arith)

@@ -9,7 +9,6 @@ use Rattle.model.specs.Words.{Text}
 use Rattle.model.specs.Topology.{Topology, queue_names, AreApart}
 use Rattle.model.specs.Routing.{key_after}
 use Rattle.model.specs.Broker.{queue_named, listed, is_full, ready_bytes, refuses}
-use Rattle.model.specs.Broker as seen
 use Rattle.model.specs.Message.{Message}
 use Rattle.model.specs.Entries.{is_held_as, without_first}
 use Rattle.model.specs.Entering.{entry_note, entry_notes, comes_to}

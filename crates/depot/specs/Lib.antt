@@ -4,3 +4,4 @@ pub mod Turns
 pub mod Publishing
 pub mod Rejecting
 pub mod Dying
+pub mod Moving

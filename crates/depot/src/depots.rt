@@ -4,14 +4,15 @@ ghost use Rattle.std.specs.Prelude.{◌<◌, ℕ, length};
 ghost use Rattle.depot.specs.Store.{Store, IsStoreWhole, IsQueueNamed};
 
 use crate::given::Given;
-use crate::places::queue_at;
+use crate::moving::places_in;
+use crate::places::{queue_at, walk_at};
 use crate::publishing::{note_of, publish_in};
 use crate::queues::Queues;
 use crate::rejecting::reject_in;
 use exchange_graph::Topology;
 use kept_routes::Router;
 use model::{Content, Entry, Holder, Note, Publish};
-use queue::Store as _;
+use queue::{Store as _, Walk};
 use std::alloc::{AllocError, Global};
 use std::marker::Model;
 
@@ -85,6 +86,10 @@ impl Depot {
     ghost use Rattle.model.specs.Entries.{is_under, is_held_as, held_as, change_first, without_first, number_of};
     ghost use Rattle.queue.specs.Line.{ready_count, requeued};
     ghost use Rattle.depot.specs.Store.{entries_named, queue_at, with_entries_at, IsStoreWhole, IsQueueNamed, IsNextReady};
+    ghost use Rattle.model.specs.Topology.{queue_names};
+    ghost use Rattle.model.specs.Reloading.{stood_now};
+    ghost use Rattle.model.specs.Words.{Text};
+    ghost use Rattle.depot.specs.Moving.{AreMoved, GoneAreEmpty};
     ghost use Rattle.depot.specs.Publishing.{Publishing};
     ghost use Rattle.depot.specs.Rejecting.{GoneAreWithin, AreOrdered, IsApart, Rejecting};
 
@@ -304,6 +309,43 @@ impl Depot {
         ensures store { self.new ≡ with_entries_at self.old place (filter (λ e. not (is_ready e)) (queue_at self.old place)) }
     {
         self.queues.purge(place, numbers);
+    }
+
+    /// The entries of the queue at this place in the order of arrival, ready and held; none where there is no such queue.
+    pub fn walk(&self, place: usize) -> Walk<'_>
+        ensures { result ≡ queue_at self.now place }
+    {
+        walk_at(self.queues.as_slice(), place)
+    }
+
+    /// For each queue, in the order of the file, the place of the queue of its name in another topology, or one behind its
+    /// end where there is none.
+    pub fn places_in(&self, alloc: Global, topology: &Topology) -> Result<Vec<usize>, AllocError>
+        ensures { IfOk result (λ places. AreMoved (queue_names self.now.topology.queues) (queue_names topology.now.queues) places.items) }
+    {
+        places_in(alloc, self.router.topology(), topology)
+    }
+
+    /// Takes all messages of another depot over into this one, which has none: each name has the messages that it had there,
+    /// and each of them stood then. The table is `places_in` of the other depot, and no queue that this depot lacks has a
+    /// message there. The number of publishes goes on. It takes no memory, and no time for a message but for its mark.
+    pub fn take_over(&mut self, old: Depot, places: &[usize])
+        requires moved { AreMoved (queue_names old.topology.queues) (queue_names self.old.topology.queues) places.now }
+        requires empty { self.old.queues ≡ replicate (length self.old.topology.queues) [] }
+        requires gone { GoneAreEmpty old (queue_names self.old.topology.queues) }
+        ensures entries { (q : Text) → entries_named self.new q ≡ map stood_now (entries_named old q) }
+        ensures published { self.new.published ≡ old.published }
+        ensures topology { self.new.topology ≡ self.old.topology }
+    {
+        self.router.topology().is_well_formed();
+        old.router.topology().is_well_formed();
+        let Depot {
+            router: _,
+            queues,
+            published,
+        } = old;
+        self.queues.take_over(queues, places);
+        self.published = published;
     }
 }
 

@@ -10,7 +10,7 @@ ghost use Rattle.depot.specs.Turns.{room_at};
 
 use crate::queues::Queue;
 use model::{Entry, Holder, Message};
-use queue::Store;
+use queue::{Store, Walk};
 use std::alloc::AllocError;
 
 /// The queue at this place.
@@ -93,4 +93,14 @@ pub(crate) fn purge_at(queues: &mut [Queue], place: usize, numbers: &mut Vec<u64
     ensures entries { entries_of queues.new ≡ slice_set (entries_of queues.old) place (filter (λ e. not (is_ready e)) (slice_index_or (entries_of queues.old) place [])) }
 {
     queues[place].purge(numbers);
+}
+
+/// The entries of the queue at this place, in the order of arrival; none where there is no such queue.
+pub(crate) fn walk_at(queues: &[Queue], place: usize) -> Walk<'_>
+    ensures { result ≡ slice_index_or (entries_of queues.now) place [] }
+{
+    match queues.get(place) {
+        Some(queue) => queue.walk(),
+        None => Walk::empty(),
+    }
 }

@@ -3,6 +3,7 @@
 ghost use Rattle.std.specs.Prelude.{◌≡◌, [], replicate, IfOk};
 ghost use Rattle.depot.specs.Store.{entries_of};
 
+use crate::moving::take_over_in;
 use crate::places::{hold_at, purge_at, push_at, release_at, remove_at, reserve_at, take_first_at};
 use crate::signs::QueueSigns;
 use model::{Entry, Holder, Message};
@@ -83,6 +84,7 @@ impl Queues {
     ghost use Rattle.depot.specs.Store.{entries_of};
     ghost use Rattle.depot.specs.Signs.{ready_bit};
     ghost use Rattle.depot.specs.Turns.{room_at};
+    ghost use Rattle.depot.specs.Moving.{taken};
 
     /// So many queues with no message.
     pub(crate) fn new(alloc: Global, count: usize) -> Result<Queues, AllocError>
@@ -193,5 +195,19 @@ impl Queues {
     {
         purge_at(&mut self.queues, place, numbers);
         self.signs.sign(&self.queues, place);
+    }
+
+    /// Each queue of `old` stands at the place that the table has for it, where there is one, and all that is in it stood
+    /// then. It takes no memory.
+    pub(crate) fn take_over(&mut self, old: Queues, places: &[usize])
+        requires { length places.now ≡ length old }
+        ensures entries { entries_of self.new ≡ taken places.now (entries_of old) (entries_of self.old) }
+        ensures len { length self.new ≡ length self.old }
+    {
+        let Queues {
+            queues: mut left,
+            signs: _,
+        } = old;
+        take_over_in(&mut self.queues, &mut self.signs, &mut left, places);
     }
 }

@@ -62,14 +62,14 @@ apart_both (x ∷ xs) ys a b none = (
 
 -- ---- the channels of a connection, from this number on, and those of all connections
 
-abbrev name : ℕ → ℕ → ChannelName
+abbrev pub name : ℕ → ℕ → ChannelName
 name c h = record { connection = c; number = h }
 
 abbrev names_at : ℕ → ℕ → List (Option Open) → List ChannelName
 names_at c h [] = []
 names_at c h (o ∷ os) = name c h ∷ names_at c (h + 1) os
 
-abbrev names_in : List (ℕ × Linked) → List ChannelName
+abbrev pub names_in : List (ℕ × Linked) → List ChannelName
 names_in [] = []
 names_in (e ∷ es) = names_at e.0 0 e.1.channels ++ names_in es
 
@@ -80,7 +80,7 @@ at_there c h (suc k) (o ∷ os) ch e =
     let same : (h + 1) + k ≡ h + suc k = omega arith in
     inr (subst (λ (n : ℕ). IsIn (name c n) (names_at c (h + 1) os)) same (at_there c (h + 1) k os ch e))
 
-all_there : (es : List (ℕ × Linked)) (c h : ℕ) (ch : Open) → channel_of es c h ≡ Some ch → IsIn (name c h) (names_in es)
+pub all_there : (es : List (ℕ × Linked)) (c h : ℕ) (ch : Open) → channel_of es c h ≡ Some ch → IsIn (name c h) (names_in es)
 all_there [] c h ch e = absurd (let none : None ≡ Some ch = e in cc)
 all_there (e ∷ es) c h ch is = go (nat_eq c e.0) refl is (all_there es c h ch)
   where
@@ -136,7 +136,7 @@ sum_at f g c h (o ∷ os) same =
     ∙ ap (λ (n : ℕ). g o + n) (sum_at f g c (h + 1) os (λ k. let next : (h + 1) + k ≡ h + suc k = omega arith in ap (λ (n : ℕ). f (name c n)) next ∙ same (suc k)))
     ∙ sym (sum_by-cons g o os)
 
-abbrev on : ℕ → List (ℕ × Linked) → ChannelName → ℕ
+abbrev pub on : ℕ → List (ℕ × Linked) → ChannelName → ℕ
 on queue es x = consumers_at queue (channel_of es x.connection x.number)
 
 found : (l : Linked) (es : List (ℕ × Linked)) (c : ℕ) → lookup (nat_eq c) ((c, l) ∷ es) ≡ Some l
@@ -155,7 +155,7 @@ on_head queue e es k =
     let zero : 0 + k ≡ k = omega arith in
     ap (λ (h : ℕ). on queue (e ∷ es) (name e.0 h)) zero ∙ ap (λ (o : Option Linked). consumers_at queue (channel_at o k)) (found e.1 es e.0)
 
-all_sum : (queue : ℕ) (es : List (ℕ × Linked)) → IsDistinct nat_eq (keys_of es) → sum_by (on queue es) (names_in es) ≡ sum_by (consumers_counted queue) (values_of es)
+pub all_sum : (queue : ℕ) (es : List (ℕ × Linked)) → IsDistinct nat_eq (keys_of es) → sum_by (on queue es) (names_in es) ≡ sum_by (consumers_counted queue) (values_of es)
 all_sum queue [] apart = refl
 all_sum queue (e ∷ es) apart =
     let head = names_at e.0 0 e.1.channels in

@@ -2,4 +2,5 @@ pub mod Counting
 mod Opening
 pub mod Outcomes
 pub mod Setting
-mod Moving
+pub mod Moving
+pub mod Taking

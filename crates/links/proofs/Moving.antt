@@ -6,8 +6,8 @@ use Rattle.model.specs.Words.{Text}
 use Rattle.channel.specs.Open.{Open, open_in}
 use Rattle.channel.specs.Moving.{open_moved, AreNamedAlike}
 use Rattle.channel.proofs.Moving.{open_named}
-use Rattle.links.specs.Links.{Linked, linked_in, channel_at, channel_of}
-use Rattle.links.specs.Moving.{channels_moved, linked_moved, MovesAreUnseen}
+use Rattle.links.specs.Links.{Linked, linked_in, channel_at, channel_of, connection_at, connection_of}
+use Rattle.links.specs.Moving.{channels_moved, linked_moved, links_moved, MovesAreUnseen}
 
 -- the channel at each number is moved
 at_moved : (places : List ℕ) (channels : List (Option Open)) (h : ℕ) → slice_index_or (channels_moved places channels) h None ≡ option_map (open_moved places) (slice_index_or channels h None)
@@ -23,8 +23,19 @@ seen_moved : (old new : List Text) (places : List ℕ) (o : Option Open) → ((c
 seen_moved old new places None a = refl
 seen_moved old new places (Some ch) a = ap Some (open_named old new places ch (a ch refl))
 
+-- so is each channel of each connection
+pub moved_channel : (places : List ℕ) (links : List (ℕ × Linked)) (c h : ℕ) → channel_of (links_moved places links) c h ≡ option_map (open_moved places) (channel_of links c h)
+moved_channel places links c h =
+    ap (λ (o : Option Linked). channel_at o h) (lookup-map_values (linked_moved places) (nat_eq c) links) ∙ channel_moved places (linked_in links c) h
+
+-- connections are as they were, but for their channels
+pub moved_connection : (places : List ℕ) (links : List (ℕ × Linked)) (c : ℕ) → connection_of (links_moved places links) c ≡ connection_of links c
+moved_connection places links c = ap connection_at (lookup-map_values (linked_moved places) (nat_eq c) links) ∙ limits_stay (linked_in links c)
+  where
+    limits_stay : (o : Option Linked) → connection_at (option_map (linked_moved places) o) ≡ connection_at o
+    limits_stay None = refl
+    limits_stay (Some l) = refl
+
 pub unseen : MovesAreUnseen
 unseen old new places links alike c h =
-    ap (λ (o : Option Linked). option_map (open_in new) (channel_at o h)) (lookup-map_values (linked_moved places) (nat_eq c) links)
-    ∙ ap (option_map (open_in new)) (channel_moved places (linked_in links c) h)
-    ∙ seen_moved old new places (channel_of links c h) (alike c h)
+    ap (option_map (open_in new)) (moved_channel places links c h) ∙ seen_moved old new places (channel_of links c h) (alike c h)

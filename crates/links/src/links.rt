@@ -2,8 +2,9 @@
 //!
 //! A connection is looked up by its number in a map, and a channel stands in its connection at its number.
 
-ghost use Rattle.std.specs.Prelude.{◌≡◌};
-ghost use Rattle.links.specs.Counting.{CountsConsumers};
+ghost use Rattle.std.specs.Prelude.{◌≡◌, min};
+ghost use Rattle.model.specs.Step.{greatest};
+ghost use Rattle.links.specs.Counting.{CountsConsumers, all_consumers};
 ghost use Rattle.links.specs.Moving.{links_moved, MovesAreUnseen};
 
 use crate::link::Link;
@@ -46,6 +47,7 @@ impl Links {
       OnOk,
       OnErr,
       option_map,
+      Decides,
     };
     ghost use Rattle.std.specs.Option.{option_copied};
     ghost use Rattle.model.specs.Broker.{with_one, with_row};
@@ -54,7 +56,7 @@ impl Links {
     ghost use Rattle.model.specs.Settling.{settled};
     ghost use Rattle.channel.specs.Outstanding.{tag_of};
     ghost use Rattle.channel.specs.Open.{Open, with_qos, given_on, settled_on, without_settled, without_named, SeatsConsumer};
-    ghost use Rattle.links.specs.Counting.{CountsConsumers};
+    ghost use Rattle.links.specs.Counting.{CountsConsumers, HasTaker, is_consumed};
     ghost use Rattle.links.specs.Moving.{links_moved};
     ghost use Rattle.links.specs.Links.{linked_in, connection_of, channel_of, outstanding_on, room_in, seats_in, CanCount, CanGive, HasRoom, SetsRoom, PutsChannel, OpensLink, HoldsConnections};
 
@@ -100,6 +102,21 @@ impl Links {
         ensures { CountsConsumers self.now queue result }
     {
         count_consumers(&self.links, queue)
+    }
+
+    /// Whether some consumer on some channel takes from the queue at this place. It passes every channel that is kept, and takes
+    /// no memory.
+    pub fn is_consumed(&self, queue: usize) -> bool
+        ensures { result ≡ is_consumed self.now queue }
+    {
+        count_consumers(&self.links, queue) != 0
+    }
+
+    /// Consumers take from a queue exactly where some channel has one that does.
+    pub fn takers_are_found(&self)
+        ensures { (queue : ℕ) → Decides (is_consumed self.now queue) (HasTaker self.now queue) }
+    {
+        self.links.values();
     }
 
     /// The connection runs from now on, with channels 1 to `channels` open and new. Gives what ran under its number before, if
@@ -333,7 +350,8 @@ fn renumber_all(links: &mut HashMap<u64, Link>, places: &[usize])
 
 /// How many consumers on all channels of these connections take from the queue at this place, at most the greatest number.
 fn count_consumers(links: &HashMap<u64, Link>, queue: usize) -> usize
-    ensures { CountsConsumers links.now.entries queue result }
+    ensures counts { CountsConsumers links.now.entries queue result }
+    ensures all { result ≡ min (all_consumers links.now.entries queue) greatest }
 {
     let mut count: usize = 0;
     for link in links.values() {

@@ -4,3 +4,4 @@ pub mod Bytes
 pub mod Purging
 pub mod Firsts
 pub mod Changing
+pub mod Stood

@@ -3,6 +3,7 @@
 ghost use Rattle.std.specs.Prelude.{◌≡◌};
 ghost use Rattle.model.specs.Broker.{is_ready};
 ghost use Rattle.model.specs.Entries.{is_under, is_held_as, freed, freed_now, held_as};
+ghost use Rattle.model.specs.Reloading.{stood_now};
 
 use model::{Entry, Holder, Mark};
 
@@ -54,4 +55,11 @@ pub(crate) fn free_under(entry: &mut Entry, holder: &Holder)
     if is_held_under(entry, holder) {
         free(entry);
     }
+}
+
+/// The message stood here when a reload was done.
+pub(crate) fn stand(entry: &mut Entry)
+    ensures { entry.new ≡ stood_now entry.old }
+{
+    entry.message.stand();
 }

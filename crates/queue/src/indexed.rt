@@ -7,9 +7,10 @@ ghost use Rattle.model.specs.Entries.{number_of};
 
 use crate::signs::SlotSigns;
 use crate::slots::{
-    Slot, append, bytes_at, close_gaps, entry_at, free_at, hold_at, place_held, take_at,
+    Slot, append, bytes_at, close_gaps, entry_at, free_at, hold_at, place_held, stand_in, take_at,
 };
 use crate::stores::Store;
+use crate::walks::Walk;
 use model::{Entry, Holder, Mark, Message};
 use std::alloc::{AllocError, Global};
 use std::marker::Model;
@@ -159,6 +160,15 @@ impl Store for Indexed {
     /// It takes time for each ready message, and none for what is held.
     fn purge(&mut self, numbers: &mut Vec<u64>) {
         purge_in(self, numbers);
+    }
+
+    /// It takes time for each slot.
+    fn stand_all(&mut self) {
+        stand_in(&mut self.slots);
+    }
+
+    fn walk(&self) -> Walk<'_> {
+        Walk::of_slots(&self.slots)
     }
 }
 

@@ -13,7 +13,9 @@ mod lists;
 mod signs;
 mod slots;
 mod stores;
+mod walks;
 
 pub use indexed::Indexed;
 pub use listed::Listed;
 pub use stores::Store;
+pub use walks::Walk;

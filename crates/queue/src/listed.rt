@@ -2,6 +2,7 @@
 
 use crate::lists;
 use crate::stores::Store;
+use crate::walks::Walk;
 use model::{Entry, Holder, Mark, Message};
 use std::alloc::{AllocError, Global};
 use std::marker::Model;
@@ -79,5 +80,13 @@ impl Store for Listed {
 
     fn purge(&mut self, numbers: &mut Vec<u64>) {
         lists::purge(&mut self.entries, numbers);
+    }
+
+    fn stand_all(&mut self) {
+        lists::stand_all(&mut self.entries);
+    }
+
+    fn walk(&self) -> Walk<'_> {
+        Walk::of_entries(&self.entries)
     }
 }

@@ -5,11 +5,12 @@ ghost use Rattle.std.specs.List.{position_from};
 ghost use Rattle.model.specs.Broker as seen;
 ghost use Rattle.model.specs.Broker.{is_ready};
 ghost use Rattle.model.specs.Entries.{is_under, is_held_as, held_as, change_first, without_first, number_of};
+ghost use Rattle.model.specs.Reloading.{stood_now};
 ghost use Rattle.queue.specs.Line as seen_line;
 ghost use Rattle.queue.specs.Slots as slots;
 ghost use Rattle.queue.specs.Line.{requeued};
 
-use crate::entries::{free_under, hold, is_free, is_held_under};
+use crate::entries::{free_under, hold, is_free, is_held_under, stand};
 use model::{Entry, Holder};
 
 /// How many of the entries are ready.
@@ -208,4 +209,13 @@ pub(crate) fn purge(entries: &mut Vec<Entry>, numbers: &mut Vec<u64>)
 {
     append_numbers(entries, numbers);
     drop_ready(entries);
+}
+
+/// All that stands here stood here when a reload was done.
+pub(crate) fn stand_all(entries: &mut [Entry])
+    ensures { entries.new ≡ map stood_now entries.old }
+{
+    for entry in entries.iter_mut() {
+        stand(entry);
+    }
 }

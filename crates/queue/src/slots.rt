@@ -1,12 +1,13 @@
 //! Slots in the order of arrival, and which of them are ready.
 
-ghost use Rattle.std.specs.Prelude.{◌≡◌, ◌+◌, ◌<◌, ◌≤◌, ◌++◌, ◌∷◌, [], ℕ, false, true, length, get_or, vec_len, vec_capacity, slice_set, option_map, IfSome, IfNone, Some, None};
+ghost use Rattle.std.specs.Prelude.{◌≡◌, ◌+◌, ◌<◌, ◌≤◌, ◌++◌, ◌∷◌, [], ℕ, false, true, length, map, get_or, vec_len, vec_capacity, slice_set, option_map, IfSome, IfNone, Some, None};
 ghost use Rattle.model.specs.Broker.{is_ready, body_bytes};
 ghost use Rattle.model.specs.Entries.{is_held_as, held_as, freed_now};
+ghost use Rattle.model.specs.Reloading.{stood_now};
 ghost use Rattle.marks.specs.Places.{bit_of};
 ghost use Rattle.queue.specs.Slots.{contents, somes, slot_has, slot_size, changed, num, AreSigned, BitTurned};
 
-use crate::entries::{free, hold, is_free, is_held_under};
+use crate::entries::{free, hold, is_free, is_held_under, stand};
 use crate::signs::SlotSigns;
 use model::{Entry, Holder};
 
@@ -32,6 +33,15 @@ fn hold_here(entry: &mut Option<Entry>, holder: Holder)
 {
     if let Some(entry) = entry {
         hold(entry, holder);
+    }
+}
+
+/// What stands here stood here when a reload was done.
+fn stand_here(entry: &mut Option<Entry>)
+    ensures { entry.new ≡ changed stood_now entry.old }
+{
+    if let Some(entry) = entry {
+        stand(entry);
     }
 }
 
@@ -131,6 +141,15 @@ pub(crate) fn free_at(slots: &mut Vec<Slot>, place: usize)
     ensures capacity { vec_capacity slots.new ≡ vec_capacity slots.old }
 {
     free_here(&mut slots[place].entry);
+}
+
+/// All that stands in these slots stood there when a reload was done.
+pub(crate) fn stand_in(slots: &mut [Slot])
+    ensures { contents slots.new ≡ map (changed stood_now) (contents slots.old) }
+{
+    for slot in slots.iter_mut() {
+        stand_here(&mut slot.entry);
+    }
 }
 
 /// Empties this slot.

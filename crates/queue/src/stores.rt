@@ -3,10 +3,12 @@
 ghost use Rattle.std.specs.Prelude.{◌≡◌, ◌+◌, ◌<◌, ◌≤◌, ◌∷◌, ◌++◌, ◌||◌, [], OnOk, OnErr, None, find, filter, map, not, is_some, option_map, vec_len, vec_capacity};
 ghost use Rattle.model.specs.Broker.{is_at, is_past, is_ready, ready_bytes};
 ghost use Rattle.model.specs.Entries.{is_under, is_held_as, held_as, change_first, without_first, number_of};
+ghost use Rattle.model.specs.Reloading.{stood_now};
 ghost use Rattle.model.specs.declared.messages.Mark.TheVariants.{Ready};
 ghost use Rattle.queue.specs.Line.{Line, ready_count, requeued};
 
 use crate::limits;
+use crate::walks::Walk;
 use model::{Entry, Holder, Message};
 use std::alloc::{AllocError, Global};
 
@@ -91,4 +93,13 @@ pub trait Store: Drop {
         ensures numbers { numbers.new.items ≡ numbers.old.items ++ map number_of (filter is_ready (line self.old).entries) }
         ensures capacity { vec_capacity numbers.new ≡ vec_capacity numbers.old }
         ensures room { (line self.old).room ≤ (line self.new).room };
+
+    /// Each message that stands here, ready or held, stood here when a reload was done.
+    fn stand_all(&mut self)
+        ensures entries { (line self.new).entries ≡ map stood_now (line self.old).entries }
+        ensures room { (line self.new).room ≡ (line self.old).room };
+
+    /// The entries in the order of arrival, ready and held.
+    fn walk(&self) -> Walk<'_>
+        ensures { result ≡ (line self.now).entries };
 }

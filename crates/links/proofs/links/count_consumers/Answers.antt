@@ -10,5 +10,7 @@ pub returns : goal.returns
 returns c =
     let left : c.loop-link.link-iterator ≡ [] = rest_all deref c.loop-link.link-iterator c.next.new.self c.next.result c.in-None.is c.next.ensures.steps in
     let none : sum_by (consumers_counted c.args.queue) c.loop-link.link-iterator ≡ 0 = ap (λ (ls : List Linked). sum_by (consumers_counted c.args.queue) ls) left in
-    counts_all c.args.links.now.entries c.args.queue c.loop-link.count c.values-link-items.ensures.unique
-    (no_more c.loop-link.count (sum_by (consumers_counted c.args.queue) c.loop-link.link-iterator) none c.loop-link.invariant.most ∙ c.loop-link.invariant.whole)
+    let all = no_more c.loop-link.count (sum_by (consumers_counted c.args.queue) c.loop-link.link-iterator) none c.loop-link.invariant.most ∙ c.loop-link.invariant.whole in record {
+      counts = counts_all c.args.links.now.entries c.args.queue c.loop-link.count c.values-link-items.ensures.unique all;
+      all = all;
+    }

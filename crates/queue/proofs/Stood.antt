@@ -1,0 +1,73 @@
+-- What is kept beside the slots stays as it is where each message is marked as one that stood.
+use Rattle.std.proofs.Common.{◌≡◌, ℕ, zero, suc, ◌<◌, ◌≤◌, List, [], ◌∷◌, ◌++◌, length, get_or, set, take, drop, map, refl, sym, ap, ◌∙◌, subst, arith, Bool, Option, Some, None}
+use Rattle.model.specs.Reloading.{stood_now}
+use Rattle.model.specs.Broker.{is_ready}
+use Rattle.model.specs.Entries.{is_held_as}
+use Rattle.model.specs.declared.messages.Entry.{Entry}
+use Rattle.queue.specs.declared.slots.Slot.{Slot}
+use Rattle.queue.specs.Slots.{contents, somes, slot_has, changed, num, tally, total, ready_size, is_long, SlotBits, BitsShow, BytesShow}
+use Rattle.queue.proofs.Slotted.{contents-length, contents-written}
+use Rattle.queue.proofs.Changing.{changed_next}
+
+-- ---- each that stands in a slot is changed
+
+pub somes-changed : {X : Type 0} (f : X → X) (os : List (Option X)) → somes (map (changed f) os) ≡ map f (somes os)
+somes-changed f [] = refl
+somes-changed f (None ∷ os) = somes-changed f os
+somes-changed {X = X} f (Some x ∷ os) = ap (λ (xs : List X). f x ∷ xs) (somes-changed f os)
+
+there_changed : {X : Type 0} (f : X → X) (os : List (Option X)) (i : ℕ) → get_or (map (changed f) os) i None ≡ changed f (get_or os i None)
+there_changed f [] i = refl
+there_changed f (o ∷ os) zero = refl
+there_changed f (o ∷ os) (suc i) = there_changed f os i
+
+has_changed : {X : Type 0} (p : X → Bool) (f : X → X) → ((x : X) → p (f x) ≡ p x) → (o : Option X) → slot_has p (changed f o) ≡ slot_has p o
+has_changed p f same None = refl
+has_changed p f same (Some x) = same x
+
+tally-mapped : {X : Type 0} (p : X → Bool) (f : X → X) → ((x : X) → p (f x) ≡ p x) → (xs : List X) → tally p (map f xs) ≡ tally p xs
+tally-mapped p f same [] = refl
+tally-mapped p f same (x ∷ xs) = let a = ap num (same x) in let b = tally-mapped p f same xs in omega arith
+
+total-mapped : {X : Type 0} (g : X → ℕ) (f : X → X) → ((x : X) → g (f x) ≡ g x) → (xs : List X) → total g (map f xs) ≡ total g xs
+total-mapped g f same [] = refl
+total-mapped g f same (x ∷ xs) = let a = same x in let b = total-mapped g f same xs in omega arith
+
+length-mapped : {X : Type 0} (f : X → X) (xs : List X) → length (map f xs) ≡ length xs
+length-mapped f [] = refl
+length-mapped f (x ∷ xs) = ap suc (length-mapped f xs)
+
+-- ---- the marks, the counts and the bytes
+
+pub stood_shows : (os : List (Option Entry)) (bits : SlotBits) (ready live : ℕ) → BitsShow os bits ready live → BitsShow (map (changed stood_now) os) bits ready live
+stood_shows os bits ready live s =
+    let same = somes-changed stood_now os in record {
+      signed = λ i. s.signed i ∙ ap num (sym (has_changed is_ready stood_now (λ e. refl) (get_or os i None)) ∙ ap (slot_has is_ready) (sym (there_changed stood_now os i)));
+      ready_count = s.ready_count ∙ sym (tally-mapped is_ready stood_now (λ e. refl) (somes os)) ∙ ap (tally is_ready) (sym same);
+      live_count = s.live_count ∙ sym (length-mapped stood_now (somes os)) ∙ ap length (sym same);
+      apart = λ holder. subst (λ (n : ℕ). n ≤ 1) (sym (tally-mapped (is_held_as holder) stood_now (λ e. refl) (somes os)) ∙ ap (tally (is_held_as holder)) (sym same)) (s.apart holder);
+    }
+
+pub stood_keeps : (os : List (Option Entry)) (bytes : ℕ) → BytesShow (somes os) bytes → BytesShow (somes (map (changed stood_now) os)) bytes
+stood_keeps os bytes s =
+    let same = somes-changed stood_now os in record {
+      sum = s.sum ∙ sym (total-mapped ready_size stood_now (λ e. refl) (somes os)) ∙ ap (total ready_size) (sym same);
+      short = ap (tally is_long) same ∙ tally-mapped is_long stood_now (λ e. refl) (somes os) ∙ s.short;
+    }
+
+-- ---- slot by slot
+
+-- the next slot is changed
+pub slot_next : (f : Entry → Entry) (slots start : List Slot) (i j : ℕ) (s d : Slot) → j ≡ suc i → i < length slots → d ≡ get_or slots i d
+    → contents slots ≡ map (changed f) (take i (contents start)) ++ drop i (contents start) → s.entry ≡ changed f d.entry
+    → contents (set slots i s) ≡ map (changed f) (take j (contents start)) ++ drop j (contents start)
+slot_next f slots start i j s d step lt at is new =
+    let n = contents-length slots in
+    let within : i < length (contents slots) = omega arith in
+    contents-written slots i d s None (changed f) lt at new
+    ∙ changed_next (changed f) (contents slots) (contents start) i j (changed f (get_or (contents slots) i None)) (get_or (contents slots) i None) step within (there_any (contents slots) i within) is (ap (changed f) (there_any (contents slots) i within))
+  where
+    there_any : {X : Type 0} (xs : List (Option X)) (i : ℕ) → i < length xs → get_or xs i None ≡ get_or xs i (get_or xs i None)
+    there_any [] i h = absurd (omega arith)
+    there_any (x ∷ xs) zero h = refl
+    there_any (x ∷ xs) (suc i) h = there_any xs i (omega arith)

@@ -1,0 +1,7 @@
+use Rattle.std.proofs.Common.{◌≡◌, ◌++◌, map, take, drop}
+use Rattle.model.specs.Reloading.{stood_now}
+use Rattle.queue.proofs.lists.stand_all.Given as goal
+
+-- those before the index are done
+abbrev pub invariant-loop-entry : goal.invariant-loop-entry
+invariant-loop-entry l = l.entries ≡ map stood_now (take l.entry-index l.fn.entries) ++ drop l.entry-index l.fn.entries

@@ -1,0 +1,13 @@
+use Rattle.std.proofs.Common.{◌∙◌, ◌<◌, ◌+◌, length, ap, sym, arith}
+use Rattle.model.specs.Reloading.{stood_now}
+use Rattle.queue.specs.Slots.{changed}
+use Rattle.queue.specs.declared.slots.Slot.{Slot}
+use Rattle.queue.proofs.Stood.{slot_next}
+use Rattle.queue.proofs.slots.stand_in.Goals as goal
+
+pub loop-slot-preserved : goal.loop-slot-preserved
+loop-slot-preserved c =
+    let same = c.loop-slot.auto.slots in
+    let within : c.loop-slot.slot-index < length c.loop-slot.slots = omega arith in
+    slot_next stood_now c.loop-slot.slots c.args.slots.now c.loop-slot.slot-index (c.loop-slot.slot-index + 1) _ c.slot-item.result
+    (omega arith) within c.slot-item.is c.loop-slot.invariant (c.stand_here.ensures ∙ ap (λ (s : Slot). changed stood_now s.entry) (sym c.slot-item.is))

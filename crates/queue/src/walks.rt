@@ -1,0 +1,99 @@
+//! The entries of a queue, gone over in the order of arrival.
+
+ghost use Rattle.std.specs.Prelude.{◌≡◌, ◌∷◌, [], MatchOption};
+ghost use Rattle.queue.specs.Slots.{contents, somes};
+ghost use Rattle.queue.specs.Walks.{entries_ahead};
+
+use crate::slots::Slot;
+use model::Entry;
+use std::marker::Model;
+
+/// What is not gone over yet: entries, or slots of which some are empty.
+#[derive(Drop)]
+enum Ahead<'a> {
+    Entries(&'a [Entry]),
+    Slots(&'a [Slot]),
+}
+
+/// A walk over the entries of a queue, ready and held, in the order of arrival: those that are still to come.
+#[derive(Drop)]
+pub struct Walk<'a> {
+    ahead: Ahead<'a>,
+}
+
+impl<'a> Model for Walk<'a> {
+    ghost use Rattle.std.specs.Prelude.{List};
+    ghost use Rattle.model.specs.declared.messages.Entry.{Entry as Waiting};
+    ghost use Rattle.queue.specs.Walks.{entries_ahead};
+
+    ghost Value = { List Waiting };
+
+    ghost view = { λ w. entries_ahead w.ahead };
+}
+
+/// The first entry of these slots, which go on behind it. It takes a step for each slot in front of it.
+fn first_of<'a>(slots: &mut &'a [Slot]) -> Option<&'a Entry>
+    ensures { MatchOption result ((somes (contents slots.old.now) ≡ []) × (somes (contents slots.new.now) ≡ [])) (λ e. somes (contents slots.old.now) ≡ e.now ∷ somes (contents slots.new.now)) }
+{
+    'slots: while let Some(slot) = slots.split_off_first() {
+        if let Some(entry) = &slot.entry {
+            return Some(entry);
+        }
+    }
+    None
+}
+
+/// The first entry, and it goes on behind it.
+fn next_of<'a>(ahead: &mut Ahead<'a>) -> Option<&'a Entry>
+    ensures { MatchOption result ((entries_ahead ahead.old ≡ []) × (entries_ahead ahead.new ≡ [])) (λ e. entries_ahead ahead.old ≡ e.now ∷ entries_ahead ahead.new) }
+{
+    match ahead {
+        Ahead::Entries(entries) => entries.split_off_first(),
+        Ahead::Slots(slots) => first_of(slots),
+    }
+}
+
+impl<'a> Walk<'a> {
+    ghost use Rattle.std.specs.Prelude.{◌≡◌, []};
+    ghost use Rattle.queue.specs.Slots.{contents, somes};
+
+    /// A walk over nothing.
+    pub fn empty() -> Walk<'a>
+        ensures { result ≡ [] }
+    {
+        Walk::of_entries(&[])
+    }
+
+    /// A walk over all of these.
+    pub(crate) fn of_entries(entries: &'a [Entry]) -> Walk<'a>
+        ensures { result ≡ entries.now }
+    {
+        Walk {
+            ahead: Ahead::Entries(entries),
+        }
+    }
+
+    /// A walk over all that stands in these slots.
+    pub(crate) fn of_slots(slots: &'a [Slot]) -> Walk<'a>
+        ensures { result ≡ somes (contents slots.now) }
+    {
+        Walk {
+            ahead: Ahead::Slots(slots),
+        }
+    }
+}
+
+/// It gives the entries one after another.
+impl<'a> Iterator for Walk<'a> {
+    ghost use Rattle.std.specs.Iterator.{YieldsFirstRef, item_count};
+
+    type Item = &'a Entry;
+
+    ghost next_gives = { YieldsFirstRef (λ entries. entries) };
+
+    ghost remaining = { item_count (λ entries. entries) };
+
+    fn next(&mut self) -> Option<&'a Entry> {
+        next_of(&mut self.ahead)
+    }
+}
