@@ -2,8 +2,10 @@ mod Among
 mod Desks
 mod Ending
 mod Marked
+mod Moving
 mod Outcomes
 mod Present
+mod Reloading
 mod Seated
 mod Sleeping
 mod Waking

@@ -1,2 +1,3 @@
 pub mod Roster
+pub mod Moving
 pub mod Turns

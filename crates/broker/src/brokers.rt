@@ -4,11 +4,13 @@ use crate::roster::Roster;
 use crate::turns::turn_kept;
 use broker_core::{Core, Pick};
 use exchange_graph::Topology;
+use guarantees::Guarantee;
 use laws::{brokers_stay_agreed, consumers_are_made};
-use model::Event;
+use model::{Event, Obstacle};
 use replies::Step;
 use std::alloc::{AllocError, Global};
 use std::marker::Model;
+use std::mem;
 
 /// Queues, and the connections that run with their channels and consumers.
 pub struct Broker {
@@ -45,10 +47,12 @@ impl Broker {
     ghost use Rattle.model.specs.Arrivals.{IsSaid};
     ghost use Rattle.model.specs.Consuming.{CanDeliver};
     ghost use Rattle.model.specs.Naming.{AreNamed};
+    ghost use Rattle.model.specs.Reloading.{NoneIsStranded, with_all_stood};
     ghost use Rattle.model.specs.Sending.{AreCarried};
     ghost use Rattle.model.specs.Step.{Acts, Is};
     ghost use Rattle.model.specs.declared.events.Event.TheVariants as event_is;
     ghost use Rattle.broker_core.specs.State.{nothing};
+    ghost use Rattle.broker_core.specs.Obstacles.{TellsObstacle};
     ghost use Rattle.judging.specs.Judged.{IsAsked, WantsNoMemory};
     ghost use Rattle.broker_core.specs.Picked.{IsPick};
     ghost use Rattle.broker_core.specs.declared.picks.Pick.{Pick as Consumer};
@@ -188,5 +192,38 @@ impl Broker {
         consumers_are_made();
         self.roster.wake(connection, None);
         self.core.resume(connection);
+    }
+
+    /// The first thing that stands against a reload to this topology and these guarantees, or nothing where nothing does, whoever
+    /// may log in from then on. Where memory is wanting nothing is told.
+    pub fn obstacle(
+        &self,
+        alloc: Global,
+        topology: &Topology,
+        guarantees: &[Guarantee],
+    ) -> Result<Option<Obstacle>, AllocError>
+        ensures { IfOk result (TellsObstacle (topology_kept self.now) (broker_of self.now) topology.now guarantees.now) }
+    {
+        self.core.obstacle(alloc, topology, guarantees)
+    }
+
+    /// This topology is in force from now on, where no queue in use is gone: each message stands in the queue of its name, is
+    /// marked, and is else as it was, and so are connections and channels. Nobody has the turn. Where memory is wanting, nothing
+    /// has changed.
+    pub fn reload(&mut self, alloc: Global, topology: Topology) -> Result<(), AllocError>
+        requires { NoneIsStranded (topology_kept self.old) topology (broker_of self.old) }
+        ensures topology { OnOk result (topology_kept self.new ≡ topology) }
+        ensures stood { OnOk result (Is (with_all_stood (broker_of self.old)) (broker_of self.new)) }
+        ensures turn { OnOk result (self.new.turn ≡ None) }
+        ensures err { OnErr result (self.new ≡ self.old) }
+    {
+        let empty = Roster::new(alloc, topology.queues().len())?;
+        self.core.is_kept();
+        let places = self.core.reload(alloc, topology)?;
+        self.core.is_kept();
+        let old = mem::replace(&mut self.roster, empty);
+        self.roster.take_over(old, &places);
+        self.turn = None;
+        Ok(())
     }
 }

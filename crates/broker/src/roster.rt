@@ -16,7 +16,7 @@ ghost use Rattle.std.specs.Prelude.{◌≡◌};
 ghost use Rattle.replies.specs.Sent.{connection_of_event};
 ghost use Rattle.broker.specs.Roster.{wakes_on};
 
-use crate::roster::desk::{Desks, forget_desk, open_list, wake_desk};
+use crate::roster::desk::{Desks, empty_desks, forget_desk, open_list, wake_desk};
 use crate::roster::seating::Seating;
 use broker_core::{Core, Pick};
 use model::{Event, Method};
@@ -81,6 +81,7 @@ impl Roster {
     ghost use Rattle.broker_core.specs.Picked.{IsPickFrom};
     ghost use Rattle.broker_core.specs.Seats.{seat_of};
     ghost use Rattle.broker.specs.Roster.{wakes, IsAt, IsSeated, SeatsNext, HasNoList, MakesNoList, ListsRunning, KeepsSeats, KeepsAll, AllWaken, WakesSeat};
+    ghost use Rattle.broker.specs.Moving.{ArePlacesApart, RingsAreMoved, ListsAreEmptied};
 
     /// No seat, for so many queues.
     pub fn new(alloc: Global, queues: usize) -> Result<Roster, AllocError>
@@ -174,8 +175,26 @@ impl Roster {
         self.forget(core, connection_of(event));
     }
 
+    /// The seats of `old` stand from now on in the rings of their queues at the places that the table has for these, and all are
+    /// awake; those of a queue whose place is behind the end are gone. Nothing is listed. It takes no memory.
+    pub fn take_over(&mut self, old: Roster, places: &[usize])
+        requires len { length places.now ≡ length old.rings }
+        requires apart { ArePlacesApart places.now (length self.old.rings) }
+        ensures moved { RingsAreMoved places.now old.rings self.new.rings }
+        ensures lists { ListsAreEmptied old.lists self.new.lists }
+        ensures len { length self.new.rings ≡ length self.old.rings }
+    {
+        let Roster {
+            seating,
+            desks: mut left,
+        } = old;
+        self.seating.take_over(seating, places);
+        empty_desks(&mut left);
+        self.desks = left;
+    }
+
     /// The first delivery that can be made, from the queue behind that from which was picked last, and then from the front. Where
-    /// memory is wanting, seats stay awake whose consumers may take nothing.
+    /// memory, seats stay awake whose consumers may take nothing.
     pub fn pick(&mut self, core: &Core) -> Option<Pick>
         requires { length self.old.rings ≡ length (topology_kept core.now).queues }
         ensures kept { KeepsSeats core.now self.old self.new }

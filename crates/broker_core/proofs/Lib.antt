@@ -6,7 +6,9 @@ mod Getting
 mod Giving
 mod Outcomes
 pub mod Picking
-mod Placing
+pub mod Placing
 mod Purging
+pub mod Reloading
 mod Settling
+mod Standing
 pub mod Stepping

@@ -4,3 +4,4 @@ pub mod Picked
 pub mod Seats
 pub mod Freed
 pub mod Steps
+pub mod Obstacles

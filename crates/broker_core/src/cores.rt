@@ -9,9 +9,11 @@ mod giving;
 mod opening;
 mod publishing;
 mod purging;
+mod reloads;
 mod running;
 mod seating;
 mod settlements;
+mod standing;
 
 use depot::Depot;
 use exchange_graph::Topology;

@@ -20,13 +20,13 @@ in_at [] i x e = absurd (cc)
 in_at (y ∷ ys) zero x e = inl (let h : Some y ≡ Some x = e in cc)
 in_at (y ∷ ys) (suc i) x e = inr (in_at ys i x e)
 
-module _ (old : Topology) (g : Config) (entries : ℕ → ℕ → List Entry) (consumed : ℕ → Bool) (b : Broker) (s : IsStanding old entries consumed b) where
+module _ (old : Topology) (g : Config) (entries : ℕ → List Entry) (consumed : ℕ → Bool) (b : Broker) (s : IsStanding old entries consumed b) where
   abbrev pub names : List Text
   names = queue_names old.queues
 
   -- ---- queues in use
 
-  used : (p : ℕ) (q : Text) → slice_get names p ≡ Some q → IsInUse b q → IsUsed (entries p 0) (consumed p)
+  used : (p : ℕ) (q : Text) → slice_get names p ≡ Some q → IsInUse b q → IsUsed (entries p) (consumed p)
   used p q at (by_entry e i) = inl (λ none. subst (IsIn e) (s.queue p q at ∙ none) i)
   used p q at (by_consumer c h ch k there among takes) = inr ((s.consumers p q at).1 (record { connection = c; number = h; channel = ch; there = there; consumer = k; among = among; takes = takes }))
 
@@ -34,8 +34,8 @@ module _ (old : Topology) (g : Config) (entries : ℕ → ℕ → List Entry) (c
   by_some q [] e some = absurd (some refl)
   by_some q (x ∷ xs) e some = by_entry x (subst (IsIn x) (sym e) (inl refl))
 
-  in_use : (p : ℕ) (q : Text) → slice_get names p ≡ Some q → IsUsed (entries p 0) (consumed p) → IsInUse b q
-  in_use p q at (inl some) = by_some q (entries p 0) (s.queue p q at) some
+  in_use : (p : ℕ) (q : Text) → slice_get names p ≡ Some q → IsUsed (entries p) (consumed p) → IsInUse b q
+  in_use p q at (inl some) = by_some q (entries p) (s.queue p q at) some
   in_use p q at (inr y) = let c = (s.consumers p q at).0 y in by_consumer c.connection c.number c.channel c.consumer c.there c.among c.takes
 
   pub stranded_stands : (o : Obstacle) → TellsFirst (TellsQueue g.topology entries consumed) names (Some o) → IsObstacle old g b o
@@ -53,7 +53,7 @@ module _ (old : Topology) (g : Config) (entries : ℕ → ℕ → List Entry) (c
 
   -- ---- messages that are endangered
 
-  entry_at : (p : ℕ) (q : Text) (j : ℕ) (e : Entry) → slice_get names p ≡ Some q → slice_get (b.queue q) j ≡ Some e → slice_get (entries p 0) j ≡ Some e
+  entry_at : (p : ℕ) (q : Text) (j : ℕ) (e : Entry) → slice_get names p ≡ Some q → slice_get (b.queue q) j ≡ Some e → slice_get (entries p) j ≡ Some e
   entry_at p q j e at there = subst (λ (es : List Entry). slice_get es j ≡ Some e) (s.queue p q at) there
 
   pub breach_stands : NoneIsStranded old g.topology b → (o : Obstacle) → TellsFirst (TellsQueues g.topology names entries) g.guarantees (Some o) → IsObstacle old g b o
@@ -79,7 +79,7 @@ module _ (old : Topology) (g : Config) (entries : ℕ → ℕ → List Entry) (c
       q : Text
       q = second.one
 
-      third : IsToldFirst (TellsEntry g.topology u (first.place + 1) q) (entries second.place 0) o
+      third : IsToldFirst (TellsEntry g.topology u (first.place + 1) q) (entries second.place) o
       third = second.tells
 
       e : Entry
@@ -99,7 +99,7 @@ module _ (old : Topology) (g : Config) (entries : ℕ → ℕ → List Entry) (c
           let is : v ≡ u = cc in
           let named : Some p ≡ Some q = sym k.queue ∙ subst (λ (i : ℕ). slice_get names i ≡ Some q) (sym here) second.there in
           let of : p ≡ q = cc in
-          let there : slice_get (entries second.place 0) r.entry ≡ Some d = subst (λ (i : ℕ). slice_get (entries i 0) r.entry ≡ Some d) here (entry_at r.queue p r.entry d k.queue k.entry) in
+          let there : slice_get (entries second.place) r.entry ≡ Some d = subst (λ (i : ℕ). slice_get (entries i) r.entry ≡ Some d) here (entry_at r.queue p r.entry d k.queue k.entry) in
           third.none_before r.entry d lt there (subst (λ (z : Text). Endangers g.topology u z d.message) of (subst (λ (z : Guarantee). Endangers g.topology z p d.message) is k.endangers))
 
   pub nothing_stands : NoneIsStranded old g.topology b → TellsFirst (TellsQueues g.topology names entries) g.guarantees None → NothingStands old g b
@@ -117,6 +117,6 @@ module _ (old : Topology) (g : Config) (entries : ℕ → ℕ → List Entry) (c
   breach_judges none (Some o) first = breach_stands none o first
 
 -- of a queue that is gone
-pub gone_tells : (new : Topology) (entries : ℕ → ℕ → List Entry) (consumed : ℕ → Bool) (p : ℕ) (q : Text) (o : Option Obstacle) → (IsIn q (queue_names new.queues) → ⊥) → TellsUse (entries p 0) (consumed p) q o → TellsQueue new entries consumed p q o
+pub gone_tells : (new : Topology) (entries : ℕ → List Entry) (consumed : ℕ → Bool) (p : ℕ) (q : Text) (o : Option Obstacle) → (IsIn q (queue_names new.queues) → ⊥) → TellsUse (entries p) (consumed p) q o → TellsQueue new entries consumed p q o
 gone_tells new entries consumed p q None gone told = λ g used. told used
 gone_tells new entries consumed p q (Some o) gone told = (gone, told)

@@ -1,21 +1,21 @@
 -- Where deaths lead a message: by the dead-letter exchange of its queue, under the key that the queue fixes or else its own.
-use Rattle.std.proofs.Common.{◌≡◌, Bool, false, Option, Some, None, List, [], ◌∷◌, refl, sym, ap, subst, ◌∙◌, inl, inr}
+use Rattle.std.proofs.Common.{◌≡◌, ℕ, zero, suc, ◌<◌, Bool, false, true, Option, Some, None, List, [], ◌∷◌, length, get_or, refl, sym, ap, subst, ◌∙◌, inl, inr, arith}
 use Rattle.std.specs.Prelude.{Decides, is_some}
 use Rattle.std.proofs.lemmas.Bool.{false≢true}
 use Rattle.std.specs.Global.{Vec}
 use Rattle.model.specs.Words.{Text}
 use Rattle.model.specs.Topology.{Topology, IsIn, IsWellFormed, AreApart, queue_names}
 use Rattle.model.specs.Routing.{Reading, of_key, RoutesBy, reading_after, fixed_after, key_after, Comes, routed, dead, Dies, Later}
-use Rattle.model.specs.Guarantee.{Guarantee}
-use Rattle.model.specs.Message.{Message}
-use Rattle.model.specs.Reloading.{Endangers}
 use Rattle.model.specs.declared.topologies.DeclaredQueue.{DeclaredQueue}
 use Rattle.laws.proofs.Counts.{in_from_contains}
 use Rattle.laws.proofs.Safe.{comes_fixed}
 use Rattle.certificate_laws.proofs.Refutations.{walk_comes}
 use Rattle.dead_paths.specs.Found.{FindsPath}
+use Rattle.exchange_graph.specs.Marks.{queue_name}
 use Rattle.exchange_graph.specs.Dying.{IsDeadRoute, StepsByDeath}
 use Rattle.exchange_graph.specs.declared.dying.DeadRoute.{DeadRoute}
+use Rattle.reloading.specs.Obstacles.{FixesKey, LeadsNowhere}
+use Rattle.reloading.proofs.First.{in_get}
 
 -- ---- the key
 
@@ -87,7 +87,38 @@ route_tells t q key x onward r yes' wf route d = (λ y. later (d.0 y), λ l. d.1
         subst (λ (k : Text). Comes t (of_key k) None x r) (sym under)
         (subst (λ (y : Text). Comes t (of_key (key_after l.last.dead_letter_key key)) None y r) (sym at) (comes_own t l.last.dead_letter_key key None l.last.dead_letter_key refl l.comes))
 
--- what dies nowhere is not endangered
-pub none_endangered : (t : Topology) (g : Guarantee) (q key : Text) (r : Option DeadRoute) → is_some r ≡ false → StepsByDeath r t q key → (m : Message) → Endangers t g q m → ⊥
-none_endangered t g q key None e steps m d = steps d.later.exchange d.later.last d.later.dies
-none_endangered t g q key (Some r) e steps m d = false≢true (sym e)
+-- ---- a queue that fixes the key
+
+-- where a key is fixed, the message's own plays no part
+comes_whatever : (t : Topology) (r s : Reading) (f : Option Text) {x q : Text} → is_some f ≡ true → Comes t r f x q → Comes t s f x q
+comes_whatever t r s None e c = absurd (false≢true e)
+comes_whatever t r s (Some k) e (routed ro) = routed ro
+comes_whatever t r s (Some k) e (dead last ro d c) = dead last ro d (comes_whatever t r s (fixed_after last.dead_letter_key (Some k)) (still last.dead_letter_key) c)
+  where
+    still : (a : Option Text) → is_some (fixed_after a (Some k)) ≡ true
+    still None = refl
+    still (Some j) = refl
+
+-- so it leads there under each key, or under none
+pub any_key : (t : Topology) (q key other r : Text) → FixesKey t q → Later t q key r → Later t q other r
+any_key t q key other r fixes l = record {
+  last = l.last;
+  exchange = l.exchange;
+  dies = l.dies;
+  comes = comes_whatever t (of_key key) (of_key other) l.last.dead_letter_key (fixes l.exchange l.last l.dies) l.comes;
+}
+
+name_of : (qs : List DeclaredQueue) (i : ℕ) (d : DeclaredQueue) → i < length qs → d ≡ get_or qs i d → get_or (queue_names qs) i [] ≡ d.name
+name_of [] i d lt is = absurd (omega (arith, lt))
+name_of (q ∷ qs) zero d lt is = ap (λ (z : DeclaredQueue). z.name) (sym is)
+name_of (q ∷ qs) (suc i) d lt is = name_of qs i d (let k : suc i < suc (length qs) = lt in omega (arith, k)) is
+
+pub fixed_at : (t : Topology) (q : Text) (i : ℕ) (d : DeclaredQueue) → IsWellFormed t → i < length t.queues → queue_name t i ≡ q → d ≡ get_or t.queues i d → is_some d.dead_letter_key ≡ true → FixesKey t q
+fixed_at t q i d wf lt named is fixed x last dies =
+    let same : d ≡ last = one_queue d last t.queues wf.queues_apart (in_get t.queues i d d lt (sym is)) (dies_in t q x last dies) (sym (name_of t.queues i d lt is) ∙ named ∙ sym dies.is_named) in
+    subst (λ (z : DeclaredQueue). is_some z.dead_letter_key ≡ true) same fixed
+
+-- what dies nowhere comes nowhere by deaths
+pub leads_nowhere : (t : Topology) (q key r : Text) (route : Option DeadRoute) → is_some route ≡ false → StepsByDeath route t q key → LeadsNowhere t q r
+leads_nowhere t q key r None e steps other l = steps l.exchange l.last l.dies
+leads_nowhere t q key r (Some route) e steps other l = false≢true (sym e)

@@ -1,4 +1,5 @@
 pub mod First
 pub mod Leading
 pub mod Entries
+pub mod Kept
 pub mod Judged

@@ -1,3 +1,4 @@
 pub mod First
 pub mod Standing
 pub mod Obstacles
+pub mod Passed

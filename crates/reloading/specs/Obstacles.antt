@@ -1,13 +1,15 @@
 -- What stands against a reload, place by place (own).
-use Rattle.std.specs.Prelude.{◌≡◌, ◌+◌, ℕ, List, [], Bool, true, Option, Some, None, ◌⊎◌}
+use Rattle.std.specs.Prelude.{◌≡◌, ◌+◌, ℕ, List, [], Bool, true, Option, Some, None, is_some, ◌⊎◌}
 use Rattle.model.specs.Words.{Text}
 use Rattle.model.specs.Topology.{Topology, IsIn, queue_names}
+use Rattle.model.specs.Routing.{Dies, Later}
 use Rattle.model.specs.Guarantee.{Guarantee}
 use Rattle.model.specs.Reloading.{Endangers, IsObstacle, NothingStands}
 use Rattle.model.specs.Message.{Message}
 use Rattle.model.specs.Broker.{Broker}
 use Rattle.model.specs.State.{Config}
 use Rattle.model.specs.declared.messages.Entry.{Entry}
+use Rattle.model.specs.declared.topologies.DeclaredQueue.{DeclaredQueue}
 use Rattle.model.specs.declared.obstacles.Obstacle.{Obstacle}
 use Rattle.model.specs.declared.obstacles.Obstacle.TheVariants.{InUse, Breaks}
 use Rattle.model.specs.declared.messages.User.{User}
@@ -24,15 +26,23 @@ TellsUse entries consumed q (Some o) = IsUsed entries consumed × (o ≡ InUse q
 TellsUse entries consumed q None = IsUsed entries consumed → ⊥
 
 -- a queue in use that the new topology lacks is told of
-abbrev pub TellsQueue : Topology → (ℕ → ℕ → List Entry) → (ℕ → Bool) → ℕ → Text → Option Obstacle → Type 0
-TellsQueue new entries consumed p q (Some o) = (IsIn q (queue_names new.queues) → ⊥) × TellsUse (entries p 0) (consumed p) q (Some o)
-TellsQueue new entries consumed p q None = (IsIn q (queue_names new.queues) → ⊥) → TellsUse (entries p 0) (consumed p) q None
+abbrev pub TellsQueue : Topology → (ℕ → List Entry) → (ℕ → Bool) → ℕ → Text → Option Obstacle → Type 0
+TellsQueue new entries consumed p q (Some o) = (IsIn q (queue_names new.queues) → ⊥) × TellsUse (entries p) (consumed p) q (Some o)
+TellsQueue new entries consumed p q None = (IsIn q (queue_names new.queues) → ⊥) → TellsUse (entries p) (consumed p) q None
 
 -- two messages were first sent alike, and have one key now
 pub record AreAlike (m o : Message) : Type 0 where
   pub key : m.key ≡ o.key
   pub exchange : m.first_exchange ≡ o.first_exchange
   pub first_key : m.first_key ≡ o.first_key
+
+-- deaths lead no message from this queue to that one, whatever its key is
+abbrev pub LeadsNowhere : Topology → Text → Text → Type 0
+LeadsNowhere new q r = (key : Text) → Later new q key r → ⊥
+
+-- the queue fixes the key of what dies in it, if anything does
+abbrev pub FixesKey : Topology → Text → Type 0
+FixesKey new q = (exchange : Text) (last : DeclaredQueue) → Dies new q exchange last → is_some last.dead_letter_key ≡ true
 
 -- the guarantee endangers no message of this queue, whatever it is
 abbrev pub EndangersNone : Topology → Guarantee → Text → Type 0
@@ -44,11 +54,11 @@ TellsEntry new g number q j e (Some o) = Endangers new g q e.message × (o ≡ B
 TellsEntry new g number q j e None = Endangers new g q e.message → ⊥
 
 -- the first entry of the queue
-abbrev pub TellsEntries : Topology → Guarantee → ℕ → (ℕ → ℕ → List Entry) → ℕ → Text → Option Obstacle → Type 0
-TellsEntries new g number entries p q o = TellsFirst (TellsEntry new g number q) (entries p 0) o
+abbrev pub TellsEntries : Topology → Guarantee → ℕ → (ℕ → List Entry) → ℕ → Text → Option Obstacle → Type 0
+TellsEntries new g number entries p q o = TellsFirst (TellsEntry new g number q) (entries p) o
 
 -- the first queue of which an entry is told, of those with these names
-abbrev pub TellsQueues : Topology → List Text → (ℕ → ℕ → List Entry) → ℕ → Guarantee → Option Obstacle → Type 0
+abbrev pub TellsQueues : Topology → List Text → (ℕ → List Entry) → ℕ → Guarantee → Option Obstacle → Type 0
 TellsQueues new names entries i g o = TellsFirst (TellsEntries new g (i + 1) entries) names o
 
 -- what stands against the reload, or nothing does
@@ -57,6 +67,6 @@ Judges old new b (Some o) = IsObstacle old new b o
 Judges old new b None = NothingStands old new b
 
 -- So it is of each broker of which this is what stands, whoever may log in from then on.
-abbrev pub JudgesReload : Topology → (ℕ → ℕ → List Entry) → (ℕ → Bool) → Topology → List Guarantee → Option Obstacle → Type 0
+abbrev pub JudgesReload : Topology → (ℕ → List Entry) → (ℕ → Bool) → Topology → List Guarantee → Option Obstacle → Type 0
 JudgesReload old entries consumed new gs told =
     (b : Broker) (users : List User) → IsStanding old entries consumed b → Judges old (record { topology = new; guarantees = gs; users = users }) b told

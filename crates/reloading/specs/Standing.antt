@@ -1,15 +1,9 @@
 -- What stands in the queues of a broker and who takes from them, by the places of the queues in the file (own).
-use Rattle.std.specs.Prelude.{◌≡◌, ℕ, List, [], ◌∷◌, Bool, true, Option, Some, None, ◌↔◌, slice_get}
+use Rattle.std.specs.Prelude.{◌≡◌, ℕ, List, Bool, true, Some, ◌↔◌, slice_get}
 use Rattle.model.specs.Words.{Text}
 use Rattle.model.specs.Topology.{Topology, IsIn, queue_names}
 use Rattle.model.specs.Broker.{Broker, Channel, Consumer}
 use Rattle.model.specs.declared.messages.Entry.{Entry}
-use Rattle.reloading.specs.declared.standing.Found.{Found}
-
--- The first that stands from this slot on, and the slot from which the others stand; or nothing stands there.
-abbrev pub IsNext : (ℕ → List Entry) → ℕ → Option Found → Type 0
-IsNext from slot (Some found) = from slot ≡ found.entry.now ∷ from found.behind
-IsNext from slot None = from slot ≡ []
 
 -- some channel has a consumer of the queue
 pub record IsConsumed (b : Broker) (q : Text) : Type 0 where
@@ -21,7 +15,7 @@ pub record IsConsumed (b : Broker) (q : Text) : Type 0 where
   pub among : IsIn consumer channel.consumers
   pub takes : consumer.queue ≡ q
 
--- This is what the broker has: of each queue of the topology its entries, from slot 0 on, and whether a consumer takes from it.
-pub record IsStanding (t : Topology) (entries : ℕ → ℕ → List Entry) (consumed : ℕ → Bool) (b : Broker) : Type 0 where
-  pub queue : (place : ℕ) (q : Text) → slice_get (queue_names t.queues) place ≡ Some q → b.queue q ≡ entries place 0
+-- This is what the broker has: of each queue of the topology its entries, and whether a consumer takes from it.
+pub record IsStanding (t : Topology) (entries : ℕ → List Entry) (consumed : ℕ → Bool) (b : Broker) : Type 0 where
+  pub queue : (place : ℕ) (q : Text) → slice_get (queue_names t.queues) place ≡ Some q → b.queue q ≡ entries place
   pub consumers : (place : ℕ) (q : Text) → slice_get (queue_names t.queues) place ≡ Some q → (consumed place ≡ true) ↔ IsConsumed b q

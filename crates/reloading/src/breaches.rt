@@ -7,6 +7,7 @@ ghost use Rattle.reloading.specs.First.{TellsFirst};
 ghost use Rattle.reloading.specs.Obstacles.{TellsEntries, TellsQueues};
 
 use crate::dangers::{endangers_next, may_endanger};
+use crate::passed::{keep, like_at, none_passed, slot_of};
 use crate::standing::Standing;
 use exchange_graph::Topology;
 use guarantees::Guarantee;
@@ -37,18 +38,19 @@ fn first_of_queue<S: Standing>(
     ensures { IfOk result (λ o. TellsEntries topology.now guarantee.now number (S.entries standing.now) place queue.now o) }
 {
     let name = queue.as_bytes();
-    if !may_endanger(topology, guarantee, name) {
+    if !may_endanger(alloc, topology, guarantee, name)? {
         return Ok(None);
     }
+    let mut passed = none_passed();
     let mut slot = 0;
-    let mut passed = None;
-    'entries: while let Some(found) = standing.next(place, slot) {
-        let message = &found.entry.message;
-        if endangers_next(alloc, topology, guarantee, name, passed, message)? {
+    'entries: for entry in standing.walk(place) {
+        let message = &entry.message;
+        slot = slot_of(&passed, slot, message);
+        let like = like_at(&passed, slot, message);
+        if endangers_next(alloc, topology, guarantee, name, like, message)? {
             return Ok(Some(breaks(queue, message, number)?));
         }
-        passed = Some(message);
-        slot = found.behind;
+        keep(&mut passed, slot, message);
     }
     Ok(None)
 }

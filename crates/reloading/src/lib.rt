@@ -4,8 +4,9 @@
 mod breaches;
 mod dangers;
 mod judging;
+mod passed;
 mod standing;
 mod stranded;
 
 pub use judging::obstacle;
-pub use standing::{Found, Standing};
+pub use standing::Standing;

@@ -12,9 +12,9 @@ use std::alloc::AllocError;
 
 /// Whether a message stands in the queue at this place, ready or held, or a consumer takes from it.
 fn is_used<S: Standing>(standing: &S, place: usize) -> bool
-    ensures { Decides result (IsUsed (S.entries standing.now place 0) (S.consumed standing.now place)) }
+    ensures { Decides result (IsUsed (S.entries standing.now place) (S.consumed standing.now place)) }
 {
-    standing.next(place, 0).is_some() || standing.is_consumed(place)
+    standing.walk(place).next().is_some() || standing.is_consumed(place)
 }
 
 /// The queue at this place, which the new topology lacks, if it is in use.
@@ -23,7 +23,7 @@ fn gone_at<S: Standing>(
     place: usize,
     queue: &Text,
 ) -> Result<Option<Obstacle>, AllocError>
-    ensures { IfOk result (λ o. TellsUse (S.entries standing.now place 0) (S.consumed standing.now place) queue.now o) }
+    ensures { IfOk result (λ o. TellsUse (S.entries standing.now place) (S.consumed standing.now place) queue.now o) }
 {
     if is_used(standing, place) {
         return Ok(Some(Obstacle::InUse(queue.clone()?)));

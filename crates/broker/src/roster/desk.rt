@@ -5,6 +5,7 @@ mod waking;
 ghost use Rattle.std.specs.Prelude.{◌≡◌, ◌≤◌, ℕ, true, None, OnOk, length};
 ghost use Rattle.broker_core.specs.State.{broker_of};
 ghost use Rattle.broker.specs.Roster.{listed_on, IsListedOn, Listing, IsListed, HasList, HasNoList, MakesNoList, KeepLists, ListsMore, ListsStay};
+ghost use Rattle.broker.specs.Moving.{all_emptied, emptied};
 
 use broker_core::{Core, Pick};
 use std::alloc::{AllocError, Global};
@@ -93,6 +94,13 @@ impl Sleepers {
     {
         self.listed.push(one).is_ok()
     }
+
+    /// None is listed any more. There is room for as many as were.
+    fn empty(&mut self)
+        ensures { self.new ≡ [] }
+    {
+        self.listed.clear();
+    }
 }
 
 /// Makes a list, in which none sleeps, for each channel below this number that has none.
@@ -115,6 +123,15 @@ fn list_on(channels: &mut [Sleepers], one: Listed) -> bool
     at < channels.len() && channels[at].list(one)
 }
 
+/// Nothing is listed on these channels any more.
+fn empty_each(channels: &mut [Sleepers])
+    ensures { channels.new ≡ emptied channels.old }
+{
+    for sleepers in channels.iter_mut() {
+        sleepers.empty();
+    }
+}
+
 /// The seats of one connection that sleep: a list for each channel, at its number.
 #[derive(Drop)]
 pub(crate) struct Desk {
@@ -133,6 +150,7 @@ impl Model for Desk {
 impl Desk {
     ghost use Rattle.std.specs.Prelude.{◌≡◌, ◌<◌, [], ℕ, true, OnOk, length};
     ghost use Rattle.broker.specs.Roster.{listed_on, Listing, IsListedOn};
+    ghost use Rattle.broker.specs.Moving.{emptied};
 
     /// No list. It takes no memory.
     fn new(alloc: Global) -> Desk
@@ -157,6 +175,13 @@ impl Desk {
         ensures stay { (l : Listing) → IsListedOn self.old l → IsListedOn self.new l }
     {
         list_on(&mut self.channels, one)
+    }
+
+    /// Nothing is listed any more.
+    fn empty(&mut self)
+        ensures { self.new ≡ emptied self.old }
+    {
+        empty_each(&mut self.channels);
     }
 }
 
@@ -205,4 +230,14 @@ pub(crate) fn forget_desk(desks: &mut Desks, core: &Core, connection: u64)
     if !core.runs(connection) {
         desks.remove(&connection);
     }
+}
+
+/// Nothing is listed any more. The lists stay, with their room.
+pub(crate) fn empty_desks(desks: &mut Desks)
+    ensures { desks.new.entries ≡ all_emptied desks.old.entries }
+{
+    desks.retain(|_, desk| {
+        desk.empty();
+        true
+    });
 }

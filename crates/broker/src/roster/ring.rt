@@ -12,6 +12,7 @@ ghost use Rattle.marks.specs.Places.{bit_of};
 ghost use Rattle.broker_core.specs.Picked.{IsPickFrom};
 ghost use Rattle.broker.specs.declared.roster.seats.Seat.{Seat as Taken};
 ghost use Rattle.broker.specs.Roster.{ring_of, is_consumer, is_seat_of, has_its_consumer, IsAwakeAt, IsAwake, IsAsleep, StaysAt, KeepsIn, KeepsRing, NoneAwake, ListsMore, Dozes, Wakens};
+ghost use Rattle.broker.specs.Moving.{all_awake};
 
 use crate::roster::desk::{Desks, Listed, list_seat};
 use crate::roster::seats::Seat;
@@ -77,6 +78,15 @@ fn wake_seat(seats: &mut [Seat], awake: &mut SeatMarks, consumer: Pick, guess: u
             true
         }
         None => false,
+    }
+}
+
+/// Each of the seats is awake from now on.
+fn rouse_each(seats: &mut [Seat])
+    ensures { seats.new ≡ all_awake seats.old }
+{
+    for seat in seats.iter_mut() {
+        seat.asleep = false;
     }
 }
 
@@ -322,6 +332,7 @@ impl Ring {
     ghost use Rattle.broker_core.specs.declared.picks.Pick.{Pick as Consumer};
     ghost use Rattle.broker_core.specs.Picked.{IsPickFrom};
     ghost use Rattle.broker.specs.Roster.{IsAwake, IsAsleep, KeepsIn, KeepsRing, NoneSeated, ListsMore, Wakens};
+    ghost use Rattle.broker.specs.Moving.{AllRoused};
 
     /// No seat. It takes no memory.
     pub fn new(alloc: Global) -> Ring
@@ -358,6 +369,14 @@ impl Ring {
         ensures wakens { Wakens self.old self.new }
     {
         wake_seat(&mut self.seats, &mut self.awake, consumer, guess);
+    }
+
+    /// Each seat is awake from now on. It takes no memory.
+    pub fn wake_all(&mut self)
+        ensures { AllRoused self.old self.new }
+    {
+        rouse_each(&mut self.seats);
+        mark_all(&mut self.awake, self.seats.len());
     }
 
     /// Whether picks look at some seat. If not, none is awake.

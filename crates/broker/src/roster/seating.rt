@@ -9,6 +9,8 @@ ghost use Rattle.marks.specs.Places.{bit_of};
 ghost use Rattle.broker_core.specs.State.{topology_kept};
 ghost use Rattle.broker_core.specs.Picked.{IsPickFrom};
 ghost use Rattle.broker.specs.Roster.{ring_at, rings_of, IsAwake, IsAsleep, QueuesAreMarked, IsNextMarked, KeepRings, KeepsSeats, ListsMore, AllWaken, NoneSeated, NoneBetween};
+ghost use Rattle.broker.specs.Moving.{AllRoused, ArePlacesApart, RingsAreMoved};
+ghost use Rattle.broker_core.specs.declared.picks.Pick.{Pick as Consumer};
 
 use crate::roster::desk::Desks;
 use crate::roster::ring::{Ring, SeatMarks};
@@ -16,6 +18,7 @@ use broker_core::{Core, Pick};
 use marks::{Flat, Over, Places};
 use std::alloc::{AllocError, Global};
 use std::marker::Model;
+use std::mem::swap;
 
 /// A consumer to which a delivery can be made, from the queue at this place.
 #[derive(Clone, Copy, PartialEq, Eq, Debug, Drop)]
@@ -185,6 +188,56 @@ fn first_round(
     }
 }
 
+/// The bit of the queue at this place is 1 from now on if picks look at some seat of this ring, which is to stand there.
+fn mark_ring(awake: &mut SeatMarks, ring: &Ring, place: usize)
+    requires { place < length awake.old * 64 }
+    ensures len { length awake.new ≡ length awake.old }
+    ensures here { (p : Consumer) → IsAwake ring.now p → bit_of awake.new place ≡ 1 }
+    ensures stay { (k : ℕ) → bit_of awake.old k ≡ 1 → bit_of awake.new k ≡ 1 }
+{
+    if ring.has_awake() {
+        awake.set(place);
+    }
+}
+
+/// The seats of this ring stand in that of the queue at this place from now on, and all are awake. What stood there stands in this.
+fn take_ring(rings: &mut [Ring], awake: &mut SeatMarks, place: usize, ring: &mut Ring)
+    requires within { place < length rings.old }
+    requires marked { QueuesAreMarked rings.old awake.old }
+    ensures roused { AllRoused ring.old (ring_at rings.new place) }
+    ensures others { (i : ℕ) → (i ≡ place → ⊥) → ring_at rings.new i ≡ ring_at rings.old i }
+    ensures marked { QueuesAreMarked rings.new awake.new }
+{
+    ring.wake_all();
+    mark_ring(awake, ring, place);
+    swap(&mut rings[place], ring);
+}
+
+/// The same, where the place is there.
+fn move_ring(rings: &mut [Ring], awake: &mut SeatMarks, place: usize, ring: &mut Ring)
+    requires { QueuesAreMarked rings.old awake.old }
+    ensures roused { place < length rings.old → AllRoused ring.old (ring_at rings.new place) }
+    ensures others { (i : ℕ) → (i ≡ place → ⊥) → ring_at rings.new i ≡ ring_at rings.old i }
+    ensures marked { QueuesAreMarked rings.new awake.new }
+{
+    if place < rings.len() {
+        take_ring(rings, awake, place, ring);
+    }
+}
+
+/// The seats of each ring of `old` stand, awake, in the ring at the place that the table has for it, where that is there.
+fn move_rings(rings: &mut [Ring], awake: &mut SeatMarks, old: &mut [Ring], places: &[usize])
+    requires len { length places.now ≡ length old.old }
+    requires apart { ArePlacesApart places.now (length rings.old) }
+    requires marked { QueuesAreMarked rings.old awake.old }
+    ensures moved { RingsAreMoved places.now old.old rings.new }
+    ensures marked { QueuesAreMarked rings.new awake.new }
+{
+    for (from, place) in places.iter().enumerate() {
+        move_ring(rings, awake, *place, &mut old[from]);
+    }
+}
+
 /// The rings of all queues, in the order of the file.
 pub(crate) struct Seating {
     rings: Vec<Ring>,
@@ -221,6 +274,7 @@ impl Seating {
     ghost use Rattle.broker_core.specs.State.{topology_kept};
     ghost use Rattle.broker_core.specs.Picked.{IsPickFrom};
     ghost use Rattle.broker.specs.Roster.{ring_at, rings_of, IsAwake, IsAsleep, KeepRings, KeepsSeats, ListsMore, AllWaken, NoneBetween};
+    ghost use Rattle.broker.specs.Moving.{ArePlacesApart, RingsAreMoved};
 
     /// So many rings with no seat.
     pub fn new(alloc: Global, queues: usize) -> Result<Seating, AllocError>
@@ -256,6 +310,22 @@ impl Seating {
         if queue < self.rings.len() {
             wake_at(&mut self.rings, &mut self.awake, queue, consumer, guess);
         }
+    }
+
+    /// The seats of each ring of `old` stand from now on, awake, in the ring at the place that the table has for it; those of a
+    /// ring whose place is behind the end are gone. It takes no memory.
+    pub fn take_over(&mut self, old: Seating, places: &[usize])
+        requires len { length places.now ≡ length old }
+        requires apart { ArePlacesApart places.now (length self.old) }
+        ensures moved { RingsAreMoved places.now old self.new }
+        ensures len { length self.new ≡ length self.old }
+    {
+        let Seating {
+            rings: mut left,
+            awake: _,
+            next: _,
+        } = old;
+        move_rings(&mut self.rings, &mut self.awake, &mut left, places);
     }
 
     /// The first delivery that can be made, from the queue behind that from which was picked last, and then from the front.

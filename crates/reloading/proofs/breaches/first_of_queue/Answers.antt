@@ -1,6 +1,7 @@
-use Rattle.std.proofs.Common.{◌∙◌, sym, subst}
+use Rattle.std.proofs.Common.{◌∙◌, inl, inr, sym, subst}
 use Rattle.std.specs.Prelude.{Decides}
 use Rattle.std.proofs.lemmas.Bool.{false≢true}
+use Rattle.model.specs.Message.{Message}
 use Rattle.model.specs.Words.{Text}
 use Rattle.model.specs.Reloading.{Endangers}
 use Rattle.reloading.proofs.First.{passed_more}
@@ -11,15 +12,21 @@ pub returns-then-branch : goal.returns-then-branch
 returns-then-branch g c =
     let t = c.args.topology.now in
     let u = c.args.guarantee.now in
-    let e = c.in-Some.found.entry.now in
+    let e = c.in-Some.entry.now in
     let d = subst (λ (z : Text). Decides c.in_ok-endangers_next.field-0 (Endangers t u z e.message)) c.as_bytes-name.ensures c.in_ok-endangers_next.ensures in
-    entry_told t u c.args.number c.args.queue.now (g.S.Standing.entries c.args.standing.now c.args.place 0) e (g.S.Standing.entries c.args.standing.now c.args.place c.entries.slot) (g.S.Standing.entries c.args.standing.now c.args.place c.in-Some.found.behind) c.in_ok-breaks.field-0 c.in-Some.ensures c.entries.invariant.0 (d.0 c.if-branch.true) c.in_ok-breaks.ensures
+    entry_told t u c.args.number c.args.queue.now (g.S.Standing.entries c.args.standing.now c.args.place) e c.entries.entry-iterator c.next.new.self c.in_ok-breaks.field-0 c.in-Some.ensures.steps c.entries.invariant.0 (d.0 c.if-branch.true) c.in_ok-breaks.ensures
 
 pub entries-preserved : goal.entries-preserved
 entries-preserved g c =
     let t = c.args.topology.now in
     let u = c.args.guarantee.now in
-    let e = c.in-Some.found.entry.now in
+    let e = c.in-Some.entry.now in
     let d = subst (λ (z : Text). Decides c.in_ok-endangers_next.field-0 (Endangers t u z e.message)) c.as_bytes-name.ensures c.in_ok-endangers_next.ensures in
-    let not = λ (x : Endangers t u c.args.queue.now e.message). false≢true (sym c.if-branch.false ∙ d.1 x) in
-    (passed_more (IsEndangered t u c.args.queue.now) (g.S.Standing.entries c.args.standing.now c.args.place 0) e (g.S.Standing.entries c.args.standing.now c.args.place c.entries.slot) (g.S.Standing.entries c.args.standing.now c.args.place c.in-Some.found.behind) c.in-Some.ensures not c.entries.invariant.0, not)
+    let not = λ (x : Endangers t u c.args.queue.now e.message). false≢true (sym c.if-branch.false ∙ d.1 x) in (
+      passed_more (IsEndangered t u c.args.queue.now) (g.S.Standing.entries c.args.standing.now c.args.place) e c.entries.entry-iterator c.next.new.self c.in-Some.ensures.steps not c.entries.invariant.0,
+      λ m i. elim (c.keep.ensures m i) [
+        | inl was ↦ c.entries.invariant.1 m was
+        | inr is ↦ subst (λ (z : Message). Endangers t u c.args.queue.now z → ⊥) (sym is) not
+      ],
+      c.slot_of-slot.ensures,
+    )

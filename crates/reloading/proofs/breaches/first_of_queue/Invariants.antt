@@ -1,14 +1,17 @@
-use Rattle.std.proofs.Common.{length}
-use Rattle.std.specs.Prelude.{IfSome}
+use Rattle.std.proofs.Common.{◌<◌, length}
+use Rattle.model.specs.Message.{Message}
+use Rattle.model.specs.Topology.{IsIn}
 use Rattle.model.specs.Reloading.{Endangers}
+use Rattle.reloading.specs.Passed.{kept}
 use Rattle.reloading.proofs.First.{Passed}
 use Rattle.reloading.proofs.Entries.{IsEndangered}
 use Rattle.reloading.proofs.breaches.first_of_queue.Given as goal
 
 abbrev pub invariant-entries : goal.invariant-entries
 invariant-entries g l =
-    Passed (IsEndangered l.topology l.guarantee l.queue) (g.S.Standing.entries l.standing l.place 0) (g.S.Standing.entries l.standing l.place l.slot)
-    × IfSome l.passed (λ m. Endangers l.topology l.guarantee l.queue m.now → ⊥)
+    Passed (IsEndangered l.topology l.guarantee l.queue) (g.S.Standing.entries l.standing l.place) l.entry-iterator
+    × ((m : Message) → IsIn m (kept l.passed) → Endangers l.topology l.guarantee l.queue m → ⊥)
+    × (l.slot < 2048)
 
 abbrev pub decreases-entries : goal.decreases-entries
-decreases-entries g l = length (g.S.Standing.entries l.standing l.place l.slot)
+decreases-entries g l = length l.entry-iterator

@@ -1,6 +1,8 @@
-use Rattle.std.proofs.Common.{◌∙◌, sym}
-use Rattle.reloading.proofs.Leading.{none_endangered}
+use Rattle.std.proofs.Common.{◌∙◌, subst, sym}
+use Rattle.std.proofs.lemmas.Result.{IfOk-weaker}
+use Rattle.model.specs.Words.{Text}
+use Rattle.model.specs.Routing.{Later}
 use Rattle.reloading.proofs.dangers.may_endanger.Goals as goal
 
 pub returns-in-Never : goal.returns-in-Never
-returns-in-Never c e = none_endangered c.args.topology.now c.args.guarantee.now c.args.queue.now _ c.dead_route.result (sym c.is_some.ensures ∙ e) c.dead_route.ensures
+returns-in-Never c = IfOk-weaker c.may_lead.result _ _ (λ yes d no m danger. d no m.key (subst (λ (z : Text). Later c.args.topology.now c.args.queue.now m.key z) (sym (c.as_bytes.ensures ∙ c.queue.ensures)) danger.later)) c.may_lead.ensures

@@ -1,0 +1,130 @@
+-- Another topology is in force: what every broker keeps.
+use Rattle.std.proofs.Common.{◌≡◌, ◌∙◌, ◌<◌, ℕ, List, [], length, get_or, inl, inr, refl, sym, ap, subst, arith}
+use Rattle.std.specs.Prelude.{count_by}
+use Rattle.model.specs.Words.{Text}
+use Rattle.model.specs.Topology.{IsIn, AreApart}
+use Rattle.model.specs.Broker as seen
+use Rattle.model.specs.Broker.{Broker}
+use Rattle.model.specs.Agreement.{IsAgreed}
+use Rattle.model.specs.Entries.{is_held_as}
+use Rattle.model.specs.Reloading.{stood_now, with_all_stood}
+use Rattle.model.specs.Step.{Is}
+use Rattle.model.specs.declared.messages.Entry.{Entry}
+use Rattle.laws.proofs.Counts.{count-map}
+use Rattle.channel.specs.Moving.{place_now}
+use Rattle.channel.specs.Open.{consumer_in}
+use Rattle.depot.specs.Moving.{stays, goes, AreMoved}
+use Rattle.depot.specs.Store.{IsStoreWhole}
+use Rattle.depot.proofs.Naming.{names-length, is_in}
+use Rattle.links.specs.Links.{channel_of}
+use Rattle.links.proofs.Setting.{same_default}
+use Rattle.broker_core.specs.State.{Kept, ArePlaced, broker_of, topology_kept, names_of}
+use Rattle.broker_core.specs.declared.picks.Pick.{Pick}
+use Rattle.broker_core.proofs.Placing.{takes_within}
+use Rattle.broker_core.proofs.Reloading.{in_mapped, seen_of, one_place}
+use Rattle.broker_core.proofs.Stepping.{seen_there}
+use Rattle.broker.specs.Roster.{Rings, Lists, Seats, ring_at, IsAwake, IsSeatedIn, HasConsumer, AllHaveSeats, IsServing}
+use Rattle.broker.specs.Moving.{StandsIn, ArePlacesApart, RingsAreMoved, ListsAreEmptied}
+use Rattle.broker.proofs.Seated.{serves, running_still}
+
+-- ---- what is held and what is outstanding
+
+-- a mark is no holder
+pub agreed_stood : (b new : Broker) → Is (with_all_stood b) new → IsAgreed b → IsAgreed new
+agreed_stood b new is a = record {
+  held = λ q e holder i m.
+      let was = seen_of stood_now e (b.queue q) (subst (λ (es : List Entry). IsIn e es) (is.queues q) i) in
+      let out = a.held q was.one holder was.among (ap (λ (x : Entry). x.mark) was.is ∙ m) in record {
+        channel = out.channel;
+        there = is.channels holder.connection holder.channel ∙ out.there;
+        delivery = out.delivery;
+        outstanding = out.outstanding;
+        tag = out.tag;
+        queue = out.queue;
+        by = out.by;
+      };
+  given = λ c h ch o e i.
+      let was = a.given c h ch o (sym (is.channels c h) ∙ e) i in record {
+        entry = stood_now was.entry;
+        there = subst (λ (es : List Entry). IsIn (stood_now was.entry) es) (sym (is.queues o.queue)) (in_mapped stood_now was.entry (b.queue o.queue) was.there);
+        mark = was.mark;
+      };
+  apart = λ q holder.
+      let same = ap (count_by (is_held_as holder)) (is.queues q) ∙ count-map (is_held_as holder) stood_now (λ x. refl) (b.queue q) in
+      let few = a.apart q holder in
+      omega (arith, same, few);
+  rising = λ c h ch e. a.rising c h ch (sym (is.channels c h) ∙ e);
+  before = λ c h ch e. a.before c h ch (sym (is.channels c h) ∙ e);
+  closed = λ c h ch e. a.closed c h ch (sym (is.channels c h) ∙ e);
+}
+
+-- ---- places
+
+-- two queues that stay don't come to one place
+pub places_apart : (old new : List Text) (places : List ℕ) (count : ℕ) → AreApart old → AreMoved old new places → count ≡ length new → ArePlacesApart places count
+places_apart old new places count apart moved most i j l m there same =
+    let len = moved.len in
+    one_place old i j apart (omega (arith, l, len)) (omega (arith, m, len)) (sym (at i l there) ∙ ap (λ (k : ℕ). get_or new k []) same ∙ at j m (omega (arith, there, same)))
+  where
+    at : (k : ℕ) → k < length places → place_now places k < count → get_or new (place_now places k) [] ≡ get_or old k []
+    at k lt there =
+        let len = moved.len in
+        let here = same_default places k 0 k lt in
+        elim (moved.each k (omega (arith, lt, len))) [
+          | stays within named ↦ ap (λ (n : ℕ). get_or new n []) (sym here) ∙ named
+          | goes gone behind ↦ absurd (omega (arith, behind, there, most, here))
+        ]
+
+-- A consumer that is there now was there, of the queue that stood at this place.
+pub record Was (old : Kept) (places : List ℕ) (place : ℕ) (p : Pick) : Type 0 where
+  pub from : ℕ
+  pub within : from < length places
+  pub now : place_now places from ≡ place
+  pub has : HasConsumer (topology_kept old) (broker_of old) from p
+
+-- who has a seat stands in the ring
+stands : (b : Broker) (lists : Lists) (queue : ℕ) (r : Seats) (p : Pick) → IsSeatedIn b lists queue r p → StandsIn r p
+stands b lists queue r p (inl up) = inl up
+stands b lists queue r p (inr s) = inr s.asleep
+
+module _ (old new : Kept) (places : List ℕ) (after : IsStoreWhole new.store) (placed : ArePlaced old) (moved : AreMoved (names_of old) (names_of new) places)
+    (stood : Is (with_all_stood (broker_of old)) (broker_of new)) where
+  was_at : (place : ℕ) (p : Pick) → HasConsumer (topology_kept new) (broker_of new) place p → Was old places place p
+  was_at place p has =
+      let there = sym (stood.channels p.connection p.channel) ∙ has.was.1 in
+      let its = seen_there (names_of old) (channel_of old.links p.connection p.channel) has.was.0 there in
+      let one = seen_of (consumer_in (names_of old)) has.consumer its.kept.given.consumers (subst (λ (ch : seen.Channel). IsIn has.consumer ch.consumers) (sym its.same) has.was.2) in
+      let from = one.one.queue in
+      let lt = takes_within (topology_kept old) one.one its.kept.given.consumers (placed p.connection p.channel its.kept its.there).consumers one.among in
+      let long = names-length (topology_kept old).queues in
+      let more = names-length (topology_kept new).queues in
+      let len = moved.len in
+      let within = has.within in
+      let named : get_or (names_of old) from [] ≡ has.consumer.queue = ap (λ (k : seen.Consumer). k.queue) one.is in
+      let at : get_or (names_of new) place [] ≡ get_or (names_of old) from [] = has.named ∙ sym named in
+      let stays_at : get_or places from 0 ≡ place =
+      elim (moved.each from (omega (arith, lt, long))) [
+        | stays inside is ↦ one_place (names_of new) (get_or places from 0) place after.formed.queues_apart inside (omega (arith, within, more)) (is ∙ sym at)
+        | goes gone behind ↦ absurd (gone (subst (λ (q : Text). IsIn q (names_of new)) at (is_in (names_of new) place (omega (arith, within, more)))))
+      ] in record {
+        from = from;
+        within = omega (arith, lt, long, len);
+        now = same_default places from from 0 (omega (arith, lt, long, len)) ∙ stays_at;
+        has = record { consumer = has.consumer; was = (has.was.0, there, has.was.2); numbered = has.numbered; within = lt; named = named };
+      }
+
+  -- each consumer has its seat, awake, in the ring of its queue
+  seated_moved : (before left : Rings) → AllHaveSeats (topology_kept old) (broker_of old) before → RingsAreMoved places before.rings left.rings → length left.rings ≡ length (topology_kept new).queues
+      → AllHaveSeats (topology_kept new) (broker_of new) left
+  seated_moved before left seated rings len place p has =
+      let was = was_at place p has in
+      let within = has.within in
+      let now = was.now in
+      inl (subst (λ (n : ℕ). IsAwake (ring_at left.rings n) p) was.now
+      (rings was.from was.within (omega (arith, within, now, len)) p (stands (broker_of old) before.lists was.from (ring_at before.rings was.from) p (seated was.from p was.has))))
+
+  pub serves_moved : (before left : Rings) → IsServing old before → RingsAreMoved places before.rings left.rings → ListsAreEmptied before.lists left.lists → length left.rings ≡ length (topology_kept new).queues → IsServing new left
+  serves_moved before left serving rings lists len =
+      serves new left
+      (record { agreed = agreed_stood (broker_of old) (broker_of new) stood serving.agreed; rings_for = len; seated = seated_moved before left serving.seated rings len })
+      (running_still (broker_of old) (broker_of new) before.lists left.lists (λ d none. sym (stood.connections d) ∙ none) lists.made serving.running)

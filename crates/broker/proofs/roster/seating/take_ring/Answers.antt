@@ -1,0 +1,14 @@
+use Rattle.std.proofs.Common.{◌∙◌, [], sym, subst}
+use Rattle.std.proofs.lemmas.List.{get_or-set_same}
+use Rattle.broker.specs.Roster.{Seats, IsAwake}
+use Rattle.broker.proofs.Moving.{marked_moved}
+use Rattle.broker.proofs.roster.seating.take_ring.Goals as goal
+
+pub returns-clause-roused : goal.returns-clause-roused
+returns-clause-roused c = λ p stands.
+    subst (λ (r : Seats). IsAwake r p) (sym (get_or-set_same c.args.rings.now c.args.place c.swap.new.x (record { seats = []; marks = [] }) c.requires.within ∙ c.swap.ensures.x_after)) (c.wake_all.ensures p stands)
+
+pub returns-clause-marked : goal.returns-clause-marked
+returns-clause-marked c =
+    marked_moved c.args.rings.now c.args.awake.now c.mark_ring.new.awake c.args.place c.swap.new.x c.requires.within c.mark_ring.ensures.len c.mark_ring.ensures.stay
+    (λ p up. c.mark_ring.ensures.here p (subst (λ (r : Seats). IsAwake r p) c.swap.ensures.x_after up)) c.requires.marked

@@ -1,0 +1,12 @@
+-- What stands against a reload, whoever may log in from then on (own).
+use Rattle.std.specs.Prelude.{List, Option}
+use Rattle.model.specs.Topology.{Topology}
+use Rattle.model.specs.Guarantee.{Guarantee}
+use Rattle.model.specs.Broker.{Broker}
+use Rattle.model.specs.declared.obstacles.Obstacle.{Obstacle}
+use Rattle.model.specs.declared.messages.User.{User}
+use Rattle.reloading.specs.Obstacles.{Judges}
+
+-- this stands against a reload from the old topology to the new one and these guarantees, or nothing does, whichever users come with them
+abbrev pub TellsObstacle : Topology → Broker → Topology → List Guarantee → Option Obstacle → Type 0
+TellsObstacle old b new gs o = (users : List User) → Judges old (record { topology = new; guarantees = gs; users = users }) b o
