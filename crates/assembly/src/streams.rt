@@ -1,6 +1,6 @@
 //! One connection's bytes, and the commands that they spell.
 
-ghost use Rattle.std.specs.Prelude.{◌≡◌, ◌≤◌, ◌<◌, ℕ, true, Some, None, Ok, Err, OnOk, OnErr, length};
+ghost use Rattle.std.specs.Prelude.{◌≡◌, ◌≤◌, ◌<◌, ℕ, [], true, Some, None, Ok, Err, OnOk, OnErr, length};
 ghost use Rattle.model.specs.Commands.{new_stream, running_stream, heard, with_max, keeping};
 ghost use Rattle.assembly.specs.Held.{stream_of};
 ghost use Rattle.assembly.specs.Onward.{YieldsNext, broken_by};
@@ -137,17 +137,19 @@ impl Stream {
     ///
     /// `None` where the bytes end before one does. A fault is [`Fault::Broken`], with its reply code, and stands there for
     /// good: each later call answers it, whatever was fed or set since. Where memory is refused, the same is still to come;
-    /// it is wanted only where there is something to read.
+    /// it is wanted only where there is something to read. Where all was read, the storage of a large content goes back.
     pub fn next(&mut self) -> Result<Option<Command>, Fault>
         ensures yields { YieldsNext (stream_of self.old) result (stream_of self.new) }
         ensures again { (code : ℕ) → self.old.fault ≡ Some code → (result ≡ Err (Broken code)) × (self.new ≡ self.old) }
         ensures keeps { self.new.fault ≡ broken_by result }
+        ensures room { self.old.fault ≡ None → (stream_of self.new).unread ≡ [] → self.new.room ≤ 4096 }
     {
         if let Some(code) = self.fault {
             return Err(Fault::Broken(code));
         }
         let next = self.read();
         self.fault = fault_in(&next);
+        self.unread.give_back(self.alloc);
         next
     }
 

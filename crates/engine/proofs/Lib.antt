@@ -6,6 +6,7 @@ pub mod Found
 pub mod Standing
 pub mod Changed
 pub mod Agreeing
+pub mod Putting
 pub mod Lifted
 pub mod Openings
 pub mod Tooks

@@ -8,12 +8,10 @@ use Rattle.engine.specs.Performing.{Rules, rules_of}
 use Rattle.model.specs.Step.{Acts}
 use Rattle.model.specs.Run.{Happening}
 use Rattle.model.specs.Headline.{IsSound}
-use Rattle.model.specs.Tracing.{AreSafe}
 use Rattle.model.specs.Arrivals.{Same, Waits, is_ended, is_over, is_paused, is_awake, is_gone, is_past_bound, Takes_off, Loses, with_heard}
 use Rattle.model.specs.declared.events.Event.{Event}
 use Rattle.model.specs.declared.events.Event.TheVariants as event
 use Rattle.model.specs.declared.notes.Note.{Note}
-use Rattle.laws.proofs.Keeping.{kept_are_safe}
 use Rattle.laws.proofs.Whole.{turn_keeps, turn_confirms}
 use Rattle.runs.specs.Opened.{Hears, TakesAway, IsLost}
 use Rattle.runs.proofs.Worlds.{waits_not}
@@ -52,9 +50,6 @@ becomes old new i l l' st r ch = record {
 
 pub sound : (p : Parts) → IsEngine p → IsSound (config_of p)
 sound p e = record { wf = e.formed; hold = e.hold }
-
-pub safe : (p : Parts) → IsEngine p → AreSafe (topology_kept p.broker) p.guarantees (broker_of p.broker)
-safe p e = kept_are_safe (config_of p) (broker_of p.broker) e.consistent.kept e.consistent.unmarked
 
 pub engine_with : (old new : Parts) → IsEngine old → Stays old new → AreLinks old.given new.links → Agrees (world_of new) → IsEngine new
 engine_with old new e st a k = record {

@@ -1,10 +1,12 @@
 //! The engine.
 
+mod putting;
+
 ghost use Rattle.std.specs.Prelude.{◌≡◌, ◌<◌, ℕ, length, true, IfOk, IsOk, OnErr, OnOk, MatchOption, vec_len, vec_capacity};
 ghost use Rattle.model.specs.Arrivals.{Same, Waits, new_world, is_over, is_awake};
 ghost use Rattle.model.specs.Consuming.{CanDeliver};
 ghost use Rattle.model.specs.Headline.{IsSound};
-ghost use Rattle.model.specs.Tracing.{AreKept, AreSafe};
+ghost use Rattle.model.specs.Tracing.{AreKept};
 ghost use Rattle.runs.specs.Opened.{Hears, Idles, TakesAway, IsLost};
 ghost use Rattle.engine.specs.World.{world_of};
 ghost use Rattle.engine.specs.Reading.{HasMore};
@@ -251,11 +253,10 @@ impl Engine {
         let _links = &self.links;
     }
 
-    /// Each message stands in a queue of the topology, and no guarantee forbids it that queue, or one to which it may still
-    /// come from there by deaths.
+    /// Each message stands in a queue of the topology, and no guarantee forbids it one to which it may still come from there by
+    /// deaths, nor, unless it stood when the last reload was done, the queue where it stands.
     pub fn is_safe(&self)
-        ensures kept { AreKept (world_of self.now).config (world_of self.now).state.broker }
-        ensures safe { AreSafe (world_of self.now).config.topology (world_of self.now).config.guarantees (world_of self.now).state.broker }
+        ensures { AreKept (world_of self.now).config (world_of self.now).state.broker }
     {
         // A look at a field, as above.
         let _links = &self.links;

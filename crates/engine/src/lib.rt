@@ -1,7 +1,8 @@
 //! The engine: bytes of connections in, bytes out.
 //!
 //! An [`Engine`] has the broker, and of each connection its session, its stream and its output. A turn performs the next
-//! command that a connection's bytes spell, and puts out what the broker sends. [`run`] does all that arrives.
+//! command that a connection's bytes spell, and puts out what the broker sends; what is in force may be changed between
+//! turns. [`run`] does all that arrives.
 #![tactic(auto)]
 
 mod connected;
@@ -11,8 +12,10 @@ mod machines;
 mod performing;
 mod pumping;
 mod reading;
+mod setups;
 mod turning;
 
 pub use engines::{Engine, Refused};
 pub use machines::run;
+pub use setups::Setup;
 pub use turning::Turn;

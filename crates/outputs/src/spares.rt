@@ -11,6 +11,10 @@ use std::marker::Model;
 /// How many bytes spell what one event sends, at most.
 const MOST_SENT: usize = 1_060_000;
 
+/// How many bytes the first storage of an output has. Behind the small answers of a round it has room for one event more, so that it
+/// does not move.
+const FIRST: usize = MOST_SENT + 65_536;
+
 /// So many storages are kept, as many as a round of deliveries may put out to; what is more is freed.
 const MOST_SPARE: usize = 256;
 
@@ -43,10 +47,11 @@ impl Spares {
     }
 
     /// Makes room in an output for all that one event sends. One without storage gets a spare one, or a new one where none is
-    /// spare. Where memory is refused there was less room than that.
+    /// spare, with room for 65,536 bytes beside. Where memory is refused there was less room than one event wants.
     pub fn make_room(&mut self, output: &mut Output) -> Result<(), AllocError>
         ensures bytes { output.new.bytes ≡ output.old.bytes }
         ensures ok { OnOk result (most_sent ≤ output.new.room) }
+        ensures first { output.old.storage ≡ 0 → self.old ≡ 0 → OnOk result (most_sent + 65536 ≤ output.new.room) }
         ensures kept { output.old.room ≤ output.new.room }
         ensures full { OnErr result (output.old.room < most_sent) }
         // a spare one is used before a new one is made
@@ -54,7 +59,8 @@ impl Spares {
         ensures rest { 0 < output.old.storage → self.new ≡ self.old }
     {
         self.furnish(output);
-        output.reserve(MOST_SENT)
+        let wanted = if output.has_none() { FIRST } else { MOST_SENT };
+        output.reserve(wanted)
     }
 
     /// Takes the storage of an output in which nothing waits. It is spare from now on, or freed where 256 are; of one in which something
@@ -81,6 +87,7 @@ impl Spares {
         ensures bytes { output.new.bytes ≡ output.old.bytes }
         ensures room { output.old.room ≤ output.new.room }
         ensures spent { output.old.storage ≡ 0 → 0 < self.old → self.old ≡ self.new + 1 }
+        ensures none { output.old.storage ≡ 0 → self.old ≡ 0 → output.new.storage ≡ 0 }
         ensures rest { 0 < output.old.storage → self.new ≡ self.old }
     {
         if !output.has_none() {

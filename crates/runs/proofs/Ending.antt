@@ -1,7 +1,7 @@
 -- What is written down at the end is what was seen.
 use Rattle.std.proofs.Common.{◌≡◌, ℕ, ◌+◌, ◌<◌, zero, suc, List, [], ◌∷◌, ◌++◌, Some, length, slice_get, refl, sym, ap, subst, ◌∙◌, arith}
 use Rattle.model.specs.State.{Config}
-use Rattle.model.specs.Run.{Happening}
+use Rattle.model.specs.History.{Occurrence}
 use Rattle.model.specs.Arrivals.{World, Seen, Shown, Shows, Plays, new_world, is_over}
 use Rattle.model.specs.Headline.{IsSound}
 use Rattle.model.specs.declared.events.Arrival.{Arrival}
@@ -19,8 +19,8 @@ element [] i lt = absurd (omega arith)
 element (s ∷ ss) zero lt = (s, refl, refl)
 element (s ∷ ss) (suc i) lt = element ss i (omega arith)
 
-shows_at_end : (hs : List Happening) (w : World) (s t : Seen) → Records hs w s → AreFinished w s.connections t.connections → t.notes ≡ s.notes → Shows hs w t
-shows_at_end hs w s t r f n = record {
+shows_at_end : (os : List Occurrence) (w : World) (s t : Seen) → Records os w s → AreFinished w s.connections t.connections → t.notes ≡ s.notes → Shows os w t
+shows_at_end os w s t r f n = record {
   noted = n ∙ r.noted;
   counted = f.counted ∙ r.counted;
   each = λ i lt.
@@ -28,17 +28,17 @@ shows_at_end hs w s t r f n = record {
       f.each i x.0 x.1 ∙ ap (λ (z : List ℕ). Some (record { output = z; is_over = is_over w (i + 1) })) (ap (λ (z : List ℕ). z ++ (w.wire (i + 1)).output) (sym x.2) ∙ r.each i);
 }
 
-pub is_run : (start last : World) (arrivals : List Arrival) (none s t : Seen) → IsSound start.config → start ≡ new_world start.config → none ≡ record { connections = []; notes = [] } → PlaysAndTells start arrivals none last s
+pub is_run : (start last : World) (arrivals : List (Arrival Config)) (none s t : Seen) → IsSound start.config → start ≡ new_world start.config → none ≡ record { connections = []; notes = [] } → PlaysAndTells start arrivals none last s
     → AreFinished last s.connections t.connections → t.notes ≡ s.notes → IsRunOf start.config arrivals last t
 is_run start last arrivals none s t sound fresh empty played f n =
-    let hs = played.0 in
-    let plays : Plays (new_world start.config) arrivals hs last = subst (λ (z : World). Plays z arrivals hs last) fresh played.1 in
-    let tells : TellsEvents (new_world start.config) (record { connections = []; notes = [] }) hs last s =
-    subst (λ (z : Seen). TellsEvents (new_world start.config) z hs last s) empty (subst (λ (z : World). TellsEvents z none hs last s) fresh played.2) in
-    let shows : Shows hs last t = shows_at_end hs last s t (tells.keeps [] (no_records start.config sound)) f n in
+    let os = played.0 in
+    let plays : Plays (new_world start.config) arrivals os last = subst (λ (z : World). Plays z arrivals os last) fresh played.2 in
+    let tells : TellsEvents (new_world start.config) (record { connections = []; notes = [] }) os last s =
+    subst (λ (z : Seen). TellsEvents (new_world start.config) z os last s) empty (subst (λ (z : World). TellsEvents z none os last s) fresh played.3) in
+    let shows : Shows os last t = shows_at_end os last s t (tells.keeps [] (no_records start.config sound)) f n in
     record {
-      happenings = hs;
+      occurrences = os;
       plays = plays;
       shows = shows;
-      promises = headline_holds start.config arrivals hs last t sound plays shows;
+      promises = headline_holds start.config arrivals os last t sound played.1 plays shows;
     }

@@ -1,19 +1,29 @@
 -- Turns, arrivals and lists of them, one after another.
-use Rattle.std.proofs.Common.{◌≡◌, ℕ, ◌+◌, ◌<◌, List, [], ◌∷◌, ◌++◌, Bool, true, false, length, get_or, drop, take, refl, sym, ap, subst, ◌∙◌, append_assoc, append-nil}
+use Rattle.std.proofs.Common.{◌≡◌, ℕ, List, [], ◌∷◌, ◌++◌, Bool, true, false, map, take, refl, sym, ap, subst, ◌∙◌, append_assoc, append-nil, inl, inr}
 use Rattle.std.specs.Prelude.{MatchBool, Some, None, Result, Ok, Err, OnOk}
-use Rattle.std.proofs.lemmas.List.{drop_more}
+use Rattle.std.proofs.lemmas.List.{map-append}
 use Rattle.model.specs.Opening.{new_session}
 use Rattle.model.specs.Phases.{running_session}
 use Rattle.model.specs.Run.{Happening}
-use Rattle.model.specs.Arrivals.{World, Seen, Turns, Works, none_more, one_more, Same, with_heard, is_over, is_gone, can_open, Loses, Takes_off, delivers, idles, Plays}
+use Rattle.model.specs.State.{Config}
+use Rattle.model.specs.Headline.{IsSound}
+use Rattle.model.specs.Reloading.{IsObstacle}
+use Rattle.model.specs.History.{Occurrence, Of_event, Of_reload, Reload}
+use Rattle.model.specs.Arrivals.{World, Seen, Turns, Works, none_more, one_more, Same, with_heard, is_over, is_gone, can_open, Loses, Takes_off, delivers, idles, Reloads, Plays}
 use Rattle.model.specs.declared.notes.Note.{Note}
+use Rattle.model.specs.declared.notes.Note.TheVariants.{Reloaded, ReloadRefused}
+use Rattle.model.specs.declared.obstacles.Obstacle.{Obstacle}
 use Rattle.model.specs.declared.events.Arrival.{Arrival}
 use Rattle.model.specs.declared.events.Arrival.TheVariants as arrival
+use Rattle.laws.specs.Reloading.{IsOffered}
+use Rattle.laws.proofs.Counts.{all-append}
 use Rattle.laws.proofs.Consistency.{opens_consistent, awaits_consistent}
 use Rattle.runs.specs.Told.{TellsEvents, gathered, with_opened}
 use Rattle.runs.specs.Opened.{OpensNew, OpensReady, Hears, Did, DidNothing, Idles, Pumped, TakesAway, IsLost}
+use Rattle.runs.specs.Reloaded.{IsPutInForce}
 use Rattle.runs.specs.Runs.{WorksAndTells, AnswersAndTells, PlaysAndTells}
-use Rattle.runs.proofs.Steps.{tells_then, tells_not, tells_same, tells_turns, tells_delivers, tells_waits, tells_heard, tells_takes, tells_loses, tells_opens}
+use Rattle.runs.proofs.Worlds.{world_same}
+use Rattle.runs.proofs.Steps.{tells_then, tells_same, tells_turns, tells_delivers, tells_waits, tells_heard, tells_takes, tells_loses, tells_opens, tells_reloads, tells_not}
 
 -- ---- tests
 
@@ -42,7 +52,7 @@ works_one c a b d hs ks w t = works_then c a b d hs ks w (one_more t none_more (
 
 -- what was performed and written down so far
 abbrev pub SoFar : World → ℕ → Seen → World → Seen → Type 0
-SoFar old c seen new after = (hs : List Happening) × Works c old hs new × TellsEvents old seen hs new after
+SoFar old c seen new after = (hs : List Happening) × Works c old hs new × TellsEvents old seen (map Of_event hs) new after
 
 pub so_far_not : (w : World) (c : ℕ) (s : Seen) → SoFar w c s w s
 so_far_not w c s = ([], none_more, tells_not w s)
@@ -51,14 +61,15 @@ pub so_far_more : (a b d : World) (c : ℕ) (s t u : Seen) (notes : List Note) �
 so_far_more a b d c s t u notes f did e = (
   f.0 ++ did.0,
   works_one c a b d f.0 did.0 f.1 did.2,
-  tells_then a b d s t u f.0 did.0 f.2 (subst (λ (z : Seen). TellsEvents b t did.0 d z) (sym e) (tells_turns b d c did.0 t notes did.1 did.2)),
+  subst (λ (z : List Occurrence). TellsEvents a s z d u) (sym (map-append Of_event f.0 did.0))
+      (tells_then a b d s t u (map Of_event f.0) (map Of_event did.0) f.2 (subst (λ (z : Seen). TellsEvents b t (map Of_event did.0) d z) (sym e) (tells_turns b d c did.0 t notes did.1 did.2))),
 )
 
 pub so_far_ends : (a b d : World) (c : ℕ) (s t : Seen) → SoFar a c s b t → DidNothing b c d → WorksAndTells a c s d t
 so_far_ends a b d c s t f nothing = (
   f.0,
   record { mid = b; works = f.1; rests = nothing.0; waits = nothing.1 },
-  subst (λ (z : List Happening). TellsEvents a s z d t) (append-nil f.0) (tells_then a b d s t t f.0 [] f.2 (tells_waits b d c t nothing.1)),
+  subst (λ (z : List Occurrence). TellsEvents a s z d t) (append-nil (map Of_event f.0)) (tells_then a b d s t t (map Of_event f.0) [] f.2 (tells_waits b d c t nothing.1)),
 )
 
 -- ---- arrivals
@@ -67,70 +78,117 @@ so_far_ends a b d c s t f nothing = (
 pub opens_new : (a b : World) (n : ℕ) (s t : Seen) → OpensNew a (Some n) b → t ≡ record s { connections = with_opened s.connections } → AnswersAndTells a arrival.Open s b t
 opens_new a b n s t o e =
     let by = o.2.1 in
-    (o.2.0, match_true (can_open a) _ _ o.0 by, subst (λ (z : Seen). TellsEvents a s o.2.0 b z) (sym e) (tells_opens a b _ _ new_session o.2.0 s by by.happens.stepped.steps.acts.noted (λ k. awaits_consistent a b _ o.2.0 k by) by.happens.stepped.steps.session))
+    (map Of_event o.2.0, tt, (o.2.0, refl, match_true (can_open a) _ _ o.0 by), subst (λ (z : Seen). TellsEvents a s (map Of_event o.2.0) b z) (sym e) (tells_opens a b _ _ new_session o.2.0 s by by.happens.stepped.steps.acts.noted (λ k. awaits_consistent a b _ o.2.0 k by) by.happens.stepped.steps.session))
 
 pub opens_new_not : (a b : World) (s : Seen) → OpensNew a None b → AnswersAndTells a arrival.Open s b s
-opens_new_not a b s o = ([], match_false (can_open a) _ _ o.0 (refl, o.1), tells_same a b s o.1)
+opens_new_not a b s o = ([], tt, ([], refl, match_false (can_open a) _ _ o.0 (refl, o.1)), tells_same a b s o.1)
 
 pub opens_ready : (a b : World) (k n : ℕ) (s t : Seen) → OpensReady a k (Some n) b → t ≡ record s { connections = with_opened s.connections } → AnswersAndTells a (arrival.Ready k) s b t
 opens_ready a b k n s t o e =
     let by = o.2.1 in
-    (o.2.0, match_true (can_open a) _ _ o.0 by, subst (λ (z : Seen). TellsEvents a s o.2.0 b z) (sym e) (tells_opens a b _ _ running_session o.2.0 s by by.happens.stepped.acts.noted (λ is. opens_consistent a b k _ o.2.0 is by) by.happens.stepped.session))
+    (map Of_event o.2.0, tt, (o.2.0, refl, match_true (can_open a) _ _ o.0 by), subst (λ (z : Seen). TellsEvents a s (map Of_event o.2.0) b z) (sym e) (tells_opens a b _ _ running_session o.2.0 s by by.happens.stepped.acts.noted (λ is. opens_consistent a b k _ o.2.0 is by) by.happens.stepped.session))
 
 pub opens_ready_not : (a b : World) (k : ℕ) (s : Seen) → OpensReady a k None b → AnswersAndTells a (arrival.Ready k) s b s
-opens_ready_not a b k s o = ([], match_false (can_open a) _ _ o.0 (refl, o.1), tells_same a b s o.1)
+opens_ready_not a b k s o = ([], tt, ([], refl, match_false (can_open a) _ _ o.0 (refl, o.1)), tells_same a b s o.1)
 
 pub hears : (a m b : World) (c : ℕ) (bytes : List ℕ) (s t : Seen) → is_over a c ≡ false → Hears a c bytes m → WorksAndTells m c s b t → AnswersAndTells a (arrival.In c bytes) s b t
 hears a m b c bytes s t e heard w =
     let is : m ≡ with_heard a c bytes = of_false (is_over a c) (Same a m) _ e heard in
     let works : WorksAndTells (with_heard a c bytes) c s b t = subst (λ (z : World). WorksAndTells z c s b t) is w in
-    (works.0, match_false (is_over a c) _ _ e works.1, tells_then a (with_heard a c bytes) b s s t [] works.0 (tells_heard a c bytes s) works.2)
+    (map Of_event works.0, tt, (works.0, refl, match_false (is_over a c) _ _ e works.1), tells_then a (with_heard a c bytes) b s s t [] (map Of_event works.0) (tells_heard a c bytes s) works.2)
 
 pub takes : (a m b : World) (c n : ℕ) (s t u : Seen) → is_gone a c ≡ false → t ≡ record s { connections = gathered s.connections c (take n (a.wire c).output) } → TakesAway a c n m → WorksAndTells m c t b u
     → AnswersAndTells a (arrival.Sent c n) s b u
 takes a m b c n s t u e gathers took w =
     let off : (hs : List Happening) × Takes_off a c n hs m = of_false (is_gone a c) (Same a m) _ e took in (
-      off.0 ++ w.0,
-      match_false (is_gone a c) _ _ e (record { first = off.0; rest = w.0; all = refl; mid = m; takes = off.1; works = w.1 }),
-      tells_then a m b s t u off.0 w.0 (subst (λ (z : Seen). TellsEvents a s off.0 m z) (sym gathers) (tells_takes a m c n off.0 s off.1)) w.2,
+      map Of_event (off.0 ++ w.0),
+      tt,
+      (off.0 ++ w.0, refl, match_false (is_gone a c) _ _ e (record { first = off.0; rest = w.0; all = refl; mid = m; takes = off.1; works = w.1 })),
+      subst (λ (z : List Occurrence). TellsEvents a s z b u) (sym (map-append Of_event off.0 w.0))
+          (tells_then a m b s t u (map Of_event off.0) (map Of_event w.0) (subst (λ (z : Seen). TellsEvents a s (map Of_event off.0) m z) (sym gathers) (tells_takes a m c n off.0 s off.1)) w.2),
     )
 
 pub loses : (a b : World) (c : ℕ) (s t : Seen) → is_gone a c ≡ false → t ≡ record s { connections = gathered s.connections c (a.wire c).output } → IsLost a c b → AnswersAndTells a (arrival.Lose c) s b t
 loses a b c s t e gathers lost =
     let loss : (hs : List Happening) × Loses a c hs b = of_false (is_gone a c) (Same a b) _ e lost in
-    (loss.0, match_false (is_gone a c) _ _ e loss.1, subst (λ (z : Seen). TellsEvents a s loss.0 b z) (sym gathers) (tells_loses a b c loss.0 s loss.1))
+    (map Of_event loss.0, tt, (loss.0, refl, match_false (is_gone a c) _ _ e loss.1), subst (λ (z : Seen). TellsEvents a s (map Of_event loss.0) b z) (sym gathers) (tells_loses a b c loss.0 s loss.1))
 
 -- a delivery was made, and what was noted is told
 pub pumps : (a b : World) (s t : Seen) (notes : List Note) → Pumped a notes b → t ≡ record s { notes = s.notes ++ notes } → AnswersAndTells a arrival.Pump s b t
-pumps a b s t notes (c, hs, noted, made) e = (hs, delivers made, subst (λ (z : Seen). TellsEvents a s hs b z) (sym e) (tells_delivers a b c hs s notes noted made))
+pumps a b s t notes (c, hs, noted, made) e = (map Of_event hs, tt, (hs, refl, delivers made), subst (λ (z : Seen). TellsEvents a s (map Of_event hs) b z) (sym e) (tells_delivers a b c hs s notes noted made))
 
 pub pumps_not : (a b : World) (s : Seen) → Idles a b → AnswersAndTells a arrival.Pump s b s
-pumps_not a b s i = ([], idles i.0 (refl, i.1), tells_same a b s i.1)
+pumps_not a b s i = ([], tt, ([], refl, idles i.0 (refl, i.1)), tells_same a b s i.1)
+
+-- a reload between these worlds
+abbrev reload_of : World → Config → World → List Note → Config → Reload
+reload_of a offered b notes in_force = record { config = a.config; offered = offered; before = a.state; notes = notes; after = b.state; in_force = in_force }
+
+-- what was offered is in force, and that is noted
+pub reloads_done : (a b : World) (offered : Config) (s t : Seen) → IsSound offered → IsPutInForce a offered b → t ≡ record s { notes = s.notes ++ Reloaded ∷ [] } → AnswersAndTells a (arrival.Reload offered) s b t
+reloads_done a b offered s t sound p e = (
+  Of_reload (reload_of a offered b (Reloaded ∷ []) b.config) ∷ [],
+  sound,
+  done,
+  subst (λ (z : Seen). TellsEvents a s (Of_reload (reload_of a offered b (Reloaded ∷ []) b.config) ∷ []) b z) (sym e) (tells_reloads a b offered _ s (Reloaded ∷ []) sound refl done),
+)
+  where
+    done : Reloads a offered (Of_reload (reload_of a offered b (Reloaded ∷ []) b.config) ∷ []) b
+    done = record {
+      r = reload_of a offered b (Reloaded ∷ []) b.config;
+      all = refl;
+      under = refl;
+      offers = refl;
+      before = refl;
+      after = refl;
+      in_force = refl;
+      decided = inl (record { nothing = p.nothing; noted = refl; in_force = p.config; broker = p.broker; session = p.session });
+      given = p.given;
+      wires = p.wires;
+    }
+
+-- something stands against it, which is noted, and nothing is different
+pub reloads_refused : (a b : World) (offered : Config) (o : Obstacle) (s t : Seen) → IsSound offered → IsObstacle a.config.topology offered a.state.broker o → Same a b → t ≡ record s { notes = s.notes ++ ReloadRefused o ∷ [] }
+    → AnswersAndTells a (arrival.Reload offered) s b t
+reloads_refused a b offered o s t sound stands same e = (
+  Of_reload (reload_of a offered b (ReloadRefused o ∷ []) b.config) ∷ [],
+  sound,
+  refused,
+  subst (λ (z : Seen). TellsEvents a s (Of_reload (reload_of a offered b (ReloadRefused o ∷ []) b.config) ∷ []) b z) (sym e) (tells_reloads a b offered _ s (ReloadRefused o ∷ []) sound refl refused),
+)
+  where
+    refused : Reloads a offered (Of_reload (reload_of a offered b (ReloadRefused o ∷ []) b.config) ∷ []) b
+    refused = record {
+      r = reload_of a offered b (ReloadRefused o ∷ []) b.config;
+      all = refl;
+      under = refl;
+      offers = refl;
+      before = refl;
+      after = refl;
+      in_force = refl;
+      decided = inr (record { obstacle = o; stands = stands; noted = refl; in_force = same.config; after = same.state });
+      given = same.given;
+      wires = same.wires;
+    }
 
 -- ---- lists of arrivals
 
--- what was played so far, if what is left is played from here
-pub record Played (start : World) (s0 : Seen) (arrivals : List Arrival) (now : World) (seen : Seen) (left : List Arrival) : Type 0 where
-  pub done : List Happening
-  pub tells : TellsEvents start s0 done now seen
-  pub goes_on : (rest : List Happening) (w : World) → Plays now left rest w → Plays start arrivals (done ++ rest) w
+plays-append : (old mid new : World) (as' bs : List (Arrival Config)) (os ps : List Occurrence) → Plays old as' os mid → Plays mid bs ps new → Plays old (as' ++ bs) (os ++ ps) new
+plays-append old mid new [] bs os ps p q = subst (λ (z : List Occurrence). Plays old bs (z ++ ps) new) (sym p.0) (subst (λ (w : World). Plays w bs ps new) (world_same old mid p.1) q)
+plays-append old mid new (a ∷ as') bs os ps (between, first, rest, e, brings, p) q =
+    (between, first, rest ++ ps, ap (λ (z : List Occurrence). z ++ ps) e ∙ append_assoc first rest ps, brings, plays-append between mid new as' bs rest ps p q)
 
-pub played_more : (start now next : World) (s0 s t : Seen) (arrivals : List Arrival) (i : ℕ) (a : Arrival) → i < length arrivals → a ≡ get_or arrivals i a
-    → Played start s0 arrivals now s (drop i arrivals) → AnswersAndTells now a s next t → Played start s0 arrivals next t (drop (i + 1) arrivals)
-played_more start now next s0 s t arrivals i a lt at p answers =
-    let here : drop i arrivals ≡ a ∷ drop (i + 1) arrivals = drop_more arrivals i a lt ∙ ap (λ (x : Arrival). x ∷ drop (i + 1) arrivals) (sym at) in
-    record {
-      done = p.done ++ answers.0;
-      tells = tells_then start now next s0 s t p.done answers.0 p.tells answers.2;
-      goes_on = λ rest w plays.
-          subst (λ (z : List Happening). Plays start arrivals z w) (sym (append_assoc p.done answers.0 rest))
-          (p.goes_on (answers.0 ++ rest) w (subst (λ (z : List Arrival). Plays now z (answers.0 ++ rest) w) (sym here) (next, answers.0, rest, refl, answers.1, plays)));
-    }
+itself : (w : World) → Same w w
+itself w = record { config = refl; state = refl; given = refl; wires = λ c. refl }
 
-pub played_all : (start now : World) (s0 s : Seen) (arrivals left : List Arrival) → left ≡ [] → Played start s0 arrivals now s left → PlaysAndTells start arrivals s0 now s
-played_all start now s0 s arrivals left e p = (
-  p.done,
-  subst (λ (z : List Happening). Plays start arrivals z now) (append-nil p.done)
-      (p.goes_on [] now (subst (λ (z : List Arrival). Plays now z [] now) (sym e) (refl, record { config = refl; state = refl; given = refl; wires = λ d. refl }))),
-  p.tells,
+-- one arrival behind others
+pub plays_more : (old mid new : World) (as' : List (Arrival Config)) (a : Arrival Config) (s t u : Seen) → PlaysAndTells old as' s mid t → AnswersAndTells mid a t new u → PlaysAndTells old (as' ++ a ∷ []) s new u
+plays_more old mid new as' a s t u p q = (
+  p.0 ++ q.0,
+  all-append IsOffered as' (a ∷ []) p.1 (q.1, tt),
+  plays-append old mid new as' (a ∷ []) p.0 q.0 p.2 (new, q.0, [], sym (append-nil q.0), q.2, (refl, itself new)),
+  tells_then old mid new s t u p.0 q.0 p.3 q.3,
 )
+
+pub plays_none : (w : World) (s : Seen) → PlaysAndTells w [] s w s
+plays_none w s = ([], tt, (refl, itself w), tells_not w s)

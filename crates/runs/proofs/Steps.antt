@@ -1,5 +1,5 @@
 -- What each happening adds to what is written down.
-use Rattle.std.proofs.Common.{◌≡◌, ◌≢◌, ℕ, ◌+◌, ◌-◌, ◌≤◌, List, [], ◌∷◌, ◌++◌, Bool, true, false, cond, not, eqb, length, take, drop, refl, sym, ap, subst, ◌∙◌, arith, append-nil, append_assoc, eq-eqb, ne_eqb}
+use Rattle.std.proofs.Common.{◌≡◌, ◌≢◌, ℕ, ◌+◌, ◌-◌, ◌≤◌, List, [], ◌∷◌, ◌++◌, Bool, true, false, cond, not, eqb, length, map, take, drop, refl, sym, ap, subst, ◌∙◌, arith, append-nil, append_assoc, eq-eqb, ne_eqb, inl, inr}
 use Rattle.std.specs.Prelude.{◌&&◌, is_some}
 use Rattle.std.specs.List.{AllByRecursion}
 use Rattle.std.proofs.lemmas.Bool.{eqb-true, eqb-false, false≢true}
@@ -8,11 +8,15 @@ use Rattle.model.specs.State.{Config, State}
 use Rattle.model.specs.Phases.{Session, no_session, is_running}
 use Rattle.model.specs.Broker.{with_one}
 use Rattle.model.specs.Run.{Happening, notes_of, put_out}
+use Rattle.model.specs.History.{Occurrence, Of_event, events_of, noted_at, notes_over}
 use Rattle.model.specs.Spelling.{receiver, sends_to, spelling}
 use Rattle.model.specs.Commands.{Stream}
-use Rattle.model.specs.Arrivals.{World, Wire, Shown, Seen, is_over, is_paused, is_ended, Pauses, Happens, Puts, Turns, Waits, Same, with_heard, Takes_off, Opens, Delivers, delivers, Loses}
+use Rattle.model.specs.Arrivals.{World, Wire, Shown, Seen, is_over, is_paused, is_ended, Pauses, Happens, Puts, Turns, Waits, Same, with_heard, Takes_off, Opens, Delivers, delivers, Loses, Reloads}
 use Rattle.model.specs.Consistent.{IsConsistent}
-use Rattle.laws.proofs.Consistency.{consistent_same, turns_consistent, takes_consistent, pumps_consistent, loses_consistent}
+use Rattle.model.specs.Headline.{IsSound}
+use Rattle.laws.proofs.Consistency.{consistent_same, turns_consistent, takes_consistent, pumps_consistent, loses_consistent, reloads_consistent}
+use Rattle.laws.proofs.Histories.{events-append, events-mapped}
+use Rattle.laws.proofs.Reloading.{all_marked, state_left}
 use Rattle.model.specs.declared.notes.Note.{Note}
 use Rattle.model.specs.declared.events.Phase.{Phase}
 use Rattle.model.specs.declared.events.Phase.TheVariants as phase
@@ -23,21 +27,26 @@ use Rattle.runs.specs.Told.{taken_at, gathered, with_opened, AreUnopened, Record
 use Rattle.runs.proofs.Worlds.{world_same}
 use Rattle.runs.proofs.Places.{with_here, with_other, length-gathered, taken_here, taken_other, taken_opened, take_nothing, drop_nothing, take_and_drop}
 
-notes-append : (hs ks : List Happening) → notes_of (hs ++ ks) ≡ notes_of hs ++ notes_of ks
-notes-append hs ks = flat_map-append (λ (h : Happening). h.notes) hs ks
+notes-append : (os ps : List Occurrence) → notes_over (os ++ ps) ≡ notes_over os ++ notes_over ps
+notes-append [] ps = refl
+notes-append (o ∷ os) ps = ap (λ (ns : List Note). noted_at o ++ ns) (notes-append os ps) ∙ sym (append_assoc (noted_at o) (notes_over os) (notes_over ps))
+
+notes-mapped : (hs : List Happening) → notes_over (map Of_event hs) ≡ notes_of hs
+notes-mapped [] = refl
+notes-mapped (h ∷ hs) = ap (λ (ns : List Note). h.notes ++ ns) (notes-mapped hs)
 
 put_out-append : (c : ℕ) (hs ks : List Happening) → put_out c (hs ++ ks) ≡ put_out c hs ++ put_out c ks
 put_out-append c hs ks = flat_map-append (λ (h : Happening). spelling h.frame_max (sends_to c h.sends)) hs ks
 
 -- ---- Tells
 
-pub tells_then : (a b d : World) (s t u : Seen) (hs ks : List Happening) → TellsEvents a s hs b t → TellsEvents b t ks d u → TellsEvents a s (hs ++ ks) d u
-tells_then a b d s t u hs ks p q = record {
-  keeps = λ done r. subst (λ (z : List Happening). Records z d u) (append_assoc done hs ks) (q.keeps (done ++ hs) (p.keeps done r));
+pub tells_then : (a b d : World) (s t u : Seen) (os ps : List Occurrence) → TellsEvents a s os b t → TellsEvents b t ps d u → TellsEvents a s (os ++ ps) d u
+tells_then a b d s t u os ps p q = record {
+  keeps = λ done r. subst (λ (z : List Occurrence). Records z d u) (append_assoc done os ps) (q.keeps (done ++ os) (p.keeps done r));
 }
 
 pub tells_not : (a : World) (s : Seen) → TellsEvents a s [] a s
-tells_not a s = record { keeps = λ done r. subst (λ (z : List Happening). Records z a s) (sym (append-nil done)) r }
+tells_not a s = record { keeps = λ done r. subst (λ (z : List Occurrence). Records z a s) (sym (append-nil done)) r }
 
 tells_by : (old new : World) (seen after : Seen) (hs : List Happening)
     → after.notes ≡ seen.notes ++ notes_of hs
@@ -46,12 +55,16 @@ tells_by : (old new : World) (seen after : Seen) (hs : List Happening)
     → (IsConsistent old → AreUnopened old → AreUnopened new)
     → ((i : ℕ) → length seen.connections ≡ old.given → AreUnopened old
     → taken_at after.connections i ++ (new.wire (i + 1)).output ≡ (taken_at seen.connections i ++ (old.wire (i + 1)).output) ++ put_out (i + 1) hs)
-    → TellsEvents old seen hs new after
+    → TellsEvents old seen (map Of_event hs) new after
 tells_by old new seen after hs noted counted consistent unopened local = record {
   keeps = λ done r. record {
-    noted = noted ∙ ap (λ (z : List Note). z ++ notes_of hs) r.noted ∙ sym (notes-append done hs);
+    noted = noted ∙ ap (λ (z : List Note). z ++ notes_of hs) r.noted ∙ ap (λ (z : List Note). notes_over done ++ z) (sym (notes-mapped hs)) ∙ sym (notes-append done (map Of_event hs));
     counted = counted r.counted;
-    each = λ i. local i r.counted r.unopened ∙ ap (λ (z : List ℕ). z ++ put_out (i + 1) hs) (r.each i) ∙ sym (put_out-append (i + 1) done hs);
+    each = λ i.
+        local i r.counted r.unopened
+        ∙ ap (λ (z : List ℕ). z ++ put_out (i + 1) hs) (r.each i)
+        ∙ sym (put_out-append (i + 1) (events_of done) hs)
+        ∙ ap (put_out (i + 1)) (sym (events-append done (map Of_event hs) ∙ ap (λ (z : List Happening). events_of done ++ z) (events-mapped hs)));
     unopened = unopened r.consistent r.unopened;
     consistent = consistent r.consistent;
   };
@@ -136,7 +149,7 @@ awake_apart false paused e o = false≢true o
 pub turns_apart : (a b : World) (c : ℕ) (hs : List Happening) (d : ℕ) → Turns a c hs b → is_over a d ≡ true → d ≢ c
 turns_apart a b c hs d t over e = awake_apart (is_over a c) (is_paused a c) t.awake (ap (is_over a) (sym e) ∙ over)
 
-pub tells_turns : (a b : World) (c : ℕ) (hs : List Happening) (s : Seen) (notes : List Note) → notes ≡ notes_of hs → Turns a c hs b → TellsEvents a s hs b (record s { notes = s.notes ++ notes })
+pub tells_turns : (a b : World) (c : ℕ) (hs : List Happening) (s : Seen) (notes : List Note) → notes ≡ notes_of hs → Turns a c hs b → TellsEvents a s (map Of_event hs) b (record s { notes = s.notes ++ notes })
 tells_turns a b c hs s notes noted t =
     tells_by a b s (record s { notes = s.notes ++ notes }) hs
     (ap (λ (z : List Note). s.notes ++ z) noted)
@@ -164,7 +177,7 @@ runs_apart b phase.Over is e over = false≢true (sym is ∙ e)
 pub delivers_apart : (a b : World) (c : ℕ) (hs : List Happening) (d : ℕ) → IsConsistent a → Delivers a c hs b → is_over a d ≡ true → d ≢ c
 delivers_apart a b c hs d k v over e = runs_apart _ (a.state.session c).phase (k.running c) (ap is_some v.puts.happens.stepped.acts.made.taker.runs) (ap (is_over a) (sym e) ∙ over)
 
-pub tells_delivers : (a b : World) (c : ℕ) (hs : List Happening) (s : Seen) (notes : List Note) → notes ≡ notes_of hs → Delivers a c hs b → TellsEvents a s hs b (record s { notes = s.notes ++ notes })
+pub tells_delivers : (a b : World) (c : ℕ) (hs : List Happening) (s : Seen) (notes : List Note) → notes ≡ notes_of hs → Delivers a c hs b → TellsEvents a s (map Of_event hs) b (record s { notes = s.notes ++ notes })
 tells_delivers a b c hs s notes noted v =
     tells_by a b s (record s { notes = s.notes ++ notes }) hs
     (ap (λ (z : List Note). s.notes ++ z) noted)
@@ -241,7 +254,7 @@ unopened_still a b c given here over there others none i le = go (eqb (i + 1) c)
         (ap (λ (n : ℕ). (b.wire n).output) e ∙ here (ap (λ (n : ℕ). (a.wire n).output) (sym e) ∙ was.0), ap (is_over b) e ∙ over (ap (is_over a) (sym e) ∙ was.1))
     go false q = let ne : i + 1 ≢ c = eqb-false (i + 1) c q in (there (i + 1) ne ∙ was.0, others (i + 1) ne ∙ was.1)
 
-pub tells_takes : (a b : World) (c n : ℕ) (hs : List Happening) (s : Seen) → Takes_off a c n hs b → TellsEvents a s hs b (record s { connections = gathered s.connections c (take n (a.wire c).output) })
+pub tells_takes : (a b : World) (c n : ℕ) (hs : List Happening) (s : Seen) → Takes_off a c n hs b → TellsEvents a s (map Of_event hs) b (record s { connections = gathered s.connections c (take n (a.wire c).output) })
 tells_takes a b c n hs s t =
     let out = (a.wire c).output in
     let after = settled a.config a.state b.state c _ _ hs t.pauses in
@@ -255,7 +268,7 @@ tells_takes a b c n hs s t =
     (λ k. unopened_still a b c t.given (λ e. here ∙ drop_nothing n out e) (λ e. over c ∙ e) there (λ d ne. over d))
     (gathered_each a b c (take n out) (drop n out) s.connections hs after.quiet (take_and_drop n out) (take_nothing n out) here there)
 
-pub tells_loses : (a b : World) (c : ℕ) (hs : List Happening) (s : Seen) → Loses a c hs b → TellsEvents a s hs b (record s { connections = gathered s.connections c (a.wire c).output })
+pub tells_loses : (a b : World) (c : ℕ) (hs : List Happening) (s : Seen) → Loses a c hs b → TellsEvents a s (map Of_event hs) b (record s { connections = gathered s.connections c (a.wire c).output })
 tells_loses a b c hs s l =
     let out = (a.wire c).output in
     let quiet : IsQuiet hs = quiet_one l.h hs l.all l.happens.stepped.acts.noted l.silent in
@@ -272,7 +285,7 @@ tells_loses a b c hs s l =
 
 -- an opening by an event that notes nothing, after which the new connection is in this session
 pub tells_opens : (a b : World) (e : Event) (st : Stream) (after : Session) (hs : List Happening) (s : Seen) (o : Opens a e st hs b) → o.h.notes ≡ [] → (IsConsistent a → IsConsistent b) → ((d : ℕ) → b.state.session d ≡ with_one a.state.session (a.given + 1) after d)
-    → TellsEvents a s hs b (record s { connections = with_opened s.connections })
+    → TellsEvents a s (map Of_event hs) b (record s { connections = with_opened s.connections })
 tells_opens a b e st after hs s o noted consistent sessions =
     let quiet : IsQuiet hs = quiet_one o.h hs o.all noted o.silent in
     let here : (b.wire (a.given + 1)).output ≡ [] = ap (λ (w : Wire). w.output) (o.wires (a.given + 1) ∙ with_here a.wire (a.given + 1) (a.given + 1) _ refl) in
@@ -298,3 +311,28 @@ tells_opens a b e st after hs s o noted consistent sessions =
         let le : a.given ≤ i = omega arith in
         ap (λ (n : ℕ). (b.wire n).output) e ∙ here ∙ sym (none i le).0
     go i none false q here there = there (i + 1) (eqb-false (i + 1) (a.given + 1) q)
+
+-- ---- a reload
+
+-- it changes no session
+reloads_sessions : (a b : World) (offered : Config) (os : List Occurrence) → Reloads a offered os b → (c : ℕ) → b.state.session c ≡ a.state.session c
+reloads_sessions a b offered os p c = elim (state_left p.r p.decided) [
+  | inl e ↦ ap (λ (z : State). z.session c) (sym p.after ∙ e ∙ ap all_marked p.before)
+  | inr e ↦ ap (λ (z : State). z.session c) (sym p.after ∙ e ∙ p.before)
+]
+
+-- what is noted at it is told, and nothing is put out
+pub tells_reloads : (a b : World) (offered : Config) (os : List Occurrence) (s : Seen) (notes : List Note) → IsSound offered → notes ≡ notes_over os → Reloads a offered os b → TellsEvents a s os b (record s { notes = s.notes ++ notes })
+tells_reloads a b offered os s notes sound noted p = record {
+  keeps = λ done r. record {
+    noted = ap (λ (z : List Note). s.notes ++ z) noted ∙ ap (λ (z : List Note). z ++ notes_over os) r.noted ∙ sym (notes-append done os);
+    counted = r.counted ∙ sym p.given;
+    each = λ i.
+        ap (λ (w : Wire). taken_at s.connections i ++ w.output) (p.wires (i + 1)) ∙ r.each i
+        ∙ ap (put_out (i + 1)) (sym (events-append done os ∙ ap (λ (z : List Occurrence). events_of done ++ events_of z) p.all ∙ append-nil (events_of done)));
+    unopened = λ i le.
+        let was = r.unopened i (subst (λ (n : ℕ). n ≤ i) p.given le) in
+        (ap (λ (w : Wire). w.output) (p.wires (i + 1)) ∙ was.0, ap (λ (z : Session). is_ended z.phase) (reloads_sessions a b offered os p (i + 1)) ∙ was.1);
+    consistent = reloads_consistent a b offered os sound r.consistent p;
+  };
+}

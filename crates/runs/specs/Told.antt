@@ -1,6 +1,7 @@
 -- What is written down of a run while it goes on.
 use Rattle.std.specs.Prelude.{◌≡◌, ◌+◌, ◌-◌, ◌≤◌, ℕ, zero, suc, List, [], ◌∷◌, ◌++◌, length, true, false, ◌==◌, if◌then◌else◌, Some, slice_get, unwrap_or}
-use Rattle.model.specs.Run.{Happening, notes_of, put_out}
+use Rattle.model.specs.Run.{put_out}
+use Rattle.model.specs.History.{Occurrence, events_of, notes_over}
 use Rattle.model.specs.Arrivals.{World, Shown, Seen, is_over}
 use Rattle.model.specs.Consistent.{IsConsistent}
 
@@ -41,16 +42,16 @@ abbrev pub AreUnopened : World → Type 0
 AreUnopened w = (i : ℕ) → w.given ≤ i → ((w.wire (i + 1)).output ≡ []) × (is_over w (i + 1) ≡ true)
 
 -- The notes are those of what happened, and of each connection what was taken and what waits is what was put out; and the world keeps what every world keeps.
-pub record Records (hs : List Happening) (w : World) (seen : Seen) : Type 0 where
-  pub noted : seen.notes ≡ notes_of hs
+pub record Records (os : List Occurrence) (w : World) (seen : Seen) : Type 0 where
+  pub noted : seen.notes ≡ notes_over os
   pub counted : length seen.connections ≡ w.given
-  pub each : (i : ℕ) → taken_at seen.connections i ++ (w.wire (i + 1)).output ≡ put_out (i + 1) hs
+  pub each : (i : ℕ) → taken_at seen.connections i ++ (w.wire (i + 1)).output ≡ put_out (i + 1) (events_of os)
   pub unopened : AreUnopened w
   pub consistent : IsConsistent w
 
 -- What happened is written down behind what was written down before.
-pub record TellsEvents (old : World) (seen : Seen) (hs : List Happening) (new : World) (after : Seen) : Type 0 where
-  pub keeps : (done : List Happening) → Records done old seen → Records (done ++ hs) new after
+pub record TellsEvents (old : World) (seen : Seen) (os : List Occurrence) (new : World) (after : Seen) : Type 0 where
+  pub keeps : (done : List Occurrence) → Records done old seen → Records (done ++ os) new after
 
 -- ---- the end
 

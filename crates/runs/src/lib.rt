@@ -5,6 +5,6 @@ mod machine;
 mod runs;
 mod transcript;
 
-pub use machine::Machine;
+pub use machine::{Machine, ReloadFault};
 pub use runs::run_over;
 pub use transcript::{Shown, Transcript};

@@ -1,23 +1,23 @@
 //! A run: arrivals one after another, and what they bring.
 
-ghost use Rattle.std.specs.Prelude.{◌≡◌, IfOk, OnOk, length, take};
-ghost use Rattle.model.specs.Arrivals.{new_world, is_gone};
+ghost use Rattle.std.specs.Prelude.{◌≡◌, IfOk, OnOk, length, map, take};
+ghost use Rattle.model.specs.Arrivals.{new_world, is_gone, told};
 ghost use Rattle.model.specs.declared.events.Arrival.TheVariants as arrival;
 ghost use Rattle.runs.specs.Runs.{WorksAndTells, AnswersAndTells, PlaysAndTells, IsRunOf};
 
-use crate::machine::Machine;
+use crate::machine::{Machine, ReloadFault};
 use crate::transcript::Transcript;
-use model::Arrival;
+use model::{Arrival, Note};
 use std::alloc::{AllocError, Global};
 
 /// All that arrives at a machine with no connection, in order, each with the commands that it brings.
 pub fn run_over<M: Machine>(
     alloc: Global,
     machine: &mut M,
-    arrivals: &[Arrival],
+    arrivals: Vec<Arrival<M::Setup>>,
 ) -> Result<Transcript, AllocError>
     requires { M.world machine.old ≡ new_world (M.world machine.old).config }
-    ensures { IfOk result (λ t. IsRunOf (M.world machine.old).config arrivals.now (M.world machine.new) t) }
+    ensures { IfOk result (λ t. IsRunOf (M.world machine.old).config (map (told M.config) arrivals.items) (M.world machine.new) t) }
 {
     machine.is_sound();
     let mut transcript = Transcript::new(alloc);
@@ -29,10 +29,10 @@ pub fn run_over<M: Machine>(
 fn play<M: Machine>(
     alloc: Global,
     machine: &mut M,
-    arrivals: &[Arrival],
+    arrivals: Vec<Arrival<M::Setup>>,
     transcript: &mut Transcript,
 ) -> Result<(), AllocError>
-    ensures { OnOk result (PlaysAndTells (M.world machine.old) arrivals.now transcript.old (M.world machine.new) transcript.new) }
+    ensures { OnOk result (PlaysAndTells (M.world machine.old) (map (told M.config) arrivals.items) transcript.old (M.world machine.new) transcript.new) }
 {
     for arrival in arrivals {
         arrive(alloc, machine, arrival, transcript)?;
@@ -44,18 +44,19 @@ fn play<M: Machine>(
 fn arrive<M: Machine>(
     alloc: Global,
     machine: &mut M,
-    arrival: &Arrival,
+    arrival: Arrival<M::Setup>,
     transcript: &mut Transcript,
 ) -> Result<(), AllocError>
-    ensures { OnOk result (AnswersAndTells (M.world machine.old) arrival.now transcript.old (M.world machine.new) transcript.new) }
+    ensures { OnOk result (AnswersAndTells (M.world machine.old) (told M.config arrival) transcript.old (M.world machine.new) transcript.new) }
 {
     match arrival {
         Arrival::Open => open(alloc, machine, transcript),
-        Arrival::Ready(k) => open_ready(alloc, machine, *k, transcript),
-        Arrival::In(c, bytes) => hear(alloc, machine, *c, bytes.as_bytes(), transcript),
-        Arrival::Sent(c, n) => take(alloc, machine, *c, *n, transcript),
+        Arrival::Ready(k) => open_ready(alloc, machine, k, transcript),
+        Arrival::In(c, bytes) => hear(alloc, machine, c, bytes.as_bytes(), transcript),
+        Arrival::Sent(c, n) => take(alloc, machine, c, n, transcript),
         Arrival::Pump => pump(alloc, machine, transcript),
-        Arrival::Lose(c) => lose(machine, *c, transcript),
+        Arrival::Lose(c) => lose(machine, c, transcript),
+        Arrival::Reload(setup) => reload(alloc, machine, setup, transcript),
     }
 }
 
@@ -147,6 +148,25 @@ fn lose<M: Machine>(machine: &mut M, c: u64, transcript: &mut Transcript) -> Res
     transcript.gather(c, machine.output(c))?;
     machine.lose(c);
     Ok(())
+}
+
+/// What is in force is to be this from now on: it is, or what stands against it is noted.
+fn reload<M: Machine>(
+    alloc: Global,
+    machine: &mut M,
+    setup: M::Setup,
+    transcript: &mut Transcript,
+) -> Result<(), AllocError>
+    ensures { OnOk result (AnswersAndTells (M.world machine.old) (arrival.Reload (M.config setup)) transcript.old (M.world machine.new) transcript.new) }
+{
+    M::offers_sound(&setup);
+    match machine.reload(alloc, setup) {
+        Ok(()) => transcript.note(vec![in alloc; Note::Reloaded]?),
+        Err(ReloadFault::Stands(obstacle)) => {
+            transcript.note(vec![in alloc; Note::ReloadRefused(obstacle)]?)
+        }
+        Err(ReloadFault::Memory) => Err(AllocError),
+    }
 }
 
 /// Turns of a connection, until it is idle, paused or over.

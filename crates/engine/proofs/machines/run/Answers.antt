@@ -6,4 +6,4 @@ use Rattle.engine.proofs.machines.run.Goals as goal
 
 pub returns : goal.returns
 returns c =
-    ok_map c.run_over.result _ _ (λ t run. certified (in_force c.args.checked c.args.users.items) (world_of c.in_ok-engine.engine) (world_of c.run_over.new.machine) c.args.arrivals.now t c.in_ok-engine.ensures run) c.run_over.ensures
+    ok_map c.run_over.result _ _ (λ t run. certified (in_force c.args.checked c.args.users.items) (world_of c.in_ok-engine.engine) (world_of c.run_over.new.machine) c.args.arrivals.items t c.in_ok-engine.ensures run) c.run_over.ensures

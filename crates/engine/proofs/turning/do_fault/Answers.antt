@@ -1,4 +1,4 @@
-use Rattle.std.proofs.Common.{ℕ, refl, ap, ◌∙◌}
+use Rattle.std.proofs.Common.{refl}
 use Rattle.engine.proofs.turning.do_fault.Goals as goal
 
 pub returns-in-Ok : goal.returns-in-Ok

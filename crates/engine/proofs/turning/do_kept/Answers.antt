@@ -1,4 +1,4 @@
-use Rattle.std.proofs.Common.{ℕ, refl, ap, ◌∙◌}
+use Rattle.std.proofs.Common.{refl}
 use Rattle.engine.proofs.Turned.{performed_is}
 use Rattle.engine.proofs.turning.do_kept.Goals as goal
 

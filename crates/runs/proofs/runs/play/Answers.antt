@@ -1,16 +1,22 @@
-use Rattle.std.proofs.lemmas.List.{drop_all}
-use Rattle.runs.proofs.Onward.{played_more, played_all}
+use Rattle.std.proofs.Common.{map, [], ◌∷◌, sym, subst, List}
+use Rattle.std.proofs.lemmas.List.{map-append}
+use Rattle.model.specs.State.{Config}
+use Rattle.model.specs.Arrivals.{told}
+use Rattle.model.specs.declared.events.Arrival.{Arrival}
+use Rattle.runs.specs.Runs.{PlaysAndTells}
+use Rattle.runs.proofs.Onward.{plays_more, plays_none}
 use Rattle.runs.proofs.runs.play.Goals as goal
+
+pub loop-arrival-init : goal.loop-arrival-init
+loop-arrival-init g c = record { played = plays_none (g.M.Machine.world c.args.machine.now) c.args.transcript.now }
 
 pub loop-arrival-preserved : goal.loop-arrival-preserved
 loop-arrival-preserved g c =
     let world = g.M.Machine.world in
+    let f = told g.M.Machine.config in
     record {
-      played = played_more (world c.args.machine.now) (world c.loop-arrival.machine) (world c.arrive.new.machine) c.args.transcript.now c.loop-arrival.transcript c.arrive.new.transcript c.args.arrivals.now c.loop-arrival.arrival-index
-          c.arrival-item.result c.loop-arrival-test.true c.arrival-item.is c.loop-arrival.invariant.played c.in_ok-arrive.ensures;
+      played = subst (λ (z : List (Arrival Config)). PlaysAndTells (world c.args.machine.now) z c.args.transcript.now (world c.arrive.new.machine) c.arrive.new.transcript)
+          (sym (map-append f c.loop-arrival.yielded (c.in-Some.arrival ∷ [])))
+          (plays_more (world c.args.machine.now) (world c.loop-arrival.machine) (world c.arrive.new.machine) (map f c.loop-arrival.yielded) (f c.in-Some.arrival) c.args.transcript.now c.loop-arrival.transcript c.arrive.new.transcript
+          c.loop-arrival.invariant.played c.in_ok-arrive.ensures);
     }
-
-pub returns : goal.returns
-returns g c =
-    let world = g.M.Machine.world in
-    played_all (world c.args.machine.now) (world c.loop-arrival.machine) c.args.transcript.now c.loop-arrival.transcript c.args.arrivals.now _ (drop_all c.loop-arrival.arrival-index c.args.arrivals.now c.loop-arrival-test.false) c.loop-arrival.invariant.played

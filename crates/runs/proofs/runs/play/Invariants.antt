@@ -1,6 +1,7 @@
-use Rattle.std.proofs.Common.{drop}
-use Rattle.runs.proofs.Onward.{Played}
+use Rattle.std.proofs.Common.{map}
+use Rattle.model.specs.Arrivals.{told}
+use Rattle.runs.specs.Runs.{PlaysAndTells}
 use Rattle.runs.proofs.runs.play.Given as goal
 
 abbrev pub invariant-loop-arrival : goal.invariant-loop-arrival
-invariant-loop-arrival g l = record { played : Played (g.M.Machine.world l.fn.machine) l.fn.transcript l.arrivals (g.M.Machine.world l.machine) l.transcript (drop l.arrival-index l.arrivals) }
+invariant-loop-arrival g l = record { played : PlaysAndTells (g.M.Machine.world l.initial.machine) (map (told g.M.Machine.config) l.yielded) l.initial.transcript (g.M.Machine.world l.machine) l.transcript }

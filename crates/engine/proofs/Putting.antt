@@ -1,0 +1,125 @@
+-- What is put in force leaves an engine one.
+use Rattle.std.proofs.Common.{◌≡◌, ◌∙◌, ℕ, List, [], ◌∷◌, Option, None, Result, Err, inl, refl, sym, ap, subst}
+use Rattle.model.specs.State.{Config}
+use Rattle.model.specs.History.{Occurrence, Of_reload, Reload}
+use Rattle.model.specs.Arrivals.{World, Same, Reloads}
+use Rattle.model.specs.Headline.{IsSound}
+use Rattle.model.specs.Guarantee.{Guarantee, AllHold}
+use Rattle.model.specs.Topology.{Topology, IsWellFormed}
+use Rattle.model.specs.Reloading.{NothingStands}
+use Rattle.model.specs.declared.messages.User.{User}
+use Rattle.model.specs.declared.obstacles.Obstacle.{Obstacle}
+use Rattle.model.specs.declared.notes.Note.TheVariants.{Reloaded}
+use Rattle.laws.proofs.Consistency.{stay_consistent}
+use Rattle.laws.proofs.Naming.{worlds_named}
+use Rattle.runs.specs.Reloaded.{IsPutInForce, TellsReload}
+use Rattle.runs.specs.declared.machine.ReloadFault.{ReloadFault}
+use Rattle.runs.specs.declared.machine.ReloadFault.TheVariants.{Stands, Memory}
+use Rattle.certificate.specs.Admitted.{Admitted}
+use Rattle.reloading.specs.Obstacles.{Judges}
+use Rattle.broker.specs.Turns.{WithTurn, topology_kept, broker_of}
+use Rattle.engine.specs.InForce.{in_force}
+use Rattle.engine.specs.Putting.{IsPut, TellsPut}
+use Rattle.engine.specs.World.{Parts, link_in, session_of, wire_of, config_of, world_of, AreLinks, IsEngine}
+use Rattle.engine.specs.declared.connected.Connected.{Connected}
+use Rattle.engine.proofs.Agreeing.{Agrees, agreed}
+
+-- ---- what a reload that was done leaves
+
+reloads : (old new : World) (offered : Config) → IsPutInForce old offered new → (os : List Occurrence) × Reloads old offered os new
+reloads old new offered p =
+    let r : Reload = record { config = old.config; offered = offered; before = old.state; notes = Reloaded ∷ []; after = new.state; in_force = new.config } in (
+      Of_reload r ∷ [],
+      record {
+        r = r;
+        all = refl;
+        under = refl;
+        offers = refl;
+        before = refl;
+        after = refl;
+        in_force = refl;
+        decided = inl (record { nothing = p.nothing; noted = refl; in_force = p.config; broker = p.broker; session = p.session });
+        given = p.given;
+        wires = p.wires;
+      },
+    )
+
+put_agrees : (old new : World) (offered : Config) → IsSound offered → Agrees old → IsPutInForce old offered new → Agrees new
+put_agrees old new offered sound k p =
+    let done = reloads old new offered p in
+    record { consistent = stay_consistent.reloads old new offered done.0 sound k.consistent done.1; named = worlds_named.reloads old new offered done.0 k.named done.1 }
+
+-- the broker was put, what is in force is what was offered, and the connections are as before
+pub record Takes (old : Parts) (offered : Config) (new : Parts) : Type 0 where
+  pub put : IsPut old.broker offered new.broker
+  pub guarantees : new.guarantees ≡ offered.guarantees
+  pub users : new.users ≡ offered.users
+  pub given : new.given ≡ old.given
+  pub links : new.links ≡ old.links
+
+pub put_world : (old new : Parts) (offered : Config) → Takes old offered new → IsPutInForce (world_of old) offered (world_of new)
+put_world old new offered t = record {
+  nothing = t.put.nothing;
+  config = λ i. record { topology = t.put.topology i; guarantees = t.guarantees i; users = t.users i };
+  broker = t.put.broker;
+  session = λ c. ap (λ (ls : List Connected). session_of (link_in ls c)) t.links;
+  given = t.given;
+  wires = λ c. ap (λ (ls : List Connected). wire_of (link_in ls c)) t.links;
+}
+
+pub put_engine : (old new : Parts) (offered : Config) → IsEngine old → IsSound offered → Takes old offered new → IsEngine new
+put_engine old new offered e sound t =
+    let put = put_world old new offered t in
+    let is_sound : IsSound (config_of new) = subst IsSound (sym put.config) sound in
+    let after = put_agrees (world_of old) (world_of new) offered sound (agreed old e) put in
+    record {
+      hold = is_sound.hold;
+      formed = is_sound.wf;
+      links = subst (λ (ls : List Connected). AreLinks new.given ls) (sym t.links) (subst (λ (n : ℕ). AreLinks n old.links) (sym t.given) e.links);
+      consistent = after.consistent;
+      named = after.named;
+    }
+
+-- ---- what is offered, by its parts
+
+-- what was judged, where nothing is told
+pub nothing_stands : (b : WithTurn) (t : Topology) (gs : List Guarantee) (users : List User) (o : Option Obstacle) → o ≡ None → Judges (topology_kept b) (record { topology = t; guarantees = gs; users = users }) (broker_of b) o
+    → NothingStands (topology_kept b) (record { topology = t; guarantees = gs; users = users }) (broker_of b)
+nothing_stands b t gs users o none judged = subst (λ (z : Option Obstacle). Judges (topology_kept b) (record { topology = t; guarantees = gs; users = users }) (broker_of b) z) none judged
+
+pub offered_sound : (checked : Admitted) (users : List User) (t : Topology) (gs : List Guarantee) → t ≡ checked.topology → gs ≡ checked.guarantees → AllHold t gs → IsWellFormed t → IsSound (in_force checked users)
+offered_sound checked users t gs te ge hold wf =
+    subst IsSound (λ i. record { topology = te i; guarantees = ge i; users = users }) (record { wf = wf; hold = hold })
+
+pub tells_offered : (old new : WithTurn) (checked : Admitted) (users : List User) (t : Topology) (lent gs : List Guarantee) (r : Result Unit ReloadFault)
+    → t ≡ checked.topology → lent ≡ gs → gs ≡ checked.guarantees → TellsPut old (record { topology = t; guarantees = lent; users = users }) r new → TellsPut old (in_force checked users) r new
+tells_offered old new checked users t lent gs r te le ge tells =
+    subst (λ (offered : Config). TellsPut old offered r new) (λ i. record { topology = te i; guarantees = (le ∙ ge) i; users = users }) tells
+
+pub takes : (old : Parts) (b : WithTurn) (checked : Admitted) (users : List User) (gs : List Guarantee) → gs ≡ checked.guarantees → IsPut old.broker (in_force checked users) b
+    → Takes old (in_force checked users) (record old { broker = b; guarantees = gs; users = users })
+takes old b checked users gs ge put = record { put = put; guarantees = ge; users = refl; given = refl; links = refl }
+
+-- ---- nothing is different where it was refused
+
+not_put : (old new : WithTurn) (offered : Config) (f : ReloadFault) → TellsPut old offered (Err f) new → new ≡ old
+not_put old new offered (Stands o) t = t.1
+not_put old new offered Memory t = t
+
+pub refused_is : (old : Parts) (b : WithTurn) (offered : Config) (f : ReloadFault) → TellsPut old.broker offered (Err f) b → record old { broker = b } ≡ old
+refused_is old b offered f t = ap (λ (z : WithTurn). record old { broker = z }) (not_put old.broker b offered f t)
+
+pub refused_engine : (old : Parts) (b : WithTurn) (offered : Config) (f : ReloadFault) → IsEngine old → TellsPut old.broker offered (Err f) b → IsEngine (record old { broker = b })
+refused_engine old b offered f e t = subst IsEngine (sym (refused_is old b offered f t)) e
+
+refused_same : (old new : Parts) → new ≡ old → Same (world_of old) (world_of new)
+refused_same old new e = subst (λ (p : Parts). Same (world_of old) (world_of p)) (sym e) (record { config = refl; state = refl; given = refl; wires = λ c. refl })
+
+not_told : (old : Parts) (b : WithTurn) (offered : Config) (f : ReloadFault) → TellsPut old.broker offered (Err f) b → TellsReload (world_of old) offered (Err f) (world_of (record old { broker = b }))
+not_told old b offered (Stands o) t = (t.0, refused_same old (record old { broker = b }) (refused_is old b offered (Stands o) t))
+not_told old b offered Memory t = refused_same old (record old { broker = b }) (refused_is old b offered Memory t)
+
+-- the fault is handed on as it is
+pub refused_told : (old : Parts) (b : WithTurn) (offered : Config) (r : Result Unit ReloadFault) (f g : ReloadFault) → r ≡ Err f → f ≡ g → TellsPut old.broker offered (Err g) b
+    → TellsReload (world_of old) offered r (world_of (record old { broker = b }))
+refused_told old b offered r f g is same t = subst (λ (z : Result Unit ReloadFault). TellsReload (world_of old) offered z (world_of (record old { broker = b }))) (sym (is ∙ ap Err same)) (not_told old b offered g t)

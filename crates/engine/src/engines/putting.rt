@@ -1,0 +1,63 @@
+//! What is in force, changed between events.
+
+ghost use Rattle.std.specs.Prelude.{List};
+ghost use Rattle.model.specs.declared.messages.User.{User as MayLogIn};
+ghost use Rattle.engine.specs.Putting.{TellsPut};
+
+use crate::engines::Engine;
+use broker::Broker;
+use certificate::Checked;
+use exchange_graph::Topology;
+use guarantees::Guarantee;
+use model::User;
+use runs::ReloadFault;
+use std::alloc::Global;
+
+/// The broker runs this topology from now on, if nothing stands against it with these guarantees, whoever may log in.
+fn put(
+    alloc: Global,
+    broker: &mut Broker,
+    topology: Topology,
+    guarantees: &[Guarantee],
+) -> Result<(), ReloadFault>
+    ensures { (users : List MayLogIn) → TellsPut broker.old (record { topology = topology; guarantees = guarantees.now; users = users }) result broker.new }
+{
+    match broker.obstacle(alloc, &topology, guarantees) {
+        Ok(None) => {}
+        Ok(Some(obstacle)) => return Err(ReloadFault::Stands(obstacle)),
+        Err(_) => return Err(ReloadFault::Memory),
+    }
+    match broker.reload(alloc, topology) {
+        Ok(()) => Ok(()),
+        Err(_) => Err(ReloadFault::Memory),
+    }
+}
+
+impl Engine {
+    ghost use Rattle.std.specs.Prelude.{◌≡◌, OnErr};
+    ghost use Rattle.engine.specs.InForce.{in_force};
+    ghost use Rattle.engine.specs.World.{world_of};
+    ghost use Rattle.runs.specs.Reloaded.{TellsReload};
+
+    /// Puts another topology in force, with its guarantees and who may log in. What waits is marked as what stood then, and
+    /// connections stay, with their consumers, what they hold, and what they have still to say and to take.
+    ///
+    /// The first thing that stands against it is told: a queue that is gone while messages wait in it or consumers take
+    /// from it, or else a message that by deaths could come where a guarantee forbids it. Then, and where memory is wanting,
+    /// nothing is different.
+    pub fn reload(
+        &mut self,
+        alloc: Global,
+        checked: Checked,
+        users: Vec<User>,
+    ) -> Result<(), ReloadFault>
+        ensures told { TellsReload (world_of self.old) (in_force checked users.items) result (world_of self.new) }
+        ensures kept { OnErr result (self.new ≡ self.old) }
+    {
+        let (topology, guarantees) = checked.into_parts();
+        put(alloc, &mut self.broker, topology, guarantees.as_slice())?;
+        self.guarantees = guarantees;
+        self.users = users;
+        Ok(())
+    }
+}
