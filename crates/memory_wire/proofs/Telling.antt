@@ -90,7 +90,7 @@ tells_bytes L f old new l v is none last whole s =
     let all : v.told.calls ≡ Some tells.0 = at_end ∙ tells.1 in
     record {
       deeds = s.deeds;
-      happenings = s.happenings;
+      occurrences = s.occurrences;
       log = sym at_end ∙ log_is old.calls v.told.calls (flat_map calls s.deeds) none s.asked.calls tells.0 all;
       arrives = s.arrives;
       promises = s.promises;

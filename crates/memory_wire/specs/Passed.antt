@@ -1,5 +1,5 @@
 -- What a wire tells of which one call may fail (own).
-use Rattle.std.specs.Prelude.{◌+◌, ℕ, Bool, None, if◌then◌else◌}
+use Rattle.std.specs.Prelude.{◌+◌, Bool, None, if◌then◌else◌}
 use Rattle.serving.specs.Wire.{Told}
 
 -- its calls are not told: the wire below doesn't know of the one that failed

@@ -1,15 +1,15 @@
 -- What a wire counts of a socket is what arrived for its connection.
 use Rattle.std.proofs.Common.{◌≡◌, ◌≢◌, ◌+◌, ◌⊎◌, inl, inr, ℕ, List, [], ◌∷◌, ◌++◌, Bool, true, false, Option, Some, None, length, refl, sym, ap, subst, ◌∙◌, append_assoc, append-nil, flat_map, filter_map, arith}
 use Rattle.std.specs.Prelude.{◌==◌, if◌then◌else◌, sum_by}
-use Rattle.std.proofs.lemmas.Bool.{eq-eqb, ne_eqb, eqb-true, false≢true, cases_eq}
+use Rattle.std.proofs.lemmas.Bool.{eq-eqb, ne_eqb, false≢true, cases_eq}
 use Rattle.std.proofs.lemmas.Option.{none-some, same_Some}
 use Rattle.std.proofs.lemmas.List.Elements.{filter_map-append}
 use Rattle.std.proofs.lemmas.List.Sums.{sum_by-append}
 use Rattle.model.specs.Topology.{IsIn}
-use Rattle.model.specs.Run.{Happening}
+use Rattle.model.specs.History.{Occurrence}
 use Rattle.laws.proofs.Counts.{in_front, in_back}
 use Rattle.serving.specs.Wire.{Call, Accepted, Not_accepted, Accept_failed, Got, Nothing_got, Read_ended, Read_failed, Took, Nothing_taken, Write_failed, Closed, Rested, Totals, no_bytes, with_got, with_taken, total_after, totals_after, Told, Tells}
-use Rattle.serving.specs.Story.{Served, At, Deed, Met, Turned_away, Met_no_one, Heard, Heard_partly, Heard_nothing, Heard_end, Gave, Gave_partly, Gave_nothing, Gave_up, Pumped, Pumped_nothing, Pump_refused, Let_go, Paused, calls, Table, DoesDeed, Story}
+use Rattle.serving.specs.Story.{Served, At, Deed, Met, Turned_away, Met_no_one, Heard, Heard_partly, Heard_nothing, Heard_end, Gave, Gave_partly, Gave_nothing, Gave_up, Pumped, Pumped_nothing, Pump_refused, Let_go, Paused, Reload_decided, Reload_undecided, calls, Table, DoesDeed, Story}
 use Rattle.serving.specs.Joined.{got_of, count_of, met_by, all_met, AreCounted}
 use Rattle.serving.specs.declared.peers.Peer.{Peer}
 use Rattle.serving.proofs.Onward.{in_either}
@@ -195,8 +195,8 @@ not_two : (s : ℕ) (c d : Call) → (Accepted s ≡ c → ⊥) → (Accepted s 
 not_two s c d f g (inl e) = f e
 not_two s c d f g (inr i) = not_one s d g i
 
-count_deed : {L : Lacks} (s : ℕ) (cs : List Call) (v w : Served) (d : Deed) (hs : List Happening) → DoesDeed L v d hs w → ((i : ℕ) (p : Peer) → At v.peers i p → v.told.is_given p.socket ≡ true) → Counted s cs v.told → Counted s (cs ++ calls d) w.told
-count_deed {L = L} s cs v w d hs does names k = go d does.table does.told
+count_deed : {L : Lacks} (s : ℕ) (cs : List Call) (v w : Served) (d : Deed) (os : List Occurrence) → DoesDeed L v d os w → ((i : ℕ) (p : Peer) → At v.peers i p → v.told.is_given p.socket ≡ true) → Counted s cs v.told → Counted s (cs ++ calls d) w.told
+count_deed {L = L} s cs v w d os does names k = go d does.table does.told
   where
     plain : (more : List Call) → NoBytes s more → (IsIn (Accepted s) more → ⊥) → Tells v.told more w.told → Counted s (cs ++ more) w.told
     plain more none not t = counted_on s cs more v.told w.told t (λ e. none) (λ i. absurd (not i)) k
@@ -228,12 +228,14 @@ count_deed {L = L} s cs v w d hs does names k = go d does.table does.told
     go Pump_refused t told = plain [] (refl, refl) (λ i. i) told
     go (Let_go i p) t told = plain _ (refl, refl) (not_one s _ (λ e. absurd (cc e))) told
     go Paused t told = plain _ (refl, refl) (not_one s _ (λ e. absurd (cc e))) told
+    go (Reload_decided g) t told = plain [] (refl, refl) (λ i. i) told
+    go (Reload_undecided g) t told = plain [] (refl, refl) (λ i. i) told
 
 -- ---- whole stories
 
-count_story : (L : Lacks) (s : ℕ) (ds : List Deed) (known : List Peer) (cs : List Call) (v w : Served) (hs : List Happening) → Story L v ds hs w → Knows known v → Counted s cs v.told → Counted s (cs ++ flat_map calls ds) w.told
-count_story L s [] known cs v w hs story k c = subst (λ (z : List Call). Counted s z w.told) (sym (append-nil cs)) (subst (λ (z : Served). Counted s cs z.told) (sym story.1) c)
-count_story L s (d ∷ ds) known cs v w hs (mid, first, rest, e, does, story) k c =
+count_story : (L : Lacks) (s : ℕ) (ds : List Deed) (known : List Peer) (cs : List Call) (v w : Served) (os : List Occurrence) → Story L v ds os w → Knows known v → Counted s cs v.told → Counted s (cs ++ flat_map calls ds) w.told
+count_story L s [] known cs v w os story k c = subst (λ (z : List Call). Counted s z w.told) (sym (append-nil cs)) (subst (λ (z : Served). Counted s cs z.told) (sym story.1) c)
+count_story L s (d ∷ ds) known cs v w os (mid, first, rest, e, does, story) k c =
     let one = goes known v mid d first does k in
     let here = count_deed s cs v mid d first does (λ i p at. k.named p (k.slots i p at)) c in
     subst (λ (z : List Call). Counted s z w.told) (append_assoc cs (calls d) (flat_map calls ds)) (count_story L s ds (met_by d ++ known) (cs ++ calls d) mid w rest story one.knows here)
@@ -256,6 +258,8 @@ met_accepts Pumped_nothing p x = absurd x
 met_accepts Pump_refused p x = absurd x
 met_accepts (Let_go i q) p x = absurd x
 met_accepts Paused p x = absurd x
+met_accepts (Reload_decided g) p x = absurd x
+met_accepts (Reload_undecided g) p x = absurd x
 
 all_accepted : (ds : List Deed) (p : Peer) → IsIn p (all_met ds) → IsIn (Accepted p.socket) (flat_map calls ds)
 all_accepted [] p x = absurd x
@@ -266,10 +270,10 @@ all_accepted (d ∷ ds) p x = go (all_accepted ds p) (in_either p (met_by d) (al
     go rest (inr i) = in_back (Accepted p.socket) (calls d) (flat_map calls ds) (rest i)
 
 -- from a server with no socket
-pub are_counted : (L : Lacks) (ds : List Deed) (v w : Served) (hs : List Happening) → v.peers ≡ [] → Story L v ds hs w → AreCounted ds w.told
-are_counted L ds v w hs none story p i t e =
+pub are_counted : (L : Lacks) (ds : List Deed) (v w : Served) (os : List Occurrence) → v.peers ≡ [] → Story L v ds os w → AreCounted ds w.told
+are_counted L ds v w os none story p i t e =
     let start : Counted p.socket [] v.told = record { given = λ x. absurd x; none = λ x. (refl, refl); sums = λ x. absurd x } in
-    let all = count_story L p.socket ds [] [] v w hs story (knows_none v none) start in
+    let all = count_story L p.socket ds [] [] v w os story (knows_none v none) start in
     let sums = all.sums (all_accepted ds p i) t e in
-    let joined = are_joined L ds v w hs none story p i in
+    let joined = are_joined L ds v w os none story p i in
     (sums.0 ∙ ap (sum_by length) (sym joined.pieces), sums.1 ∙ ap (sum_by (λ (n : ℕ). n)) (sym joined.amounts))

@@ -1,16 +1,18 @@
 -- Each deed, as a server goes on by it.
-use Rattle.std.proofs.Common.{true, false, ◌≡◌, ◌≤◌, ◌⊎◌, ℕ, ◌+◌, List, [], ◌∷◌, ◌++◌, Option, None, length, take, refl, sym, subst, slice_set}
+use Rattle.std.proofs.Common.{true, false, ◌≡◌, ◌≤◌, ◌⊎◌, ℕ, ◌+◌, List, [], ◌∷◌, ◌++◌, Option, None, Some, length, map, take, refl, sym, subst, ◌∙◌, slice_set}
 use Rattle.std.proofs.lemmas.List.{length-take-le}
 use Rattle.model.specs.Run.{Happening}
+use Rattle.model.specs.History.{Occurrence, Of_event}
 use Rattle.model.specs.Arrivals.{World, Same, can_open, is_gone, Answers, Delivers, NoneCanDeliver, delivers, idles}
 use Rattle.model.specs.declared.events.Arrival.TheVariants as arrival
 use Rattle.serving.specs.Wire.{Accepted, Not_accepted, Accept_failed, Got, Nothing_got, Read_ended, Read_failed, Took, Nothing_taken, Write_failed, Closed, To_accept, To_read, To_write, Told, Tells, IsFresh}
 use Rattle.serving.specs.Coming.{Attempt, whole, short, Brings, FallsShort}
-use Rattle.serving.specs.Story.{served, At, NoneFree, MayTurnAway, TakesIn, read_room, Met, Turned_away, Met_no_one, Heard, Heard_partly, Heard_nothing, Heard_end, Gave, Gave_partly, Gave_nothing, Gave_up, Pumped, Pumped_nothing, Pump_refused, Let_go, Serves, PumpsOnce}
+use Rattle.serving.specs.Story.{served, At, Filled, NoneFree, MayTurnAway, TakesIn, read_room, Met, Turned_away, Met_no_one, Heard, Heard_partly, Heard_nothing, Heard_end, Gave, Gave_partly, Gave_nothing, Gave_up, Pumped, Pumped_nothing, Pump_refused, Let_go, Serves, PumpsOnce}
 use Rattle.serving.specs.declared.peers.Peer.{Peer}
-use Rattle.serving.proofs.Turning.{match_false}
+use Rattle.serving.proofs.Turning.{match_false, opens_one}
 use Rattle.serving.proofs.Onward.{tells_none, tells_then, serves_one, attempt_one, attempt_two}
 use Rattle.runs.specs.Wants.{Lacks, To_open, To_pump}
+use Rattle.runs.specs.Opened.{OpensNew}
 
 -- ---- accepts
 
@@ -33,33 +35,33 @@ met_failure a ps told now e = serves_one (served a ps told) (served a ps now) _ 
 
 -- ---- reads
 
-pub heard : {L : Lacks} (a b : World) (ps : List (Option Peer)) (i : ℕ) (p : Peer) (bytes : List ℕ) (told now : Told) → At ps i p → (hs : List Happening) × Answers a (arrival.In p.connection bytes) hs b → Tells told (Got p.socket read_room bytes ∷ []) now
+pub heard : {L : Lacks} (a b : World) (ps : List (Option Peer)) (i : ℕ) (p : Peer) (bytes : List ℕ) (told now : Told) → At ps i p → (os : List Occurrence) × Answers a (arrival.In p.connection bytes) os b → Tells told (Got p.socket read_room bytes ∷ []) now
     → Serves L (served a ps told) (To_read p.socket read_room ∷ []) true (served b ps now)
 heard {L = L} a b ps i p bytes told now at ans e =
     serves_one (served a ps told) (served b ps now) _ _ (Heard i p bytes) ans.0
     (record { table = (at, refl); brings = attempt_one L a b (whole (arrival.In p.connection bytes)) ans.0 ans.1; told = e }) refl refl refl
 
 pub heard_partly : {L : Lacks} (a m b : World) (ps : List (Option Peer)) (i : ℕ) (p : Peer) (bytes : List ℕ) (told mid now : Told) → At ps i p → (hs : List Happening) × FallsShort L a (arrival.In p.connection bytes) hs m
-    → (hs : List Happening) × Answers m (arrival.Lose p.connection) hs b → Tells told (Got p.socket read_room bytes ∷ []) mid → Tells mid (Closed p.socket ∷ []) now
+    → (os : List Occurrence) × Answers m (arrival.Lose p.connection) os b → Tells told (Got p.socket read_room bytes ∷ []) mid → Tells mid (Closed p.socket ∷ []) now
     → Serves L (served a ps told) (To_read p.socket read_room ∷ []) true (served b (slice_set ps i None) now)
 heard_partly {L = L} a m b ps i p bytes told mid now at falls lost e f =
-    serves_one (served a ps told) (served b (slice_set ps i None) now) _ _ (Heard_partly i p bytes) (falls.0 ++ lost.0)
+    serves_one (served a ps told) (served b (slice_set ps i None) now) _ _ (Heard_partly i p bytes) (map Of_event falls.0 ++ lost.0)
     (record {
       table = (at, refl);
-      brings = attempt_two L a m b (short (arrival.In p.connection bytes)) (whole (arrival.Lose p.connection)) falls.0 lost.0 falls.1 lost.1;
+      brings = attempt_two L a m b (short (arrival.In p.connection bytes)) (whole (arrival.Lose p.connection)) (map Of_event falls.0) lost.0 (falls.0, refl, falls.1) lost.1;
       told = tells_then told mid now _ _ e f;
     }) refl refl refl
 
 pub heard_nothing : {L : Lacks} (a : World) (ps : List (Option Peer)) (i : ℕ) (p : Peer) (told now : Told) → At ps i p → Tells told (Nothing_got p.socket read_room ∷ []) now → Serves L (served a ps told) (To_read p.socket read_room ∷ []) false (served a ps now)
 heard_nothing a ps i p told now at e = serves_one (served a ps told) (served a ps now) _ _ (Heard_nothing i p) [] (record { table = (at, refl); brings = (refl, refl); told = e }) refl refl refl
 
-pub heard_end : {L : Lacks} (a b : World) (ps : List (Option Peer)) (i : ℕ) (p : Peer) (told mid now : Told) → At ps i p → (hs : List Happening) × Answers a (arrival.Lose p.connection) hs b
+pub heard_end : {L : Lacks} (a b : World) (ps : List (Option Peer)) (i : ℕ) (p : Peer) (told mid now : Told) → At ps i p → (os : List Occurrence) × Answers a (arrival.Lose p.connection) os b
     → Tells told (Read_ended p.socket read_room ∷ []) mid → Tells mid (Closed p.socket ∷ []) now → Serves L (served a ps told) (To_read p.socket read_room ∷ []) true (served b (slice_set ps i None) now)
 heard_end {L = L} a b ps i p told mid now at lost e f =
     serves_one (served a ps told) (served b (slice_set ps i None) now) _ _ (Heard_end i p false) lost.0
     (record { table = (at, refl); brings = attempt_one L a b (whole (arrival.Lose p.connection)) lost.0 lost.1; told = tells_then told mid now _ _ e f }) refl refl refl
 
-pub heard_failure : {L : Lacks} (a b : World) (ps : List (Option Peer)) (i : ℕ) (p : Peer) (told mid now : Told) → At ps i p → (hs : List Happening) × Answers a (arrival.Lose p.connection) hs b
+pub heard_failure : {L : Lacks} (a b : World) (ps : List (Option Peer)) (i : ℕ) (p : Peer) (told mid now : Told) → At ps i p → (os : List Occurrence) × Answers a (arrival.Lose p.connection) os b
     → Tells told (Read_failed p.socket read_room ∷ []) mid → Tells mid (Closed p.socket ∷ []) now → Serves L (served a ps told) (To_read p.socket read_room ∷ []) true (served b (slice_set ps i None) now)
 heard_failure {L = L} a b ps i p told mid now at lost e f =
     serves_one (served a ps told) (served b (slice_set ps i None) now) _ _ (Heard_end i p true) lost.0
@@ -67,7 +69,7 @@ heard_failure {L = L} a b ps i p told mid now at lost e f =
 
 -- ---- writes
 
-pub gave : {L : Lacks} (a b : World) (ps : List (Option Peer)) (i : ℕ) (p : Peer) (n : ℕ) (told now : Told) → At ps i p → n ≤ length (a.wire p.connection).output → (hs : List Happening) × Answers a (arrival.Sent p.connection n) hs b
+pub gave : {L : Lacks} (a b : World) (ps : List (Option Peer)) (i : ℕ) (p : Peer) (n : ℕ) (told now : Told) → At ps i p → n ≤ length (a.wire p.connection).output → (os : List Occurrence) × Answers a (arrival.Sent p.connection n) os b
     → Tells told (Took p.socket (a.wire p.connection).output (take n (a.wire p.connection).output) ∷ []) now → Serves L (served a ps told) (To_write p.socket (a.wire p.connection).output ∷ []) true (served b ps now)
 gave {L = L} a b ps i p n told now at le ans e =
     let out = (a.wire p.connection).output in
@@ -77,23 +79,23 @@ gave {L = L} a b ps i p n told now at le ans e =
     (record { table = (refl, (n, le, refl), (at, refl)); brings = attempt_one L a b (whole (arrival.Sent p.connection (length (take n out)))) ans.0 brings; told = e }) refl refl refl
 
 pub gave_partly : {L : Lacks} (a m b : World) (ps : List (Option Peer)) (i : ℕ) (p : Peer) (n : ℕ) (told mid now : Told) → At ps i p → n ≤ length (a.wire p.connection).output → (hs : List Happening) × FallsShort L a (arrival.Sent p.connection n) hs m
-    → (hs : List Happening) × Answers m (arrival.Lose p.connection) hs b → Tells told (Took p.socket (a.wire p.connection).output (take n (a.wire p.connection).output) ∷ []) mid → Tells mid (Closed p.socket ∷ []) now
+    → (os : List Occurrence) × Answers m (arrival.Lose p.connection) os b → Tells told (Took p.socket (a.wire p.connection).output (take n (a.wire p.connection).output) ∷ []) mid → Tells mid (Closed p.socket ∷ []) now
     → Serves L (served a ps told) (To_write p.socket (a.wire p.connection).output ∷ []) true (served b (slice_set ps i None) now)
 gave_partly {L = L} a m b ps i p n told mid now at le falls lost e f =
     let out = (a.wire p.connection).output in
     let is : length (take n out) ≡ n = length-take-le n out le in
     let brings : FallsShort L a (arrival.Sent p.connection (length (take n out))) falls.0 m = subst (λ (k : ℕ). FallsShort L a (arrival.Sent p.connection k) falls.0 m) (sym is) falls.1 in
-    serves_one (served a ps told) (served b (slice_set ps i None) now) _ _ (Gave_partly i p out (take n out)) (falls.0 ++ lost.0)
+    serves_one (served a ps told) (served b (slice_set ps i None) now) _ _ (Gave_partly i p out (take n out)) (map Of_event falls.0 ++ lost.0)
     (record {
       table = (refl, (n, le, refl), (at, refl));
-      brings = attempt_two L a m b (short (arrival.Sent p.connection (length (take n out)))) (whole (arrival.Lose p.connection)) falls.0 lost.0 brings lost.1;
+      brings = attempt_two L a m b (short (arrival.Sent p.connection (length (take n out)))) (whole (arrival.Lose p.connection)) (map Of_event falls.0) lost.0 (falls.0, refl, brings) lost.1;
       told = tells_then told mid now _ _ e f;
     }) refl refl refl
 
 pub gave_nothing : {L : Lacks} (a : World) (ps : List (Option Peer)) (i : ℕ) (p : Peer) (told now : Told) → At ps i p → Tells told (Nothing_taken p.socket (a.wire p.connection).output ∷ []) now → Serves L (served a ps told) (To_write p.socket (a.wire p.connection).output ∷ []) false (served a ps now)
 gave_nothing a ps i p told now at e = serves_one (served a ps told) (served a ps now) _ _ (Gave_nothing i p (a.wire p.connection).output) [] (record { table = (refl, (at, refl)); brings = (refl, refl); told = e }) refl refl refl
 
-pub gave_up : {L : Lacks} (a b : World) (ps : List (Option Peer)) (i : ℕ) (p : Peer) (told mid now : Told) → At ps i p → (hs : List Happening) × Answers a (arrival.Lose p.connection) hs b
+pub gave_up : {L : Lacks} (a b : World) (ps : List (Option Peer)) (i : ℕ) (p : Peer) (told mid now : Told) → At ps i p → (os : List Occurrence) × Answers a (arrival.Lose p.connection) os b
     → Tells told (Write_failed p.socket (a.wire p.connection).output ∷ []) mid → Tells mid (Closed p.socket ∷ []) now → Serves L (served a ps told) (To_write p.socket (a.wire p.connection).output ∷ []) true (served b (slice_set ps i None) now)
 gave_up {L = L} a b ps i p told mid now at lost e f =
     serves_one (served a ps told) (served b (slice_set ps i None) now) _ _ (Gave_up i p (a.wire p.connection).output) lost.0
@@ -104,8 +106,8 @@ gave_up {L = L} a b ps i p told mid now at lost e f =
 pub pumped : {L : Lacks} (a b : World) (ps : List (Option Peer)) (told : Told) (c : ℕ) (hs : List Happening) → Delivers a c hs b → PumpsOnce L (served a ps told) true (served b ps told)
 pumped {L = L} a b ps told c hs d = record {
   deed = Pumped;
-  happenings = hs;
-  does = record { table = ((c, d.puts.happens.stepped.acts.made), refl); brings = attempt_one L a b (whole arrival.Pump) hs (delivers d); told = tells_none told };
+  occurrences = map Of_event hs;
+  does = record { table = ((c, d.puts.happens.stepped.acts.made), refl); brings = attempt_one L a b (whole arrival.Pump) (map Of_event hs) (hs, refl, delivers d); told = tells_none told };
   pump = refl;
   done = refl;
 }
@@ -113,8 +115,8 @@ pumped {L = L} a b ps told c hs d = record {
 pub pumped_nothing : {L : Lacks} (a b : World) (ps : List (Option Peer)) (told : Told) → NoneCanDeliver a → Same a b → PumpsOnce L (served a ps told) false (served b ps told)
 pumped_nothing {L = L} a b ps told none same = record {
   deed = Pumped_nothing;
-  happenings = [];
-  does = record { table = (none, refl); brings = attempt_one L a b (whole arrival.Pump) [] (idles none (refl, same)); told = tells_none told };
+  occurrences = [];
+  does = record { table = (none, refl); brings = attempt_one L a b (whole arrival.Pump) [] ([], refl, idles none (refl, same)); told = tells_none told };
   pump = refl;
   done = refl;
 }
@@ -122,8 +124,8 @@ pumped_nothing {L = L} a b ps told none same = record {
 pub pump_refused : {L : Lacks} (a b : World) (ps : List (Option Peer)) (told : Told) → L a To_pump → Same a b → PumpsOnce L (served a ps told) false (served b ps told)
 pump_refused {L = L} a b ps told wants same = record {
   deed = Pump_refused;
-  happenings = [];
-  does = record { table = refl; brings = attempt_one L a b (short arrival.Pump) [] (wants, (refl, same)); told = tells_none told };
+  occurrences = [];
+  does = record { table = refl; brings = attempt_one L a b (short arrival.Pump) [] ([], refl, (wants, (refl, same))); told = tells_none told };
   pump = refl;
   done = refl;
 }
@@ -133,16 +135,21 @@ pump_refused {L = L} a b ps told wants same = record {
 pub let_go : {L : Lacks} (a : World) (ps : List (Option Peer)) (i : ℕ) (p : Peer) (told now : Told) → At ps i p → is_gone a p.connection ≡ true → Tells told (Closed p.socket ∷ []) now → Serves L (served a ps told) [] true (served a (slice_set ps i None) now)
 let_go a ps i p told now at gone e = serves_one (served a ps told) (served a (slice_set ps i None) now) _ _ (Let_go i p) [] (record { table = (gone, (at, refl)); brings = (refl, refl); told = e }) refl refl refl
 
--- ---- what is not taken in
+-- ---- what is taken in, and what is not
+
+pub takes_in : (L : Lacks) (a b : World) (ps qs new : List (Option Peer)) (s n i : ℕ) → qs ≡ ps → OpensNew a (Some n) b → Filled qs i (record { connection = n; socket = s }) new → TakesIn L a ps s true b new
+takes_in L a b ps qs new s n i same o filled =
+    let number : n ≡ a.given + 1 = o.1 ∙ o.2.1.given in
+    (o.0, opens_one a b o.2.0 o.0 o.2.1, (i, subst (λ (m : ℕ). Filled ps i (record { connection = m; socket = s }) new) number (subst (λ (z : List (Option Peer)). Filled z i (record { connection = n; socket = s }) new) same filled)))
 
 pub kept_out : (L : Lacks) (a b : World) (ps qs : List (Option Peer)) (s : ℕ) (o : Attempt) → o.arrival ≡ arrival.Open → MayTurnAway L a ps o.is_whole → Brings L a o [] b → qs ≡ ps → TakesIn L a ps s false b qs
 kept_out L a b ps qs s o is may brings e = ((o, is, may, brings), e)
 
 pub is_full : (L : Lacks) (a b : World) (ps qs : List (Option Peer)) (s : ℕ) → can_open a ≡ false → Same a b → qs ≡ ps → TakesIn L a ps s false b qs
-is_full L a b ps qs s full same e = kept_out L a b ps qs s (whole arrival.Open) refl full (match_false (can_open a) _ _ full (refl, same)) e
+is_full L a b ps qs s full same e = kept_out L a b ps qs s (whole arrival.Open) refl full ([], refl, match_false (can_open a) _ _ full (refl, same)) e
 
 pub no_memory : (L : Lacks) (a b : World) (ps qs : List (Option Peer)) (s : ℕ) → L a To_open ⊎ NoneFree ps → Same a b → qs ≡ ps → TakesIn L a ps s false b qs
-no_memory L a b ps qs s wants same e = kept_out L a b ps qs s (short arrival.Open) refl wants (refl, same) e
+no_memory L a b ps qs s wants same e = kept_out L a b ps qs s (short arrival.Open) refl wants ([], refl, (refl, same)) e
 
 pub same_not : (a : World) → Same a a
 same_not a = record { config = refl; state = refl; given = refl; wires = λ d. refl }

@@ -3,13 +3,15 @@ use Rattle.std.proofs.Common.{◌≡◌, ◌≢◌, ◌≤◌, ◌<◌, ℕ, suc
 use Rattle.std.proofs.lemmas.Bool.{false≢true, cases_eq}
 use Rattle.std.proofs.lemmas.Option.{same_Some}
 use Rattle.std.specs.Prelude.{MatchBool}
+use Rattle.model.specs.State.{Config}
 use Rattle.model.specs.Run.{Happening}
-use Rattle.model.specs.Arrivals.{World, Works, none_more, one_more, Waits, WorksOff, Answers, Same, with_heard, is_over, is_gone, can_open, Opens, Loses, TakesAndWorks, Pumps, delivers, idles}
+use Rattle.model.specs.History.{Occurrence}
+use Rattle.model.specs.Arrivals.{World, Works, none_more, one_more, Waits, WorksOff, Answers, ByEvents, Same, with_heard, is_over, is_gone, can_open, Opens, Loses, TakesAndWorks, Pumps, delivers, idles}
 use Rattle.model.specs.declared.events.Arrival.{Arrival}
 use Rattle.model.specs.declared.events.Arrival.TheVariants as arrival
 use Rattle.serving.specs.Wire.{Ask}
 use Rattle.serving.specs.Coming.{Attempt, whole, FallsShort, Attempts}
-use Rattle.serving.specs.Story.{Served, At, Filled, Deed, Met, Turned_away, Met_no_one, Heard, Heard_partly, Heard_nothing, Heard_end, Gave, Gave_partly, Gave_nothing, Gave_up, Pumped, Pumped_nothing, Pump_refused, Let_go, Paused, attempts, Table, DoesDeed, Story, Serves, PumpsUp}
+use Rattle.serving.specs.Story.{Served, At, Filled, Deed, Met, Turned_away, Met_no_one, Heard, Heard_partly, Heard_nothing, Heard_end, Gave, Gave_partly, Gave_nothing, Gave_up, Pumped, Pumped_nothing, Pump_refused, Let_go, Paused, Reload_decided, Reload_undecided, attempts, Table, DoesDeed, Story, Serves, PumpsUp}
 use Rattle.serving.specs.Fit.{IsFit}
 use Rattle.serving.specs.declared.peers.Peer.{Peer}
 use Rattle.runs.specs.Wants.{Lacks}
@@ -35,16 +37,17 @@ pumps_le : (a b : World) (hs : List Happening) → Pumps a hs b → a.given ≤ 
 pumps_le a b hs (delivers d) = let g = d.given in omega (arith, g)
 pumps_le a b hs (idles n p) = let g = p.1.given in omega (arith, g)
 
-answers_le : (a b : World) (t : Arrival) (hs : List Happening) → Answers a t hs b → a.given ≤ b.given
-answers_le a b arrival.Open hs p = either_opens a b _ hs (can_open a) (λ (o : Opens a _ _ hs b). o.given) p
-answers_le a b (arrival.Ready k) hs p = either_opens a b _ hs (can_open a) (λ (o : Opens a _ _ hs b). o.given) p
-answers_le a b (arrival.In c bytes) hs p = either a b _ hs (is_over a c) (λ (l : WorksOff (with_heard a c bytes) c hs b). let g = worked_given c (with_heard a c bytes) l.mid b hs l.works l.waits in omega (arith, g)) p
-answers_le a b (arrival.Sent c n) hs p =
+answers_le : (a b : World) (t : Arrival Config) (os : List Occurrence) → Answers a t os b → a.given ≤ b.given
+answers_le a b arrival.Open os (hs, e, p) = either_opens a b _ hs (can_open a) (λ (o : Opens a _ _ hs b). o.given) p
+answers_le a b (arrival.Ready k) os (hs, e, p) = either_opens a b _ hs (can_open a) (λ (o : Opens a _ _ hs b). o.given) p
+answers_le a b (arrival.In c bytes) os (hs, e, p) = either a b _ hs (is_over a c) (λ (l : WorksOff (with_heard a c bytes) c hs b). let g = worked_given c (with_heard a c bytes) l.mid b hs l.works l.waits in omega (arith, g)) p
+answers_le a b (arrival.Sent c n) os (hs, e, p) =
     either a b _ hs (is_gone a c) (λ (l : TakesAndWorks a c n hs b). let g = worked_given c l.mid l.works.mid b l.rest l.works.works l.works.waits in let h = l.takes.given in omega (arith, g, h)) p
-answers_le a b arrival.Pump hs p = pumps_le a b hs p
-answers_le a b (arrival.Lose c) hs p = either a b _ hs (is_gone a c) (λ (l : Loses a c hs b). let g = l.given in omega (arith, g)) p
+answers_le a b arrival.Pump os (hs, e, p) = pumps_le a b hs p
+answers_le a b (arrival.Lose c) os (hs, e, p) = either a b _ hs (is_gone a c) (λ (l : Loses a c hs b). let g = l.given in omega (arith, g)) p
+answers_le a b (arrival.Reload offered) os p = let g = p.given in omega (arith, g)
 
-short_le : (L : Lacks) (a b : World) (t : Arrival) (hs : List Happening) → FallsShort L a t hs b → a.given ≤ b.given
+short_le : (L : Lacks) (a b : World) (t : Arrival Config) (hs : List Happening) → FallsShort L a t hs b → a.given ≤ b.given
 short_le L a b arrival.Open hs p = let g = p.1.given in omega (arith, g)
 short_le L a b (arrival.Ready k) hs p = let g = p.1.given in omega (arith, g)
 short_le L a b (arrival.In c bytes) hs (inl p) = let g = p.1.1.given in omega (arith, g)
@@ -52,22 +55,23 @@ short_le L a b (arrival.In c bytes) hs (inr l) = let g = worked_given c (with_he
 short_le L a b (arrival.Sent c n) hs l = let g = worked_given c l.mid l.works.mid b l.rest l.works.works l.works.waits in let h = l.takes.given in omega (arith, g, h)
 short_le L a b arrival.Pump hs p = let g = p.1.1.given in omega (arith, g)
 short_le L a b (arrival.Lose c) hs p = absurd p
+short_le L a b (arrival.Reload g) hs p = let g = p.1.1.given in omega (arith, g)
 
-brings_le : (L : Lacks) (a b : World) (t : Arrival) (x : Bool) (hs : List Happening) → MatchBool x (Answers a t hs b) (FallsShort L a t hs b) → a.given ≤ b.given
-brings_le L a b t true hs p = answers_le a b t hs p
-brings_le L a b t false hs p = short_le L a b t hs p
+brings_le : (L : Lacks) (a b : World) (t : Arrival Config) (x : Bool) (os : List Occurrence) → MatchBool x (Answers a t os b) (ByEvents os (λ hs. FallsShort L a t hs b)) → a.given ≤ b.given
+brings_le L a b t true os p = answers_le a b t os p
+brings_le L a b t false os (hs, e, p) = short_le L a b t hs p
 
-pub attempts_le : (L : Lacks) (as' : List Attempt) (a b : World) (hs : List Happening) → Attempts L a as' hs b → a.given ≤ b.given
-attempts_le L [] a b hs p = let g = ap (λ (w : World). w.given) p.1 in omega (arith, g)
-attempts_le L (t ∷ as') a b hs (mid, first, rest, e, br, p) = let g = brings_le L a mid t.arrival t.is_whole first br in let h = attempts_le L as' mid b rest p in omega (arith, g, h)
+pub attempts_le : (L : Lacks) (as' : List Attempt) (a b : World) (os : List Occurrence) → Attempts L a as' os b → a.given ≤ b.given
+attempts_le L [] a b os p = let g = ap (λ (w : World). w.given) p.1 in omega (arith, g)
+attempts_le L (t ∷ as') a b os (mid, first, rest, e, br, p) = let g = brings_le L a mid t.arrival t.is_whole first br in let h = attempts_le L as' mid b rest p in omega (arith, g, h)
 
 opened_given : (a b : World) (hs : List Happening) (x : Bool) (P : Type 0) → x ≡ true → (P → b.given ≡ a.given + 1) → MatchBool x P ((hs ≡ []) × Same a b) → b.given ≡ a.given + 1
 opened_given a b hs true P e f p = f p
 opened_given a b hs false P e f p = absurd (false≢true e)
 
-pub met_given : (L : Lacks) (a b : World) (hs : List Happening) → can_open a ≡ true → Attempts L a (whole arrival.Open ∷ []) hs b → b.given ≡ a.given + 1
-met_given L a b hs can (mid, first, rest, e, br, p) =
-    ap (λ (w : World). w.given) p.1 ∙ opened_given a mid first (can_open a) _ can (λ (o : Opens a _ _ first mid). o.given) br
+pub met_given : (L : Lacks) (a b : World) (os : List Occurrence) → can_open a ≡ true → Attempts L a (whole arrival.Open ∷ []) os b → b.given ≡ a.given + 1
+met_given L a b os can (mid, first, rest, e, (hs, f, br), p) =
+    ap (λ (w : World). w.given) p.1 ∙ opened_given a mid hs (can_open a) _ can (λ (o : Opens a _ _ hs mid). o.given) br
 
 -- ---- the slots
 
@@ -85,7 +89,7 @@ slot_within [] i p at = absurd (cc at)
 slot_within (q ∷ ps) zero p at = omega arith
 slot_within (q ∷ ps) (suc i) p at = let lt = slot_within ps i p at in omega (arith, lt)
 
-fit_within : (a b : World) (ps qs : List (Option Peer)) → a.given ≤ b.given → ((j : ℕ) (p : Peer) → At qs j p → At ps j p) → IsFit a ps → IsFit b qs
+pub fit_within : (a b : World) (ps qs : List (Option Peer)) → a.given ≤ b.given → ((j : ℕ) (p : Peer) → At qs j p → At ps j p) → IsFit a ps → IsFit b qs
 fit_within a b ps qs le sub f = record {
   apart = λ i j p q x y e. f.apart i j p q (sub i p x) (sub j q y) e;
   given = λ i p x. let g = f.given i p (sub i p x) in omega (arith, g, le);
@@ -121,11 +125,11 @@ fit_filled a b ps qs i p is more filled f = record {
     given j q (inl x) = let n = ap (λ (z : Peer). z.connection) x.1 in omega (arith, n, is, more)
     given j q (inr x) = let g = f.given j q x in omega (arith, g, more)
 
-fit_does : {L : Lacks} (a b : Served) (d : Deed) (hs : List Happening) → DoesDeed L a d hs b → IsFit a.world a.peers → IsFit b.world b.peers
-fit_does {L = L} a b d hs does f = go d does.table (attempts_le L (attempts d) a.world b.world hs does.brings) does.brings
+fit_does : {L : Lacks} (a b : Served) (d : Deed) (os : List Occurrence) → DoesDeed L a d os b → IsFit a.world a.peers → IsFit b.world b.peers
+fit_does {L = L} a b d os does f = go d does.table (attempts_le L (attempts d) a.world b.world os does.brings) does.brings
   where
-    go : (d : Deed) → Table L a d b.peers → a.world.given ≤ b.world.given → Attempts L a.world (attempts d) hs b.world → IsFit b.world b.peers
-    go (Met i p) t le br = fit_filled a.world b.world a.peers b.peers i p t.1 (met_given L a.world b.world hs t.0 br) t.3 f
+    go : (d : Deed) → Table L a d b.peers → a.world.given ≤ b.world.given → Attempts L a.world (attempts d) os b.world → IsFit b.world b.peers
+    go (Met i p) t le br = fit_filled a.world b.world a.peers b.peers i p t.1 (met_given L a.world b.world os t.0 br) t.3 f
     go (Turned_away s o) t le br = fit_same a b le t.3 f
     go (Met_no_one x) t le br = fit_same a b le t f
     go (Heard i p bytes) t le br = fit_same a b le t.1 f
@@ -141,16 +145,18 @@ fit_does {L = L} a b d hs does f = go d does.table (attempts_le L (attempts d) a
     go Pump_refused t le br = fit_same a b le t f
     go (Let_go i p) t le br = fit_freed a b i le t.1.1 f
     go Paused t le br = fit_same a b le t f
+    go (Reload_decided g) t le br = fit_same a b le t.1 f
+    go (Reload_undecided g) t le br = fit_same a b le t.1 f
 
-fit_story : (L : Lacks) (ds : List Deed) (a b : Served) (hs : List Happening) → Story L a ds hs b → IsFit a.world a.peers → IsFit b.world b.peers
-fit_story L [] a b hs s f = subst (λ (z : Served). IsFit z.world z.peers) (sym s.1) f
-fit_story L (d ∷ ds) a b hs (mid, first, rest, e, does, s) f = fit_story L ds mid b rest s (fit_does a mid d first does f)
+fit_story : (L : Lacks) (ds : List Deed) (a b : Served) (os : List Occurrence) → Story L a ds os b → IsFit a.world a.peers → IsFit b.world b.peers
+fit_story L [] a b os s f = subst (λ (z : Served). IsFit z.world z.peers) (sym s.1) f
+fit_story L (d ∷ ds) a b os (mid, first, rest, e, does, s) f = fit_story L ds mid b rest s (fit_does a mid d first does f)
 
 pub serves_fit : {L : Lacks} (a b : Served) (xs : List Ask) (p : Bool) → Serves L a xs p b → IsFit a.world a.peers → IsFit b.world b.peers
-serves_fit {L = L} a b xs p s f = fit_story L s.deeds a b s.happenings s.story f
+serves_fit {L = L} a b xs p s f = fit_story L s.deeds a b s.occurrences s.story f
 
 pub pumps_fit : {L : Lacks} (n : ℕ) (a b : Served) (p : Bool) → PumpsUp L n a p b → IsFit a.world a.peers → IsFit b.world b.peers
-pumps_fit {L = L} n a b p s f = fit_story L s.deeds a b s.happenings s.story f
+pumps_fit {L = L} n a b p s f = fit_story L s.deeds a b s.occurrences s.story f
 
 -- with no slot every server fits
 pub fit_none : (w : World) → IsFit w []

@@ -1,5 +1,5 @@
 -- What was taken of an output, with what waits there, is what was put out; of one that is gone it is a beginning.
-use Rattle.std.proofs.Common.{◌≡◌, ◌≢◌, ◌<◌, ℕ, ◌+◌, List, [], ◌∷◌, ◌++◌, Bool, true, false, eqb, length, take, drop, refl, sym, ap, subst, ◌∙◌, append_assoc, append-nil, flat_map, ◌⊎◌, inl, inr, Some, arith}
+use Rattle.std.proofs.Common.{◌≡◌, ◌≢◌, ◌<◌, ℕ, ◌+◌, List, [], ◌∷◌, ◌++◌, Bool, true, false, eqb, length, take, drop, map, refl, sym, ap, subst, ◌∙◌, append_assoc, append-nil, flat_map, ◌⊎◌, inl, inr, Some, arith}
 use Rattle.std.proofs.lemmas.Bool.{eqb-true, eqb-false, false≢true, lt-ltb}
 use Rattle.std.proofs.lemmas.List.{length-take-le}
 use Rattle.std.proofs.lemmas.List.Concat.{flat_map-append}
@@ -13,7 +13,8 @@ use Rattle.model.specs.Commands.{Stream}
 use Rattle.model.specs.Headline.{IsSound}
 use Rattle.model.specs.State.{Config, State}
 use Rattle.model.specs.Run.{Happening, put_out}
-use Rattle.model.specs.Arrivals.{World, Wire, new_world, is_over, is_gone, is_ended, can_open, Turns, Works, none_more, one_more, Waits, WorksOff, Same, with_heard, Takes_off, TakesAndWorks, Opens, Loses, Puts, Pumps, delivers, idles, Answers}
+use Rattle.model.specs.History.{Occurrence, Of_event, Reload as OneReload, IsDecided, events_of}
+use Rattle.model.specs.Arrivals.{World, Wire, new_world, is_over, is_gone, is_ended, can_open, Turns, Works, none_more, one_more, Waits, WorksOff, Same, with_heard, Takes_off, TakesAndWorks, Opens, Loses, Puts, Pumps, delivers, idles, Answers, ByEvents, Reloads}
 use Rattle.model.specs.Consistent.{IsConsistent}
 use Rattle.model.specs.declared.events.Event.{Event}
 use Rattle.model.specs.declared.events.Event.TheVariants as event
@@ -21,13 +22,15 @@ use Rattle.model.specs.declared.events.Arrival.{Arrival}
 use Rattle.model.specs.declared.events.Arrival.TheVariants as arrival
 use Rattle.runs.proofs.Steps.{settled, puts_each, turns_apart, delivers_apart}
 use Rattle.runs.proofs.Places.{with_here, with_other, take_nothing, drop_nothing, take_and_drop}
-use Rattle.serving.specs.Wire.{Call, Told}
+use Rattle.serving.specs.Wire.{Told}
 use Rattle.serving.specs.Coming.{Attempt, whole, short, FallsShort, Attempts}
-use Rattle.serving.specs.Story.{Served, served, Deed, Met, Turned_away, Met_no_one, Heard, Heard_partly, Heard_nothing, Heard_end, Gave, Gave_partly, Gave_nothing, Gave_up, Pumped, Pumped_nothing, Pump_refused, Let_go, Paused, calls, attempts, IsFront, DoesDeed, Story}
+use Rattle.serving.specs.Story.{Served, served, Deed, Met, Turned_away, Met_no_one, Heard, Heard_partly, Heard_nothing, Heard_end, Gave, Gave_partly, Gave_nothing, Gave_up, Pumped, Pumped_nothing, Pump_refused, Let_go, Paused, Reload_decided, Reload_undecided, calls, IsFront, DoesDeed, Story}
 use Rattle.serving.specs.Joined.{written_to, AreBeginnings}
 use Rattle.serving.specs.declared.peers.Peer.{Peer}
+use Rattle.laws.specs.Reloading.{IsOffered}
 use Rattle.laws.proofs.Consistency.{new_is_consistent}
-use Rattle.serving.proofs.Staying.{brings_stays, attempts_stay}
+use Rattle.laws.proofs.Histories.{events-append, events-mapped}
+use Rattle.serving.proofs.Staying.{brings_stays, deed_stays}
 use Rattle.serving.proofs.Pairs.{peer_of, PairsWith, pairs_in}
 use Rattle.runs.specs.Wants.{Lacks}
 
@@ -39,8 +42,8 @@ pub record Accounts (d : ℕ) (taken put : List ℕ) (w : World) : Type 0 where
   pub unopened : w.given < d → ((w.wire d).output ≡ []) × (is_over w d ≡ true) × (taken ≡ put)
 
 -- from one world to another these bytes are taken of d's output
-record Flows (d : ℕ) (old : World) (taken : List ℕ) (hs : List Happening) (new : World) : Type 0 where
-  keeps : (bytes put : List ℕ) → Accounts d bytes put old → Accounts d (bytes ++ taken) (put ++ put_out d hs) new
+pub record Flows (d : ℕ) (old : World) (taken : List ℕ) (hs : List Happening) (new : World) : Type 0 where
+  pub keeps : (bytes put : List ℕ) → Accounts d bytes put old → Accounts d (bytes ++ taken) (put ++ put_out d hs) new
 
 put_out-append : (d : ℕ) (hs ks : List Happening) → put_out d (hs ++ ks) ≡ put_out d hs ++ put_out d ks
 put_out-append d hs ks = flat_map-append (λ (h : Happening). spelling h.frame_max (sends_to d h.sends)) hs ks
@@ -243,13 +246,14 @@ flows_takes d c n a b hs t = go (c == d) refl
 -- ---- arrivals
 
 -- what an arrival takes of d's output
-abbrev taken_by : ℕ → World → Arrival → List ℕ
+abbrev taken_by : ℕ → World → Arrival Config → List ℕ
 taken_by d w (arrival.Sent c n) = if c == d then take n (w.wire c).output else []
 taken_by d w arrival.Open = []
 taken_by d w (arrival.Ready k) = []
 taken_by d w (arrival.In c bytes) = []
 taken_by d w arrival.Pump = []
 taken_by d w (arrival.Lose c) = []
+taken_by d w (arrival.Reload g) = []
 
 gone_empty : (over : Bool) (out : List ℕ) → over && not (nat_lt 0 (length out)) ≡ true → out ≡ []
 gone_empty over [] e = refl
@@ -285,15 +289,32 @@ flows_pumps : (d : ℕ) (a b : World) (hs : List Happening) → IsConsistent a �
 flows_pumps d a b hs k (delivers {c = c} v) = flows_puts d c a b (event.Deliver c) hs v.puts v.given (delivers_apart a b c hs d k v)
 flows_pumps d a b hs k (idles n p) = flows_same d a b hs p
 
-flows_answers : (d : ℕ) (a b : World) (t : Arrival) (hs : List Happening) → IsConsistent a → Answers a t hs b → Flows d a (taken_by d a t) hs b
-flows_answers d a b arrival.Open hs k p = flows_opening d a b _ hs (can_open a) (λ (o : Opens a _ _ hs b). flows_opens d a b _ _ new_session hs o o.happens.stepped.steps.session) p
-flows_answers d a b (arrival.Ready n) hs k p = flows_opening d a b _ hs (can_open a) (λ (o : Opens a _ _ hs b). flows_opens d a b _ _ (record running_session { channel_max = 255 }) hs o o.happens.stepped.session) p
-flows_answers d a b (arrival.In c bytes) hs k p = flows_by d a b _ hs (is_over a c) (λ (l : WorksOff (with_heard a c bytes) c hs b). flows_heard d c a b bytes hs (flows_worked d c (with_heard a c bytes) l.mid b hs l.works l.waits)) p
-flows_answers d a b (arrival.Sent c n) hs k p = flows_sent d c n a b hs (is_gone a c) refl p
-flows_answers d a b arrival.Pump hs k p = flows_pumps d a b hs k p
-flows_answers d a b (arrival.Lose c) hs k p = flows_by d a b _ hs (is_gone a c) (λ (l : Loses a c hs b). flows_loses d c a b hs l) p
+-- events alone happened
+flows_events : (d : ℕ) (a b : World) (t : List ℕ) (os : List Occurrence) (hs : List Happening) → os ≡ map Of_event hs → Flows d a t hs b → Flows d a t (events_of os) b
+flows_events d a b t os hs e f = flows_at d a b t (events_of os) hs (ap events_of e ∙ events-mapped hs) f
 
-flows_short : (L : Lacks) (d : ℕ) (a b : World) (t : Arrival) (hs : List Happening) → FallsShort L a t hs b → Flows d a (taken_by d a t) hs b
+reload_session : (r : OneReload) → IsDecided r → (c : ℕ) → r.after.session c ≡ r.before.session c
+reload_session r (inl done) c = done.session c
+reload_session r (inr refused) c = ap (λ (s : State). s.session c) refused.after
+
+-- a reload takes nothing and puts nothing out
+flows_reloads : (d : ℕ) (a b : World) (offered : Config) (os : List Occurrence) → Reloads a offered os b → Flows d a [] (events_of os) b
+flows_reloads d a b offered os p =
+    flows_not d a b (events_of os) p.given (ap (λ (z : List Occurrence). put_out d (events_of z)) p.all) (ap (λ (w : Wire). w.output) (p.wires d))
+    (ap (λ (s : Session). is_ended s.phase) (ap (λ (s : State). s.session d) (sym p.after) ∙ reload_session p.r p.decided d ∙ ap (λ (s : State). s.session d) p.before))
+
+flows_answers : (d : ℕ) (a b : World) (t : Arrival Config) (os : List Occurrence) → IsConsistent a → Answers a t os b → Flows d a (taken_by d a t) (events_of os) b
+flows_answers d a b arrival.Open os k (hs, e, p) = flows_events d a b [] os hs e (flows_opening d a b _ hs (can_open a) (λ (o : Opens a _ _ hs b). flows_opens d a b _ _ new_session hs o o.happens.stepped.steps.session) p)
+flows_answers d a b (arrival.Ready n) os k (hs, e, p) =
+    flows_events d a b [] os hs e (flows_opening d a b _ hs (can_open a) (λ (o : Opens a _ _ hs b). flows_opens d a b _ _ (record running_session { channel_max = 255 }) hs o o.happens.stepped.session) p)
+flows_answers d a b (arrival.In c bytes) os k (hs, e, p) =
+    flows_events d a b [] os hs e (flows_by d a b _ hs (is_over a c) (λ (l : WorksOff (with_heard a c bytes) c hs b). flows_heard d c a b bytes hs (flows_worked d c (with_heard a c bytes) l.mid b hs l.works l.waits)) p)
+flows_answers d a b (arrival.Sent c n) os k (hs, e, p) = flows_events d a b _ os hs e (flows_sent d c n a b hs (is_gone a c) refl p)
+flows_answers d a b arrival.Pump os k (hs, e, p) = flows_events d a b [] os hs e (flows_pumps d a b hs k p)
+flows_answers d a b (arrival.Lose c) os k (hs, e, p) = flows_events d a b [] os hs e (flows_by d a b _ hs (is_gone a c) (λ (l : Loses a c hs b). flows_loses d c a b hs l) p)
+flows_answers d a b (arrival.Reload g) os k p = flows_reloads d a b g os p
+
+flows_short : (L : Lacks) (d : ℕ) (a b : World) (t : Arrival Config) (hs : List Happening) → FallsShort L a t hs b → Flows d a (taken_by d a t) hs b
 flows_short L d a b arrival.Open hs p = flows_same d a b hs p
 flows_short L d a b (arrival.Ready k) hs p = flows_same d a b hs p
 flows_short L d a b (arrival.In c bytes) hs (inl p) = flows_same d a b hs p.1
@@ -301,20 +322,30 @@ flows_short L d a b (arrival.In c bytes) hs (inr l) = flows_heard d c a b bytes 
 flows_short L d a b (arrival.Sent c n) hs l = flows_taken d c n a l.mid l.works.mid b hs l.first l.rest l.all l.takes l.works.works l.works.waits
 flows_short L d a b arrival.Pump hs p = flows_same d a b hs p.1
 flows_short L d a b (arrival.Lose c) hs p = absurd p
+flows_short L d a b (arrival.Reload g) hs p = flows_same d a b hs p.1
 
-flows_brings : (L : Lacks) (d : ℕ) (a b : World) (t : Arrival) (x : Bool) (hs : List Happening) → IsConsistent a → MatchBool x (Answers a t hs b) (FallsShort L a t hs b) → Flows d a (taken_by d a t) hs b
-flows_brings L d a b t true hs k p = flows_answers d a b t hs k p
-flows_brings L d a b t false hs k p = flows_short L d a b t hs p
+flows_brings : (L : Lacks) (d : ℕ) (a b : World) (t : Arrival Config) (x : Bool) (os : List Occurrence) → IsConsistent a → MatchBool x (Answers a t os b) (ByEvents os (λ hs. FallsShort L a t hs b)) → Flows d a (taken_by d a t) (events_of os) b
+flows_brings L d a b t true os k p = flows_answers d a b t os k p
+flows_brings L d a b t false os k (hs, e, p) = flows_events d a b (taken_by d a t) os hs e (flows_short L d a b t hs p)
 
-flows_one : (L : Lacks) (d : ℕ) (a b : World) (t : Attempt) (hs : List Happening) → IsConsistent a → Attempts L a (t ∷ []) hs b → Flows d a (taken_by d a t.arrival) hs b
-flows_one L d a b t hs k (mid, first, rest, e, br, p) =
-    flows_at d a b _ hs (first ++ rest) e (subst (λ (z : List ℕ). Flows d a z (first ++ rest) b) (append-nil (taken_by d a t.arrival))
-    (flows_then d a mid b (taken_by d a t.arrival) [] first rest (flows_brings L d a mid t.arrival t.is_whole first k br) (flows_nothing d mid b rest p)))
+-- what happened one after the other
+flows_both : (d : ℕ) (a m b : World) (t u : List ℕ) (os first rest : List Occurrence) → os ≡ first ++ rest → Flows d a t (events_of first) m → Flows d m u (events_of rest) b → Flows d a (t ++ u) (events_of os) b
+flows_both d a m b t u os first rest e f g =
+    flows_at d a b (t ++ u) (events_of os) (events_of first ++ events_of rest) (ap events_of e ∙ events-append first rest) (flows_then d a m b t u (events_of first) (events_of rest) f g)
 
-flows_lost : (L : Lacks) (d : ℕ) (a b : World) (t : Attempt) (c : ℕ) (hs : List Happening) → IsConsistent a → Attempts L a (t ∷ record { arrival = arrival.Lose c; is_whole = true } ∷ []) hs b → Flows d a (taken_by d a t.arrival) hs b
-flows_lost L d a b t c hs k (mid, first, rest, e, br, p) =
-    flows_at d a b _ hs (first ++ rest) e (subst (λ (z : List ℕ). Flows d a z (first ++ rest) b) (append-nil (taken_by d a t.arrival))
-    (flows_then d a mid b (taken_by d a t.arrival) [] first rest (flows_brings L d a mid t.arrival t.is_whole first k br) (flows_one L d mid b (record { arrival = arrival.Lose c; is_whole = true }) rest (brings_stays L a mid t.arrival t.is_whole first k br) p)))
+-- what is taken by the first alone
+flows_first : (d : ℕ) (a m b : World) (t : List ℕ) (os first rest : List Occurrence) → os ≡ first ++ rest → Flows d a t (events_of first) m → Flows d m [] (events_of rest) b → Flows d a t (events_of os) b
+flows_first d a m b t os first rest e f g = subst (λ (z : List ℕ). Flows d a z (events_of os) b) (append-nil t) (flows_both d a m b t [] os first rest e f g)
+
+flows_none : (d : ℕ) (a b : World) (os : List Occurrence) → (os ≡ []) × (b ≡ a) → Flows d a [] (events_of os) b
+flows_none d a b os p = flows_nothing d a b (events_of os) (ap events_of p.0, p.1)
+
+flows_one : (L : Lacks) (d : ℕ) (a b : World) (t : Attempt) (os : List Occurrence) → IsConsistent a → Attempts L a (t ∷ []) os b → Flows d a (taken_by d a t.arrival) (events_of os) b
+flows_one L d a b t os k (mid, first, rest, e, br, p) = flows_first d a mid b (taken_by d a t.arrival) os first rest e (flows_brings L d a mid t.arrival t.is_whole first k br) (flows_none d mid b rest p)
+
+flows_lost : (L : Lacks) (d : ℕ) (a b : World) (t : Attempt) (c : ℕ) (os : List Occurrence) → IsOffered t.arrival → IsConsistent a → Attempts L a (t ∷ whole (arrival.Lose c) ∷ []) os b → Flows d a (taken_by d a t.arrival) (events_of os) b
+flows_lost L d a b t c os offered k (mid, first, rest, e, br, p) =
+    flows_first d a mid b (taken_by d a t.arrival) os first rest e (flows_brings L d a mid t.arrival t.is_whole first k br) (flows_one L d mid b (whole (arrival.Lose c)) rest (brings_stays L a mid t.arrival t.is_whole first offered k br) p)
 
 -- ---- deeds
 
@@ -328,44 +359,53 @@ taken_written p q w bytes front pair =
     ∙ ap (λ (x : Bool). if x then bytes else []) pair
     ∙ sym (append-nil (if q.socket == p.socket then bytes else []))
 
-flows_deed : {L : Lacks} (p : Peer) (v w : Served) (d : Deed) (hs : List Happening) → IsConsistent v.world → DoesDeed L v d hs w → PairsWith p (peer_of d) → Flows p.connection v.world (flat_map (written_to p.socket) (calls d)) hs w.world
-flows_deed {L = L} p v w (Met i q) hs k does pair = flows_one L p.connection v.world w.world (whole arrival.Open) hs k does.brings
-flows_deed {L = L} p v w (Turned_away s o) hs k does pair = subst (λ (t : Arrival). Flows p.connection v.world (taken_by p.connection v.world t) hs w.world) does.table.0 (flows_one L p.connection v.world w.world o hs k does.brings)
-flows_deed {L = L} p v w (Met_no_one true) hs k does pair = flows_nothing p.connection v.world w.world hs does.brings
-flows_deed {L = L} p v w (Met_no_one false) hs k does pair = flows_nothing p.connection v.world w.world hs does.brings
-flows_deed {L = L} p v w (Heard i q bytes) hs k does pair = flows_one L p.connection v.world w.world (whole (arrival.In q.connection bytes)) hs k does.brings
-flows_deed {L = L} p v w (Heard_partly i q bytes) hs k does pair = flows_lost L p.connection v.world w.world (short (arrival.In q.connection bytes)) q.connection hs k does.brings
-flows_deed {L = L} p v w (Heard_nothing i q) hs k does pair = flows_nothing p.connection v.world w.world hs does.brings
-flows_deed {L = L} p v w (Heard_end i q true) hs k does pair = flows_one L p.connection v.world w.world (whole (arrival.Lose q.connection)) hs k does.brings
-flows_deed {L = L} p v w (Heard_end i q false) hs k does pair = flows_one L p.connection v.world w.world (whole (arrival.Lose q.connection)) hs k does.brings
-flows_deed {L = L} p v w (Gave i q offered taken) hs k does pair =
-    subst (λ (z : List ℕ). Flows p.connection v.world z hs w.world) (taken_written p q v.world taken does.table.1 pair) (flows_one L p.connection v.world w.world (whole (arrival.Sent q.connection (length taken))) hs k does.brings)
-flows_deed {L = L} p v w (Gave_partly i q offered taken) hs k does pair =
-    subst (λ (z : List ℕ). Flows p.connection v.world z hs w.world) (taken_written p q v.world taken does.table.1 pair) (flows_lost L p.connection v.world w.world (short (arrival.Sent q.connection (length taken))) q.connection hs k does.brings)
-flows_deed {L = L} p v w (Gave_nothing i q offered) hs k does pair = flows_nothing p.connection v.world w.world hs does.brings
-flows_deed {L = L} p v w (Gave_up i q offered) hs k does pair = flows_one L p.connection v.world w.world (whole (arrival.Lose q.connection)) hs k does.brings
-flows_deed {L = L} p v w Pumped hs k does pair = flows_one L p.connection v.world w.world (whole arrival.Pump) hs k does.brings
-flows_deed {L = L} p v w Pumped_nothing hs k does pair = flows_one L p.connection v.world w.world (whole arrival.Pump) hs k does.brings
-flows_deed {L = L} p v w Pump_refused hs k does pair = flows_one L p.connection v.world w.world (short arrival.Pump) hs k does.brings
-flows_deed {L = L} p v w (Let_go i q) hs k does pair = flows_nothing p.connection v.world w.world hs does.brings
-flows_deed {L = L} p v w Paused hs k does pair = flows_nothing p.connection v.world w.world hs does.brings
+flows_deed : {L : Lacks} (p : Peer) (v w : Served) (d : Deed) (os : List Occurrence) → IsConsistent v.world → DoesDeed L v d os w → PairsWith p (peer_of d) → Flows p.connection v.world (flat_map (written_to p.socket) (calls d)) (events_of os) w.world
+flows_deed {L = L} p v w (Met i q) os k does pair = flows_one L p.connection v.world w.world (whole arrival.Open) os k does.brings
+flows_deed {L = L} p v w (Turned_away s o) os k does pair = subst (λ (t : Arrival Config). Flows p.connection v.world (taken_by p.connection v.world t) (events_of os) w.world) does.table.0 (flows_one L p.connection v.world w.world o os k does.brings)
+flows_deed {L = L} p v w (Met_no_one true) os k does pair = flows_none p.connection v.world w.world os does.brings
+flows_deed {L = L} p v w (Met_no_one false) os k does pair = flows_none p.connection v.world w.world os does.brings
+flows_deed {L = L} p v w (Heard i q bytes) os k does pair = flows_one L p.connection v.world w.world (whole (arrival.In q.connection bytes)) os k does.brings
+flows_deed {L = L} p v w (Heard_partly i q bytes) os k does pair = flows_lost L p.connection v.world w.world (short (arrival.In q.connection bytes)) q.connection os tt k does.brings
+flows_deed {L = L} p v w (Heard_nothing i q) os k does pair = flows_none p.connection v.world w.world os does.brings
+flows_deed {L = L} p v w (Heard_end i q true) os k does pair = flows_one L p.connection v.world w.world (whole (arrival.Lose q.connection)) os k does.brings
+flows_deed {L = L} p v w (Heard_end i q false) os k does pair = flows_one L p.connection v.world w.world (whole (arrival.Lose q.connection)) os k does.brings
+flows_deed {L = L} p v w (Gave i q offered taken) os k does pair =
+    subst (λ (z : List ℕ). Flows p.connection v.world z (events_of os) w.world) (taken_written p q v.world taken does.table.1 pair) (flows_one L p.connection v.world w.world (whole (arrival.Sent q.connection (length taken))) os k does.brings)
+flows_deed {L = L} p v w (Gave_partly i q offered taken) os k does pair =
+    subst (λ (z : List ℕ). Flows p.connection v.world z (events_of os) w.world) (taken_written p q v.world taken does.table.1 pair) (flows_lost L p.connection v.world w.world (short (arrival.Sent q.connection (length taken))) q.connection os tt k does.brings)
+flows_deed {L = L} p v w (Gave_nothing i q offered) os k does pair = flows_none p.connection v.world w.world os does.brings
+flows_deed {L = L} p v w (Gave_up i q offered) os k does pair = flows_one L p.connection v.world w.world (whole (arrival.Lose q.connection)) os k does.brings
+flows_deed {L = L} p v w Pumped os k does pair = flows_one L p.connection v.world w.world (whole arrival.Pump) os k does.brings
+flows_deed {L = L} p v w Pumped_nothing os k does pair = flows_one L p.connection v.world w.world (whole arrival.Pump) os k does.brings
+flows_deed {L = L} p v w Pump_refused os k does pair = flows_one L p.connection v.world w.world (short arrival.Pump) os k does.brings
+flows_deed {L = L} p v w (Let_go i q) os k does pair = flows_none p.connection v.world w.world os does.brings
+flows_deed {L = L} p v w Paused os k does pair = flows_none p.connection v.world w.world os does.brings
+flows_deed {L = L} p v w (Reload_decided g) os k does pair = flows_one L p.connection v.world w.world (whole (arrival.Reload g)) os k does.brings
+flows_deed {L = L} p v w (Reload_undecided g) os k does pair = flows_one L p.connection v.world w.world (short (arrival.Reload g)) os k does.brings
 
-flows_story : (L : Lacks) (p : Peer) (ds : List Deed) (v w : Served) (hs : List Happening) → IsConsistent v.world → Story L v ds hs w → AllByRecursion (λ d. PairsWith p (peer_of d)) ds → Flows p.connection v.world (flat_map (written_to p.socket) (flat_map calls ds)) hs w.world
-flows_story L p [] v w hs k s a = flows_nothing p.connection v.world w.world hs (s.0, ap (λ (z : Served). z.world) s.1)
-flows_story L p (d ∷ ds) v w hs k (mid, first, rest, e, does, s) a =
-    flows_at p.connection v.world w.world _ hs (first ++ rest) e (subst (λ (z : List ℕ). Flows p.connection v.world z (first ++ rest) w.world) (sym (flat_map-append (written_to p.socket) (calls d) (flat_map calls ds)))
-    (flows_then p.connection v.world mid.world w.world _ _ first rest (flows_deed p v mid d first k does a.0) (flows_story L p ds mid w rest (attempts_stay L (attempts d) v.world mid.world first k does.brings) s a.1)))
+pub flows_story : (L : Lacks) (p : Peer) (ds : List Deed) (v w : Served) (os : List Occurrence) → IsConsistent v.world → Story L v ds os w → AllByRecursion (λ d. PairsWith p (peer_of d)) ds → Flows p.connection v.world (flat_map (written_to p.socket) (flat_map calls ds)) (events_of os) w.world
+flows_story L p [] v w os k s a = flows_none p.connection v.world w.world os (s.0, ap (λ (z : Served). z.world) s.1)
+flows_story L p (d ∷ ds) v w os k (mid, first, rest, e, does, s) a =
+    subst (λ (z : List ℕ). Flows p.connection v.world z (events_of os) w.world) (sym (flat_map-append (written_to p.socket) (calls d) (flat_map calls ds)))
+    (flows_both p.connection v.world mid.world w.world _ _ os first rest e (flows_deed p v mid d first k does a.0) (flows_story L p ds mid w rest (deed_stays v mid d first k does) s a.1))
 
 -- what was taken so far is a beginning of what was put out
-beginning : (d : ℕ) (taken put : List ℕ) (w : World) → Accounts d taken put w → (rest : List ℕ) × (taken ++ rest ≡ put)
+pub beginning : (d : ℕ) (taken put : List ℕ) (w : World) → Accounts d taken put w → (rest : List ℕ) × (taken ++ rest ≡ put)
 beginning d taken put w acc = go acc.fits
   where
     go : (taken ++ (w.wire d).output ≡ put) ⊎ ((is_over w d ≡ true) × ((w.wire d).output ≡ []) × ((rest : List ℕ) × (taken ++ rest ≡ put))) → (rest : List ℕ) × (taken ++ rest ≡ put)
     go (inl e) = ((w.wire d).output, e)
     go (inr g) = g.2
 
-pub are_beginnings : (L : Lacks) (f : Config) (ds : List Deed) (told : Told) (new : Served) (hs : List Happening) → IsSound f → Story L (served (new_world f) [] told) ds hs new → AreBeginnings ds hs
-are_beginnings L f ds told new hs sound s p i =
-    let start : Accounts p.connection [] [] (new_world f) = record { fits = inl refl; unopened = λ lt. (refl, refl, refl) } in
-    let flows = flows_story L p ds (served (new_world f) [] told) new hs (new_is_consistent f sound) s (pairs_in L ds (served (new_world f) [] told) new hs refl s p i) in
-    beginning p.connection (flat_map (written_to p.socket) (flat_map calls ds)) (put_out p.connection hs) new.world (flows.keeps [] [] start)
+-- in a world with no connection nothing was taken or put out
+new_accounts : (f : Config) (d : ℕ) → Accounts d [] [] (new_world f)
+new_accounts f d = record { fits = inl refl; unopened = λ lt. (refl, refl, refl) }
+
+-- of all that a server did from there on
+pub story_accounts : (L : Lacks) (f : Config) (p : Peer) (ds : List Deed) (told : Told) (new : Served) (os : List Occurrence) → IsSound f → Story L (served (new_world f) [] told) ds os new → AllByRecursion (λ d. PairsWith p (peer_of d)) ds
+    → Accounts p.connection (flat_map (written_to p.socket) (flat_map calls ds)) (put_out p.connection (events_of os)) new.world
+story_accounts L f p ds told new os sound s pairs = (flows_story L p ds (served (new_world f) [] told) new os (new_is_consistent f sound) s pairs).keeps [] [] (new_accounts f p.connection)
+
+pub are_beginnings : (L : Lacks) (f : Config) (ds : List Deed) (told : Told) (new : Served) (os : List Occurrence) → IsSound f → Story L (served (new_world f) [] told) ds os new → AreBeginnings ds os
+are_beginnings L f ds told new os sound s p i =
+    beginning p.connection _ (put_out p.connection (events_of os)) new.world (story_accounts L f p ds told new os sound s (pairs_in L ds (served (new_world f) [] told) new os refl s p i))

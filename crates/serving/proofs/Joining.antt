@@ -4,10 +4,11 @@ use Rattle.std.proofs.lemmas.List.Elements.{filter_map-append}
 use Rattle.std.proofs.lemmas.List.Sums.{sum_by-append}
 use Rattle.std.specs.Prelude.{◌==◌, if◌then◌else◌}
 use Rattle.std.specs.List.{AllByRecursion}
-use Rattle.model.specs.Run.{Happening}
+use Rattle.model.specs.State.{Config}
+use Rattle.model.specs.History.{Occurrence}
 use Rattle.serving.specs.Wire.{Call}
 use Rattle.serving.specs.Coming.{Attempt}
-use Rattle.serving.specs.Story.{Served, Deed, Met, Turned_away, Met_no_one, Heard, Heard_partly, Heard_nothing, Heard_end, Gave, Gave_partly, Gave_nothing, Gave_up, Pumped, Pumped_nothing, Pump_refused, Let_go, Paused, calls, attempts, DoesDeed, Story}
+use Rattle.serving.specs.Story.{Served, Deed, Met, Turned_away, Met_no_one, Heard, Heard_partly, Heard_nothing, Heard_end, Gave, Gave_partly, Gave_nothing, Gave_up, Pumped, Pumped_nothing, Pump_refused, Let_go, Paused, Reload_decided, Reload_undecided, calls, attempts, DoesDeed, Story}
 use Rattle.serving.specs.Joined.{piece_for, amount_for, is_loss_of, is_short_for, got_of, count_of, is_end_of, IsJoined, AreJoined}
 use Rattle.model.specs.declared.events.Arrival.{Arrival}
 use Rattle.model.specs.declared.events.Arrival.TheVariants as arrival
@@ -36,7 +37,7 @@ joined_then p xs ys as' bs j k = record {
 -- of an opening nothing is told
 opening_joined : (p : Peer) (o : Attempt) (xs : List Call) → o.arrival ≡ arrival.Open → IsJoined p xs [] → IsJoined p xs (o ∷ [])
 opening_joined p o xs e j =
-    subst (λ (z : Arrival). IsJoined p xs (record { arrival = z; is_whole = o.is_whole } ∷ [])) (sym e) (go o.is_whole)
+    subst (λ (z : Arrival Config). IsJoined p xs (record { arrival = z; is_whole = o.is_whole } ∷ [])) (sym e) (go o.is_whole)
   where
     go : (b : Bool) → IsJoined p xs (record { arrival = arrival.Open; is_whole = b } ∷ [])
     go true = record { pieces = j.pieces; amounts = j.amounts; losses = j.losses }
@@ -61,30 +62,32 @@ end_loss false = refl
 same_end : (x y : Bool) → x ≡ y → count_by (λ (b : Bool). b) (x ∷ []) ≡ count_by (λ (b : Bool). b) (y ∷ false ∷ []) + count_by (λ (b : Bool). b) (false ∷ [])
 same_end x y e = ap (λ (b : Bool). count_by (λ (b : Bool). b) (b ∷ [])) e ∙ end_loss y
 
-joined_one : {L : Lacks} (p : Peer) (v w : Served) (d : Deed) (hs : List Happening) → DoesDeed L v d hs w → PairsWith p (peer_of d) → IsJoined p (calls d) (attempts d)
-joined_one p v w (Met i q) hs does pair = record { pieces = refl; amounts = refl; losses = refl }
-joined_one p v w (Turned_away s o) hs does pair = opening_joined p o _ does.table.0 (record { pieces = refl; amounts = refl; losses = refl })
-joined_one p v w (Met_no_one true) hs does pair = record { pieces = refl; amounts = refl; losses = refl }
-joined_one p v w (Met_no_one false) hs does pair = record { pieces = refl; amounts = refl; losses = refl }
-joined_one p v w (Heard i q bytes) hs does pair = record { pieces = same_bytes (q.connection == p.connection) (q.socket == p.socket) bytes pair; amounts = refl; losses = refl }
-joined_one p v w (Heard_partly i q bytes) hs does pair = record { pieces = same_bytes (q.connection == p.connection) (q.socket == p.socket) bytes pair; amounts = refl; losses = short_loss (q.connection == p.connection) }
-joined_one p v w (Heard_nothing i q) hs does pair = record { pieces = refl; amounts = refl; losses = refl }
-joined_one p v w (Heard_end i q true) hs does pair = record { pieces = refl; amounts = refl; losses = same_end (q.connection == p.connection) (q.socket == p.socket) pair }
-joined_one p v w (Heard_end i q false) hs does pair = record { pieces = refl; amounts = refl; losses = same_end (q.connection == p.connection) (q.socket == p.socket) pair }
-joined_one p v w (Gave i q offered taken) hs does pair = record { pieces = refl; amounts = same_amount (q.connection == p.connection) (q.socket == p.socket) (length taken) pair; losses = refl }
-joined_one p v w (Gave_partly i q offered taken) hs does pair = record { pieces = refl; amounts = same_amount (q.connection == p.connection) (q.socket == p.socket) (length taken) pair; losses = short_loss (q.connection == p.connection) }
-joined_one p v w (Gave_nothing i q offered) hs does pair = record { pieces = refl; amounts = refl; losses = refl }
-joined_one p v w (Gave_up i q offered) hs does pair = record { pieces = refl; amounts = refl; losses = same_end (q.connection == p.connection) (q.socket == p.socket) pair }
-joined_one p v w Pumped hs does pair = record { pieces = refl; amounts = refl; losses = refl }
-joined_one p v w Pumped_nothing hs does pair = record { pieces = refl; amounts = refl; losses = refl }
-joined_one p v w Pump_refused hs does pair = record { pieces = refl; amounts = refl; losses = refl }
-joined_one p v w (Let_go i q) hs does pair = record { pieces = refl; amounts = refl; losses = refl }
-joined_one p v w Paused hs does pair = record { pieces = refl; amounts = refl; losses = refl }
+joined_one : {L : Lacks} (p : Peer) (v w : Served) (d : Deed) (os : List Occurrence) → DoesDeed L v d os w → PairsWith p (peer_of d) → IsJoined p (calls d) (attempts d)
+joined_one p v w (Met i q) os does pair = record { pieces = refl; amounts = refl; losses = refl }
+joined_one p v w (Turned_away s o) os does pair = opening_joined p o _ does.table.0 (record { pieces = refl; amounts = refl; losses = refl })
+joined_one p v w (Met_no_one true) os does pair = record { pieces = refl; amounts = refl; losses = refl }
+joined_one p v w (Met_no_one false) os does pair = record { pieces = refl; amounts = refl; losses = refl }
+joined_one p v w (Heard i q bytes) os does pair = record { pieces = same_bytes (q.connection == p.connection) (q.socket == p.socket) bytes pair; amounts = refl; losses = refl }
+joined_one p v w (Heard_partly i q bytes) os does pair = record { pieces = same_bytes (q.connection == p.connection) (q.socket == p.socket) bytes pair; amounts = refl; losses = short_loss (q.connection == p.connection) }
+joined_one p v w (Heard_nothing i q) os does pair = record { pieces = refl; amounts = refl; losses = refl }
+joined_one p v w (Heard_end i q true) os does pair = record { pieces = refl; amounts = refl; losses = same_end (q.connection == p.connection) (q.socket == p.socket) pair }
+joined_one p v w (Heard_end i q false) os does pair = record { pieces = refl; amounts = refl; losses = same_end (q.connection == p.connection) (q.socket == p.socket) pair }
+joined_one p v w (Gave i q offered taken) os does pair = record { pieces = refl; amounts = same_amount (q.connection == p.connection) (q.socket == p.socket) (length taken) pair; losses = refl }
+joined_one p v w (Gave_partly i q offered taken) os does pair = record { pieces = refl; amounts = same_amount (q.connection == p.connection) (q.socket == p.socket) (length taken) pair; losses = short_loss (q.connection == p.connection) }
+joined_one p v w (Gave_nothing i q offered) os does pair = record { pieces = refl; amounts = refl; losses = refl }
+joined_one p v w (Gave_up i q offered) os does pair = record { pieces = refl; amounts = refl; losses = same_end (q.connection == p.connection) (q.socket == p.socket) pair }
+joined_one p v w Pumped os does pair = record { pieces = refl; amounts = refl; losses = refl }
+joined_one p v w Pumped_nothing os does pair = record { pieces = refl; amounts = refl; losses = refl }
+joined_one p v w Pump_refused os does pair = record { pieces = refl; amounts = refl; losses = refl }
+joined_one p v w (Let_go i q) os does pair = record { pieces = refl; amounts = refl; losses = refl }
+joined_one p v w Paused os does pair = record { pieces = refl; amounts = refl; losses = refl }
+joined_one p v w (Reload_decided g) os does pair = record { pieces = refl; amounts = refl; losses = refl }
+joined_one p v w (Reload_undecided g) os does pair = record { pieces = refl; amounts = refl; losses = refl }
 
-joined_all : (L : Lacks) (p : Peer) (ds : List Deed) (v w : Served) (hs : List Happening) → Story L v ds hs w → AllByRecursion (λ d. PairsWith p (peer_of d)) ds → IsJoined p (flat_map calls ds) (flat_map attempts ds)
-joined_all L p [] v w hs s a = joined_none p
-joined_all L p (d ∷ ds) v w hs (mid, first, rest, e, does, s) a = joined_then p (calls d) (flat_map calls ds) (attempts d) (flat_map attempts ds) (joined_one p v mid d first does a.0) (joined_all L p ds mid w rest s a.1)
+pub joined_all : (L : Lacks) (p : Peer) (ds : List Deed) (v w : Served) (os : List Occurrence) → Story L v ds os w → AllByRecursion (λ d. PairsWith p (peer_of d)) ds → IsJoined p (flat_map calls ds) (flat_map attempts ds)
+joined_all L p [] v w os s a = joined_none p
+joined_all L p (d ∷ ds) v w os (mid, first, rest, e, does, s) a = joined_then p (calls d) (flat_map calls ds) (attempts d) (flat_map attempts ds) (joined_one p v mid d first does a.0) (joined_all L p ds mid w rest s a.1)
 
 -- from a server with no socket
-pub are_joined : (L : Lacks) (ds : List Deed) (v w : Served) (hs : List Happening) → v.peers ≡ [] → Story L v ds hs w → AreJoined ds
-are_joined L ds v w hs none s p i = joined_all L p ds v w hs s (pairs_in L ds v w hs none s p i)
+pub are_joined : (L : Lacks) (ds : List Deed) (v w : Served) (os : List Occurrence) → v.peers ≡ [] → Story L v ds os w → AreJoined ds
+are_joined L ds v w os none s p i = joined_all L p ds v w os s (pairs_in L ds v w os none s p i)

@@ -1,27 +1,30 @@
 -- What a server did is one story, in which the promises are kept.
-use Rattle.std.proofs.Common.{◌≡◌, ◌<◌, ℕ, zero, suc, ◌+◌, List, [], ◌∷◌, ◌++◌, Bool, true, false, Option, Some, length, slice_get, refl, sym, ap, subst, ◌∙◌, append_assoc, flat_map, inl, inr, arith}
+use Rattle.std.proofs.Common.{◌≡◌, ◌<◌, ℕ, zero, suc, ◌+◌, List, [], ◌∷◌, ◌++◌, Bool, true, false, Option, Some, length, slice_get, refl, sym, ap, subst, ◌∙◌, append_assoc, append-nil, flat_map, map, inl, inr, arith}
 use Rattle.std.specs.Prelude.{MatchBool}
 use Rattle.std.specs.List.{AllByRecursion}
 use Rattle.model.specs.State.{Config}
-use Rattle.model.specs.Run.{Happening, notes_of}
-use Rattle.model.specs.Arrivals.{World, new_world, Answers, Same, Shows, shown, Plays, with_heard}
+use Rattle.model.specs.Run.{Happening}
+use Rattle.model.specs.History.{Occurrence, Of_event, events_of, notes_over}
+use Rattle.model.specs.Arrivals.{World, new_world, Answers, ByEvents, Same, Shows, shown, Plays, with_heard}
 use Rattle.model.specs.Consistent.{IsConsistent}
 use Rattle.model.specs.Headline.{IsSound}
 use Rattle.model.specs.declared.events.Arrival.{Arrival}
 use Rattle.model.specs.declared.events.Arrival.TheVariants as arrival
 use Rattle.laws.proofs.Consistency.{linked, new_is_consistent}
-use Rattle.laws.proofs.Plays.{Told as ToldOf, told-append, told_at, told_same, told_works, told_waits, told_heard, told_taken, told_answers}
+use Rattle.laws.specs.Reloading.{IsOffered}
+use Rattle.laws.proofs.Histories.{ToldOver, over_told, over_at, over-append, over_plays, events-append, events-mapped}
+use Rattle.laws.proofs.Plays.{Told as ToldOf, told-append, told_at, told_same, told_works, told_waits, told_heard, told_taken}
 use Rattle.laws.proofs.Spoken.{Speaks, speaks_same, speaks_append, speaks_at, works_speaks, waits_speaks, takes_speaks, answer_speaks, spoken_from_start}
 use Rattle.laws.proofs.Whole.{promises_hold}
 use Rattle.serving.specs.Wire.{Ask, Told, Tells}
 use Rattle.serving.specs.Coming.{Attempt, WorksPartly, FallsShort, Attempts, IsWhole}
-use Rattle.serving.specs.Story.{Served, served, Deed, Paused, calls, attempts, Story, Serves, PumpsUp}
+use Rattle.serving.specs.Story.{Served, served, Deed, Paused, calls, attempts, DoesDeed, Story, Serves, PumpsUp}
 use Rattle.serving.specs.Rounds.{RestsUnless, IsRound, Rounds}
 use Rattle.serving.specs.Whole.{arrived, arrivals_of, seen_after, seen_of, IsServed}
 use Rattle.serving.specs.declared.peers.Peer.{Peer}
 use Rattle.serving.proofs.Onward.{tells_none, tells_then, story-append, serves_not}
 use Rattle.serving.proofs.Deeds.{same_not}
-use Rattle.serving.proofs.Staying.{brings_stays}
+use Rattle.serving.proofs.Staying.{AllOffered, brings_stays, plays_one, story_offered}
 use Rattle.serving.proofs.Joining.{are_joined}
 use Rattle.serving.proofs.Flowing.{are_beginnings}
 use Rattle.serving.proofs.Counting.{are_counted}
@@ -32,7 +35,7 @@ use Rattle.runs.specs.Wants.{Lacks}
 told_part : {L : Lacks} (c : ℕ) (a b : World) (hs : List Happening) → WorksPartly L a c hs b → ToldOf a hs b
 told_part c a b hs l = told_waits c a l.mid b hs (told_works c a l.mid hs l.works) l.waits
 
-told_short : (L : Lacks) (a b : World) (t : Arrival) (hs : List Happening) → FallsShort L a t hs b → ToldOf a hs b
+told_short : (L : Lacks) (a b : World) (t : Arrival Config) (hs : List Happening) → FallsShort L a t hs b → ToldOf a hs b
 told_short L a b arrival.Open hs p = told_same a b hs p
 told_short L a b (arrival.Ready k) hs p = told_same a b hs p
 told_short L a b (arrival.In c bytes) hs (inl p) = told_same a b hs p.1
@@ -40,11 +43,12 @@ told_short L a b (arrival.In c bytes) hs (inr l) = told_heard a b c bytes hs (to
 told_short L a b (arrival.Sent c n) hs l = told_at a b hs (l.first ++ l.rest) l.all (told-append a l.mid b l.first l.rest (told_taken c n a l.mid l.first l.takes) (told_part c l.mid b l.rest l.works))
 told_short L a b arrival.Pump hs p = told_same a b hs p.1
 told_short L a b (arrival.Lose c) hs p = absurd p
+told_short L a b (arrival.Reload g) hs p = told_same a b hs p.1
 
 speaks_part : {L : Lacks} (c : ℕ) (a b : World) (hs : List Happening) → WorksPartly L a c hs b → Speaks a hs b
 speaks_part c a b hs l = waits_speaks c a l.mid b hs (works_speaks c a l.mid hs l.works) l.waits
 
-short_speaks : (L : Lacks) (a b : World) (t : Arrival) (hs : List Happening) → FallsShort L a t hs b → Speaks a hs b
+short_speaks : (L : Lacks) (a b : World) (t : Arrival Config) (hs : List Happening) → FallsShort L a t hs b → Speaks a hs b
 short_speaks L a b arrival.Open hs p = speaks_same a b hs p
 short_speaks L a b (arrival.Ready k) hs p = speaks_same a b hs p
 short_speaks L a b (arrival.In c bytes) hs (inl p) = speaks_same a b hs p.1
@@ -52,34 +56,40 @@ short_speaks L a b (arrival.In c bytes) hs (inr l) = speaks_part c (with_heard a
 short_speaks L a b (arrival.Sent c n) hs l = speaks_at a b hs (l.first ++ l.rest) l.all (speaks_append a l.mid b l.first l.rest (takes_speaks c n a l.mid l.first l.takes) (speaks_part c l.mid b l.rest l.works))
 short_speaks L a b arrival.Pump hs p = speaks_same a b hs p.1
 short_speaks L a b (arrival.Lose c) hs p = absurd p
+short_speaks L a b (arrival.Reload g) hs p = speaks_same a b hs p.1
 
 -- ---- all that arrives
 
-told_brings : (L : Lacks) (a b : World) (t : Arrival) (x : Bool) (hs : List Happening) → MatchBool x (Answers a t hs b) (FallsShort L a t hs b) → ToldOf a hs b
-told_brings L a b t true hs p = told_answers a b t hs p
-told_brings L a b t false hs p = told_short L a b t hs p
+told_brings : (L : Lacks) (a b : World) (t : Arrival Config) (x : Bool) (os : List Occurrence) → IsOffered t → MatchBool x (Answers a t os b) (ByEvents os (λ hs. FallsShort L a t hs b)) → ToldOver a os b
+told_brings L a b t true os offered p = over_plays a b (t ∷ []) os (offered, tt) (plays_one a b t os p)
+told_brings L a b t false os offered (hs, e, p) = over_at a b os (map Of_event hs) e (over_told a b hs (told_short L a b t hs p))
 
-brings_speaks : (L : Lacks) (a b : World) (t : Arrival) (x : Bool) (hs : List Happening) → IsConsistent a → MatchBool x (Answers a t hs b) (FallsShort L a t hs b) → Speaks a hs b
-brings_speaks L a b t true hs k p = answer_speaks a b t hs (linked a k) p
-brings_speaks L a b t false hs k p = short_speaks L a b t hs p
+brings_speaks : (L : Lacks) (a b : World) (t : Arrival Config) (x : Bool) (os : List Occurrence) → IsConsistent a → MatchBool x (Answers a t os b) (ByEvents os (λ hs. FallsShort L a t hs b)) → Speaks a (events_of os) b
+brings_speaks L a b t true os k p = answer_speaks a b t os (linked a k) p
+brings_speaks L a b t false os k (hs, e, p) = speaks_at a b (events_of os) hs (ap events_of e ∙ events-mapped hs) (short_speaks L a b t hs p)
 
-nothing : (a b : World) (hs : List Happening) → (hs ≡ []) × (b ≡ a) → (hs ≡ []) × Same a b
-nothing a b hs p = (p.0, subst (λ (w : World). Same a w) (sym p.1) (same_not a))
+nothing : (a b : World) (os : List Occurrence) → (os ≡ []) × (b ≡ a) → (os ≡ []) × Same a b
+nothing a b os p = (p.0, subst (λ (w : World). Same a w) (sym p.1) (same_not a))
 
-told_attempts : (L : Lacks) (as' : List Attempt) (a b : World) (hs : List Happening) → Attempts L a as' hs b → ToldOf a hs b
-told_attempts L [] a b hs p = told_same a b hs (nothing a b hs p)
-told_attempts L (t ∷ as') a b hs (mid, first, rest, e, br, p) = told_at a b hs (first ++ rest) e (told-append a mid b first rest (told_brings L a mid t.arrival t.is_whole first br) (told_attempts L as' mid b rest p))
+told_nothing : (a b : World) (os : List Occurrence) → (os ≡ []) × (b ≡ a) → ToldOver a os b
+told_nothing a b os p = over_at a b os [] p.0 (over_told a b [] (told_same a b [] (refl, (nothing a b os p).1)))
 
-attempts_speak : (L : Lacks) (as' : List Attempt) (a b : World) (hs : List Happening) → IsConsistent a → Attempts L a as' hs b → Speaks a hs b
-attempts_speak L [] a b hs k p = speaks_same a b hs (nothing a b hs p)
-attempts_speak L (t ∷ as') a b hs k (mid, first, rest, e, br, p) =
-    speaks_at a b hs (first ++ rest) e (speaks_append a mid b first rest (brings_speaks L a mid t.arrival t.is_whole first k br) (attempts_speak L as' mid b rest (brings_stays L a mid t.arrival t.is_whole first k br) p))
+told_attempts : (L : Lacks) (as' : List Attempt) (a b : World) (os : List Occurrence) → AllOffered as' → Attempts L a as' os b → ToldOver a os b
+told_attempts L [] a b os offered p = told_nothing a b os p
+told_attempts L (t ∷ as') a b os offered (mid, first, rest, e, br, p) =
+    over_at a b os (first ++ rest) e (over-append a mid b first rest (told_brings L a mid t.arrival t.is_whole first offered.0 br) (told_attempts L as' mid b rest offered.1 p))
+
+attempts_speak : (L : Lacks) (as' : List Attempt) (a b : World) (os : List Occurrence) → AllOffered as' → IsConsistent a → Attempts L a as' os b → Speaks a (events_of os) b
+attempts_speak L [] a b os offered k p = let n = nothing a b os p in speaks_same a b (events_of os) (ap events_of n.0, n.1)
+attempts_speak L (t ∷ as') a b os offered k (mid, first, rest, e, br, p) =
+    speaks_at a b (events_of os) (events_of first ++ events_of rest) (ap events_of e ∙ events-append first rest)
+    (speaks_append a mid b (events_of first) (events_of rest) (brings_speaks L a mid t.arrival t.is_whole first k br) (attempts_speak L as' mid b rest offered.1 (brings_stays L a mid t.arrival t.is_whole first offered.0 k br) p))
 
 -- where memory was never refused, these are the arrivals
-plays_all : (L : Lacks) (as' : List Attempt) (a b : World) (hs : List Happening) → AllByRecursion IsWhole as' → Attempts L a as' hs b → Plays a (arrivals_of as') hs b
-plays_all L [] a b hs all p = nothing a b hs p
-plays_all L (t ∷ as') a b hs all (mid, first, rest, e, br, p) =
-    (mid, first, rest, e, subst (λ (x : Bool). MatchBool x (Answers a t.arrival first mid) (FallsShort L a t.arrival first mid)) all.0 br, plays_all L as' mid b rest all.1 p)
+plays_all : (L : Lacks) (as' : List Attempt) (a b : World) (os : List Occurrence) → AllByRecursion IsWhole as' → Attempts L a as' os b → Plays a (arrivals_of as') os b
+plays_all L [] a b os all p = nothing a b os p
+plays_all L (t ∷ as') a b os all (mid, first, rest, e, br, p) =
+    (mid, first, rest, e, subst (λ (x : Bool). MatchBool x (Answers a t.arrival first mid) (ByEvents first (λ hs. FallsShort L a t.arrival hs mid))) all.0 br, plays_all L as' mid b rest all.1 p)
 
 -- ---- what is seen
 
@@ -94,48 +104,51 @@ seen_at hs w k (suc n) (suc i) lt =
     let e : k + 1 + i + 1 ≡ k + suc i + 1 = omega arith in
     seen_at hs w (k + 1) n i (omega (arith, lt)) ∙ ap (λ (c : ℕ). Some (shown hs w c)) e
 
-shows_all : (hs : List Happening) (w : World) → Shows hs w (record { connections = seen_of hs w; notes = notes_of hs })
-shows_all hs w = record {
+shows_all : (os : List Occurrence) (w : World) → Shows os w (record { connections = seen_of (events_of os) w; notes = notes_over os })
+shows_all os w = record {
   noted = refl;
-  counted = counted hs w 0 w.given;
-  each = λ i lt. let e : 0 + i + 1 ≡ i + 1 = omega arith in seen_at hs w 0 w.given i lt ∙ ap (λ (c : ℕ). Some (shown hs w c)) e;
+  counted = counted (events_of os) w 0 w.given;
+  each = λ i lt. let e : 0 + i + 1 ≡ i + 1 = omega arith in seen_at (events_of os) w 0 w.given i lt ∙ ap (λ (c : ℕ). Some (shown (events_of os) w c)) e;
 }
 
 -- ---- a story
 
-attempts-append : (L : Lacks) (as' bs : List Attempt) (a b c : World) (hs ks : List Happening) → Attempts L a as' hs b → Attempts L b bs ks c → Attempts L a (as' ++ bs) (hs ++ ks) c
-attempts-append L [] bs a b c hs ks s t = subst (λ (z : List Happening). Attempts L a bs (z ++ ks) c) (sym s.0) (subst (λ (z : World). Attempts L z bs ks c) s.1 t)
-attempts-append L (x ∷ as') bs a b c hs ks (mid, first, rest, e, br, s) t =
-    (mid, first, rest ++ ks, ap (λ (z : List Happening). z ++ ks) e ∙ append_assoc first rest ks, br, attempts-append L as' bs mid b c rest ks s t)
+attempts-append : (L : Lacks) (as' bs : List Attempt) (a b c : World) (os ps : List Occurrence) → Attempts L a as' os b → Attempts L b bs ps c → Attempts L a (as' ++ bs) (os ++ ps) c
+attempts-append L [] bs a b c os ps s t = subst (λ (z : List Occurrence). Attempts L a bs (z ++ ps) c) (sym s.0) (subst (λ (z : World). Attempts L z bs ps c) s.1 t)
+attempts-append L (x ∷ as') bs a b c os ps (mid, first, rest, e, br, s) t =
+    (mid, first, rest ++ ps, ap (λ (z : List Occurrence). z ++ ps) e ∙ append_assoc first rest ps, br, attempts-append L as' bs mid b c rest ps s t)
 
-story_arrives : (L : Lacks) (ds : List Deed) (v w : Served) (hs : List Happening) → Story L v ds hs w → Attempts L v.world (arrived ds) hs w.world
-story_arrives L [] v w hs s = (s.0, ap (λ (z : Served). z.world) s.1)
-story_arrives L (d ∷ ds) v w hs (mid, first, rest, e, does, s) =
-    subst (λ (z : List Happening). Attempts L v.world (attempts d ++ arrived ds) z w.world) (sym e) (attempts-append L (attempts d) (arrived ds) v.world mid.world w.world first rest does.brings (story_arrives L ds mid w rest s))
+pub story_arrives : (L : Lacks) (ds : List Deed) (v w : Served) (os : List Occurrence) → Story L v ds os w → Attempts L v.world (arrived ds) os w.world
+story_arrives L [] v w os s = (s.0, ap (λ (z : Served). z.world) s.1)
+story_arrives L (d ∷ ds) v w os (mid, first, rest, e, does, s) =
+    subst (λ (z : List Occurrence). Attempts L v.world (attempts d ++ arrived ds) z w.world) (sym e) (attempts-append L (attempts d) (arrived ds) v.world mid.world w.world first rest does.brings (story_arrives L ds mid w rest s))
 
-story_asked : (L : Lacks) (ds : List Deed) (v w : Served) (hs : List Happening) → Story L v ds hs w → Tells v.told (flat_map calls ds) w.told
-story_asked L [] v w hs s = subst (λ (z : Served). Tells v.told [] z.told) (sym s.1) (tells_none v.told)
-story_asked L (d ∷ ds) v w hs (mid, first, rest, e, does, s) = tells_then v.told mid.told w.told (calls d) (flat_map calls ds) does.told (story_asked L ds mid w rest s)
+pub story_asked : (L : Lacks) (ds : List Deed) (v w : Served) (os : List Occurrence) → Story L v ds os w → Tells v.told (flat_map calls ds) w.told
+story_asked L [] v w os s = subst (λ (z : Served). Tells v.told [] z.told) (sym s.1) (tells_none v.told)
+story_asked L (d ∷ ds) v w os (mid, first, rest, e, does, s) = tells_then v.told mid.told w.told (calls d) (flat_map calls ds) does.told (story_asked L ds mid w rest s)
 
 -- ---- rounds
 
 -- a server went on by some story
-abbrev Went : Lacks → Served → Served → Type 0
-Went L old new = (ds : List Deed) × (hs : List Happening) × Story L old ds hs new
+abbrev pub Went : Lacks → Served → Served → Type 0
+Went L old new = (ds : List Deed) × (os : List Occurrence) × Story L old ds os new
 
 went_then : (L : Lacks) (a b c : Served) → Went L a b → Went L b c → Went L a c
-went_then L a b c (ds, hs, s) (es, ks, t) = (ds ++ es, hs ++ ks, story-append L ds es a b c hs ks s t)
+went_then L a b c (ds, os, s) (es, ps, t) = (ds ++ es, os ++ ps, story-append L ds es a b c os ps s t)
+
+pub went_one : {L : Lacks} (a b : Served) (d : Deed) (os : List Occurrence) → DoesDeed L a d os b → Went L a b
+went_one a b d os does = (d ∷ [], os, (b, os, [], sym (append-nil os), does, (refl, refl)))
 
 went : {L : Lacks} (a b : Served) (xs : List Ask) (p : Bool) → Serves L a xs p b → Went L a b
-went a b xs p s = (s.deeds, s.happenings, s.story)
+went a b xs p s = (s.deeds, s.occurrences, s.story)
 
 went_pumps : {L : Lacks} (n : ℕ) (a b : Served) (p : Bool) → PumpsUp L n a p b → Went L a b
-went_pumps n a b p s = (s.deeds, s.happenings, s.story)
+went_pumps n a b p s = (s.deeds, s.occurrences, s.story)
 
 went_rests : (L : Lacks) (v w : Served) (acted : Bool) → RestsUnless v acted w → Went L v w
 went_rests L v w true e = subst (λ (z : Served). Went L v z) (sym e) (went v v [] false (serves_not v))
 went_rests L v w false (e, t) =
-    (Paused ∷ [], [], (w, [], [], refl, record { table = ap (λ (z : Served). z.peers) e; brings = (refl, ap (λ (z : Served). z.world) e); told = t }, (refl, refl)))
+    went_one v w Paused [] (record { table = ap (λ (z : Served). z.peers) e; brings = (refl, ap (λ (z : Served). z.world) e); told = t })
 
 went_round : {L : Lacks} (a b : Served) → IsRound L a b → Went L a b
 went_round {L = L} a b r =
@@ -147,27 +160,29 @@ went_round {L = L} a b r =
         let g = r.goes in
         went_then L a g.heard g.pumped (went_then L a g.met g.heard (went a g.met _ _ g.accepts) (went g.met g.heard _ _ g.reads)) (went_pumps _ g.heard g.pumped _ g.pumps)
 
-went_rounds : (L : Lacks) (n : ℕ) (a b : Served) → Rounds L n a b → Went L a b
+pub went_rounds : (L : Lacks) (n : ℕ) (a b : Served) → Rounds L n a b → Went L a b
 went_rounds L zero a b e = subst (λ (z : Served). Went L a z) (sym e) (went a a [] false (serves_not a))
 went_rounds L (suc n) a b (mid, rs, r) = went_then L a mid b (went_rounds L n a mid rs) (went_round mid b r)
 
 is_served : {L : Lacks} (f : Config) (told : Told) (new : Served) → IsSound f → Went L (served (new_world f) [] told) new → IsServed L f told new
-is_served {L = L} f told new sound (ds, hs, s) =
-    let arrives = story_arrives L ds (served (new_world f) [] told) new hs s in
+is_served {L = L} f told new sound (ds, os, s) =
+    let start = served (new_world f) [] told in
+    let arrives = story_arrives L ds start new os s in
+    let offered = story_offered L ds start new os s in
     record {
       sound = sound;
       deeds = ds;
-      happenings = hs;
+      occurrences = os;
       story = s;
-      asked = story_asked L ds (served (new_world f) [] told) new hs s;
+      asked = story_asked L ds start new os s;
       arrives = arrives;
-      plays = λ all. plays_all L (arrived ds) (new_world f) new.world hs all arrives;
-      promises = promises_hold f hs new.world (record { connections = seen_of hs new.world; notes = notes_of hs }) sound
-          (told_attempts L (arrived ds) (new_world f) new.world hs arrives)
-          (spoken_from_start f hs new.world (attempts_speak L (arrived ds) (new_world f) new.world hs (new_is_consistent f sound) arrives)) (shows_all hs new.world);
-      joined = are_joined L ds (served (new_world f) [] told) new hs refl s;
-      written = are_beginnings L f ds told new hs sound s;
-      counted = are_counted L ds (served (new_world f) [] told) new hs refl s;
+      plays = λ all. plays_all L (arrived ds) (new_world f) new.world os all arrives;
+      promises = promises_hold f os new.world (record { connections = seen_of (events_of os) new.world; notes = notes_over os }) sound
+          (told_attempts L (arrived ds) (new_world f) new.world os offered arrives)
+          (spoken_from_start f (events_of os) new.world (attempts_speak L (arrived ds) (new_world f) new.world os offered (new_is_consistent f sound) arrives)) (shows_all os new.world);
+      joined = are_joined L ds start new os refl s;
+      written = are_beginnings L f ds told new os sound s;
+      counted = are_counted L ds start new os refl s;
     }
 
 -- one round more
@@ -175,8 +190,11 @@ pub rounds_more : {L : Lacks} (n : ℕ) (a b c : Served) → Rounds L n a b → 
 rounds_more {L = L} n a b c rs r = let next : suc n ≡ n + 1 = omega arith in subst (λ (m : ℕ). Rounds L m a c) next (b, rs, r)
 
 -- what was served before is served after
+pub went_on : {L : Lacks} (f : Config) (told : Told) (old new : Served) → Went L old new → IsServed L f told old → IsServed L f told new
+went_on {L = L} f told old new w was = is_served f told new was.sound (went_then L (served (new_world f) [] told) old new (was.deeds, was.occurrences, was.story) w)
+
 pub served_on : {L : Lacks} (f : Config) (told : Told) (n : ℕ) (old new : Served) → Rounds L n old new → IsServed L f told old → IsServed L f told new
-served_on {L = L} f told n old new rs was = is_served f told new was.sound (went_then L (served (new_world f) [] told) old new (was.deeds, was.happenings, was.story) (went_rounds L n old new rs))
+served_on {L = L} f told n old new rs was = went_on f told old new (went_rounds L n old new rs) was
 
 -- a new server is served
 pub new_served : {L : Lacks} (f : Config) (w : World) (ps : List (Option Peer)) (told : Told) → IsSound f → w ≡ new_world f → ps ≡ [] → IsServed L f told (served w ps told)

@@ -11,3 +11,5 @@ pub mod Joining
 pub mod Flowing
 pub mod Counting
 pub mod Keeping
+pub mod Going
+pub mod Offering

@@ -8,7 +8,7 @@ use Rattle.std.proofs.lemmas.List.Elements.{filter_map-append}
 use Rattle.std.proofs.lemmas.List.Folds.{list_any-append}
 use Rattle.std.proofs.lemmas.List.Sums.{sum_by-append}
 use Rattle.model.specs.Topology.{IsIn}
-use Rattle.model.specs.Run.{Happening}
+use Rattle.model.specs.History.{Occurrence}
 use Rattle.model.specs.Arrivals.{World}
 use Rattle.serving.specs.Wire.{Call, Accepted, Not_accepted, Accept_failed, Got, Nothing_got, Read_ended, Read_failed, Took, Nothing_taken, Write_failed, Closed, Rested, Ask, ask, asks, Totals, no_bytes, with_got, with_taken, total_after, totals_after, Told, Tells, Follows, is_failed}
 use Rattle.serving.specs.Coming.{Attempt, Brings, Attempts}
@@ -94,19 +94,19 @@ tells_then a b c xs ys s t = record {
 -- ---- what a server does
 
 pub serves_not : {L : Lacks} (v : Served) → Serves L v [] false v
-serves_not v = record { deeds = []; happenings = []; story = (refl, refl); asks = refl; all_asked = refl; done = refl }
+serves_not v = record { deeds = []; occurrences = []; story = (refl, refl); asks = refl; all_asked = refl; done = refl }
 
-pub story-append : (L : Lacks) (ds es : List Deed) (a b c : Served) (hs ks : List Happening) → Story L a ds hs b → Story L b es ks c → Story L a (ds ++ es) (hs ++ ks) c
-story-append L [] es a b c hs ks s t =
-    subst (λ (z : List Happening). Story L a es (z ++ ks) c) (sym s.0) (subst (λ (z : Served). Story L z es ks c) s.1 t)
-story-append L (d ∷ ds) es a b c hs ks (mid, first, rest, e, does, s) t =
-    (mid, first, rest ++ ks, ap (λ (z : List Happening). z ++ ks) e ∙ append_assoc first rest ks, does, story-append L ds es mid b c rest ks s t)
+pub story-append : (L : Lacks) (ds es : List Deed) (a b c : Served) (os ps : List Occurrence) → Story L a ds os b → Story L b es ps c → Story L a (ds ++ es) (os ++ ps) c
+story-append L [] es a b c os ps s t =
+    subst (λ (z : List Occurrence). Story L a es (z ++ ps) c) (sym s.0) (subst (λ (z : Served). Story L z es ps c) s.1 t)
+story-append L (d ∷ ds) es a b c os ps (mid, first, rest, e, does, s) t =
+    (mid, first, rest ++ ps, ap (λ (z : List Occurrence). z ++ ps) e ∙ append_assoc first rest ps, does, story-append L ds es mid b c rest ps s t)
 
 pub serves_then : {L : Lacks} (a b c : Served) (xs ys : List Ask) (p q : Bool) → Serves L a xs p b → Serves L b ys q c → Serves L a (xs ++ ys) (p || q) c
 serves_then {L = L} a b c xs ys p q s t = record {
   deeds = s.deeds ++ t.deeds;
-  happenings = s.happenings ++ t.happenings;
-  story = story-append L s.deeds t.deeds a b c s.happenings t.happenings s.story t.story;
+  occurrences = s.occurrences ++ t.occurrences;
+  story = story-append L s.deeds t.deeds a b c s.occurrences t.occurrences s.story t.story;
   asks = ap asks (flat_map-append calls s.deeds t.deeds) ∙ filter_map-append ask (flat_map calls s.deeds) (flat_map calls t.deeds)
       ∙ ap (λ (z : List Ask). z ++ asks (flat_map calls t.deeds)) s.asks ∙ ap (λ (z : List Ask). xs ++ z) t.asks;
   all_asked = list_any-append is_unasked s.deeds t.deeds ∙ ap (λ (z : Bool). z || list_any is_unasked t.deeds) s.all_asked ∙ t.all_asked;
@@ -117,21 +117,21 @@ pub or_false : (p : Bool) → (p || false) ≡ p
 or_false true = refl
 or_false false = refl
 
-pub serves_one : {L : Lacks} (a b : Served) (xs : List Ask) (p : Bool) (d : Deed) (hs : List Happening) → DoesDeed L a d hs b → asks (calls d) ≡ xs → is_unasked d ≡ false → is_done d ≡ p → Serves L a xs p b
-serves_one a b xs p d hs does asked pump done = record {
+pub serves_one : {L : Lacks} (a b : Served) (xs : List Ask) (p : Bool) (d : Deed) (os : List Occurrence) → DoesDeed L a d os b → asks (calls d) ≡ xs → is_unasked d ≡ false → is_done d ≡ p → Serves L a xs p b
+serves_one a b xs p d os does asked pump done = record {
   deeds = d ∷ [];
-  happenings = hs;
-  story = (b, hs, [], sym (append-nil hs), does, (refl, refl));
+  occurrences = os;
+  story = (b, os, [], sym (append-nil os), does, (refl, refl));
   asks = ap asks (append-nil (calls d)) ∙ asked;
   all_asked = or_false (is_unasked d) ∙ pump;
   done = or_false (is_done d) ∙ done;
 }
 
-pub attempt_one : (L : Lacks) (a b : World) (t : Attempt) (hs : List Happening) → Brings L a t hs b → Attempts L a (t ∷ []) hs b
-attempt_one L a b t hs br = (b, hs, [], sym (append-nil hs), br, (refl, refl))
+pub attempt_one : (L : Lacks) (a b : World) (t : Attempt) (os : List Occurrence) → Brings L a t os b → Attempts L a (t ∷ []) os b
+attempt_one L a b t os br = (b, os, [], sym (append-nil os), br, (refl, refl))
 
-pub attempt_two : (L : Lacks) (a b c : World) (t u : Attempt) (hs ks : List Happening) → Brings L a t hs b → Brings L b u ks c → Attempts L a (t ∷ u ∷ []) (hs ++ ks) c
-attempt_two L a b c t u hs ks br cr = (b, hs, ks, refl, br, attempt_one L b c u ks cr)
+pub attempt_two : (L : Lacks) (a b c : World) (t u : Attempt) (os ps : List Occurrence) → Brings L a t os b → Brings L b u ps c → Attempts L a (t ∷ u ∷ []) (os ++ ps) c
+attempt_two L a b c t u os ps br cr = (b, os, ps, refl, br, attempt_one L b c u ps cr)
 
 -- ---- rests
 

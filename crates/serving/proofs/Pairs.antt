@@ -4,10 +4,10 @@ use Rattle.std.proofs.lemmas.Bool.{eq-eqb, ne_eqb, false≢true}
 use Rattle.std.specs.Prelude.{◌==◌}
 use Rattle.std.specs.List.{AllByRecursion}
 use Rattle.model.specs.Topology.{IsIn}
-use Rattle.model.specs.Run.{Happening}
-use Rattle.laws.proofs.Counts.{in_front, in_back}
+use Rattle.model.specs.History.{Occurrence}
+use Rattle.laws.proofs.Counts.{in_back}
 use Rattle.serving.specs.Wire.{Call, Accepted, Tells, IsFresh}
-use Rattle.serving.specs.Story.{Served, At, Filled, Deed, Met, Turned_away, Met_no_one, Heard, Heard_partly, Heard_nothing, Heard_end, Gave, Gave_partly, Gave_nothing, Gave_up, Pumped, Pumped_nothing, Pump_refused, Let_go, Paused, attempts, Table, DoesDeed, Story}
+use Rattle.serving.specs.Story.{Served, At, Filled, Deed, Met, Turned_away, Met_no_one, Heard, Heard_partly, Heard_nothing, Heard_end, Gave, Gave_partly, Gave_nothing, Gave_up, Pumped, Pumped_nothing, Pump_refused, Let_go, Paused, Reload_decided, Reload_undecided, attempts, Table, DoesDeed, Story}
 use Rattle.serving.specs.Joined.{met_by, all_met}
 use Rattle.serving.specs.declared.peers.Peer.{Peer}
 use Rattle.serving.proofs.Fits.{freed_at, filled_at, attempts_le, met_given}
@@ -31,6 +31,8 @@ peer_of Pumped_nothing = None
 peer_of Pump_refused = None
 peer_of (Let_go i p) = Some p
 peer_of Paused = None
+peer_of (Reload_decided g) = None
+peer_of (Reload_undecided g) = None
 
 abbrev pub SamePair : Peer → Peer → Type 0
 SamePair p q = (q.connection == p.connection) ≡ (q.socket == p.socket)
@@ -103,11 +105,11 @@ pub record Goes (known : List Peer) (d : Deed) (w : Served) : Type 0 where
   pub knows : Knows (met_by d ++ known) w
   pub mine : IsKnownIn (met_by d ++ known) (peer_of d)
 
-pub goes : {L : Lacks} (known : List Peer) (v w : Served) (d : Deed) (hs : List Happening) → DoesDeed L v d hs w → Knows known v → Goes known d w
-goes {L = L} known v w d hs does k = go d does.table (attempts_le L (attempts d) v.world w.world hs does.brings) does
+pub goes : {L : Lacks} (known : List Peer) (v w : Served) (d : Deed) (os : List Occurrence) → DoesDeed L v d os w → Knows known v → Goes known d w
+goes {L = L} known v w d os does k = go d does.table (attempts_le L (attempts d) v.world w.world os does.brings) does
   where
-    go : (d : Deed) → Table L v d w.peers → v.world.given ≤ w.world.given → DoesDeed L v d hs w → Goes known d w
-    go (Met i p) t le does = record { knows = knows_met known v w i p t.1 (met_given L v.world w.world hs t.0 does.brings) t.2 t.3 does.told k; mine = inl refl }
+    go : (d : Deed) → Table L v d w.peers → v.world.given ≤ w.world.given → DoesDeed L v d os w → Goes known d w
+    go (Met i p) t le does = record { knows = knows_met known v w i p t.1 (met_given L v.world w.world os t.0 does.brings) t.2 t.3 does.told k; mine = inl refl }
     go (Turned_away s o) t le does = record { knows = knows_same known v w _ t.3 le does.told k; mine = tt }
     go (Met_no_one x) t le does = record { knows = knows_same known v w _ t le does.told k; mine = tt }
     go (Heard i p bytes) t le does = record { knows = knows_same known v w _ t.1 le does.told k; mine = k.slots i p t.0 }
@@ -123,19 +125,21 @@ goes {L = L} known v w d hs does k = go d does.table (attempts_le L (attempts d)
     go Pump_refused t le does = record { knows = knows_same known v w _ t le does.told k; mine = tt }
     go (Let_go i p) t le does = record { knows = knows_freed known v w i _ t.1.1 le does.told k; mine = k.slots i p t.1.0 }
     go Paused t le does = record { knows = knows_same known v w _ t le does.told k; mine = tt }
+    go (Reload_decided g) t le does = record { knows = knows_same known v w _ t.1 le does.told k; mine = tt }
+    go (Reload_undecided g) t le does = record { knows = knows_same known v w _ t.1 le does.told k; mine = tt }
 
 -- ---- whole stories
 
 -- all that are known in the end
-abbrev known_after : List Peer → List Deed → List Peer
+abbrev pub known_after : List Peer → List Deed → List Peer
 known_after known [] = known
 known_after known (d ∷ ds) = known_after (met_by d ++ known) ds
 
-stays_known : (ds : List Deed) (known : List Peer) (p : Peer) → IsIn p known → IsIn p (known_after known ds)
+pub stays_known : (ds : List Deed) (known : List Peer) (p : Peer) → IsIn p known → IsIn p (known_after known ds)
 stays_known [] known p i = i
 stays_known (d ∷ ds) known p i = stays_known ds (met_by d ++ known) p (in_back p (met_by d) known i)
 
-met_known : (ds : List Deed) (known : List Peer) (p : Peer) → IsIn p (all_met ds) → IsIn p (known_after known ds)
+pub met_known : (ds : List Deed) (known : List Peer) (p : Peer) → IsIn p (all_met ds) → IsIn p (known_after known ds)
 met_known [] known p i = absurd i
 met_known (d ∷ ds) known p i = go (met_by d) i (stays_known ds (met_by d ++ known) p) (met_known ds (met_by d ++ known) p)
   where
@@ -148,13 +152,13 @@ option_known : (a b : List Peer) (o : Option Peer) → ((p : Peer) → IsIn p a 
 option_known a b None f k = tt
 option_known a b (Some p) f k = f p k
 
-record AllGo (known : List Peer) (ds : List Deed) (w : Served) : Type 0 where
-  knows : Knows (known_after known ds) w
-  mine : AllByRecursion (λ d. IsKnownIn (known_after known ds) (peer_of d)) ds
+pub record AllGo (known : List Peer) (ds : List Deed) (w : Served) : Type 0 where
+  pub knows : Knows (known_after known ds) w
+  pub mine : AllByRecursion (λ d. IsKnownIn (known_after known ds) (peer_of d)) ds
 
-all_go : (L : Lacks) (ds : List Deed) (known : List Peer) (v w : Served) (hs : List Happening) → Story L v ds hs w → Knows known v → AllGo known ds w
-all_go L [] known v w hs s k = record { knows = subst (Knows known) (sym s.1) k; mine = tt }
-all_go L (d ∷ ds) known v w hs (mid, first, rest, e, does, s) k =
+pub all_go : (L : Lacks) (ds : List Deed) (known : List Peer) (v w : Served) (os : List Occurrence) → Story L v ds os w → Knows known v → AllGo known ds w
+all_go L [] known v w os s k = record { knows = subst (Knows known) (sym s.1) k; mine = tt }
+all_go L (d ∷ ds) known v w os (mid, first, rest, e, does, s) k =
     let one = goes known v mid d first does k in
     let more = all_go L ds (met_by d ++ known) mid w rest s one.knows in
     record { knows = more.knows; mine = (option_known (met_by d ++ known) (known_after known (d ∷ ds)) (peer_of d) (stays_known ds (met_by d ++ known)) one.mine, more.mine) }
@@ -164,7 +168,7 @@ abbrev pub PairsWith : Peer → Option Peer → Type 0
 PairsWith p None = Unit {0}
 PairsWith p (Some q) = SamePair p q
 
-pairs_each : (known : List Peer) (p : Peer) → ((q : Peer) → IsIn q known → SamePair p q) → (ds : List Deed) → AllByRecursion (λ d. IsKnownIn known (peer_of d)) ds → AllByRecursion (λ d. PairsWith p (peer_of d)) ds
+pub pairs_each : (known : List Peer) (p : Peer) → ((q : Peer) → IsIn q known → SamePair p q) → (ds : List Deed) → AllByRecursion (λ d. IsKnownIn known (peer_of d)) ds → AllByRecursion (λ d. PairsWith p (peer_of d)) ds
 pairs_each known p f [] a = tt
 pairs_each known p f (d ∷ ds) a = (go (peer_of d) a.0, pairs_each known p f ds a.1)
   where
@@ -177,7 +181,7 @@ pub knows_none : (v : Served) → v.peers ≡ [] → Knows [] v
 knows_none v none = record { slots = λ j q at. absurd (cc (none, at)); given = λ q x. absurd x; named = λ q x. absurd x; pairs = λ q r x y. absurd x }
 
 -- from a server with no socket
-pub pairs_in : (L : Lacks) (ds : List Deed) (v w : Served) (hs : List Happening) → v.peers ≡ [] → Story L v ds hs w → (p : Peer) → IsIn p (all_met ds) → AllByRecursion (λ d. PairsWith p (peer_of d)) ds
-pairs_in L ds v w hs none s p i =
-    let all = all_go L ds [] v w hs s (knows_none v none) in
+pub pairs_in : (L : Lacks) (ds : List Deed) (v w : Served) (os : List Occurrence) → v.peers ≡ [] → Story L v ds os w → (p : Peer) → IsIn p (all_met ds) → AllByRecursion (λ d. PairsWith p (peer_of d)) ds
+pairs_in L ds v w os none s p i =
+    let all = all_go L ds [] v w os s (knows_none v none) in
     pairs_each (known_after [] ds) p (λ q x. all.knows.pairs p q (met_known ds [] p i) x) ds all.mine

@@ -93,7 +93,7 @@ pub at_before : (ps qs : List (Option Peer)) (i : ℕ) → StaysOrFrees ps i qs 
 at_before ps qs i (inl e) j q at = subst (λ (z : List (Option Peer)). At z j q) e at
 at_before ps qs i (inr e) j q at = freed_at ps i j q (subst (λ (z : List (Option Peer)). At z j q) e at)
 
-still_quiet : (a b : World) (ps qs : List (Option Peer)) (ms ns : List Bool) → AreQuiet a ps ms
+pub still_quiet : (a b : World) (ps qs : List (Option Peer)) (ms ns : List Bool) → AreQuiet a ps ms
     → ((j : ℕ) (q : Peer) → At qs j q → IsMarkedAt ns j → At ps j q × IsMarkedAt ms j × StaysFor q.connection a b) → AreQuiet b qs ns
 still_quiet a b ps qs ms ns quiet from = λ j q at m. let f = from j q at m in quiet_stays a b q.connection f.2 (quiet j q f.0 f.1)
 

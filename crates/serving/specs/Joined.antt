@@ -1,7 +1,9 @@
 -- What came of each socket, connection by connection (own): the pieces that arrived for a connection are what was read from its socket.
 use Rattle.std.specs.Prelude.{◌≡◌, ◌+◌, ℕ, List, [], ◌∷◌, ◌++◌, length, filter_map, flat_map, sum_by, count_by, Bool, false, not, ◌==◌, ◌&&◌, Option, Some, None, if◌then◌else◌}
 use Rattle.model.specs.Topology.{IsIn}
-use Rattle.model.specs.Run.{Happening, put_out}
+use Rattle.model.specs.State.{Config}
+use Rattle.model.specs.Run.{put_out}
+use Rattle.model.specs.History.{Occurrence, events_of}
 use Rattle.model.specs.declared.events.Arrival.{Arrival}
 use Rattle.model.specs.declared.events.Arrival.TheVariants.{In, Sent, Lose}
 use Rattle.serving.specs.Wire.{Call, Told, Totals, Got, Read_ended, Read_failed, Took, Write_failed}
@@ -15,7 +17,7 @@ use Rattle.serving.specs.declared.peers.Peer.{Peer}
 abbrev pub piece_for : ℕ → Attempt → Option (List ℕ)
 piece_for c a = piece a.arrival
   where
-    piece : Arrival → Option (List ℕ)
+    piece : Arrival Config → Option (List ℕ)
     piece (In d bytes) = if d == c then Some bytes else None
     piece other = None
 
@@ -23,7 +25,7 @@ piece_for c a = piece a.arrival
 abbrev pub amount_for : ℕ → Attempt → Option ℕ
 amount_for c a = amount a.arrival
   where
-    amount : Arrival → Option ℕ
+    amount : Arrival Config → Option ℕ
     amount (Sent d n) = if d == c then Some n else None
     amount other = None
 
@@ -31,7 +33,7 @@ amount_for c a = amount a.arrival
 abbrev pub is_loss_of : ℕ → Attempt → Bool
 is_loss_of c a = is_loss a.arrival
   where
-    is_loss : Arrival → Bool
+    is_loss : Arrival Config → Bool
     is_loss (Lose d) = d == c
     is_loss other = false
 
@@ -39,7 +41,7 @@ is_loss_of c a = is_loss a.arrival
 abbrev pub is_short_for : ℕ → Attempt → Bool
 is_short_for c a = not a.is_whole && is_of a.arrival
   where
-    is_of : Arrival → Bool
+    is_of : Arrival Config → Bool
     is_of (In d bytes) = d == c
     is_of (Sent d n) = d == c
     is_of other = false
@@ -105,5 +107,5 @@ abbrev pub AreCounted : List Deed → Told → Type 0
 AreCounted deeds told = (p : Peer) → IsIn p (all_met deeds) → (t : Totals) → told.totals p.socket ≡ Some t → (t.got ≡ bytes_in p.connection (flat_map attempts deeds)) × (t.taken ≡ bytes_out p.connection (flat_map attempts deeds))
 
 -- all that a socket took, in order, is a beginning of what was put out for its connection
-abbrev pub AreBeginnings : List Deed → List Happening → Type 0
-AreBeginnings deeds hs = (p : Peer) → IsIn p (all_met deeds) → (rest : List ℕ) × (flat_map (written_to p.socket) (flat_map calls deeds) ++ rest ≡ put_out p.connection hs)
+abbrev pub AreBeginnings : List Deed → List Occurrence → Type 0
+AreBeginnings deeds os = (p : Peer) → IsIn p (all_met deeds) → (rest : List ℕ) × (flat_map (written_to p.socket) (flat_map calls deeds) ++ rest ≡ put_out p.connection (events_of os))

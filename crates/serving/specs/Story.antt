@@ -1,7 +1,9 @@
--- What a server does: what it asks of its wire, what is answered, and which arrivals it makes of that, and the pumps that it makes by itself (own).
+-- What a server does: what it asks of its wire, what is answered, and which arrivals it makes of that, the pumps that it makes by itself, and the reloads that it is called for (own).
 use Rattle.std.specs.Prelude.{◌≡◌, ◌≢◌, ◌≤◌, ◌+◌, ◌⊎◌, ℕ, zero, suc, List, [], ◌∷◌, ◌++◌, length, take, flat_map, count_by, is_some, Bool, true, false, Option, Some, None, slice_index_or, slice_set, if◌then◌else◌, MatchBool}
 use Rattle.std.specs.List.{list_any}
-use Rattle.model.specs.Run.{Happening}
+use Rattle.model.specs.State.{Config}
+use Rattle.model.specs.History.{Occurrence}
+use Rattle.model.specs.Headline.{IsSound}
 use Rattle.model.specs.Consuming.{CanDeliver}
 use Rattle.model.specs.Arrivals.{World, Answers, NoneCanDeliver, is_gone, can_open}
 use Rattle.model.specs.declared.events.Arrival.TheVariants as arrival
@@ -24,7 +26,7 @@ served w ps t = record { world = w; peers = ps; told = t }
 abbrev pub read_room : ℕ
 read_room = 65536
 
--- One thing that a server does: what it makes of one answer of its wire, a pump, or a pause of the wire.
+-- One thing that a server does: what it makes of one answer of its wire, a pump, a pause of the wire, or a reload between two calls that serve.
 pub data Deed : Type 0 where
   -- a socket came, and a connection was opened for it in this slot
   Met : (slot : ℕ) → (peer : Peer) → Deed
@@ -52,6 +54,10 @@ pub data Deed : Type 0 where
   -- it is over with no output left
   Let_go : (slot : ℕ) → (peer : Peer) → Deed
   Paused : Deed
+  -- this was offered, and is in force, or something stood against it
+  Reload_decided : (offered : Config) → Deed
+  -- memory was refused for it
+  Reload_undecided : (offered : Config) → Deed
 
 -- what was asked of the wire by it, and answered
 abbrev pub calls : Deed → List Call
@@ -71,6 +77,8 @@ calls Pumped_nothing = []
 calls Pump_refused = []
 calls (Let_go i p) = Closed p.socket ∷ []
 calls Paused = Rested ∷ []
+calls (Reload_decided g) = []
+calls (Reload_undecided g) = []
 
 -- what arrives at the machine by it
 abbrev pub attempts : Deed → List Attempt
@@ -90,6 +98,8 @@ attempts Pumped_nothing = whole arrival.Pump ∷ []
 attempts Pump_refused = short arrival.Pump ∷ []
 attempts (Let_go i p) = []
 attempts Paused = []
+attempts (Reload_decided g) = whole (arrival.Reload g) ∷ []
+attempts (Reload_undecided g) = short (arrival.Reload g) ∷ []
 
 -- something was done: a rest stands only where nothing was
 abbrev pub is_done : Deed → Bool
@@ -99,6 +109,7 @@ is_done (Gave_nothing i p offered) = false
 is_done Pumped_nothing = false
 is_done Pump_refused = false
 is_done Paused = false
+is_done (Reload_undecided g) = false
 is_done deed = true
 
 -- it is a pump, for which nothing is asked of the wire
@@ -108,12 +119,14 @@ is_pump Pumped_nothing = true
 is_pump Pump_refused = true
 is_pump deed = false
 
--- it is a pump or a rest, which stands for no answer of the wire
+-- it is a pump, a rest or a reload, which stands for no answer of the wire
 abbrev pub is_unasked : Deed → Bool
 is_unasked Pumped = true
 is_unasked Pumped_nothing = true
 is_unasked Pump_refused = true
 is_unasked Paused = true
+is_unasked (Reload_decided g) = true
+is_unasked (Reload_undecided g) = true
 is_unasked deed = false
 
 -- ---- the slots
@@ -153,7 +166,7 @@ abbrev pub MayTurnAway : Lacks → World → List (Option Peer) → Bool → Typ
 MayTurnAway L w ps true = can_open w ≡ false
 MayTurnAway L w ps false = L w To_open ⊎ NoneFree ps
 
--- what a deed is about stands so in the slots, what a write was offered is all of the connection's own output and what it took the first of that, and a delivery could be made where one was
+-- what a deed is about stands so in the slots, what a write was offered is all of the connection's own output and what it took the first of that, a delivery could be made where one was, and what a reload offers is sound
 abbrev pub Table : Lacks → Served → Deed → List (Option Peer) → Type 0
 Table L v (Met i p) new = (can_open v.world ≡ true) × (p.connection ≡ v.world.given + 1) × IsFresh p.socket v.told × Filled v.peers i p new
 Table L v (Turned_away s o) new = (o.arrival ≡ arrival.Open) × MayTurnAway L v.world v.peers o.is_whole × IsFresh s v.told × (new ≡ v.peers)
@@ -171,28 +184,30 @@ Table L v Pumped_nothing new = NoneCanDeliver v.world × (new ≡ v.peers)
 Table L v Pump_refused new = new ≡ v.peers
 Table L v (Let_go i p) new = (is_gone v.world p.connection ≡ true) × Freed v.peers i p new
 Table L v Paused new = new ≡ v.peers
+Table L v (Reload_decided g) new = IsSound g × (new ≡ v.peers)
+Table L v (Reload_undecided g) new = IsSound g × (new ≡ v.peers)
 
 -- A socket that came is taken in, or it is not and nothing changes.
 abbrev pub TakesIn : Lacks → World → List (Option Peer) → ℕ → Bool → World → List (Option Peer) → Type 0
-TakesIn L old ps s true new now = (can_open old ≡ true) × ((hs : List Happening) × Answers old arrival.Open hs new) × ((i : ℕ) × Filled ps i (record { connection = old.given + 1; socket = s }) now)
+TakesIn L old ps s true new now = (can_open old ≡ true) × ((os : List Occurrence) × Answers old arrival.Open os new) × ((i : ℕ) × Filled ps i (record { connection = old.given + 1; socket = s }) now)
 TakesIn L old ps s false new now = ((o : Attempt) × (o.arrival ≡ arrival.Open) × MayTurnAway L old ps o.is_whole × Brings L old o [] new) × (now ≡ ps)
 
 -- One deed.
-pub record DoesDeed (L : Lacks) (old : Served) (d : Deed) (hs : List Happening) (new : Served) : Type 0 where
+pub record DoesDeed (L : Lacks) (old : Served) (d : Deed) (os : List Occurrence) (new : Served) : Type 0 where
   pub table : Table L old d new.peers
-  pub brings : Attempts L old.world (attempts d) hs new.world
+  pub brings : Attempts L old.world (attempts d) os new.world
   pub told : Tells old.told (calls d) new.told
 
 -- These deeds, one after another.
-abbrev pub Story : Lacks → Served → List Deed → List Happening → Served → Type 0
-Story L old [] hs new = (hs ≡ []) × (new ≡ old)
-Story L old (d ∷ ds) hs new = (mid : Served) × (first : List Happening) × (rest : List Happening) × (hs ≡ first ++ rest) × DoesDeed L old d first mid × Story L mid ds rest new
+abbrev pub Story : Lacks → Served → List Deed → List Occurrence → Served → Type 0
+Story L old [] os new = (os ≡ []) × (new ≡ old)
+Story L old (d ∷ ds) os new = (mid : Served) × (first : List Occurrence) × (rest : List Occurrence) × (os ≡ first ++ rest) × DoesDeed L old d first mid × Story L mid ds rest new
 
--- A server goes on so: it asks this of its wire, makes no pump and no rest, and does something or not.
+-- A server goes on so: it asks this of its wire, makes no pump, no rest and no reload, and does something or not.
 pub record Serves (L : Lacks) (old : Served) (asked : List Ask) (acted : Bool) (new : Served) : Type 0 where
   pub deeds : List Deed
-  pub happenings : List Happening
-  pub story : Story L old deeds happenings new
+  pub occurrences : List Occurrence
+  pub story : Story L old deeds occurrences new
   pub asks : asks (flat_map calls deeds) ≡ asked
   pub all_asked : list_any is_unasked deeds ≡ false
   pub done : list_any is_done deeds ≡ acted
@@ -200,8 +215,8 @@ pub record Serves (L : Lacks) (old : Served) (asked : List Ask) (acted : Bool) (
 -- One pump, and whether a message was delivered by it.
 pub record PumpsOnce (L : Lacks) (old : Served) (acted : Bool) (new : Served) : Type 0 where
   pub deed : Deed
-  pub happenings : List Happening
-  pub does : DoesDeed L old deed happenings new
+  pub occurrences : List Occurrence
+  pub does : DoesDeed L old deed occurrences new
   pub pump : is_pump deed ≡ true
   pub done : is_done deed ≡ acted
 
@@ -214,7 +229,7 @@ ArePumps (suc n) (d ∷ ds) = (is_pump d ≡ true) × MatchBool (is_done d) (Are
 -- A server makes so many pumps at most, and delivers something by them or not.
 pub record PumpsUp (L : Lacks) (most : ℕ) (old : Served) (acted : Bool) (new : Served) : Type 0 where
   pub deeds : List Deed
-  pub happenings : List Happening
-  pub story : Story L old deeds happenings new
+  pub occurrences : List Occurrence
+  pub story : Story L old deeds occurrences new
   pub pumps : ArePumps most deeds
   pub done : list_any is_done deeds ≡ acted

@@ -1,23 +1,26 @@
 -- All that a server did from its start, and what is promised of it (own).
-use Rattle.std.specs.Prelude.{◌≡◌, ◌+◌, ℕ, zero, suc, List, [], ◌∷◌, map, flat_map}
+use Rattle.std.specs.Prelude.{◌≡◌, ◌+◌, ◌⊎◌, ℕ, zero, suc, List, [], ◌∷◌, ◌++◌, map, flat_map, Option}
 use Rattle.std.specs.List.{AllByRecursion}
+use Rattle.model.specs.Topology.{IsIn}
 use Rattle.model.specs.State.{Config}
-use Rattle.model.specs.Run.{Happening}
+use Rattle.model.specs.Run.{Happening, put_out}
+use Rattle.model.specs.History.{Occurrence, events_of}
 use Rattle.model.specs.Arrivals.{World, Shown, shown, new_world, Plays}
 use Rattle.model.specs.Headline.{IsSound, KeepsPromises}
 use Rattle.model.specs.declared.events.Arrival.{Arrival}
 use Rattle.runs.specs.Wants.{Lacks}
 use Rattle.serving.specs.Wire.{Told, Tells}
 use Rattle.serving.specs.Coming.{Attempt, Attempts, IsWhole}
-use Rattle.serving.specs.Story.{Served, served, Deed, calls, attempts, Story}
-use Rattle.serving.specs.Joined.{AreJoined, AreBeginnings, AreCounted}
+use Rattle.serving.specs.Story.{Served, served, Deed, At, calls, attempts, Story}
+use Rattle.serving.specs.Joined.{IsJoined, AreJoined, AreBeginnings, AreCounted, all_met, written_to}
+use Rattle.serving.specs.declared.peers.Peer.{Peer}
 
 -- all that arrived at the machine by these deeds, in order
 abbrev pub arrived : List Deed → List Attempt
 arrived deeds = flat_map attempts deeds
 
 -- the same as arrivals
-abbrev pub arrivals_of : List Attempt → List Arrival
+abbrev pub arrivals_of : List Attempt → List (Arrival Config)
 arrivals_of as' = map (λ (a : Attempt). a.arrival) as'
 
 -- what is seen of the n connections after the first k: all that was put out for each, and whether it is over
@@ -29,24 +32,48 @@ seen_after hs w k (suc n) = shown hs w (k + 1) ∷ seen_after hs w (k + 1) n
 abbrev pub seen_of : List Happening → World → List Shown
 seen_of hs w = seen_after hs w 0 w.given
 
--- What a server did from a world with no connection under this topology and these guarantees, over a wire that had told this.
+-- What a server did from a world with no connection under this topology and these guarantees, over a wire that had told this: rounds, and reloads between them.
 pub record IsServed (L : Lacks) (f : Config) (told : Told) (new : Served) : Type 0 where
   -- what was in force at first is sound
   pub sound : IsSound f
   pub deeds : List Deed
-  pub happenings : List Happening
-  pub story : Story L (served (new_world f) [] told) deeds happenings new
+  pub occurrences : List Occurrence
+  pub story : Story L (served (new_world f) [] told) deeds occurrences new
   -- the wire was asked and answered this, and no more
   pub asked : Tells told (flat_map calls deeds) new.told
   -- this arrived, each arrival whole or as far as memory went
-  pub arrives : Attempts L (new_world f) (arrived deeds) happenings new.world
+  pub arrives : Attempts L (new_world f) (arrived deeds) occurrences new.world
   -- where memory was never refused, the arrivals are played exactly
-  pub plays : AllByRecursion IsWhole (arrived deeds) → Plays (new_world f) (arrivals_of (arrived deeds)) happenings new.world
-  -- certified delivery, also where memory was refused
-  pub promises : KeepsPromises happenings new.world.state.broker (seen_of happenings new.world)
+  pub plays : AllByRecursion IsWhole (arrived deeds) → Plays (new_world f) (arrivals_of (arrived deeds)) occurrences new.world
+  -- certified delivery, by what was in force at each event, also where memory was refused
+  pub promises : KeepsPromises occurrences new.world.state.broker (seen_of (events_of occurrences) new.world)
   -- what arrived for a connection is what its socket gave and took
   pub joined : AreJoined deeds
   -- what its socket took is a beginning of what was put out for it
-  pub written : AreBeginnings deeds happenings
+  pub written : AreBeginnings deeds occurrences
   -- and where the wire tells how many bytes its socket gave and took, so many arrived and were taken
   pub counted : AreCounted deeds new.told
+
+-- ---- one call
+
+-- the peer has a slot at first, or is met by these deeds
+abbrev pub IsOf : List (Option Peer) → List Deed → Peer → Type 0
+IsOf ps deeds p = ((i : ℕ) × At ps i p) ⊎ IsIn p (all_met deeds)
+
+-- what its socket takes by these deeds goes on from the output that was not yet written, behind which stands what is put out meanwhile
+abbrev pub TakesOn : Served → List Deed → List Occurrence → Peer → Type 0
+TakesOn old deeds os p = (rest : List ℕ) × (flat_map (written_to p.socket) (flat_map calls deeds) ++ rest ≡ (old.world.wire p.connection).output ++ put_out p.connection (events_of os))
+
+-- What a server does goes on from where it stands:
+pub record GoesOn (L : Lacks) (old new : Served) : Type 0 where
+  pub deeds : List Deed
+  pub occurrences : List Occurrence
+  pub story : Story L old deeds occurrences new
+  -- the wire was asked and answered this, and no more
+  pub asked : Tells old.told (flat_map calls deeds) new.told
+  -- this arrived: commands go on from bytes that were not yet performed, with what comes behind them
+  pub arrives : Attempts L old.world (arrived deeds) occurrences new.world
+  -- what arrived for a connection is what its socket gave and took
+  pub joined : (p : Peer) → IsOf old.peers deeds p → IsJoined p (flat_map calls deeds) (arrived deeds)
+  -- and what its socket took goes on from what was not yet written
+  pub written : (p : Peer) → IsOf old.peers deeds p → TakesOn old deeds occurrences p

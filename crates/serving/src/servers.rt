@@ -7,13 +7,15 @@ ghost use Rattle.model.specs.Headline.{IsSound};
 ghost use Rattle.serving.specs.Wire.{Told};
 ghost use Rattle.serving.specs.Story.{served};
 ghost use Rattle.serving.specs.Rounds.{IsRound, Rounds};
-ghost use Rattle.serving.specs.Whole.{IsServed};
+ghost use Rattle.serving.specs.Whole.{GoesOn, IsServed};
+ghost use Rattle.runs.specs.Reloaded.{IsMemory, TellsReload};
+ghost use Rattle.runs.specs.Wants.{To_reload};
 
 use crate::peers::Peer;
 use crate::quiet::Quiet;
 use crate::rounds::round;
 use crate::wire::Wire;
-use runs::Machine;
+use runs::{Machine, ReloadFault};
 use slab::Slab;
 use std::alloc::{AllocError, Global};
 use std::marker::Model;
@@ -22,12 +24,23 @@ use std::marker::Model;
 const READ_ROOM: usize = 65_536;
 
 /// A machine, whose socket is which, which slots are quiet, and the buffer that reads go into.
-#[derive(Drop)]
 pub struct Server<M: Machine> {
     machine: M,
     peers: Slab<Peer>,
     quiet: Quiet,
     buffer: Vec<u8>,
+}
+
+/// Written out, so that a drop is one call.
+impl<M: Machine + Drop> Drop for Server<M> {
+    fn drop(self) {
+        let Server {
+            machine: _,
+            peers: _,
+            quiet: _,
+            buffer: _,
+        } = self;
+    }
 }
 
 impl<M: Machine> Model for Server<M> {
@@ -73,6 +86,19 @@ impl<M: Machine> Server<M> {
         );
     }
 
+    /// Puts this in force between two rounds, which asks nothing of a wire: connections stay, with their sockets. Where something
+    /// stands against it, that is told, and nothing is different; nor is it where memory is wanting.
+    pub fn reload(&mut self, alloc: Global, setup: M::Setup) -> Result<(), ReloadFault>
+        ensures told { TellsReload (M.world self.old.machine) (M.config setup) result (M.world self.new.machine) }
+        ensures wants { IsMemory result → M.lacks (M.world self.old.machine) (To_reload (M.config setup)) }
+        ensures peers { self.new.peers ≡ self.old.peers }
+        // Whatever was served before is served after, over whatever a wire told.
+        ensures served { (f : Config) (told now : Told) → IsServed M.lacks f told (served (M.world self.old.machine) self.old.peers now) → IsServed M.lacks f told (served (M.world self.new.machine) self.new.peers now) }
+    {
+        M::offers_sound(&setup);
+        self.machine.reload(alloc, setup)
+    }
+
     /// What the machine has in force is sound: the topology is well formed, and its guarantees hold.
     fn is_sound(&self)
         ensures { IsSound (M.world self.now.machine).config }
@@ -93,6 +119,8 @@ pub fn serve<M: Machine, W: Wire>(alloc: Global, server: &mut Server<M>, wire: &
     ensures rounds { Rounds M.lacks turns (served (M.world server.old.machine) server.old.peers (W.told wire.old)) (served (M.world server.new.machine) server.new.peers (W.told wire.new)) }
     // Whatever was served before is served after: what arrived since the server was new, and that the promises are kept.
     ensures served { (f : Config) (told : Told) → IsServed M.lacks f told (served (M.world server.old.machine) server.old.peers (W.told wire.old)) → IsServed M.lacks f told (served (M.world server.new.machine) server.new.peers (W.told wire.new)) }
+    // It goes on from where the server stood: from bytes not yet performed, and from output not yet written.
+    ensures goes_on { (f : Config) (told : Told) → IsServed M.lacks f told (served (M.world server.old.machine) server.old.peers (W.told wire.old)) → GoesOn M.lacks (served (M.world server.old.machine) server.old.peers (W.told wire.old)) (served (M.world server.new.machine) server.new.peers (W.told wire.new)) }
 {
     for _ in 0..turns {
         server.round(alloc, wire);

@@ -4,6 +4,7 @@
 mod counts;
 mod silence;
 mod sockets;
+mod watch;
 
 pub use counts::Totals;
 pub use sockets::Sockets;

@@ -11,6 +11,7 @@ use crate::counts::{
     Count, PLACES, Totals, count_accept, count_read, count_write, place_of, totals_at,
 };
 use crate::silence::{Rounds, Voice};
+use crate::watch::{Trial, Watch};
 use mio::event::Event;
 use mio::net::{TcpListener, TcpStream};
 use mio::{Events, Interest, Poll, Token};
@@ -19,6 +20,7 @@ use slab::Slab;
 use std::alloc::Global;
 use std::io::{self, ErrorKind, Read as _, Write as _};
 use std::net::{Net, SocketAddr};
+use std::rt::HostRuntime;
 use std::time::Duration;
 
 /// The token of the listening socket. The others have their names, which are never so great.
@@ -38,6 +40,8 @@ struct Accepted {
     name: u64,
     stream: TcpStream,
     voice: Voice,
+    /// What it still owes, if it came not long ago.
+    trial: Option<Trial>,
 }
 
 /// The sockets of a server: one that listens, and those that it accepted, named by numbers that are never used again. None of
@@ -54,6 +58,8 @@ pub struct Sockets {
     given: u64,
     /// Whose turn it is to be asked.
     rounds: Rounds,
+    /// Who has been silent for too long.
+    watch: Watch,
     /// Whether a socket may have come.
     voice: Voice,
     failures: u64,
@@ -75,6 +81,11 @@ fn heard(event: &Event, voice: Voice) -> Voice {
 /// Whether there is nothing now, but may be later.
 fn is_wait(error: &io::Error) -> bool {
     matches!(error.kind(), ErrorKind::WouldBlock | ErrorKind::Interrupted)
+}
+
+/// What a socket owes after so many bytes more.
+fn still_owed(trial: Option<Trial>, count: usize) -> Option<Trial> {
+    trial?.after(count)
 }
 
 /// The socket of this name, where it is still there.
@@ -109,10 +120,19 @@ impl Sockets {
             accepted: Slab::new(alloc),
             given: 0,
             rounds: Rounds::new(),
+            watch: Watch::none(),
             voice: Voice::Speaking,
             failures: 0,
             counts: vec![in alloc; None; PLACES as usize]?,
         })
+    }
+
+    /// The same sockets. A read of one from which fewer than 64 bytes came in so much time since it was accepted fails.
+    pub fn with_patience(mut self, clock: &HostRuntime, patience: Duration) -> Sockets
+        ensures { told_by result ≡ told_by self }
+    {
+        self.watch = Watch::new(*clock, patience);
+        self
     }
 
     /// The address at which it listens.
@@ -165,6 +185,7 @@ impl Sockets {
             name,
             stream,
             voice: Voice::Speaking,
+            trial: self.watch.trial(),
         };
         self.accepted.insert_reserved(accepted);
         self.given += 1;
@@ -180,6 +201,7 @@ impl Sockets {
         ensures named { (s : ℕ) → result ≡ accept.Socket s → s < self.new.given * 4096 }
     {
         self.rounds.begin();
+        self.watch.look();
         if !self.rounds.asks(self.voice) {
             return Accept::Nothing;
         }
@@ -199,7 +221,7 @@ impl Sockets {
         }
     }
 
-    /// Reads from a socket.
+    /// Reads from a socket. One whose time is over is asked once more, and fails where it has nothing.
     fn read_from(&mut self, socket: u64, buffer: &mut [u8]) -> Read
         ensures failures { (s room : ℕ) → self.new.failures ≡ self.old.failures + fails (read_call s room result buffer.new) }
         ensures counts { self.new.counts ≡ self.old.counts }
@@ -209,7 +231,8 @@ impl Sockets {
         let Some(accepted) = named(&mut self.accepted, socket) else {
             return Read::End;
         };
-        if !self.rounds.asks(accepted.voice) {
+        let is_late = self.watch.is_over(accepted.trial);
+        if !is_late && !self.rounds.asks(accepted.voice) {
             return Read::Wait;
         }
         let room = buffer.len();
@@ -217,9 +240,10 @@ impl Sockets {
             Ok(0) => Read::End,
             Ok(count) => {
                 accepted.voice = self.rounds.after_read(accepted.voice, count < room);
+                accepted.trial = still_owed(accepted.trial, count);
                 Read::Got(count)
             }
-            Err(error) if is_wait(&error) => {
+            Err(error) if !is_late && is_wait(&error) => {
                 accepted.voice = self.rounds.silent();
                 Read::Wait
             }

@@ -1,5 +1,6 @@
 use Rattle.serving.specs.Story.{served}
 use Rattle.serving.proofs.Keeping.{rounds_more, served_on}
+use Rattle.serving.proofs.Going.{rounds_go_on}
 use Rattle.serving.proofs.servers.serve.Goals as goal
 
 pub loop-preserved : goal.loop-preserved
@@ -16,3 +17,9 @@ returns-clause-served g c = λ f before was.
     let world = g.M.Machine.world in
     let told = g.W.Wire.told in
     served_on f before c.loop.counter (served (world c.args.server.now.machine) c.args.server.now.peers (told c.args.wire.now)) (served (world c.loop.server.machine) c.loop.server.peers (told c.loop.wire)) c.loop.invariant.rounds was
+
+pub returns-clause-goes_on : goal.returns-clause-goes_on
+returns-clause-goes_on g c = λ f before was.
+    let world = g.M.Machine.world in
+    let told = g.W.Wire.told in
+    rounds_go_on f before c.loop.counter (served (world c.args.server.now.machine) c.args.server.now.peers (told c.args.wire.now)) (served (world c.loop.server.machine) c.loop.server.peers (told c.loop.wire)) c.loop.invariant.rounds was

@@ -1,0 +1,109 @@
+-- A reload between two calls that serve: what is offered is decided, or memory was refused, and no slot and no output is different.
+use Rattle.std.proofs.Common.{◌≡◌, ℕ, List, [], ◌∷◌, Bool, Option, refl, inl, inr, arith}
+use Rattle.std.specs.Prelude.{Result, Ok, Err}
+use Rattle.model.specs.State.{Config}
+use Rattle.model.specs.History.{Occurrence, Of_reload, Reload}
+use Rattle.model.specs.Reloading.{IsObstacle}
+use Rattle.model.specs.Headline.{IsSound}
+use Rattle.model.specs.Arrivals.{World, Reloads, Same}
+use Rattle.model.specs.declared.events.Arrival.TheVariants as arrival
+use Rattle.model.specs.declared.notes.Note.{Note}
+use Rattle.model.specs.declared.notes.Note.TheVariants.{Reloaded, ReloadRefused}
+use Rattle.model.specs.declared.obstacles.Obstacle.{Obstacle}
+use Rattle.runs.specs.Wants.{Lacks, To_reload}
+use Rattle.runs.specs.Reloaded.{IsPutInForce, TellsReload, IsMemory, wanting}
+use Rattle.runs.specs.declared.machine.ReloadFault.{ReloadFault}
+use Rattle.runs.specs.declared.machine.ReloadFault.TheVariants.{Stands, Memory}
+use Rattle.serving.specs.Wire.{Told}
+use Rattle.serving.specs.Coming.{whole, short}
+use Rattle.serving.specs.Story.{served, Reload_decided, Reload_undecided}
+use Rattle.serving.specs.Quiet.{IsServerKept}
+use Rattle.serving.specs.Whole.{IsServed}
+use Rattle.serving.specs.declared.peers.Peer.{Peer}
+use Rattle.serving.proofs.Onward.{tells_none, attempt_one}
+use Rattle.serving.proofs.Apart.{StaysFor, same_stays}
+use Rattle.serving.proofs.Fits.{fit_within}
+use Rattle.serving.proofs.Quieting.{still_quiet}
+use Rattle.serving.proofs.Keeping.{Went, went_one, went_on}
+
+-- ---- what happened
+
+-- a reload between these worlds
+abbrev reload_of : World → Config → World → List Note → Reload
+reload_of a offered b notes = record { config = a.config; offered = offered; before = a.state; notes = notes; after = b.state; in_force = b.config }
+
+reloads_done : (a b : World) (offered : Config) → IsPutInForce a offered b → (os : List Occurrence) × Reloads a offered os b
+reloads_done a b offered p = (
+  Of_reload (reload_of a offered b (Reloaded ∷ [])) ∷ [],
+  record {
+    r = reload_of a offered b (Reloaded ∷ []);
+    all = refl;
+    under = refl;
+    offers = refl;
+    before = refl;
+    after = refl;
+    in_force = refl;
+    decided = inl (record { nothing = p.nothing; noted = refl; in_force = p.config; broker = p.broker; session = p.session });
+    given = p.given;
+    wires = p.wires;
+  },
+)
+
+reloads_refused : (a b : World) (offered : Config) (o : Obstacle) → IsObstacle a.config.topology offered a.state.broker o → Same a b → (os : List Occurrence) × Reloads a offered os b
+reloads_refused a b offered o stands same = (
+  Of_reload (reload_of a offered b (ReloadRefused o ∷ [])) ∷ [],
+  record {
+    r = reload_of a offered b (ReloadRefused o ∷ []);
+    all = refl;
+    under = refl;
+    offers = refl;
+    before = refl;
+    after = refl;
+    in_force = refl;
+    decided = inr (record { obstacle = o; stands = stands; noted = refl; in_force = same.config; after = same.state });
+    given = same.given;
+    wires = same.wires;
+  },
+)
+
+-- ---- the deed
+
+decided : {L : Lacks} (a b : World) (ps : List (Option Peer)) (told : Told) (offered : Config) → IsSound offered → (os : List Occurrence) × Reloads a offered os b → Went L (served a ps told) (served b ps told)
+decided {L = L} a b ps told offered sound (os, p) =
+    went_one (served a ps told) (served b ps told) (Reload_decided offered) os (record { table = (sound, refl); brings = attempt_one L a b (whole (arrival.Reload offered)) os p; told = tells_none told })
+
+undecided : {L : Lacks} (a b : World) (ps : List (Option Peer)) (told : Told) (offered : Config) → IsSound offered → L a (To_reload offered) → Same a b → Went L (served a ps told) (served b ps told)
+undecided {L = L} a b ps told offered sound wants same =
+    went_one (served a ps told) (served b ps told) (Reload_undecided offered) [] (record { table = (sound, refl); brings = attempt_one L a b (short (arrival.Reload offered)) [] ([], refl, (wants, (refl, same))); told = tells_none told })
+
+went_reload : {L : Lacks} (a b : World) (ps : List (Option Peer)) (told : Told) (offered : Config) (r : Result Unit ReloadFault) → IsSound offered → TellsReload a offered r b → (IsMemory r → L a (To_reload offered)) → Went L (served a ps told) (served b ps told)
+went_reload a b ps told offered (Ok x) sound p wants = decided a b ps told offered sound (reloads_done a b offered p)
+went_reload a b ps told offered (Err (Stands o)) sound p wants = decided a b ps told offered sound (reloads_refused a b offered o p.0 p.1)
+went_reload a b ps told offered (Err Memory) sound p wants = undecided a b ps told offered sound (wants wanting) p
+
+-- what was served before is served after
+pub served_reloaded : {L : Lacks} (f : Config) (told now : Told) (a b : World) (ps : List (Option Peer)) (offered : Config) (r : Result Unit ReloadFault) → IsSound offered → TellsReload a offered r b → (IsMemory r → L a (To_reload offered))
+    → IsServed L f told (served a ps now) → IsServed L f told (served b ps now)
+served_reloaded f told now a b ps offered r sound p wants was = went_on f told (served a ps now) (served b ps now) (went_reload a b ps now offered r sound p wants) was
+
+-- ---- what stays
+
+stays : (a b : World) (offered : Config) (r : Result Unit ReloadFault) → TellsReload a offered r b → (c : ℕ) → StaysFor c a b
+stays a b offered (Ok x) p c = record { wire = p.wires c; session = p.session c }
+stays a b offered (Err (Stands o)) p c = same_stays a b p.1 c
+stays a b offered (Err Memory) p c = same_stays a b p c
+
+given_stays : (a b : World) (offered : Config) (r : Result Unit ReloadFault) → TellsReload a offered r b → b.given ≡ a.given
+given_stays a b offered (Ok x) p = p.given
+given_stays a b offered (Err (Stands o)) p = p.1.given
+given_stays a b offered (Err Memory) p = p.given
+
+-- slots and marks are as they should be after it
+pub kept_reloaded : (a b : World) (ps : List (Option Peer)) (marks : List Bool) (buffer : List ℕ) (offered : Config) (r : Result Unit ReloadFault) → TellsReload a offered r b → IsServerKept a ps marks buffer → IsServerKept b ps marks buffer
+kept_reloaded a b ps marks buffer offered r p k =
+    let same = given_stays a b offered r p in
+    record {
+      fit = fit_within a b ps ps (omega (arith, same)) (λ j q at. at) k.fit;
+      quiet = still_quiet a b ps ps marks marks k.quiet (λ j q at m. (at, m, stays a b offered r p q.connection));
+      room = k.room;
+    }
