@@ -1,5 +1,5 @@
 -- The command line of warren, as clap's contract reads it: which subcommand the words name, and what its arguments are.
-use Rattle.std.specs.Prelude.{◌≡◌, ◌⊎◌, List, [], Option, Some, None, true, codes, if◌then◌else◌, option_map, option_and_then}
+use Rattle.std.specs.Prelude.{◌≡◌, ◌⊎◌, ℕ, List, [], Option, Some, None, true, codes, if◌then◌else◌, option_map, option_and_then}
 use Rattle.std.specs.Str.{bytes_eq}
 use Rattle.clap.specs.Words.{App, Row, Rule, Text, first_of, new_app, new_rule, subcommand_of, with_rule, with_subcommand, fault_of, kind_of}
 use Rattle.clap.specs.declared.error.Error.{Error}
@@ -23,9 +23,9 @@ option id = record (new_rule id) { long = Some id; action = Some Set; value_name
 abbrev pub needed_option : Text → Rule
 needed_option id = record (option id) { required = true }
 
--- a number that may be given, by `--` and the option's name: a decimal one below 2^64
-abbrev pub number_option : Text → Rule
-number_option id = record (option id) { parser = Some (Unsigned 0 18446744073709551615) }
+-- a number that may be given, by `--` and the option's name: a decimal one, no smaller than this and below 2^64
+abbrev pub number_option : ℕ → Text → Rule
+number_option least id = record (option id) { parser = Some (Unsigned least 18446744073709551615) }
 
 -- a command that looks at a definitions file and a guarantees file: its name, and `DEFS GUARANTEES`
 abbrev pub over_guarantees : Text → App
@@ -52,8 +52,12 @@ abbrev pub serve_at : App
 serve_at = with_rule (with_rule (over_guarantees (codes "serve")) (needed (codes "CERTS"))) (needed_option (codes "listen"))
 
 -- `serve DEFS GUARANTEES CERTS --listen IP:PORT [--turns N]`
+abbrev pub serve_for : App
+serve_for = with_rule serve_at (number_option 0 (codes "turns"))
+
+-- `serve DEFS GUARANTEES CERTS --listen IP:PORT [--turns N] [--reload N]`
 abbrev pub serve : App
-serve = with_rule serve_at (number_option (codes "turns"))
+serve = with_rule serve_for (number_option 1 (codes "reload"))
 
 -- `route DEFS EXCHANGE KEY`
 abbrev pub route : App
@@ -82,7 +86,7 @@ pub data Wanted : Type 0 where
   Check : (definitions guarantees : Text) (out : Option Text) → Wanted
   Verify : (definitions guarantees certificates : Text) → Wanted
   Replay : (script : Text) (definitions guarantees certificates : Option Text) → Wanted
-  Serve : (definitions guarantees certificates listen : Text) (turns : Option Text) → Wanted
+  Serve : (definitions guarantees certificates listen : Text) (turns reload : Option Text) → Wanted
   Route : (definitions exchange key : Text) → Wanted
 
 -- what was asked for, by its texts
@@ -91,8 +95,8 @@ wanted_of (asked.Check definitions guarantees out) = Check definitions.now guara
 wanted_of (asked.Verify definitions guarantees certificates) = Verify definitions.now guarantees.now certificates.now
 wanted_of (asked.Replay script definitions guarantees certificates) =
     Replay script.now (option_map (λ file. file.now) definitions) (option_map (λ file. file.now) guarantees) (option_map (λ file. file.now) certificates)
-wanted_of (asked.Serve definitions guarantees certificates listen turns) =
-    Serve definitions.now guarantees.now certificates.now listen.now (option_map (λ n. n.now) turns)
+wanted_of (asked.Serve definitions guarantees certificates listen turns reload) =
+    Serve definitions.now guarantees.now certificates.now listen.now (option_map (λ n. n.now) turns) (option_map (λ n. n.now) reload)
 wanted_of (asked.Route definitions exchange key) = Route definitions.now exchange.now key.now
 
 -- what `←` means below: where one text is missing, there is no command
@@ -128,7 +132,7 @@ serve_of rows = do
   guarantees ← first_of (codes "GUARANTEES") rows
   certificates ← first_of (codes "CERTS") rows
   listen ← first_of (codes "listen") rows
-  Some (Serve definitions guarantees certificates listen (first_of (codes "turns") rows))
+  Some (Serve definitions guarantees certificates listen (first_of (codes "turns") rows) (first_of (codes "reload") rows))
 
 -- the arguments of `route`
 abbrev pub route_of : List Row → Option Wanted

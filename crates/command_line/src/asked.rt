@@ -24,13 +24,15 @@ pub enum Asked<'a> {
         certificates: Option<&'a str>,
     },
     /// Serves clients over sockets at an address, over the definitions of a file and under the guarantees of another by the
-    /// certificates of a third, for so many turns where a number is given.
+    /// certificates of a third, for so many turns where a number is given. The three are read again each time that so many
+    /// turns are over, where `reload` is given.
     Serve {
         definitions: &'a str,
         guarantees: &'a str,
         certificates: &'a str,
         listen: &'a str,
         turns: Option<&'a str>,
+        reload: Option<&'a str>,
     },
     /// Tells to which queues a key leads from an exchange, over the definitions of a file.
     Route {

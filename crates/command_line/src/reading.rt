@@ -43,6 +43,7 @@ ghost use Rattle.command_line.specs.CommandLine.{
   running,
   serve,
   serve_at,
+  serve_for,
   serve_of,
   verify,
   verify_of,
@@ -53,8 +54,9 @@ ghost use Rattle.command_line.specs.CommandLine.{
 };
 
 use crate::asked::Asked;
+use clap::builder::ValueParser;
 use clap::error::ErrorKind;
-use clap::{Arg, ArgAction, ArgMatches, Command, Error, value_parser};
+use clap::{Arg, ArgAction, ArgMatches, Command, Error};
 use std::alloc::{AllocError, Global};
 use std::convert::AsStr;
 
@@ -97,16 +99,16 @@ fn needed_option<'a>(alloc: Global, id: &'a str, value: &'a str, help: &'a str) 
         .action(ArgAction::Set)
 }
 
-/// A number that may be given, by `--` and the option's name, with what help says of it.
-fn number_option<'a>(alloc: Global, id: &'a str, help: &'a str) -> Arg<'a>
-    ensures rule { rule_of result ≡ number_option id.entry.now }
+/// A number that may be given, by `--` and the option's name, no smaller than this, with what help says of it.
+fn number_option<'a>(alloc: Global, least: u64, id: &'a str, help: &'a str) -> Arg<'a>
+    ensures rule { rule_of result ≡ number_option least id.entry.now }
     ensures local { result.global ≡ false }
 {
     Arg::new(alloc, id)
         .help(help)
         .long(id)
         .value_name("N")
-        .value_parser(value_parser!(u64))
+        .value_parser(ValueParser::Unsigned(least, u64::MAX))
         .action(ArgAction::Set)
 }
 
@@ -206,17 +208,33 @@ fn serve_at<'a>(alloc: Global) -> Result<Command<'a>, AllocError>
 }
 
 /// `serve DEFS GUARANTEES CERTS --listen IP:PORT [--turns N]`.
-fn serve_command<'a>(alloc: Global) -> Result<Command<'a>, AllocError>
-    ensures app { IfOk result (λ c. app_of c ≡ serve) }
+fn serve_for<'a>(alloc: Global) -> Result<Command<'a>, AllocError>
+    ensures app { IfOk result (λ c. app_of c ≡ serve_for) }
     ensures local { IfOk result (λ c. (fields_of c).has_globals ≡ false) }
 {
     let command = serve_at(alloc)?;
     let turns = number_option(
         alloc,
+        0,
         "turns",
         "How many turns to serve; without it, until the process is ended",
     );
     with_argument(command, turns)
+}
+
+/// `serve DEFS GUARANTEES CERTS --listen IP:PORT [--turns N] [--reload N]`.
+fn serve_command<'a>(alloc: Global) -> Result<Command<'a>, AllocError>
+    ensures app { IfOk result (λ c. app_of c ≡ serve) }
+    ensures local { IfOk result (λ c. (fields_of c).has_globals ≡ false) }
+{
+    let command = serve_for(alloc)?;
+    let reload = number_option(
+        alloc,
+        1,
+        "reload",
+        "After how many turns the three files are read again; without it, never",
+    );
+    with_argument(command, reload)
 }
 
 /// `replay SCRIPT [--definitions FILE]`.
@@ -382,6 +400,7 @@ fn serve<'a>(given: &ArgMatches<'a>) -> Option<Asked<'a>>
         certificates,
         listen,
         turns: text_of(given, "turns"),
+        reload: text_of(given, "reload"),
     })
 }
 

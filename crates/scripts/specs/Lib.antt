@@ -1,3 +1,4 @@
+pub mod FileNames
 pub mod Script
 pub mod Lines
 pub mod Transcript

@@ -1,9 +1,8 @@
 -- What the readers of one line answer.
 use Rattle.std.specs.Prelude.{◌≡◌, ◌++◌, ℕ, List, Option, Some, None, Result, Ok, Err, option_to_list}
-use Rattle.model.specs.declared.events.Arrival.{Arrival}
 use Rattle.scripts.specs.declared.lines.BadLine.{BadLine}
 use Rattle.scripts.specs.declared.lines.BadLine.TheVariants.{Malformed, Memory}
-use Rattle.scripts.specs.Script.{opened_after}
+use Rattle.scripts.specs.Script.{ScriptArrival, opened_after}
 
 -- nothing is owed for want of memory
 abbrev pub LineRefused : BadLine → Type 0 → Type 0
@@ -16,6 +15,6 @@ TellsIfThere (Ok x) said = said ≡ Some x
 TellsIfThere (Err e) said = LineRefused e (said ≡ None)
 
 -- a line's arrival was appended, and so many are opened after it
-abbrev pub TakesLine : Result ℕ BadLine → List Arrival → List Arrival → ℕ → Option (Option Arrival) → Type 0
-TakesLine (Ok after) old new opened said = (a : Option Arrival) × (said ≡ Some a) × (new ≡ old ++ option_to_list a) × (after ≡ opened_after opened said)
+abbrev pub TakesLine : Result ℕ BadLine → List ScriptArrival → List ScriptArrival → ℕ → Option (Option ScriptArrival) → Type 0
+TakesLine (Ok after) old new opened said = (a : Option ScriptArrival) × (said ≡ Some a) × (new ≡ old ++ option_to_list a) × (after ≡ opened_after opened said)
 TakesLine (Err e) old new opened said = LineRefused e (said ≡ None)

@@ -1,12 +1,17 @@
--- Replay scripts (own): lines of ASCII text, each of which is one arrival. A connection is named by its number, counted from 1 in the order of the openings.
-use Rattle.std.specs.Prelude.{◌≡◌, ◌+◌, ◌-◌, ◌*◌, ◌^◌, ◌++◌, ◌==◌, ◌&&◌, nat_lt, nat_le, ℕ, List, [], ◌∷◌, length, take, drop, position, codes, Option, Some, None, option_map, option_and_then, Result, Ok, Err, if◌then◌else◌}
-use Rattle.std.specs.Str.{bytes_eq}
+-- Replay scripts (own): lines of text, each of which is one arrival. A connection is named by its number, counted from 1 in the order of the openings.
+use Rattle.std.specs.Prelude.{◌≡◌, ◌+◌, ◌-◌, ◌*◌, ◌^◌, ◌++◌, ◌==◌, ◌&&◌, ◌||◌, nat_lt, nat_le, ℕ, List, [], ◌∷◌, length, take, drop, position, codes, Option, Some, None, option_map, option_and_then, is_some, Result, Ok, Err, if◌then◌else◌}
+use Rattle.std.specs.Str.{bytes_eq, is_utf8}
 use Rattle.hex.specs.Hex.{decode_of}
 use Rattle.model.specs.Words.{Text, parted}
 use Rattle.model.specs.declared.events.Arrival.{Arrival}
-use Rattle.model.specs.declared.events.Arrival.TheVariants.{Open, Ready, In, Sent, Pump, Lose}
+use Rattle.model.specs.declared.events.Arrival.TheVariants.{Open, Ready, In, Sent, Pump, Lose, Reload}
+use Rattle.scripts.specs.FileNames.{FileNames}
 use Rattle.scripts.specs.declared.script.BadScript.{BadScript}
 use Rattle.scripts.specs.declared.script.BadScript.TheVariants.{Line, Memory}
+
+-- what a script says that arrives; a reload names its files
+abbrev pub ScriptArrival : Type 0
+ScriptArrival = Arrival FileNames
 
 -- ---- fields
 
@@ -38,6 +43,10 @@ abbrev pub piece : Text → Option Text
 piece [] = None
 piece (b ∷ bs) = ok_of (decode_of (b ∷ bs))
 
+-- the name of a file that a field writes: UTF-8, at least one byte, and no space
+abbrev pub file_name : Text → Option Text
+file_name field = if length field == 0 || is_some (cut field) then None else if is_utf8 field then Some field else None
+
 -- ---- lines, where so many connections were opened before
 
 -- at most 1,024 connections are opened by a script
@@ -49,11 +58,11 @@ abbrev pub most_ready : ℕ
 most_ready = 255
 
 -- `open`: a connection of which no byte has come
-abbrev pub opening : ℕ → Option Arrival
+abbrev pub opening : ℕ → Option ScriptArrival
 opening opened = if nat_lt opened most_openings then Some Open else None
 
 -- `ready K`: a connection that runs at once, with channels 1 to K open
-abbrev pub ready : ℕ → Text → Option Arrival
+abbrev pub ready : ℕ → Text → Option ScriptArrival
 ready opened k = option_and_then (λ n. if nat_le 1 n && nat_le n most_ready && nat_lt opened most_openings then Some (Ready n) else None) (number k)
 
 -- the number of a connection that was opened
@@ -61,35 +70,48 @@ abbrev pub connection : ℕ → Text → Option ℕ
 connection opened c = option_and_then (λ n. if nat_le 1 n && nat_le n opened then Some n else None) (number c)
 
 -- `in C HEX`: a piece of bytes from a connection
-abbrev pub bytes_in : ℕ → Text × Text → Option Arrival
+abbrev pub bytes_in : ℕ → Text × Text → Option ScriptArrival
 bytes_in opened f = option_and_then (λ c. option_map (λ bytes. In c bytes) (piece f.1)) (connection opened f.0)
 
 -- `sent C N`: so many bytes of a connection's output are taken
-abbrev pub sent : ℕ → Text × Text → Option Arrival
+abbrev pub sent : ℕ → Text × Text → Option ScriptArrival
 sent opened f = option_and_then (λ c. option_map (λ n. Sent c n) (number f.1)) (connection opened f.0)
 
 -- `lose C`: a connection is lost
-abbrev pub lost : ℕ → Text → Option Arrival
+abbrev pub lost : ℕ → Text → Option ScriptArrival
 lost opened c = option_map (λ n. Lose n) (connection opened c)
 
+-- the names of three files, where these fields write them
+abbrev pub names_of : Text → Text → Text → Option FileNames
+names_of d g c = option_and_then (λ definitions. option_and_then (λ guarantees. option_map (λ certificates. record { definitions = definitions; guarantees = guarantees; certificates = certificates }) (file_name c)) (file_name g)) (file_name d)
+
+-- the three fields that a space parts, where the third goes on to the end
+abbrev pub three_names : Text → Option FileNames
+three_names fields = option_and_then (λ f. option_and_then (λ more. names_of f.0 more.0 more.1) (cut f.1)) (cut fields)
+
+-- `reload DEFS GUARANTEES CERTS`: what these files state is to be in force
+abbrev pub reload : Text → Option ScriptArrival
+reload fields = option_map (λ names. Reload names) (three_names fields)
+
 -- a line of more than one field, by its first
-abbrev pub by_word : ℕ → Text × Text → Option Arrival
+abbrev pub by_word : ℕ → Text × Text → Option ScriptArrival
 by_word opened f =
     if bytes_eq f.0 (codes "ready") then ready opened f.1 else
     if bytes_eq f.0 (codes "in") then option_and_then (bytes_in opened) (cut f.1) else
     if bytes_eq f.0 (codes "sent") then option_and_then (sent opened) (cut f.1) else
     if bytes_eq f.0 (codes "lose") then lost opened f.1 else
+    if bytes_eq f.0 (codes "reload") then reload f.1 else
     None
 
 -- the arrival of a line that is not skipped; `pump` alone: a message is delivered, where one can be
-abbrev pub arrival_of : ℕ → Text → Option Arrival
+abbrev pub arrival_of : ℕ → Text → Option ScriptArrival
 arrival_of opened l =
     if bytes_eq l (codes "open") then opening opened else
     if bytes_eq l (codes "pump") then Some Pump else
     option_and_then (by_word opened) (cut l)
 
 -- A line is skipped, brings an arrival, or is at fault. Skipped are the empty line and those that begin with `#`.
-abbrev pub line_of : ℕ → Text → Option (Option Arrival)
+abbrev pub line_of : ℕ → Text → Option (Option ScriptArrival)
 line_of opened [] = Some None
 line_of opened (b ∷ bs) = if b == 35 then Some None else option_map (λ a. Some a) (arrival_of opened (b ∷ bs))
 
@@ -100,34 +122,34 @@ abbrev pub lines : Text → List Text
 lines text = parted 10 text
 
 -- how many were opened, after a line
-abbrev pub opened_after : ℕ → Option (Option Arrival) → ℕ
+abbrev pub opened_after : ℕ → Option (Option ScriptArrival) → ℕ
 opened_after opened (Some (Some Open)) = opened + 1
 opened_after opened (Some (Some (Ready k))) = opened + 1
 opened_after opened line = opened
 
 -- these arrivals, and then the others
-abbrev pub onto_arrivals : List Arrival → Result (List Arrival) ℕ → Result (List Arrival) ℕ
+abbrev pub onto_arrivals : List ScriptArrival → Result (List ScriptArrival) ℕ → Result (List ScriptArrival) ℕ
 onto_arrivals found (Ok rest) = Ok (found ++ rest)
 onto_arrivals found (Err number) = Err number
 
 -- a line with its number, and what the lines after it are
-abbrev pub with_line : ℕ → Option (Option Arrival) → Result (List Arrival) ℕ → Result (List Arrival) ℕ
+abbrev pub with_line : ℕ → Option (Option ScriptArrival) → Result (List ScriptArrival) ℕ → Result (List ScriptArrival) ℕ
 with_line number None rest = Err number
 with_line number (Some None) rest = rest
 with_line number (Some (Some a)) rest = onto_arrivals (a ∷ []) rest
 
 -- the arrivals of these lines, of which the first has this number; or the number of the first line at fault
-abbrev pub arrivals_from : ℕ → ℕ → List Text → Result (List Arrival) ℕ
+abbrev pub arrivals_from : ℕ → ℕ → List Text → Result (List ScriptArrival) ℕ
 arrivals_from number opened [] = Ok []
 arrivals_from number opened (l ∷ ls) = with_line number (line_of opened l) (arrivals_from (number + 1) (opened_after opened (line_of opened l)) ls)
 
 -- the arrivals of a script, or the number of its first line at fault, counted from 1
-abbrev pub script : Text → Result (List Arrival) ℕ
+abbrev pub script : Text → Result (List ScriptArrival) ℕ
 script text = arrivals_from 1 0 (lines text)
 
 -- ---- what a reader answers
 
 -- why nothing was read; want of memory says nothing
-abbrev pub RefusesScript : BadScript → Result (List Arrival) ℕ → Type 0
+abbrev pub RefusesScript : BadScript → Result (List ScriptArrival) ℕ → Type 0
 RefusesScript (Line n) said = said ≡ Err n
 RefusesScript Memory said = Unit {0}

@@ -7,7 +7,9 @@ use Rattle.hex.specs.Hex.{encode_lower}
 use Rattle.model.specs.Words.{Text}
 use Rattle.model.specs.Arrivals.{Shown, Seen}
 use Rattle.model.specs.declared.notes.Note.{Note}
-use Rattle.model.specs.declared.notes.Note.TheVariants.{Published, Entered, Refused, Returned, Confirmed, Left}
+use Rattle.model.specs.declared.notes.Note.TheVariants.{Published, Entered, Refused, Returned, Confirmed, Left, Reloaded, ReloadRefused}
+use Rattle.model.specs.declared.obstacles.Obstacle.{Obstacle}
+use Rattle.model.specs.declared.obstacles.Obstacle.TheVariants.{InUse, Breaks}
 use Rattle.model.specs.declared.notes.Answer.{Answer}
 use Rattle.model.specs.declared.notes.Answer.TheVariants.{Ack, Nack}
 use Rattle.model.specs.declared.notes.Way.{Way}
@@ -60,6 +62,11 @@ abbrev pub line : List Text → Text
 line [] = 10 ∷ []
 line (w ∷ ws) = w ++ more_words ws
 
+-- the line of a reload that is refused, as this stands against it; a guarantee is told by its number, counted from 1
+abbrev pub obstacle_line : Obstacle → Text
+obstacle_line (InUse queue) = line (codes "reload refused in-use" ∷ name_word queue ∷ [])
+obstacle_line (Breaks queue key guarantee) = line (codes "reload refused breaks" ∷ name_word queue ∷ hex_word key ∷ decimal guarantee ∷ [])
+
 -- the line of a note
 abbrev pub note_line : Note → Text
 note_line (Published n c h exchange key confirm) = line (codes "published" ∷ decimal n ∷ decimal c ∷ decimal h ∷ name_word exchange ∷ hex_word key ∷ confirm_word confirm ∷ [])
@@ -68,6 +75,8 @@ note_line (Refused n queue) = line (codes "refused" ∷ decimal n ∷ name_word 
 note_line (Returned n) = line (codes "returned" ∷ decimal n ∷ [])
 note_line (Confirmed n answer) = line (codes "confirmed" ∷ decimal n ∷ answer_word answer ∷ [])
 note_line (Left n queue cause) = line (codes "left" ∷ decimal n ∷ name_word queue ∷ cause_word cause ∷ [])
+note_line Reloaded = line (codes "reload done" ∷ [])
+note_line (ReloadRefused obstacle) = obstacle_line obstacle
 
 -- the line of a connection that is over or lost
 abbrev pub over_line : ℕ → Shown → Text

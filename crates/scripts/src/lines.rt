@@ -1,12 +1,37 @@
 //! One line of a script.
 
-ghost use Rattle.std.specs.Prelude.{◌≡◌, ◌∷◌, ◌<◌, ◌≤◌, ◌==◌, length, IfSome, option_copied, option_map, position};
-ghost use Rattle.scripts.specs.Script.{cut, with_digit, digits_after, number, piece, opening, ready, connection, bytes_in, sent, lost, by_word, arrival_of, line_of};
+ghost use Rattle.std.specs.Prelude.{◌≡◌, ◌∷◌, ◌<◌, ◌≤◌, ◌==◌, length, IfSome, option_copied, option_map, position, if◌then◌else◌, Some, None};
+ghost use Rattle.std.specs.Str.{is_utf8};
+ghost use Rattle.scripts.specs.Script.{
+  cut,
+  with_digit,
+  digits_after,
+  number,
+  piece,
+  file_name,
+  opening,
+  ready,
+  connection,
+  bytes_in,
+  sent,
+  lost,
+  names_of,
+  three_names,
+  reload,
+  by_word,
+  arrival_of,
+  line_of,
+};
 ghost use Rattle.scripts.specs.Lines.{TellsIfThere};
 
+use crate::reloads::ReloadFiles;
 use hex::FromHexError;
-use model::{Arrival, Text};
+use model::Text;
 use std::alloc::{AllocError, AllocFailed, Global};
+use std::str;
+
+/// What a script says that arrives.
+pub type Arrival = model::Arrival<ReloadFiles>;
 
 /// How many connections a script opens at most.
 const MOST_OPENINGS: u64 = 1024;
@@ -109,6 +134,29 @@ fn piece(alloc: Global, text: &[u8]) -> Result<Text, BadLine>
     }
 }
 
+/// The text that these bytes are, where they are UTF-8.
+fn text_of(bytes: &[u8]) -> Option<&str>
+    ensures { option_map (λ text. text.now) result ≡ if is_utf8 bytes.now then Some bytes.now else None }
+{
+    match str::from_utf8(bytes) {
+        Ok(text) => Some(text),
+        Err(_) => None,
+    }
+}
+
+/// The name of a file that a field writes.
+fn file_name(field: &[u8]) -> Option<&str>
+    ensures { option_map (λ name. name.now) result ≡ file_name field.now }
+{
+    if field.is_empty() {
+        return None;
+    }
+    match first_space(field) {
+        Some(_) => None,
+        None => text_of(field),
+    }
+}
+
 /// `open`.
 fn opening(opened: u64) -> Option<Arrival>
     ensures { result ≡ opening opened }
@@ -168,6 +216,37 @@ fn lost(opened: u64, c: &[u8]) -> Option<Arrival>
     Some(Arrival::Lose(c))
 }
 
+/// The names of three files, where these fields write them.
+fn names_of(
+    alloc: Global,
+    definitions: &[u8],
+    guarantees: &[u8],
+    certificates: &[u8],
+) -> Result<ReloadFiles, BadLine>
+    ensures { TellsIfThere result (names_of definitions.now guarantees.now certificates.now) }
+{
+    let definitions = file_name(definitions).ok_or(BadLine::Malformed)?;
+    let guarantees = file_name(guarantees).ok_or(BadLine::Malformed)?;
+    let certificates = file_name(certificates).ok_or(BadLine::Malformed)?;
+    Ok(ReloadFiles::new(alloc, definitions, guarantees, certificates)?)
+}
+
+/// The names of three files that a space parts.
+fn three_names(alloc: Global, fields: &[u8]) -> Result<ReloadFiles, BadLine>
+    ensures { TellsIfThere result (three_names fields.now) }
+{
+    let (definitions, rest) = cut(fields).ok_or(BadLine::Malformed)?;
+    let (guarantees, certificates) = cut(rest).ok_or(BadLine::Malformed)?;
+    names_of(alloc, definitions, guarantees, certificates)
+}
+
+/// The fields of `reload DEFS GUARANTEES CERTS` behind the word.
+fn reload(alloc: Global, fields: &[u8]) -> Result<Arrival, BadLine>
+    ensures { TellsIfThere result (reload fields.now) }
+{
+    Ok(Arrival::Reload(three_names(alloc, fields)?))
+}
+
 /// A line of more than one field, by its first.
 fn by_word(alloc: Global, opened: u64, word: &[u8], rest: &[u8]) -> Result<Arrival, BadLine>
     ensures { TellsIfThere result (by_word opened (word.now, rest.now)) }
@@ -189,6 +268,9 @@ fn by_word(alloc: Global, opened: u64, word: &[u8], rest: &[u8]) -> Result<Arriv
     }
     if word == b"lose".as_slice() {
         return lost(opened, rest).ok_or(BadLine::Malformed);
+    }
+    if word == b"reload".as_slice() {
+        return reload(alloc, rest);
     }
     Err(BadLine::Malformed)
 }

@@ -4,8 +4,7 @@ ghost use Rattle.std.specs.Prelude.{◌≡◌, ◌≤◌, MatchResult, Some};
 ghost use Rattle.scripts.specs.Script.{script, line_of, opened_after, RefusesScript};
 ghost use Rattle.scripts.specs.Lines.{TakesLine};
 
-use crate::lines::{BadLine, line_of};
-use model::Arrival;
+use crate::lines::{Arrival, BadLine, line_of};
 use splitting::first_part;
 use std::alloc::Global;
 
@@ -51,7 +50,8 @@ fn take_line(
 /// The script is read whole: lines that LF ends, of fields that one space parts. Empty lines and those that begin with
 /// `#` are skipped; `open` opens a connection of which no byte has come, `ready K` one that runs with channels 1 to K
 /// open, `in C HEX` is a piece of bytes from connection C, `sent C N` takes N bytes of C's output, `pump` delivers a message
-/// where one can be, and `lose C` loses C. The first line at fault is told by its number, counted from 1.
+/// where one can be, `lose C` loses C, and `reload DEFS GUARANTEES CERTS` names the files of what is to
+/// be in force. The first line at fault is told by its number, counted from 1.
 pub fn read_script(alloc: Global, text: &[u8]) -> Result<Vec<Arrival>, BadScript>
     ensures { MatchResult result (λ found. script text.now ≡ Ok found.items) (λ fault. RefusesScript fault (script text.now)) }
 {

@@ -9,6 +9,7 @@ ghost use Rattle.scripts.specs.Transcript.{
   way_word,
   cause_word,
   line,
+  obstacle_line,
   note_line,
   over_line,
   shown_lines,
@@ -17,7 +18,7 @@ ghost use Rattle.scripts.specs.Transcript.{
   transcript_text,
 };
 
-use model::{Answer, Cause, Note, Way};
+use model::{Answer, Cause, Note, Obstacle, Way};
 use runs::{Shown, Transcript};
 use serde_json::Value;
 use std::alloc::{AllocError, Global};
@@ -141,6 +142,42 @@ fn left_line(alloc: Global, number: u64, queue: &[u8], cause: Cause) -> Result<S
     format!(in alloc; "left {number} {queue} {cause}\n")
 }
 
+/// The line of a reload that would leave out a queue in use.
+fn in_use_line(alloc: Global, queue: &[u8]) -> Result<String, AllocError>
+    ensures { IfOk result (λ text. string_bytes text ≡ line (codes "reload refused in-use" ∷ name_word queue.now ∷ [])) }
+{
+    let queue = name_word(alloc, queue)?;
+    format!(in alloc; "reload refused in-use {queue}\n")
+}
+
+/// The line of a reload that would break a guarantee.
+fn breaks_line(
+    alloc: Global,
+    queue: &[u8],
+    key: &[u8],
+    guarantee: usize,
+) -> Result<String, AllocError>
+    ensures { IfOk result (λ text. string_bytes text ≡ line (codes "reload refused breaks" ∷ name_word queue.now ∷ hex_word key.now ∷ decimal guarantee ∷ [])) }
+{
+    let queue = name_word(alloc, queue)?;
+    let key = hex_word(alloc, key)?;
+    format!(in alloc; "reload refused breaks {queue} {key} {guarantee}\n")
+}
+
+/// The line of a reload that is refused, as this stands against it. The one error is want of memory.
+pub fn obstacle_line(alloc: Global, obstacle: &Obstacle) -> Result<String, AllocError>
+    ensures { IfOk result (λ text. string_bytes text ≡ obstacle_line obstacle.now) }
+{
+    match obstacle {
+        Obstacle::InUse(queue) => in_use_line(alloc, queue.as_bytes()),
+        Obstacle::Breaks {
+            queue,
+            key,
+            guarantee,
+        } => breaks_line(alloc, queue.as_bytes(), key.as_bytes(), *guarantee),
+    }
+}
+
 /// The line of a note.
 fn note_line(alloc: Global, note: &Note) -> Result<String, AllocError>
     ensures { IfOk result (λ line. string_bytes line ≡ note_line note.now) }
@@ -168,6 +205,8 @@ fn note_line(alloc: Global, note: &Note) -> Result<String, AllocError>
             queue,
             cause,
         } => left_line(alloc, *number, queue.as_bytes(), *cause),
+        Note::Reloaded => String::from_str(alloc, "reload done\n"),
+        Note::ReloadRefused(obstacle) => obstacle_line(alloc, obstacle),
     }
 }
 

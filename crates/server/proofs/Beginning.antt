@@ -72,5 +72,5 @@ memory_told words e err n wanted is shown asks =
     ]
 
 -- what is not to serve was not asked to
-pub not_to_serve : (words : List Text) (wanted : Wanted) (d g c l : Text) (t : Option Text) → AsksFor words wanted → IsNotServe wanted → AsksFor words (Serve d g c l t) → ⊥
-not_to_serve words wanted d g c l t a not b = subst (λ (w : Wanted). IsNotServe w) (asked_once words wanted (Serve d g c l t) a b) not
+pub not_to_serve : (words : List Text) (wanted : Wanted) (d g c l : Text) (t : Option Text) → AsksFor words wanted → IsNotServe wanted → AsksFor words (Serve d g c l t None) → ⊥
+not_to_serve words wanted d g c l t a not b = subst (λ (w : Wanted). IsNotServe w) (asked_once words wanted (Serve d g c l t None) a b) not

@@ -1,6 +1,7 @@
 -- What is known of files that are kept stays known.
 use Rattle.std.proofs.Common.{◌≡◌, ◌≤◌, ℕ, List, Option, Some, length, sym, subst, inl, inr, arith}
 use Rattle.std.proofs.lemmas.Option.{slice_get_within}
+use Rattle.std.proofs.Math.Path.{fun_ext}
 use Rattle.model.specs.Words.{Text}
 use Rattle.model.specs.Topology.{Topology}
 use Rattle.model.specs.Guarantee.{Guarantee}
@@ -18,7 +19,7 @@ use Rattle.named_files.proofs.Kept.{kept_then, kept_but_then, why_kept}
 use Rattle.verdicts.specs.Verdicts.{FindsVerdicts, status_of_verdicts}
 use Rattle.named_files.specs.declared.refusals.FileRefusal.{FileRefusal}
 use Rattle.server.specs.Refusals.{of_refused, IsOfFile}
-use Rattle.server.specs.Program.{Fails, RunsOver, replays, serves, unset, uncertified, unwritten, wanting, IsNotAnswered, FilesAreLeft, IsUnfiled, IsFiled, WritesOut, unnamed, doubtful, filed}
+use Rattle.server.specs.Program.{unwritten, wanting, IsNotAnswered, FilesAreLeft, IsUnfiled, IsFiled, WritesOut, unnamed, doubtful, filed}
 
 -- ---- files
 
@@ -44,19 +45,9 @@ pub told_uncertified : (a b : Text → Known) (named : Option Text) (file told :
     → told ≡ file → why ≡ of_refused cause → FailsToCertify b named file cause → IsOfFile (FailsToCertify a named) told why
 told_uncertified a b named file told cause why k same is h = told_as (FailsToCertify a named) file told cause why same is (why_kept a b IsWhyUncertified named file cause k h)
 
--- ---- brokers
-
--- what is not set up, nothing runs over
-pub unset_over : (holds : Text → Known) (wanted : Wanted) (d g c : Option Text) (file : Text) (why : CommandRefusal) → RunsOver wanted d g c
-    → IsOfFile (FailsToSetUp holds d g) file why → Fails holds wanted file why
-unset_over holds wanted d g c file why replays h = unset h
-unset_over holds wanted d g c file why serves h = unset h
-
--- nor over what has no certificates
-pub uncertified_over : (holds : Text → Known) (wanted : Wanted) (d g c : Option Text) (file : Text) (why : CommandRefusal) (stated : Stated) (gs : List Guarantee) → RunsOver wanted d g c
-    → SetsUp holds d g stated gs → IsOfFile (FailsToCertify holds c) file why → Fails holds wanted file why
-uncertified_over holds wanted d g c file why stated gs replays s h = uncertified stated gs s h
-uncertified_over holds wanted d g c file why stated gs serves s h = uncertified stated gs s h
+-- what is known of files that are kept is the same
+pub same_known : (a b : Text → Known) → AreKept a b → b ≡ a
+same_known a b k = fun_ext k
 
 -- ---- guarantees
 

@@ -3,3 +3,4 @@ pub mod Outcomes
 pub mod Kept
 pub mod Beginning
 pub mod Judged
+pub mod Reloads

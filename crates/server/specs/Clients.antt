@@ -14,7 +14,7 @@ use Rattle.named_files.specs.Files.{Known, AreKept}
 use Rattle.server.specs.declared.refusals.CommandRefusal.{CommandRefusal}
 use Rattle.server.specs.declared.refusals.CommandRefusal.TheVariants.{Line, Refused, TooLong, Unread, Unwritten, NoExchange, Certificate, NotListening, Memory}
 use Rattle.server.specs.Streams.{OutputStream, GetsNothing, GetsText, PutsOut, TriesPut}
-use Rattle.server.specs.Program.{Fails, IsInForce, RunsAs, RefusesWith, out_of_memory}
+use Rattle.server.specs.Program.{FailsOver, IsInForce, RunsAs, RefusesWith, out_of_memory}
 
 -- ---- what is judged
 
@@ -32,7 +32,7 @@ IsOfFiles Memory = ⊤
 
 -- Why no broker is started over these files, and the file of which this is told.
 pub record FailsToStart (holds : Text → Known) (definitions guarantees certificates file : Text) (why : CommandRefusal) : Type 0 where
-  pub fails : (listen : Text) (turns : Option Text) → Fails holds (Serve definitions guarantees certificates listen turns) file why
+  pub fails : FailsOver holds (Some definitions) (Some guarantees) (Some certificates) file why
   pub judged : IsOfFiles why
 
 -- ---- sockets
@@ -119,17 +119,18 @@ ServeEnds holds definitions guarantees certificates turns Unasked may out err (S
 
 -- ---- the whole program
 
--- a command other than `serve`
+-- a command other than `serve` without `--reload`
 abbrev pub IsNotServe : Wanted → Type 0
 IsNotServe (Check definitions guarantees out) = ⊤
 IsNotServe (Verify definitions guarantees certificates) = ⊤
 IsNotServe (Replay script definitions guarantees certificates) = ⊤
-IsNotServe (Serve definitions guarantees certificates listen turns) = ⊥
+IsNotServe (Serve definitions guarantees certificates listen turns None) = ⊥
+IsNotServe (Serve definitions guarantees certificates listen turns (Some reload)) = ⊤
 IsNotServe (Route definitions exchange key) = ⊤
 
--- the words ask to serve these files at this address, for so many turns
+-- the words ask to serve these files at this address, for so many turns, and not to read them again
 abbrev pub AsksToServe : List Text → Text → Text → Text → Text → Option Text → Type 0
-AsksToServe words definitions guarantees certificates listen turns = AsksFor words (Serve definitions guarantees certificates listen turns)
+AsksToServe words definitions guarantees certificates listen turns = AsksFor words (Serve definitions guarantees certificates listen turns None)
 
 -- What a call comes to that can open sockets, by what may come of that at an address.
 pub data RunsWithSockets (words : List Text) (before after : Text → Known) (Unasked : Type 0) (may : Text → Openings) (out err : OutputStream) : Option Served → ℕ → Type 0 where

@@ -1,5 +1,5 @@
 -- What the program does (own): what it answers, its messages and its status.
-use Rattle.std.specs.Prelude.{◌≡◌, ◌+◌, ◌⊎◌, ◌++◌, ◌≤◌, ℕ, Bool, List, [], ◌∷◌, Option, Some, None, Ok, Err, codes, decimal, length, ⊤}
+use Rattle.std.specs.Prelude.{◌≡◌, ◌+◌, ◌⊎◌, ◌++◌, ◌≤◌, ℕ, Bool, List, [], ◌∷◌, Option, Some, None, Ok, Err, codes, decimal, length, slice_get, take, ⊤}
 use Rattle.model.specs.Words.{Text}
 use Rattle.model.specs.Topology.{Topology}
 use Rattle.model.specs.State.{Config}
@@ -7,6 +7,7 @@ use Rattle.model.specs.Arrivals.{Seen, World, new_world}
 use Rattle.model.specs.Guarantee.{Guarantee}
 use Rattle.model.specs.Certificates.{Certificate as Shown}
 use Rattle.model.specs.declared.events.Arrival.{Arrival}
+use Rattle.model.specs.declared.events.Arrival.TheVariants as arrival
 use Rattle.clap.specs.declared.error.kind.ErrorKind.{ErrorKind}
 use Rattle.clap.specs.declared.error.kind.ErrorKind.TheVariants.{OutOfMemory}
 use Rattle.definitions.specs.Reads.{Stated}
@@ -20,7 +21,8 @@ use Rattle.server.specs.declared.refusals.CommandRefusal.{CommandRefusal}
 use Rattle.server.specs.declared.replaying.BrokerFiles.{BrokerFiles}
 use Rattle.server.specs.declared.refusals.CommandRefusal.TheVariants.{Line, Refused, TooLong, Unread, Unwritten, NoExchange, Certificate, NotListening, Memory}
 use Rattle.server.specs.Refusals.{IsOfFile}
-use Rattle.scripts.specs.Script.{script}
+use Rattle.scripts.specs.FileNames.{FileNames}
+use Rattle.scripts.specs.Script.{ScriptArrival, script}
 use Rattle.scripts.specs.Transcript.{transcript_text}
 use Rattle.server.specs.Routes.{ListsExchange}
 use Rattle.named_files.specs.Files.{Known, HasText, IsTooLong, IsUnreadable, AreKept, AreKeptBut, most_bytes}
@@ -56,17 +58,42 @@ IsStarted holds definitions guarantees certificates world =
 
 -- ---- what is printed
 
--- The text prints what a run of the script's arrivals shows, and certified delivery holds of that run.
-pub record Prints (force : Config) (text printed : Text) : Type 0 where
-  pub arrivals : List Arrival
-  pub read : script text ≡ Ok arrivals
+-- the file has a script, and these are its arrivals
+abbrev pub ReadsScript : Known → List ScriptArrival → Type 0
+ReadsScript known arrivals = (text : Text) × HasText known text × (script text ≡ Ok arrivals)
+
+-- what is in force by the files of these names
+abbrev pub IsInForceBy : (Text → Known) → FileNames → Config → Type 0
+IsInForceBy holds names force = IsInForce holds (Some names.definitions) (Some names.guarantees) (Some names.certificates) force
+
+-- What arrives at the broker by an arrival of a script: at a reload what its files put in force, and else the same.
+abbrev pub IsSetUp : (Text → Known) → ScriptArrival → Arrival Config → Type 0
+IsSetUp holds arrival.Open a = a ≡ arrival.Open
+IsSetUp holds (arrival.Ready k) a = a ≡ arrival.Ready k
+IsSetUp holds (arrival.In c bytes) a = a ≡ arrival.In c bytes
+IsSetUp holds (arrival.Sent c n) a = a ≡ arrival.Sent c n
+IsSetUp holds arrival.Pump a = a ≡ arrival.Pump
+IsSetUp holds (arrival.Lose c) a = a ≡ arrival.Lose c
+IsSetUp holds (arrival.Reload names) a = (force : Config) × (a ≡ arrival.Reload force) × IsInForceBy holds names force
+
+-- the same of a list of arrivals, one by one
+abbrev pub AreSetUp : (Text → Known) → List ScriptArrival → List (Arrival Config) → Type 0
+AreSetUp holds [] arrivals = arrivals ≡ []
+AreSetUp holds (s ∷ ss) arrivals = (a : Arrival Config) × (rest : List (Arrival Config)) × (arrivals ≡ a ∷ rest) × IsSetUp holds s a × AreSetUp holds ss rest
+
+-- The text prints what a run of these arrivals shows, and certified delivery holds of that run.
+pub record PrintsRun (force : Config) (arrivals : List (Arrival Config)) (printed : Text) : Type 0 where
   pub seen : Seen
   pub certified : CertifiedDelivery force arrivals seen
   pub shown : printed ≡ transcript_text seen
 
--- the file's text prints this
-abbrev pub PrintsFile : Config → Known → Text → Type 0
-PrintsFile force known printed = (text : Text) × HasText known text × Prints force text printed
+-- The file's script prints this: its arrivals are run, and at a reload its files are in force, as they are read before the run.
+pub record PrintsFile (holds : Text → Known) (script : Text) (force : Config) (printed : Text) : Type 0 where
+  pub said : List ScriptArrival
+  pub read : ReadsScript (holds script) said
+  pub arrivals : List (Arrival Config)
+  pub set_up : AreSetUp holds said arrivals
+  pub prints : PrintsRun force arrivals printed
 
 -- the queues to which the key leads from the exchange, over the topology of a file; none where the exchange is not there
 abbrev pub ListsFile : Known → Text → Text → Option Text → Type 0
@@ -219,7 +246,7 @@ pub record IsVerified (holds : Text → Known) (definitions guarantees certifica
 pub record IsReplayed (holds : Text → Known) (script : Text) (definitions guarantees certificates : Option Text) (text : Text) (status : ℕ) : Type 0 where
   pub force : Config
   pub in_force : IsInForce holds definitions guarantees certificates force
-  pub printed : PrintsFile force (holds script) text
+  pub printed : PrintsFile holds script force text
   pub good : status ≡ 0
 
 -- `route`: the queues to which the key leads
@@ -232,7 +259,7 @@ abbrev pub IsCommandAnswered : (Text → Known) → (Text → Known) → Wanted 
 IsCommandAnswered before after (Check definitions guarantees out) text status = IsJudged before after definitions guarantees out text status
 IsCommandAnswered before after (Verify definitions guarantees certificates) text status = IsVerified before definitions guarantees certificates text status × AreKept before after
 IsCommandAnswered before after (Replay script definitions guarantees certificates) text status = IsReplayed before script definitions guarantees certificates text status × AreKept before after
-IsCommandAnswered before after (Serve definitions guarantees certificates listen turns) text status = ⊥
+IsCommandAnswered before after (Serve definitions guarantees certificates listen turns reload) text status = ⊥
 IsCommandAnswered before after (Route definitions exchange key) text status = IsRouted before definitions exchange key text status × AreKept before after
 
 -- the definitions file that a command names
@@ -240,7 +267,7 @@ abbrev pub definitions_of : Wanted → Option Text
 definitions_of (Check definitions guarantees out) = Some definitions
 definitions_of (Verify definitions guarantees certificates) = Some definitions
 definitions_of (Replay script definitions guarantees certificates) = definitions
-definitions_of (Serve definitions guarantees certificates listen turns) = Some definitions
+definitions_of (Serve definitions guarantees certificates listen turns reload) = Some definitions
 definitions_of (Route definitions exchange key) = Some definitions
 
 -- the guarantees file that it names
@@ -248,7 +275,7 @@ abbrev pub guarantees_of : Wanted → Option Text
 guarantees_of (Check definitions guarantees out) = Some guarantees
 guarantees_of (Verify definitions guarantees certificates) = Some guarantees
 guarantees_of (Replay script definitions guarantees certificates) = guarantees
-guarantees_of (Serve definitions guarantees certificates listen turns) = Some guarantees
+guarantees_of (Serve definitions guarantees certificates listen turns reload) = Some guarantees
 guarantees_of (Route definitions exchange key) = None
 
 -- the certificates file that it reads
@@ -256,14 +283,48 @@ abbrev pub certificates_of : Wanted → Option Text
 certificates_of (Check definitions guarantees out) = None
 certificates_of (Verify definitions guarantees certificates) = Some certificates
 certificates_of (Replay script definitions guarantees certificates) = certificates
-certificates_of (Serve definitions guarantees certificates listen turns) = Some certificates
+certificates_of (Serve definitions guarantees certificates listen turns reload) = Some certificates
 certificates_of (Route definitions exchange key) = None
 
 -- The commands that run a broker, and the files over which they do.
 pub data RunsOver : Wanted → (definitions guarantees certificates : Option Text) → Type 0 where
   replays : {script : Text} {definitions guarantees certificates : Option Text} → RunsOver (Replay script definitions guarantees certificates) definitions guarantees certificates
-  serves : {definitions guarantees certificates listen : Text} {turns : Option Text}
-      → RunsOver (Serve definitions guarantees certificates listen turns) (Some definitions) (Some guarantees) (Some certificates)
+  serves : {definitions guarantees certificates listen : Text} {turns reload : Option Text}
+      → RunsOver (Serve definitions guarantees certificates listen turns reload) (Some definitions) (Some guarantees) (Some certificates)
+
+-- Why nothing is in force by these files, and the file of which this is told. They are judged in this order.
+pub data FailsOver (holds : Text → Known) (definitions guarantees certificates : Option Text) : Text → CommandRefusal → Type 0 where
+  -- the definitions are refused, or the guarantees over them
+  not_set_up : {file : Text} {why : CommandRefusal} → IsOfFile (FailsToSetUp holds definitions guarantees) file why → FailsOver holds definitions guarantees certificates file why
+  -- the certificates file is refused
+  not_certified : {file : Text} {why : CommandRefusal} (stated : Stated) (gs : List Guarantee) → SetsUp holds definitions guarantees stated gs
+      → IsOfFile (FailsToCertify holds certificates) file why → FailsOver holds definitions guarantees certificates file why
+  -- a certificate is not accepted for its guarantee, or one of them has no partner
+  not_admitted : {file : Text} (stated : Stated) (gs : List Guarantee) (cs : List Shown) (why : CommandRefusal) → SetsUp holds definitions guarantees stated gs
+      → CertifiesAt holds certificates cs → IsWhyUnadmitted stated.topology gs cs why → FailsOver holds definitions guarantees certificates file why
+  -- memory was wanting
+  no_memory : {file : Text} → FailsOver holds definitions guarantees certificates file Memory
+
+-- why an arrival of a script is not set up: the files of its reload are refused, or memory was wanting
+abbrev pub IsWhyNotSetUp : (Text → Known) → ScriptArrival → Text → CommandRefusal → Type 0
+IsWhyNotSetUp holds (arrival.Reload names) file why = FailsOver holds (Some names.definitions) (Some names.guarantees) (Some names.certificates) file why
+IsWhyNotSetUp holds said file why = why ≡ Memory
+
+-- Why the reloads of a script are not set up: the files of this one are refused, and those of none before it; or memory was wanting.
+pub data FailsToReload (holds : Text → Known) (said : List ScriptArrival) : Text → CommandRefusal → Type 0 where
+  at : {file : Text} {why : CommandRefusal} (place : ℕ) (names : FileNames) (before : List (Arrival Config)) → slice_get said place ≡ Some (arrival.Reload names)
+      → AreSetUp holds (take place said) before → FailsOver holds (Some names.definitions) (Some names.guarantees) (Some names.certificates) file why
+      → FailsToReload holds said file why
+  no_room : {file : Text} → FailsToReload holds said file Memory
+
+-- Why a script prints nothing, over what is in force, and the file of which this is told.
+pub data FailsToPlay (holds : Text → Known) (script : Text) : Text → CommandRefusal → Type 0 where
+  -- it is refused
+  unread_script : (why : CommandRefusal) → IsWhyOfFile why (holds script) → FailsToPlay holds script script why
+  -- the files of a reload are refused, where it is good
+  unloaded : {file : Text} {why : CommandRefusal} (said : List ScriptArrival) → ReadsScript (holds script) said → FailsToReload holds said file why → FailsToPlay holds script file why
+  -- memory was wanting
+  no_run : {file : Text} → FailsToPlay holds script file Memory
 
 -- Why a command prints nothing, and the file of which this is told. The files are judged in this order.
 pub data Fails (holds : Text → Known) : Wanted → Text → CommandRefusal → Type 0 where
@@ -272,13 +333,12 @@ pub data Fails (holds : Text → Known) : Wanted → Text → CommandRefusal →
   -- the certificates file is refused
   uncertified : {wanted : Wanted} {file : Text} {why : CommandRefusal} (stated : Stated) (gs : List Guarantee) → SetsUp holds (definitions_of wanted) (guarantees_of wanted) stated gs
       → IsOfFile (FailsToCertify holds (certificates_of wanted)) file why → Fails holds wanted file why
-  -- a certificate is not accepted for its guarantee, or one of them has no partner
-  unadmitted : {wanted : Wanted} {file : Text} {definitions guarantees certificates : Option Text} (stated : Stated) (gs : List Guarantee) (cs : List Shown) (why : CommandRefusal)
-      → RunsOver wanted definitions guarantees certificates → SetsUp holds definitions guarantees stated gs → CertifiesAt holds certificates cs
-      → IsWhyUnadmitted stated.topology gs cs why → Fails holds wanted file why
-  -- the script is refused, over what is in force
-  unplayed : {script : Text} {definitions guarantees certificates : Option Text} (force : Config) (why : CommandRefusal) → IsInForce holds definitions guarantees certificates force
-      → IsWhyOfFile why (holds script) → Fails holds (Replay script definitions guarantees certificates) script why
+  -- nothing is in force by the files over which a broker is to run
+  unforced : {wanted : Wanted} {file : Text} {why : CommandRefusal} {definitions guarantees certificates : Option Text} → RunsOver wanted definitions guarantees certificates
+      → FailsOver holds definitions guarantees certificates file why → Fails holds wanted file why
+  -- the script is refused, or the files of a reload in it, over what is in force
+  unplayed : {script file : Text} {why : CommandRefusal} {definitions guarantees certificates : Option Text} (force : Config)
+      → IsInForce holds definitions guarantees certificates force → FailsToPlay holds script file why → Fails holds (Replay script definitions guarantees certificates) file why
   -- all guarantees hold, and their certificates are not written
   unwritten : {definitions guarantees file : Text} (stated : Stated) (gs : List Guarantee) (verdicts : List Verdict)
       → SetsUp holds (Some definitions) (Some guarantees) stated gs → FindsVerdicts stated.topology gs verdicts → status_of_verdicts verdicts ≡ 0
@@ -286,7 +346,7 @@ pub data Fails (holds : Text → Known) : Wanted → Text → CommandRefusal →
   -- the exchange is not there
   unrouted : {file exchange key : Text} → ListsFile (holds file) exchange key None → Fails holds (Route file exchange key) file NoExchange
   -- this call opens no socket
-  unheard : {definitions guarantees certificates listen file : Text} {turns : Option Text} → Fails holds (Serve definitions guarantees certificates listen turns) file NotListening
+  unheard : {definitions guarantees certificates listen file : Text} {turns reload : Option Text} → Fails holds (Serve definitions guarantees certificates listen turns reload) file NotListening
   -- memory was wanting
   wanting : {wanted : Wanted} {file : Text} → Fails holds wanted file Memory
 
@@ -296,9 +356,27 @@ IsNotAnswered before after wanted file why = Fails before wanted file why × Fil
 
 -- ---- the program
 
+-- the line was told, or where there was no memory for it that memory is wanting: all of it, or else a beginning
+abbrev pub TellsLine : OutputStream → Text → Bool → Type 0
+TellsLine err line whole = PutsOut err line whole ⊎ PutsOut err out_of_memory whole
+
 -- this refusal of the file was told, or want of memory for telling it
 abbrev pub RefusesWith : OutputStream → Text → CommandRefusal → ℕ → Type 0
 RefusesWith err file why status = TriesPut err (refusal_line file why) (status_of why) status ⊎ TriesPut err out_of_memory 4 status
+
+-- why a script prints nothing was told, with this status
+pub record IsUnplayed (holds : Text → Known) (script : Text) (err : OutputStream) (status : ℕ) : Type 0 where
+  pub file : Text
+  pub why : CommandRefusal
+  pub fails : FailsToPlay holds script file why
+  pub told : RefusesWith err file why status
+
+-- why a command prints nothing was told, with this status, and it leaves the files so
+pub record IsWhyTold (before after : Text → Known) (wanted : Wanted) (err : OutputStream) (status : ℕ) : Type 0 where
+  pub file : Text
+  pub why : CommandRefusal
+  pub fails : IsNotAnswered before after wanted file why
+  pub told : RefusesWith err file why status
 
 -- a command line that was refused for this was shown: want of memory by our own line, any other by clap's text
 abbrev pub ShowsError : ErrorKind → OutputStream → ℕ → Type 0

@@ -35,7 +35,7 @@ use std::io::Write;
 
 /// What `serve` is asked for.
 #[derive(Clone, Copy, Drop)]
-pub(crate) struct ServeArguments<'a> {
+pub struct ServeArguments<'a> {
     pub definitions: &'a str,
     pub guarantees: &'a str,
     pub certificates: &'a str,
@@ -85,7 +85,7 @@ impl<W: Wire> Ended<W> {
     ghost use Rattle.std.specs.Prelude.{◌≡◌, None};
 
     /// No client was served, and this is the status.
-    pub(crate) fn without_clients(status: u8) -> Ended<W>
+    pub fn without_clients(status: u8) -> Ended<W>
         ensures { result ≡ record { status = status; service = None } }
     {
         Ended {
@@ -95,9 +95,9 @@ impl<W: Wire> Ended<W> {
     }
 }
 
-/// The arguments of `serve`, where that is asked for.
+/// The arguments of `serve`, where that is asked for without `--reload`.
 pub(crate) fn serve_arguments(asked: Asked<'_>) -> Option<ServeArguments<'_>>
-    ensures some { IfSome result (λ a. wanted_of asked.entry ≡ Serve a.definitions.now a.guarantees.now a.certificates.now a.listen.now (file_named a.turns)) }
+    ensures some { IfSome result (λ a. wanted_of asked.entry ≡ Serve a.definitions.now a.guarantees.now a.certificates.now a.listen.now (file_named a.turns) None) }
     ensures none { result ≡ None → IsNotServe (wanted_of asked.entry) }
 {
     match asked {
@@ -107,6 +107,7 @@ pub(crate) fn serve_arguments(asked: Asked<'_>) -> Option<ServeArguments<'_>>
             certificates,
             listen,
             turns,
+            reload: None,
         } => Some(ServeArguments {
             definitions,
             guarantees,
@@ -119,7 +120,7 @@ pub(crate) fn serve_arguments(asked: Asked<'_>) -> Option<ServeArguments<'_>>
 }
 
 /// How many turns are served: without a number, more than will ever come.
-fn turns_of(given: Option<&str>) -> u64
+pub fn turns_of(given: Option<&str>) -> u64
     ensures { IsTurns (file_named given.entry) result }
 {
     match given {
@@ -209,8 +210,9 @@ fn new_server<'a, F: Files>(
     }
 }
 
-/// A service that clients can come to; or the status.
-fn begin<L: Listener, F: Files, O: Write, E: Write>(
+/// A service that clients can come to; or the status, once it is told why there is none. The files are judged first, and none is
+/// changed.
+pub fn begin<L: Listener, F: Files, O: Write, E: Write>(
     alloc: Global,
     asked: ServeArguments<'_>,
     listener: &mut L,

@@ -8,7 +8,7 @@ ghost use Rattle.clap.specs.Words.{kind_of};
 ghost use Rattle.command_line.specs.CommandLine.{AsksFor, Check, Route, Verify, wanted_of};
 ghost use Rattle.named_files.specs.Files.{AreKept};
 ghost use Rattle.named_files.specs.Stated.{FailsToState, file_named};
-ghost use Rattle.server.specs.Streams.{change};
+ghost use Rattle.server.specs.Streams.{GetsNothing, change};
 ghost use Rattle.server.specs.Program.{
   RunsAs,
   Fails,
@@ -17,6 +17,7 @@ ghost use Rattle.server.specs.Program.{
   IsNotAnswered,
   IsRouted,
   IsVerified,
+  IsWhyTold,
   ListsFile,
   ShowsError,
 };
@@ -139,25 +140,33 @@ fn route<'a, F: Files>(
     }
 }
 
-/// What a command answers, or why it prints nothing. To serve takes sockets, of which this has none.
-pub fn answer<'a, F: Files>(
+/// What a command answers; or the status, once it is told why it prints nothing. To serve takes sockets, of which this has
+/// none.
+pub fn answer<F: Files, E: Write>(
     alloc: Global,
-    asked: Asked<'a>,
+    asked: Asked<'_>,
     files: &mut F,
-) -> Result<Output, Told<'a>>
-    ensures { MatchResult result (λ o. IsCommandAnswered (F.holds files.old) (F.holds files.new) (wanted_of asked.entry) o.text.items o.status) (λ told. IsNotAnswered (F.holds files.old) (F.holds files.new) (wanted_of asked.entry) told.file.now told.why) }
+    err: &mut E,
+) -> Result<Output, u8>
+    ensures { MatchResult result (λ o. IsCommandAnswered (F.holds files.old) (F.holds files.new) (wanted_of asked.entry) o.text.items o.status × GetsNothing (change (E.contents err.old) (E.contents err.new))) (λ status. IsWhyTold (F.holds files.old) (F.holds files.new) (wanted_of asked.entry) (change (E.contents err.old) (E.contents err.new)) status) }
 {
     match asked {
         Asked::Check {
             definitions,
             guarantees,
             out,
-        } => check(alloc, definitions, guarantees, out, files),
+        } => match check(alloc, definitions, guarantees, out, files) {
+            Ok(output) => Ok(output),
+            Err(told) => Err(tell(alloc, err, told)),
+        },
         Asked::Verify {
             definitions,
             guarantees,
             certificates,
-        } => verify_files(alloc, definitions, guarantees, certificates, files),
+        } => match verify_files(alloc, definitions, guarantees, certificates, files) {
+            Ok(output) => Ok(output),
+            Err(told) => Err(tell(alloc, err, told)),
+        },
         Asked::Replay {
             script,
             definitions,
@@ -172,21 +181,25 @@ pub fn answer<'a, F: Files>(
                 certificates,
             },
             files,
+            err,
         ),
-        Asked::Serve { .. } => Err(Told {
-            file: "",
-            why: CommandRefusal::NotListening,
-        }),
+        Asked::Serve { .. } => {
+            let why = CommandRefusal::NotListening;
+            Err(tell(alloc, err, Told { file: "", why }))
+        }
         Asked::Route {
             definitions,
             exchange,
             key,
-        } => route(alloc, definitions, exchange, key, files),
+        } => match route(alloc, definitions, exchange, key, files) {
+            Ok(output) => Ok(output),
+            Err(told) => Err(tell(alloc, err, told)),
+        },
     }
 }
 
 /// Shows why a command line was refused, and gives the status.
-fn refuse_words<E: Write>(err: &mut E, error: &Error) -> u8
+pub fn refuse_words<E: Write>(err: &mut E, error: &Error) -> u8
     ensures { ShowsError (kind_of error.now) (change (E.contents err.old) (E.contents err.new)) result }
 {
     match error.kind() {
@@ -205,9 +218,9 @@ fn answer_asked<F: Files, O: Write, E: Write>(
 ) -> u8
     ensures { (words : List Text) → AsksFor words (wanted_of asked.entry) → RunsAs words (F.holds files.old) (F.holds files.new) (change (O.contents out.old) (O.contents out.new)) (change (E.contents err.old) (E.contents err.new)) result }
 {
-    match answer(alloc, asked, files) {
+    match answer(alloc, asked, files, err) {
         Ok(output) => tried(put(out, output.text.as_slice()), output.status),
-        Err(told) => tell(alloc, err, told),
+        Err(status) => status,
     }
 }
 
@@ -233,9 +246,27 @@ pub fn program<S: AsStr, F: Files, O: Write, E: Write>(
     answer_asked(alloc, asked, files, out, err)
 }
 
+/// Does what was asked for, `serve` too, and gives the exit status; where clients were served, with what served them.
+pub fn answer_with_sockets<L: Listener, F: Files, O: Write, E: Write>(
+    alloc: Global,
+    asked: Asked<'_>,
+    listener: &mut L,
+    files: &mut F,
+    out: &mut O,
+    err: &mut E,
+) -> Ended<L::Sockets>
+    ensures { (words : List Text) → AsksFor words (wanted_of asked.entry) → RunsWithSockets words (F.holds files.old) (F.holds files.new) (listener.new ≡ listener.old) (L.listens listener.old) (change (O.contents out.old) (O.contents out.new)) (change (E.contents err.old) (E.contents err.new)) (option_map (λ s. served (world_of s.server.machine) s.server.peers (L.Sockets.told s.sockets)) result.service) result.status }
+{
+    match serve_arguments(asked) {
+        Some(arguments) => serve_clients(alloc, arguments, listener, files, out, err),
+        None => Ended::without_clients(answer_asked(alloc, asked, files, out, err)),
+    }
+}
+
 /// Does what the words ask for, `serve` too, and gives the exit status; where clients were served, with what served them.
 ///
-/// What isn't `serve` is done as `program` does it. `serve` tells on `out` where clients may come, once files are judged.
+/// What isn't `serve` is done as `program` does it. `serve` tells on `out` where clients may come, once files are judged. No
+/// file is read again while it serves, so `--reload` is answered as `program` answers it.
 pub fn program_with_sockets<S: AsStr, L: Listener, F: Files, O: Write, E: Write>(
     alloc: Global,
     words: &[S],
@@ -250,8 +281,5 @@ pub fn program_with_sockets<S: AsStr, L: Listener, F: Files, O: Write, E: Write>
         Ok(asked) => asked,
         Err(error) => return Ended::without_clients(refuse_words(err, &error)),
     };
-    if let Some(asked) = serve_arguments(asked) {
-        return serve_clients(alloc, asked, listener, files, out, err);
-    }
-    Ended::without_clients(answer_asked(alloc, asked, files, out, err))
+    answer_with_sockets(alloc, asked, listener, files, out, err)
 }

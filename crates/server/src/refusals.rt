@@ -1,13 +1,14 @@
 //! Why the program does not do what it is asked for, and how it tells so.
 
-ghost use Rattle.std.specs.Prelude.{◌≡◌, ◌++◌, ◌∷◌, [], codes, decimal, IfOk, string_bytes};
+ghost use Rattle.std.specs.Prelude.{◌≡◌, ◌++◌, ◌∷◌, [], codes, decimal, is_ok, IfOk, string_bytes};
 ghost use Rattle.server.specs.Refusals.{of_refused};
-ghost use Rattle.server.specs.Program.{refusal_line, out_of_memory, status_of, told, RefusesWith};
-ghost use Rattle.server.specs.Streams.{TriesPut, change};
+ghost use Rattle.server.specs.Program.{refusal_line, out_of_memory, status_of, told, RefusesWith, TellsLine};
+ghost use Rattle.server.specs.Streams.{PutsOut, TriesPut, change};
 
 use crate::streams::{put, tried};
 use named_files::{RefusedFile, Unread};
 use std::alloc::{AllocError, Global};
+use std::io;
 use std::io::Write;
 
 /// What tells that a growth was refused.
@@ -173,11 +174,29 @@ fn status_of(refusal: CommandRefusal) -> u8
     }
 }
 
+/// Puts that a growth was refused behind what the stream holds. Where a write fails, it took a beginning of that, and not all.
+pub fn put_out_of_memory<E: Write>(err: &mut E) -> io::Result<()>
+    ensures { PutsOut (change (E.contents err.old) (E.contents err.new)) out_of_memory (is_ok result) }
+{
+    put(err, OUT_OF_MEMORY.as_bytes())
+}
+
+/// Puts why a file or a certificate is refused behind what the stream holds: its line, or that there was no memory for it.
+/// Where a write fails, the stream took a beginning, and not all.
+pub fn put_refusal<E: Write>(alloc: Global, err: &mut E, told: Told<'_>) -> io::Result<()>
+    ensures { TellsLine (change (E.contents err.old) (E.contents err.new)) (refusal_line told.entry.file.now told.entry.why) (is_ok result) }
+{
+    match message(alloc, told.file, told.why) {
+        Ok(text) => put(err, text.as_bytes()),
+        Err(_) => put_out_of_memory(err),
+    }
+}
+
 /// Tells that a growth was refused, and gives the status.
 pub fn refuse_memory<E: Write>(err: &mut E) -> u8
     ensures { TriesPut (change (E.contents err.old) (E.contents err.new)) out_of_memory 4 result }
 {
-    tried(put(err, OUT_OF_MEMORY.as_bytes()), 4)
+    tried(put_out_of_memory(err), 4)
 }
 
 /// Tells why a command prints nothing, and gives the status.

@@ -1,67 +1,45 @@
 //! What `replay` prints.
 
-ghost use Rattle.std.specs.Prelude.{◌≡◌, ◌≤◌, length, MatchResult};
+ghost use Rattle.std.specs.Prelude.{◌≡◌, ◌≤◌, length, IfOk, MatchResult, Ok, Some};
 ghost use Rattle.certificate.specs.Certified.{AreCertified};
-ghost use Rattle.command_line.specs.CommandLine.{Replay, Wanted};
+ghost use Rattle.command_line.specs.CommandLine.{Replay};
 ghost use Rattle.engine.specs.InForce.{in_force};
 ghost use Rattle.named_files.specs.Files.{AreKept};
 ghost use Rattle.verdicts.specs.Outcomes.{fault_number};
 ghost use Rattle.server.specs.Program.{
-  Fails,
+  AreSetUp,
+  FailsOver,
+  FailsToReload,
   IsInForce,
+  IsInForceBy,
   IsRefusalOf,
   IsReplayed,
+  IsSetUp,
+  IsWhyNotSetUp,
   IsWhyOfFile,
+  IsWhyTold,
   IsWhyUnadmitted,
+  IsUnplayed,
   OverNamed,
-  Prints,
   PrintsFile,
-  RunsOver,
+  PrintsRun,
+  ReadsScript,
 };
+ghost use Rattle.scripts.specs.Script.{script};
+ghost use Rattle.server.specs.Streams.{GetsNothing, change};
 
-use crate::refusals::{CommandRefusal, Told, told_of};
+use crate::refusals::{CommandRefusal, Told, refuse_memory, tell, told_of};
 use certificate::{Checked, admit};
 use certificate_check::{CertFault, Certificate};
+use engine::Setup;
 use exchange_graph::Topology;
 use guarantees::Guarantee;
-use model::User;
-use named_files::{Files, Setup, certificates_of, set_up};
-use scripts::{BadScript, read_script, transcript_text};
-use std::alloc::Global;
+use model::{Arrival, User};
+use named_files::{Files, certificates_of, set_up};
+use scripts::{BadScript, ReloadFiles, read_script, transcript_text};
+use std::alloc::{AllocError, Global};
+use std::io::Write;
 use verdicts::Output;
-
-/// What a script prints, over a topology with guarantees that hold of it, where these users may log in.
-pub fn replayed(
-    alloc: Global,
-    checked: Checked,
-    users: Vec<User>,
-    text: &[u8],
-) -> Result<Vec<u8>, CommandRefusal>
-    ensures { MatchResult result (λ printed. Prints (in_force checked users.items) text.now printed.items) (λ refusal. IsRefusalOf refusal text.now) }
-{
-    let arrivals = match read_script(alloc, text) {
-        Ok(arrivals) => arrivals,
-        Err(BadScript::Line(n)) => return Err(CommandRefusal::Line(n)),
-        Err(BadScript::Memory) => return Err(CommandRefusal::Memory),
-    };
-    let transcript = engine::run(alloc, checked, users, arrivals.as_slice())?;
-    Ok(transcript_text(alloc, &transcript)?)
-}
-
-/// What the script of a file prints.
-fn replayed_file<F: Files>(
-    alloc: Global,
-    script: &str,
-    checked: Checked,
-    users: Vec<User>,
-    files: &mut F,
-) -> Result<Vec<u8>, CommandRefusal>
-    ensures printed { MatchResult result (λ printed. PrintsFile (in_force checked users.items) (F.holds files.old script.now) printed.items) (λ refusal. IsWhyOfFile refusal (F.holds files.old script.now)) }
-    ensures files { AreKept (F.holds files.old) (F.holds files.new) }
-{
-    let text = files.read(alloc, script)?;
-    replayed(alloc, checked, users, text.as_slice())
-}
 
 /// The number of a fault.
 fn number_of(fault: &CertFault) -> u8
@@ -105,16 +83,16 @@ pub struct BrokerFiles<'a> {
     pub certificates: Option<&'a str>,
 }
 
-/// What is in force by these files.
-pub(crate) fn in_force<'a, F: Files>(
+/// What is in force by these files, which are judged in this order. No file is changed.
+pub fn in_force<'a, F: Files>(
     alloc: Global,
     named: BrokerFiles<'a>,
     files: &mut F,
 ) -> Result<(Checked, Vec<User>), Told<'a>>
-    ensures force { (wanted : Wanted) → OverNamed (RunsOver wanted) named.entry → MatchResult result (λ force. OverNamed (λ d g c. IsInForce (F.holds files.old) d g c (in_force force.0 force.1.items)) named.entry) (λ told. Fails (F.holds files.old) wanted told.file.now told.why) }
+    ensures force { MatchResult result (λ force. OverNamed (λ d g c. IsInForce (F.holds files.old) d g c (in_force force.0 force.1.items)) named.entry) (λ told. OverNamed (λ d g c. FailsOver (F.holds files.old) d g c told.file.now told.why) named.entry) }
     ensures files { AreKept (F.holds files.old) (F.holds files.new) }
 {
-    let Setup {
+    let named_files::Setup {
         topology,
         users,
         guarantees,
@@ -132,22 +110,156 @@ pub(crate) fn in_force<'a, F: Files>(
     }
 }
 
-/// `replay SCRIPT`: what the script prints over what is in force by these files, which are judged first.
-pub fn replay<'a, F: Files>(
+/// The arrivals of this text.
+fn said_in(alloc: Global, text: &[u8]) -> Result<Vec<scripts::Arrival>, CommandRefusal>
+    ensures { MatchResult result (λ said. script text.now ≡ Ok said.items) (λ refusal. IsRefusalOf refusal text.now) }
+{
+    match read_script(alloc, text) {
+        Ok(said) => Ok(said),
+        Err(BadScript::Line(n)) => Err(CommandRefusal::Line(n)),
+        Err(BadScript::Memory) => Err(CommandRefusal::Memory),
+    }
+}
+
+/// The arrivals of the script of a file.
+fn script_of<F: Files>(
     alloc: Global,
-    script: &'a str,
-    named: BrokerFiles<'a>,
+    script: &str,
     files: &mut F,
-) -> Result<Output, Told<'a>>
-    ensures answers { MatchResult result (λ o. OverNamed (λ d g c. IsReplayed (F.holds files.old) script.now d g c o.text.items o.status) named.entry) (λ told. OverNamed (λ d g c. Fails (F.holds files.old) (Replay script.now d g c) told.file.now told.why) named.entry) }
+) -> Result<Vec<scripts::Arrival>, CommandRefusal>
+    ensures said { MatchResult result (λ said. ReadsScript (F.holds files.old script.now) said.items) (λ refusal. IsWhyOfFile refusal (F.holds files.old script.now)) }
+    ensures files { AreKept (F.holds files.old) (F.holds files.new) }
+{
+    let text = files.read(alloc, script)?;
+    said_in(alloc, text.as_slice())
+}
+
+/// What the files of a reload put in force.
+fn setup_of<'a, F: Files>(
+    alloc: Global,
+    names: &'a ReloadFiles,
+    files: &mut F,
+) -> Result<Setup, Told<'a>>
+    ensures force { MatchResult result (λ force. IsInForceBy (F.holds files.old) names.now force) (λ told. FailsOver (F.holds files.old) (Some names.now.definitions) (Some names.now.guarantees) (Some names.now.certificates) told.file.now told.why) }
+    ensures files { AreKept (F.holds files.old) (F.holds files.new) }
+{
+    let named = BrokerFiles {
+        definitions: Some(names.definitions()),
+        guarantees: Some(names.guarantees()),
+        certificates: Some(names.certificates()),
+    };
+    match in_force(alloc, named, files) {
+        Ok((checked, users)) => Ok(Setup::new(checked, users)),
+        Err(told) => Err(told),
+    }
+}
+
+/// What arrives at the broker by an arrival of a script.
+fn arrival_of<'a, F: Files>(
+    alloc: Global,
+    said: &'a scripts::Arrival,
+    files: &mut F,
+) -> Result<Arrival<Setup>, Told<'a>>
+    ensures set_up { MatchResult result (λ arrival. IsSetUp (F.holds files.old) said.now arrival) (λ told. IsWhyNotSetUp (F.holds files.old) said.now told.file.now told.why) }
+    ensures files { AreKept (F.holds files.old) (F.holds files.new) }
+{
+    match said {
+        Arrival::Open => Ok(Arrival::Open),
+        Arrival::Ready(k) => Ok(Arrival::Ready(*k)),
+        Arrival::In(c, bytes) => match bytes.clone() {
+            Ok(bytes) => Ok(Arrival::In(*c, bytes)),
+            Err(error) => Err(Told::from(error)),
+        },
+        Arrival::Sent(c, n) => Ok(Arrival::Sent(*c, *n)),
+        Arrival::Pump => Ok(Arrival::Pump),
+        Arrival::Lose(c) => Ok(Arrival::Lose(*c)),
+        Arrival::Reload(names) => match setup_of(alloc, names, files) {
+            Ok(setup) => Ok(Arrival::Reload(setup)),
+            Err(told) => Err(told),
+        },
+    }
+}
+
+/// What arrives at the broker by the arrivals of a script: the files of its reloads are judged in order.
+fn arrivals_of<'a, F: Files>(
+    alloc: Global,
+    said: &'a [scripts::Arrival],
+    files: &mut F,
+) -> Result<Vec<Arrival<Setup>>, Told<'a>>
+    ensures set_up { MatchResult result (λ arrivals. AreSetUp (F.holds files.old) said.now arrivals.items) (λ told. FailsToReload (F.holds files.old) said.now told.file.now told.why) }
+    ensures files { AreKept (F.holds files.old) (F.holds files.new) }
+{
+    let mut arrivals = Vec::new(alloc);
+    for one in said {
+        let arrival = match arrival_of(alloc, one, files) {
+            Ok(arrival) => arrival,
+            Err(told) => return Err(told),
+        };
+        if let Err(error) = arrivals.push(arrival) {
+            return Err(Told::from(AllocError::from(error)));
+        }
+    }
+    Ok(arrivals)
+}
+
+/// What these arrivals print, over a topology with guarantees that hold of it, where these users may log in.
+fn played(
+    alloc: Global,
+    checked: Checked,
+    users: Vec<User>,
+    arrivals: Vec<Arrival<Setup>>,
+) -> Result<Vec<u8>, AllocError>
+    ensures { IfOk result (λ printed. PrintsRun (in_force checked users.items) arrivals.items printed.items) }
+{
+    let transcript = engine::run(alloc, checked, users, arrivals)?;
+    transcript_text(alloc, &transcript)
+}
+
+/// What the script of a file prints over what is in force, or the status, once it is told why.
+fn played_file<F: Files, E: Write>(
+    alloc: Global,
+    script: &str,
+    checked: Checked,
+    users: Vec<User>,
+    files: &mut F,
+    err: &mut E,
+) -> Result<Vec<u8>, u8>
+    ensures plays { MatchResult result (λ text. PrintsFile (F.holds files.old) script.now (in_force checked users.items) text.items × GetsNothing (change (E.contents err.old) (E.contents err.new))) (λ status. IsUnplayed (F.holds files.old) script.now (change (E.contents err.old) (E.contents err.new)) status) }
+    ensures files { AreKept (F.holds files.old) (F.holds files.new) }
+{
+    let said = match script_of(alloc, script, files) {
+        Ok(said) => said,
+        Err(why) => return Err(tell(alloc, err, Told { file: script, why })),
+    };
+    let arrivals = match arrivals_of(alloc, said.as_slice(), files) {
+        Ok(arrivals) => arrivals,
+        Err(told) => return Err(tell(alloc, err, told)),
+    };
+    drop(said);
+    match played(alloc, checked, users, arrivals) {
+        Ok(text) => Ok(text),
+        Err(_) => Err(refuse_memory(err)),
+    }
+}
+
+/// `replay SCRIPT`: what the script prints over what is in force by these files, which are judged first; or the status, once
+/// it is told why nothing is printed. The files of its reloads are judged once all of it was read, in its order.
+pub fn replay<F: Files, E: Write>(
+    alloc: Global,
+    script: &str,
+    named: BrokerFiles<'_>,
+    files: &mut F,
+    err: &mut E,
+) -> Result<Output, u8>
+    ensures answers { MatchResult result (λ o. OverNamed (λ d g c. IsReplayed (F.holds files.old) script.now d g c o.text.items o.status) named.entry × GetsNothing (change (E.contents err.old) (E.contents err.new))) (λ status. OverNamed (λ d g c. IsWhyTold (F.holds files.old) (F.holds files.new) (Replay script.now d g c) (change (E.contents err.old) (E.contents err.new)) status) named.entry) }
     ensures files { AreKept (F.holds files.old) (F.holds files.new) }
 {
     let (checked, users) = match in_force(alloc, named, files) {
         Ok(force) => force,
-        Err(told) => return Err(told),
+        Err(told) => return Err(tell(alloc, err, told)),
     };
-    match replayed_file(alloc, script, checked, users, files) {
+    match played_file(alloc, script, checked, users, files, err) {
         Ok(text) => Ok(Output { text, status: 0 }),
-        Err(why) => Err(Told { file: script, why }),
+        Err(status) => Err(status),
     }
 }

@@ -1,15 +1,15 @@
 use Rattle.named_files.specs.Stated.{FailsToSetUp}
 use Rattle.named_files.proofs.Kept.{certifies_kept, few_promised}
-use Rattle.server.specs.Program.{unadmitted}
-use Rattle.server.proofs.Kept.{told_as, told_uncertified, unset_over, uncertified_over}
+use Rattle.server.specs.Program.{not_set_up, not_certified, not_admitted}
+use Rattle.server.proofs.Kept.{told_as, told_uncertified}
 use Rattle.server.proofs.replaying.in_force.Goals as goal
 
 pub returns-in-Err-clause-force : goal.returns-in-Err-clause-force
-returns-in-Err-clause-force g c = λ wanted over. unset_over _ wanted _ _ _ _ _ over (told_as (FailsToSetUp _ _ _) _ _ _ _ c.told_of.ensures.file c.told_of.ensures.why c.in-Err.ensures.states)
+returns-in-Err-clause-force g c = not_set_up (told_as (FailsToSetUp _ _ _) _ _ _ _ c.told_of.ensures.file c.told_of.ensures.why c.in-Err.ensures.states)
 
 pub returns-in-Err-certificates_of-clause-force : goal.returns-in-Err-certificates_of-clause-force
 returns-in-Err-certificates_of-clause-force g c =
-    λ wanted over. uncertified_over _ wanted _ _ _ _ _ (record { topology = c.in-Ok.setup.topology; users = c.in-Ok.setup.users.items }) c.in-Ok.setup.guarantees.items over c.in-Ok.ensures.states
+    not_certified (record { topology = c.in-Ok.setup.topology; users = c.in-Ok.setup.users.items }) c.in-Ok.setup.guarantees.items c.in-Ok.ensures.states
     (told_uncertified _ _ _ _ _ _ _ c.in-Ok.ensures.files c.told_of-in-Err-certificates_of.ensures.file c.told_of-in-Err-certificates_of.ensures.why c.in-Err-certificates_of.ensures.states)
 
 pub admitted-requires : goal.admitted-requires
@@ -17,5 +17,5 @@ admitted-requires g c = few_promised _ _ _ _ c.in-Ok.ensures.states.promises
 
 pub returns-clause-force : goal.returns-clause-force
 returns-clause-force g c =
-    λ wanted over. unadmitted (record { topology = c.in-Ok.setup.topology; users = c.in-Ok.setup.users.items }) c.in-Ok.setup.guarantees.items c.in-Ok-certificates_of.certificates.items c.in-Err-admitted.why
-    over c.in-Ok.ensures.states (certifies_kept _ _ _ _ c.in-Ok.ensures.files c.in-Ok-certificates_of.ensures.states) (rw c.as_slice.ensures.value at c.in-Err-admitted.ensures)
+    not_admitted (record { topology = c.in-Ok.setup.topology; users = c.in-Ok.setup.users.items }) c.in-Ok.setup.guarantees.items c.in-Ok-certificates_of.certificates.items c.in-Err-admitted.why
+    c.in-Ok.ensures.states (certifies_kept _ _ _ _ c.in-Ok.ensures.files c.in-Ok-certificates_of.ensures.states) (rw c.as_slice.ensures.value at c.in-Err-admitted.ensures)

@@ -1,0 +1,8 @@
+-- The files that a reload names (own).
+use Rattle.model.specs.Words.{Text}
+
+-- the names of a definitions, a guarantees and a certificates file
+pub record FileNames : Type 0 where
+  pub definitions : Text
+  pub guarantees : Text
+  pub certificates : Text

@@ -1,0 +1,39 @@
+use Rattle.std.proofs.Common.{[], inl, subst}
+use Rattle.model.specs.Words.{Text}
+use Rattle.named_files.specs.Files.{Known}
+use Rattle.server.specs.declared.refusals.CommandRefusal.TheVariants.{Memory}
+use Rattle.server.specs.Program.{AreSetUp, FailsToReload, unread_script, unloaded, no_run}
+use Rattle.server.proofs.Kept.{same_known}
+use Rattle.server.proofs.Outcomes.{untouched}
+use Rattle.server.proofs.replaying.played_file.Goals as goal
+
+pub returns-in-Err-clause-plays : goal.returns-in-Err-clause-plays
+returns-in-Err-clause-plays g c = record { file = c.args.script.now; why = c.in-Err.why; fails = unread_script c.in-Err.why c.in-Err.ensures.said; told = c.tell.ensures }
+
+pub returns-in-Err-arrivals_of-clause-plays : goal.returns-in-Err-arrivals_of-clause-plays
+returns-in-Err-arrivals_of-clause-plays g c =
+    let told = c.in-Err-arrivals_of.told in
+    let same = same_known (g.F.Files.holds c.args.files.now) (g.F.Files.holds c.script_of.new.files) c.in-Ok.ensures.files in
+    record {
+      file = told.file.now;
+      why = told.why;
+      fails = unloaded c.in-Ok.said.items c.in-Ok.ensures.said
+          (subst (λ (h : Text → Known). FailsToReload h c.in-Ok.said.items told.file.now told.why) same (rw c.as_slice.ensures.value at c.in-Err-arrivals_of.ensures.set_up));
+      told = c.tell-in-Err-arrivals_of.ensures;
+    }
+
+pub returns-in-Ok-played-clause-plays : goal.returns-in-Ok-played-clause-plays
+returns-in-Ok-played-clause-plays g c =
+    let same = same_known (g.F.Files.holds c.args.files.now) (g.F.Files.holds c.script_of.new.files) c.in-Ok.ensures.files in (
+      record {
+        said = c.in-Ok.said.items;
+        read = c.in-Ok.ensures.said;
+        arrivals = c.in-Ok-arrivals_of.arrivals.items;
+        set_up = subst (λ (h : Text → Known). AreSetUp h c.in-Ok.said.items c.in-Ok-arrivals_of.arrivals.items) same (rw c.as_slice.ensures.value at c.in-Ok-arrivals_of.ensures.set_up);
+        prints = c.in-Ok-played.ensures;
+      },
+      untouched _,
+    )
+
+pub returns-in-Err-played-clause-plays : goal.returns-in-Err-played-clause-plays
+returns-in-Err-played-clause-plays g c = record { file = []; why = Memory; fails = no_run; told = inl c.refuse_memory.ensures }
