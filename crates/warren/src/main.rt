@@ -3,12 +3,14 @@
 
 ghost use Rattle.std.specs.Prelude.{◌≤◌, length, IfOk};
 
-use server::{Files, Listener, Listening, NotWritten, Unread, program_with_sockets};
+use reload_loop::program_with_reloads;
+use server::{Files, Listener, Listening, NotWritten, Unread};
 use sockets::Sockets;
 use std::alloc::Global;
 use std::io::{Read, Write};
 use std::net::SocketAddr;
 use std::process::ExitCode;
+use std::time::Duration;
 use std::{env, fs, io};
 
 /// The files of the machine. `/dev/stdin` is read from the standard input that the process has.
@@ -97,6 +99,9 @@ fn refuse<W: Write>(err: &mut W, error: &io::Error) -> u8 {
     3
 }
 
+/// How many seconds a socket has until it has said enough for a login.
+const PATIENCE: u64 = 30;
+
 /// What opens sockets of the system.
 #[derive(Drop)]
 struct System<'a> {
@@ -113,6 +118,7 @@ impl Listener for System<'_> {
     fn listen(&mut self, alloc: Global, address: &str) -> Option<Listening<Sockets>> {
         let address = address.parse::<SocketAddr>().ok()?;
         let sockets = Sockets::bind(self.rt, alloc, address).ok()?;
+        let sockets = sockets.with_patience(self.rt, Duration::from_secs(PATIENCE));
         let address = sockets.local_addr().ok()?;
         let address = format!(in alloc; "{address}").ok()?;
         Some(Listening { sockets, address })
@@ -123,7 +129,10 @@ impl Listener for System<'_> {
 fn run<O: Write, E: Write>(rt: &HostRuntime, words: &[String], out: &mut O, err: &mut E) -> u8 {
     let mut files = Disk { rt };
     let mut system = System { rt };
-    program_with_sockets(rt.alloc(), words, &mut system, &mut files, out, err).status
+    let ended = program_with_reloads(rt.alloc(), words, &mut system, &mut files, out, err);
+    let status = ended.status;
+    drop(ended);
+    status
 }
 
 fn main(rt: HostRuntime) -> ExitCode {

@@ -1,0 +1,51 @@
+-- What comes of serving with looks at the files.
+use Rattle.std.proofs.Common.{◌≡◌, ℕ, Bool, true, List, [], Option, Some, ap, subst}
+use Rattle.command_line.specs.CommandLine.{Wanted, Serve, AsksFor}
+use Rattle.server.proofs.Beginning.{asked_once}
+use Rattle.model.specs.Words.{Text}
+use Rattle.model.specs.State.{Config}
+use Rattle.model.specs.Arrivals.{new_world}
+use Rattle.engine.specs.Wanting.{engine_lacks}
+use Rattle.named_files.specs.Files.{Known, AreKept}
+use Rattle.scripts.specs.FileNames.{FileNames}
+use Rattle.serving.specs.Wire.{Told}
+use Rattle.serving.specs.Story.{Served}
+use Rattle.serving.specs.Whole.{IsServed}
+use Rattle.server.specs.Streams.{OutputStream, change}
+use Rattle.server.specs.Clients.{Begins, IsTurns, Openings}
+use Rattle.reload_loop.specs.Snapshots.{Snap, IsReadFrom, known_in}
+use Rattle.reload_loop.specs.ServesOn.{ServesOn, Standing, standing}
+use Rattle.reload_loop.specs.Program.{AsksToReload, IsEvery, IsNotReload, ServesReloading}
+use Rattle.reload_loop.proofs.Outcomes.{same_holds}
+
+-- a broker that was just started by what was read, and then so many turns
+pub serves_reloading : (holds : Text → Known) (names : FileNames) (turns : Option Text) (every : Text) (may : Openings) (out : OutputStream) (before said after : Option Text) (first last : Snap) (start end : Served) (count step : ℕ) (whole : Bool)
+    → IsReadFrom holds names first → Begins (known_in names first) names.definitions names.guarantees names.certificates may out (change before said) start
+    → IsTurns turns count → IsEvery every step → ServesOn holds names step count (standing start first said true) (standing end last after whole)
+    → ((f : Config) → start.world ≡ new_world f → start.peers ≡ [] → IsServed engine_lacks f start.told end)
+    → ServesReloading holds names turns every may out (change before after) end whole
+serves_reloading holds names turns every may out before said after first last start end count step whole read b counted stepped serves kept = record {
+  first = first;
+  read = read;
+  force = b.force;
+  in_force = b.in_force;
+  start = b.told;
+  said = said;
+  can_come = b.can_come;
+  count = count;
+  counted = counted;
+  step = step;
+  stepped = stepped;
+  last = last;
+  serves = subst (λ (v : Served). ServesOn holds names step count (standing v first said true) (standing end last after whole)) b.is serves;
+  kept = subst (λ (t : Told). IsServed engine_lacks b.force t end) (ap (λ (v : Served). v.told) b.is) (kept b.force (ap (λ (v : Served). v.world) b.is) (ap (λ (v : Served). v.peers) b.is));
+}
+
+-- what is done over files that were kept is done over the files before
+pub serves_kept : (a b : Text → Known) (names : FileNames) (every turns : ℕ) (old new : Standing) → AreKept a b → ServesOn b names every turns old new → ServesOn a names every turns old new
+serves_kept a b names every turns old new k h = subst (λ (x : Text → Known). ServesOn x names every turns old new) (same_holds a b k) h
+
+-- what asks for no reload does not ask for one
+pub not_to_reload : (words : List Text) (wanted : Wanted) (names : FileNames) (l : Text) (t : Option Text) (every : Text) → AsksFor words wanted → IsNotReload wanted → AsksToReload words names l t every → ⊥
+not_to_reload words wanted names l t every a not b =
+    subst (λ (w : Wanted). IsNotReload w) (asked_once words wanted (Serve names.definitions names.guarantees names.certificates l t (Some every)) a b) not

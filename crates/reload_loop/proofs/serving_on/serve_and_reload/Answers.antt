@@ -1,0 +1,37 @@
+use Rattle.std.proofs.Common.{◌∙◌, ◌&&◌, is_ok, Bool, List, Option, ap, refl, subst, arith}
+use Rattle.model.specs.Words.{Text}
+use Rattle.engine.specs.World.{world_of}
+use Rattle.named_files.specs.Files.{Known}
+use Rattle.serving.specs.Story.{served}
+use Rattle.serving.specs.declared.peers.Peer.{Peer}
+use Rattle.server.specs.Streams.{change}
+use Rattle.reload_loop.specs.Snapshots.{names_of}
+use Rattle.reload_loop.specs.Looks.{Looks}
+use Rattle.reload_loop.specs.ServesOn.{last, more}
+use Rattle.reload_loop.proofs.Outcomes.{same_holds}
+use Rattle.reload_loop.proofs.serving_on.serve_and_reload.Goals as goal
+
+pub loop-left-preserved : goal.loop-left-preserved
+loop-left-preserved g c =
+    let told = g.W.Wire.told in
+    let says = g.E.Write.contents in
+    let holds = g.F.Files.holds in
+    let mid = served (world_of c.serve.new.server.machine) c.serve.new.server.peers (told c.serve.new.wire) in
+    record {
+      serves = λ new s.
+          c.loop-left.invariant.serves new (more mid c.loop-left-test.true c.serve.ensures.rounds (record {
+            taken = is_ok c.look.result;
+            looks = subst (λ (h : Text → Known). Looks h (names_of c.args.names) (change (says c.loop-left.err) (says c.look.new.err)) c.loop-left.kept mid.world c.look.new.kept (world_of c.look.new.server.machine) (is_ok c.look.result))
+                (same_holds (holds c.args.files.now) (holds c.loop-left.files) c.loop-left.invariant.files) c.look.ensures.looks;
+            rest = ap (λ (ps : List (Option Peer)). served (world_of c.look.new.server.machine) ps mid.told) c.look.ensures.peers;
+            whole = ap (λ (taken : Bool). taken && c.loop-left.whole) c.is_ok-taken.ensures.value;
+          }) s);
+      served = λ f before was. c.look.ensures.served f before mid.told (c.serve.ensures.served f before (c.loop-left.invariant.served f before was));
+      files = λ name. c.look.ensures.files name ∙ c.loop-left.invariant.files name;
+    }
+
+pub returns-clause-serves : goal.returns-clause-serves
+returns-clause-serves g c = c.loop-left.invariant.serves _ (last (omega (arith, c.loop-left-test.false)) c.serve-2.ensures.rounds refl)
+
+pub returns-clause-served : goal.returns-clause-served
+returns-clause-served g c f before was = c.serve-2.ensures.served f before (c.loop-left.invariant.served f before was)

@@ -1,0 +1,27 @@
+use Rattle.std.specs.Prelude.{true}
+use Rattle.model.specs.State.{Config}
+use Rattle.engine.specs.World.{world_of}
+use Rattle.engine.specs.Wanting.{engine_lacks}
+use Rattle.named_files.specs.Files.{AreKept}
+use Rattle.serving.specs.Wire.{Told}
+use Rattle.serving.specs.Story.{served}
+use Rattle.serving.specs.Whole.{IsServed}
+use Rattle.reload_loop.specs.Snapshots.{names_of}
+use Rattle.reload_loop.specs.ServesOn.{Standing, ServesOn, standing}
+use Rattle.reload_loop.proofs.serving_on.serve_and_reload.Given as goal
+
+abbrev pub invariant-loop-left : goal.invariant-loop-left
+invariant-loop-left g l =
+    let told = g.W.Wire.told in
+    let says = g.E.Write.contents in
+    let holds = g.F.Files.holds in
+    let start = served (world_of l.fn.server.machine) l.fn.server.peers (told l.fn.sockets) in
+    let here = served (world_of l.server.machine) l.server.peers (told l.sockets) in
+    record {
+      serves : (new : Standing) → ServesOn (holds l.fn.files) (names_of l.names) l.every l.left (standing here l.kept (says l.err) l.whole) new → ServesOn (holds l.fn.files) (names_of l.names) l.every l.turns (standing start l.fn.kept (says l.fn.err) true) new;
+      served : (f : Config) (before : Told) → IsServed engine_lacks f before start → IsServed engine_lacks f before here;
+      files : AreKept (holds l.fn.files) (holds l.files);
+    }
+
+abbrev pub decreases-loop-left : goal.decreases-loop-left
+decreases-loop-left g l = l.left

@@ -1,0 +1,72 @@
+-- The program, where its files may be read again while it serves (own).
+use Rattle.std.specs.Prelude.{◌≡◌, ◌<◌, ◌≤◌, ◌^◌, ℕ, Bool, true, List, [], Option, Some, None, ⊤}
+use Rattle.std.specs.Str.Parse.{IsNumeral, digits_value, without_leading_plus}
+use Rattle.model.specs.Words.{Text}
+use Rattle.model.specs.State.{Config}
+use Rattle.model.specs.Arrivals.{new_world}
+use Rattle.serving.specs.Wire.{Told}
+use Rattle.serving.specs.Story.{Served, served}
+use Rattle.serving.specs.Whole.{IsServed}
+use Rattle.engine.specs.Wanting.{engine_lacks}
+use Rattle.command_line.specs.CommandLine.{Wanted, Check, Verify, Replay, Serve, Route, AsksFor}
+use Rattle.named_files.specs.Files.{Known, AreKept}
+use Rattle.scripts.specs.FileNames.{FileNames}
+use Rattle.server.specs.Streams.{OutputStream, TriesPut, change, tried}
+use Rattle.server.specs.Program.{IsInForceBy, out_of_memory}
+use Rattle.server.specs.Clients.{CanCome, EndsUnserved, IsTurns, Openings, RunsWithSockets}
+use Rattle.reload_loop.specs.Snapshots.{Snap, IsReadFrom, known_in}
+use Rattle.reload_loop.specs.ServesOn.{ServesOn, standing}
+
+-- the words ask to serve these files at this address, for so many turns, and to look at them each time that so many are over
+abbrev pub AsksToReload : List Text → FileNames → Text → Option Text → Text → Type 0
+AsksToReload words names listen turns every = AsksFor words (Serve names.definitions names.guarantees names.certificates listen turns (Some every))
+
+-- a command other than `serve` with `--reload`
+abbrev pub IsNotReload : Wanted → Type 0
+IsNotReload (Check definitions guarantees out) = ⊤
+IsNotReload (Verify definitions guarantees certificates) = ⊤
+IsNotReload (Replay script definitions guarantees certificates) = ⊤
+IsNotReload (Serve definitions guarantees certificates listen turns None) = ⊤
+IsNotReload (Serve definitions guarantees certificates listen turns (Some every)) = ⊥
+IsNotReload (Route definitions exchange key) = ⊤
+
+-- so many turns lie between two looks: the number that is given, where it is one or more
+pub record IsEvery (text : Text) (every : ℕ) : Type 0 where
+  pub some : 1 ≤ every
+  pub is : IsNumeral 10 (without_leading_plus text) → digits_value 10 (without_leading_plus text) < 2 ^ 64 → 1 ≤ digits_value 10 (without_leading_plus text)
+      → every ≡ digits_value 10 (without_leading_plus text)
+
+-- Clients were served, and the files looked at: from a broker that was just started by what the files had when they were read, in so
+-- many turns, once it was told where clients may come.
+pub record ServesReloading (holds : Text → Known) (names : FileNames) (turns : Option Text) (every : Text) (may : Openings) (out err : OutputStream) (end : Served) (whole : Bool) : Type 0 where
+  pub first : Snap
+  pub read : IsReadFrom holds names first
+  pub force : Config
+  pub in_force : IsInForceBy (known_in names first) names force
+  pub start : Told
+  -- what the stream of refusals holds once that is told
+  pub said : Option Text
+  pub can_come : CanCome may start out (change err.before said)
+  pub count : ℕ
+  pub counted : IsTurns turns count
+  pub step : ℕ
+  pub stepped : IsEvery every step
+  pub last : Snap
+  pub serves : ServesOn holds names step count (standing (served (new_world force) [] start) first said true) (standing end last err.after whole)
+  -- all that arrived at the broker, reloads too, and that certified delivery holds of it
+  pub kept : IsServed engine_lacks force start end
+
+-- How `serve --reload` ends: with what was served as it was left, where clients could come, and this status, which tells whether each line of a look was taken whole.
+pub data ReloadsEnd (holds : Text → Known) (names : FileNames) (turns : Option Text) (every : Text) (Unasked : Type 0) (may : Openings) (out err : OutputStream) : Option Served → ℕ → Type 0 where
+  unserved : {status : ℕ} (first : Snap) → IsReadFrom holds names first
+      → EndsUnserved (known_in names first) names.definitions names.guarantees names.certificates Unasked may out err status → ReloadsEnd holds names turns every Unasked may out err None status
+  reloading : {end : Served} {whole : Bool} → ServesReloading holds names turns every may out err end whole → ReloadsEnd holds names turns every Unasked may out err (Some end) (tried whole 0)
+
+-- What a call comes to that can open sockets and read its files again.
+pub data RunsWithReloads (words : List Text) (before after : Text → Known) (Unasked : Type 0) (may : Text → Openings) (out err : OutputStream) : Option Served → ℕ → Type 0 where
+  -- what it comes to without reading them again, unless that is asked for; then memory was wanting before that was read
+  without : {end : Option Served} {status : ℕ} → RunsWithSockets words before after Unasked may out err end status
+      → ((names : FileNames) (listen every : Text) (turns : Option Text) → AsksToReload words names listen turns every → TriesPut err out_of_memory 4 status)
+      → RunsWithReloads words before after Unasked may out err end status
+  reloads : {end : Option Served} {status : ℕ} (names : FileNames) (listen every : Text) (turns : Option Text) → AsksToReload words names listen turns every → AreKept before after
+      → ReloadsEnd before names turns every Unasked (may listen) out err end status → RunsWithReloads words before after Unasked may out err end status

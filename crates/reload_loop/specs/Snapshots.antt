@@ -1,0 +1,61 @@
+-- The three files that are looked at, as they were read (own).
+use Rattle.std.specs.Prelude.{◌≡◌, ℕ, Result, Ok, Err, if◌then◌else◌, ⊤}
+use Rattle.std.specs.Global.{Vec}
+use Rattle.std.specs.Str.{bytes_eq}
+use Rattle.model.specs.Words.{Text}
+use Rattle.named_files.specs.Files.{Known, Unknown, Absent, Holds, HasText, IsFileRead, IsUnreadable}
+use Rattle.named_files.specs.declared.storage.Unread.{Unread}
+use Rattle.named_files.specs.declared.storage.Unread.TheVariants as unread
+use Rattle.scripts.specs.FileNames.{FileNames}
+use Rattle.reload_loop.specs.declared.snapshots.Names.{Names}
+
+-- the names of the three
+abbrev pub names_of : Names → FileNames
+names_of n = record { definitions = n.definitions.now; guarantees = n.guarantees.now; certificates = n.certificates.now }
+
+-- what is known of a file by a read of it
+abbrev pub known_of : Result (Vec ℕ) Unread → Known
+known_of (Ok bytes) = Holds bytes.items
+known_of (Err unread.Failed) = Absent
+known_of (Err unread.TooLong) = Unknown
+known_of (Err unread.Memory) = Unknown
+
+-- what is known of the three files by their reads
+pub record Snap : Type 0 where
+  pub definitions : Known
+  pub guarantees : Known
+  pub certificates : Known
+
+-- the same of the file of a name, where these are the names of the three; there is no other file
+abbrev pub known_in : FileNames → Snap → Text → Known
+known_in names s name =
+    if bytes_eq name names.definitions then s.definitions else if bytes_eq name names.guarantees then s.guarantees else if bytes_eq name names.certificates then s.certificates else Absent
+
+-- so the file of which the first is known was read
+abbrev pub IsSlotOf : Known → Known → Type 0
+IsSlotOf known (Holds text) = IsFileRead known text
+IsSlotOf known Absent = IsUnreadable known
+IsSlotOf known Unknown = ⊤
+
+-- The three were read from these files.
+pub record IsReadFrom (holds : Text → Known) (names : FileNames) (s : Snap) : Type 0 where
+  pub definitions : IsSlotOf (holds names.definitions) s.definitions
+  pub guarantees : IsSlotOf (holds names.guarantees) s.guarantees
+  pub certificates : IsSlotOf (holds names.certificates) s.certificates
+
+-- the file has the text that was read
+abbrev pub IsHeld : Known → Known → Type 0
+IsHeld known (Holds text) = HasText known text
+IsHeld known Absent = ⊥
+IsHeld known Unknown = ⊥
+
+-- Each of the three was read, and the files of these names have the texts.
+pub record AreHeld (holds : Text → Known) (names : FileNames) (s : Snap) : Type 0 where
+  pub definitions : IsHeld (holds names.definitions) s.definitions
+  pub guarantees : IsHeld (holds names.guarantees) s.guarantees
+  pub certificates : IsHeld (holds names.certificates) s.certificates
+
+-- both have a text, which is the same
+abbrev pub IsSameText : Known → Known → Type 0
+IsSameText (Holds s) (Holds t) = s ≡ t
+IsSameText one other = ⊥

@@ -1,0 +1,54 @@
+//! Serving with looks in between.
+
+ghost use Rattle.std.specs.Prelude.{◌≡◌, ◌≤◌, true};
+ghost use Rattle.model.specs.State.{Config};
+ghost use Rattle.engine.specs.World.{world_of};
+ghost use Rattle.engine.specs.Wanting.{engine_lacks};
+ghost use Rattle.named_files.specs.Files.{AreKept};
+ghost use Rattle.serving.specs.Wire.{Told};
+ghost use Rattle.serving.specs.Story.{served};
+ghost use Rattle.serving.specs.Whole.{IsServed};
+ghost use Rattle.reload_loop.specs.Snapshots.{names_of};
+ghost use Rattle.reload_loop.specs.ServesOn.{ServesOn, standing};
+
+use crate::looking::look;
+use crate::snapshots::{Names, Snapshot};
+use engine::Engine;
+use named_files::Files;
+use serving::{Server, Wire, serve};
+use std::alloc::Global;
+use std::io::Write;
+
+/// So many turns, and a look at the files each time that `every` of them are over and more are to come.
+///
+/// Where the files have other bytes than those that are kept, by which what is in force was judged, what they state is put
+/// in force. Where they are refused, or something stands against it, one line is put on `err`, what stands stays in force,
+/// and the next look tries again. The result says whether `err` took each such line whole.
+pub fn serve_and_reload<W: Wire, F: Files, E: Write>(
+    alloc: Global,
+    server: &mut Server<Engine>,
+    sockets: &mut W,
+    names: Names<'_>,
+    kept: &mut Snapshot,
+    files: &mut F,
+    err: &mut E,
+    every: u64,
+    turns: u64,
+) -> bool
+    requires { 1 ≤ every }
+    ensures serves { ServesOn (F.holds files.old) (names_of names.entry) every turns (standing (served (world_of server.old.machine) server.old.peers (W.told sockets.old)) kept.old (E.contents err.old) true) (standing (served (world_of server.new.machine) server.new.peers (W.told sockets.new)) kept.new (E.contents err.new) result) }
+    // Whatever was served before is served after: what arrived since the server was new, reloads too, and that the promises are kept.
+    ensures served { (f : Config) (told : Told) → IsServed engine_lacks f told (served (world_of server.old.machine) server.old.peers (W.told sockets.old)) → IsServed engine_lacks f told (served (world_of server.new.machine) server.new.peers (W.told sockets.new)) }
+    ensures files { AreKept (F.holds files.old) (F.holds files.new) }
+{
+    let mut whole = true;
+    let mut left = turns;
+    while every < left {
+        serve(alloc, server, sockets, every);
+        let taken = look(alloc, server, names, kept, files, err).is_ok();
+        whole = taken & whole;
+        left -= every;
+    }
+    serve(alloc, server, sockets, left);
+    whole
+}

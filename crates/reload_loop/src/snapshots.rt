@@ -1,0 +1,139 @@
+//! What the files that are looked at had when they were read.
+
+ghost use Rattle.std.specs.Prelude.{◌≡◌, MatchResult, true};
+ghost use Rattle.model.specs.Words.{Text};
+ghost use Rattle.named_files.specs.Files.{AreKept, IsFileRead, IsUnread, Known};
+ghost use Rattle.reload_loop.specs.Snapshots.{AreHeld, IsReadFrom, IsSameText, known_in, known_of, names_of};
+ghost use Rattle.scripts.specs.FileNames.{FileNames};
+
+use named_files::{Files, NotWritten, Unread};
+use std::alloc::Global;
+use std::marker::Model;
+
+/// The longest file that is read, in bytes.
+const LIMIT: usize = 16_777_216;
+
+/// The names of the three files by which a broker serves.
+#[derive(Clone, Copy, Drop)]
+pub struct Names<'a> {
+    pub definitions: &'a str,
+    pub guarantees: &'a str,
+    pub certificates: &'a str,
+}
+
+/// The bytes of the three files as each was read once, or why it was not.
+pub struct Snapshot {
+    definitions: Result<Vec<u8>, Unread>,
+    guarantees: Result<Vec<u8>, Unread>,
+    certificates: Result<Vec<u8>, Unread>,
+}
+
+/// Written out, so that a drop is one call.
+impl Drop for Snapshot {
+    fn drop(self) {
+        let Snapshot {
+            definitions: _,
+            guarantees: _,
+            certificates: _,
+        } = self;
+    }
+}
+
+impl Model for Snapshot {
+    ghost use Rattle.reload_loop.specs.Snapshots.{Snap, known_of};
+
+    ghost Value = { Snap };
+
+    ghost view = { λ s. record { definitions = known_of s.definitions; guarantees = known_of s.guarantees; certificates = known_of s.certificates } };
+}
+
+impl Snapshot {
+    /// The three files are read. None is changed.
+    pub fn take<F: Files>(alloc: Global, names: Names<'_>, files: &mut F) -> Snapshot
+        ensures read { IsReadFrom (F.holds files.old) (names_of names.entry) result }
+        ensures files { AreKept (F.holds files.old) (F.holds files.new) }
+    {
+        let definitions = files.read(alloc, names.definitions);
+        let guarantees = files.read(alloc, names.guarantees);
+        let certificates = files.read(alloc, names.certificates);
+        Snapshot {
+            definitions,
+            guarantees,
+            certificates,
+        }
+    }
+
+    /// Whether each file was read, and had the same bytes in both.
+    pub(crate) fn has_same(&self, other: &Snapshot) -> bool
+        ensures { (holds : Text → Known) (names : FileNames) → result ≡ true → IsReadFrom holds names self.now → AreHeld holds names other.now }
+    {
+        have_same(&self.definitions, &other.definitions)
+            && have_same(&self.guarantees, &other.guarantees)
+            && have_same(&self.certificates, &other.certificates)
+    }
+
+    /// The bytes of the file of a name, where these are the names of the three.
+    fn copy_of(&self, alloc: Global, names: Names<'_>, name: &str) -> Result<Vec<u8>, Unread>
+        ensures { MatchResult result (λ bytes. IsFileRead (known_in (names_of names.entry) self.now name.now) bytes.items) (λ why. IsUnread (known_in (names_of names.entry) self.now name.now) why) }
+    {
+        if name == names.definitions {
+            return copied(alloc, &self.definitions);
+        }
+        if name == names.guarantees {
+            return copied(alloc, &self.guarantees);
+        }
+        if name == names.certificates {
+            return copied(alloc, &self.certificates);
+        }
+        Err(Unread::Failed)
+    }
+}
+
+/// Whether both were read, and had the same bytes.
+fn have_same(one: &Result<Vec<u8>, Unread>, other: &Result<Vec<u8>, Unread>) -> bool
+    ensures { result ≡ true → IsSameText (known_of one.now) (known_of other.now) }
+{
+    match (one, other) {
+        (Ok(one), Ok(other)) => one.as_slice() == other.as_slice(),
+        _ => false,
+    }
+}
+
+/// The bytes of one file, once more.
+fn copied(alloc: Global, slot: &Result<Vec<u8>, Unread>) -> Result<Vec<u8>, Unread>
+    ensures { MatchResult result (λ bytes. IsFileRead (known_of slot.now) bytes.items) (λ why. IsUnread (known_of slot.now) why) }
+{
+    match slot {
+        Ok(bytes) => {
+            if bytes.len() > LIMIT {
+                return Err(Unread::TooLong);
+            }
+            match Vec::from_slice(alloc, bytes.as_slice()) {
+                Ok(copy) => Ok(copy),
+                Err(_) => Err(Unread::Memory),
+            }
+        }
+        Err(why) => Err(*why),
+    }
+}
+
+/// The three files as they were read, to be read once more. They can't be written.
+#[derive(Clone, Copy, Drop)]
+pub struct Reading<'a> {
+    pub names: Names<'a>,
+    pub snapshot: &'a Snapshot,
+}
+
+impl<'a> Files for Reading<'a> {
+    ghost use Rattle.reload_loop.specs.Snapshots.{known_in, names_of};
+
+    ghost holds = { λ r. known_in (names_of r.names) r.snapshot.now };
+
+    fn read(&mut self, alloc: Global, name: &str) -> Result<Vec<u8>, Unread> {
+        self.snapshot.copy_of(alloc, self.names, name)
+    }
+
+    fn write(&mut self, _name: &str, _bytes: &[u8]) -> Result<(), NotWritten> {
+        Err(NotWritten)
+    }
+}

@@ -1,0 +1,42 @@
+//! What is told of a reload that is refused.
+
+ghost use Rattle.std.specs.Prelude.{◌≡◌, is_ok, string_bytes, IfOk};
+ghost use Rattle.server.specs.Program.{TellsLine};
+ghost use Rattle.server.specs.Streams.{change};
+ghost use Rattle.reload_loop.specs.Looks.{IsFaultTold, obstacle_told};
+
+use model::Obstacle;
+use runs::ReloadFault;
+use scripts::obstacle_line;
+use server::{put, put_out_of_memory};
+use std::alloc::{AllocError, Global};
+use std::io;
+use std::io::Write;
+
+/// The line of what stands against a reload, as the program tells it.
+fn line_of(alloc: Global, obstacle: &Obstacle) -> Result<String, AllocError>
+    ensures { IfOk result (λ line. string_bytes line ≡ obstacle_told obstacle.now) }
+{
+    let line = obstacle_line(alloc, obstacle)?;
+    format!(in alloc; "warren: {line}")
+}
+
+/// Puts what stands against a reload on the stream, whole unless a write fails.
+fn put_obstacle<E: Write>(alloc: Global, err: &mut E, obstacle: Obstacle) -> io::Result<()>
+    ensures { TellsLine (change (E.contents err.old) (E.contents err.new)) (obstacle_told obstacle) (is_ok result) }
+{
+    match line_of(alloc, &obstacle) {
+        Ok(line) => put(err, line.as_bytes()),
+        Err(_) => put_out_of_memory(err),
+    }
+}
+
+/// Puts why a reload was not done on the stream, whole unless a write fails.
+pub(crate) fn put_fault<E: Write>(alloc: Global, err: &mut E, fault: ReloadFault) -> io::Result<()>
+    ensures { IsFaultTold (change (E.contents err.old) (E.contents err.new)) fault (is_ok result) }
+{
+    match fault {
+        ReloadFault::Stands(obstacle) => put_obstacle(alloc, err, obstacle),
+        ReloadFault::Memory => put_out_of_memory(err),
+    }
+}
