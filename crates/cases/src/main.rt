@@ -6,6 +6,7 @@
 //! case is run once for each. The files lie in the current folder, or in that which an argument names.
 #![tactic(auto)]
 
+mod all_scenarios;
 mod comparing;
 mod cutting;
 mod disk;
@@ -14,8 +15,8 @@ mod printing;
 mod rows;
 mod trials;
 
+use all_scenarios::all_hold;
 use disk::Folder;
-use scenarios::all_hold;
 use std::process::ExitCode;
 use std::{env, io};
 use trials::tried;

@@ -9,7 +9,7 @@ mod sums;
 mod topologies;
 
 pub use clients::{
-    CONSUME, MESSAGE, OPENED, OPENING, PUBLISH, STOPPED, answer_len, deliveries_in,
+    ACKED, CONSUME, MESSAGE, OPENED, OPENING, PUBLISH, STOPPED, answer_len, deliveries_in,
     expect_opened_and_acked, joined, opening_and_publish,
 };
 pub use closed::Closed;

@@ -1,34 +1,18 @@
-//! Scenarios: calls across crates that no command makes, or not alone, and what each is to come to. What the program does
-//! with what clients send is in `cases`, which runs the scenarios too.
-//!
-//! The scenarios are run one after another, and each prints a line: its name with `ok`, or with what was wrong. The last
-//! line has the sums.
+//! The scenarios of runs and rounds: of a machine on which no connection can be opened, of a connection that is paused, and of a wire
+//! of which each call fails. `cases` runs them.
 #![tactic(auto)]
 
-mod dead_routes;
-mod engines;
-mod filing;
+mod failing;
 mod pauses;
 mod shut;
-mod streams;
 
+use failing::{Pace, each_call_of_a_wire_fails};
 use scenario_parts::Sums;
-use socket_scenarios::tell_all;
 use std::io;
 
-/// The scenarios of single calls: of an engine, of runs, of a broker and of a topology.
-fn tell_calls(sums: &mut Sums, rt: &HostRuntime) -> io::Result<()> {
+/// The scenarios of runs in which arrivals wait, or do nothing.
+fn tell_runs(sums: &mut Sums, rt: &HostRuntime) -> io::Result<()> {
     let alloc = rt.alloc();
-    sums.tell(
-        rt,
-        "an_engine_takes_single_turns",
-        engines::an_engine_takes_single_turns(alloc),
-    )?;
-    sums.tell(
-        rt,
-        "a_lost_connection_is_over_and_its_number_is_not_given_again",
-        engines::a_lost_connection_is_over_and_its_number_is_not_given_again(alloc),
-    )?;
     sums.tell(
         rt,
         "a_paused_connection_performs_nothing_until_its_output_is_below_the_bound",
@@ -36,33 +20,13 @@ fn tell_calls(sums: &mut Sums, rt: &HostRuntime) -> io::Result<()> {
     )?;
     sums.tell(
         rt,
+        "a_publish_that_waited_goes_by_what_is_in_force_then",
+        pauses::a_publish_that_waited_goes_by_what_is_in_force_then(alloc),
+    )?;
+    sums.tell(
+        rt,
         "arrivals_for_no_connection_do_nothing",
         shut::arrivals_for_no_connection_do_nothing(alloc),
-    )?;
-    sums.tell(
-        rt,
-        "a_dead_letter_goes_to_the_exchange_of_its_queue",
-        dead_routes::a_dead_letter_goes_to_the_exchange_of_its_queue(alloc),
-    )
-}
-
-/// The scenarios of the program over streams and files that no command line names.
-fn tell_programs(sums: &mut Sums, rt: &HostRuntime) -> io::Result<()> {
-    let alloc = rt.alloc();
-    sums.tell(
-        rt,
-        "output_that_is_not_taken_has_status_four",
-        streams::output_that_is_not_taken_has_status_four(alloc),
-    )?;
-    sums.tell(
-        rt,
-        "a_complaint_that_is_not_taken_has_status_four",
-        streams::a_complaint_that_is_not_taken_has_status_four(alloc),
-    )?;
-    sums.tell(
-        rt,
-        "certificates_that_are_written_are_accepted",
-        filing::certificates_that_are_written_are_accepted(alloc),
     )
 }
 
@@ -81,16 +45,41 @@ fn tell_rounds(sums: &mut Sums, rt: &HostRuntime) -> io::Result<()> {
     )
 }
 
-/// Runs all scenarios, prints a line for each and one with their sums, and tells whether none failed.
-pub fn all_hold(rt: &HostRuntime) -> io::Result<bool> {
-    let mut sums = Sums {
-        scenarios: 0,
-        failed: 0,
+/// Tells of calls of a wire that fail in turn, and how many there were.
+fn tell_failing(sums: &mut Sums, rt: &HostRuntime, name: &str, pace: Pace) -> io::Result<()> {
+    let calls = match each_call_of_a_wire_fails(rt.alloc(), pace) {
+        Ok(calls) => calls,
+        Err(unmet) => return sums.tell(rt, name, Err(unmet)),
     };
-    tell_calls(&mut sums, rt)?;
-    tell_programs(&mut sums, rt)?;
-    tell_rounds(&mut sums, rt)?;
-    tell_all(&mut sums, rt)?;
-    println!(rt; "{} scenarios, {} failed", sums.scenarios, sums.failed)?;
-    Ok(sums.failed == 0)
+    println!(rt;
+        "{} accepts, {} reads and {} writes fail, one in each run",
+        calls.accepts, calls.reads, calls.writes
+    )?;
+    sums.tell(rt, name, Ok(()))
+}
+
+/// The scenarios of a wire of which each call fails in turn.
+fn tell_failures(sums: &mut Sums, rt: &HostRuntime) -> io::Result<()> {
+    let whole = Pace {
+        window: usize::MAX,
+        rounds: 8,
+    };
+    tell_failing(sums, rt, "a_call_that_fails_loses_no_other_client", whole)?;
+    let single = Pace {
+        window: 1,
+        rounds: 256,
+    };
+    tell_failing(
+        sums,
+        rt,
+        "a_call_that_fails_loses_no_other_client_where_writes_take_one_byte",
+        single,
+    )
+}
+
+/// Runs these scenarios, and prints a line for each.
+pub fn tell_all(sums: &mut Sums, rt: &HostRuntime) -> io::Result<()> {
+    tell_runs(sums, rt)?;
+    tell_rounds(sums, rt)?;
+    tell_failures(sums, rt)
 }

@@ -1,8 +1,8 @@
 //! A pause: a client that does not take its output gets no more of it than one command brings.
 
 use certificate::Checked;
-use engine::run;
-use model::{Arrival, Binding, DeclaredQueue, Exchange, ExchangeKind, Place, Text};
+use engine::{Setup, run};
+use model::{Arrival, Binding, DeclaredQueue, Exchange, ExchangeKind, Note, Place, Text};
 use runs::Transcript;
 use scenario_parts::{Unmet, expect, expect_number, in_force, value_of};
 use std::alloc::{AllocError, Global};
@@ -20,6 +20,10 @@ const GET: &[u8] = b"\x01\x00\x01\x00\x00\x00\x0d\x00\x3c\x00\x46\x00\x00\x05aud
 /// get-empty on channel 1.
 const GET_EMPTY: &[u8] = b"\x01\x00\x01\x00\x00\x00\x05\x00\x3c\x00\x48\x00\xce";
 
+/// basic.publish to `orders` under the key `new` on channel 1, of an empty body.
+const PUBLISH_EMPTY: &[u8] =
+    b"\x01\x00\x01\x00\x00\x00\x12\x00\x3c\x00\x28\x00\x00\x06orders\x03new\x00\xce\x02\x00\x01\x00\x00\x00\x0e\x00\x3c\x00\x00\x00\x00\x00\x00\x00\x00\x00\x00\x00\x00\xce";
+
 /// What get-ok with its content has: 36 bytes of the method's frame, 22 of the header's, and the body in nine frames, of 8
 /// bytes beside it each.
 const FIRST_OUTPUT: u64 = 1_048_706;
@@ -31,30 +35,42 @@ fn single<T: Drop>(alloc: Global, value: T) -> Result<Vec<T>, Unmet> {
     Ok(values)
 }
 
-/// A direct exchange `orders`, which routes the key `new` to the queue `audit`.
-fn shop(alloc: Global) -> Result<Checked, Unmet> {
+/// A queue of this name, with no limit.
+fn queue(name: &'static [u8]) -> DeclaredQueue {
+    DeclaredQueue {
+        name: Text::fixed(name),
+        limit: None,
+        byte_limit: None,
+        dead_letter_exchange: None,
+        dead_letter_key: None,
+    }
+}
+
+/// The queues `audit` and `ledger`.
+fn queues(alloc: Global) -> Result<Vec<DeclaredQueue>, AllocError> {
+    let mut queues = Vec::new(alloc);
+    queues.push(queue(b"audit"))?;
+    queues.push(queue(b"ledger"))?;
+    Ok(queues)
+}
+
+/// A direct exchange `orders`, which routes the key `new` to this queue.
+fn shop(alloc: Global, to: &'static [u8]) -> Result<Checked, Unmet> {
     let orders = Exchange {
         name: Text::fixed(b"orders"),
         kind: ExchangeKind::Direct,
         internal: false,
         alternate: None,
     };
-    let audit = DeclaredQueue {
-        name: Text::fixed(b"audit"),
-        limit: None,
-        byte_limit: None,
-        dead_letter_exchange: None,
-        dead_letter_key: None,
-    };
     let binding = Binding {
         source: Text::fixed(b"orders"),
-        to: Place::Queue(Text::fixed(b"audit")),
+        to: Place::Queue(Text::fixed(to)),
         key: Text::fixed(b"new"),
     };
     in_force(
         alloc,
         single(alloc, orders)?,
-        single(alloc, audit)?,
+        value_of("queues", queues(alloc))?,
         single(alloc, binding)?,
     )
 }
@@ -73,7 +89,7 @@ fn largest_publish(alloc: Global) -> Result<Vec<u8>, AllocError> {
 
 /// The arrivals of a connection that publishes the largest body and gets it, and gets again, and then takes so many bytes at
 /// a time.
-fn arrivals(alloc: Global, taken: &[u64]) -> Result<Vec<Arrival>, AllocError> {
+fn arrivals(alloc: Global, taken: &[u64]) -> Result<Vec<Arrival<Setup>>, AllocError> {
     let publish = Text::from_vec(largest_publish(alloc)?)?;
     let mut arrivals = Vec::new(alloc);
     arrivals.push(Arrival::Ready(1))?;
@@ -88,12 +104,14 @@ fn arrivals(alloc: Global, taken: &[u64]) -> Result<Vec<Arrival>, AllocError> {
 
 /// What such a connection is shown.
 fn shown(alloc: Global, taken: &[u64]) -> Result<Transcript, Unmet> {
-    let checked = shop(alloc)?;
-    let arrivals = value_of("arrivals", arrivals(alloc, taken))?;
-    value_of(
-        "run",
-        run(alloc, checked, Vec::new(alloc), arrivals.as_slice()),
-    )
+    let checked = shop(alloc, b"audit")?;
+    let Ok(arrivals) = arrivals(alloc, taken) else {
+        return Err(Unmet::Call("arrivals"));
+    };
+    match run(alloc, checked, Vec::new(alloc), arrivals) {
+        Ok(shown) => Ok(shown),
+        Err(_) => Err(Unmet::Call("run")),
+    }
 }
 
 /// Expects that the output of the connection has this length.
@@ -126,5 +144,42 @@ pub(crate) fn a_paused_connection_performs_nothing_until_its_output_is_below_the
     expect(
         "an output that was below the bound ends with get-empty",
         resumed.output(1).ends_with(GET_EMPTY),
+    )
+}
+
+/// The arrivals of a connection whose publish waits while its output is at the bound, and comes below it behind a reload.
+fn arrivals_with_reload(alloc: Global, reload: Checked) -> Result<Vec<Arrival<Setup>>, AllocError> {
+    let mut arrivals = arrivals(alloc, &[])?;
+    let setup = Setup::new(reload, Vec::new(alloc));
+    arrivals.push(Arrival::In(1, Text::fixed(PUBLISH_EMPTY)))?;
+    arrivals.push(Arrival::Reload(setup))?;
+    arrivals.push(Arrival::Sent(1, 200))?;
+    Ok(arrivals)
+}
+
+/// Whether a message came to this queue by a publish last.
+fn has_entered_last(shown: &Transcript, name: &[u8]) -> bool {
+    match shown.notes().last() {
+        Some(Note::Entered { queue, .. }) => queue.as_bytes() == name,
+        _ => false,
+    }
+}
+
+/// A publish that waited while its connection was paused goes by what is in force when it is performed.
+pub(crate) fn a_publish_that_waited_goes_by_what_is_in_force_then(
+    alloc: Global,
+) -> Result<(), Unmet> {
+    let checked = shop(alloc, b"audit")?;
+    let reload = shop(alloc, b"ledger")?;
+    let Ok(arrivals) = arrivals_with_reload(alloc, reload) else {
+        return Err(Unmet::Call("arrivals"));
+    };
+    let Ok(shown) = run(alloc, checked, Vec::new(alloc), arrivals) else {
+        return Err(Unmet::Call("run"));
+    };
+    expect_number("the number of notes", shown.notes().len() as u64, 6)?;
+    expect(
+        "the publish that waited comes to the queue of the new topology",
+        has_entered_last(&shown, b"ledger"),
     )
 }

@@ -1,7 +1,7 @@
 //! Runs, and rounds over a wire that is scripted, of a machine on which no connection can be opened.
 
 use model::{Arrival, Note, Text};
-use runs::{Machine, run_over};
+use runs::{Machine, ReloadFault, run_over};
 use scenario_parts::{Unmet, expect, expect_number, value_of};
 use serving::{Accept, Read, Server, Wire, Write, serve};
 use std::alloc::{AllocError, Global};
@@ -14,10 +14,14 @@ struct Shut<'a> {
 }
 
 impl<'a> Machine for Shut<'a> {
+    type Setup = ();
+
     ghost use Rattle.std.specs.Prelude.{[]};
     ghost use Rattle.model.specs.Arrivals.{new_world};
 
     ghost world = { λ s. new_world (record { topology = record { exchanges = []; queues = []; bindings = [] }; guarantees = []; users = [] }) };
+
+    ghost config = { λ u. record { topology = record { exchanges = []; queues = []; bindings = [] }; guarantees = []; users = [] } };
 
     ghost left = { λ s. 0 };
 
@@ -61,6 +65,16 @@ impl<'a> Machine for Shut<'a> {
     }
 
     fn is_sound(&self) {}
+
+    ghost use Rattle.model.specs.Headline.{IsSound};
+
+    fn offers_sound(_setup: &())
+        ensures { IsSound (record { topology = record { exchanges = []; queues = []; bindings = [] }; guarantees = []; users = [] }) }
+    {}
+
+    fn reload(&mut self, _alloc: Global, _setup: ()) -> Result<(), ReloadFault> {
+        Err(ReloadFault::Memory)
+    }
 }
 
 /// One socket comes at the first accept, and none after it.
@@ -115,21 +129,26 @@ fn pumps_of_rounds(alloc: Global, wire: &mut OneCaller, turns: u64) -> Result<u6
     Ok(pumps)
 }
 
+/// What can arrive for connections that were never opened.
+fn arrivals_for_none(alloc: Global, bytes: Text) -> Result<Vec<Arrival<()>>, AllocError> {
+    let mut arrivals = Vec::new(alloc);
+    arrivals.push(Arrival::In(1, bytes))?;
+    arrivals.push(Arrival::Sent(1, 5))?;
+    arrivals.push(Arrival::Pump)?;
+    arrivals.push(Arrival::Lose(2))?;
+    Ok(arrivals)
+}
+
 /// A run of arrivals whose connection was never opened.
 pub(crate) fn arrivals_for_no_connection_do_nothing(alloc: Global) -> Result<(), Unmet> {
     let bytes = value_of("Text::from_slice", Text::from_slice(alloc, b"AMQP"))?;
-    let arrivals = [
-        Arrival::In(1, bytes),
-        Arrival::Sent(1, 5),
-        Arrival::Pump,
-        Arrival::Lose(2),
-    ];
+    let arrivals = value_of("arrivals", arrivals_for_none(alloc, bytes))?;
     let mut pumps = 0;
     let mut machine = Shut {
         has_memory: true,
         pumps: &mut pumps,
     };
-    let transcript = value_of("run_over", run_over(alloc, &mut machine, &arrivals))?;
+    let transcript = value_of("run_over", run_over(alloc, &mut machine, arrivals))?;
     drop(machine);
     expect(
         "no connection is shown",

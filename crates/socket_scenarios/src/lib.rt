@@ -2,6 +2,7 @@
 #![tactic(auto)]
 
 mod neighbours;
+mod patience;
 mod rounds;
 mod services;
 mod silent;
@@ -112,6 +113,11 @@ fn tell_silent(sums: &mut Sums, rt: &HostRuntime) -> io::Result<()> {
         rt,
         "silent_sockets_are_asked_in_turn",
         silent::silent_sockets_are_asked_in_turn(rt, alloc),
+    )?;
+    sums.tell(
+        rt,
+        "a_socket_that_says_too_little_is_ended",
+        patience::a_socket_that_says_too_little_is_ended(rt, alloc),
     )
 }
 

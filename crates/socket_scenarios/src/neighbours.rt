@@ -24,7 +24,9 @@ impl Service {
     /// At a port that is free.
     fn new<N: Net>(net: &N, alloc: Global) -> Result<Service, Unmet> {
         let broker = new_broker(alloc)?;
-        let server = value_of("Server::new", Server::new(alloc, broker))?;
+        let Ok(server) = Server::new(alloc, broker) else {
+            return Err(Unmet::Call("Server::new"));
+        };
         let address = value_of("parse", "127.0.0.1:0".parse::<SocketAddr>())?;
         let sockets = value_of("Sockets::bind", Sockets::bind(net, alloc, address))?;
         Ok(Service {

@@ -40,7 +40,10 @@ fn two(alloc: Global) -> Result<MemoryWire, Unmet>
 /// A server of a broker, with no socket yet.
 fn new_server(alloc: Global) -> Result<Server<Engine>, Unmet> {
     let broker = new_broker(alloc)?;
-    value_of("Server::new", Server::new(alloc, broker))
+    match Server::new(alloc, broker) {
+        Ok(server) => Ok(server),
+        Err(_) => Err(Unmet::Call("Server::new")),
+    }
 }
 
 /// A client that opens and publishes is answered, though another stops inside the body of its publish.

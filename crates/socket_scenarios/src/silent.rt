@@ -35,7 +35,7 @@ fn accepted(sockets: &mut Sockets) -> Result<u64, Unmet> {
 }
 
 /// A client that comes, and the name of its socket.
-fn met<N: Net>(net: &N, sockets: &mut Sockets) -> Result<(N::Stream, u64), Unmet> {
+pub(crate) fn met<N: Net>(net: &N, sockets: &mut Sockets) -> Result<(N::Stream, u64), Unmet> {
     let address = value_of("Sockets::local_addr", sockets.local_addr())?;
     let client = value_of("TcpStream::connect", TcpStream::connect(net, address))?;
     let name = accepted(sockets)?;
@@ -43,14 +43,14 @@ fn met<N: Net>(net: &N, sockets: &mut Sockets) -> Result<(N::Stream, u64), Unmet
 }
 
 /// A round that reads from one socket.
-fn round(sockets: &mut Sockets, socket: u64) -> Read {
+pub(crate) fn round(sockets: &mut Sockets, socket: u64) -> Read {
     let mut buffer = [0u8; 16];
     sockets.accept();
     sockets.read(socket, &mut buffer)
 }
 
 /// How many bytes a socket gives, in rounds of which each that gets nothing rests.
-fn got_in_the_end(sockets: &mut Sockets, socket: u64) -> Result<usize, Unmet> {
+pub(crate) fn got_in_the_end(sockets: &mut Sockets, socket: u64) -> Result<usize, Unmet> {
     for _ in 0..PATIENCE {
         match round(sockets, socket) {
             Read::Got(count) => return Ok(count),

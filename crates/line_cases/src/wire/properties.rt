@@ -1,8 +1,8 @@
 //! The properties of a content, listed.
 
 use super::payloads::put_header_refusal;
-use headers::{Header, read_header};
-use line_words::LineAnswer;
+use headers::{Header, fields_of, read_header};
+use line_words::{LineAnswer, Unanswered};
 use model::{Fields, Table, Text};
 
 /// Appends ` NAME=`.
@@ -57,9 +57,12 @@ fn put_others(out: &mut LineAnswer, p: &Fields) {
 /// Appends the size of a body, and ` NAME=VALUE` for each property that is there, in the order of their flags.
 fn put_listed(out: &mut LineAnswer, header: &Header) {
     out.put_number(header.size);
-    if let Some(fields) = header.properties.fields() {
-        put_first(out, fields);
-        put_others(out, fields);
+    match fields_of(out.alloc(), &header.properties) {
+        Ok(fields) => {
+            put_first(out, &fields);
+            put_others(out, &fields);
+        }
+        Err(_) => out.fail(Unanswered::Memory),
     }
 }
 

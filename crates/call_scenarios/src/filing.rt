@@ -8,15 +8,15 @@ use std::alloc::Global;
 const LIMIT: usize = 16_777_216;
 
 /// A topic exchange, from which `orders` and `orders.*.#` lead to a queue.
-const DEFINITIONS: &[u8] =
+pub(crate) const DEFINITIONS: &[u8] =
     b"{\"vhosts\":[{\"name\":\"/\"}],\"users\":[],\"permissions\":[],\"exchanges\":[{\"name\":\"X\",\"vhost\":\"/\",\"type\":\"topic\",\"durable\":true,\"auto_delete\":false,\"internal\":false,\"arguments\":{}}],\"queues\":[{\"name\":\"audit\",\"vhost\":\"/\",\"durable\":true,\"auto_delete\":false,\"arguments\":{}}],\"bindings\":[{\"source\":\"X\",\"vhost\":\"/\",\"destination\":\"audit\",\"destination_type\":\"queue\",\"routing_key\":\"orders\",\"arguments\":{}},{\"source\":\"X\",\"vhost\":\"/\",\"destination\":\"audit\",\"destination_type\":\"queue\",\"routing_key\":\"orders.*.#\",\"arguments\":{}}]}";
 
 /// Each key that `orders.#` matches comes to the queue.
-const GUARANTEES: &[u8] =
+pub(crate) const GUARANTEES: &[u8] =
     b"{\"guarantees\":[{\"mode\":\"reaches\",\"exchange\":\"X\",\"pattern\":\"orders.#\",\"queue\":\"audit\"}]}";
 
 /// The file of its certificate, by the five states that docs/FORMATS.md derives.
-const CERTIFICATES: &[u8] =
+pub(crate) const CERTIFICATES: &[u8] =
     b"[{\"exchange\":\"X\",\"form\":1,\"mode\":\"reaches\",\"pattern\":\"orders.#\",\"queue\":\"audit\",\"states\":[[0,0,0],[1,1,1],[4,0,8],[4,0,12],[6,2,2]]}]";
 
 /// A disk with definitions and guarantees, that takes one more file.

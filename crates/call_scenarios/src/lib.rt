@@ -1,0 +1,71 @@
+//! The scenarios of single calls: of an engine, of a topology, of the program over streams and files that no command line names, and
+//! of a process that has no memory left. `cases` runs them.
+#![tactic(auto)]
+
+mod dead_routes;
+mod engines;
+mod filing;
+mod frugal;
+mod nothing_left;
+mod parts;
+mod room;
+mod streams;
+
+use scenario_parts::Sums;
+use std::io;
+
+/// The scenarios of an engine, and of a topology.
+fn tell_engines(sums: &mut Sums, rt: &HostRuntime) -> io::Result<()> {
+    let alloc = rt.alloc();
+    sums.tell(
+        rt,
+        "an_engine_takes_single_turns",
+        engines::an_engine_takes_single_turns(alloc),
+    )?;
+    sums.tell(
+        rt,
+        "a_lost_connection_is_over_and_its_number_is_not_given_again",
+        engines::a_lost_connection_is_over_and_its_number_is_not_given_again(alloc),
+    )?;
+    sums.tell(
+        rt,
+        "a_dead_letter_goes_to_the_exchange_of_its_queue",
+        dead_routes::a_dead_letter_goes_to_the_exchange_of_its_queue(alloc),
+    )
+}
+
+/// The scenarios of the program over streams and files that no command line names.
+fn tell_programs(sums: &mut Sums, rt: &HostRuntime) -> io::Result<()> {
+    let alloc = rt.alloc();
+    sums.tell(
+        rt,
+        "output_that_is_not_taken_has_status_four",
+        streams::output_that_is_not_taken_has_status_four(alloc),
+    )?;
+    sums.tell(
+        rt,
+        "a_complaint_that_is_not_taken_has_status_four",
+        streams::a_complaint_that_is_not_taken_has_status_four(alloc),
+    )?;
+    sums.tell(
+        rt,
+        "certificates_that_are_written_are_accepted",
+        filing::certificates_that_are_written_are_accepted(alloc),
+    )
+}
+
+/// The scenario of a process that has no memory left.
+fn tell_memory(sums: &mut Sums, rt: &HostRuntime) -> io::Result<()> {
+    sums.tell(
+        rt,
+        "no_memory_is_left",
+        nothing_left::no_memory_is_left(rt, rt.alloc()),
+    )
+}
+
+/// Runs these scenarios, and prints a line for each.
+pub fn tell_all(sums: &mut Sums, rt: &HostRuntime) -> io::Result<()> {
+    tell_engines(sums, rt)?;
+    tell_programs(sums, rt)?;
+    tell_memory(sums, rt)
+}

@@ -1,0 +1,18 @@
+//! The scenarios, which are run behind the cases.
+
+use scenario_parts::Sums;
+use std::io;
+
+/// Runs all scenarios, prints a line for each and one with their sums, and tells whether none failed.
+pub(crate) fn all_hold(rt: &HostRuntime) -> io::Result<bool> {
+    let mut sums = Sums {
+        scenarios: 0,
+        failed: 0,
+    };
+    scenarios::tell_all(&mut sums, rt)?;
+    call_scenarios::tell_all(&mut sums, rt)?;
+    socket_scenarios::tell_all(&mut sums, rt)?;
+    reload_scenarios::tell_all(&mut sums, rt)?;
+    println!(rt; "{} scenarios, {} failed", sums.scenarios, sums.failed)?;
+    Ok(sums.failed == 0)
+}

@@ -1,0 +1,221 @@
+//! A wire of which each call fails in turn.
+
+use engine::Engine;
+use memory_wire::{Asked, Client, Failing, Logged, MemoryWire};
+use scenario_parts::{
+    ACKED, OPENED, OPENING, PUBLISH, Unmet, expect_bytes, expect_number, joined, new_broker,
+    value_of,
+};
+use serving::{Server, serve};
+use std::alloc::Global;
+
+/// How clients are served: how many bytes a write takes at most, and in how many rounds.
+#[derive(Clone, Copy, Drop)]
+pub(crate) struct Pace {
+    pub(crate) window: usize,
+    pub(crate) rounds: u64,
+}
+
+/// How many calls of each kind a run makes of which none fails.
+#[derive(Clone, Copy, Drop)]
+pub(crate) struct Calls {
+    pub(crate) accepts: u64,
+    pub(crate) reads: u64,
+    pub(crate) writes: u64,
+}
+
+/// A publish to `orders` under the key `new`, whose body is `lo`, and a get of `audit`, to be acknowledged.
+const PUBLISH_AND_GET: &[u8] =
+    b"\x01\x00\x01\x00\x00\x00\x12\x00\x3c\x00\x28\x00\x00\x06orders\x03new\x00\xce\x02\x00\x01\x00\x00\x00\x0e\x00\x3c\x00\x00\x00\x00\x00\x00\x00\x00\x00\x02\x00\x00\xce\x03\x00\x01\x00\x00\x00\x02lo\xce\x01\x00\x01\x00\x00\x00\x0d\x00\x3c\x00\x46\x00\x00\x05audit\x00\xce";
+
+/// Two gets of `audit`, to be acknowledged.
+const GET_TWICE: &[u8] =
+    b"\x01\x00\x01\x00\x00\x00\x0d\x00\x3c\x00\x46\x00\x00\x05audit\x00\xce\x01\x00\x01\x00\x00\x00\x0d\x00\x3c\x00\x46\x00\x00\x05audit\x00\xce";
+
+/// get-ok of `lo` with delivery tag 1, given out for the first time and the last that is ready, and its content.
+const GOT: &[u8] =
+    b"\x01\x00\x01\x00\x00\x00\x1c\x00\x3c\x00\x47\x00\x00\x00\x00\x00\x00\x00\x01\x00\x06orders\x03new\x00\x00\x00\x00\xce\x02\x00\x01\x00\x00\x00\x0e\x00\x3c\x00\x00\x00\x00\x00\x00\x00\x00\x00\x02\x00\x00\xce\x03\x00\x01\x00\x00\x00\x02lo\xce";
+
+/// The same, given out before, and with one behind it.
+const GOT_AGAIN: &[u8] =
+    b"\x01\x00\x01\x00\x00\x00\x1c\x00\x3c\x00\x47\x00\x00\x00\x00\x00\x00\x00\x01\x01\x06orders\x03new\x00\x00\x00\x01\xce\x02\x00\x01\x00\x00\x00\x0e\x00\x3c\x00\x00\x00\x00\x00\x00\x00\x00\x00\x02\x00\x00\xce\x03\x00\x01\x00\x00\x00\x02lo\xce";
+
+/// get-ok of the message of `PUBLISH` with delivery tag 1, given out for the first time and the last that is ready.
+const OWN: &[u8] =
+    b"\x01\x00\x01\x00\x00\x00\x1c\x00\x3c\x00\x47\x00\x00\x00\x00\x00\x00\x00\x01\x00\x06orders\x03new\x00\x00\x00\x00\xce\x02\x00\x01\x00\x00\x00\x0e\x00\x3c\x00\x00\x00\x00\x00\x00\x00\x00\x00\x02\x00\x00\xce\x03\x00\x01\x00\x00\x00\x02hi\xce";
+
+/// The same with delivery tag 2.
+const OWN_BEHIND: &[u8] =
+    b"\x01\x00\x01\x00\x00\x00\x1c\x00\x3c\x00\x47\x00\x00\x00\x00\x00\x00\x00\x02\x00\x06orders\x03new\x00\x00\x00\x00\xce\x02\x00\x01\x00\x00\x00\x0e\x00\x3c\x00\x00\x00\x00\x00\x00\x00\x00\x00\x02\x00\x00\xce\x03\x00\x01\x00\x00\x00\x02hi\xce";
+
+/// get-empty.
+const EMPTY: &[u8] = b"\x01\x00\x01\x00\x00\x00\x05\x00\x3c\x00\x48\x00\xce";
+
+/// How many calls of one kind are tried at most.
+const PATIENCE: u64 = 1_000;
+
+/// A client that opens, and writes this once it can.
+fn client(alloc: Global, then: &[u8], window: usize) -> Result<Client, Unmet> {
+    Ok(Client {
+        input: joined(alloc, OPENING, then)?,
+        read: 0,
+        piece: OPENING.len(),
+        window,
+    })
+}
+
+/// Two clients that are served over a wire of which one call may fail. The first comes first, publishes a message and gets
+/// it; the second publishes another one.
+#[derive(Drop)]
+struct Run {
+    server: Server<Engine>,
+    wire: Failing<MemoryWire>,
+}
+
+impl Run {
+    /// None has come. The call of this kind fails that is the `count`th; none does where that is 0.
+    fn new(alloc: Global, window: usize, asked: Asked, count: u64) -> Result<Run, Unmet> {
+        let mut clients = Vec::new(alloc);
+        value_of(
+            "push",
+            clients.push(client(alloc, PUBLISH_AND_GET, window)?),
+        )?;
+        value_of("push", clients.push(client(alloc, PUBLISH, window)?))?;
+        let broker = new_broker(alloc)?;
+        let Ok(server) = Server::new(alloc, broker) else {
+            return Err(Unmet::Call("Server::new"));
+        };
+        Ok(Run {
+            server,
+            wire: Failing::new(MemoryWire::new(alloc, clients), asked, count),
+        })
+    }
+
+    /// So many rounds.
+    fn serve(&mut self, alloc: Global, rounds: u64) {
+        serve(alloc, &mut self.server, &mut self.wire, rounds);
+    }
+
+    /// How often the socket of a client was closed.
+    fn closes(&self, client: u64) -> u64 {
+        let mut count = 0u64;
+        for call in &self.wire.wire.log.calls {
+            count = count.saturating_add(u64::from(is_close(call, client)));
+        }
+        count
+    }
+
+    /// Whether all was read that a client writes.
+    fn has_come(&self, client: usize) -> bool {
+        match self.wire.wire.clients.get(client) {
+            Some(client) => client.read == client.input.len(),
+            None => false,
+        }
+    }
+
+    /// A client gets what is there, twice.
+    fn get_twice(&mut self, alloc: Global, client: usize, rounds: u64) -> Result<(), Unmet> {
+        let Some(client) = self.wire.wire.clients.get_mut(client) else {
+            return Err(Unmet::Claim("the client is there"));
+        };
+        value_of(
+            "extend_from_slice",
+            client.input.extend_from_slice(GET_TWICE),
+        )?;
+        self.serve(alloc, rounds);
+        Ok(())
+    }
+
+    /// Expects that a client was answered these, and no more.
+    fn expect_answer(&self, alloc: Global, client: u64, parts: &[&[u8]]) -> Result<(), Unmet> {
+        let mut expected: Vec<u8> = Vec::new(alloc);
+        for part in parts {
+            value_of("extend_from_slice", expected.extend_from_slice(part))?;
+        }
+        let answer = value_of("Log::taken_by", self.wire.wire.log.taken_by(alloc, client))?;
+        expect_bytes("the answer", answer.as_slice(), expected.as_slice())
+    }
+}
+
+/// Whether a call closed the socket of a client.
+fn is_close(call: &Logged, client: u64) -> bool {
+    match call {
+        Logged::Closed(socket) => *socket == client,
+        _ => false,
+    }
+}
+
+/// Expects that the first client holds its message, and that the second gets its own, and no other.
+fn expect_both(alloc: Global, run: &mut Run, rounds: u64) -> Result<(), Unmet> {
+    run.get_twice(alloc, 1, rounds)?;
+    run.expect_answer(alloc, 0, [OPENED, GOT].as_slice())?;
+    run.expect_answer(alloc, 1, [OPENED, ACKED, OWN, EMPTY].as_slice())
+}
+
+/// Expects that the second client is answered though the first was lost, and gets what that one held, if it held anything, and
+/// its own behind it.
+fn expect_second(alloc: Global, run: &mut Run, rounds: u64) -> Result<(), Unmet> {
+    let is_held = run.has_come(0);
+    run.get_twice(alloc, 1, rounds)?;
+    if is_held {
+        run.expect_answer(alloc, 1, [OPENED, ACKED, GOT_AGAIN, OWN_BEHIND].as_slice())
+    } else {
+        run.expect_answer(alloc, 1, [OPENED, ACKED, OWN, EMPTY].as_slice())
+    }
+}
+
+/// Expects that the first client is answered though the second was lost, holds its message, and gets what the second
+/// published, if it published anything.
+fn expect_first(alloc: Global, run: &mut Run, rounds: u64) -> Result<(), Unmet> {
+    let is_published = run.has_come(1);
+    run.get_twice(alloc, 0, rounds)?;
+    if is_published {
+        run.expect_answer(alloc, 0, [OPENED, GOT, OWN_BEHIND, EMPTY].as_slice())
+    } else {
+        run.expect_answer(alloc, 0, [OPENED, GOT, EMPTY, EMPTY].as_slice())
+    }
+}
+
+/// Expects that only the client is lost of which a read or a write failed.
+fn expect_others(alloc: Global, run: &mut Run, rounds: u64) -> Result<(), Unmet> {
+    let victim = run.wire.victim();
+    for client in 0..2u64 {
+        let expected = u64::from(victim == Some(client));
+        expect_number("the number of closes", run.closes(client), expected)?;
+    }
+    match victim {
+        None => expect_both(alloc, run, rounds),
+        Some(0) => expect_second(alloc, run, rounds),
+        Some(_) => expect_first(alloc, run, rounds),
+    }
+}
+
+/// A run of which no call fails.
+fn fail_none(alloc: Global, pace: Pace) -> Result<(), Unmet> {
+    let mut run = Run::new(alloc, pace.window, Asked::Accept, 0)?;
+    run.serve(alloc, pace.rounds);
+    expect_others(alloc, &mut run, pace.rounds)
+}
+
+/// Runs of each of which the next call of this kind fails. Tells how many there are.
+fn fail_each(alloc: Global, pace: Pace, asked: Asked) -> Result<u64, Unmet> {
+    for count in 0..PATIENCE {
+        let mut run = Run::new(alloc, pace.window, asked, count + 1)?;
+        run.serve(alloc, pace.rounds);
+        if !run.wire.has_failed() {
+            return Ok(count);
+        }
+        expect_others(alloc, &mut run, pace.rounds)?;
+    }
+    Err(Unmet::Claim("a run has an end"))
+}
+
+/// Each accept, read and write fails in turn, and no other call. Tells how many of them there are.
+pub(crate) fn each_call_of_a_wire_fails(alloc: Global, pace: Pace) -> Result<Calls, Unmet> {
+    fail_none(alloc, pace)?;
+    Ok(Calls {
+        accepts: fail_each(alloc, pace, Asked::Accept)?,
+        reads: fail_each(alloc, pace, Asked::Read)?,
+        writes: fail_each(alloc, pace, Asked::Write)?,
+    })
+}
