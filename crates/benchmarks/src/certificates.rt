@@ -1,9 +1,9 @@
 //! How long certificates take: found, checked, and admitted.
 
+use crate::stated::{Stated, certificates, found, guarantee_of};
 use certificate::admit;
 use certificate_check::{Certificate, check};
 use exchange_graph::Topology;
-use guarantee_search::{Verdict, search};
 use guarantees::Guarantee;
 use measuring::{LARGE, Shape, Texts, built};
 use model::{Mode, Text};
@@ -16,26 +16,6 @@ const GUARANTEES: u32 = 64;
 
 /// How many patterns are tracked where 63,489 states accept them in more than 8,192 ways.
 const APART: u32 = 14;
-
-/// Every key of the pattern that is sent to the exchange reaches the queue.
-fn reaches(
-    alloc: Global,
-    texts: &mut Texts,
-    exchange: Text,
-    pattern: &str,
-    queue: Text,
-) -> Option<Guarantee> {
-    let pattern = texts.text(pattern.as_bytes());
-    Guarantee::new(Mode::Reaches, exchange, pattern, queue, Vec::new(alloc))
-}
-
-/// The certificate that a search finds, if it does.
-fn found(alloc: Global, topology: &Topology, guarantee: &Guarantee) -> Option<Certificate> {
-    match search(alloc, topology, guarantee) {
-        Ok(Verdict::Yes(certificate)) => Some(certificate),
-        _ => None,
-    }
-}
 
 /// Prints how long a check of the certificate takes.
 fn measure_check(
@@ -77,7 +57,7 @@ fn one(alloc: Global, exchange: &str, pattern: &str) -> Option<Guarantee> {
     let mut texts = Texts::new(alloc);
     let exchange = texts.text(exchange.as_bytes());
     let queue = texts.text(b"q");
-    let guarantee = reaches(alloc, &mut texts, exchange, pattern, queue);
+    let guarantee = guarantee_of(&mut texts, Mode::Reaches, exchange, pattern, queue);
     if texts.is_whole() { guarantee } else { None }
 }
 
@@ -107,37 +87,10 @@ fn measure_slice(rt: &HostRuntime, patterns: u32) -> io::Result<()> {
     }
 }
 
-/// Guarantees that are put together.
-#[derive(Drop)]
-struct Stated {
-    texts: Texts,
-    guarantees: Vec<Guarantee>,
-}
-
-impl Stated {
-    fn new(alloc: Global) -> Stated {
-        Stated {
-            texts: Texts::new(alloc),
-            guarantees: Vec::new(alloc),
-        }
-    }
-
-    /// One more guarantee, of what is sent to the exchange of this number.
-    fn push(&mut self, number: u32, queue: Text) {
-        let alloc = *self.guarantees.allocator();
-        let exchange = self.texts.numbered("x", number);
-        match reaches(alloc, &mut self.texts, exchange, "k.#", queue) {
-            Some(guarantee) => self.keep(guarantee),
-            None => self.texts.fail(),
-        }
-    }
-
-    /// Keeps a guarantee.
-    fn keep(&mut self, guarantee: Guarantee) {
-        if self.guarantees.push(guarantee).is_err() {
-            self.texts.fail();
-        }
-    }
+/// One more guarantee: what is sent to the exchange of this number reaches the queue.
+fn push_reaches(stated: &mut Stated, number: u32, queue: Text) {
+    let exchange = stated.texts.numbered("x", number);
+    stated.push(Mode::Reaches, exchange, "k.#", queue);
 }
 
 /// One guarantee of each of the first exchanges, for its own queue; fewer where memory is refused.
@@ -145,7 +98,7 @@ fn own(alloc: Global) -> Vec<Guarantee> {
     let mut stated = Stated::new(alloc);
     for number in 0..GUARANTEES {
         let queue = stated.texts.numbered("q", number);
-        stated.push(number, queue);
+        push_reaches(&mut stated, number, queue);
     }
     stated.guarantees
 }
@@ -155,31 +108,9 @@ fn shared(alloc: Global) -> Vec<Guarantee> {
     let mut stated = Stated::new(alloc);
     for number in 0..GUARANTEES {
         let queue = stated.texts.text(b"q");
-        stated.push(number, queue);
+        push_reaches(&mut stated, number, queue);
     }
     stated.guarantees
-}
-
-/// Appends the certificate of a guarantee, if one is found and there is memory for it. Tells whether it did.
-fn put_certificate(
-    certificates: &mut Vec<Certificate>,
-    alloc: Global,
-    topology: &Topology,
-    guarantee: &Guarantee,
-) -> bool {
-    match found(alloc, topology, guarantee) {
-        Some(certificate) => certificates.push(certificate).is_ok(),
-        None => false,
-    }
-}
-
-/// The certificates of these guarantees, of those that hold.
-fn certificates(alloc: Global, topology: &Topology, guarantees: &[Guarantee]) -> Vec<Certificate> {
-    let mut certificates = Vec::new(alloc);
-    for guarantee in guarantees {
-        put_certificate(&mut certificates, alloc, topology, guarantee);
-    }
-    certificates
 }
 
 /// Prints how long these guarantees of a large topology take to be searched and admitted.

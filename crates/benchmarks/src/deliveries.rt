@@ -2,7 +2,7 @@
 
 use crate::consumers::{Acks, put_consume, put_qos};
 use crate::delivery_loads::{DeliveryLoad, MESSAGES, load_at};
-use measuring::{Client, Keys, Measured, Part, SELECT, Written, built, print_parts};
+use measuring::{Client, Keys, Measured, Part, SELECT, Shape, Written, built, print_parts};
 use std::alloc::Global;
 use std::io;
 
@@ -100,10 +100,21 @@ fn consumes(alloc: Global, load: &DeliveryLoad) -> Written {
     bytes
 }
 
-/// Publishes so many messages of 12 bytes to `q`, a hundred at a time, or all of them where they are fewer. Tells whether no
-/// memory was refused.
+/// Publishes so many messages of 12 bytes to `q`, as `fill_by` does. Tells whether no memory was refused.
 pub fn fill(engine: &mut Measured, alloc: Global, publisher: u64, messages: u64) -> bool {
-    let mut client = Client::new(alloc, BODY, Keys::One);
+    fill_by(engine, alloc, publisher, messages, Keys::One)
+}
+
+/// Publishes so many messages of 12 bytes under these keys, a hundred at a time, or all of them where they are fewer. Tells
+/// whether no memory was refused.
+pub fn fill_by(
+    engine: &mut Measured,
+    alloc: Global,
+    publisher: u64,
+    messages: u64,
+    keys: Keys,
+) -> bool {
+    let mut client = Client::new(alloc, BODY, keys);
     let window = messages.min(WINDOW);
     for _ in 0..messages / window.max(1) {
         let bytes = client.window(alloc, window);
@@ -112,8 +123,19 @@ pub fn fill(engine: &mut Measured, alloc: Global, publisher: u64, messages: u64)
     client.is_whole() && engine.is_whole()
 }
 
-/// Has so many consumers of `q` each hold the one message that they may.
-fn hold_back(engine: &mut Measured, alloc: Global, publisher: u64, consumers: u32) {
+/// An engine over this shape, to which so many messages were published under these keys; none where memory is refused.
+pub fn filled(alloc: Global, shape: Shape, messages: u64, keys: Keys) -> Option<Measured> {
+    let mut engine = Measured::over(alloc, built(alloc, shape)?, Vec::new(alloc))?;
+    let publisher = engine.open_ready();
+    if fill_by(&mut engine, alloc, publisher, messages, keys) {
+        Some(engine)
+    } else {
+        None
+    }
+}
+
+/// Has so many consumers of `q` each hold the one message that they may, on a connection of their own. Tells how many are held.
+pub fn hold_back(engine: &mut Measured, alloc: Global, publisher: u64, consumers: u32) -> u64 {
     let holder = engine.open_ready();
     let mut bytes = Written::new(alloc);
     put_qos(&mut bytes, 1);
@@ -122,8 +144,9 @@ fn hold_back(engine: &mut Measured, alloc: Global, publisher: u64, consumers: u3
     }
     engine.perform(holder, bytes.as_slice());
     fill(engine, alloc, publisher, u64::from(consumers));
-    engine.deliver(u64::from(consumers));
+    let held = engine.deliver(u64::from(consumers));
     engine.take_output(holder);
+    held
 }
 
 /// Fills the load's queue, and has its consumers made.

@@ -1,5 +1,6 @@
 //! What is measured.
 
+use crate::properties::{MODE, MODE_TYPE, MODE_TYPE_ID, NONE};
 use measuring::{Keys, Shape};
 
 /// One load: so many publishes of one size.
@@ -15,12 +16,14 @@ pub struct Load {
     pub piece: usize,
     /// How the keys go.
     pub keys: Keys,
+    /// Flags and values of the properties.
+    pub properties: &'static [u8],
 }
 
 const WHOLE: usize = 16_777_216;
 
 /// A load of one connection and one key, whose windows are handed in whole.
-fn plain(name: &'static str, shape: Shape, publishes: u64, body: usize) -> Load {
+pub fn plain(name: &'static str, shape: Shape, publishes: u64, body: usize) -> Load {
     Load {
         name,
         shape,
@@ -29,6 +32,7 @@ fn plain(name: &'static str, shape: Shape, publishes: u64, body: usize) -> Load 
         body,
         piece: WHOLE,
         keys: Keys::One,
+        properties: NONE,
     }
 }
 
@@ -42,6 +46,7 @@ fn by(name: &'static str, connections: u64) -> Load {
         body: 12,
         piece: WHOLE,
         keys: Keys::One,
+        properties: NONE,
     }
 }
 
@@ -55,6 +60,7 @@ fn fresh(name: &'static str, shape: Shape, publishes: u64) -> Load {
         body: 12,
         piece: WHOLE,
         keys: Keys::Fresh,
+        properties: NONE,
     }
 }
 
@@ -68,6 +74,21 @@ fn pieces(name: &'static str, piece: usize, publishes: u64) -> Load {
         body: 12,
         piece,
         keys: Keys::One,
+        properties: NONE,
+    }
+}
+
+/// A load whose contents have these properties.
+fn with_properties(name: &'static str, properties: &'static [u8]) -> Load {
+    Load {
+        name,
+        shape: Shape::Direct,
+        connections: 1,
+        publishes: 100_000,
+        body: 12,
+        piece: WHOLE,
+        keys: Keys::One,
+        properties,
     }
 }
 
@@ -109,6 +130,10 @@ pub fn load_at(place: u32) -> Option<Load> {
         ),
         15 => pieces("pieces of 1 byte", 1, 20_000),
         16 => pieces("pieces of 64 bytes", 64, 100_000),
+        17 => with_properties("no property", NONE),
+        18 => with_properties("delivery-mode", MODE),
+        19 => with_properties("delivery-mode, content-type", MODE_TYPE),
+        20 => with_properties("delivery-mode, content-type, message-id", MODE_TYPE_ID),
         _ => return None,
     };
     Some(load)

@@ -1,5 +1,6 @@
-//! Benchmarks: what publishes, deliveries, losses, purges and openings cost the engine, what waiting messages and open connections
-//! take, and how long matchers, routes, large definitions files and certificates take. What is printed is to be read; nothing tests it.
+//! Benchmarks: what publishes, deliveries, losses, purges, openings and reloads cost the engine, what waiting messages and open
+//! connections take, and how long matchers, routes, large definitions files and certificates take. What is printed is to be read;
+//! nothing tests it.
 #![tactic(auto)]
 
 mod certificates;
@@ -12,22 +13,27 @@ mod loads;
 mod matchers;
 mod memory;
 mod openings;
+mod properties;
 mod publishes;
+mod reload_loads;
+mod reloads;
 mod removals;
 mod routes;
+mod stated;
 mod strangers;
 
 use std::{env, io};
 
 /// How the program is called.
 const USAGE: &str =
-    "benchmarks openings|strangers|memory|deliveries|removals|publishes [NAME]|matchers|routes|files|certificates|all: prints what connections, messages, matchers, routes, large definitions files and certificates cost";
+    "benchmarks openings|strangers|memory|deliveries|removals|reloads|publishes [NAME]|matchers|routes|files|certificates|all: prints what connections, messages, reloads, matchers, routes, large definitions files and certificates cost";
 
 /// Measures all. Memory comes early, since what is measured later takes what was given back.
 fn measure_all(rt: &HostRuntime) -> io::Result<()> {
     openings::measure_all(rt)?;
     strangers::measure_all(rt)?;
     memory::measure_all(rt)?;
+    reloads::measure_all(rt)?;
     deliveries::measure_all(rt)?;
     removals::measure_all(rt)?;
     publishes::measure_all(rt)?;
@@ -45,6 +51,7 @@ fn measure(rt: &HostRuntime, word: &str) -> io::Result<()> {
         "memory" => memory::measure_all(rt),
         "deliveries" => deliveries::measure_all(rt),
         "removals" => removals::measure_all(rt),
+        "reloads" => reloads::measure_all(rt),
         "publishes" => publishes::measure_all(rt),
         "matchers" => matchers::measure_all(rt),
         "routes" => routes::measure_all(rt),

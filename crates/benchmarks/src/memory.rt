@@ -1,5 +1,6 @@
 //! How much resident memory a waiting message takes.
 
+use crate::properties::{MODE, MODE_TYPE, MODE_TYPE_ID, NONE};
 use measuring::{Client, Keys, Measured, SELECT, Shape, built, resident_bytes};
 use std::alloc::Global;
 use std::io;
@@ -14,6 +15,18 @@ struct Waiting {
     body: usize,
     messages: u64,
     keys: Keys,
+    properties: &'static [u8],
+}
+
+/// Messages of 12 bytes with these properties.
+fn small(name: &'static str, properties: &'static [u8]) -> Waiting {
+    Waiting {
+        name,
+        body: 12,
+        messages: 250_000,
+        keys: Keys::One,
+        properties,
+    }
 }
 
 /// An engine over a topic exchange that leads each key to one queue.
@@ -25,7 +38,7 @@ fn engine(alloc: Global) -> Option<Measured> {
 fn fill(rt: &HostRuntime, engine: &mut Measured, load: &Waiting) -> io::Result<()> {
     let publisher = engine.open_ready();
     engine.perform(publisher, SELECT.as_slice());
-    let mut client = Client::new(rt.alloc(), load.body, load.keys);
+    let mut client = Client::with_properties(rt.alloc(), load.body, load.keys, load.properties);
     let before = resident_bytes(rt)?;
     for _ in 0..load.messages / WINDOW {
         let bytes = client.window(rt.alloc(), WINDOW);
@@ -46,19 +59,28 @@ pub fn measure_all(rt: &HostRuntime) -> io::Result<()> {
             body: 12,
             messages: 1_000_000,
             keys: Keys::One,
+            properties: NONE,
         },
         Waiting {
             name: "12 bytes, each under a key of its own",
             body: 12,
             messages: 250_000,
             keys: Keys::Fresh,
+            properties: NONE,
         },
         Waiting {
             name: "1,024 bytes, one key",
             body: 1_024,
             messages: 125_000,
             keys: Keys::One,
+            properties: NONE,
         },
+        small("12 bytes, delivery-mode", MODE),
+        small("12 bytes, delivery-mode, content-type", MODE_TYPE),
+        small(
+            "12 bytes, delivery-mode, content-type, message-id",
+            MODE_TYPE_ID,
+        ),
     ];
     let mut engines = Vec::new(rt.alloc());
     for load in &loads {

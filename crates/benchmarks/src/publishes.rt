@@ -15,11 +15,31 @@ const PARTS: u64 = 10;
 
 /// A load, as its parts are run.
 #[derive(Drop)]
-struct Running {
+pub struct Running {
     alloc: Global,
-    engine: Measured,
+    pub engine: Measured,
     client: Client,
     load: Load,
+}
+
+impl Running {
+    /// A load over this engine, whose connections are open.
+    pub fn over(alloc: Global, mut engine: Measured, load: &Load) -> Running {
+        open_all(&mut engine, load);
+        engine.take_written();
+        Running {
+            alloc,
+            engine,
+            client: Client::with_properties(alloc, load.body, load.keys, load.properties),
+            load: *load,
+        }
+    }
+
+    /// Runs all parts, and prints what a publish took in each.
+    pub fn print_publishes(&mut self, rt: &HostRuntime) -> io::Result<()> {
+        let publishes = self.load.publishes / PARTS;
+        print_parts(rt, self, publishes)
+    }
 }
 
 impl Part for Running {
@@ -52,19 +72,11 @@ fn tell(rt: &HostRuntime, running: &mut Running, before: u64) -> io::Result<()> 
 }
 
 /// Runs a load over this engine, and prints what a publish took in each part and how much a waiting message takes.
-fn measure_over(rt: &HostRuntime, mut engine: Measured, load: &Load) -> io::Result<()> {
-    open_all(&mut engine, load);
-    engine.take_written();
-    let client = Client::new(rt.alloc(), load.body, load.keys);
-    let mut running = Running {
-        alloc: rt.alloc(),
-        engine,
-        client,
-        load: *load,
-    };
+fn measure_over(rt: &HostRuntime, engine: Measured, load: &Load) -> io::Result<()> {
+    let mut running = Running::over(rt.alloc(), engine, load);
     let before = resident_bytes(rt)?;
     print!(rt; "{}:", load.name)?;
-    print_parts(rt, &mut running, load.publishes / PARTS)?;
+    running.print_publishes(rt)?;
     tell(rt, &mut running, before)?;
     if running.engine.is_whole() && running.client.is_whole() {
         return Ok(());
@@ -73,7 +85,7 @@ fn measure_over(rt: &HostRuntime, mut engine: Measured, load: &Load) -> io::Resu
 }
 
 /// An engine over the load's topology, none where it is refused or memory is.
-fn engine_of(alloc: Global, load: &Load) -> Option<Measured> {
+pub fn engine_of(alloc: Global, load: &Load) -> Option<Measured> {
     match built(alloc, load.shape) {
         Some(topology) => Measured::over(alloc, topology, Vec::new(alloc)),
         None => None,

@@ -1,8 +1,8 @@
 //! What it costs to have back what a lost connection held, and to purge a queue.
 
 use crate::consumers::{put_consume, put_purge};
-use crate::deliveries::fill;
-use measuring::{Measured, Part, Shape, Written, built, print_parts, processor_time};
+use crate::deliveries::filled;
+use measuring::{Keys, Measured, Part, Shape, Written, print_parts, processor_time};
 use std::alloc::Global;
 use std::io;
 
@@ -45,17 +45,6 @@ impl Part for Losing {
     }
 }
 
-/// An engine with so many messages in the queue `q`, none where memory is refused.
-fn filled(alloc: Global, messages: u64) -> Option<Measured> {
-    let mut engine = Measured::over(alloc, built(alloc, Shape::Direct)?, Vec::new(alloc))?;
-    let publisher = engine.open_ready();
-    if fill(&mut engine, alloc, publisher, messages) {
-        Some(engine)
-    } else {
-        None
-    }
-}
-
 /// How many of so many messages are left in the queue `q` to be delivered.
 fn left_of(engine: &mut Measured, alloc: Global, messages: u64) -> u64 {
     let consumer = engine.open_ready();
@@ -95,11 +84,11 @@ fn measure_purge(rt: &HostRuntime, mut engine: Measured) -> io::Result<()> {
 
 /// Measures both.
 pub fn measure_all(rt: &HostRuntime) -> io::Result<()> {
-    match filled(rt.alloc(), HELD) {
+    match filled(rt.alloc(), Shape::Direct, HELD, Keys::One) {
         Some(engine) => measure_losses(rt, engine)?,
         None => println!(rt; "there is no engine")?,
     }
-    match filled(rt.alloc(), PURGED) {
+    match filled(rt.alloc(), Shape::Direct, PURGED, Keys::One) {
         Some(engine) => measure_purge(rt, engine),
         None => println!(rt; "there is no engine"),
     }

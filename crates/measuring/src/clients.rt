@@ -10,11 +10,16 @@ pub const SELECT: [u8; 13] = [1, 0, 1, 0, 0, 0, 5, 0, 85, 0, 10, 0, 206];
 /// The end of a frame.
 const END: [u8; 1] = [206];
 
+/// Flags and values of no property.
+pub const NO_PROPERTIES: &[u8] = &[0, 0];
+
 /// A client that publishes to the exchange `x` on channel 1.
 #[derive(Drop)]
 pub struct Client {
     body: Written,
     keys: Keys,
+    /// Flags and values, as they stand in each header.
+    properties: &'static [u8],
     /// How many publishes were written.
     count: u64,
     /// The last window.
@@ -38,18 +43,18 @@ fn put_publish(out: &mut Written, key: &[u8]) {
     out.put(END.as_slice());
 }
 
-/// Appends a content header without properties.
-fn put_header(out: &mut Written, size: u64) {
-    put_head(out, 2, 14);
+/// Appends a content header with these flags and values.
+fn put_header(out: &mut Written, size: u64, properties: &[u8]) {
+    put_head(out, 2, properties.len().saturating_add(12));
     out.put(&[0, 60, 0, 0]);
     out.put(size.to_be_bytes().as_slice());
-    out.put(&[0, 0]);
+    out.put(properties);
     out.put(END.as_slice());
 }
 
 /// Appends a content header, and the body.
-fn put_content(out: &mut Written, body: &[u8]) {
-    put_header(out, body.len() as u64);
+fn put_content(out: &mut Written, properties: &[u8], body: &[u8]) {
+    put_header(out, body.len() as u64, properties);
     if !body.is_empty() {
         put_head(out, 3, body.len());
         out.put(body);
@@ -74,13 +79,24 @@ fn put_number(key: &mut Written, number: u64) {
 }
 
 impl Client {
-    /// A client whose bodies have so many bytes.
+    /// A client whose bodies have so many bytes, and whose contents have no properties.
     pub fn new(alloc: Global, body: usize, keys: Keys) -> Client {
+        Client::with_properties(alloc, body, keys, NO_PROPERTIES)
+    }
+
+    /// A client whose bodies have so many bytes, and whose headers have these flags and values.
+    pub fn with_properties(
+        alloc: Global,
+        body: usize,
+        keys: Keys,
+        properties: &'static [u8],
+    ) -> Client {
         let mut content = Written::new(alloc);
         content.put_times(b'b', body);
         Client {
             body: content,
             keys,
+            properties,
             count: 0,
             bytes: Written::new(alloc),
         }
@@ -96,7 +112,7 @@ impl Client {
         let mut key = Written::new(alloc);
         put_key(&mut key, self.keys, self.count);
         put_publish(&mut self.bytes, key.as_slice());
-        put_content(&mut self.bytes, self.body.as_slice());
+        put_content(&mut self.bytes, self.properties, self.body.as_slice());
         self.count = self.count.saturating_add(1);
     }
 

@@ -1,9 +1,10 @@
 //! An engine under measure.
 
-use certificate::admit;
+use certificate::{Checked, admit};
 use engine::{Engine, Turn};
 use exchange_graph::Topology;
 use model::User;
+use runs::ReloadFault;
 use std::alloc::Global;
 
 /// An engine, and what came of what was handed to it.
@@ -20,6 +21,11 @@ impl Measured {
     /// An engine over a topology, with no guarantee, and these users; none where memory is refused.
     pub fn over(alloc: Global, topology: Topology, users: Vec<User>) -> Option<Measured> {
         let checked = admit(alloc, topology, Vec::new(alloc), &[]).ok()?;
+        Measured::new(alloc, checked, users)
+    }
+
+    /// An engine over what was admitted, and these users; none where memory is refused.
+    pub fn new(alloc: Global, checked: Checked, users: Vec<User>) -> Option<Measured> {
         let engine = Engine::new(alloc, checked, users).ok()?;
         Some(Measured {
             alloc,
@@ -86,6 +92,18 @@ impl Measured {
             Err(_) => {
                 self.is_whole = false;
                 0
+            }
+        }
+    }
+
+    /// Puts this in force. Tells whether nothing stands against it.
+    pub fn reload(&mut self, checked: Checked, users: Vec<User>) -> bool {
+        match self.engine.reload(self.alloc, checked, users) {
+            Ok(()) => true,
+            Err(ReloadFault::Stands(_)) => false,
+            Err(ReloadFault::Memory) => {
+                self.is_whole = false;
+                false
             }
         }
     }

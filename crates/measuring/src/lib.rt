@@ -9,10 +9,10 @@ mod shapes;
 mod topologies;
 mod written;
 
-pub use clients::{Client, SELECT};
+pub use clients::{Client, NO_PROPERTIES, SELECT};
 pub use engines::Measured;
 pub use meters::{processor_time, resident_bytes};
-pub use parts::{Part, print_parts};
+pub use parts::{Part, print_parts, print_times};
 pub use shapes::{Keys, Shape};
 pub use topologies::{LARGE, built};
 pub use written::{Texts, Written};

@@ -15,19 +15,29 @@ pub trait Part {
     fn run(&mut self, part: u64);
 }
 
-/// Runs a part, and prints what one of so many messages took, in nanoseconds.
-fn print_part<P: Part>(rt: &HostRuntime, load: &mut P, part: u64, messages: u64) -> io::Result<()> {
+/// Runs a part, and prints how long it took, in units of so many nanoseconds.
+fn print_part<P: Part>(rt: &HostRuntime, load: &mut P, part: u64, unit: u64) -> io::Result<()> {
     load.prepare(part);
     let start = processor_time(rt)?;
     load.run(part);
     let took = processor_time(rt)?.saturating_sub(start);
-    print!(rt; " {}", took / messages.max(1))
+    print!(rt; " {}", took / unit.max(1))
+}
+
+/// Runs so many parts, and prints how long each of them took, in units of so many nanoseconds of processor time.
+pub fn print_times<P: Part>(
+    rt: &HostRuntime,
+    load: &mut P,
+    parts: u64,
+    unit: u64,
+) -> io::Result<()> {
+    for part in 0..parts {
+        print_part(rt, load, part, unit)?;
+    }
+    Ok(())
 }
 
 /// Runs ten parts of so many messages each, and prints what a message took in each of them, in nanoseconds of processor time.
 pub fn print_parts<P: Part>(rt: &HostRuntime, load: &mut P, messages: u64) -> io::Result<()> {
-    for part in 0..PARTS {
-        print_part(rt, load, part, messages)?;
-    }
-    Ok(())
+    print_times(rt, load, PARTS, messages)
 }

@@ -17,6 +17,13 @@ pub enum Shape {
     Limited(u32),
     /// A direct exchange bound to each of so many queues, `q0`, `q1` .., by a key of its own, `k.0`, `k.1` ..
     Keyed(u32),
+    /// A topic exchange bound to each of so many queues, `q0`, `q1` .., by `k.#`. Their dead letters go to the topic exchange `d`,
+    /// under this key if there is one. It leads to each of so many forbidden queues, `f0`, `f1` .., by `d.#`.
+    Lettered {
+        queues: u32,
+        forbidden: u32,
+        key: Option<&'static str>,
+    },
     /// An exchange bound to the queue `q`: a fanout one where the number is 0; else a topic one, by `#` and by each pattern of at
     /// most so many words, of which each is `a` or `*`.
     Worded(u32),

@@ -51,13 +51,29 @@ impl Plan {
 
     /// A queue with this limit of bytes.
     fn put_limited(&mut self, name: Text, byte_limit: Option<u32>) {
-        let queue = DeclaredQueue {
+        self.put_declared(DeclaredQueue {
             name,
             limit: None,
             byte_limit,
             dead_letter_exchange: None,
             dead_letter_key: None,
-        };
+        });
+    }
+
+    /// A queue whose dead letters go to the exchange `d`, under this key if there is one.
+    fn put_lettered(&mut self, name: Text, key: Option<&str>) {
+        let exchange = self.texts.text(b"d");
+        let key = self.texts.text_if(key);
+        self.put_declared(DeclaredQueue {
+            name,
+            limit: None,
+            byte_limit: None,
+            dead_letter_exchange: Some(exchange),
+            dead_letter_key: key,
+        });
+    }
+
+    fn put_declared(&mut self, queue: DeclaredQueue) {
         if self.queues.push(queue).is_err() {
             self.texts.fail();
         }
@@ -81,8 +97,13 @@ impl Plan {
 
     /// Binds a queue to an exchange by a key.
     fn bind(&mut self, source: &str, queue: &str, key: &str) {
-        let source = self.texts.text(source.as_bytes());
         let queue = self.texts.text(queue.as_bytes());
+        self.bind_to(source, queue, key);
+    }
+
+    /// Binds the queue of this name to an exchange by a key.
+    fn bind_to(&mut self, source: &str, queue: Text, key: &str) {
+        let source = self.texts.text(source.as_bytes());
         let key = self.texts.text(key.as_bytes());
         self.put_binding(source, Place::Queue(queue), key);
     }
@@ -156,6 +177,34 @@ fn keyed_queue(plan: &mut Plan, number: u32) {
     let queue = plan.texts.numbered("q", number);
     let key = plan.texts.numbered("k.", number);
     plan.put_binding(source, Place::Queue(queue), key);
+}
+
+/// The queue of this number, to which `x` leads by `k.#`, and whose dead letters go to `d`.
+fn lettered_queue(plan: &mut Plan, number: u32, key: Option<&str>) {
+    let queue = plan.texts.numbered("q", number);
+    plan.put_lettered(queue, key);
+    let queue = plan.texts.numbered("q", number);
+    plan.bind_to("x", queue, "k.#");
+}
+
+/// The queue of this number, to which `d` leads by `d.#`.
+fn forbidden_queue(plan: &mut Plan, number: u32) {
+    let queue = plan.texts.numbered("f", number);
+    plan.put_queue(queue);
+    let queue = plan.texts.numbered("f", number);
+    plan.bind_to("d", queue, "d.#");
+}
+
+/// The topic exchange `x` over queues whose dead letters go to the topic exchange `d`, and that one over forbidden queues.
+fn lettered(plan: &mut Plan, queues: u32, forbidden: u32, key: Option<&str>) {
+    plan.exchange("x", ExchangeKind::Topic);
+    plan.exchange("d", ExchangeKind::Topic);
+    for number in 0..queues {
+        lettered_queue(plan, number, key);
+    }
+    for number in 0..forbidden {
+        forbidden_queue(plan, number);
+    }
 }
 
 /// A binding that matches no key.
@@ -363,6 +412,11 @@ fn put_shape(plan: &mut Plan, shape: Shape) {
         Shape::Queues(count) => among_queues(plan, count),
         Shape::Limited(count) => limited(plan, count),
         Shape::Keyed(count) => keyed(plan, count),
+        Shape::Lettered {
+            queues,
+            forbidden,
+            key,
+        } => lettered(plan, queues, forbidden, key),
         Shape::Worded(words) => worded(plan, words),
         Shape::Starred => starred(plan),
         Shape::Linked(links) => linked(plan, links),

@@ -88,6 +88,14 @@ impl Texts {
         }
     }
 
+    /// The text of this, if there is one.
+    pub fn text_if(&mut self, text: Option<&str>) -> Option<Text> {
+        match text {
+            Some(text) => Some(self.text(text.as_bytes())),
+            None => None,
+        }
+    }
+
     /// A text and a number behind it.
     pub fn numbered(&mut self, text: &str, number: u32) -> Text {
         let mut name = Written::new(self.alloc);

@@ -8,6 +8,7 @@ use definitions::{BadDefinitions, Definitions, read_definitions};
 use exchange_graph::Topology;
 use guarantee_search::{Verdict, search};
 use guarantees::{BadGuarantees, Guarantee, read_guarantees};
+use model::User;
 use std::alloc::{AllocError, Global};
 use std::io::{self, ErrorKind};
 
@@ -110,6 +111,20 @@ pub fn admitted(
             Ok(admit(alloc, topology, guarantees, certificates.as_slice()))
         }
         admitted => Ok(admitted),
+    }
+}
+
+/// What is in force by the files, and who may log in.
+pub fn set_up(
+    alloc: Global,
+    setting: Setting<'_>,
+    counts: &mut Counts,
+) -> io::Result<(Checked, Vec<User>)> {
+    let (_, users) = definitions_of(alloc, setting, counts)?.into_parts();
+    match admitted(alloc, setting, counts)? {
+        Ok(checked) => Ok((checked, users)),
+        Err((_, CertFault::Memory)) => Err(io::Error::from(AllocError)),
+        Err(_) => Err(malformed()),
     }
 }
 

@@ -9,6 +9,7 @@ pub struct Counts {
     pub feeds: u64,
     pub turns: u64,
     pub pumps: u64,
+    pub reloads: u64,
     pub definitions: u64,
     pub guarantees: u64,
     pub checks: u64,
@@ -29,6 +30,7 @@ impl Counts {
             feeds: 0,
             turns: 0,
             pumps: 0,
+            reloads: 0,
             definitions: 0,
             guarantees: 0,
             checks: 0,
@@ -49,8 +51,8 @@ impl Counts {
     pub fn put<W: Write>(&self, out: &mut W) -> io::Result<()> {
         write!(
             out,
-            "again: opens {} feeds {} turns {} pumps {} ",
-            self.opens, self.feeds, self.turns, self.pumps
+            "again: opens {} feeds {} turns {} pumps {} reloads {} ",
+            self.opens, self.feeds, self.turns, self.pumps, self.reloads
         )?;
         write!(
             out,

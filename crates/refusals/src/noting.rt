@@ -1,7 +1,7 @@
 //! Outputs and notes, as `replay` prints them.
 
 use model::{Answer, Cause, Note, Text, Way};
-use scripts::name_word;
+use scripts::{name_word, obstacle_line};
 use std::alloc::{AllocError, Global};
 
 /// Bytes in hex, or `-` for none.
@@ -104,5 +104,7 @@ pub fn note_line(alloc: Global, note: &Note) -> Result<String, AllocError> {
             queue,
             cause,
         } => queue_line(alloc, "left", *number, queue, cause_word(*cause)),
+        Note::Reloaded => String::from_str(alloc, "reload done\n"),
+        Note::ReloadRefused(obstacle) => obstacle_line(alloc, obstacle),
     }
 }

@@ -1,12 +1,16 @@
 //! A replay of which each call is made once more that met want of memory.
 
+use crate::asking::{Setting, set_up};
 use crate::counts::{Counts, count};
 use crate::noting::{hex_word, note_line};
 use crate::put_out::Outputs;
+use crate::sections::{Section, text_of};
 use engine::{Engine, Refused, Turn};
 use model::{Arrival, Note};
-use scripts::put_line;
+use runs::ReloadFault;
+use scripts::{ReloadFiles, put_line};
 use std::alloc::{AllocError, Global};
+use std::io;
 
 /// The most commands that one arrival brings.
 const MOST_COMMANDS: u64 = 1 << 32;
@@ -37,6 +41,15 @@ fn notes_of(turn: Turn) -> Option<Vec<Note>> {
         Turn::Did(notes) => Some(notes),
         _ => None,
     }
+}
+
+/// The files of these names.
+fn setting_of<'a>(names: &ReloadFiles, files: &[Section<'a>]) -> io::Result<Setting<'a>> {
+    Ok(Setting {
+        definitions: text_of(files, names.definitions())?,
+        guarantees: text_of(files, names.guarantees())?,
+        certificates: text_of(files, names.certificates())?,
+    })
 }
 
 impl Replay {
@@ -139,6 +152,32 @@ impl Replay {
         }
     }
 
+    /// What these files state is in force, unless something stands against that.
+    fn reload(
+        &mut self,
+        alloc: Global,
+        setting: Setting<'_>,
+        counts: &mut Counts,
+    ) -> io::Result<()> {
+        self.look()?;
+        let (checked, users) = set_up(alloc, setting, counts)?;
+        let told = match self.engine.reload(alloc, checked, users) {
+            Err(ReloadFault::Memory) => {
+                count(&mut counts.reloads);
+                self.compare(counts);
+                let (checked, users) = set_up(alloc, setting, counts)?;
+                self.engine.reload(alloc, checked, users)
+            }
+            told => told,
+        };
+        let note = match told {
+            Ok(()) => Note::Reloaded,
+            Err(ReloadFault::Stands(obstacle)) => Note::ReloadRefused(obstacle),
+            Err(ReloadFault::Memory) => return Err(io::Error::from(AllocError)),
+        };
+        Ok(self.notes.push(note)?)
+    }
+
     /// Commands of a connection, until it is idle, paused or over.
     fn work(&mut self, alloc: Global, c: u64, counts: &mut Counts) -> Result<(), AllocError> {
         for _ in 0..MOST_COMMANDS {
@@ -164,32 +203,37 @@ impl Replay {
         }
     }
 
-    /// One arrival, and all that it brings.
+    /// One arrival, and all that it brings. A reload names some of these files.
     pub fn arrive(
         &mut self,
         alloc: Global,
-        arrival: &Arrival,
+        arrival: &scripts::Arrival,
+        files: &[Section<'_>],
         counts: &mut Counts,
-    ) -> Result<(), AllocError> {
+    ) -> io::Result<()> {
         match arrival {
-            Arrival::Open => self.open(alloc, counts),
-            Arrival::Ready(k) => self.open_ready(alloc, *k, counts),
+            Arrival::Open => self.open(alloc, counts)?,
+            Arrival::Ready(k) => self.open_ready(alloc, *k, counts)?,
             Arrival::In(c, bytes) => {
                 self.feed(*c, bytes.as_bytes(), counts)?;
-                self.work(alloc, *c, counts)
+                self.work(alloc, *c, counts)?;
             }
             Arrival::Sent(c, n) => {
                 self.gather(*c, *n)?;
                 self.engine.sent(*c, *n);
-                self.work(alloc, *c, counts)
+                self.work(alloc, *c, counts)?;
             }
-            Arrival::Pump => self.pump(alloc, counts),
+            Arrival::Pump => self.pump(alloc, counts)?,
             Arrival::Lose(c) => {
                 self.gather(*c, u64::MAX)?;
                 self.engine.lose(*c);
-                Ok(())
+            }
+            Arrival::Reload(names) => {
+                let setting = setting_of(names, files)?;
+                self.reload(alloc, setting, counts)?;
             }
         }
+        Ok(())
     }
 
     /// What was put out for each connection and noted, as `replay` prints it.

@@ -1,7 +1,8 @@
 //! What the sections come to, in their order.
 
 use crate::asking::{
-    Setting, admitted, certificates_of, checked, definitions_of, disproved, guarantees_of, searched,
+    Setting, admitted, certificates_of, checked, definitions_of, disproved, guarantees_of,
+    searched, set_up,
 };
 use crate::counts::Counts;
 use crate::replaying::Replay;
@@ -100,10 +101,11 @@ fn put_verdicts(
     Ok(())
 }
 
-/// A script is run over the files.
+/// A script is run over what is in force; a reload in it names files.
 fn put_run(
     alloc: Global,
     setting: Setting<'_>,
+    files: &[Section<'_>],
     script: &str,
     counts: &mut Counts,
     out: &mut String,
@@ -116,14 +118,10 @@ fn put_run(
             return put(out, line.as_str());
         }
     };
-    let (_, users) = definitions_of(alloc, setting, counts)?.into_parts();
-    let checked = match admitted(alloc, setting, counts)? {
-        Ok(checked) => checked,
-        Err(_) => return Err(io::Error::from(ErrorKind::InvalidData)),
-    };
+    let (checked, users) = set_up(alloc, setting, counts)?;
     let mut replay = Replay::new(alloc, Engine::new(alloc, checked, users)?);
     for arrival in &arrivals {
-        replay.arrive(alloc, arrival, counts)?;
+        replay.arrive(alloc, arrival, files, counts)?;
     }
     let text = replay.text(alloc)?;
     match str::from_utf8(text.as_slice()) {
@@ -132,11 +130,12 @@ fn put_run(
     }
 }
 
-/// One section: a file is in force from now on, or a call is made over those that are.
+/// One section: a file is in force from now on, or may be named, or a call is made over those that are in force.
 fn put_section<'a>(
     alloc: Global,
     section: Section<'a>,
     setting: &mut Setting<'a>,
+    files: &mut Vec<Section<'a>>,
     counts: &mut Counts,
     out: &mut String,
 ) -> io::Result<()> {
@@ -158,23 +157,31 @@ fn put_section<'a>(
         "check" => put_checks(alloc, *setting, counts, out),
         "admit" => put_admission(alloc, *setting, counts, out),
         "search" => put_verdicts(alloc, *setting, counts, out),
-        _ => {
-            put(out, section.name)?;
-            put_run(alloc, *setting, section.text, counts, out)
-        }
+        name => match name.strip_prefix("file ") {
+            Some(name) => {
+                let text = section.text;
+                Ok(files.push(Section { name, text })?)
+            }
+            None => {
+                put(out, name)?;
+                put_run(alloc, *setting, files, section.text, counts, out)
+            }
+        },
     }
 }
 
-/// What is printed of the sections. A section of another name than those of files and calls is a script.
+/// What is printed of the sections. A section of another name than those of files and calls is a script, and `file NAME` is a
+/// file that a script may name.
 pub fn answered(alloc: Global, input: &str, counts: &mut Counts) -> io::Result<String> {
     let mut setting = Setting {
         definitions: "",
         guarantees: NO_GUARANTEES,
         certificates: NO_CERTIFICATES,
     };
+    let mut files = Vec::new(alloc);
     let mut out = String::new(alloc);
     for section in sections_of(alloc, input)? {
-        put_section(alloc, section, &mut setting, counts, &mut out)?;
+        put_section(alloc, section, &mut setting, &mut files, counts, &mut out)?;
     }
     Ok(out)
 }

@@ -5,6 +5,7 @@
 
 use std::alloc::Global;
 use std::io;
+use std::io::ErrorKind;
 
 /// What stands before the name of a section.
 const MARK: &str = "==== ";
@@ -29,4 +30,12 @@ pub fn sections_of(alloc: Global, text: &str) -> io::Result<Vec<Section<'_>>> {
         }
     }
     Ok(sections)
+}
+
+/// The text of the section of this name.
+pub fn text_of<'a>(sections: &[Section<'a>], name: &str) -> io::Result<&'a str> {
+    match sections.iter().find(|section| section.name == name) {
+        Some(section) => Ok(section.text),
+        None => Err(io::Error::from(ErrorKind::NotFound)),
+    }
 }
