@@ -1,7 +1,7 @@
 # `make` alone lists the targets.
 SHELL := bash
 .SHELLFLAGS := -o pipefail -c
-.PHONY: help try look run shop verdicts serve clients libraries deploy load refusals cases same promise prose tools pictures examples bench install test
+.PHONY: help try look run shop verdicts serve clients libraries deploy reload load refusals cases same promise prose tools pictures examples bench install test
 
 # where `make install` puts the program
 PREFIX ?= /usr/local
@@ -18,6 +18,7 @@ help:
 	@echo "  make clients   serves the shop, and publishes to it, takes and consumes from it with pika"
 	@echo "  make libraries serves the shop, and has six other client libraries publish to it and take from it"
 	@echo "  make deploy    serves the shop, and publishes and takes over TLS, by stunnel"
+	@echo "  make reload    serves while its files are replaced, and looks at what clients and the operator see"
 	@echo "  make load      loads a server over sockets, and prints what a message costs it               2 minutes"
 	@echo "  make refusals  refuses each growth of memory of the proved programs in turn, and compares          15 minutes"
 	@echo "  make cases     runs the cases of crates/cases, and tells of one that its list lacks"
@@ -77,6 +78,9 @@ libraries: run
 
 deploy: run
 	@examples/deploy/run crates/warren/out/warren
+
+reload: run
+	@examples/reload/run crates/warren/out/warren
 
 load: run
 	@examples/load/run crates/warren/out/warren

@@ -8,9 +8,11 @@ import sys
 
 PAGE = "docs/PROMISE.md"
 HEADLINE = "crates/model/specs/Headline.antt"
-RECORDS = ("KeepsEvents", "KeepsPromises")
+RECORDS = ("KeepsEach", "KeepsEvents", "KeepsOccurrences", "KeepsPromises")
 # fields that hold another record of the promises, and no promise of their own
-PARTS = {("KeepsPromises", "events")}
+PARTS = {("KeepsPromises", "events"), ("KeepsEvents", "each"), ("KeepsOccurrences", "each")}
+# the records that hold one of them whole
+HOLDERS = {"KeepsEach": ("KeepsEvents", "KeepsOccurrences")}
 WORD = re.compile(r"[A-Za-z_][A-Za-z_0-9]*")
 DEFINES = re.compile(r"^(?:[a-z]+ )*pub (?:record |data |inductive )?([A-Za-z_][A-Za-z_0-9]*)\b")
 CODE = re.compile(r"`([^`]+)`")
@@ -134,7 +136,7 @@ class Page:
         contract = self.sources.contract("laws", law)
         if not contract:
             self.say(f"crates/laws has no law {law}")
-        elif not any(self.sources.reaches(contract, it, ("laws",)) for it in (word, record)):
+        elif not any(self.sources.reaches(contract, it, ("laws",)) for it in (word, record, *HOLDERS.get(record, ()))):
             self.say(f"the law {law} speaks of neither {word} nor {record}")
 
     def check_call(self, call, record):
