@@ -2,3 +2,4 @@ pub mod Marked
 pub mod Stepped
 pub mod Visited
 pub mod Traced
+pub mod Coming

@@ -10,4 +10,4 @@ mod searching;
 mod stands;
 mod visits;
 
-pub use searching::find_path;
+pub use searching::{comes, find_path};

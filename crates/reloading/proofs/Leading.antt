@@ -2,15 +2,12 @@
 use Rattle.std.proofs.Common.{◌≡◌, ℕ, zero, suc, ◌<◌, Bool, false, true, Option, Some, None, List, [], ◌∷◌, length, get_or, refl, sym, ap, subst, ◌∙◌, inl, inr, arith}
 use Rattle.std.specs.Prelude.{Decides, is_some}
 use Rattle.std.proofs.lemmas.Bool.{false≢true}
-use Rattle.std.specs.Global.{Vec}
 use Rattle.model.specs.Words.{Text}
 use Rattle.model.specs.Topology.{Topology, IsIn, IsWellFormed, AreApart, queue_names}
 use Rattle.model.specs.Routing.{Reading, of_key, RoutesBy, reading_after, fixed_after, key_after, Comes, routed, dead, Dies, Later}
 use Rattle.model.specs.declared.topologies.DeclaredQueue.{DeclaredQueue}
 use Rattle.laws.proofs.Counts.{in_from_contains}
 use Rattle.laws.proofs.Safe.{comes_fixed}
-use Rattle.certificate_laws.proofs.Refutations.{walk_comes}
-use Rattle.dead_paths.specs.Found.{FindsPath}
 use Rattle.exchange_graph.specs.Marks.{queue_name}
 use Rattle.exchange_graph.specs.Dying.{IsDeadRoute, StepsByDeath}
 use Rattle.exchange_graph.specs.declared.dying.DeadRoute.{DeadRoute}
@@ -58,10 +55,6 @@ one_death : (t : Topology) (q x y : Text) (p last : DeclaredQueue) → IsWellFor
 one_death t q x y p last wf d e = one_queue p last t.queues wf.queues_apart (dies_in t q x p d) (dies_in t q y last e) (d.is_named ∙ sym e.is_named)
 
 -- ---- whether it leads there
-
-pub found_tells : (t : Topology) (x k q : Text) (found : Option (Vec Text)) → FindsPath t x k q found → Decides (is_some found) (Comes t (of_key k) None x q)
-found_tells t x k q None none = (λ e. absurd (false≢true e), λ c. absurd (none c))
-found_tells t x k q (Some path) (rest, is, w) = (λ e. walk_comes t (of_key k) q x w refl, λ c. refl)
 
 -- a dead letter goes one way
 pub route_tells : (t : Topology) (q key x onward r : Text) (yes' : Bool) → IsWellFormed t → IsDeadRoute t q key x onward → Decides yes' (Comes t (of_key onward) None x r) → Decides yes' (Later t q key r)

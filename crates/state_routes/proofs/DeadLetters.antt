@@ -1,7 +1,6 @@
 -- Dead letters as gates: which they are, and what comes of a key that a queue fixed.
 use Rattle.std.proofs.Common.{◌≡◌, ◌⊎◌, ℕ, zero, suc, ◌+◌, ◌<◌, ◌≤◌, Bool, true, false, cond, List, [], ◌∷◌, ◌++◌, length, refl, sym, ap, subst, ◌∙◌, inl, inr, Option, Some, None, arith, add-one, append-nil, append_assoc, drop, get_or}
-use Rattle.std.specs.Prelude.{Decides, is_some}
-use Rattle.std.specs.Global.{Vec}
+use Rattle.std.specs.Prelude.{Decides}
 use Rattle.std.proofs.lemmas.Bool.{false≢true}
 use Rattle.std.proofs.lemmas.Slice.Eq.{bytes_eq-Decides}
 use Rattle.model.specs.Words.{Text}
@@ -22,8 +21,6 @@ use Rattle.state_routes.specs.declared.gates.Test.TheVariants.{Pattern}
 use Rattle.state_routes.specs.Nodes.{node}
 use Rattle.state_routes.specs.Gates.{tracked_place, test_by, kind_at}
 use Rattle.state_routes.specs.Deaths.{is_into_queue, entry, default_entry, entries, entries_through, AreEntered, none, next, AreMore, dying, unfixed_end, GoOn, links_in}
-use Rattle.dead_paths.specs.Found.{FindsPath}
-use Rattle.certificate_laws.proofs.Refutations.{walk_comes}
 use Rattle.laws.proofs.Counts.{in_front, in_back, in-append}
 
 -- ---- keys that a queue fixed
@@ -77,11 +74,6 @@ unfixed_tells xs (Some y) (Some k) n e = absurd (let h : Some n ≡ None = e in 
 pub fixed_goes : (t : Topology) (q y k : Text) (end : Option ℕ) → GoOn t q (Some y) (Some k) end → Comes t (of_key k) None y q → end ≡ Some 0
 fixed_goes t q y k None g c = absurd (g c)
 fixed_goes t q y k (Some n) g c = ap (λ (z : ℕ). Some z) g.0
-
--- a path is found exactly where messages come
-pub found_tells : (t : Topology) (x k q : Text) (found : Option (Vec Text)) → FindsPath t x k q found → Decides (is_some found) (Comes t (of_key k) None x q)
-found_tells t x k q None f = ((λ e. absurd (false≢true e)), (λ c. absurd (f c)))
-found_tells t x k q (Some path) f = ((λ e. walk_comes t (of_key k) q x f.2 refl), (λ c. refl))
 
 -- ---- the ways into a queue
 
