@@ -1,6 +1,6 @@
 //! How long certificates take: found, checked, and admitted.
 
-use crate::stated::{Stated, certificates, found, guarantee_of};
+use benchmark_loads::stated::{Stated, certificates, found, guarantee_of};
 use certificate::admit;
 use certificate_check::{Certificate, check};
 use exchange_graph::Topology;

@@ -1,6 +1,6 @@
 //! How long large definitions files take.
 
-use crate::files::{many_bindings, many_users, padded};
+use benchmark_loads::files::{many_bindings, many_users, padded};
 use definitions::read_definitions;
 use measuring::Written;
 use std::alloc::Global;

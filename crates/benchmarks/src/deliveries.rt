@@ -1,7 +1,7 @@
 //! What it costs to publish a message, to deliver it and to have it acknowledged, bytes to bytes.
 
-use crate::consumers::{Acks, put_consume, put_qos};
-use crate::delivery_loads::{DeliveryLoad, MESSAGES, load_at};
+use benchmark_loads::consumers::{Acks, put_consume, put_qos};
+use benchmark_loads::delivery_loads::{DeliveryLoad, MESSAGES, load_at};
 use measuring::{Client, Keys, Measured, Part, SELECT, Shape, Written, built, print_parts};
 use std::alloc::Global;
 use std::io;

@@ -4,22 +4,15 @@
 #![tactic(auto)]
 
 mod certificates;
-mod consumers;
 mod definitions_files;
 mod deliveries;
-mod delivery_loads;
-mod files;
-mod loads;
 mod matchers;
 mod memory;
 mod openings;
-mod properties;
 mod publishes;
-mod reload_loads;
 mod reloads;
 mod removals;
 mod routes;
-mod stated;
 mod strangers;
 
 use std::{env, io};

@@ -1,6 +1,6 @@
 //! How much resident memory a waiting message takes.
 
-use crate::properties::{MODE, MODE_TYPE, MODE_TYPE_ID, NONE};
+use benchmark_loads::properties::{MODE, MODE_TYPE, MODE_TYPE_ID, NONE};
 use measuring::{Client, Keys, Measured, SELECT, Shape, built, resident_bytes};
 use std::alloc::Global;
 use std::io;

@@ -2,7 +2,7 @@
 //!
 //! Each load runs ten equal parts, so that a cost that grows with what waits shows between the first and the last.
 
-use crate::loads::{Load, load_at};
+use benchmark_loads::loads::{Load, load_at};
 use measuring::{Client, Measured, Part, SELECT, built, print_parts, resident_bytes};
 use std::alloc::Global;
 use std::io;

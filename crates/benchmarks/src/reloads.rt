@@ -1,10 +1,10 @@
 //! What it costs to put a configuration in force while messages wait.
 
 use crate::deliveries::{fill, filled, hold_back};
-use crate::loads::{Load, plain};
 use crate::publishes::{Running, engine_of};
-use crate::reload_loads::{ReloadLoad, WAITING, load_at, same};
-use crate::stated::{Stated, certificates};
+use benchmark_loads::loads::{Load, plain};
+use benchmark_loads::reload_loads::{ReloadLoad, WAITING, load_at, same};
+use benchmark_loads::stated::{Stated, certificates};
 use certificate::{Checked, admit};
 use guarantees::Guarantee;
 use measuring::{Measured, Part, built, print_times, resident_bytes};
