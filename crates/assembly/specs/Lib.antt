@@ -6,3 +6,4 @@ pub mod Held
 pub mod Front
 pub mod Onward
 pub mod Laws
+pub mod Unread

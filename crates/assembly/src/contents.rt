@@ -1,6 +1,6 @@
 //! What a channel has begun and not completed.
 
-use crate::bodies::Body;
+use crate::bodies::Pieces;
 use model::{Properties, Publish};
 
 /// A publish whose body comes in: `size` bytes are declared, and `body` has those that came.
@@ -9,7 +9,7 @@ pub(crate) struct Gathering {
     pub(crate) publish: Publish,
     pub(crate) properties: Properties,
     pub(crate) size: u64,
-    pub(crate) body: Body,
+    pub(crate) body: Pieces,
 }
 
 /// A body that is dropped: `size` bytes are declared, and `count` of them came.

@@ -17,6 +17,7 @@ use model::Command;
 use std::alloc::{AllocError, Global};
 
 /// Takes a whole frame: the command that it ends, or none where its channel goes on.
+#[inline(always)]
 pub(crate) fn take_frame(
     alloc: Global,
     keeps: bool,
@@ -69,6 +70,7 @@ fn reach(contents: &mut Vec<Awaited>, channel: usize) -> Result<(), AllocError>
 }
 
 /// Takes a frame that is no heartbeat, on a channel that may have it.
+#[inline(always)]
 fn take_on_channel(
     alloc: Global,
     keeps: bool,

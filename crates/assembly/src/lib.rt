@@ -16,6 +16,7 @@ mod reading;
 mod single;
 mod streams;
 mod taking;
+mod unread;
 
 pub use faults::Fault;
 pub use single::one_next;

@@ -9,18 +9,23 @@ use crate::contents::Awaited;
 use crate::faults::Fault;
 use crate::frames::take_frame;
 use crate::names::LastNames;
-use frame::{Buffer, ReadFrame, read_frame};
+use crate::unread::Unread;
+use frame::{ReadFrame, read_frame};
 use model::Command;
 use std::alloc::Global;
 
 /// Takes frames up to the end of a command. A frame that is a fault, or for which memory is refused, stays.
+///
+/// Here and on the way to a channel's content calls are put in line: what a function moves is cleared when it is entered, once
+/// a command this way and not once a frame.
+#[inline(always)]
 pub(crate) fn next_command(
     alloc: Global,
     max: u32,
     keeps: bool,
     names: &mut LastNames,
     contents: &mut Vec<Awaited>,
-    unread: &mut Buffer,
+    unread: &mut Unread,
 ) -> Result<Option<Command>, Fault>
     requires max { 4096 ≤ max }
     requires spelled { AreSpelledSoFar contents.old.items }
@@ -53,7 +58,7 @@ fn is_whole(taken: &Result<Option<Command>, Fault>) -> bool
 }
 
 /// Takes eight bytes, where so many are there.
-pub(crate) fn take_eight(unread: &mut Buffer) -> Option<[u8; 8]>
+pub(crate) fn take_eight(unread: &mut Unread) -> Option<[u8; 8]>
     ensures { MatchOption result ((length unread.old.bytes < 8) × (unread.new ≡ unread.old)) (λ bytes. (unread.old.bytes ≡ bytes ++ unread.new.bytes) × (length bytes ≡ 8)) }
 {
     let bytes = *unread.bytes().first_chunk::<8>()?;

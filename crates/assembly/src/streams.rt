@@ -10,7 +10,7 @@ use crate::contents::Awaited;
 use crate::faults::Fault;
 use crate::names::LastNames;
 use crate::reading::{next_command, take_eight};
-use frame::Buffer;
+use crate::unread::Unread;
 use model::Command;
 use std::alloc::{AllocError, Global};
 use std::marker::Model;
@@ -24,7 +24,7 @@ pub struct Stream {
     /// Contents are kept.
     keeps: bool,
     contents: Vec<Awaited>,
-    unread: Buffer,
+    unread: Unread,
     names: LastNames,
     /// The fault by which it broke, once that was answered.
     fault: Option<u16>,
@@ -72,7 +72,7 @@ impl Stream {
             max: 4096,
             keeps: false,
             contents: Vec::new(alloc),
-            unread: Buffer::new(alloc),
+            unread: Unread::new(alloc),
             names: LastNames::new(alloc),
             fault: None,
         }
@@ -90,7 +90,7 @@ impl Stream {
             max: 131_072,
             keeps: true,
             contents: Vec::new(alloc),
-            unread: Buffer::new(alloc),
+            unread: Unread::new(alloc),
             names: LastNames::new(alloc),
             fault: None,
         }
@@ -103,9 +103,7 @@ impl Stream {
         ensures full { OnErr result (self.old.room < length bytes.now) }
         ensures fault { self.new.fault ≡ self.old.fault }
     {
-        self.unread.reserve(bytes.len())?;
-        self.unread.put(bytes);
-        Ok(())
+        self.unread.put(bytes)
     }
 
     /// From now on a frame has at most `max` bytes. A stream that broke stays as it is.
@@ -149,7 +147,7 @@ impl Stream {
         }
         let next = self.read();
         self.fault = fault_in(&next);
-        self.unread.give_back(self.alloc);
+        self.unread.give_back();
         next
     }
 

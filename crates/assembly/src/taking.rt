@@ -15,7 +15,7 @@ ghost use Rattle.assembly.specs.declared.contents.Awaited.TheVariants.{Nothing, 
 ghost use Rattle.assembly.specs.Taking.{TakesEffect};
 ghost use Rattle.assembly.specs.Names.{SpellsPublish};
 
-use crate::bodies::Body;
+use crate::bodies::Pieces;
 use crate::contents::{Awaited, Gathering};
 use crate::dropping::{drop_begun, drop_piece, is_too_large};
 use crate::faults::{Fault, of_header, of_method, of_size};
@@ -23,11 +23,12 @@ use crate::names::LastNames;
 use frame::Frame;
 use headers::{read_header, read_size};
 use methods::read_method;
-use model::{Command, Content, Method, Properties, Publish, Text};
+use model::{Body, Command, Content, Method, Properties, Publish, Text};
 use std::alloc::Global;
 use std::mem;
 
 /// Takes a frame that is no heartbeat, on a channel that may have it: one of a type that is not awaited is out of place.
+#[inline(always)]
 pub(crate) fn take_awaited(
     alloc: Global,
     keeps: bool,
@@ -202,14 +203,14 @@ fn gather_content(
         Ok(header) => {
             let publish = begun_publish(pending);
             if header.size == 0 {
-                let whole = full(frame.channel, publish, header.properties, Text::empty());
+                let whole = full(frame.channel, publish, header.properties, Body::empty());
                 return Ok(Some(whole));
             }
             *pending = Awaited::WantsBody(Gathering {
                 publish,
                 properties: header.properties,
                 size: header.size,
-                body: Body::new(alloc),
+                body: Pieces::new(alloc),
             });
             Ok(None)
         }
@@ -256,7 +257,7 @@ fn begun_publish(pending: &mut Awaited) -> Publish
 }
 
 /// A publish with its whole content.
-fn full(channel: u16, publish: Publish, properties: Properties, body: Text) -> Command
+fn full(channel: u16, publish: Publish, properties: Properties, body: Body) -> Command
     ensures { result ≡ command.Full channel publish (record { properties = properties; body = body }) }
 {
     Command::Full {
@@ -319,7 +320,7 @@ fn take_body(pending: &mut Awaited, frame: &Frame<'_>) -> Result<Option<Command>
 }
 
 /// The publish whose whole body this is. Its channel awaits a method from then on.
-fn complete(pending: &mut Awaited, channel: u16, body: Text) -> Command
+fn complete(pending: &mut Awaited, channel: u16, body: Body) -> Command
     requires { IsGathered pending.old }
     ensures full { (g : Begun) → pending.old ≡ WantsBody g → result ≡ command.Full channel g.publish (record { properties = g.properties; body = body }) }
     ensures nothing { pending.new ≡ Nothing }

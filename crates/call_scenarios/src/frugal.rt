@@ -11,7 +11,8 @@ use frame::{ReadFrame, read_frame};
 use headers::read_size;
 use login::accepts;
 use model::{
-    Content, Event, Get, Holder, Message, Method, Nack, Properties, Publish, Taker, Text, User,
+    Body, Content, Event, Get, Holder, Message, Method, Nack, Properties, Publish, Taker, Text,
+    User,
 };
 use queue::{Indexed, Store};
 use scenario_parts::{MESSAGE, Unmet, expect, expect_bytes, expect_number, value_of};
@@ -64,7 +65,7 @@ fn publish() -> (Publish, Content) {
     };
     let content = Content {
         properties: Properties::none(),
-        body: Text::empty(),
+        body: Body::empty(),
     };
     (publish, content)
 }

@@ -2,7 +2,7 @@
 //!
 //! A frame is a type (1 byte), a channel (2), the size of its payload (4), the payload, and the end byte `CE`. Numbers
 //! are big-endian. Source: AMQP 0-9-1, section 4.2.3, "General Frame Format".
-//! A [`Buffer`] has the bytes of a connection that were not read yet, or not sent.
+//! A [`Buffer`] has the bytes that were not sent yet.
 #![tactic(auto)]
 
 mod buffers;

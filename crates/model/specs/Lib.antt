@@ -57,3 +57,4 @@ pub mod Agreement
 pub mod Naming
 pub mod Login
 pub mod Opening
+pub mod Kept

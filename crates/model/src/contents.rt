@@ -2,7 +2,11 @@
 
 ghost use Rattle.std.specs.Prelude.{◌≡◌, IfOk};
 ghost use Rattle.model.specs.Headers.{no_properties};
+ghost use Rattle.model.specs.Kept.{view_of, IsKept};
+ghost use Rattle.model.specs.Properties.{spelled_by, IsSpelling};
 
+use crate::bodies::Body;
+use crate::places::{first_of, padded};
 use crate::tables::Table;
 use crate::texts::Text;
 use std::alloc::{AllocError, Global};
@@ -120,15 +124,50 @@ fn shared_table(table: &Option<Table>) -> Result<Option<Table>, AllocError>
 /// Flags and values of no property at all.
 const NONE: &[u8] = &[0, 0];
 
-/// Where properties stand.
+/// How many bytes of flags and values a small block takes at most.
+const MOST_SMALL: usize = 48;
+
+/// How many a larger one takes.
+const MOST_LARGER: usize = 80;
+
+/// Where properties stand. Flags and values are as a header has them behind the size of the body.
 #[derive(Drop)]
 enum Kept {
     /// There is none at all.
     Empty,
-    /// Flags and values, as a header has them behind the size of the body.
+    /// Flags and values: the first so many bytes of a block.
+    Small(u8, Arc<[u8; 48]>),
+    /// The same in a larger block.
+    Larger(u8, Arc<[u8; 80]>),
+    /// Flags and values, if they are longer.
     Spelled(Arc<Vec<u8>>),
     /// One by one.
     Apart(Arc<Fields>),
+}
+
+/// A block of its own, behind a pointer.
+fn in_block<T: Drop>(alloc: Global, value: T) -> Result<Arc<T>, AllocError>
+    ensures { IfOk result (λ block. block.value ≡ value) }
+{
+    match Arc::new(alloc, value) {
+        Ok(block) => Ok(block),
+        Err(_) => Err(AllocError),
+    }
+}
+
+/// A copy of these flags and values, in the smallest block that takes them.
+fn keep(alloc: Global, bytes: &[u8]) -> Result<Kept, AllocError>
+    requires { IsSpelling bytes.now }
+    ensures { IfOk result (λ kept. IsKept kept × (view_of kept ≡ spelled_by bytes.now)) }
+{
+    let len = bytes.len();
+    if len <= MOST_SMALL {
+        return Ok(Kept::Small(len as u8, in_block(alloc, padded(bytes))?));
+    }
+    if len <= MOST_LARGER {
+        return Ok(Kept::Larger(len as u8, in_block(alloc, padded(bytes))?));
+    }
+    Ok(Kept::Spelled(in_block(alloc, Vec::from_slice(alloc, bytes)?)?))
 }
 
 /// Properties in the form in which they are kept.
@@ -157,14 +196,14 @@ impl Drop for Properties {
 impl Model for Properties {
     ghost use Rattle.model.specs.Headers.{no_properties};
     ghost use Rattle.model.specs.Properties.{spelled_by, IsSpelling};
+    ghost use Rattle.model.specs.Kept.{view_of, IsKept};
     ghost use Rattle.model.specs.declared.contents.Fields.{Fields as Seen};
-    ghost use Rattle.model.specs.declared.contents.Kept.TheVariants.{Empty, Spelled, Apart};
 
     ghost Value = { Seen };
 
-    ghost view = { λ p. elim p.kept [ Empty ↦ no_properties | Spelled shared ↦ spelled_by shared.value.items | Apart shared ↦ shared.value ] };
+    ghost view = { λ p. view_of p.kept };
 
-    ghost invariant = { λ p. elim p.kept [ Empty ↦ Unit {0} | Spelled shared ↦ IsSpelling shared.value.items | Apart shared ↦ Unit {0} ] };
+    ghost invariant = { λ p. IsKept p.kept };
 }
 
 impl Properties {
@@ -196,12 +235,9 @@ impl Properties {
         requires { IsSpelling bytes.now }
         ensures { IfOk result (λ p. AreProperties p × (bytes.now ≡ properties_bytes p)) }
     {
-        match Arc::new(alloc, Vec::from_slice(alloc, bytes)?) {
-            Ok(shared) => Ok(Properties {
-                kept: Kept::Spelled(shared),
-            }),
-            Err(_) => Err(AllocError),
-        }
+        Ok(Properties {
+            kept: keep(alloc, bytes)?,
+        })
     }
 
     /// The properties, in the form in which they are kept.
@@ -210,6 +246,8 @@ impl Properties {
     {
         match &self.kept {
             Kept::Empty => Form::Spelled(NONE),
+            Kept::Small(len, shared) => Form::Spelled(first_of(&shared[..], *len)),
+            Kept::Larger(len, shared) => Form::Spelled(first_of(&shared[..], *len)),
             Kept::Spelled(shared) => Form::Spelled(shared.as_slice()),
             Kept::Apart(shared) => Form::Apart(&**shared),
         }
@@ -221,6 +259,12 @@ impl Properties {
     {
         match &self.kept {
             Kept::Empty => Ok(Properties::none()),
+            Kept::Small(len, shared) => Ok(Properties {
+                kept: Kept::Small(*len, Arc::try_clone(shared)?),
+            }),
+            Kept::Larger(len, shared) => Ok(Properties {
+                kept: Kept::Larger(*len, Arc::try_clone(shared)?),
+            }),
             Kept::Spelled(shared) => Ok(Properties {
                 kept: Kept::Spelled(Arc::try_clone(shared)?),
             }),
@@ -234,7 +278,7 @@ impl Properties {
 /// Properties and a body.
 pub struct Content {
     pub properties: Properties,
-    pub body: Text,
+    pub body: Body,
 }
 
 /// Written out, so that a drop is one call.

@@ -4,6 +4,7 @@
 //! of the crates above is stated in their words: `docs/MODEL.md` gives them in reading order.
 #![tactic(auto)]
 
+mod bodies;
 mod contents;
 mod events;
 mod messages;
@@ -11,11 +12,13 @@ mod methods;
 mod notes;
 mod numbers;
 mod obstacles;
+mod places;
 mod sizes;
 mod tables;
 mod texts;
 mod topologies;
 
+pub use bodies::Body;
 pub use contents::{Content, Fields, Form, Properties};
 pub use events::{Arrival, Command, Event, Phase, Send};
 pub use messages::{Entry, Holder, Mark, Message, Taker, User};

@@ -1,6 +1,7 @@
 //! Messages, and how they stand in a queue.
 
 ghost use Rattle.std.specs.Prelude.{◌≡◌, IfOk};
+ghost use Rattle.model.specs.Sharing;
 
 use crate::contents::Content;
 use crate::methods::Publish;
@@ -16,13 +17,58 @@ struct Sent {
     key: Text,
 }
 
+impl Sent {
+    /// The same names, sharing their bytes.
+    fn clone(&self) -> Result<Sent, AllocError>
+        ensures { IfOk result (λ sent. sent ≡ self.now) }
+    {
+        Ok(Sent {
+            exchange: self.exchange.clone()?,
+            key: self.key.clone()?,
+        })
+    }
+}
+
+/// Where a dead letter was sent, and its publish before.
+#[derive(Drop)]
+struct Resent {
+    first: Sent,
+    last: Sent,
+}
+
+/// Where what all copies share was sent.
+#[derive(Drop)]
+enum Sending {
+    /// A publish, to its own exchange.
+    Once(Sent),
+    /// A dead letter. It has a block for its names, so that a publish takes less room.
+    Again(Arc<Resent>),
+}
+
+/// Where it was first sent: a publish or a dead letter, there where it was published.
+fn first_sent(sending: &Sending) -> &Sent
+    ensures { result.now ≡ Sharing.first_sent sending.now }
+{
+    match sending {
+        Sending::Once(sent) => sent,
+        Sending::Again(resent) => &resent.first,
+    }
+}
+
+/// Where it was sent last.
+fn last_sent(sending: &Sending) -> &Sent
+    ensures { result.now ≡ Sharing.last_sent sending.now }
+{
+    match sending {
+        Sending::Once(sent) => sent,
+        Sending::Again(resent) => &resent.last,
+    }
+}
+
 /// What all copies of a publish share, or all copies of a dead letter.
 struct Shared {
     number: u64,
-    /// Where a dead letter was published. A publish was first sent to its own exchange, under its own key.
-    first: Option<Arc<Sent>>,
-    exchange: Text,
-    key: Text,
+    sending: Sending,
     content: Content,
 }
 
@@ -31,9 +77,7 @@ impl Drop for Shared {
     fn drop(self) {
         let Shared {
             number: _,
-            first: _,
-            exchange: _,
-            key: _,
+            sending: _,
             content: _,
         } = self;
     }
@@ -83,9 +127,10 @@ impl Message {
     {
         let shared = Shared {
             number,
-            first: None,
-            exchange: publish.exchange.clone()?,
-            key: publish.routing_key.clone()?,
+            sending: Sending::Once(Sent {
+                exchange: publish.exchange.clone()?,
+                key: publish.routing_key.clone()?,
+            }),
             content: content.clone()?,
         };
         match Arc::new(alloc, shared) {
@@ -111,9 +156,7 @@ impl Message {
     {
         let shared = Shared {
             number: self.shared.number,
-            first: Some(self.first_sent(alloc)?),
-            exchange: exchange.clone()?,
-            key: key.clone()?,
+            sending: self.resent(alloc, exchange, key)?,
             content: content.clone()?,
         };
         match Arc::new(alloc, shared) {
@@ -126,20 +169,20 @@ impl Message {
         }
     }
 
-    /// Where it was first sent. All deaths of a message share this.
-    fn first_sent(&self, alloc: Global) -> Result<Arc<Sent>, AllocError>
-        ensures exchange { IfOk result (λ sent. sent.value.exchange ≡ self.now.first_exchange) }
-        ensures key { IfOk result (λ sent. sent.value.key ≡ self.now.first_key) }
+    /// Where its dead letter is sent, beside where it was first sent.
+    fn resent(&self, alloc: Global, exchange: &Text, key: &Text) -> Result<Sending, AllocError>
+        ensures first { IfOk result (λ sending. Sharing.first_sent sending ≡ record { exchange = self.now.first_exchange; key = self.now.first_key }) }
+        ensures last { IfOk result (λ sending. Sharing.last_sent sending ≡ record { exchange = exchange.now; key = key.now }) }
     {
-        if let Some(sent) = &self.shared.first {
-            return Arc::try_clone(sent);
-        }
-        let sent = Sent {
-            exchange: self.shared.exchange.clone()?,
-            key: self.shared.key.clone()?,
+        let resent = Resent {
+            first: first_sent(&self.shared.sending).clone()?,
+            last: Sent {
+                exchange: exchange.clone()?,
+                key: key.clone()?,
+            },
         };
-        match Arc::new(alloc, sent) {
-            Ok(sent) => Ok(sent),
+        match Arc::new(alloc, resent) {
+            Ok(resent) => Ok(Sending::Again(resent)),
             Err(_) => Err(AllocError),
         }
     }
@@ -166,34 +209,28 @@ impl Message {
     pub fn exchange(&self) -> &Text
         ensures { result.now ≡ self.now.exchange }
     {
-        &self.shared.exchange
+        &last_sent(&self.shared.sending).exchange
     }
 
     /// The key under which it came.
     pub fn key(&self) -> &Text
         ensures { result.now ≡ self.now.key }
     {
-        &self.shared.key
+        &last_sent(&self.shared.sending).key
     }
 
     /// The exchange to which its publish was sent.
     pub fn first_exchange(&self) -> &Text
         ensures { result.now ≡ self.now.first_exchange }
     {
-        match &self.shared.first {
-            Some(sent) => &sent.exchange,
-            None => &self.shared.exchange,
-        }
+        &first_sent(&self.shared.sending).exchange
     }
 
     /// The key under which its publish came.
     pub fn first_key(&self) -> &Text
         ensures { result.now ≡ self.now.first_key }
     {
-        match &self.shared.first {
-            Some(sent) => &sent.key,
-            None => &self.shared.key,
-        }
+        &first_sent(&self.shared.sending).key
     }
 
     /// Its properties and body.

@@ -2,6 +2,7 @@
 //!
 //! What is large stands once, behind a pointer that all share; what is passed by value is copied at each call.
 
+use crate::bodies::Body;
 use crate::contents::{Content, Properties};
 use crate::events::{Command, Event, Send};
 use crate::messages::{Entry, Message};
@@ -11,9 +12,11 @@ use crate::texts::Text;
 
 const _: () = prove!(size_of::<Text>() == 24);
 
+const _: () = prove!(size_of::<Body>() == 48);
+
 const _: () = prove!(size_of::<Properties>() == 16);
 
-const _: () = prove!(size_of::<Content>() == 40);
+const _: () = prove!(size_of::<Content>() == 64);
 
 const _: () = prove!(size_of::<Message>() == 16);
 
@@ -25,8 +28,8 @@ const _: () = prove!(size_of::<Note>() <= 96);
 
 const _: () = prove!(size_of::<Method>() <= 104);
 
-const _: () = prove!(size_of::<Command>() <= 120);
+const _: () = prove!(size_of::<Command>() <= 144);
 
-const _: () = prove!(size_of::<Event>() <= 176);
+const _: () = prove!(size_of::<Event>() <= 200);
 
-const _: () = prove!(size_of::<Send>() <= 176);
+const _: () = prove!(size_of::<Send>() <= 200);

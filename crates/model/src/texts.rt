@@ -2,6 +2,7 @@
 
 ghost use Rattle.std.specs.Prelude.{◌≡◌, ◌≤◌, [], length, take, IfOk, IfErr};
 
+use crate::places::{first_of, padded};
 use std::alloc::{AllocError, AllocFailed, Global};
 use std::marker::Model;
 use std::sync::Arc;
@@ -20,26 +21,17 @@ enum Kept {
     Short(u8, [u8; 22]),
 }
 
-/// The first `len` of these bytes, or all where there are fewer.
-fn first_of(bytes: &[u8], len: u8) -> &[u8]
-    ensures { result.now ≡ take len bytes.now }
-{
-    &bytes[..usize::from(len).min(bytes.len())]
-}
-
 /// These bytes, in place.
 fn short(bytes: &[u8]) -> Text
     requires { length bytes.now ≤ 22 }
     ensures { result ≡ bytes.now }
 {
-    let mut place = [0; MOST_SHORT];
-    place[..bytes.len()].copy_from_slice(bytes);
     Text {
-        kept: Kept::Short(bytes.len() as u8, place),
+        kept: Kept::Short(bytes.len() as u8, padded(bytes)),
     }
 }
 
-/// A name, a key, a body: any bytes, in 24 bytes of its own. Where there are more than 22, clones share them.
+/// A name or a key: any bytes, in 24 bytes of its own. Where there are more than 22, clones share them.
 pub struct Text {
     kept: Kept,
 }

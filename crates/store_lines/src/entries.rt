@@ -1,13 +1,13 @@
 //! Messages that are pushed, and what is told of those in a queue.
 
 use line_words::LineAnswer;
-use model::{Content, Entry, Holder, Mark, Message, Properties, Publish, Text};
+use model::{Body, Content, Entry, Holder, Mark, Message, Properties, Publish, Text};
 use std::alloc::{AllocError, Global};
 
 /// A body of so many bytes.
-fn body_of(alloc: Global, size: usize) -> Result<Text, AllocError> {
+fn body_of(alloc: Global, size: usize) -> Result<Body, AllocError> {
     let bytes = vec![in alloc; 0; size]?;
-    Text::from_slice(alloc, bytes.as_slice())
+    Body::from_slice(alloc, bytes.as_slice())
 }
 
 /// The message of a publish under this number, to no exchange and under no key, with a body of so many bytes.

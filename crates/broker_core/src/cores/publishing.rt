@@ -5,7 +5,7 @@ ghost use Rattle.model.specs.Step.{select_sends};
 ghost use Rattle.replies.specs.Sent.{AreAddressed};
 
 use crate::cores::Core;
-use model::{Content, Properties, Publish, Send, Text};
+use model::{Body, Content, Properties, Publish, Send};
 use replies::{Step, answer_select, return_if};
 use std::alloc::{AllocError, Global};
 
@@ -95,7 +95,7 @@ impl Core {
             None => {
                 let content = Content {
                     properties: Properties::none(),
-                    body: Text::empty(),
+                    body: Body::empty(),
                 };
                 self.publish(alloc, connection, channel, publish, &content)
             }

@@ -9,4 +9,4 @@ returns-in-Some-clause-yields c =
     rw (← c.self.view_is) (broken_stops i.fault (stream i.is_new i.max i.keeps i.contents.items i.unread.bytes) c.in-Some.code c.in-Some.is c.self.invariant.2)
 
 pub returns-clause-room : goal.returns-clause-room
-returns-clause-room c = λ sound none. c.give_back.ensures.room (sym c.give_back.ensures.bytes ∙ none)
+returns-clause-room c = λ sound none. c.give_back.ensures.freed (sym c.give_back.ensures.bytes ∙ none)

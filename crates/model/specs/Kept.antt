@@ -1,0 +1,23 @@
+-- Where properties stand (own).
+use Rattle.std.specs.Prelude.{ℕ, List, take}
+use Rattle.model.specs.Headers.{no_properties}
+use Rattle.model.specs.Properties.{spelled_by, IsSpelling}
+use Rattle.model.specs.declared.contents.Fields.{Fields}
+use Rattle.model.specs.declared.contents.Kept.{Kept}
+use Rattle.model.specs.declared.contents.Kept.TheVariants.{Empty, Small, Larger, Spelled, Apart}
+
+-- the fourteen that they are
+abbrev pub view_of : Kept → Fields
+view_of Empty = no_properties
+view_of (Small len block) = spelled_by (take len block.value)
+view_of (Larger len block) = spelled_by (take len block.value)
+view_of (Spelled block) = spelled_by block.value.items
+view_of (Apart block) = block.value
+
+-- what is kept as it was spelled is a spelling
+abbrev pub IsKept : Kept → Type 0
+IsKept Empty = Unit {0}
+IsKept (Small len block) = IsSpelling (take len block.value)
+IsKept (Larger len block) = IsSpelling (take len block.value)
+IsKept (Spelled block) = IsSpelling block.value.items
+IsKept (Apart block) = Unit {0}
