@@ -1,9 +1,10 @@
 #!/usr/bin/env python3
 """Checks the pages that users read: no sentence of more than 40 words, no link that leads nowhere, no README of more than 150 lines.
 
-And that each entry of docs/DECISIONS.md is once in its index.
+And that each entry of docs/inside/DECISIONS.md is once in its index, and that each page of docs/ that is named is there.
 """
 
+import glob
 import os
 import re
 import sys
@@ -15,6 +16,7 @@ MOST_WORDS = 40
 MOST_LINES = 150
 BEGINS = re.compile(r"^\s*([-*]|\d+\.) ")
 LINK = re.compile(r"\]\(([^)]+)\)")
+NAMED = re.compile(r"\bdocs/[A-Za-z/]+\.md\b")
 
 
 def without_code(text):
@@ -61,26 +63,34 @@ def wrong_in(root, page):
         path = os.path.join(root, os.path.dirname(page), name) if name else os.path.join(root, page)
         if "://" not in target and not (os.path.exists(path) and (not heading or heading in headings_of(path))):
             yield f"{page}: {target} leads nowhere"
+    yield from (f"{page}: there is no {it}" for it in NAMED.findall(text) if not os.path.exists(os.path.join(root, it)))
     lines = text.count("\n")
     if page == "README.md" and lines > MOST_LINES:
         yield f"{page}: {lines} lines; {MOST_LINES} are the most"
 
 
 def wrong_in_index(root):
-    with open(os.path.join(root, "docs/DECISIONS.md"), encoding="utf-8") as file:
+    with open(os.path.join(root, "docs/inside/DECISIONS.md"), encoding="utf-8") as file:
         index, _, entries = file.read().partition("\n## 20")
     listed = re.findall(r"^- (?:~~)?(.*?)(?:~~)?$", index, re.MULTILINE)
     there = [re.sub(r"\s+", " ", it).rstrip(".,") for it in re.findall(r"^(?:\*\([^)]*\)\* )?\*\*(.+?)\*\*", entries, re.MULTILINE | re.DOTALL)]
     for it in there:
         if listed.count(it) != 1:
-            yield f"docs/DECISIONS.md: {listed.count(it)} lines by subject: {it}"
+            yield f"docs/inside/DECISIONS.md: {listed.count(it)} lines by subject: {it}"
     for it in listed:
         if it not in there:
-            yield f"docs/DECISIONS.md: no entry: {it}"
+            yield f"docs/inside/DECISIONS.md: no entry: {it}"
+
+
+def wrong_names(root):
+    """Pages of docs/ that a crate's README or a case names, and that are not there."""
+    for path in sorted(glob.glob(os.path.join(root, "crates/*/README.md")) + glob.glob(os.path.join(root, "crates/cases/data/*/*.script"))):
+        with open(path, encoding="utf-8") as file:
+            yield from (f"{os.path.relpath(path, root)}: there is no {it}" for it in NAMED.findall(file.read()) if not os.path.exists(os.path.join(root, it)))
 
 
 def main(root):
-    wrong = [it for page in PAGES for it in wrong_in(root, page)] + list(wrong_in_index(root))
+    wrong = [it for page in PAGES for it in wrong_in(root, page)] + list(wrong_in_index(root)) + list(wrong_names(root))
     for it in wrong:
         print(it)
     print(f"{len(PAGES)} pages, {len(wrong)} faults")
