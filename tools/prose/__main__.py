@@ -10,7 +10,7 @@ import re
 import sys
 
 PAGES = ["README.md", "CHANGELOG.md", "tools/README.md"]
-PAGES += [f"docs/{it}.md" for it in ("GUARANTEES", "SECURITY", "LIMITS", "OPERATIONS", "CLIENTS", "FORMATS", "PROTOCOL", "PROMISE")]
+PAGES += [f"docs/{it}.md" for it in ("GUARANTEES", "SECURITY", "LIMITS", "OPERATIONS", "CLIENTS", "ERRORS", "FORMATS", "PROTOCOL", "PROMISE")]
 PAGES += [f"examples/{it}/README.md" for it in ("first_publish", "shop", "clients", "load", "deploy")]
 MOST_WORDS = 40
 MOST_LINES = 150
