@@ -16,6 +16,8 @@ MOST_WORDS = 40
 MOST_LINES = 150
 BEGINS = re.compile(r"^\s*([-*]|\d+\.) ")
 LINK = re.compile(r"\]\(([^)]+)\)")
+# a sentence ends with its stop, also where that stands in brackets or in a heading in bold
+ENDS = re.compile(r"(?:(?<=[.!?])|(?<=[.!?]\*\*)|(?<=[.!?]\))|(?<=[.!?]\)\*))\s+(?=[A-Z*\"(\[]|code\b|warren\b)")
 NAMED = re.compile(r"\bdocs/[A-Za-z/]+\.md\b")
 
 
@@ -39,7 +41,7 @@ def parts(text):
 def sentences(text):
     """The sentences of a part; what stands in backticks is one word."""
     plain = re.sub(r"`[^`]*`", "code", text)
-    return re.split(r"(?<=[.!?])\s+(?=[A-Z*\"(\[]|code\b|warren\b)", plain)
+    return ENDS.split(plain)
 
 
 def headings_of(path):
