@@ -1,7 +1,8 @@
 #!/usr/bin/env python3
-"""Checks the pages that users read: no sentence of more than 40 words, no link that leads nowhere, no README of more than 150 lines.
+"""Checks the pages: how long sentences are, links, the length of the README, names of pages, and the index of docs/inside/DECISIONS.md.
 
-And that each entry of docs/inside/DECISIONS.md is once in its index, and that each page of docs/ that is named is there.
+Of each page it tells how many words the longest of 20 sentences has: 19 of 20 are no longer (the 95th percentile). That is at most 30.
+No sentence of a page for users has more than 40.
 """
 
 import glob
@@ -9,10 +10,14 @@ import os
 import re
 import sys
 
+# for users
 PAGES = ["README.md", "CHANGELOG.md", "tools/README.md"]
 PAGES += [f"docs/{it}.md" for it in ("GUARANTEES", "SECURITY", "LIMITS", "OPERATIONS", "CLIENTS", "ERRORS", "FORMATS", "PROTOCOL", "PROMISE")]
-PAGES += [f"examples/{it}/README.md" for it in ("first_publish", "shop", "clients", "load", "deploy")]
+PAGES += [f"examples/{it}/README.md" for it in ("first_publish", "shop", "branches", "clients", "load", "deploy", "reload", "refusals")]
+# for who changes the code
+INSIDE = ["CONTRIBUTING.md"] + [f"docs/inside/{it}.md" for it in ("ARCHITECTURE", "DECISIONS", "MODEL", "PROOFS", "SHAPES", "TESTING")]
 MOST_WORDS = 40
+MOST_AT_95 = 30
 MOST_LINES = 150
 BEGINS = re.compile(r"^\s*([-*]|\d+\.) ")
 LINK = re.compile(r"\]\(([^)]+)\)")
@@ -51,15 +56,30 @@ def headings_of(path):
     return [re.sub(r"[^a-z0-9 _-]", "", it.lower()).replace(" ", "-") for it in lines]
 
 
-def wrong_in(root, page):
+def text_of(root, page):
     with open(os.path.join(root, page), encoding="utf-8") as file:
-        text = file.read()
-    counts = []
-    for at, part in parts(without_code(text)):
-        for it in sentences(part):
-            counts.append(len(it.split()))
-            if counts[-1] > MOST_WORDS:
-                yield f"{page}: {counts[-1]} words: {it[:70]} .."
+        return file.read()
+
+
+def counts_of(text):
+    """The number of words of each sentence, with the sentence."""
+    found = ((len(it.split()), it) for _, part in parts(without_code(text)) for it in sentences(part))
+    return [it for it in found if it[0]]
+
+
+def at_95(counts):
+    """The least number of words that 95 of a hundred sentences do not pass."""
+    words = sorted(it for it, _ in counts)
+    return words[-(-95 * len(words) // 100) - 1] if words else 0
+
+
+def wrong_in(root, page):
+    text = text_of(root, page)
+    counts = counts_of(text)
+    if at_95(counts) > MOST_AT_95:
+        yield f"{page}: 95 of 100 sentences have up to {at_95(counts)} words; {MOST_AT_95} are the most"
+    if page in PAGES:
+        yield from (f"{page}: {count} words: {it[:70]} .." for count, it in counts if count > MOST_WORDS)
     for target in LINK.findall(text):
         name, _, heading = target.partition("#")
         path = os.path.join(root, os.path.dirname(page), name) if name else os.path.join(root, page)
@@ -92,10 +112,13 @@ def wrong_names(root):
 
 
 def main(root):
-    wrong = [it for page in PAGES for it in wrong_in(root, page)] + list(wrong_in_index(root)) + list(wrong_names(root))
+    pages = PAGES + INSIDE
+    for page in pages:
+        print(f"{at_95(counts_of(text_of(root, page))):3} words  {page}")
+    wrong = [it for page in pages for it in wrong_in(root, page)] + list(wrong_in_index(root)) + list(wrong_names(root))
     for it in wrong:
         print(it)
-    print(f"{len(PAGES)} pages, {len(wrong)} faults")
+    print(f"{len(pages)} pages, {len(wrong)} faults")
     return 1 if wrong else 0
 
 
