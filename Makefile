@@ -28,7 +28,7 @@ help:
 	@echo "  make install   puts the proved program into $(PREFIX)/bin"
 	@echo "  make test      proves every crate, tries the must-fail edits, runs the tests and the program    about an hour"
 	@echo "without rt, with Python 3 alone:"
-	@echo "  make prose     looks for long sentences and dead links in the pages for users"
+	@echo "  make prose     tells how long sentences are, page by page, and looks for dead links"
 	@echo "  make tools     runs the tests of tools/ and checks the names in docs/PROMISE.md               a minute"
 
 SHOP_FILES = $(CURDIR)/examples/shop/definitions.json $(CURDIR)/examples/shop/guarantees.json
@@ -110,9 +110,10 @@ same:
 promise:
 	@python3 tools/promise
 
-# the pages for users: sentences, links, the README's length
+# the pages: sentences, links, the README's length
 prose:
 	@python3 tools/prose
+	@python3 tools/prose/tests/test.py
 
 tools: promise
 	@python3 tools/from_rabbitmq/tests/test.py
