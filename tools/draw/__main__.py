@@ -1,15 +1,16 @@
 #!/usr/bin/env python3
 """Draws a definitions file: exchanges, queues, bindings with their keys, alternates and dead letters, and what `warren check` said."""
 
-import argparse
 import json
 import os
 import shutil
 import subprocess
 import sys
 
-sys.path.insert(0, os.path.dirname(os.path.abspath(__file__)))
+HERE = os.path.dirname(os.path.abspath(__file__))
+sys.path[:0] = [HERE, os.path.join(HERE, "../shared")]
 from topology import BadFile, Step, Topology, read_guarantees, read_verdicts  # noqa: E402
+from words import Parser  # noqa: E402
 
 SHAPES = {"topic": "hexagon", "direct": "box", "fanout": "ellipse"}
 MOST_KEYS = 4
@@ -17,7 +18,7 @@ DONE, FAILED = 0, 3
 
 
 def words():
-    parser = argparse.ArgumentParser(prog="draw", description=__doc__, epilog="Without --svg Graphviz's text is printed. Status: 0 drawn, 3 not.")
+    parser = Parser(prog="draw", description=__doc__, epilog="Without --svg Graphviz's text is printed. Status: 0 drawn, 3 not.")
     parser.add_argument("definitions", help="a definitions file")
     parser.add_argument("--guarantees", help="the guarantees file that was checked")
     parser.add_argument("--verdicts", help="what `warren check` printed of them; what breaks a guarantee is red")

@@ -14,7 +14,7 @@ import unittest
 HERE = os.path.dirname(os.path.abspath(__file__))
 TOOL = os.path.dirname(HERE)
 SHOP = os.path.join(TOOL, "../../examples/shop")
-sys.path.insert(0, TOOL)
+sys.path[:0] = [TOOL, os.path.join(TOOL, "../shared")]
 from topology import Topology, matches, read_guarantees, read_verdicts, words_of  # noqa: E402
 
 

@@ -15,7 +15,7 @@ import unittest
 HERE = os.path.dirname(os.path.abspath(__file__))
 TOOL = os.path.dirname(HERE)
 ROWS = os.path.join(TOOL, "../../crates/line_cases/data")
-sys.path.insert(0, TOOL)
+sys.path[:0] = [TOOL, os.path.join(TOOL, "../shared")]
 from causes import NotJson, causes_in, causes_of, read_json  # noqa: E402
 from convert import NoFile, convert  # noqa: E402
 
