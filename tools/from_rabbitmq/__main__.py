@@ -7,7 +7,7 @@ import sys
 
 HERE = os.path.dirname(os.path.abspath(__file__))
 sys.path[:0] = [HERE, os.path.join(HERE, "../shared")]
-from causes import MOST_BYTES, NotJson, causes_in, causes_of, read_json  # noqa: E402
+from causes import MOST_BYTES, NotJson, causes_in, causes_of, quoted, read_json  # noqa: E402
 from convert import NoFile, convert  # noqa: E402
 from words import Parser  # noqa: E402
 
@@ -89,6 +89,9 @@ def make(data, file, vhost):
     counts = ", ".join(f"{name} {len(made[name])}" for name in ("exchanges", "queues", "bindings", "users"))
     graver = sum(1 for it in changes if it.meaning)
     tell(f"written: {counts}; changes {len(changes)}, of these {graver} change the meaning. Messages are in memory alone, durable or not.")
+    grew = list(dict.fromkeys(it.grew for it in changes if it.grew is not None))
+    if grew:
+        tell(f"RIGHTS GREW of user{'s' * (len(grew) > 1)} {', '.join(map(quoted, grew))}")
     return TAKEN
 
 
