@@ -77,6 +77,8 @@ def suggest(given):
             answers[UNASKED] = len(found) - first
             break
         some = found[first : first + MOST_GUARANTEES]
+        if sys.stderr.isatty():
+            tell(f"checking {first + 1} to {first + len(some)} of {len(found)} guarantees")
         said = by_warren(program, given.definitions, some) if program else [by_matching(topology, it) for it in some]
         answers.update(said)
         holding += [it for it, answer in zip(some, said) if answer == HOLDS]
