@@ -120,9 +120,11 @@ promise:
 prose:
 	@python3 tools/prose
 
-# each script's own tests, in the order of their names
+# each script's own tests, four at a time: a line for each, and all that one says that fails
+ONE_TEST = said=$$(python3 {} 2>&1) && echo "{}: $$(echo "$$said" | grep ^Ran)" || { echo "$$said"; exit 1; }
+
 tools: promise
-	@for it in tools/*/tests/test.py; do python3 $$it || exit 1; done
+	@ls tools/*/tests/test.py | xargs -P 4 -I {} sh -c '$(ONE_TEST)'
 
 # makes the shop's pictures anew; this wants Graphviz
 pictures: warren
