@@ -89,7 +89,8 @@ def suggest(given):
         with open(given.file, "w", encoding="utf-8") as file:
             file.write(text)
     by = "`warren check`" if program else "matching alone; `warren check` decides (make try)"
-    tell(f"{min(len(holding), MOST_GUARANTEES)} guarantees hold, by {by}. Strike out what you do not want to promise.")
+    count = min(len(holding), MOST_GUARANTEES)
+    tell(f"{count} guarantee{' holds' if count == 1 else 's hold'}, by {by}. Strike out what you do not want to promise.")
     for count, why in (
         (answers[BROKEN], "do not hold"),
         (answers[UNDECIDED], "are undecided"),

@@ -91,7 +91,7 @@ class Asks(unittest.TestCase):
         program = self.program('echo "1 yes states 3"; echo \'2 no key "a"\'; echo "3 undecided states"; exit 1')
         status, found, said = suggested(topology({"X": "topic"}, {"q": None}, [("X", "a", "q"), ("X", "b", "q"), ("X", "c", "q")]), "--warren", program)
         self.assertEqual((status, found), (0, [("reaches", "X", "a", "q")]))
-        self.assertEqual(said.splitlines()[0], "1 guarantees hold, by `warren check`. Strike out what you do not want to promise.")
+        self.assertEqual(said.splitlines()[0], "1 guarantee holds, by `warren check`. Strike out what you do not want to promise.")
         self.assertEqual(said.splitlines()[1:], ["1 more are left out: they do not hold", "1 more are left out: they are undecided"])
 
     def test_a_program_that_fails(self):
