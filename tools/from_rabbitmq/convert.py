@@ -32,6 +32,9 @@ RIGHTS, LOST, REST = range(3)
 # number: the cause for which warren would have refused it; meaning: what is no longer as it was, or nothing; grew: the user who may do more
 Change = namedtuple("Change", "number entry what meaning weight grew", defaults=(None, REST, None))
 
+# the user whom RabbitMQ lets in from its own machine alone (loopback_users)
+FROM_ITS_OWN_MACHINE = "guest"
+
 # exchanges that every virtual host of RabbitMQ has and no export lists
 PREDECLARED = {"amq.direct": "direct", "amq.fanout": "fanout", "amq.topic": "topic"}
 
@@ -282,6 +285,8 @@ class Conversion:
     def _tell_rights(self, called, user, rights):
         if len(rights) > 1:
             self.tell(12, called, "its further permissions are left out")
+        if user == FROM_ITS_OWN_MACHINE:
+            self.tell(0, called, "stays", "it may log in from everywhere; RabbitMQ lets it in from its own machine alone, if nothing else is set", RIGHTS, user)
         before = rights[0]
         if before["configure"] != PERMISSION["configure"]:
             meaning = None if before["configure"] in NOTHING else "it may declare, bind and delete nothing"

@@ -13,7 +13,7 @@ from files import Refused, read_certificates, read_definitions, read_guarantees 
 from places import lines_of  # noqa: E402
 from program import program_here  # noqa: E402
 from search import MOST_STATES, search  # noqa: E402
-from sentences import broken, promise, told, way  # noqa: E402
+from sentences import broken, fault, promise, told, way  # noqa: E402
 from topology import BadFile, read_verdicts  # noqa: E402
 from words import Parser  # noqa: E402
 
@@ -116,6 +116,11 @@ class Answers:
         if said == "undecided key":
             self.worse(UNDECIDED)
             return "UNDECIDED: only keys of more than 255 bytes, which no client can send, were found to break it; take a shorter pattern"
+        if said.startswith("fault "):
+            self.worse(BROKEN)
+            return f"its certificate does not show it: {fault(said)}"
+        if said != "ok" and not said.startswith("yes states "):
+            raise BadFile(f"this is no line of warren check: {said[:80]}")
         return "yes"
 
     def of_key(self, guarantee, key, path):

@@ -70,6 +70,19 @@ def broken_reaches(topology, guarantee, key):
     return f"{key_told(key)} goes " + (f"to {listed(map(told, queues))} alone" if queues else "nowhere")
 
 
+def fault(said):
+    """A fault of `warren verify`, as `fault 2 state 3 letter "a"`."""
+    words = said.split(" ", 5)
+    state, letter = (words + [""] * 6)[3], (words + [""] * 6)[5]
+    return {
+        "1": "the state of no words is not listed",
+        "2": f"from state {state} the word {letter} leads to a state that is not listed",
+        "3": f"at state {state} the guarantee covers the key, and the queue is not sure to be reached",
+        "4": f"at state {state} the guarantee covers the key, and a message may come to the queue",
+        "5": "it has not the form that the guarantee needs, or there is none",
+    }.get(words[1], said)
+
+
 def broken(topology, guarantee, key, path):
     if guarantee["mode"] == "reaches":
         return broken_reaches(topology, guarantee, key)

@@ -89,6 +89,7 @@ OF_BOTH = {
     ('user "robot"', 13, True),
     ('user "till"', 12, True),
     ('user "guest"', 12, True),
+    ('user "guest"', 0, True),
     ('user "clerk"', 12, False),
     ('permission "robot"', 12, False),
     ('permission "guest"', 3, False),
@@ -256,6 +257,9 @@ class Meaning(unittest.TestCase):
         self.assertEqual([it["name"] for it in json.loads(out)["users"]], ["same", "reader", "admin", "keys"])
         self.assertEqual([it["user"] for it in json.loads(out)["permissions"]], ["same", "reader", "admin", "keys"])
         self.assertEqual(said.splitlines()[-1], 'RIGHTS GREW of users "reader", "keys"')
+        guest = run("-", given=json.dumps(small(rights={"guest": ("^$", ".*", ".*")})).encode())[2].splitlines()
+        self.assertIn("it may log in from everywhere", guest[0])
+        self.assertEqual(guest[-1], 'RIGHTS GREW of user "guest"')
         told = {it for it in said.splitlines() if "CHANGES MEANING" in it}
         for name in ("none", "shut"):
             self.assertIn(f'user "{name}": left out: it may neither publish nor consume, and each user of warren may do both (refused 12). CHANGES MEANING: this user can no longer log in', told)

@@ -117,6 +117,19 @@ class Sentences(unittest.TestCase):
             status, out, _ = run(os.path.join(SHOP, "definitions.json"), guarantees, names[1], "--only", "1")
             self.assertEqual((status, out), (2, "1: every `orders.#` of `shop` reaches `audit`: the verdict is of other files: `orders` does not break it here\n"))
 
+    def test_lines_of_verify(self):
+        good = [os.path.join(SHOP, f"{it}.json") for it in ("definitions", "guarantees")]
+        status, out, _ = run(*good, "-", given='1 ok\n2 fault 1\n3 fault 2 state 4 letter "a b"\n4 fault 2 state 0 letter other\n5 fault 3 state 1\n6 fault 5\n')
+        self.assertEqual(status, 1)
+        said = [it.split(": ", 2)[2] for it in out.splitlines()]
+        before = "its certificate does not show it: "
+        self.assertEqual(said[0], "yes")
+        self.assertEqual(said[1], before + "the state of no words is not listed")
+        self.assertEqual(said[2], before + 'from state 4 the word "a b" leads to a state that is not listed')
+        self.assertEqual(said[3], before + "from state 0 the word other leads to a state that is not listed")
+        self.assertEqual(said[4], before + "at state 1 the guarantee covers the key, and the queue is not sure to be reached")
+        self.assertEqual(said[5], before + "it has not the form that the guarantee needs, or there is none")
+
     def test_a_path_of_warren(self):
         definitions = topology({"payments": "direct", "news": "fanout"}, {"billing": ("news",), "mail": None}, [("payments", "paid", "billing"), ("news", "", "mail")])
         with written(definitions, {"guarantees": [never("payments", "#", "mail")]}, '1 no key "paid" path "payments" "billing" "news" "mail"\n') as names:
@@ -196,6 +209,7 @@ class Bad(unittest.TestCase):
                 ["/"],
                 [good[0], "/nowhere"],
                 [*good, "/nowhere"],
+                [*good, names[0]],
                 [*good, names[1]],
                 [*good, names[3]],
                 [*good, "--only", "9"],
