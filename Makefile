@@ -1,15 +1,15 @@
 # `make` alone lists the targets.
 SHELL := bash
 .SHELLFLAGS := -o pipefail -c
-.PHONY: help try look run shop verdicts serve clients libraries deploy reload load refusals cases same promise prose tools pictures examples bench install test
+.PHONY: help try look warren run shop verdicts serve clients libraries deploy reload load refusals cases same promise prose tools pictures examples bench install test
 
 # where `make install` puts the program
 PREFIX ?= /usr/local
 
 help:
 	@echo "without a proof, for a look:"
-	@echo "  make try       checks the guarantees of examples/shop by a build that proves nothing       2 minutes"
-	@echo "  make look      serves the shop at 127.0.0.1:5672 for ten minutes, by such a build                  2 minutes"
+	@echo "  make try       checks the guarantees of examples/shop, or of your files: DEFS=.. GUARANTEES=..     2 to 4 minutes, then a second"
+	@echo "  make look      serves the shop, or your files, at 127.0.0.1:5672 for ten minutes                   the same build"
 	@echo "with all proofs, which the first of these makes:                                           up to an hour, then seconds"
 	@echo "  make run       replays examples/first_publish: a publish and its ack"
 	@echo "  make verdicts  checks the guarantees of examples/shop; then one binding is changed, and a key breaks one"
@@ -31,69 +31,75 @@ help:
 	@echo "  make prose     tells how long sentences are, page by page, and looks for dead links"
 	@echo "  make tools     runs the tests of tools/ and checks the names in docs/PROMISE.md               a minute"
 
-SHOP_FILES = $(CURDIR)/examples/shop/definitions.json $(CURDIR)/examples/shop/guarantees.json
-
+# one's own files: make try DEFS=definitions.json GUARANTEES=guarantees.json. A guarantee that does not hold fails nothing here.
 try:
-	@echo "warren check definitions.json guarantees.json"
-	@cd crates/warren && rt try -- check $(SHOP_FILES) 2> >(grep -v -E '^(checked|races|run)[:=]' >&2)
-	@echo "Nothing was proved. \`make run\` proves all of it first."
+	@python3 tools/try $(DEFS) $(GUARANTEES) || [ $$? -le 2 ]
 
 look:
-	@tools/look
+	@python3 tools/look $(DEFS) $(GUARANTEES)
 
-# which crate is being proved, and what is not; the lines that say so of each function are left out
-SAID = { grep --line-buffered -a -E '^rt: chose|not proved|no proof|error' || true; }
+# the proved program of a crate, made by `rt ci` if its sources are newer: what one target proved, the others and `make test` take
+PROVED = python3 tools/program proved
+WARREN = crates/warren/out/warren
 
-run:
-	@cd crates/warren && { rt run -- replay /dev/stdin < ../../examples/first_publish/script 2>&1 >&3 | $(SAID); } 3>&1
+warren:
+	@$(PROVED) > /dev/null
 
-shop:
-	@cd crates/warren && rt run -- replay ../../examples/shop/script --definitions ../../examples/shop/definitions.json
+run: warren
+	@$(WARREN) replay /dev/stdin < examples/first_publish/script
 
-SHOP = ../../examples/shop
-CHANGED = out/changed.json
-BROKEN = --guarantees examples/shop/guarantees.json --verdicts crates/warren/out/verdicts
-BRANCHES = ../../examples/branches
+shop: warren
+	@$(WARREN) replay $(SHOP)/script --definitions $(SHOP)/definitions.json
+
+SHOP = examples/shop
+SHOP_FILES = $(SHOP)/definitions.json $(SHOP)/guarantees.json
+BRANCHES = examples/branches
+BRANCHES_FILES = $(BRANCHES)/definitions.json $(BRANCHES)/guarantees.json
+OUT = crates/warren/out
+CHANGED = $(OUT)/changed.json
+BROKEN = --guarantees $(SHOP)/guarantees.json --verdicts $(OUT)/verdicts
+UNDER = --definitions $(SHOP)/definitions.json --guarantees $(SHOP)/guarantees.json --certificates $(OUT)/certificates.json
 
 # checks, writes the certificates, verifies them and replays under them; then one binding leads elsewhere, and a key breaks
-verdicts:
-	@cd crates/warren && rt run -- check $(SHOP)/definitions.json $(SHOP)/guarantees.json --out out/certificates.json
-	@cd crates/warren && rt run -- verify $(SHOP)/definitions.json $(SHOP)/guarantees.json out/certificates.json
-	@cd crates/warren && rt run -- replay $(SHOP)/script --definitions $(SHOP)/definitions.json --guarantees $(SHOP)/guarantees.json --certificates out/certificates.json
+verdicts: warren
+	@$(WARREN) check $(SHOP_FILES) --out $(OUT)/certificates.json
+	@$(WARREN) verify $(SHOP_FILES) $(OUT)/certificates.json
+	@$(WARREN) replay $(SHOP)/script $(UNDER)
 	@echo "a topology with 71 binding keys:"
-	@cd crates/warren && rt run -- check $(BRANCHES)/definitions.json $(BRANCHES)/guarantees.json --out out/branches.json
-	@cd crates/warren && rt run -- verify $(BRANCHES)/definitions.json $(BRANCHES)/guarantees.json out/branches.json
+	@$(WARREN) check $(BRANCHES_FILES) --out $(OUT)/branches.json
+	@$(WARREN) verify $(BRANCHES_FILES) $(OUT)/branches.json
 	@echo "the shop with one binding key changed, from orders.# to orders.*.#:"
-	@cd crates/warren && sed 's/"orders\.#"/"orders.*.#"/' $(SHOP)/definitions.json > $(CHANGED)
-	@cd crates/warren && { rt run -- check $(CHANGED) $(SHOP)/guarantees.json || [ $$? -eq 1 ]; }
+	@sed 's/"orders\.#"/"orders.*.#"/' $(SHOP)/definitions.json > $(CHANGED)
+	@$(WARREN) check $(CHANGED) $(SHOP)/guarantees.json || [ $$? -eq 1 ]
 
-serve:
-	@cd crates/warren && rt run -- serve $(SHOP)/definitions.json $(SHOP)/guarantees.json $(SHOP)/certificates.json --listen 127.0.0.1:5672
+serve: warren
+	@$(WARREN) serve $(SHOP_FILES) $(SHOP)/certificates.json --listen 127.0.0.1:5672
 
-clients: run
-	@examples/clients/run crates/warren/out/warren
+clients: warren
+	@examples/clients/run $(WARREN)
 
-libraries: run
-	@examples/clients/libraries/run crates/warren/out/warren
+libraries: warren
+	@examples/clients/libraries/run $(WARREN)
 
-deploy: run
-	@examples/deploy/run crates/warren/out/warren
+deploy: warren
+	@examples/deploy/run $(WARREN)
 
-reload: run
-	@examples/reload/run crates/warren/out/warren
+reload: warren
+	@examples/reload/run $(WARREN)
 
-load: run
-	@examples/load/run crates/warren/out/warren
+load: warren
+	@examples/load/run $(WARREN)
 
-refusals: run
-	@cd crates/refusals && rt run < stdin | diff stdout -
-	@examples/refusals/run crates/warren/out/warren crates/refusals/out/refusals
+refusals: warren
+	@$(PROVED) refusals > /dev/null
+	@cd crates/refusals && out/refusals < stdin | diff stdout -
+	@examples/refusals/run $(WARREN) crates/refusals/out/refusals
 
 cases:
-	@cd crates/cases && rt run -- data < stdin | diff stdout -
+	@$(PROVED) cases > /dev/null
+	@cd crates/cases && out/cases data < stdin | diff stdout -
 	@cd crates/cases/data && find . -name '*.words' | sed 's|^\./||; s|\.words$$||' | LC_ALL=C sort | diff ../stdin -
 
-EXAMPLES = ../../examples
 CASES = crates/cases/data/examples
 
 # the examples' texts are cases, which the gate runs; so are the calls of a queue that a script makes
@@ -115,40 +121,41 @@ prose:
 	@python3 tools/prose
 	@python3 tools/prose/tests/test.py
 
+# each script's own tests, four at a time: a line for each, and all that one says that fails
+ONE_TEST = said=$$(python3 {} 2>&1) && echo "{}: $$(echo "$$said" | grep ^Ran)" || { echo "$$said"; exit 1; }
+
 tools: promise
-	@python3 tools/from_rabbitmq/tests/test.py
-	@python3 tools/draw/tests/test.py
-	@python3 tools/promise/tests/test.py
+	@ls tools/*/tests/test.py | xargs -P 4 -I {} sh -c '$(ONE_TEST)'
 
 # makes the shop's pictures anew; this wants Graphviz
-pictures:
-	@cd crates/warren && sed 's/"orders\.#"/"orders.*.#"/' $(SHOP)/definitions.json > $(CHANGED)
-	@python3 tools/draw examples/shop/definitions.json > examples/shop/topology.dot
-	@python3 tools/draw examples/shop/definitions.json --svg examples/shop/topology.svg
-	@cd crates/warren && { rt run -- check $(CHANGED) $(EXAMPLES)/shop/guarantees.json > out/verdicts || [ $$? -eq 1 ]; }
-	@python3 tools/draw crates/warren/$(CHANGED) $(BROKEN) > examples/shop/broken.dot
-	@python3 tools/draw crates/warren/$(CHANGED) $(BROKEN) --svg examples/shop/broken.svg
+pictures: warren
+	@sed 's/"orders\.#"/"orders.*.#"/' $(SHOP)/definitions.json > $(CHANGED)
+	@python3 tools/draw $(SHOP)/definitions.json > $(SHOP)/topology.dot
+	@python3 tools/draw $(SHOP)/definitions.json --svg $(SHOP)/topology.svg
+	@$(WARREN) check $(CHANGED) $(SHOP)/guarantees.json > $(OUT)/verdicts || [ $$? -eq 1 ]
+	@python3 tools/draw $(CHANGED) $(BROKEN) > $(SHOP)/broken.dot
+	@python3 tools/draw $(CHANGED) $(BROKEN) --svg $(SHOP)/broken.svg
 
-examples: same
-	@cd crates/warren && rt run -- replay $(EXAMPLES)/first_publish/script | diff $(EXAMPLES)/first_publish/output -
-	@cd crates/warren && rt run -- replay $(EXAMPLES)/shop/script --definitions $(EXAMPLES)/shop/definitions.json | diff $(EXAMPLES)/shop/output -
-	@cd crates/warren && rt run -- check $(EXAMPLES)/shop/definitions.json $(EXAMPLES)/shop/guarantees.json --out out/certificates.json | diff $(EXAMPLES)/shop/verdicts -
-	@cmp crates/warren/out/certificates.json examples/shop/certificates.json
-	@cd crates/warren && rt run -- verify $(EXAMPLES)/shop/definitions.json $(EXAMPLES)/shop/guarantees.json out/certificates.json | diff $(EXAMPLES)/shop/verified -
-	@cd crates/warren && rt run -- replay $(EXAMPLES)/shop/script --definitions $(EXAMPLES)/shop/definitions.json --guarantees $(EXAMPLES)/shop/guarantees.json --certificates out/certificates.json | diff $(EXAMPLES)/shop/output -
-	@cd crates/warren && rt run -- check $(EXAMPLES)/branches/definitions.json $(EXAMPLES)/branches/guarantees.json --out out/branches.json | diff $(EXAMPLES)/branches/verdicts -
-	@cmp crates/warren/out/branches.json examples/branches/certificates.json
-	@cd crates/warren && rt run -- verify $(EXAMPLES)/branches/definitions.json $(EXAMPLES)/branches/guarantees.json out/branches.json | diff $(EXAMPLES)/branches/verified -
-
-	@cd crates/warren && sed 's/"orders\.#"/"orders.*.#"/' $(SHOP)/definitions.json > $(CHANGED)
-	@cd crates/warren && { rt run -- check $(CHANGED) $(EXAMPLES)/shop/guarantees.json > out/verdicts || [ $$? -eq 1 ]; }
-	@python3 tools/draw crates/warren/$(CHANGED) $(BROKEN) | cmp - examples/shop/broken.dot
+examples: same warren
+	@$(WARREN) replay examples/first_publish/script | diff examples/first_publish/output -
+	@$(WARREN) replay $(SHOP)/script --definitions $(SHOP)/definitions.json | diff $(SHOP)/output -
+	@$(WARREN) check $(SHOP_FILES) --out $(OUT)/certificates.json | diff $(SHOP)/verdicts -
+	@cmp $(OUT)/certificates.json $(SHOP)/certificates.json
+	@$(WARREN) verify $(SHOP_FILES) $(OUT)/certificates.json | diff $(SHOP)/verified -
+	@$(WARREN) replay $(SHOP)/script $(UNDER) | diff $(SHOP)/output -
+	@$(WARREN) check $(BRANCHES_FILES) --out $(OUT)/branches.json | diff $(BRANCHES)/verdicts -
+	@cmp $(OUT)/branches.json $(BRANCHES)/certificates.json
+	@$(WARREN) verify $(BRANCHES_FILES) $(OUT)/branches.json | diff $(BRANCHES)/verified -
+	@sed 's/"orders\.#"/"orders.*.#"/' $(SHOP)/definitions.json > $(CHANGED)
+	@$(WARREN) check $(CHANGED) $(SHOP)/guarantees.json > $(OUT)/verdicts || [ $$? -eq 1 ]
+	@python3 tools/draw $(CHANGED) $(BROKEN) | cmp - $(SHOP)/broken.dot
 
 bench:
-	@cd crates/benchmarks && rt run -- all
+	@$(PROVED) benchmarks > /dev/null
+	@crates/benchmarks/out/benchmarks all
 
-install: run
-	@install -D crates/warren/out/warren $(PREFIX)/bin/warren
+install: warren
+	@install -D $(WARREN) $(PREFIX)/bin/warren
 
 test: same tools
 	@rt ci

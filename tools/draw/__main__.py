@@ -1,30 +1,36 @@
 #!/usr/bin/env python3
 """Draws a definitions file: exchanges, queues, bindings with their keys, alternates and dead letters, and what `warren check` said."""
 
-import argparse
+import html
 import json
 import os
 import shutil
 import subprocess
 import sys
 
-sys.path.insert(0, os.path.dirname(os.path.abspath(__file__)))
+HERE = os.path.dirname(os.path.abspath(__file__))
+sys.path[:0] = [HERE, os.path.join(HERE, "../shared")]
 from topology import BadFile, Step, Topology, read_guarantees, read_verdicts  # noqa: E402
+from words import Parser  # noqa: E402
 
 SHAPES = {"topic": "hexagon", "direct": "box", "fanout": "ellipse"}
 MOST_KEYS = 4
+HOLDS, BROKEN, UNKNOWN = "black", "red", "#777777"
 DONE, FAILED = 0, 3
 
 
 def words():
-    parser = argparse.ArgumentParser(prog="draw", description=__doc__, epilog="Without --svg Graphviz's text is printed. Status: 0 drawn, 3 not.")
+    parser = Parser(prog="draw", description=__doc__, epilog="Without --svg Graphviz's text is printed. Status: 0 drawn, 3 not.")
     parser.add_argument("definitions", help="a definitions file")
     parser.add_argument("--guarantees", help="the guarantees file that was checked")
     parser.add_argument("--verdicts", help="what `warren check` printed of them; what breaks a guarantee is red")
+    parser.add_argument("--only", type=int, metavar="I", help="guarantee I alone, counted from 1")
     parser.add_argument("--svg", help="the file for the picture; this wants Graphviz's program dot")
     given = parser.parse_args()
     if given.verdicts and not given.guarantees:
         parser.error("--verdicts wants --guarantees")
+    if given.only is not None and not given.guarantees:
+        parser.error("--only wants --guarantees")
     return given
 
 
@@ -53,9 +59,11 @@ def place(exchange):
     return f"  {node('exchange', exchange.name)}" + settings(label=label, shape=SHAPES.get(exchange.kind, "box"), style="filled", fillcolor='"#e8f0fe"')
 
 
-def store(queue, missed):
-    label = quoted(queue.name, *queue.limits)
-    return f"  {node('queue', queue.name)}" + settings(label=label, shape="cylinder", style="filled", fillcolor='"#fff4d6"', color='"red"' if missed else "")
+def store(queue, broken):
+    """A queue; red if it is come to and may not be, with a dashed rim if it is missed."""
+    missed, red = queue.name in broken.missed, queue.name in broken.missed | broken.entered
+    label, style = quoted(queue.name, *queue.limits), '"filled,dashed"' if missed else "filled"
+    return f"  {node('queue', queue.name)}" + settings(label=label, shape="cylinder", style=style, fillcolor='"#fff4d6"', color='"red"' if red else "")
 
 
 def edge(step, keys, red):
@@ -66,10 +74,23 @@ def edge(step, keys, red):
     return f"  {node(*step.source)} -> {node(*step.target)}" + settings(label=label, style=style, color=colour, fontcolor=colour)
 
 
+def colour_of(verdict):
+    """Red if a key breaks it, grey if nothing is known."""
+    if verdict is None or verdict.told.startswith("undecided"):
+        return UNKNOWN
+    return BROKEN if verdict.key is not None else HOLDS
+
+
+def plain(text):
+    """A text of Graphviz's HTML, in which nothing is a mark."""
+    return html.escape("".join(it if it.isprintable() else "?" for it in text))
+
+
 def legend(lines):
-    """What was said of each guarantee, below the picture, each line at its left."""
-    told = "".join(it.replace("\\", "\\\\").replace('"', '\\"') + "\\l" for it in lines)
-    return [f'  label="{told}"', '  labeljust=l', '  fontname="Helvetica"', "  fontsize=11"] if lines else []
+    """What was said of each guarantee, below the picture, each line at its left and in its colour."""
+    rows = "".join(f'<tr><td align="left"><font color="{colour}">{plain(it)}</font></td></tr>' for it, colour in lines)
+    table = f'<table border="0" cellspacing="0" cellpadding="1">{rows}</table>'
+    return [f"  label=<{table}>", "  labeljust=l", '  fontname="Helvetica"', "  fontsize=11"] if lines else []
 
 
 def text_of(topology, broken, lines):
@@ -84,7 +105,7 @@ def text_of(topology, broken, lines):
     out = ["digraph topology {", "  rankdir=LR", '  node [fontname="Helvetica", fontsize=11]', '  edge [fontname="Helvetica", fontsize=10]']
     out += legend(lines)
     out += [place(it) for it in topology.exchanges if it.name or default]
-    out += [store(it, it.name in broken.missed) for it in topology.queues]
+    out += [store(it, broken) for it in topology.queues]
     for it, keys in steps.values():
         if it.source[0] == "exchange" and it.source[1] not in names:
             continue
@@ -112,10 +133,13 @@ def draw(given):
     topology = Topology(read_json(given.definitions))
     guarantees = read_guarantees(read_json(given.guarantees)) if given.guarantees else []
     verdicts = read_verdicts(read_lines(given.verdicts), len(guarantees)) if given.verdicts else {}
-    for it in guarantees:
+    if given.only is not None and not 1 <= given.only <= len(guarantees):
+        raise BadFile(f"{given.guarantees}: there is no guarantee {given.only}")
+    guarantees = {number: it for number, it in enumerate(guarantees, 1) if given.only in (None, number)}
+    for it in guarantees.values():
         topology.with_default(it.exchange)
     broken = topology.broken(guarantees, verdicts)
-    lines = [f"{number} {it}" + (f": {verdicts[number].told}" if number in verdicts else "") for number, it in enumerate(guarantees, 1)]
+    lines = [(f"{number} {it}" + (f": {verdicts[number].told}" if number in verdicts else ""), colour_of(verdicts.get(number))) for number, it in guarantees.items()]
     text = text_of(topology, broken, lines)
     if not given.svg:
         sys.stdout.write(text)

@@ -1,20 +1,21 @@
 #!/usr/bin/env python3
 """Makes a definitions file that warren takes out of an export of RabbitMQ, and tells what it changed or left out."""
 
-import argparse
 import json
 import os
 import sys
 
-sys.path.insert(0, os.path.dirname(os.path.abspath(__file__)))
-from causes import MOST_BYTES, NotJson, causes_in, causes_of, read_json  # noqa: E402
+HERE = os.path.dirname(os.path.abspath(__file__))
+sys.path[:0] = [HERE, os.path.join(HERE, "../shared")]
+from causes import MOST_BYTES, NotJson, causes_in, causes_of, quoted, read_json  # noqa: E402
 from convert import NoFile, convert  # noqa: E402
+from words import Parser  # noqa: E402
 
 TAKEN, REFUSED, FAILED = 0, 1, 3
 
 
 def words():
-    parser = argparse.ArgumentParser(prog="from_rabbitmq", description=__doc__, epilog="Status: 0 written, or taken as it is; 1 with --check: it is refused; 3 no file was made.")
+    parser = Parser(prog="from_rabbitmq", description=__doc__, epilog="Status: 0 written, or taken as it is; 1 with --check: it is refused; 3 no file was made.")
     parser.add_argument("export", help="the export of RabbitMQ (GET /api/definitions); - is standard input")
     parser.add_argument("file", nargs="?", help="the file to be written; without it, standard output")
     parser.add_argument("--check", action="store_true", help="write nothing, and tell all causes for which warren refuses the export as it is")
@@ -88,6 +89,9 @@ def make(data, file, vhost):
     counts = ", ".join(f"{name} {len(made[name])}" for name in ("exchanges", "queues", "bindings", "users"))
     graver = sum(1 for it in changes if it.meaning)
     tell(f"written: {counts}; changes {len(changes)}, of these {graver} change the meaning. Messages are in memory alone, durable or not.")
+    grew = list(dict.fromkeys(it.grew for it in changes if it.grew is not None))
+    if grew:
+        tell(f"RIGHTS GREW of user{'s' * (len(grew) > 1)} {', '.join(map(quoted, grew))}")
     return TAKEN
 
 

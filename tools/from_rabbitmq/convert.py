@@ -26,8 +26,14 @@ from causes import (
     wrong_pattern,
 )
 
-# number: the cause for which warren would have refused it; meaning: what is no longer as it was, or nothing
-Change = namedtuple("Change", "number entry what meaning")
+# how much a change of meaning weighs: who may do what, messages that no longer come to where they came, all else
+RIGHTS, LOST, REST = range(3)
+
+# number: the cause for which warren would have refused it; meaning: what is no longer as it was, or nothing; grew: the user who may do more
+Change = namedtuple("Change", "number entry what meaning weight grew", defaults=(None, REST, None))
+
+# the user whom RabbitMQ lets in from its own machine alone (loopback_users)
+FROM_ITS_OWN_MACHINE = "guest"
 
 # exchanges that every virtual host of RabbitMQ has and no export lists
 PREDECLARED = {"amq.direct": "direct", "amq.fanout": "fanout", "amq.topic": "topic"}
@@ -49,6 +55,8 @@ LEFT_OUT = {
     "x-max-age": "messages no longer go with age",
     "x-stream-max-segment-size-bytes": None,
 }
+# those of them after which messages no longer come to where they came
+LOSES = ("x-dead-letter-strategy", "x-queue-mode", "x-queue-type")
 TYPE_LEFT_OUT = {
     "classic": None,
     "quorum": "there is one copy of each message, in memory alone",
@@ -58,8 +66,14 @@ TYPE_LEFT_OUT = {
 # settings of policies that are arguments of queues, and of exchanges
 OF_QUEUES = ("message-ttl", "expires", "max-length", "max-length-bytes", "overflow", "dead-letter-exchange", "dead-letter-routing-key")
 OF_QUEUES += ("delivery-limit", "queue-mode", "queue-version", "dead-letter-strategy", "max-age")
-APPLIES_TO_QUEUES = ("all", "queues", "classic_queues", "quorum_queues", "streams")
+# to what a policy applies, by the type of a queue; of a queue without a type, classic
+APPLIES_TO_QUEUES = {"classic": "classic_queues", "quorum": "quorum_queues", "stream": "streams"}
 APPLIES_TO_EXCHANGES = ("all", "exchanges")
+MOST_NAMED = 8
+
+# patterns of permissions that let nothing pass, and all
+NOTHING = ("", "^$")
+EVERYTHING = (".*", "^.*", ".*$", "^.*$")
 
 
 class NoFile(Exception):
@@ -74,12 +88,18 @@ class Conversion:
             raise NoFile("the export is no JSON object")
         self.export = export
         self.changes = []
+        self.of_policies = {}  # by policy and setting that is left out: the queues that it matched, each with its dead-letter exchange
         self.lists = {name: self._entries(name) for name in ENTRIES}
         self.vhost = self._choose_vhost(vhost)
         self.policies = self._policies()
+        self.says_internal = self._says_internal()
 
-    def tell(self, number, entry, what, meaning=None):
-        self.changes.append(Change(number, entry, what, meaning))
+    def tell(self, number, entry, what, meaning=None, weight=REST, grew=None):
+        self.changes.append(Change(number, entry, what, meaning, weight, grew))
+
+    def told(self):
+        """The changes in the order in which they are told: those of meaning last, the gravest of them first."""
+        return sorted(self.changes, key=lambda it: (it.meaning is not None, it.weight if it.meaning else 0))
 
     # ---- what stands in the export
 
@@ -87,11 +107,11 @@ class Conversion:
         entries = self.export.get(name)
         if not isinstance(entries, list):
             meaning = "nobody may log in" if name == "users" else None
-            self.tell(2, "file", f"member {quoted(name)} is missing, or is no array: an empty one is added", meaning)
+            self.tell(2, "file", f"member {quoted(name)} is missing, or is no array: an empty one is added", meaning, RIGHTS)
             return []
         for place, it in enumerate(entries):
             if not isinstance(it, dict):
-                self.tell(2, f"{name[:-1]} {place + 1}", "is no object: left out", "it is not there")
+                self.tell(2, f"{name[:-1]} {place + 1}", "is no object: left out", "it is not there", LOST)
         return [it for it in entries if isinstance(it, dict)]
 
     def _choose_vhost(self, wanted):
@@ -111,8 +131,18 @@ class Conversion:
             self.tell(3, f"vhost {quoted(wanted)}", "is now called \"/\"", "clients connect to \"/\"")
         for name in names:
             if name != wanted:
-                self.tell(3, f"vhost {quoted(name)}", "left out, with all that is in it", "it is not there")
+                self.tell(3, f"vhost {quoted(name)}", "left out, with all that is in it", "it is not there", LOST)
         return wanted
+
+    def _says_internal(self):
+        """Whether some exchange says whether it is internal. What rabbitmqctl writes says it of none."""
+        here = [it for it in self.lists["exchanges"] if it.get("vhost", self.vhost) == self.vhost]
+        if not here or any("internal" in it for it in here):
+            return True
+        lacks = "no exchange says whether it is internal, as in an export of rabbitmqctl, which also lacks each internal exchange"
+        self.changes.insert(0, Change(2, "file", f"{lacks}: take that of the management interface (GET /api/definitions)"))
+        self.tell(2, "file", f"{len(here)} exchanges are now not internal", "clients may publish to each, though it may have been internal", RIGHTS)
+        return False
 
     def _policies(self):
         policies = []
@@ -124,7 +154,7 @@ class Conversion:
                 pattern = re.compile(it["pattern"])
                 settings = dict(it["definition"])
             except (KeyError, TypeError, ValueError, re.error, RecursionError):
-                self.tell(7, called, "left out: its pattern or its settings cannot be read", "its settings are not there")
+                self.tell(7, called, "left out: its pattern or its settings cannot be read", "its settings are not there", LOST)
                 continue
             priority = it.get("priority", 0)
             priority = priority if isinstance(priority, (int, float)) else 0
@@ -153,7 +183,7 @@ class Conversion:
         kept, seen = [], set()
         for called, it in entries:
             if not isinstance(it.get("name"), str):
-                self.tell(2, called, "left out: it has no name that is a text", "it is not there")
+                self.tell(2, called, "left out: it has no name that is a text", "it is not there", LOST)
             elif it["name"] in seen:
                 self.tell(4, called, "left out: one of this name came before")
             else:
@@ -166,9 +196,14 @@ class Conversion:
     def _truth(self, called, it, name, meaning=None):
         value = it.get(name)
         if not isinstance(value, bool):
-            self.tell(2, called, f"member {quoted(name)} is missing, or no truth value: it is now false", meaning)
+            self.tell(2, called, f"member {quoted(name)} is missing, or no truth value: it is now false", meaning, RIGHTS)
             return False
         return value
+
+    def _internal(self, called, it):
+        if "internal" not in it and not self.says_internal:
+            return False
+        return self._truth(called, it, "internal", "clients may publish to it, though it may have been internal")
 
     def _arguments(self, called, it):
         arguments = it.get("arguments")
@@ -194,12 +229,12 @@ class Conversion:
         return None, {}
 
     def _with_policy(self, called, name, arguments, applies, known, prefix):
-        """The arguments, and what the policy that matches this name adds to them."""
+        """Adds to the arguments what the policy that matches this name sets and warren has; the policy, and what else it sets of these."""
         policy, settings = self._policy_of(name, applies)
         for setting, value in settings.items():
+            argument = prefix + setting
             if setting not in known:
                 continue
-            argument = prefix + setting
             own = arguments.get(argument)
             if own is None:
                 arguments[argument] = value
@@ -208,6 +243,7 @@ class Conversion:
             else:
                 continue
             self.tell(7, called, f"{argument} {quoted_value(arguments[argument])} is added, from {policy}")
+        return policy, settings
 
     # ---- users
 
@@ -223,35 +259,50 @@ class Conversion:
         for user in permitted:
             if user not in names:
                 self.tell(12, f"permission {quoted(user)}", "left out: there is no such user here")
+        self._tell_topic_permissions(names)
         users = [{name: it[name] for name in ("name", "password_hash", "hashing_algorithm")} | {"tags": it.get("tags", [])} for it in kept]
         return users, [{"user": name, "vhost": "/", **PERMISSION} for name in names]
 
     def _is_kept(self, called, user, permitted):
         cannot = "this user can no longer log in"
         if any(not isinstance(user.get(name), str) for name in ("password_hash", "hashing_algorithm")):
-            self.tell(2, called, "left out: it has no password hash", cannot)
+            self.tell(2, called, "left out: it has no password hash", cannot, RIGHTS)
         elif wrong_name(user["name"]):
-            self.tell(9, called, f"left out: {wrong_name(user['name'])}", cannot)
+            self.tell(9, called, f"left out: {wrong_name(user['name'])}", cannot, RIGHTS)
         elif wrong_hash(user):
-            self.tell(13, called, f"left out: its {wrong_hash(user)}", cannot)
+            self.tell(13, called, f"left out: its {wrong_hash(user)}", cannot, RIGHTS)
         elif user["name"] not in permitted:
             self.tell(12, called, "left out: it has no permission in this virtual host")
+        elif all(permitted[user["name"]][0][name] in NOTHING for name in ("write", "read")):
+            self.tell(12, called, "left out: it may neither publish nor consume, and each user of warren may do both", cannot, RIGHTS)
         else:
-            self._tell_rights(called, permitted[user["name"]])
+            self._tell_rights(called, user["name"], permitted[user["name"]])
             if user.get("limits"):
                 self.tell(0, called, "its limits are ignored", "it may have any number of connections and channels")
             return True
         return False
 
-    def _tell_rights(self, called, rights):
+    def _tell_rights(self, called, user, rights):
         if len(rights) > 1:
             self.tell(12, called, "its further permissions are left out")
+        if user == FROM_ITS_OWN_MACHINE:
+            self.tell(0, called, "stays", "it may log in from everywhere; RabbitMQ lets it in from its own machine alone, if nothing else is set", RIGHTS, user)
         before = rights[0]
         if before["configure"] != PERMISSION["configure"]:
-            self.tell(12, called, f"configure {quoted(before['configure'])} is now \"^$\"", "it may declare, bind and delete nothing")
+            meaning = None if before["configure"] in NOTHING else "it may declare, bind and delete nothing"
+            self.tell(12, called, f"configure {quoted(before['configure'])} is now \"^$\"", meaning, RIGHTS)
         for name, where in (("write", "publish to each exchange"), ("read", "consume from each queue")):
-            if before[name] != PERMISSION[name]:
-                self.tell(12, called, f"{name} {quoted(before[name])} is now \".*\"", f"it may {where}")
+            if before[name] in EVERYTHING and before[name] != PERMISSION[name]:
+                self.tell(12, called, f"{name} {quoted(before[name])} is now \".*\"")
+            elif before[name] != PERMISSION[name]:
+                self.tell(12, called, f"{name} {quoted(before[name])} is now \".*\"", f"it may {where}", RIGHTS, user)
+
+    def _tell_topic_permissions(self, kept):
+        for it in self._array("topic_permissions"):
+            meaning, grew = None, None
+            if it.get("vhost", self.vhost) == self.vhost and it.get("user") in kept:
+                meaning, grew = "this user may publish and consume under every key", it["user"]
+            self.tell(7, f"topic permission {quoted(it.get('user'))}", "left out", meaning, RIGHTS, grew)
 
     # ---- exchanges
 
@@ -261,7 +312,7 @@ class Conversion:
             kind = self._type(called, it)
             wrong = wrong_name(it["name"])
             if wrong:
-                self.tell(9, called, f"left out: {wrong}", "it is not there")
+                self.tell(9, called, f"left out: {wrong}", "it is not there", LOST)
             elif kind:
                 kept.append(self._exchange(called, it, kind))
         return kept
@@ -275,7 +326,7 @@ class Conversion:
         if kind == "x-delayed-message" and delayed in TYPES:
             self.tell(6, called, f"type \"x-delayed-message\" is now {quoted(delayed)}", "messages are no longer delayed")
             return delayed
-        self.tell(6, called, f"left out: its type is {quoted(kind)}", "it is not there, nor what it was bound to by this exchange")
+        self.tell(6, called, f"left out: its type is {quoted(kind)}", "it is not there, nor what it was bound to by this exchange", LOST)
         return None
 
     def _exchange(self, called, it, kind):
@@ -287,7 +338,7 @@ class Conversion:
             if name in EXCHANGE_ARGUMENTS and isinstance(value, str):
                 kept[name] = value
             elif name in EXCHANGE_ARGUMENTS:
-                self.tell(2, called, f"argument {quoted(name)} is left out: it is no text", "what it did is not done")
+                self.tell(2, called, f"argument {quoted(name)} is left out: it is no text", "what it did is not done", LOST)
             else:
                 self.tell(7, called, f"argument {quoted(name)} is left out", None if name == "x-delayed-type" else "what it did is not done")
         return {
@@ -296,7 +347,7 @@ class Conversion:
             "type": kind,
             "durable": self._truth(called, it, "durable"),
             "auto_delete": self._stays(called, it, "it is no longer deleted with its last binding"),
-            "internal": self._truth(called, it, "internal", "clients may publish to it, though it may have been internal"),
+            "internal": self._internal(called, it),
             "arguments": kept,
         }
 
@@ -307,7 +358,7 @@ class Conversion:
         for called, it in self._once("queues", self._here("queues")):
             wrong = "it has no name" if not it["name"] else wrong_pattern(it["name"])
             if wrong:
-                self.tell(9, called, f"left out: its name {wrong}" if it["name"] else "left out: it has no name", "it is not there")
+                self.tell(9, called, f"left out: its name {wrong}" if it["name"] else "left out: it has no name", "it is not there", LOST)
             else:
                 kept.append(self._queue(called, it))
         return kept
@@ -316,8 +367,12 @@ class Conversion:
         arguments = self._arguments(called, it)
         if "type" in it:
             told = "x-queue-type" in arguments
-            self.tell(7, called, f"member \"type\" {quoted_value(it['type'])} is left out", None if told else self._type_meaning(it["type"]))
-        self._with_policy(called, it["name"], arguments, APPLIES_TO_QUEUES, OF_QUEUES, "x-")
+            self.tell(7, called, f"member \"type\" {quoted_value(it['type'])} is left out", None if told else self._type_meaning(it["type"]), LOST)
+        known = [name for name in OF_QUEUES if f"x-{name}" in QUEUE_ARGUMENTS]
+        policy, settings = self._with_policy(called, it["name"], arguments, applies_to(it, arguments), known, "x-")
+        for setting, value in settings.items():
+            if setting in OF_QUEUES and setting not in known:
+                self.of_policies.setdefault((policy, setting, quoted_value(value)), {})[it["name"]] = arguments.get("x-dead-letter-exchange")
         self._other_members(called, it, QUEUE)
         return {
             "name": it["name"],
@@ -336,9 +391,9 @@ class Conversion:
                 kept[name] = MOST_NUMBER
                 self.tell(2, called, f"{name} {value} is now {MOST_NUMBER}", "the limit is lower")
             elif name in QUEUE_ARGUMENTS:
-                self.tell(2, called, f"argument {quoted(name)} is left out: it is of the wrong kind", "what it did is not done")
+                self.tell(2, called, f"argument {quoted(name)} is left out: it is of the wrong kind", "what it did is not done", LOST)
             else:
-                self._leave_out(called, name, value)
+                self._leave_out(called, name, value, arguments.get("x-dead-letter-exchange"))
         self._mend_overflow(called, kept)
         self._mend_dead_letters(called, kept)
         return kept
@@ -346,25 +401,29 @@ class Conversion:
     def _type_meaning(self, kind):
         return TYPE_LEFT_OUT.get(kind, "the queue is like any other") if isinstance(kind, str) else None
 
-    def _leave_out(self, called, name, value):
-        meaning = LEFT_OUT.get(name, "what it did is not done")
+    def _leave_out(self, called, name, value, dead):
+        meaning, weight = LEFT_OUT.get(name, "what it did is not done"), LOST if name in LOSES else REST
         if name == "x-queue-type":
             meaning = self._type_meaning(value)
         elif name == "x-queue-mode" and value != "lazy" or name == "x-dead-letter-strategy" and value != "at-least-once":
             meaning = None
-        self.tell(7, called, f"argument {quoted(name)} {quoted_value(value)} is left out", meaning)
+        elif name in GOES_ON and dead is not None:
+            meaning, weight = f"{meaning}, so {nothing_goes_on(dead)}", LOST
+        self.tell(7, called, f"argument {quoted(name)} {quoted_value(value)} is left out", meaning, weight)
 
     def _mend_overflow(self, called, kept):
         limited = any(limit in kept for limit in LENGTH_LIMITS)
-        overflow = kept.get("x-overflow")
+        overflow, dead = kept.get("x-overflow"), kept.get("x-dead-letter-exchange")
+        no_more = f"; {nothing_goes_on(dead)}" if dead is not None else ""
         if overflow not in (None, "reject-publish"):
-            refuses = "a full queue refuses what comes and keeps what it has"
+            refuses = f"a full queue refuses what comes and keeps what it has{no_more}"
             if overflow == "reject-publish-dlx":
                 refuses = "what a full queue refuses makes no dead letter"
-            self.tell(7, called, f"x-overflow {quoted(overflow)} is now \"reject-publish\"", refuses if limited else None)
+            self.tell(7, called, f"x-overflow {quoted(overflow)} is now \"reject-publish\"", refuses if limited else None, LOST)
             kept["x-overflow"] = "reject-publish"
         elif overflow is None and limited:
-            self.tell(8, called, "x-overflow \"reject-publish\" is added", "a full queue refuses what comes and keeps what it has; RabbitMQ drops the oldest")
+            meaning = f"a full queue refuses what comes and keeps what it has; RabbitMQ drops the oldest{no_more}"
+            self.tell(8, called, "x-overflow \"reject-publish\" is added", meaning, LOST)
             kept["x-overflow"] = "reject-publish"
 
     def _mend_dead_letters(self, called, kept):
@@ -375,7 +434,7 @@ class Conversion:
             self.tell(7, called, "x-dead-letter-routing-key is left out: there is no x-dead-letter-exchange")
             del kept["x-dead-letter-routing-key"]
         elif wrong_pattern(key):
-            self.tell(9, called, f"its dead letters are left out: their key {wrong_pattern(key)}", "what is rejected is gone")
+            self.tell(9, called, f"its dead letters are left out: their key {wrong_pattern(key)}", "what is rejected is gone", LOST)
             del kept["x-dead-letter-routing-key"], kept["x-dead-letter-exchange"]
 
     # ---- what names an exchange or a queue
@@ -404,13 +463,13 @@ class Conversion:
             other = it["arguments"].get("alternate-exchange")
             if other is not None and other not in names:
                 del it["arguments"]["alternate-exchange"]
-                self.tell(11, f"exchange {quoted(it['name'])}", f"its alternate exchange {quoted(other)} is left out: it is not there", "what no binding takes is gone")
+                self.tell(11, f"exchange {quoted(it['name'])}", f"its alternate exchange {quoted(other)} is left out: it is not there", "what no binding takes is gone", LOST)
         for it in queues:
             dead = it["arguments"].get("x-dead-letter-exchange")
             if dead and dead not in names:
                 del it["arguments"]["x-dead-letter-exchange"]
                 it["arguments"].pop("x-dead-letter-routing-key", None)
-                self.tell(11, f"queue {quoted(it['name'])}", f"its dead-letter exchange {quoted(dead)} is left out: it is not there", "what is rejected is gone")
+                self.tell(11, f"queue {quoted(it['name'])}", f"its dead-letter exchange {quoted(dead)} is left out: it is not there", "what is rejected is gone", LOST)
 
     def bindings(self, exchanges, queues):
         types = {it["name"]: it["type"] for it in exchanges}
@@ -419,7 +478,7 @@ class Conversion:
             wrong = self._against_binding(it, types, {q["name"] for q in queues})
             if wrong:
                 number, what, meaning = wrong
-                self.tell(number, called, f"left out: {what}", meaning)
+                self.tell(number, called, f"left out: {what}", meaning, LOST)
                 continue
             for name in self._arguments(called, it):
                 self.tell(7, called, f"argument {quoted(name)} is left out")
@@ -448,7 +507,21 @@ class Conversion:
 
     # ---- the rest
 
+    def _tell_left_by_policies(self):
+        """What a policy sets for queues and warren has not, said once, with the queues."""
+        for (policy, setting, value), queues in self.of_policies.items():
+            argument = f"x-{setting}"
+            meaning = LEFT_OUT.get(argument, "what it did is not done")
+            if setting == "queue-mode" and value != '"lazy"' or setting == "dead-letter-strategy" and value != '"at-least-once"':
+                meaning = None
+            ended = [name for name, dead in queues.items() if dead is not None] if argument in GOES_ON else []
+            weight = LOST if ended or argument in LOSES else REST
+            if ended:
+                meaning += f", so nothing goes on any more from {named(ended)} to a dead-letter exchange but what is rejected"
+            self.tell(7, policy, f"{setting} {value} is left out, of {named(queues)}", meaning, weight)
+
     def tell_rest(self):
+        self._tell_left_by_policies()
         for _, called, _, _, settings in self.policies:
             others = [name for name in settings if name not in OF_QUEUES and name != "alternate-exchange"]
             also = f", but not {', '.join(others)}" if others else ""
@@ -456,12 +529,29 @@ class Conversion:
         for it in self._array("parameters"):
             here = it.get("vhost", self.vhost) == self.vhost
             self.tell(7, f"parameter {quoted(it.get('name'))}", f"of {quoted(it.get('component'))}: left out", "what it did is not done" if here else None)
-        for it in self._array("topic_permissions"):
-            here = it.get("vhost", self.vhost) == self.vhost
-            self.tell(7, f"topic permission {quoted(it.get('user'))}", "left out", "this user may publish and consume under every key" if here else None)
         for name in EMPTY_ARRAYS:
             if name in self.export and not isinstance(self.export[name], list):
                 self.tell(2, "file", f"member {quoted(name)} is no array: it is left out")
+
+
+# arguments by which a message goes on to the dead-letter exchange, without a rejection
+GOES_ON = ("x-message-ttl", "x-delivery-limit")
+
+
+def nothing_goes_on(dead):
+    return f"nothing goes on to {quoted(dead) if dead else 'the default exchange'} any more but what is rejected"
+
+
+def applies_to(queue, arguments):
+    """To what a policy has to apply that matches this queue."""
+    kinds = [it for it in (arguments.get("x-queue-type"), queue.get("type"), "classic") if isinstance(it, str)]
+    return ("all", "queues", APPLIES_TO_QUEUES.get(kinds[0]))
+
+
+def named(names):
+    names = list(names)
+    others = f" and {len(names) - MOST_NAMED} more" if len(names) > MOST_NAMED else ""
+    return ("queue " if len(names) == 1 else "queues ") + ", ".join(map(quoted, names[:MOST_NAMED])) + others
 
 
 def quoted_value(value):
@@ -478,4 +568,4 @@ def convert(export, vhost=None):
     bindings = work.bindings(exchanges, queues)
     work.tell_rest()
     made = {"vhosts": [{"name": "/"}], "users": users, "permissions": permissions, "exchanges": exchanges, "queues": queues, "bindings": bindings}
-    return made, work.changes
+    return made, work.told()

@@ -14,7 +14,7 @@ import unittest
 HERE = os.path.dirname(os.path.abspath(__file__))
 TOOL = os.path.dirname(HERE)
 SHOP = os.path.join(TOOL, "../../examples/shop")
-sys.path.insert(0, TOOL)
+sys.path[:0] = [TOOL, os.path.join(TOOL, "../shared")]
 from topology import Topology, matches, read_guarantees, read_verdicts, words_of  # noqa: E402
 
 
@@ -56,13 +56,13 @@ class Routes(unittest.TestCase):
 
 
 class Pictures(unittest.TestCase):
-    def drawn(self, definitions, guarantees, verdicts):
+    def drawn(self, definitions, guarantees, verdicts, *words):
         with tempfile.TemporaryDirectory() as work:
             names = [os.path.join(work, it) for it in ("definitions", "guarantees", "verdicts")]
             for name, given in zip(names, (definitions, guarantees, verdicts)):
                 with open(name, "w", encoding="utf-8") as file:
                     file.write(given)
-            status, out, said = run(names[0], "--guarantees", names[1], "--verdicts", names[2])
+            status, out, said = run(names[0], "--guarantees", names[1], "--verdicts", names[2], *words)
         self.assertEqual((status, said), (0, ""))
         return out
 
@@ -73,7 +73,26 @@ class Pictures(unittest.TestCase):
         changed = text("definitions.json").replace('"orders.#"', '"orders.*.#"')
         out = self.drawn(changed, text("guarantees.json"), '1 no key "orders"\n2 yes states 3\n3 yes states 3\n4 yes states 2\n5 yes states 7\n')
         self.assertEqual(self.red(out), ['"exchange shop" -> "exchange strays"', '"exchange strays" -> "queue lost"', '"queue audit"'])
-        self.assertIn('1 reaches shop orders.# audit: no key \\"orders\\"', out)
+        self.assertIn('<font color="red">1 reaches shop orders.# audit: no key &quot;orders&quot;</font>', out)
+        self.assertIn('<font color="black">2 reaches payments paid audit: yes states 3</font>', out)
+        self.assertIn('"queue audit" [label="audit", shape=cylinder, style="filled,dashed"', out)
+        self.assertIn('"queue lost" [label="lost\\nat most 1000", shape=cylinder, style=filled,', out)
+
+    def test_one_guarantee_alone(self):
+        changed = text("definitions.json").replace('"orders.#"', '"orders.*.#"')
+        verdicts = '1 no key "orders"\n2 yes states 3\n3 undecided states\n'
+        out = self.drawn(changed, text("guarantees.json"), verdicts, "--only", "2")
+        self.assertEqual(self.red(out), [])
+        self.assertIn("2 reaches payments paid audit: yes states 3", out)
+        self.assertNotIn("1 reaches", out)
+        out = self.drawn(changed, text("guarantees.json"), verdicts, "--only", "1")
+        self.assertEqual(self.red(out), ['"exchange shop" -> "exchange strays"', '"exchange strays" -> "queue lost"', '"queue audit"'])
+        self.assertIn('<font color="#777777">3 reaches payments paid billing: undecided states</font>', self.drawn(changed, text("guarantees.json"), verdicts, "--only", "3"))
+
+    def test_legend_lines_are_texts(self):
+        definitions = {"exchanges": [{"name": "<b>&", "type": "fanout"}], "queues": [{"name": 'q"\x01'}], "bindings": []}
+        guarantees = {"guarantees": [{"mode": "reaches", "exchange": "<b>&", "pattern": "#", "queue": 'q"\x01'}]}
+        self.assertIn("1 reaches &lt;b&gt;&amp; # q&quot;?", self.drawn(json.dumps(definitions), json.dumps(guarantees), ""))
 
     def test_a_broken_never_shows_its_path(self):
         definitions = {
@@ -88,6 +107,7 @@ class Pictures(unittest.TestCase):
         out = self.drawn(json.dumps(definitions), json.dumps(guarantees), '1 no key "a" path "X" "q" "X" "r"\n')
         self.assertEqual(self.red(out), ['"exchange X" -> "queue q"', '"exchange X" -> "queue r"', '"queue q" -> "exchange X"', '"queue r"'])
         self.assertIn('"queue q" -> "exchange X" [label="rejected as b", style=dashed', out)
+        self.assertIn('"queue r" [label="r", shape=cylinder, style=filled, fillcolor="#fff4d6", color="red"]', out)
 
     def test_the_default_exchange_is_there_for_a_path(self):
         definitions = {"exchanges": [], "queues": [{"name": "q", "arguments": {}}], "bindings": []}
@@ -116,6 +136,14 @@ class Bad(unittest.TestCase):
                 self.assertEqual((status, out), (3, ""))
                 self.assertTrue(said.startswith("draw: "), said)
         self.assertEqual(run("/nowhere")[0], 3)
+
+    def test_command_lines(self):
+        shop = [os.path.join(SHOP, f"{it}.json") for it in ("definitions", "guarantees")]
+        for words in ((), ("--x",), (shop[0], "--only", "1"), (shop[0], "--guarantees", shop[1], "--only", "7"), (shop[0], "--verdicts", "x")):
+            status, out, said = run(*words)
+            self.assertEqual((status, out, said.count("\n")), (3, "", 1), said)
+            self.assertTrue(said.startswith("draw: "), said)
+        self.assertEqual(run("--help")[0], 0)
 
     def test_lines_of_another_program(self):
         for line in ("x", "0 yes", "2 yes", "1 no key x", '1 no key "a" path', "1 no key ", "9" * 30 + " yes"):

@@ -15,7 +15,7 @@ import unittest
 HERE = os.path.dirname(os.path.abspath(__file__))
 TOOL = os.path.dirname(HERE)
 ROWS = os.path.join(TOOL, "../../crates/line_cases/data")
-sys.path.insert(0, TOOL)
+sys.path[:0] = [TOOL, os.path.join(TOOL, "../shared")]
 from causes import NotJson, causes_in, causes_of, read_json  # noqa: E402
 from convert import NoFile, convert  # noqa: E402
 
@@ -89,6 +89,7 @@ OF_BOTH = {
     ('user "robot"', 13, True),
     ('user "till"', 12, True),
     ('user "guest"', 12, True),
+    ('user "guest"', 0, True),
     ('user "clerk"', 12, False),
     ('permission "robot"', 12, False),
     ('permission "guest"', 3, False),
@@ -118,7 +119,7 @@ OF_BOTH = {
     ('topic permission "clerk"', 7, False),
 }
 # rabbitmqctl leaves out `internal` and the exchange that is internal, and gives each queue a type
-OF_CONTROL = OF_BOTH | {(f'exchange "{name}"', 2, True) for name in ("shop", "payments", "strays")}
+OF_CONTROL = OF_BOTH | {("file", 2, False), ("file", 2, True)}
 OF_CONTROL |= {(f'queue "{name}"', 7, False) for name in ("session", "dead", "lost", "billing", "audit", "replay")}
 OF_CONTROL |= {
     (f"binding {it}", 5, True)
@@ -184,8 +185,113 @@ class Exports(unittest.TestCase):
         self.assertEqual([it["type"] for it in made["exchanges"]], ["topic"])
         self.assertEqual(made["queues"][0]["arguments"], {})
         told = {(it.entry, it.number, it.meaning is not None) for it in changes}
-        wanted = {('user "app"', 12, True), ('user "app"', 0, True), ('queue "jobs"', 7, True), ('exchange "later"', 6, True), ('exchange "later"', 7, False)}
+        wanted = {('user "app"', 12, False), ('user "app"', 0, True), ('queue "jobs"', 7, True), ('exchange "later"', 6, True), ('exchange "later"', 7, False)}
         self.assertEqual(told, wanted | {('parameter "ops"', 7, True)})
+
+
+def small(**lists):
+    """An export of one virtual host with these entries, each short of what all have alike."""
+    queues = [{"vhost": "/", "durable": True, "auto_delete": False, "arguments": {}, **it} for it in lists.get("queues", [])]
+    exchanges = [{"vhost": "/", "type": "topic", "durable": True, "auto_delete": False, "internal": False, "arguments": {}, "name": it} for it in ("X", "retry")]
+    hash_of = json.loads(export("newer.json"))["users"][0]["password_hash"]
+    users = [{"name": name, "password_hash": hash_of, "hashing_algorithm": "rabbit_password_hashing_sha256", "tags": []} for name in lists.get("rights", {})]
+    rights = [{"user": name, "vhost": "/", **dict(zip(("configure", "write", "read"), it))} for name, it in lists.get("rights", {}).items()]
+    policies = [{"vhost": "/", "pattern": "", "priority": 0, "name": f"p{number}", **it} for number, it in enumerate(lists.get("policies", []))]
+    topics = [{"user": it, "vhost": "/", "exchange": "X", "write": "^a", "read": ".*"} for it in lists.get("topics", [])]
+    return {
+        "vhosts": [{"name": "/"}],
+        "users": users,
+        "permissions": rights,
+        "exchanges": exchanges,
+        "queues": queues,
+        "bindings": [],
+        "policies": policies,
+        "topic_permissions": topics,
+    }
+
+
+class Meaning(unittest.TestCase):
+    """What RabbitMQ does is in its documentation: queues and policies, "Dead Letter Exchanges", "Access Control"."""
+
+    def arguments(self, **lists):
+        made, _ = convert(small(**lists))
+        return {it["name"]: it["arguments"] for it in made["queues"]}
+
+    def meanings(self, **lists):
+        _, changes = convert(small(**lists))
+        return [f"{it.entry}: {it.meaning}" for it in changes if it.meaning]
+
+    def test_a_policy_for_queues_of_another_type_hides_none(self):
+        queues = [{"name": "plain"}, {"name": "old", "type": "classic"}, {"name": "copied", "arguments": {"x-queue-type": "quorum"}}]
+        policies = [
+            {"priority": 9, "apply-to": "quorum_queues", "definition": {"max-length": 7, "overflow": "reject-publish"}},
+            {"priority": 1, "apply-to": "classic_queues", "definition": {"dead-letter-exchange": "X"}},
+        ]
+        classic, quorum = {"x-dead-letter-exchange": "X"}, {"x-max-length": 7, "x-overflow": "reject-publish"}
+        self.assertEqual(self.arguments(queues=queues, policies=policies), {"plain": classic, "old": classic, "copied": quorum})
+        for applies in ("all", "queues"):
+            policies[1] |= {"priority": 10, "apply-to": applies}
+            self.assertEqual(self.arguments(queues=queues, policies=policies), dict.fromkeys(("plain", "old", "copied"), classic))
+        for applies in ("exchanges", "streams", "no_such", None):
+            policies[1]["apply-to"] = applies
+            self.assertEqual(self.arguments(queues=queues, policies=policies), {"plain": {}, "old": {}, "copied": quorum})
+
+    def test_where_nothing_goes_on_any_more(self):
+        dead = {"x-dead-letter-exchange": "retry"}
+        rest = 'nothing goes on to "retry" any more but what is rejected'
+        for arguments, told in (
+            ({"x-message-ttl": 1000}, f"messages no longer expire, so {rest}"),
+            ({"x-delivery-limit": 3}, f"a message may be given out again any number of times, so {rest}"),
+            ({"x-max-length": 3, "x-overflow": "drop-head"}, f"a full queue refuses what comes and keeps what it has; {rest}"),
+            ({"x-max-length": 3}, f"a full queue refuses what comes and keeps what it has; RabbitMQ drops the oldest; {rest}"),
+        ):
+            self.assertEqual(self.meanings(queues=[{"name": "q", "arguments": {**arguments, **dead}}]), [f'queue "q": {told}'])
+            self.assertNotIn("goes on", self.meanings(queues=[{"name": "q", "arguments": arguments}])[0])
+        here = self.meanings(queues=[{"name": "q", "arguments": {"x-message-ttl": 1, "x-dead-letter-exchange": "", "x-dead-letter-routing-key": "r"}}])
+        self.assertEqual(here, ['queue "q": messages no longer expire, so nothing goes on to the default exchange any more but what is rejected'])
+
+    def test_rights(self):
+        rights = {"none": ("", "", ""), "shut": ("^$", "^$", ""), "same": ("", ".*", ".*"), "reader": ("^$", "", ".*"), "admin": (".*", ".*", ".*"), "keys": ("^$", ".*", ".*")}
+        status, out, said = run("-", given=json.dumps(small(rights=rights, topics=["keys", "none"])).encode())
+        self.assertEqual(status, 0)
+        self.assertEqual([it["name"] for it in json.loads(out)["users"]], ["same", "reader", "admin", "keys"])
+        self.assertEqual([it["user"] for it in json.loads(out)["permissions"]], ["same", "reader", "admin", "keys"])
+        self.assertEqual(said.splitlines()[-1], 'RIGHTS GREW of users "reader", "keys"')
+        guest = run("-", given=json.dumps(small(rights={"guest": ("^$", ".*", ".*")})).encode())[2].splitlines()
+        self.assertIn("it may log in from everywhere", guest[0])
+        self.assertEqual(guest[-1], 'RIGHTS GREW of user "guest"')
+        told = {it for it in said.splitlines() if "CHANGES MEANING" in it}
+        for name in ("none", "shut"):
+            self.assertIn(f'user "{name}": left out: it may neither publish nor consume, and each user of warren may do both (refused 12). CHANGES MEANING: this user can no longer log in', told)
+        self.assertFalse([it for it in told if 'user "same"' in it])
+        self.assertEqual(len([it for it in told if 'user "reader"' in it]), 1)
+        self.assertFalse([it for it in told if 'topic permission "none"' in it])
+        status, _, said = run("-", given=json.dumps(small(rights={"same": ("", ".*", ".*")})).encode())
+        self.assertTrue(said.splitlines()[-1].startswith("written: "))
+
+    def test_changes_of_meaning_come_last_and_by_weight(self):
+        queues = [{"name": "q", "arguments": {"x-max-priority": 3, "x-max-length": 3}, "type": "classic"}]
+        lines = run("-", given=json.dumps(small(queues=queues, rights={"till": ("^$", "^X$", ".*")})).encode())[2].splitlines()
+        self.assertEqual([it.split(":")[0] for it in lines[:-2]], ['queue "q"', 'user "till"', 'queue "q"', 'queue "q"'])
+        self.assertNotIn("CHANGES MEANING", lines[0])
+        self.assertIn("a full queue refuses", lines[2])
+        self.assertIn("whatever their priority", lines[3])
+
+    def test_what_a_policy_sets_is_said_once(self):
+        queues = [{"name": f"q{it}"} for it in range(10)] + [{"name": "dead", "arguments": {"x-dead-letter-exchange": "X"}}]
+        _, changes = convert(small(queues=queues, policies=[{"definition": {"message-ttl": 5, "ha-mode": "all"}}]))
+        told = [(it.entry, it.what, it.meaning) for it in changes]
+        names = ", ".join(f'"q{it}"' for it in range(8))
+        rest = 'messages no longer expire, so nothing goes on any more from queue "dead" to a dead-letter exchange but what is rejected'
+        self.assertEqual(told[0], ('policy "p0"', f"message-ttl 5 is left out, of queues {names} and 3 more", rest))
+        self.assertEqual([it[0] for it in told], ['policy "p0"'] * 2)
+        self.assertIn("ha-mode", told[1][1])
+
+    def test_an_export_of_rabbitmqctl(self):
+        lines = run("-", given=export("control.json"))[2].splitlines()
+        self.assertTrue(lines[0].startswith("file: no exchange says whether it is internal, as in an export of rabbitmqctl, "), lines[0])
+        self.assertEqual(len([it for it in lines if "internal" in it]), 2)
+        self.assertFalse(run("-", given=export("shop_and_office.json"))[2].startswith("file"))
 
 
 class Bad(unittest.TestCase):

@@ -12,7 +12,7 @@ import sys
 import tempfile
 
 HERE = os.path.dirname(os.path.abspath(__file__))
-sys.path.insert(0, os.path.dirname(HERE))
+sys.path[:0] = [os.path.dirname(HERE), os.path.join(HERE, "../../shared")]
 from causes import causes_in  # noqa: E402
 from convert import NoFile, convert  # noqa: E402
 from test import Bad, export  # noqa: E402

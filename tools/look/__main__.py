@@ -1,0 +1,102 @@
+#!/usr/bin/env python3
+"""Serves by a build of warren that proves nothing, for ten minutes: the shop of examples/shop, or one's own files."""
+
+import os
+import signal
+import socket
+import subprocess
+import sys
+
+HERE = os.path.dirname(os.path.abspath(__file__))
+sys.path[:0] = [os.path.join(HERE, "../shared")]
+from program import SHOP, UNPROVED, NotMade, unproved  # noqa: E402
+from words import Parser  # noqa: E402
+
+STATUSES = "Status: 0 the time is over; that of warren, if it ends before; 3 there is no build; 4 the address is taken. Ctrl-C ends it."
+ENDED, REFUSED, TAKEN = 0, 3, 4
+LISTENS = "warren: listening on "
+
+
+def words():
+    parser = Parser(prog="look", description=__doc__, epilog=STATUSES)
+    parser.add_argument("definitions", nargs="?", help="a definitions file")
+    parser.add_argument("guarantees", nargs="?", help="a guarantees file, which is checked first")
+    parser.add_argument("--listen", default="127.0.0.1:5672", metavar="IP:PORT", help="where it listens; without it, 127.0.0.1:5672")
+    parser.add_argument("--seconds", type=float, default=600, help="how long it serves; without it, 600")
+    given = parser.parse_args()
+    if given.definitions and not given.guarantees:
+        parser.error("definitions want guarantees")
+    return given
+
+
+def tell(line):
+    print(line, file=sys.stderr, flush=True)
+
+
+def why_not(address):
+    """Why nothing can listen there, if so."""
+    host, _, port = address.rpartition(":")
+    try:
+        family = socket.AF_INET6 if ":" in host else socket.AF_INET
+        with socket.socket(family) as it:
+            it.setsockopt(socket.SOL_SOCKET, socket.SO_REUSEADDR, 1)
+            it.bind((host.strip("[]"), int(port)))
+            it.listen()
+        return None
+    except OSError as error:
+        return error.strerror or str(error)
+    except (ValueError, OverflowError):
+        return "it is no IP:PORT"
+
+
+def files_of(warren, given):
+    """The three files, the certificates made by `warren check`; or its status, once its lines were told."""
+    if not given.definitions:
+        return [os.path.join(SHOP, f"{it}.json") for it in ("definitions", "guarantees", "certificates")], 0
+    certificates = os.path.join(os.path.dirname(UNPROVED), "certificates.json")
+    checked = subprocess.run([warren, "check", given.definitions, given.guarantees, "--out", certificates], stdout=subprocess.PIPE)
+    if checked.returncode:
+        sys.stdout.write(checked.stdout.decode("utf-8", "replace"))
+        tell(f"look: not all of {given.guarantees} holds, and warren serves only what holds (tools/why tells more)")
+    return [given.definitions, given.guarantees, certificates], checked.returncode
+
+
+def serve(warren, files, given):
+    """Says that it listens once the program says so, and waits for the program, at most as long as it may serve; its status."""
+    with subprocess.Popen([warren, "serve", *files, "--listen", given.listen], stdout=subprocess.PIPE, text=True) as running:
+        try:
+            line = running.stdout.readline()
+            if not line.startswith(LISTENS):
+                return running.wait()
+            print(f"listening on {line.strip().removeprefix(LISTENS)} for {told(given.seconds)}, over nothing that was proved. `make serve` proves all of it first.", flush=True)
+            return running.wait(given.seconds)
+        except subprocess.TimeoutExpired:
+            return ENDED
+        finally:
+            running.kill()
+
+
+def told(seconds):
+    return "ten minutes" if seconds == 600 else f"{seconds:g} seconds"
+
+
+def main():
+    signal.signal(signal.SIGTERM, lambda number, _: sys.exit(128 + number))
+    given = words()
+    why = why_not(given.listen)
+    if why:
+        tell(f"look: {given.listen}: {why}")
+        return TAKEN
+    try:
+        warren = unproved(tell)
+        files, status = files_of(warren, given)
+        return status or serve(warren, files, given)
+    except NotMade as error:
+        tell(f"look: {error}")
+        return REFUSED
+    except KeyboardInterrupt:
+        return 128 + signal.SIGINT
+
+
+if __name__ == "__main__":
+    sys.exit(main())

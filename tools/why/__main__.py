@@ -1,0 +1,195 @@
+#!/usr/bin/env python3
+"""Says why warren refuses a file, and what its verdicts mean; for what it leaves undecided, looks for a key that breaks it."""
+
+import os
+import subprocess
+import sys
+
+HERE = os.path.dirname(os.path.abspath(__file__))
+sys.path[:0] = [HERE, os.path.join(HERE, "../shared"), os.path.join(HERE, "../audit")]
+from causes import EMPTY_ARRAYS, ENTRIES, name_of, quoted, read_json  # noqa: E402
+from checker import Topology, refutes  # noqa: E402
+from files import Refused, read_certificates, read_definitions, read_guarantees  # noqa: E402
+from places import lines_of  # noqa: E402
+from program import program_here  # noqa: E402
+from search import MOST_STATES, search  # noqa: E402
+from sentences import broken, fault, promise, told, way  # noqa: E402
+from topology import BadFile, read_verdicts  # noqa: E402
+from words import Parser  # noqa: E402
+
+HOLDS, BROKEN, UNDECIDED, FAILED = range(4)
+STATUSES = "Status: 0 all hold; 1 a file is refused, or a guarantee is broken; 2 some are undecided, and no key was found; 3 this could not be told."
+
+
+def words():
+    parser = Parser(prog="why", description=__doc__, epilog=STATUSES)
+    parser.add_argument("definitions", help="a definitions file")
+    parser.add_argument("guarantees", nargs="?", help="a guarantees file")
+    parser.add_argument("verdicts", nargs="?", help="what `warren check` printed of them; without it, warren is asked if it is here; - is standard input")
+    parser.add_argument("--certificates", help="a certificates file, whose refusals are told too")
+    parser.add_argument("--only", type=int, metavar="I", help="of guarantee I alone, counted from 1")
+    parser.add_argument("--warren", metavar="PROGRAM", help="the program; without it, that of `make try`, a proved one, or the one on the path")
+    parser.add_argument("--alone", action="store_true", help="ask no program")
+    parser.add_argument("--states", type=int, default=MOST_STATES, help=f"how far a search goes; without it, {MOST_STATES} states")
+    return parser.parse_args()
+
+
+# ---- refusals
+
+
+def lines_by_entry(name):
+    """On which lines of a file each entry is, by how it is called."""
+    with open(name, "rb") as file:
+        data = file.read()
+    value, lines, found = read_json(data), lines_of(data.decode("utf-8")), {}
+    kinds = {"guarantees": "guarantee", "": "certificate", **{it: it[:-1] for it in (*ENTRIES, *EMPTY_ARRAYS)}, "policies": "policy"}
+    for array, numbers in lines.items():
+        for place, number in enumerate(numbers if array in kinds else ()):
+            entry = value[array][place] if array else value[place]
+            called = f"{kinds[array]} {place + 1}" if array in ("guarantees", "") else name_of(kinds[array], entry, place)
+            found.setdefault(called, []).append(number)
+    return found
+
+
+def tell_refusal(refused):
+    whole = refused.number in (1, 10)
+    lines = {} if whole and refused.causes[0].entry == "file" else lines_by_entry(refused.name)
+    for it in sorted(refused.causes, key=lambda it: it.number):
+        places = lines.get(it.entry, [])
+        at = f":{','.join(map(str, places))}" if places else ""
+        print(f"{refused.name}{at}: {it.entry}: {it.what} (refused {it.number})")
+    count = len(refused.causes)
+    print(f"{refused.name}: {count} cause{'s' * (count != 1)}; warren tells the least: refused {refused.number}")
+
+
+# ---- verdicts
+
+
+class Warren:
+    """The program, if it is here."""
+
+    def __init__(self, program, definitions):
+        self.program, self.definitions = program, definitions
+
+    def run(self, *words):
+        try:
+            return subprocess.run([self.program, *words], capture_output=True, text=True)
+        except OSError as error:
+            raise BadFile(f"{self.program}: {error.strerror}") from None
+
+    def check(self, guarantees):
+        done = self.run("check", self.definitions, guarantees)
+        if done.returncode > UNDECIDED:
+            raise BadFile(f"{self.program} refuses what this script does not: {done.stderr.strip()}")
+        return done.stdout.splitlines()
+
+    def queues(self, exchange, key):
+        return self.run("route", "--", self.definitions, exchange, key).stdout.splitlines()
+
+    def agrees(self, topology, guarantee, key, path):
+        """Whether `warren route` leads the key as this script does: past the queue, or along the path, from each exchange where it has a key."""
+        if guarantee["mode"] == "reaches":
+            return quoted(guarantee["queue"]) not in self.queues(guarantee["exchange"], key)
+        places = way(topology, key, path)
+        begins = [place for place, it in enumerate(places) if it[0] == "exchange" and (place == 0 or places[place - 1][0] == "queue")]
+        ends = [next(it for it in places[begin:] if it[0] == "queue") for begin in begins]
+        return all(quoted(end[1]) in self.queues(places[begin][1], places[begin][2] or key) for begin, end in zip(begins, ends))
+
+
+class Answers:
+    """What is said of each guarantee, and the status."""
+
+    def __init__(self, topology, warren, most):
+        self.topology, self.warren, self.most = topology, warren, most
+        self.status = HOLDS
+
+    def worse(self, status):
+        """A broken one outweighs one that is undecided."""
+        self.status = BROKEN if BROKEN in (status, self.status) else max(status, self.status)
+
+    def of(self, guarantee, verdict):
+        said = verdict.told if verdict else None
+        if said is None or said == "undecided states":
+            return self.searched(guarantee, "UNDECIDED by `check`; " if said else "")
+        if verdict.key is not None:
+            return self.of_key(guarantee, verdict.key, verdict.path)
+        if said == "undecided key":
+            self.worse(UNDECIDED)
+            return "UNDECIDED: only keys of more than 255 bytes, which no client can send, were found to break it; take a shorter pattern"
+        if said.startswith("fault "):
+            self.worse(BROKEN)
+            return f"its certificate does not show it: {fault(said)}"
+        if said != "ok" and not said.startswith("yes states "):
+            raise BadFile(f"this is no line of warren check: {said[:80]}")
+        return "yes"
+
+    def of_key(self, guarantee, key, path):
+        if not refutes(self.topology, guarantee, key, path):
+            self.worse(UNDECIDED)
+            return f"the verdict is of other files: {told(key)} does not break it here"
+        self.worse(BROKEN)
+        return "NO: " + broken(self.topology, guarantee, key, path)
+
+    def searched(self, guarantee, before):
+        found = search(self.topology, guarantee, self.most)
+        if found.key is not None:
+            self.worse(BROKEN)
+            return f"{before and 'UNDECIDED by `check`, but '}NO: {broken(self.topology, guarantee, found.key, found.path)}{self.witness(guarantee, found)}"
+        if found.all:
+            self.worse(UNDECIDED if before else HOLDS)
+            return f"{before}no key breaks it by matching alone" + (", and yet there is no certificate" if before else "; `warren check` decides")
+        self.worse(UNDECIDED)
+        return f"{before}no key was found that breaks it, in {found.states} states: it may hold or not"
+
+    def witness(self, guarantee, found):
+        if self.warren is None:
+            return ""
+        agrees = self.warren.agrees(self.topology, guarantee, found.key, found.path)
+        return " (`warren route` says so too)" if agrees else " (but `warren route` says otherwise)"
+
+
+def lines_in(name):
+    if name == "-":
+        return sys.stdin.read().splitlines()
+    with open(name, encoding="utf-8", errors="replace") as file:
+        return file.read().splitlines()
+
+
+def why(given):
+    definitions = read_definitions(given.definitions)
+    if given.guarantees is None:
+        print(f"nothing stands against {given.definitions}: warren takes it")
+        return HOLDS
+    guarantees = read_guarantees(given.guarantees, definitions)
+    if given.only is not None and not 1 <= given.only <= len(guarantees):
+        raise BadFile(f"{given.guarantees}: there is no guarantee {given.only}")
+    if given.certificates is not None:
+        read_certificates(given.certificates)
+    program = None if given.alone else given.warren or program_here()
+    warren = Warren(program, given.definitions) if program else None
+    lines = lines_in(given.verdicts) if given.verdicts else warren.check(given.guarantees) if warren else []
+    verdicts = read_verdicts(lines, len(guarantees))
+    answers = Answers(Topology(definitions), warren, given.states)
+    for number, it in enumerate(guarantees, 1):
+        if given.only in (None, number):
+            print(f"{number}: {promise(it)}: {answers.of(it, verdicts.get(number))}", flush=True)
+    return answers.status
+
+
+def main():
+    for stream in (sys.stdout, sys.stderr):
+        stream.reconfigure(encoding="utf-8", errors="backslashreplace")
+    try:
+        return why(words())
+    except Refused as refused:
+        tell_refusal(refused)
+        return BROKEN
+    except BadFile as error:
+        print(f"why: {error}", file=sys.stderr)
+    except OSError as error:
+        print(f"why: {error.filename}: {error.strerror}", file=sys.stderr)
+    return FAILED
+
+
+if __name__ == "__main__":
+    sys.exit(main())
