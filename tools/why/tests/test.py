@@ -163,7 +163,12 @@ class Refusals(unittest.TestCase):
         first = next(number for number, line in enumerate(wrong.splitlines(), 1) if "x-message-ttl" in line)
         binding = f'{names[0]}:{number}: binding "payments" to queue "billing", key "paid..": '
         self.assertEqual((status, said), (1, ""))
-        self.assertEqual(sorted(out.splitlines()[:-1]), sorted([binding + "its key has an empty word (refused 9)", binding + 'member "since" (refused 7)', f'{names[0]}:{first}: exchange "payments": argument "x-message-ttl" (refused 7)']))
+        wanted = {
+            binding + "its key has an empty word (refused 9)",
+            binding + 'member "since" (refused 7)',
+            f'{names[0]}:{first}: exchange "payments": argument "x-message-ttl" (refused 7)',
+        }
+        self.assertEqual(set(out.splitlines()[:-1]), wanted)
         self.assertEqual(out.splitlines()[-1], f"{names[0]}: 3 causes; warren tells the least: refused 7")
 
     def test_guarantees_by_the_rows(self):
