@@ -118,6 +118,7 @@ tools: promise
 	@python3 tools/from_rabbitmq/tests/test.py
 	@python3 tools/draw/tests/test.py
 	@python3 tools/promise/tests/test.py
+	@python3 tools/amqp/tests/test.py
 
 # makes the shop's pictures anew; this wants Graphviz
 pictures:
