@@ -118,7 +118,7 @@ tools: promise
 	@python3 tools/from_rabbitmq/tests/test.py
 	@python3 tools/draw/tests/test.py
 	@python3 tools/promise/tests/test.py
-	@python3 tools/amqp/tests/test.py
+	@for it in amqp user depths drain reload; do python3 tools/$$it/tests/test.py || exit 1; done
 
 # makes the shop's pictures anew; this wants Graphviz
 pictures:

@@ -7,6 +7,7 @@ them is read, so what is sent on has each byte that came. Whatever is against a 
 import socket
 import struct
 from collections import namedtuple
+from contextlib import suppress
 
 from . import wire
 from .wire import Arguments, Fault, NotRead, data_of, long_text, method, short_text
@@ -72,8 +73,9 @@ class Client:
         return self
 
     def __exit__(self, kind, error, trace):
-        if kind is None:
-            self.close()
+        with suppress(Fault):
+            if kind is None:
+                self.close()
         self.drop()
 
     # ---- opening and closing
@@ -224,8 +226,11 @@ class Client:
     # ---- frames
 
     def _send(self, data):
+        """Sends; if the server has ended the connection, what is read next tells so, and why."""
         try:
             self._socket.sendall(data)
+        except ConnectionError:
+            pass
         except OSError as error:
             raise Fault(f"{self._what}: {error.strerror or 'no answer in time'}") from None
 
@@ -310,6 +315,8 @@ class Client:
     def _bytes(self, count):
         try:
             found = self._incoming.read(count)
+        except ConnectionError:
+            found = b""
         except OSError as error:
             raise Fault(f"{self._what}: {error.strerror or 'no answer in time'}") from None
         if len(found) < count:
