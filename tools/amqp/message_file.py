@@ -27,10 +27,17 @@ def line_of_message(message):
     return line_of({"exchange": text_of(message.exchange), "key": text_of(message.key), "properties": properties, "body": body})
 
 
+def bytes_of(text):
+    data = base64.b64decode(text, validate=True)
+    if base64.b64encode(data).decode() != text:
+        raise ValueError
+    return data
+
+
 def message_of(line):
     value = json.loads(line)
     exchange, key = (value[it].encode(errors="surrogateescape") for it in ("exchange", "key"))
-    properties, body = (base64.b64decode(value[it], validate=True) for it in ("properties", "body"))
+    properties, body = (bytes_of(value[it]) for it in ("properties", "body"))
     if len(exchange) > 255 or len(key) > 255 or len(properties) < 2:
         raise ValueError
     return Message(exchange, key, properties, body)
