@@ -1,7 +1,7 @@
 # `make` alone lists the targets.
 SHELL := bash
 .SHELLFLAGS := -o pipefail -c
-.PHONY: help try look run shop verdicts serve clients libraries deploy reload load refusals cases same promise prose tools pictures examples bench install test
+.PHONY: help try look run shop verdicts serve clients libraries deploy reload load refusals cases same promise prose tools pictures examples bench install package manual test
 
 # where `make install` puts the program
 PREFIX ?= /usr/local
@@ -25,7 +25,9 @@ help:
 	@echo "  make pictures  draws the shop anew, whole and broken, with Graphviz"
 	@echo "  make examples  replays the examples, and compares them with their outputs and with the cases"
 	@echo "  make bench     prints what publishes, deliveries, routes and large files cost"
-	@echo "  make install   puts the proved program into $(PREFIX)/bin"
+	@echo "  make install   puts the proved program into $(PREFIX)/bin, with its manual page and completions"
+	@echo "  make package   makes a Debian package of the proved program, and prints its SHA-256"
+	@echo "  make manual    makes the manual page and the completions anew, of the program's help"
 	@echo "  make test      proves every crate, tries the must-fail edits, runs the tests and the program    about an hour"
 	@echo "without rt, with Python 3 alone:"
 	@echo "  make prose     looks for long sentences and dead links in the pages for users"
@@ -118,7 +120,7 @@ tools: promise
 	@python3 tools/from_rabbitmq/tests/test.py
 	@python3 tools/draw/tests/test.py
 	@python3 tools/promise/tests/test.py
-	@for it in amqp user depths drain reload; do python3 tools/$$it/tests/test.py || exit 1; done
+	@for it in amqp user depths drain reload manual package; do python3 tools/$$it/tests/test.py || exit 1; done
 
 # makes the shop's pictures anew; this wants Graphviz
 pictures:
@@ -139,6 +141,7 @@ examples: same
 	@cd crates/warren && rt run -- check $(EXAMPLES)/branches/definitions.json $(EXAMPLES)/branches/guarantees.json --out out/branches.json | diff $(EXAMPLES)/branches/verdicts -
 	@cmp crates/warren/out/branches.json examples/branches/certificates.json
 	@cd crates/warren && rt run -- verify $(EXAMPLES)/branches/definitions.json $(EXAMPLES)/branches/guarantees.json out/branches.json | diff $(EXAMPLES)/branches/verified -
+	@python3 tools/manual --check --program crates/warren/out/warren
 
 	@cd crates/warren && sed 's/"orders\.#"/"orders.*.#"/' $(SHOP)/definitions.json > $(CHANGED)
 	@cd crates/warren && { rt run -- check $(CHANGED) $(EXAMPLES)/shop/guarantees.json > out/verdicts || [ $$? -eq 1 ]; }
@@ -149,6 +152,15 @@ bench:
 
 install: run
 	@install -D crates/warren/out/warren $(PREFIX)/bin/warren
+	@install -D -m 644 tools/manual/made/warren.1 $(PREFIX)/share/man/man1/warren.1
+	@install -D -m 644 tools/manual/made/warren.bash $(PREFIX)/share/bash-completion/completions/warren
+	@install -D -m 644 tools/manual/made/_warren $(PREFIX)/share/zsh/site-functions/_warren
+
+package: run
+	@python3 tools/package crates/warren/out/warren crates/warren/out
+
+manual: run
+	@python3 tools/manual --program crates/warren/out/warren
 
 test: same tools
 	@rt ci
