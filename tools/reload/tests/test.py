@@ -17,22 +17,20 @@ sys.dont_write_bytecode = True
 from fake import Broker, Queue  # noqa: E402
 
 LOGIN = {**os.environ, "WARREN_PASSWORD": "till"}
-# `check` says as many lines as there are guarantees, and ends with the status that the guarantees file has; `verify` wants certificates
-PROGRAM = """#!{python}
-import json, os, sys
-command, definitions, guarantees = sys.argv[1:4]
-print(command, *map(os.path.basename, sys.argv[2:]), file=open(sys.argv[0] + ".asked", "a"))
-value = json.load(open(guarantees))
-json.load(open(definitions))
-if value["status"] == 3:
-    print("warren: " + guarantees + ": refused 5", file=sys.stderr)
-elif command == "check":
-    print({{0: "1 yes states 5", 1: '1 no key "orders"', 2: "1 undecided states"}}[value["status"]])
-    if value["status"] == 0:
-        open(sys.argv[5], "w").write("[]")
-elif command == "verify":
-    print("1 ok" if open(sys.argv[4]).read() == "[]" else "1 fault 5")
-sys.exit(value["status"])
+# it ends with the status that the guarantees file has; `check` writes certificates if that is 0, and `verify` wants them
+PROGRAM = """#!/bin/sh
+echo "$1 ${2##*/} ${3##*/}${4:+ ${4##*/}}${5:+ ${5##*/}}" >> "$0.asked"
+read -r text < "$3"
+status=${text#*: }
+status=${status%?}
+case $1$status in
+    check0) printf '[]' > "$5"; echo "1 yes states 5" ;;
+    check1) echo '1 no key "orders"' ;;
+    check2) echo "1 undecided states" ;;
+    check3) echo "warren: $3: refused 5" >&2 ;;
+    verify0) [ "$(cat "$4")" = "[]" ] || status=1 ;;
+esac
+exit "$status"
 """
 
 
@@ -78,7 +76,7 @@ class Reloads(unittest.TestCase):
         self.top, self.link = folder.name, os.path.join(folder.name, "current")
         self.program = os.path.join(self.top, "program")
         with open(self.program, "w", encoding="utf-8") as file:
-            file.write(PROGRAM.format(python=sys.executable))
+            file.write(PROGRAM)
         os.chmod(self.program, 0o755)
         self.old = self.folder("old", definitions(["shop"], ["audit"]))
         os.symlink("old", self.link)
