@@ -118,12 +118,16 @@ class Kept:
         os.fsync(self.file.fileno())
 
 
+def first_line(queue):
+    return line_of({"format": FORMAT, "queue": queue})
+
+
 @contextmanager
 def new_file(name, queue):
     """A file that is not there yet."""
     with open(name, "xb", buffering=0) as file:
         kept = Kept(name, file)
-        kept.pending += line_of({"format": FORMAT, "queue": queue})
+        kept.pending += first_line(queue)
         kept.keep()
         sync_folder(name)
         yield kept
@@ -132,8 +136,9 @@ def new_file(name, queue):
 
 @contextmanager
 def file_to_append(name, queue):
-    """A file that is there, of this queue. A last line that was cut off is taken away: what it was of was not acknowledged."""
-    named, _, is_cut = look_through(name)
+    """A file that is there, of this queue, or empty. A last line that was cut off is taken away: what it was of was not acknowledged."""
+    is_empty = os.path.getsize(name) == 0
+    named, _, is_cut = (queue, 0, False) if is_empty else look_through(name)
     if named != queue:
         raise Fault(f"{name} is of the queue {json.dumps(named)}")
     with open(name, "r+b", buffering=0) as file:
@@ -141,5 +146,7 @@ def file_to_append(name, queue):
             file.truncate(whole_size(name))
         file.seek(0, os.SEEK_END)
         kept = Kept(name, file)
+        kept.pending += first_line(queue) if is_empty else b""
+        kept.keep()
         yield kept
         kept.keep()

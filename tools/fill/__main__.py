@@ -53,7 +53,7 @@ def outcome(filling, told, queue, rest, is_cut):
     with new_file(rest, queue) as kept:
         for line in filling.left():
             kept.write_line(line)
-    tell("fill", f"{filling.why}; {told}; the other {kept.count} are in {rest}{unsure}{cut}")
+    tell("fill", f"{filling.why}; {told}; left in {rest}: {kept.count}{unsure}{cut}")
     return NOT_WHOLE
 
 

@@ -77,6 +77,11 @@ class Together(unittest.TestCase):
             self.assertEqual(self.drain(server), (0, 'drain: 0 messages of "audit" were moved to audit.messages'))
             self.assertEqual(self.fill(server), (0, 'fill: 0 of 0 messages were published to "audit"'))
 
+    def test_a_drain_that_ended_before_the_first_line(self):
+        with open(self.file, "wb"), Broker({"audit": Queue(messages(2))}) as server:
+            self.assertEqual(self.drain(server, "--append")[0], 0)
+        self.assertEqual(self.kept(), messages(2))
+
     def test_consumers_are_told(self):
         with Broker({"audit": Queue(messages(2), consumers=3)}) as server:
             told = 'drain: 2 messages of "audit" were moved to audit.messages; 3 consumers are there, and what they hold is not in it'
@@ -137,7 +142,7 @@ class Together(unittest.TestCase):
         with Broker({"audit": Queue(sent)}) as server:
             self.drain(server)
         with Broker({"audit": Queue(limit=5)}) as server:
-            told = 'fill: a queue is full, or none is there for a message; 5 of 12 messages were published to "audit"; the other 7 are in audit.messages.left'
+            told = 'fill: a queue is full, or none is there for a message; 5 of 12 messages were published to "audit"; left in audit.messages.left: 7'
             self.assertEqual(self.fill(server), (1, told))
             self.assertEqual(self.kept(self.file + ".left"), sent[5:])
             self.assertEqual(self.fill(server), (3, "fill: audit.messages.left is there already"))
@@ -155,7 +160,7 @@ class Together(unittest.TestCase):
             self.assertEqual(len(server.queues["other"].ready), 3)
             self.assertEqual(self.fill(server), (3, 'fill: queue "audit": 404 not-found'))
         with Broker({"a": Queue(), "b": Queue()}, {"shop": {"orders.0": ["a", "b"], "orders.1": ["a"]}}) as server:
-            told = "fill: a queue is full, or none is there for a message; 2 of 3 messages were published as they were sent; the other 1 are in audit.messages.left"
+            told = "fill: a queue is full, or none is there for a message; 2 of 3 messages were published as they were sent; left in audit.messages.left: 1"
             self.assertEqual(self.fill(server, "--as-sent"), (1, told))
             self.assertEqual([server.queues[it].ready for it in "ab"], [sent[:2], sent[:1]])
             self.assertEqual(self.kept(self.file + ".left"), sent[2:])
