@@ -174,8 +174,10 @@ class Client:
             elif ids in (ACK, NACK):
                 last, is_multiple = arguments.number(8), arguments.number(1) & 1
                 numbers = [it for it in self.unsettled if it <= last] if is_multiple else [last]
+                if not numbers or numbers[-1] not in self.unsettled:
+                    raise Fault(f"{self._what}: a confirm of {last} came, which waits for none")
                 for it in numbers:
-                    self.unsettled.pop(it, None)
+                    del self.unsettled[it]
                 return [(it, ids == ACK and it not in self._returned) for it in numbers]
             else:
                 raise Fault(f"{self._what}: method {ids[0]} {ids[1]} came, which nobody asked for")

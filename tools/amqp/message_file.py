@@ -122,10 +122,15 @@ def first_line(queue):
     return line_of({"format": FORMAT, "queue": queue})
 
 
+def for_owner(name, flags):
+    """A new file that its owner alone may read: what is in messages is nobody else's business."""
+    return os.open(name, flags, 0o600)
+
+
 @contextmanager
 def new_file(name, queue):
     """A file that is not there yet."""
-    with open(name, "xb", buffering=0) as file:
+    with open(name, "xb", buffering=0, opener=for_owner) as file:
         kept = Kept(name, file)
         kept.pending += first_line(queue)
         kept.keep()

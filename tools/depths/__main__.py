@@ -8,6 +8,7 @@ import time
 
 HERE = os.path.dirname(os.path.abspath(__file__))
 sys.path[:0] = [HERE, os.path.dirname(HERE)]
+from amqp.client import quoted  # noqa: E402
 from amqp.program import DONE, NOT_WHOLE, Words, log_in, run, tell  # noqa: E402
 from amqp.wire import Fault  # noqa: E402
 from telling import in_alarm, limits_in, metrics_of, table_of  # noqa: E402
@@ -38,7 +39,7 @@ def print_once(given, client, limits):
     sys.stdout.write(metrics_of(depths, limits) if given.prometheus else table_of(depths, limits, {}, given.alarm))
     full = in_alarm(depths, limits, given.alarm)
     for name in full:
-        tell("depths", f"{name}: {depths[name].ready} of {limits[name]} messages")
+        tell("depths", f"{quoted(name)}: {depths[name].ready} of {limits[name]} messages")
     return NOT_WHOLE if full else DONE
 
 

@@ -11,7 +11,7 @@ HERE = os.path.dirname(os.path.abspath(__file__))
 sys.path[:0] = [HERE, os.path.dirname(HERE)]
 from amqp.program import DONE, NOT_WHOLE, STATUSES, Words, log_in, run, tell  # noqa: E402
 from amqp.wire import Fault  # noqa: E402
-from folders import certify, fault_of_link, mark, path_in, swap  # noqa: E402
+from folders import certify, check_folders, mark, path_in, swap  # noqa: E402
 from probes import probe_of  # noqa: E402
 
 # seconds between two questions
@@ -64,7 +64,7 @@ def swap_and_look(given, client, probe, old):
 
 
 def work(given):
-    fault_of_link(given.folder, given.new)
+    check_folders(given.folder, given.new)
     old = os.path.realpath(given.folder)
     if given.mark:
         mark(given.new)

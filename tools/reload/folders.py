@@ -18,7 +18,7 @@ def path_in(folder, place):
     return os.path.join(folder, NAMES[place])
 
 
-def fault_of_link(link, new):
+def check_folders(link, new):
     """Refuses a link that is none, and a folder that can't be put in its place."""
     if not os.path.islink(link):
         if os.path.lexists(link):

@@ -69,8 +69,11 @@ class Server:
                 self.wrong.append(str(error))
 
 
+RESETS = "the connection is reset"
+
+
 class Scripted(Server):
-    """Plays a script: bytes that have to come, a number of bytes that may be any, or ("sends", bytes)."""
+    """Plays a script: bytes that have to come, a number of bytes that may be any, ("sends", bytes), or RESETS at its end."""
 
     def __init__(self, *script):
         super().__init__()
@@ -79,7 +82,9 @@ class Scripted(Server):
 
     def answer(self, connection, incoming):
         for step in self.script:
-            if isinstance(step, tuple):
+            if step is RESETS:
+                connection.setsockopt(socket.SOL_SOCKET, socket.SO_LINGER, struct.pack("ii", 1, 0))
+            elif isinstance(step, tuple):
                 connection.sendall(step[1])
             else:
                 wanted = step if isinstance(step, bytes) else None

@@ -4,6 +4,7 @@ A server plays a script of bytes, which were written by hand from AMQP 0-9-1 (an
 """
 
 import os
+import random
 import socket
 import sys
 import unittest
@@ -13,7 +14,7 @@ sys.path[:0] = [os.path.dirname(os.path.dirname(HERE)), HERE]
 sys.dont_write_bytecode = True
 from amqp.client import Client, Depth, Fault, Message, Refused  # noqa: E402
 from amqp.program import address_of  # noqa: E402
-from fake import CHANNEL, CHANNEL_OK, CLOSE, CLOSE_OK, OPEN, PROTOCOL, START, TUNE, TUNE_OK, Scripted, logged_in  # noqa: E402
+from fake import CHANNEL, CHANNEL_OK, CLOSE, CLOSE_OK, OPEN, OPEN_OK, PROTOCOL, RESETS, START, TUNE, TUNE_OK, Scripted, logged_in  # noqa: E402
 
 # start-ok 10 11: a table of 99 bytes, "PLAIN", NUL "till" NUL "till", "en_US"
 START_OK = (
@@ -72,8 +73,11 @@ class Opening(unittest.TestCase):
         self.assertEqual(self.refused(*begun), 'login as "till": the server ended the connection')
         self.assertEqual(self.refused(*begun, ("sends", TUNE), TUNE_OK, OPEN, ("sends", no_host), CLOSE_OK), 'virtual host "/": 530 not-allowed')
         self.assertEqual(self.refused(PROTOCOL), "127.0.0.1:PORT: the server ended the connection")
+        self.assertEqual(self.refused(PROTOCOL, RESETS), "127.0.0.1:PORT: the server ended the connection")
+        self.assertEqual(self.refused(PROTOCOL, ("sends", bytes.fromhex("01 0000 00000002 000a ce"))), "127.0.0.1:PORT: a method ends early")
         self.assertEqual(self.refused(PROTOCOL, ("sends", b"AMQP\0\1\0\0")), "127.0.0.1:PORT: the server speaks another version of AMQP")
         self.assertEqual(self.refused(PROTOCOL, ("sends", b"HTTP/1.1 400 Bad Request\r\n")), "127.0.0.1:PORT: what came is no frame of AMQP 0-9-1")
+        self.assertEqual(self.refused(PROTOCOL, ("sends", bytes.fromhex("01 0000 00000ff9"))), "127.0.0.1:PORT: what came is no frame of AMQP 0-9-1")
         self.assertEqual(self.refused(PROTOCOL, ("sends", START[:-1] + b"\0")), "127.0.0.1:PORT: a frame has no end")
         self.assertEqual(self.refused(PROTOCOL, ("sends", START.replace(b"PLAIN", b"OTHER"))), "127.0.0.1:PORT: the server has no login by PLAIN")
         self.assertEqual(self.refused(PROTOCOL, ("sends", bytes.fromhex("01 0000 00000004 000a 000a ce"))), "127.0.0.1:PORT: the arguments of a method end early")
@@ -125,6 +129,11 @@ class Commands(unittest.TestCase):
         self.assertEqual(self.published(("sends", ACK_1)), (1, [(1, True)], {}))
         self.assertEqual(self.published(("sends", nack)), (1, [(1, False)], {}))
         self.assertEqual(self.published(("sends", returned + HEADER + BODY + ACK_1)), (1, [(1, False)], {}))
+
+    def test_a_confirm_of_nothing(self):
+        for number in (0, 2):
+            with self.assertRaisesRegex(Fault, f"a confirm of {number} came, which waits for none"):
+                self.published(("sends", ACK_1[:18] + bytes([number]) + b"\0\xce"))
 
     def test_a_confirm_of_many(self):
         def work(client):
@@ -186,6 +195,42 @@ class Commands(unittest.TestCase):
     def test_names_that_are_too_long(self):
         with self.assertRaisesRegex(Fault, "256 bytes"):
             self.with_client((), lambda it: it.queue("x" * 256))
+
+
+class Anything(unittest.TestCase):
+    """Whatever a server says, there is an answer or a fault."""
+
+    SAID = (START, TUNE, OPEN_OK, CHANNEL_OK, AUDIT_OK, SELECT_OK, ACK_1, GET_OK, HEADER, BODY, GET_EMPTY)
+
+    def heard(self, data):
+        """What comes of a few commands if the server says this and ends; true if all are answered."""
+        with Scripted(("sends", data)) as server:
+            try:
+                client = Client("127.0.0.1", server.port, "till", "till", patience=2)
+            except Fault:
+                return False
+            with client:
+                try:
+                    client.queue("audit")
+                    client.select()
+                    client.publish(SENT)
+                    client.settled()
+                    return (client.get("audit"), client.get("audit")) == ((5, True, SENT), None)
+                except Fault:
+                    return False
+
+    def test_each(self):
+        chance, whole = random.Random(7), b"".join(self.SAID)
+        self.assertTrue(self.heard(whole))
+        for _ in range(300):
+            data = bytearray(whole)
+            for _ in range(chance.randint(1, 3)):
+                data[chance.randrange(len(data))] = chance.choice((0, 1, 255, chance.randrange(256)))
+            self.heard(bytes(data[: chance.choice((len(data), chance.randrange(len(data))))]))
+        for _ in range(100):
+            said = list(self.SAID)
+            chance.shuffle(said)
+            self.heard(START + TUNE + OPEN_OK + CHANNEL_OK + b"".join(said))
 
 
 class Addresses(unittest.TestCase):

@@ -56,11 +56,11 @@ class Depths(unittest.TestCase):
         self.assertEqual(rows[3:], [["7", "2", '"audit"'], ["1", "0", '"a', '\\"b\\"\\n"'], ["-", '"gone"', "is", "not", "there"]])
 
     def test_alarms(self):
-        both = 'depths: lost: 3 of 4 messages\ndepths: none: 0 of 0 messages\n'
+        both = 'depths: "lost": 3 of 4 messages\ndepths: "none": 0 of 0 messages\n'
         status, out, said = self.asked("--once", "--alarm", "0.75")
         self.assertEqual((status, said), (1, both))
         self.assertEqual([line.split()[-1] for line in out.splitlines() if " ! " in line], ['"none"', '"lost"'])
-        self.assertEqual(self.asked("--once", "--alarm", "0.76")[0::2], (1, "depths: none: 0 of 0 messages\n"))
+        self.assertEqual(self.asked("--once", "--alarm", "0.76")[0::2], (1, 'depths: "none": 0 of 0 messages\n'))
         self.assertEqual(self.asked("--prometheus", "--alarm", "0.75")[0::2], (1, both))
 
     def test_metrics(self):

@@ -6,17 +6,19 @@ What is looked for is that no message is lost, wherever either of them is broken
 import json
 import os
 import resource
+import stat
 import subprocess
 import sys
 import tempfile
 import unittest
+from unittest import mock
 
 TOOL = os.path.dirname(os.path.dirname(os.path.abspath(__file__)))
 FILL = os.path.join(TOOL, "../fill")
 sys.path[:0] = [TOOL, FILL, os.path.join(TOOL, ".."), os.path.join(TOOL, "../amqp/tests")]
 sys.dont_write_bytecode = True
 from amqp.client import Delivery, Depth, Message  # noqa: E402
-from amqp.message_file import line_of_message, look_through, message_of  # noqa: E402
+from amqp.message_file import line_of_message, look_through, message_of, new_file  # noqa: E402
 from amqp.wire import Fault  # noqa: E402
 from draining import BATCH, drain  # noqa: E402
 from fake import Broker, Queue  # noqa: E402
@@ -67,6 +69,7 @@ class Together(unittest.TestCase):
             self.assertEqual(self.drain(server), (0, f'drain: {len(sent)} messages of "audit" were moved to audit.messages'))
             self.assertEqual(server.queues["audit"].ready, [])
         self.assertEqual(self.kept(), sent)
+        self.assertEqual(stat.S_IMODE(os.stat(self.file).st_mode), 0o600)
         with Broker({"audit": Queue()}) as server:
             self.assertEqual(self.fill(server), (0, f'fill: {len(sent)} of {len(sent)} messages were published to "audit"'))
             self.assertEqual(server.queues["audit"].ready, [(b"", b"audit", properties, body) for _, _, properties, body in sent])
@@ -233,6 +236,16 @@ class Order(unittest.TestCase):
         both = Recorder(2)
         self.assertEqual(list(drain(both, "audit", both)), [2])
         self.assertEqual(both.said, ["write 1", "write 2", "sync", "ack 2 and all before"])
+
+
+    def test_what_is_kept_is_on_the_disk(self):
+        with tempfile.TemporaryDirectory() as folder, mock.patch("os.fsync", side_effect=lambda handle: sizes.append(os.fstat(handle).st_size)):
+            sizes = []
+            with new_file(folder + "/file", "audit") as kept:
+                before = sizes[0]
+                kept.write(Message(*messages(1)[0]))
+                kept.keep()
+                self.assertEqual(sizes[-1], before + len(line_of_message(Message(*messages(1)[0]))))
 
 
 class Windows(unittest.TestCase):

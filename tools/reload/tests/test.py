@@ -12,9 +12,10 @@ import threading
 import unittest
 
 TOOL = os.path.dirname(os.path.dirname(os.path.abspath(__file__)))
-sys.path.insert(0, os.path.join(TOOL, "../amqp/tests"))
+sys.path[:0] = [TOOL, os.path.join(TOOL, ".."), os.path.join(TOOL, "../amqp/tests")]
 sys.dont_write_bytecode = True
 from fake import Broker, Queue  # noqa: E402
+from folders import swap  # noqa: E402
 
 LOGIN = {**os.environ, "WARREN_PASSWORD": "till"}
 # it ends with the status that the guarantees file has; `check` writes certificates if that is 0, and `verify` wants them
@@ -129,6 +130,22 @@ class Reloads(unittest.TestCase):
             os.rename(new, elsewhere + "/far")
             self.assertEqual(self.run_tool(elsewhere + "/far")[0], 0)
             self.assertEqual(self.leads_to(), elsewhere + "/far")
+
+    def test_the_link_always_leads_somewhere(self):
+        new, over, missed = self.folder("new", definitions([], [])), threading.Event(), []
+
+        def read():
+            while not over.is_set():
+                if not os.path.exists(self.link + "/definitions.json"):
+                    missed.append(1)
+
+        reader = threading.Thread(target=read)
+        reader.start()
+        for it in (self.old, new) * 300:
+            swap(self.link, it)
+        over.set()
+        reader.join()
+        self.assertEqual(missed, [])
 
     def test_guarantees_that_do_not_hold(self):
         for status, shown, said in ((1, '1 no key "orders"\n', "a guarantee does not hold, or a certificate has a fault"), (2, "1 undecided states\n", "a guarantee is undecided"), (3, "", "warren: new3/guarantees.json: refused 5")):
