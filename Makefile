@@ -1,7 +1,7 @@
 # `make` alone lists the targets.
 SHELL := bash
 .SHELLFLAGS := -o pipefail -c
-.PHONY: help try look warren run shop verdicts serve clients libraries deploy reload load refusals cases same promise prose tools pictures examples bench install test
+.PHONY: help try look warren run shop verdicts serve clients libraries deploy reload load refusals cases same promise prose tools pictures examples bench install package manual test
 
 # where `make install` puts the program
 PREFIX ?= /usr/local
@@ -25,7 +25,9 @@ help:
 	@echo "  make pictures  draws the shop anew, whole and broken, with Graphviz"
 	@echo "  make examples  replays the examples, and compares them with their outputs and with the cases"
 	@echo "  make bench     prints what publishes, deliveries, routes and large files cost"
-	@echo "  make install   puts the proved program into $(PREFIX)/bin"
+	@echo "  make install   puts the proved program into $(PREFIX)/bin, with its manual page and completions"
+	@echo "  make package   makes a Debian package of the proved program, and prints its SHA-256"
+	@echo "  make manual    makes the manual page and the completions anew, of the program's help"
 	@echo "  make test      proves every crate, tries the must-fail edits, runs the tests and the program    about an hour"
 	@echo "without rt, with Python 3 alone:"
 	@echo "  make prose     tells how long sentences are, page by page, and looks for dead links"
@@ -149,13 +151,22 @@ examples: same warren
 	@sed 's/"orders\.#"/"orders.*.#"/' $(SHOP)/definitions.json > $(CHANGED)
 	@$(WARREN) check $(CHANGED) $(SHOP)/guarantees.json > $(OUT)/verdicts || [ $$? -eq 1 ]
 	@python3 tools/draw $(CHANGED) $(BROKEN) | cmp - $(SHOP)/broken.dot
-
+	@python3 tools/manual --check --program $(WARREN)
 bench:
 	@$(PROVED) benchmarks > /dev/null
 	@crates/benchmarks/out/benchmarks all
 
 install: warren
 	@install -D $(WARREN) $(PREFIX)/bin/warren
+	@install -D -m 644 tools/manual/made/warren.1 $(PREFIX)/share/man/man1/warren.1
+	@install -D -m 644 tools/manual/made/warren.bash $(PREFIX)/share/bash-completion/completions/warren
+	@install -D -m 644 tools/manual/made/_warren $(PREFIX)/share/zsh/site-functions/_warren
+
+package: warren
+	@python3 tools/package $(WARREN) $(OUT)
+
+manual: warren
+	@python3 tools/manual --program $(WARREN)
 
 test: same tools
 	@rt ci

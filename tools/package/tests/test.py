@@ -1,0 +1,115 @@
+"""The tests of package, which want Python 3, and dpkg-deb for most: python3 tools/package/tests/test.py"""
+
+import gzip
+import hashlib
+import json
+import os
+import shutil
+import stat
+import subprocess
+import sys
+import tempfile
+import unittest
+
+TOOL = os.path.dirname(os.path.dirname(os.path.abspath(__file__)))
+TOP = os.path.dirname(os.path.dirname(TOOL))
+sys.path[:0] = [TOOL, os.path.join(TOOL, ".."), os.path.join(TOOL, "../from_rabbitmq")]
+sys.dont_write_bytecode = True
+from causes import causes_of  # noqa: E402
+from tree import FILES, SCRIPTS, libraries_of  # noqa: E402
+
+PATHS = {
+    "etc/warren/first/certificates.json": 0o640, "etc/warren/first/definitions.json": 0o640, "etc/warren/first/guarantees.json": 0o640,
+    "lib/systemd/system/warren.service": 0o644, "usr/bin/warren": 0o755, "usr/share/bash-completion/completions/warren": 0o644,
+    "usr/share/man/man1/warren.1.gz": 0o644, "usr/share/zsh/vendor-completions/_warren": 0o644,
+}  # fmt: skip
+
+
+def contents(name):
+    with open(name, "rb") as file:
+        return file.read()
+
+
+class Packages(unittest.TestCase):
+    def setUp(self):
+        folder = tempfile.TemporaryDirectory()
+        self.addCleanup(folder.cleanup)
+        self.folder, self.program = folder.name, os.path.join(folder.name, "warren")
+        self.write("#!/bin/sh\necho warren 1.2.3\n# GLIBC_2.9 GLIBC_2.34 GLIBC_2.2.5\n")
+
+    def write(self, text):
+        with open(self.program, "w", encoding="utf-8") as file:
+            file.write(text)
+        os.chmod(self.program, 0o755)
+
+    def run_tool(self, *words):
+        done = subprocess.run([sys.executable, TOOL, *words], capture_output=True, text=True, timeout=60, env={**os.environ, "SOURCE_DATE_EPOCH": "1700000000"})
+        return done.returncode, done.stdout, done.stderr
+
+    @unittest.skipUnless(shutil.which("dpkg-deb"), "no dpkg-deb here")
+    def test_a_package(self):
+        status, out, said = self.run_tool(self.program, self.folder)
+        self.assertEqual((status, said), (0, ""))
+        lines = [line.split("  ") for line in out.splitlines()]
+        self.assertEqual([(hashlib.sha256(contents(name)).hexdigest()) for _, name in lines], [it for it, _ in lines])
+        package = lines[1][1]
+        self.assertEqual(lines[0][1], self.program)
+        self.assertTrue(os.path.basename(package).startswith("warren_1.2.3_"))
+        field = {it: subprocess.run(["dpkg-deb", "-f", package, it], capture_output=True, text=True).stdout.strip() for it in ("Package", "Version", "Depends")}
+        self.assertEqual(field, {"Package": "warren", "Version": "1.2.3", "Depends": "libc6 (>= 2.34), libgcc-s1, passwd"})
+        self.files_are_right(package)
+        before = contents(package)
+        os.unlink(package)
+        self.run_tool(self.program, self.folder)
+        self.assertEqual(contents(package), before, "the same sources give the same package")
+
+    def files_are_right(self, package):
+        tree = os.path.join(self.folder, "tree")
+        subprocess.run(["dpkg-deb", "-R", package, tree], check=True)
+        found = {os.path.relpath(os.path.join(at, it), tree) for at, _, names in os.walk(tree) for it in names}
+        self.assertEqual({it for it in found if not it.startswith("DEBIAN/")}, set(PATHS))
+        for name, mode in PATHS.items():
+            self.assertEqual(stat.S_IMODE(os.stat(os.path.join(tree, name)).st_mode), mode, name)
+        self.assertEqual(contents(tree + "/usr/bin/warren"), contents(self.program))
+        self.assertEqual(gzip.decompress(contents(tree + "/usr/share/man/man1/warren.1.gz")), contents(TOP + "/tools/manual/made/warren.1"))
+        unit = contents(tree + "/lib/systemd/system/warren.service").decode()
+        self.assertTrue(unit.startswith("[Unit]\n"))
+        self.assertIn("\nExecStart=/usr/bin/warren serve /etc/warren/current/definitions.json ", unit)
+        self.assertEqual(sorted(contents(tree + "/DEBIAN/conffiles").decode().split()), sorted("/" + it for it in PATHS if it.startswith("etc/")))
+
+    def test_the_files_let_nobody_in(self):
+        """The reader of from_rabbitmq finds nothing against the definitions, which name no user."""
+        self.assertEqual(causes_of(FILES["definitions.json"].encode()), [])
+        self.assertEqual(json.loads(FILES["definitions.json"])["users"], [])
+        self.assertEqual((json.loads(FILES["guarantees.json"]), json.loads(FILES["certificates.json"])), ({"guarantees": []}, []))
+
+    def test_the_scripts_are_scripts(self):
+        for name in SCRIPTS:
+            self.assertEqual(subprocess.run(["sh", "-n", os.path.join(TOOL, "files", name)], capture_output=True).returncode, 0)
+            self.assertNotIn(b"systemctl start", contents(os.path.join(TOOL, "files", name)))
+            self.assertNotIn(b"restart ", contents(os.path.join(TOOL, "files", name)))
+
+    def test_the_library(self):
+        self.assertEqual(libraries_of(self.program), "libc6 (>= 2.34), libgcc-s1")
+        self.write("#!/bin/sh\n")
+        self.assertEqual(libraries_of(self.program), "libc6")
+
+    def test_what_is_wrong_is_one_line(self):
+        def refused(*words):
+            status, out, said = self.run_tool(*words)
+            self.assertEqual((status, out, said.count("\n"), said[:9]), (3, "", 1, "package: "), said)
+            return said
+
+        self.assertIn("No such file", refused("/nowhere/warren", self.folder))
+        self.assertIn("required", refused(self.program))
+        for text in ("#!/bin/sh\n", "#!/bin/sh\necho warden 1.0\n", "#!/bin/sh\necho warren 1.0 and more\n"):
+            self.write(text)
+            self.assertIn("does not say which version", refused(self.program, self.folder))
+        if shutil.which("dpkg-deb"):
+            self.write("#!/bin/sh\necho warren 1\n")
+            self.assertIn("dpkg-deb failed", refused(self.program, "/nowhere/folder"))
+            self.assertIn("one line", refused(self.program, self.folder, "--maintainer", "a\nb"))
+
+
+if __name__ == "__main__":
+    unittest.main()

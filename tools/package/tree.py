@@ -1,0 +1,74 @@
+"""What a package has: its files, and what the system is told of it."""
+
+import gzip
+import os
+import re
+import subprocess
+
+from amqp.wire import Fault
+
+HERE = os.path.dirname(os.path.abspath(__file__))
+VERSION = re.compile(r"warren ([0-9][0-9.]*)\n")
+FIRST = "etc/warren/first"
+# a broker that nobody may log in to, and that has no queue
+FILES = {
+    "definitions.json": '{"vhosts":[{"name":"/"}],\n"users":[],\n"permissions":[],\n"exchanges":[],\n"queues":[],\n"bindings":[]}\n',
+    "guarantees.json": '{"guarantees":[]}\n',
+    "certificates.json": "[]",
+}
+SCRIPTS = ("postinst", "prerm", "postrm")
+
+
+def version_of(program):
+    """The version that the program tells."""
+    try:
+        done = subprocess.run([os.path.abspath(program), "--version"], stdout=subprocess.PIPE, stderr=subprocess.STDOUT, timeout=20)
+        return VERSION.fullmatch(done.stdout.decode(errors="replace")).group(1)
+    except (AttributeError, subprocess.TimeoutExpired):
+        raise Fault(f"{program} does not say which version of warren it is") from None
+
+
+def put(tree, name, data, mode=0o644):
+    path = os.path.join(tree, name)
+    os.makedirs(os.path.dirname(path), mode=0o755, exist_ok=True)
+    with open(path, "wb") as file:
+        file.write(data)
+    os.chmod(path, mode)
+
+
+def contents(name):
+    with open(name, "rb") as file:
+        return file.read()
+
+
+def unit_of(data):
+    """The unit of the repository for a program of a package, without the remarks at its top."""
+    return data[data.index(b"[Unit]") :].replace(b"/usr/local/bin/", b"/usr/bin/")
+
+
+def lay_out(tree, program, made, unit):
+    put(tree, "usr/bin/warren", contents(program), 0o755)
+    put(tree, "usr/share/man/man1/warren.1.gz", gzip.compress(contents(os.path.join(made, "warren.1")), mtime=0))
+    put(tree, "usr/share/bash-completion/completions/warren", contents(os.path.join(made, "warren.bash")))
+    put(tree, "usr/share/zsh/vendor-completions/_warren", contents(os.path.join(made, "_warren")))
+    put(tree, "lib/systemd/system/warren.service", unit_of(contents(unit)))
+    for name, text in FILES.items():
+        put(tree, f"{FIRST}/{name}", text.encode(), 0o640)
+
+
+def libraries_of(program):
+    """The C library of the newest version that the program asks for."""
+    versions = {tuple(map(int, it.split(b"."))) for it in re.findall(rb"\bGLIBC_([0-9]+(?:\.[0-9]+)+)", contents(program))}
+    newest = ".".join(map(str, max(versions))) if versions else None
+    return f"libc6 (>= {newest}), libgcc-s1" if newest else "libc6"
+
+
+def control(tree, program, version, architecture, maintainer):
+    if "\n" in maintainer:
+        raise Fault("a maintainer is one line")
+    fields = {"Package": "warren", "Version": version, "Architecture": architecture, "Maintainer": maintainer, "Depends": f"{libraries_of(program)}, passwd", "Section": "net", "Priority": "optional"}
+    fields["Description"] = "message broker for AMQP 0-9-1 whose routing is certified\n It keeps messages in memory alone. An installation starts and restarts nothing,\n for a stop loses all messages."
+    put(tree, "DEBIAN/control", "".join(f"{name}: {it}\n" for name, it in fields.items()).encode())
+    put(tree, "DEBIAN/conffiles", "".join(f"/{FIRST}/{it}\n" for it in FILES).encode())
+    for name in SCRIPTS:
+        put(tree, f"DEBIAN/{name}", contents(os.path.join(HERE, "files", name)), 0o755)

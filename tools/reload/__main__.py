@@ -1,0 +1,86 @@
+#!/usr/bin/env python3
+"""Puts a folder of files in force for a broker that runs with --reload. The broker has to be started with the three names under FOLDER, which is
+a link to a folder. This checks the definitions and the guarantees of the folder NEW, writes its certificates, verifies them, has the link lead
+to NEW at once, and looks by a passive declare whether the broker has it."""
+
+import os
+import sys
+import time
+
+HERE = os.path.dirname(os.path.abspath(__file__))
+sys.path[:0] = [HERE, os.path.dirname(HERE)]
+from amqp.program import DONE, NOT_WHOLE, STATUSES, Words, log_in, run, tell  # noqa: E402
+from amqp.wire import Fault  # noqa: E402
+from folders import certify, check_folders, mark, path_in, swap  # noqa: E402
+from probes import probe_of  # noqa: E402
+
+# seconds between two questions
+PAUSE = 0.2
+
+
+def seconds(text):
+    number = float(text)
+    if not 0 <= number <= 86400:
+        raise ValueError
+    return number
+
+
+def words():
+    parser = Words("reload", __doc__, STATUSES)
+    parser.add_argument("folder", metavar="FOLDER", help="the link, such as /etc/warren/current")
+    parser.add_argument("new", metavar="NEW", help="the folder with the new definitions.json and guarantees.json")
+    parser.add_argument("--look", dest="server", metavar="USER@HOST[:PORT]", help="the broker to ask; without it nobody is asked")
+    parser.add_argument("--password-file", metavar="FILE", help="the password is its first line; without it, that of WARREN_PASSWORD in the environment, else it is asked for")
+    parser.add_argument("--mark", action="store_true", help="put an exchange into the new definitions whose name says which files these are, so that the broker can be asked for it")
+    parser.add_argument("--seconds", type=seconds, default=60, help="how long to look (60)")
+    parser.add_argument("--warren", metavar="PROGRAM", default="warren", help="the program (warren)")
+    return parser.parse_args()
+
+
+def look(client, probe, limit):
+    """How many seconds it took until what is asked for was so; none if it never was."""
+    began = time.monotonic()
+    while not probe.holds(client):
+        if time.monotonic() - began > limit:
+            return None
+        time.sleep(PAUSE)
+    return time.monotonic() - began
+
+
+def swap_and_look(given, client, probe, old):
+    if probe.holds(client):
+        raise Fault(f"the broker has {probe} before anything was changed: its files are not those of {given.folder}")
+    swap(given.folder, given.new)
+    try:
+        took = look(client, probe, given.seconds)
+    except Fault as error:
+        tell("reload", f"{given.folder} leads to {given.new}; whether it is in force is not known: {error}")
+        return NOT_WHOLE
+    if took is None:
+        tell("reload", f"{given.folder} leads to {given.new}, which is not in force after {given.seconds:g} seconds; the broker's standard error says why, and `reload {given.folder} {old}` goes back")
+        return NOT_WHOLE
+    tell("reload", f"{given.new} is in force: after {took:.1f} seconds the broker has {probe}")
+    return DONE
+
+
+def work(given):
+    check_folders(given.folder, given.new)
+    old = os.path.realpath(given.folder)
+    if given.mark:
+        mark(given.new)
+    certify(given.warren, given.new)
+    if given.server is None:
+        swap(given.folder, given.new)
+        tell("reload", f"{given.folder} leads to {given.new}; whether it is in force was not asked")
+        return DONE
+    probe = probe_of(path_in(old, 0), path_in(given.new, 0))
+    with log_in(given) as client:
+        if probe:
+            return swap_and_look(given, client, probe, old)
+        swap(given.folder, given.new)
+        tell("reload", f"{given.folder} leads to {given.new}; no queue and no exchange came or went, so the broker can't be asked whether it is in force; --mark makes it so")
+        return NOT_WHOLE
+
+
+if __name__ == "__main__":
+    sys.exit(run("reload", lambda: work(words())))
