@@ -13,7 +13,7 @@ import unittest
 
 TOOL = os.path.dirname(os.path.dirname(os.path.abspath(__file__)))
 TOP = os.path.dirname(os.path.dirname(TOOL))
-sys.path[:0] = [TOOL, os.path.join(TOOL, ".."), os.path.join(TOOL, "../from_rabbitmq")]
+sys.path[:0] = [TOOL, os.path.join(TOOL, ".."), os.path.join(TOOL, "../shared")]
 sys.dont_write_bytecode = True
 from causes import causes_of  # noqa: E402
 from tree import FILES, SCRIPTS, libraries_of  # noqa: E402
