@@ -14,8 +14,9 @@ import unittest
 HERE = os.path.dirname(os.path.abspath(__file__))
 TOOL = os.path.dirname(HERE)
 SHOP = os.path.join(TOOL, "../../examples/shop")
-sys.path[:0] = [TOOL, os.path.join(TOOL, "../shared")]
-from checker import Check, Pattern, Topology, refutes, words_of  # noqa: E402
+sys.path[:0] = [TOOL, os.path.join(TOOL, "../shared"), os.path.join(TOOL, "../why/tests")]
+from broken import never, reaches, topology  # noqa: E402
+from checker import Check, Fault, Pattern, Topology, refutes, words_of  # noqa: E402
 from files import Refused, read_certificates  # noqa: E402
 from rows import guarantee_of, rows  # noqa: E402
 
@@ -101,6 +102,43 @@ class Rows(unittest.TestCase):
             checked += row.kind in ("match", "places")
         self.assertGreater(checked, 40)
         self.assertEqual(words_of("a..b"), ["a", "", "b"])
+
+
+class ByHand(unittest.TestCase):
+    """What no row tells apart, worked out by docs/FORMATS.md."""
+
+    def fault(self, definitions, guarantee, tracked, states):
+        return Check(Topology(definitions), guarantee, {**guarantee, "form": 2, "tracked": tracked, "states": states}).fault()
+
+    def test_what_is_not_tracked_may_be_of_a_never(self):
+        bound = topology({"X": "topic"}, {"q": None}, [("X", "pay", "q")])
+        self.assertEqual(self.fault(bound, never("X", "#", "q"), [0], [[2], [3]]), Fault(4, 0))
+        beside = topology({"X": "topic U", "U": "fanout"}, {"A": None, "B": None}, [("X", "pay", "A"), ("U", "", "B")])
+        self.assertEqual(self.fault(beside, never("X", "#", "B"), [0], [[2], [3]]), Fault(4, 0))
+        by_name = topology({}, {"q": None, "r": None}, [])
+        self.assertEqual(self.fault(by_name, never("", "q", "r"), [0], [[1], [2]]), Fault(4, 1))
+        self.assertEqual(self.fault(by_name, never("", "q", "r"), [0, 2], [[1, 1], [2, 0]]), None)
+
+    def test_the_guarantees_own_pattern_is_tracked(self):
+        """Without it nothing would be covered, and everything be kept."""
+        definitions = topology({"X": "topic"}, {"q": None}, [("X", "a", "q")])
+        self.assertEqual(self.fault(definitions, reaches("X", "b", "q"), [1], [[1], [2]]), Fault(5))
+        self.assertEqual(self.fault(definitions, reaches("X", "b", "q"), [0], [[1], [2]]), Fault(3, 1))
+
+    def test_lists_of_tracked_patterns(self):
+        def listed(definitions, guarantee):
+            return [("topic" if it.is_topic else "literal", it.text) for it in Topology(definitions).tracked(guarantee)]
+
+        dying = topology({"D": "topic", "X": "topic", "F": "fanout"}, {"q": ("D",), "r": None}, [("X", "a", "q"), ("D", "b", "r"), ("X", "f", "F"), ("F", "g", "r")])
+        self.assertEqual(listed(dying, reaches("X", "p", "q")), [("topic", "p"), ("topic", "a"), ("topic", "f")])
+        self.assertEqual(listed(dying, never("X", "p", "q")), [("topic", "p"), ("topic", "b"), ("topic", "a"), ("topic", "f")])
+        by_name = topology({"X": "topic", "Y": "direct"}, {"q": ("",), "r": None, "k": None}, [("X", "k", "q"), ("Y", "k", "q"), ("Y", "*", "r"), ("X", "z", "Y"), ("X", "*", "r")])
+        names = [("literal", "q"), ("literal", "r"), ("literal", "k")]
+        keys = [("topic", "k"), ("topic", "z"), ("topic", "*")]
+        self.assertEqual(listed(by_name, never("X", "#", "r")), [("topic", "#"), *names, *keys, ("literal", "*")])
+        self.assertEqual(listed(by_name, {**reaches("X", "k", "q"), "except": ["*", "k", "*"]}), [("topic", "k"), ("topic", "*"), ("topic", "z"), ("literal", "k"), ("literal", "*")])
+        fixed = topology({"X": "fanout", "D": "topic"}, {"q": ("D", "b")}, [("X", "", "q"), ("D", "b", "q")])
+        self.assertEqual(listed(fixed, never("X", "#", "q")), [("topic", "#")])
 
 
 class Lines(unittest.TestCase):
