@@ -43,7 +43,7 @@ def work(given):
             moved, consumers = move(client, given.queue, kept)
     told = f"{moved} messages of {quoted(given.queue)} were moved to {given.file}"
     if consumers:
-        tell("drain", f"{told}; {consumers} consumers are there, and what they hold is not in it")
+        tell("drain", f"{told}; consumers that are there: {consumers}, and what they hold is not in it")
         return NOT_WHOLE
     tell("drain", told)
     return DONE

@@ -87,7 +87,7 @@ class Together(unittest.TestCase):
 
     def test_consumers_are_told(self):
         with Broker({"audit": Queue(messages(2), consumers=3)}) as server:
-            told = 'drain: 2 messages of "audit" were moved to audit.messages; 3 consumers are there, and what they hold is not in it'
+            told = 'drain: 2 messages of "audit" were moved to audit.messages; consumers that are there: 3, and what they hold is not in it'
             self.assertEqual(self.drain(server), (1, told))
 
     def test_a_drain_that_breaks_off_loses_nothing(self):
