@@ -1,7 +1,7 @@
 # `make` alone lists the targets.
 SHELL := bash
 .SHELLFLAGS := -o pipefail -c
-.PHONY: help try look run shop verdicts serve clients libraries deploy reload load refusals cases same promise prose tools pictures examples bench install test
+.PHONY: help try look run shop verdicts serve clients libraries deploy reload load refusals cases same promise edits prose tools pictures examples bench install test
 
 # where `make install` puts the program
 PREFIX ?= /usr/local
@@ -114,10 +114,15 @@ promise:
 prose:
 	@python3 tools/prose
 
-tools: promise
+# each must-fail edit still applies, and has its row in the table of wrong bodies
+edits:
+	@python3 tools/edits
+
+tools: promise edits
 	@python3 tools/from_rabbitmq/tests/test.py
 	@python3 tools/draw/tests/test.py
 	@python3 tools/promise/tests/test.py
+	@python3 tools/edits/tests/test.py
 
 # makes the shop's pictures anew; this wants Graphviz
 pictures:
