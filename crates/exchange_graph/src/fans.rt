@@ -59,10 +59,7 @@ fn patterns_of(alloc: Global, ways: &[Branch]) -> Result<Vec<Pattern>, AllocErro
 {
     let mut found = Vec::new(alloc);
     for way in ways {
-        match Pattern::read(alloc, way.key.as_bytes()) {
-            Ok(pattern) => found.push(pattern)?,
-            Err(_) => return Err(AllocError),
-        }
+        found.push(Pattern::of(alloc, way.key.as_bytes())?)?;
     }
     Ok(found)
 }
