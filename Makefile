@@ -1,7 +1,7 @@
 # `make` alone lists the targets.
 SHELL := bash
 .SHELLFLAGS := -o pipefail -c
-.PHONY: help try look warren run shop verdicts serve clients libraries deploy reload load refusals cases same promise prose tools pictures examples bench install package manual test
+.PHONY: help try look warren run shop verdicts serve clients libraries deploy reload load refusals cases same promise edits prose tools pictures examples bench install package manual test
 
 # where `make install` puts the program
 PREFIX ?= /usr/local
@@ -126,7 +126,11 @@ prose:
 # each script's own tests, four at a time: a line for each, and all that one says that fails
 ONE_TEST = said=$$(python3 {} 2>&1) && echo "{}: $$(echo "$$said" | grep ^Ran)" || { echo "$$said"; exit 1; }
 
-tools: promise
+# each must-fail edit still applies, and has its row in the table of wrong bodies
+edits:
+	@python3 tools/edits
+
+tools: promise edits
 	@ls tools/*/tests/test.py | xargs -P 4 -I {} sh -c '$(ONE_TEST)'
 
 # makes the shop's pictures anew; this wants Graphviz
@@ -152,6 +156,7 @@ examples: same warren
 	@$(WARREN) check $(CHANGED) $(SHOP)/guarantees.json > $(OUT)/verdicts || [ $$? -eq 1 ]
 	@python3 tools/draw $(CHANGED) $(BROKEN) | cmp - $(SHOP)/broken.dot
 	@python3 tools/manual --check --program $(WARREN)
+
 bench:
 	@$(PROVED) benchmarks > /dev/null
 	@crates/benchmarks/out/benchmarks all

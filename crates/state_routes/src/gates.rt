@@ -99,7 +99,7 @@ fn gate_of(topology: &Topology, queue: &[u8], patterns: &[Tracked], binding: &Bi
 {
     let kind = kind_at(topology, binding.source.as_bytes());
     Gate {
-        link: link_of(topology.exchanges(), queue, binding),
+        link: link_of(topology, queue, binding),
         test: test_by(patterns, kind, binding.key.as_bytes()),
     }
 }

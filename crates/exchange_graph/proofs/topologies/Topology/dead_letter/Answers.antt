@@ -1,5 +1,5 @@
 use Rattle.exchange_graph.proofs.DeadSteps.{none_dies, none_leads}
-use Rattle.exchange_graph.proofs.topologies.Topology.dead_route.Goals as goal
+use Rattle.exchange_graph.proofs.topologies.Topology.dead_letter.Goals as goal
 
 pub returns-in_default : goal.returns-in_default
 returns-in_default c = none_dies c.args.self.now c.args.queue.now c.in_default.ensures.absent
