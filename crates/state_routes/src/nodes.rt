@@ -4,7 +4,7 @@ ghost use Rattle.std.specs.Prelude.{◌≡◌, ◌+◌, ◌<◌, ◌≤◌, leng
 ghost use Rattle.exchange_graph.specs.Fans.{exchange_place};
 ghost use Rattle.state_routes.specs.Nodes.{alternate_links, any_links, end_node, link_of, links_of, node};
 
-use crate::reach::Hop;
+use dead_paths::Hop;
 use exchange_graph::Topology;
 use model::{Binding, Exchange, Place};
 use std::alloc::{AllocError, Global};

@@ -9,7 +9,7 @@ ghost use Rattle.state_routes.specs.Fitting.{HavePatterns};
 use crate::deaths::{add_links, dying, unfixed_gates};
 use crate::nodes::{any_links, node};
 use crate::patterns::Patterns;
-use crate::reach::reached;
+use dead_paths::reached;
 use exchange_graph::Topology;
 use guarantees::Guarantee;
 use model::{Binding, DeclaredQueue, Exchange, ExchangeKind, Mode, Text};

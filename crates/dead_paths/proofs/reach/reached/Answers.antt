@@ -1,5 +1,5 @@
-use Rattle.state_routes.proofs.Chains.{begun_at, within_set}
-use Rattle.state_routes.proofs.reach.reached.Goals as goal
+use Rattle.dead_paths.proofs.Chains.{begun_at, within_set}
+use Rattle.dead_paths.proofs.reach.reached.Goals as goal
 
 pub spread-requires-clause-within : goal.spread-requires-clause-within
 spread-requires-clause-within c = rw (c.as_mut_slice.ensures.value, c.in_ok-marks.ensures) (within_set c.args.links.now c.args.count c.args.start c.requires.within)

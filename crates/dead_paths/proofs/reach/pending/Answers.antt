@@ -1,8 +1,8 @@
 use Rattle.std.proofs.Common.{sym, ◌∙◌, refl, arith, ℕ, List, get_or}
 use Rattle.std.specs.Prelude.{slice_index_or, false}
-use Rattle.state_routes.specs.declared.reach.Hop.{Hop}
-use Rattle.state_routes.proofs.Chains.{none_more, none_all, in_place, not_out, out, at_itself}
-use Rattle.state_routes.proofs.reach.pending.Goals as goal
+use Rattle.dead_paths.specs.declared.reach.Hop.{Hop}
+use Rattle.dead_paths.proofs.Chains.{none_more, none_all, in_place, not_out, out, at_itself}
+use Rattle.dead_paths.proofs.reach.pending.Goals as goal
 
 abbrev none : Hop
 none = record { from = 0; to = 0 }

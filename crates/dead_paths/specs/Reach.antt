@@ -2,7 +2,7 @@
 use Rattle.std.specs.Prelude.{◌≡◌, ◌<◌, ℕ, List, Bool, false, Option, Some, None, length, slice_index_or}
 use Rattle.model.specs.Topology.{IsIn}
 use Rattle.exchange_graph.specs.Marks.{IsSet}
-use Rattle.state_routes.specs.declared.reach.Hop.{Hop}
+use Rattle.dead_paths.specs.declared.reach.Hop.{Hop}
 
 -- a chain of links leads from one place to the other
 pub data Chain (links : List Hop) : ℕ → ℕ → Type 0 where

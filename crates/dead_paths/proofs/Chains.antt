@@ -5,8 +5,8 @@ use Rattle.std.proofs.lemmas.List.{length-replicate}
 use Rattle.std.proofs.lemmas.Bool.{false≢true}
 use Rattle.model.specs.Topology.{IsIn}
 use Rattle.exchange_graph.specs.Marks.{IsSet}
-use Rattle.state_routes.specs.declared.reach.Hop.{Hop}
-use Rattle.state_routes.specs.Reach.{LinksAreWithin, Chain, still, along, IsLinkPending, MarksBegin}
+use Rattle.dead_paths.specs.declared.reach.Hop.{Hop}
+use Rattle.dead_paths.specs.Reach.{LinksAreWithin, Chain, still, along, IsLinkPending, MarksBegin}
 
 pub chain_on : (links : List Hop) {a b : ℕ} → Chain links a b → (l : Hop) (c : ℕ) → IsIn l links → l.from ≡ b → l.to ≡ c → Chain links a c
 chain_on links still l c i f t = along l i f t still
