@@ -1,6 +1,7 @@
 """Loads a server over sockets, and prints what each message costs the server's process.
 
-Takes the server's port and the number of its process, and `few` where only those loads are wanted that another server is given, too.
+Takes the server's port and the number of its process, and which loads are wanted: `few`, which another server is given, too, `steady`,
+or all where none is named.
 Each load is a fixed number of messages and ends early once it has taken its seconds, so the whole ends by itself.
 """
 
@@ -11,6 +12,7 @@ import time
 
 from client import Client, properties, publish
 from occasional import latencies, publishers, tell_latencies
+from steady import steady
 
 SECONDS = 10
 """How long one load takes at most."""
@@ -209,6 +211,9 @@ def all_loads(server, small, large):
 
 def main(port, process, words):
     server = Server(port, process)
+    if words == ["steady"]:
+        steady(server)
+        return
     loads = few if words == ["few"] else all_loads
     loads(server, publish("direct", "new", SMALL), publish("direct", "new", LARGE))
 
