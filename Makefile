@@ -1,7 +1,7 @@
 # `make` alone lists the targets.
 SHELL := bash
 .SHELLFLAGS := -o pipefail -c
-.PHONY: help try look warren run shop verdicts serve clients libraries deploy reload load refusals cases same promise prose tools pictures examples bench install test
+.PHONY: help try look run shop verdicts serve clients libraries deploy reload load refusals cases same promise prose tools pictures examples bench install test
 
 # where `make install` puts the program
 PREFIX ?= /usr/local
@@ -42,6 +42,7 @@ look:
 PROVED = python3 tools/program proved
 WARREN = crates/warren/out/warren
 
+.PHONY: warren
 warren:
 	@$(PROVED) > /dev/null
 
