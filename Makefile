@@ -1,7 +1,7 @@
 # `make` alone lists the targets.
 SHELL := bash
 .SHELLFLAGS := -o pipefail -c
-.PHONY: help try look warren run shop verdicts serve clients libraries deploy reload load refusals cases same promise edits prose tools pictures examples bench install package manual test
+.PHONY: help try look run shop verdicts serve clients libraries deploy reload load refusals cases same promise edits prose tools pictures examples bench install package manual test
 
 # where `make install` puts the program
 PREFIX ?= /usr/local
@@ -44,6 +44,7 @@ look:
 PROVED = python3 tools/program proved
 WARREN = crates/warren/out/warren
 
+.PHONY: warren
 warren:
 	@$(PROVED) > /dev/null
 

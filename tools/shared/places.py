@@ -9,6 +9,7 @@ SPACE = re.compile(r"[ \t\n\r]*")
 class _Reader:
     def __init__(self, text):
         self.text, self.at, self.decoder = text, 0, json.JSONDecoder()
+        self.counted, self.lines = 0, 1
         self.skip()
 
     def skip(self):
@@ -30,7 +31,9 @@ class _Reader:
         return value
 
     def line(self):
-        return self.text.count("\n", 0, self.at) + 1
+        self.lines += self.text.count("\n", self.counted, self.at)
+        self.counted = self.at
+        return self.lines
 
     def entries(self):
         """The lines on which the entries of this array begin."""

@@ -47,6 +47,8 @@ def lines_by_entry(name):
         for place, number in enumerate(numbers if array in kinds else ()):
             entry = value[array][place] if array else value[place]
             called = f"{kinds[array]} {place + 1}" if array in ("guarantees", "") else name_of(kinds[array], entry, place)
+            if array == "topic_permissions" and isinstance(entry, dict) and isinstance(entry.get("user"), str):
+                called = f"topic permission {quoted(entry['user'])}"
             found.setdefault(called, []).append(number)
     return found
 

@@ -1,4 +1,4 @@
-"""Compares audit with warren: python3 tools/audit/tests/with_warren.py WARREN [COUNT]
+"""Compares audit with warren: python3 tools/audit/tests/with_warren.py WARREN [COUNT [SEED]]
 
 On each row of certificates.lines that is of a check or a file, and on COUNT (1,000) certificates that `warren check` found of topologies made
 at random, each then changed at random: the lines, the status and the refusal have to be the same.
@@ -186,8 +186,8 @@ def found(comparison, chance):
                 return topology, guarantees, json.load(file)
 
 
-def main(warren, count):
-    chance = random.Random(5)
+def main(warren, count, seed):
+    chance = random.Random(seed)
     with tempfile.TemporaryDirectory() as folder:
         comparison = Comparison(warren, folder)
         compared = 0
@@ -227,4 +227,4 @@ def main(warren, count):
 
 
 if __name__ == "__main__":
-    sys.exit(main(sys.argv[1], int(sys.argv[2]) if sys.argv[2:] else 1000))
+    sys.exit(main(sys.argv[1], *(int(it) for it in (sys.argv[2:] + ["1000", "5"][len(sys.argv[2:]) :]))))

@@ -171,6 +171,17 @@ class Refusals(unittest.TestCase):
         self.assertEqual(set(out.splitlines()[:-1]), wanted)
         self.assertEqual(out.splitlines()[-1], f"{names[0]}: 3 causes; warren tells the least: refused 7")
 
+    def test_policies_and_topic_permissions(self):
+        definitions = {**topology({}, {}, []), "policies": [{"name": "p"}], "topic_permissions": [{"user": "till"}]}
+        with written(json.dumps(definitions, indent=1)) as names:
+            lines = json.dumps(definitions, indent=1).splitlines()
+            status, out, _ = run(names[0])
+        # an entry begins a line before its name
+        policy, till = (next(number for number, line in enumerate(lines) if name in line) for name in ('"p"', '"till"'))
+        self.assertEqual(status, 1)
+        self.assertEqual(out.splitlines()[0], f'{names[0]}:{policy}: policy "p": none is taken (refused 7)')
+        self.assertEqual(out.splitlines()[1], f'{names[0]}:{till}: topic permission "till": none is taken (refused 7)')
+
     def test_guarantees_by_the_rows(self):
         """The least cause is the one that stands in the rows of the reader of guarantees files."""
         checked = 0
