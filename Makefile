@@ -1,7 +1,7 @@
 # `make` alone lists the targets.
 SHELL := bash
 .SHELLFLAGS := -o pipefail -c
-.PHONY: help try look run shop verdicts serve clients libraries deploy reload load refusals cases same promise prose tools pictures examples bench install package manual test
+.PHONY: help try look run shop verdicts serve clients libraries deploy reload load refusals cases same promise prose tools pictures examples bench install test
 
 # where `make install` puts the program
 PREFIX ?= /usr/local
@@ -116,11 +116,11 @@ promise:
 prose:
 	@python3 tools/prose
 
+# each script's own tests, four at a time: a line for each, and all that one says that fails
+ONE_TEST = said=$$(python3 {} 2>&1) && echo "{}: $$(echo "$$said" | grep ^Ran)" || { echo "$$said"; exit 1; }
+
 tools: promise
-	@python3 tools/from_rabbitmq/tests/test.py
-	@python3 tools/draw/tests/test.py
-	@python3 tools/promise/tests/test.py
-	@for it in amqp user depths drain reload manual package; do python3 tools/$$it/tests/test.py || exit 1; done
+	@ls tools/*/tests/test.py | xargs -P 4 -I {} sh -c '$(ONE_TEST)'
 
 # makes the shop's pictures anew; this wants Graphviz
 pictures:
@@ -141,7 +141,6 @@ examples: same
 	@cd crates/warren && rt run -- check $(EXAMPLES)/branches/definitions.json $(EXAMPLES)/branches/guarantees.json --out out/branches.json | diff $(EXAMPLES)/branches/verdicts -
 	@cmp crates/warren/out/branches.json examples/branches/certificates.json
 	@cd crates/warren && rt run -- verify $(EXAMPLES)/branches/definitions.json $(EXAMPLES)/branches/guarantees.json out/branches.json | diff $(EXAMPLES)/branches/verified -
-	@python3 tools/manual --check --program crates/warren/out/warren
 
 	@cd crates/warren && sed 's/"orders\.#"/"orders.*.#"/' $(SHOP)/definitions.json > $(CHANGED)
 	@cd crates/warren && { rt run -- check $(CHANGED) $(EXAMPLES)/shop/guarantees.json > out/verdicts || [ $$? -eq 1 ]; }
@@ -152,6 +151,16 @@ bench:
 
 install: run
 	@install -D crates/warren/out/warren $(PREFIX)/bin/warren
+
+test: same tools
+	@rt ci
+
+# the manual page and the completions, which are made of the program's help, and the package
+.PHONY: install_manual package manual same_manual
+
+install: install_manual
+
+install_manual:
 	@install -D -m 644 tools/manual/made/warren.1 $(PREFIX)/share/man/man1/warren.1
 	@install -D -m 644 tools/manual/made/warren.bash $(PREFIX)/share/bash-completion/completions/warren
 	@install -D -m 644 tools/manual/made/_warren $(PREFIX)/share/zsh/site-functions/_warren
@@ -162,5 +171,8 @@ package: run
 manual: run
 	@python3 tools/manual --program crates/warren/out/warren
 
-test: same tools
-	@rt ci
+# they are up to date with the help of the proved program
+examples: same_manual
+
+same_manual: run
+	@python3 tools/manual --check --program crates/warren/out/warren
