@@ -37,7 +37,7 @@ Depth = namedtuple("Depth", "ready consumers")
 
 
 class Refused(Fault):
-    """The server closed the channel or the connection, with a code and a text. A channel is open again, without confirms, when this is told."""
+    """The server closed the channel or the connection, with a code and a text. If it was the channel, it is open again, without confirms."""
 
     def __init__(self, what, code, text):
         said = "".join(it if it.isprintable() else "?" for it in text.decode(errors="replace"))

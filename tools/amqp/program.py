@@ -10,6 +10,7 @@ from .wire import Fault
 
 DONE, NOT_WHOLE, FAILED, BROKEN_OFF = 0, 1, 3, 130
 PORT = 5672
+PASSWORD_FILE = "the password is its first line; without it, that of WARREN_PASSWORD in the environment, else it is asked for"
 STATUSES = "Status: 0 done; 1 done, but not wholly, and a line says why; 3 not done, and a line says why."
 
 
@@ -24,7 +25,10 @@ class Words(argparse.ArgumentParser):
 
     def add_server(self):
         self.add_argument("server", metavar="USER@HOST[:PORT]", help=f"who logs in where; the port is {PORT} unless it is given")
-        self.add_argument("--password-file", metavar="FILE", help="the password is its first line; without it, that of WARREN_PASSWORD in the environment, else it is asked for")
+        self.add_password()
+
+    def add_password(self):
+        self.add_argument("--password-file", metavar="FILE", help=PASSWORD_FILE)
 
 
 def address_of(server):

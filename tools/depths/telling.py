@@ -64,10 +64,14 @@ def metrics_of(depths, limits):
     if depths is None:
         return metric("warren_up", "Whether the broker answered.", [(None, 0)])
     there = {name: it for name, it in depths.items() if it is not None}
+    ready = [(name, it.ready) for name, it in there.items()]
+    consumers = [(name, it.consumers) for name, it in there.items()]
+    stated = [(name, limits[name]) for name in there if limits[name] is not None]
+    missing = [(name, 1) for name in depths if name not in there]
     return (
         metric("warren_up", "Whether the broker answered.", [(None, 1)])
-        + metric("warren_queue_messages_ready", "Messages that are ready; those that were given out are not counted.", [(name, it.ready) for name, it in there.items()])
-        + metric("warren_queue_consumers", "Consumers.", [(name, it.consumers) for name, it in there.items()])
-        + metric("warren_queue_limit_messages", "The x-max-length of a queue that has one.", [(name, limits[name]) for name in there if limits[name] is not None])
-        + metric("warren_queue_missing", "Queues of the definitions file that the broker has not.", [(name, 1) for name in depths if name not in there])
+        + metric("warren_queue_messages_ready", "Messages that are ready; those that were given out are not counted.", ready)
+        + metric("warren_queue_consumers", "Consumers.", consumers)
+        + metric("warren_queue_limit_messages", "The x-max-length of a queue that has one.", stated)
+        + metric("warren_queue_missing", "Queues of the definitions file that the broker has not.", missing)
     )

@@ -20,7 +20,8 @@ def words():
     parser.add_argument("file", metavar="FILE", help="the file, which stays as it is")
     to = parser.add_mutually_exclusive_group()
     to.add_argument("--queue", metavar="QUEUE", help="another queue than that of the file")
-    to.add_argument("--as-sent", action="store_true", help="publish each message to the exchange and under the key that it was sent with; it comes to all queues that these lead to")
+    as_sent = "publish each message to the exchange and under the key that it was sent with; it comes to all queues that these lead to"
+    to.add_argument("--as-sent", action="store_true", help=as_sent)
     return parser.parse_args()
 
 

@@ -48,7 +48,9 @@ def words_of_usage(usage):
 
 def manual(texts):
     whole = read_help(texts["warren"])
-    lines = [f'.\\" {MADE_BY}', f'.TH WARREN 1 "" "{texts["version"].strip()}"', ".SH NAME", f"warren \\- {roff(whole.about[0].lower() + whole.about[1:])}", ".SH SYNOPSIS"]
+    about = whole.about[0].lower() + whole.about[1:]
+    lines = [f'.\\" {MADE_BY}', f'.TH WARREN 1 "" "{texts["version"].strip()}"']
+    lines += [".SH NAME", f"warren \\- {roff(about)}", ".SH SYNOPSIS"]
     for _, it in commands_of(texts):
         lines += [" ".join(words_of_usage(it.usage)), ".br"]
     lines[-1:] = [".SH COMMANDS"]
@@ -79,36 +81,49 @@ def bash_of(it):
     return options, file_options, value_options, "|".join(places)
 
 
+BASH_BEGINS = """
+_warren() {
+    local word=${COMP_WORDS[COMP_CWORD]} before=${COMP_WORDS[COMP_CWORD - 1]} command=${COMP_WORDS[1]}
+    local options= files= values= places= place=0 it
+    if ((COMP_CWORD == 1)); then
+        mapfile -t COMPREPLY < <(compgen -W "@commands @options" -- "$word")
+        return
+    fi
+    case $command in
+"""
+BASH_ENDS = """        help) ((COMP_CWORD == 2)) && mapfile -t COMPREPLY < <(compgen -W "@commands" -- "$word"); return ;;
+        *) return ;;
+    esac
+    if [[ $word == -* ]]; then
+        mapfile -t COMPREPLY < <(compgen -W "$options" -- "$word")
+        return
+    fi
+    [[ $before == : || -n $values && $before =~ ^($values)$ ]] && return
+    # which argument this is: options and their values are none, and bash parts an address at its colon
+    for ((it = 2; it <= COMP_CWORD; it++)); do
+        [[ ${COMP_WORDS[it]} == -* && $it != "$COMP_CWORD" ]] && continue
+        [[ ${COMP_WORDS[it]} == : || ${COMP_WORDS[it - 1]} == : ]] && continue
+        [[ -n $values$files && ${COMP_WORDS[it - 1]} =~ ^($values|$files)$ && ${COMP_WORDS[it - 1]} ]] && continue
+        ((++place))
+    done
+    if [[ (-n $files && $before =~ ^($files)$) || $place =~ ^($places)$ ]]; then
+        mapfile -t COMPREPLY < <(compgen -f -- "$word")
+    fi
+}
+complete -o filenames -F _warren warren
+"""
+
+
 def bash(texts):
     whole = read_help(texts["warren"])
     names = " ".join(name for name, _ in whole.commands)
     top = " ".join(name for option in whole.options for name in (option.short, option.long) if name)
-    lines = [f"# completions of warren for bash, {MADE_BY}", "", "_warren() {", '    local word=${COMP_WORDS[COMP_CWORD]} before=${COMP_WORDS[COMP_CWORD - 1]} command=${COMP_WORDS[1]}']
-    lines += ["    local options= files= values= places= place=0 it", "    if ((COMP_CWORD == 1)); then", f'        mapfile -t COMPREPLY < <(compgen -W "{names} {top}" -- "$word")', "        return", "    fi", "    case $command in"]
+    rows = ""
     for name, it in commands_of(texts):
-        options, file_options, value_options, places = bash_of(it)
-        lines += [f"        {name}) options='{options}' files='{file_options}' values='{value_options}' places='{places}' ;;"]
-    lines += [f'        help) ((COMP_CWORD == 2)) && mapfile -t COMPREPLY < <(compgen -W "{names}" -- "$word"); return ;;', "        *) return ;;", "    esac"]
-    lines += [
-        '    if [[ $word == -* ]]; then',
-        '        mapfile -t COMPREPLY < <(compgen -W "$options" -- "$word")',
-        "        return",
-        "    fi",
-        '    [[ $before == : || -n $values && $before =~ ^($values)$ ]] && return',
-        "    # which argument this is: options and their values are none, and bash parts an address at its colon",
-        "    for ((it = 2; it <= COMP_CWORD; it++)); do",
-        '        [[ ${COMP_WORDS[it]} == -* && $it != "$COMP_CWORD" ]] && continue',
-        '        [[ ${COMP_WORDS[it]} == : || ${COMP_WORDS[it - 1]} == : ]] && continue',
-        '        [[ -n $values$files && ${COMP_WORDS[it - 1]} =~ ^($values|$files)$ && ${COMP_WORDS[it - 1]} ]] && continue',
-        "        ((++place))",
-        "    done",
-        '    if [[ (-n $files && $before =~ ^($files)$) || $place =~ ^($places)$ ]]; then',
-        '        mapfile -t COMPREPLY < <(compgen -f -- "$word")',
-        "    fi",
-        "}",
-        "complete -o filenames -F _warren warren",
-    ]
-    return "\n".join(lines) + "\n"
+        options, files, values, places = bash_of(it)
+        rows += f"        {name}) options='{options}' files='{files}' values='{values}' places='{places}' ;;\n"
+    text = BASH_BEGINS + rows + BASH_ENDS
+    return f"# completions of warren for bash, {MADE_BY}\n" + text.replace("@commands", names).replace("@options", top)
 
 
 # ---- zsh
@@ -132,17 +147,43 @@ def zsh_options(it):
                 yield quoted(f"{both}{name}[{described(option.what)}]{value}")
 
 
+ZSH_BEGINS = """
+_warren() {
+    local curcontext=$curcontext state line
+    local -a commands
+    commands=(
+@commands
+    )
+    _arguments -C @options \\
+        '1:command:->command' '*::argument:->argument'
+    case $state in
+        command) _describe command commands ;;
+        argument)
+            case $words[1] in
+"""
+ZSH_ENDS = """                help) _describe command commands ;;
+            esac
+            ;;
+    esac
+}
+
+_warren "$@"
+"""
+
+
+def zsh_row(name, it):
+    """What may follow a command, each on a line of its own."""
+    places = [quoted(f"{place}:{described(what)}:{'_files' if argument in FILES else ' '}") for place, (argument, what) in enumerate(it.arguments, 1)]
+    joined = " \\\n                        ".join([*zsh_options(it), *places])
+    return f"                {name})\n                    _arguments {joined}\n                    ;;\n"
+
+
 def zsh(texts):
     whole = read_help(texts["warren"])
-    lines = ["#compdef warren", f"# completions of warren for zsh, {MADE_BY}", "", "_warren() {", "    local curcontext=$curcontext state line", "    local -a commands", "    commands=("]
-    lines += [f"        {quoted(name + ':' + described(what))}" for name, what in whole.commands]
-    lines += ["    )", "    _arguments -C " + " ".join(zsh_options(whole)) + " '1:command:->command' '*::argument:->argument'", "    case $state in", "        command) _describe command commands ;;", "        argument)", "            case $words[1] in"]
-    for name, it in commands_of(texts):
-        lines += [f"                {name})", "                    _arguments " + " ".join(zsh_options(it)) + " \\"]
-        places = [quoted(f"{place}:{described(what)}:{'_files' if argument in FILES else ' '}") for place, (argument, what) in enumerate(it.arguments, 1)]
-        lines += ["                        " + " ".join(places), "                    ;;"]
-    lines += ["                help) _describe command commands ;;", "            esac", "            ;;", "    esac", "}", "", '_warren "$@"']
-    return "\n".join(lines) + "\n"
+    commands = "\n".join(f"        {quoted(name + ':' + described(what))}" for name, what in whole.commands)
+    begins = ZSH_BEGINS.replace("@commands", commands).replace("@options", " ".join(zsh_options(whole)))
+    rows = "".join(zsh_row(*it) for it in commands_of(texts))
+    return f"#compdef warren\n# completions of warren for zsh, {MADE_BY}\n" + begins + rows + ZSH_ENDS
 
 
 def made_of(texts):

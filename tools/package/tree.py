@@ -16,6 +16,9 @@ FILES = {
     "guarantees.json": '{"guarantees":[]}\n',
     "certificates.json": "[]",
 }
+ABOUT = """message broker for AMQP 0-9-1 whose routing is certified
+ It keeps messages in memory alone. An installation starts and restarts nothing,
+ for a stop loses all messages."""
 SCRIPTS = ("postinst", "prerm", "postrm")
 
 
@@ -66,8 +69,16 @@ def libraries_of(program):
 def control(tree, program, version, architecture, maintainer):
     if "\n" in maintainer:
         raise Fault("a maintainer is one line")
-    fields = {"Package": "warren", "Version": version, "Architecture": architecture, "Maintainer": maintainer, "Depends": f"{libraries_of(program)}, passwd", "Section": "net", "Priority": "optional"}
-    fields["Description"] = "message broker for AMQP 0-9-1 whose routing is certified\n It keeps messages in memory alone. An installation starts and restarts nothing,\n for a stop loses all messages."
+    fields = {
+        "Package": "warren",
+        "Version": version,
+        "Architecture": architecture,
+        "Maintainer": maintainer,
+        "Depends": f"{libraries_of(program)}, passwd",
+        "Section": "net",
+        "Priority": "optional",
+        "Description": ABOUT,
+    }
     put(tree, "DEBIAN/control", "".join(f"{name}: {it}\n" for name, it in fields.items()).encode())
     put(tree, "DEBIAN/conffiles", "".join(f"/{FIRST}/{it}\n" for it in FILES).encode())
     for name in SCRIPTS:

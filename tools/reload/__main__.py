@@ -30,8 +30,9 @@ def words():
     parser.add_argument("folder", metavar="FOLDER", help="the link, such as /etc/warren/current")
     parser.add_argument("new", metavar="NEW", help="the folder with the new definitions.json and guarantees.json")
     parser.add_argument("--look", dest="server", metavar="USER@HOST[:PORT]", help="the broker to ask; without it nobody is asked")
-    parser.add_argument("--password-file", metavar="FILE", help="the password is its first line; without it, that of WARREN_PASSWORD in the environment, else it is asked for")
-    parser.add_argument("--mark", action="store_true", help="put an exchange into the new definitions whose name says which files these are, so that the broker can be asked for it")
+    parser.add_password()
+    mark_help = "put an exchange into the new definitions whose name says which files these are, so that the broker can be asked for it"
+    parser.add_argument("--mark", action="store_true", help=mark_help)
     parser.add_argument("--seconds", type=seconds, default=60, help="how long to look (60)")
     parser.add_argument("--warren", metavar="PROGRAM", default="warren", help="the program (warren)")
     return parser.parse_args()
@@ -51,13 +52,15 @@ def swap_and_look(given, client, probe, old):
     if probe.holds(client):
         raise Fault(f"the broker has {probe} before anything was changed: its files are not those of {given.folder}")
     swap(given.folder, given.new)
+    swapped = f"{given.folder} leads to {given.new}"
     try:
         took = look(client, probe, given.seconds)
     except Fault as error:
-        tell("reload", f"{given.folder} leads to {given.new}; whether it is in force is not known: {error}")
+        tell("reload", f"{swapped}; whether it is in force is not known: {error}")
         return NOT_WHOLE
     if took is None:
-        tell("reload", f"{given.folder} leads to {given.new}, which is not in force after {given.seconds:g} seconds; the broker's standard error says why, and `reload {given.folder} {old}` goes back")
+        why = f"the broker's standard error says why, and `reload {given.folder} {old}` goes back"
+        tell("reload", f"{swapped}, which is not in force after {given.seconds:g} seconds; {why}")
         return NOT_WHOLE
     tell("reload", f"{given.new} is in force: after {took:.1f} seconds the broker has {probe}")
     return DONE
@@ -78,7 +81,8 @@ def work(given):
         if probe:
             return swap_and_look(given, client, probe, old)
         swap(given.folder, given.new)
-        tell("reload", f"{given.folder} leads to {given.new}; no queue and no exchange came or went, so the broker can't be asked whether it is in force; --mark makes it so")
+        unknown = "no queue and no exchange came or went, so the broker can't be asked whether it is in force; --mark makes it so"
+        tell("reload", f"{given.folder} leads to {given.new}; {unknown}")
         return NOT_WHOLE
 
 

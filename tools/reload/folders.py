@@ -43,8 +43,8 @@ def mark(folder):
     total = hashlib.sha256(repr(definitions).encode(errors="surrogatepass"))
     with open(path_in(folder, 1), "rb") as file:
         total.update(file.read())
-    made = {"name": f"reload.{total.hexdigest()[:12]}", "vhost": "/", "type": "fanout", "durable": True, "auto_delete": False, "internal": True, "arguments": {}}
-    definitions["exchanges"].append(made)
+    made = {"name": f"reload.{total.hexdigest()[:12]}", "vhost": "/", "type": "fanout", "durable": True, "auto_delete": False, "internal": True}
+    definitions["exchanges"].append({**made, "arguments": {}})
     replace(name, definitions)
 
 

@@ -21,7 +21,8 @@ MOST_NAME, MOST_PASSWORD = 255, 1024
 def words():
     parser = Words("user", __doc__, "Status: 0 done; 3 not done, and a line says why.")
     parser.add_argument("name", help="the user's name")
-    parser.add_argument("file", nargs="?", help="the definitions file to put the user into, or the new password of one who is there; without it, the entries are printed")
+    into = "the definitions file to put the user into, or the new password of one who is there; without it, the entries are printed"
+    parser.add_argument("file", nargs="?", help=into)
     return parser.parse_args()
 
 

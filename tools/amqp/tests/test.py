@@ -80,7 +80,8 @@ class Opening(unittest.TestCase):
         self.assertEqual(self.refused(PROTOCOL, ("sends", bytes.fromhex("01 0000 00000ff9"))), "127.0.0.1:PORT: what came is no frame of AMQP 0-9-1")
         self.assertEqual(self.refused(PROTOCOL, ("sends", START[:-1] + b"\0")), "127.0.0.1:PORT: a frame has no end")
         self.assertEqual(self.refused(PROTOCOL, ("sends", START.replace(b"PLAIN", b"OTHER"))), "127.0.0.1:PORT: the server has no login by PLAIN")
-        self.assertEqual(self.refused(PROTOCOL, ("sends", bytes.fromhex("01 0000 00000004 000a 000a ce"))), "127.0.0.1:PORT: the arguments of a method end early")
+        early = bytes.fromhex("01 0000 00000004 000a 000a ce")
+        self.assertEqual(self.refused(PROTOCOL, ("sends", early)), "127.0.0.1:PORT: the arguments of a method end early")
 
     def test_nobody_listens(self):
         with socket.create_server(("127.0.0.1", 0)) as listener:
@@ -175,7 +176,9 @@ class Commands(unittest.TestCase):
         self.assertIsNone(self.with_client((GET, ("sends", GET_EMPTY), *ENDS), lambda it: it.get("audit")))
 
     def test_contents_that_are_none(self):
-        for wrong, said in ((HEADER + BODY.replace(b"\x02hi", b"\x03hii"), "a body is longer"), (BODY, "a frame of kind 3"), (b"\x02\0\x01\0\0\0\x02\0\x3c\xce", "a content header ends early")):
+        rows = [(HEADER + BODY.replace(b"\x02hi", b"\x03hii"), "a body is longer"), (BODY, "a frame of kind 3")]
+        rows += [(b"\x02\0\x01\0\0\0\x02\0\x3c\xce", "a content header ends early")]
+        for wrong, said in rows:
             with self.assertRaisesRegex(Fault, f'^queue "audit": {said}'):
                 self.with_client((GET, ("sends", GET_OK + wrong)), lambda it: it.get("audit"))
 

@@ -21,7 +21,8 @@ def queue(name, **arguments):
     return {"name": name, "arguments": arguments}
 
 
-DEFINITIONS = {"queues": [queue("audit"), queue("lost", **{"x-max-length": 4, "x-overflow": "reject-publish"}), queue("none", **{"x-max-length": 0}), queue('a "b"\n'), queue("gone")]}
+LOST = {"x-max-length": 4, "x-overflow": "reject-publish"}
+DEFINITIONS = {"queues": [queue("audit"), queue("lost", **LOST), queue("none", **{"x-max-length": 0}), queue('a "b"\n'), queue("gone")]}
 
 
 def broker():
@@ -66,7 +67,8 @@ class Depths(unittest.TestCase):
     def test_metrics(self):
         status, out, said = self.asked("--prometheus")
         self.assertEqual((status, said), (0, ""))
-        wanted = ["warren_up 1", 'warren_queue_messages_ready{queue="audit"} 7', 'warren_queue_messages_ready{queue="lost"} 3', 'warren_queue_messages_ready{queue="none"} 0']
+        wanted = ["warren_up 1", 'warren_queue_messages_ready{queue="audit"} 7', 'warren_queue_messages_ready{queue="lost"} 3']
+        wanted += ['warren_queue_messages_ready{queue="none"} 0']
         wanted += ['warren_queue_messages_ready{queue="a \\"b\\"\\n"} 1', 'warren_queue_consumers{queue="audit"} 2', 'warren_queue_consumers{queue="lost"} 0']
         wanted += ['warren_queue_consumers{queue="none"} 0', 'warren_queue_consumers{queue="a \\"b\\"\\n"} 0', 'warren_queue_limit_messages{queue="lost"} 4']
         wanted += ['warren_queue_limit_messages{queue="none"} 0', 'warren_queue_missing{queue="gone"} 1']
@@ -104,7 +106,8 @@ class Depths(unittest.TestCase):
             self.assertIn('queue "audit": the server ended the connection', self.refused(f"till@127.0.0.1:{server.port}", "--once")[1])
 
     def test_what_is_wrong_is_one_line(self):
-        for data in (b"", b"[]", b"{}", b"\xff", b"[" * 100_000, b'{"queues":7}', b'{"queues":[7]}', b'{"queues":[{"name":"a"}]}', b'{"queues":[{"name":7,"arguments":{}}]}'):
+        queues = (b'{"queues":7}', b'{"queues":[7]}', b'{"queues":[{"name":"a"}]}', b'{"queues":[{"name":7,"arguments":{}}]}')
+        for data in (b"", b"[]", b"{}", b"\xff", b"[" * 100_000, *queues):
             self.write(data)
             self.assertIn("is no definitions file", self.refused("till@127.0.0.1:1")[1])
         for data in (b'{"queues":[{"name":"a","arguments":{"x-max-length":"4"}}]}', b'{"queues":[{"name":"a","arguments":{"x-max-length":true}}]}'):
@@ -113,7 +116,7 @@ class Depths(unittest.TestCase):
         os.unlink(self.file)
         self.assertIn("No such file", self.refused("till@127.0.0.1:1")[1])
         self.write(b'{"queues":[]}')
-        for words in (["--alarm", "0"], ["--alarm", "1.5"], ["--alarm", "nan"], ["--once", "--prometheus"], ["--nothing"], ["--password-file", "/nowhere/file"]):
+        for words in (["--alarm", "0"], ["--alarm", "1.5"], ["--alarm", "nan"], ["--once", "--prometheus"], ["--nothing"], ["--password-file", "/no/file"]):
             self.refused("till@127.0.0.1:1", *words)
         self.assertIn("a user and a host", self.refused("127.0.0.1")[1])
         del LOGIN["WARREN_PASSWORD"]

@@ -193,9 +193,11 @@ class Together(unittest.TestCase):
 
     def test_files_that_are_none(self):
         first = b'{"format":"messages 1","queue":"audit"}\n'
-        rows = [(it, "is no file of messages") for it in (b"", b"{}\n", b"[]\n", b"\xff\n", b"[" * 100_000, b'{"format":"messages 2","queue":"audit"}\n', first.replace(b'"audit"', b"7"))]
+        heads = (b"", b"{}\n", b"[]\n", b"\xff\n", b"[" * 100_000, first.replace(b"messages 1", b"messages 2"), first.replace(b'"audit"', b"7"))
+        rows = [(it, "is no file of messages") for it in heads]
         good = json.loads(line_of_message(Message(*messages(1)[0])))
-        rows += [(first + json.dumps({**good, **it}).encode() + b"\n", "line 2 is no message") for it in ({"body": "="}, {"body": 7}, {"properties": "AA=="}, {"key": "x" * 256}, {"key": "\ud800"}, {"exchange": None})]
+        members = ({"body": "="}, {"body": 7}, {"properties": "AA=="}, {"key": "x" * 256}, {"key": "\ud800"}, {"exchange": None})
+        rows += [(first + json.dumps({**good, **it}).encode() + b"\n", "line 2 is no message") for it in members]
         rows += [(first + it + b"\n", "line 2 is no message") for it in (b"", b"7", b"{}", b"[" * 100_000, b"\xff")]
         for data, said in rows:
             with self.subTest(data[:60]), open(self.file, "wb") as file:

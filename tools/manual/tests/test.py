@@ -44,6 +44,19 @@ def run(*words):
     return done.returncode, done.stdout, done.stderr
 
 
+# a program whose help says one word otherwise
+OTHER = """#!/bin/sh
+cd "{help}"
+case "$1" in
+    --version) cat version ;;
+    --help) cat warren ;;
+    serve) sed s/Serves/Feeds/ serve ;;
+    *) cat "$1" ;;
+esac >&2
+exit 3
+"""
+
+
 class Kept(unittest.TestCase):
     def test_what_is_made_is_up_to_date(self):
         self.assertEqual(run("--check"), (0, "", ""))
@@ -52,7 +65,7 @@ class Kept(unittest.TestCase):
         with tempfile.TemporaryDirectory() as folder:
             program = os.path.join(folder, "warren")
             with open(program, "w", encoding="utf-8") as file:
-                file.write(f'#!/bin/sh\nd="{TOOL}/help"\ncase "$1" in --version) cat "$d/version";; --help) cat "$d/warren";; serve) sed s/Serves/Feeds/ "$d/serve";; *) cat "$d/$1";; esac >&2\nexit 3\n')
+                file.write(OTHER.format(help=TOOL + "/help"))
             os.chmod(program, 0o755)
             status, out, said = run("--check", "--program", program)
         self.assertEqual((status, out), (1, ""))
@@ -88,7 +101,9 @@ class Reading(unittest.TestCase):
 @unittest.skipUnless(shutil.which("man"), "no man here")
 class Manual(unittest.TestCase):
     def test_it_is_read_without_a_warning(self):
-        done = subprocess.run(["man", "--warnings", "-E", "UTF-8", "-l", os.path.join(MADE, "warren.1")], capture_output=True, text=True, env={**os.environ, "LC_ALL": "C.UTF-8", "MANWIDTH": "80"}, timeout=30)
+        setting = {**os.environ, "LC_ALL": "C.UTF-8", "MANWIDTH": "80"}
+        command = ["man", "--warnings", "-E", "UTF-8", "-l", os.path.join(MADE, "warren.1")]
+        done = subprocess.run(command, capture_output=True, text=True, env=setting, timeout=30)
         self.assertEqual((done.returncode, done.stderr), (0, ""))
         lines = [line.strip() for line in done.stdout.splitlines()]
         self.assertIn("warren serve [OPTIONS] --listen IP:PORT DEFS GUARANTEES CERTS", lines)
@@ -107,21 +122,25 @@ class Bash(unittest.TestCase):
     def completed(self, *words):
         """What is offered for the last of these words."""
         script = 'source "$1"; shift; COMP_WORDS=("$@"); COMP_CWORD=$(($# - 1)); _warren; printf "%s\\n" "${COMPREPLY[@]}"'
-        done = subprocess.run(["bash", "-c", script, "bash", os.path.join(MADE, "warren.bash"), "warren", *words], capture_output=True, text=True, cwd=self.folder, timeout=30)
+        command = ["bash", "-c", script, "bash", os.path.join(MADE, "warren.bash"), "warren", *words]
+        done = subprocess.run(command, capture_output=True, text=True, cwd=self.folder, timeout=30)
         self.assertEqual((done.returncode, done.stderr), (0, ""))
         return done.stdout.split()
 
     def test_each(self):
         files = ["a.json", "b.json"]
-        rows = [
-            (["ch"], ["check"]), (["r"], ["replay", "route"]), (["--v"], ["--version"]), (["help", "se"], ["serve"]), (["help", "serve", ""], []), (["nothing", ""], []),
-            (["check", ""], files), (["check", "a.json", ""], files), (["check", "a.json", "b.json", ""], []), (["check", "--o"], ["--out"]), (["check", "--out", "a"], ["a.json"]),
-            (["check", "--out", "x", ""], files), (["check", "a.json", "--out", "x", "b"], ["b.json"]), (["check", "--out", "x", "a.json", "b.json", ""], []),
-            (["route", "a"], ["a.json"]), (["route", "a.json", ""], []), (["route", "a.json", "shop", ""], []), (["replay", "a"], ["a.json"]), (["replay", "--guarantees", "b"], ["b.json"]),
-            (["serve", "--l"], ["--listen"]), (["serve", "--listen", ""], []), (["serve", "--turns", ""], []), (["serve", "--listen", "127.0.0.1:0", "a.json", "b.json", "a"], ["a.json"]),
-            (["serve", "-"], ["--listen", "--turns", "--reload", "-h", "--help"]), (["serve", "a.json", "b.json", "a.json", ""], []),
-            (["serve", "--listen", "127.0.0.1", ":", "0", "a.json", "b.json", "a"], ["a.json"]), (["serve", "--listen", "127.0.0.1", ":", ""], []),
-        ]  # fmt: skip
+        rows = [(["ch"], ["check"]), (["r"], ["replay", "route"]), (["--v"], ["--version"]), (["help", "se"], ["serve"])]
+        rows += [(["help", "serve", ""], []), (["nothing", ""], [])]
+        rows += [(["check", ""], files), (["check", "a.json", ""], files), (["check", "a.json", "b.json", ""], []), (["check", "--o"], ["--out"])]
+        rows += [(["check", "--out", "a"], ["a.json"]), (["check", "--out", "x", ""], files), (["check", "a.json", "--out", "x", "b"], ["b.json"])]
+        rows += [(["check", "--out", "x", "a.json", "b.json", ""], [])]
+        rows += [(["route", "a"], ["a.json"]), (["route", "a.json", ""], []), (["route", "a.json", "shop", ""], [])]
+        rows += [(["replay", "a"], ["a.json"]), (["replay", "--guarantees", "b"], ["b.json"])]
+        rows += [(["serve", "--l"], ["--listen"]), (["serve", "--listen", ""], []), (["serve", "--turns", ""], [])]
+        rows += [(["serve", "-"], ["--listen", "--turns", "--reload", "-h", "--help"]), (["serve", "a.json", "b.json", "a.json", ""], [])]
+        rows += [(["serve", "--listen", "127.0.0.1:0", "a.json", "b.json", "a"], ["a.json"])]
+        # as bash parts it
+        rows += [(["serve", "--listen", "127.0.0.1", ":", "0", "a.json", "b.json", "a"], ["a.json"]), (["serve", "--listen", "127.0.0.1", ":", ""], [])]
         for words, wanted in rows:
             with self.subTest(words=words):
                 self.assertEqual(sorted(self.completed(*words)), sorted(wanted))

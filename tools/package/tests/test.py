@@ -13,9 +13,8 @@ import unittest
 
 TOOL = os.path.dirname(os.path.dirname(os.path.abspath(__file__)))
 TOP = os.path.dirname(os.path.dirname(TOOL))
-sys.path[:0] = [TOOL, os.path.join(TOOL, ".."), os.path.join(TOOL, "../shared")]
+sys.path[:0] = [TOOL, os.path.join(TOOL, "..")]
 sys.dont_write_bytecode = True
-from causes import causes_of  # noqa: E402
 from tree import FILES, SCRIPTS, libraries_of  # noqa: E402
 
 PATHS = {
@@ -78,8 +77,10 @@ class Packages(unittest.TestCase):
         self.assertEqual(sorted(contents(tree + "/DEBIAN/conffiles").decode().split()), sorted("/" + it for it in PATHS if it.startswith("etc/")))
 
     def test_the_files_let_nobody_in(self):
-        """The reader of from_rabbitmq finds nothing against the definitions, which name no user."""
-        self.assertEqual(causes_of(FILES["definitions.json"].encode()), [])
+        """from_rabbitmq finds nothing in the definitions that warren refuses, and they name no user."""
+        command = [sys.executable, os.path.join(TOP, "tools/from_rabbitmq"), "--check", "-"]
+        done = subprocess.run(command, input=FILES["definitions.json"], capture_output=True, text=True, timeout=30)
+        self.assertEqual(done.returncode, 0, done.stdout)
         self.assertEqual(json.loads(FILES["definitions.json"])["users"], [])
         self.assertEqual((json.loads(FILES["guarantees.json"]), json.loads(FILES["certificates.json"])), ({"guarantees": []}, []))
 

@@ -107,7 +107,8 @@ class Reloads(unittest.TestCase):
             return file.read().splitlines()
 
     def test_a_name_that_came_and_one_that_went(self):
-        rows = [(["shop", "news"], ["audit"], 'the exchange "news"'), (["shop"], ["audit", "mail"], 'the queue "mail"'), (["shop"], [], 'no longer the queue "audit"')]
+        rows = [(["shop", "news"], ["audit"], 'the exchange "news"'), (["shop"], ["audit", "mail"], 'the queue "mail"')]
+        rows += [(["shop"], [], 'no longer the queue "audit"')]
         for place, (exchanges, queues, said) in enumerate(rows):
             new = self.folder(f"new{place}", definitions(exchanges, queues))
             with Following(self.link) as server:
@@ -148,7 +149,9 @@ class Reloads(unittest.TestCase):
         self.assertEqual(missed, [])
 
     def test_guarantees_that_do_not_hold(self):
-        for status, shown, said in ((1, '1 no key "orders"\n', "a guarantee does not hold, or a certificate has a fault"), (2, "1 undecided states\n", "a guarantee is undecided"), (3, "", "warren: new3/guarantees.json: refused 5")):
+        rows = [(1, '1 no key "orders"\n', "a guarantee does not hold, or a certificate has a fault")]
+        rows += [(2, "1 undecided states\n", "a guarantee is undecided"), (3, "", "warren: new3/guarantees.json: refused 5")]
+        for status, shown, said in rows:
             new = self.folder(f"new{status}", definitions([], []), status)
             self.assertEqual(self.run_tool(new), (3, shown, f"nothing was changed: check ended with {status}: {said}"))
             self.assertEqual(self.leads_to(), "old")

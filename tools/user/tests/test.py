@@ -122,7 +122,8 @@ class Files(unittest.TestCase):
 
     def test_files_that_are_wrong(self):
         rows = [(it, "is not JSON") for it in (b"", b"{", b"\xff", b"[" * 100_000)]
-        rows += [(it, "no definitions file") for it in (b"[]", b"7", b"{}", b'{"users":[]}', b'{"users":[7],"permissions":[]}', b'{"users":{},"permissions":[]}')]
+        others = (b"[]", b"7", b"{}", b'{"users":[]}', b'{"users":[7],"permissions":[]}', b'{"users":{},"permissions":[]}')
+        rows += [(it, "no definitions file") for it in others]
         rows += [(b'{"users":[],"permissions":[],"vhosts":"\\ud800"}', "no UTF-8")]
         for data, said in rows:
             with self.subTest(data[:50]):
