@@ -11,21 +11,21 @@ use std::net::TcpListener;
 
 /// What a call of the program came to.
 #[derive(Drop)]
-struct Run {
+struct Outcome {
     status: u8,
     out: Vec<u8>,
     err: Vec<u8>,
 }
 
 /// Calls the program with these words, over the files and the sockets of the machine.
-fn run(rt: &HostRuntime, words: &[&str]) -> Run {
+fn run(rt: &HostRuntime, words: &[&str]) -> Outcome {
     let alloc = rt.alloc();
     let mut out: Vec<u8> = Vec::new(alloc);
     let mut err: Vec<u8> = Vec::new(alloc);
     let mut files = Disk { rt };
     let mut system = System { rt };
     let ended = program_with_sockets(alloc, words, &mut system, &mut files, &mut out, &mut err);
-    Run {
+    Outcome {
         status: ended.status,
         out,
         err,
