@@ -23,9 +23,7 @@ class Filling:
                 self.waiting[self.client.published + 1] = line
                 self.bytes += len(line)
                 self.client.publish(message_of(line), *self.place)
-                if len(self.waiting) > WINDOW or self.bytes > WINDOW_BYTES:
-                    # half of them at once, so that neither side waits for the other at each message
-                    self._settle_until(WINDOW // 2, WINDOW_BYTES // 2)
+                self._settle_until(WINDOW, WINDOW_BYTES)
                 if self.refused:
                     break
             self._settle_until(0, 0)
