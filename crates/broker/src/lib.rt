@@ -10,5 +10,4 @@ mod turns;
 
 pub use broker_core::Pick;
 pub use brokers::Broker;
-pub use model::Event;
 pub use replies::Step;

@@ -8,14 +8,13 @@ mod filing;
 mod frugal;
 mod nothing_left;
 mod parts;
-mod reloads;
 mod room;
 mod streams;
 
 use scenario_parts::Sums;
 use std::io;
 
-/// The scenarios of an engine, of a topology, and of a server.
+/// The scenarios of an engine, and of a topology.
 fn tell_engines(sums: &mut Sums, rt: &HostRuntime) -> io::Result<()> {
     let alloc = rt.alloc();
     sums.tell(
@@ -32,11 +31,6 @@ fn tell_engines(sums: &mut Sums, rt: &HostRuntime) -> io::Result<()> {
         rt,
         "a_dead_letter_goes_to_the_exchange_of_its_queue",
         dead_routes::a_dead_letter_goes_to_the_exchange_of_its_queue(alloc),
-    )?;
-    sums.tell(
-        rt,
-        "a_new_server_takes_what_a_busy_one_refuses",
-        reloads::a_new_server_takes_what_a_busy_one_refuses(alloc),
     )
 }
 

@@ -2,4 +2,3 @@ pub mod Forming
 pub mod Placing
 pub mod Marking
 pub mod Judging
-pub mod Walking

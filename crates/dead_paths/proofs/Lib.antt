@@ -2,6 +2,4 @@ pub mod Marked
 pub mod Stepped
 pub mod Visited
 pub mod Traced
-pub mod Chains
-pub mod Explored
-pub mod Leads
+pub mod Coming

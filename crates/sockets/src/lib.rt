@@ -1,10 +1,9 @@
 //! Sockets of the operating system, as a wire.
 #![tactic(auto)]
 
-mod answers;
 mod counts;
+mod silence;
 mod sockets;
-mod turns;
 mod watch;
 
 pub use counts::Totals;

@@ -1,3 +1,4 @@
+pub mod Reach
 pub mod Nodes
 pub mod Gates
 pub mod Deaths

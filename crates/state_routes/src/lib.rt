@@ -13,6 +13,7 @@ mod keys;
 mod nodes;
 mod patterns;
 mod places;
+mod reach;
 mod routes;
 mod tracking;
 
