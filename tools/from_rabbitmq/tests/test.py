@@ -18,6 +18,7 @@ ROWS = os.path.join(TOOL, "../../crates/line_cases/data")
 sys.path[:0] = [TOOL, os.path.join(TOOL, "../shared")]
 from causes import NotJson, causes_in, causes_of, read_json  # noqa: E402
 from convert import NoFile, convert  # noqa: E402
+from rows import text_of  # noqa: E402
 
 
 def export(name):
@@ -33,23 +34,13 @@ def run(*words, given=b""):
 class Rows(unittest.TestCase):
     """The least cause is the one that stands in the rows of the reader of definitions files."""
 
-    def expanded(self, name):
-        lines = []
-        with open(os.path.join(ROWS, name), encoding="utf-8") as file:
-            for line in file.read().split("\n"):
-                if line.startswith("repeat "):
-                    _, first, last, text = line.split(" ", 3)
-                    line = ",".join(text.replace("%", str(it)) for it in range(int(first), int(last)))
-                lines.append(line)
-        return "\n".join(lines)
-
     def bytes_of(self, asked):
         kind, _, rest = asked.partition(" ")
         if kind == "definitions-hex":
             parts = (word.split("*") for word in rest.split())
             return b"".join(bytes.fromhex(it[0]) * (int(it[1]) if it[1:] else 1) for it in parts)
         name, *edits = rest.split(" | ")
-        text = self.expanded(name)
+        text = text_of(name)
         for edit in edits:
             old, _, new = edit.partition(" =>")
             self.assertIn(old, text)
