@@ -19,7 +19,7 @@ help:
 	@echo "  make libraries serves the shop, and has six other client libraries publish to it and take from it"
 	@echo "  make deploy    serves the shop, and publishes and takes over TLS, by stunnel"
 	@echo "  make reload    serves while its files are replaced, and looks at what clients and the operator see"
-	@echo "  make load      loads a server over sockets, and prints what a message costs it               2 minutes"
+	@echo "  make load      loads a server over sockets, and prints what a message costs it               4 minutes"
 	@echo "  make refusals  refuses each growth of memory of the proved programs in turn, and compares          15 minutes"
 	@echo "  make cases     runs the cases of crates/cases, and tells of one that its list lacks"
 	@echo "  make pictures  draws the shop anew, whole and broken, with Graphviz"

@@ -1,6 +1,7 @@
 """Loads a server over sockets, and prints what each message costs the server's process.
 
-Takes the server's port and the number of its process, and `few` where only those loads are wanted that another server is given, too.
+Takes the server's port, the number of its process, and which loads are wanted: `few` or `steady`, which another server is given, too,
+`neighbours` or `all`, and the program.
 Each load is a fixed number of messages and ends early once it has taken its seconds, so the whole ends by itself.
 """
 
@@ -10,7 +11,9 @@ import sys
 import time
 
 from client import Client, properties, publish
+from neighbours import neighbours
 from occasional import latencies, publishers, tell_latencies
+from steady import steady
 
 SECONDS = 10
 """How long one load takes at most."""
@@ -207,10 +210,15 @@ def all_loads(server, small, large):
     all_occasional(server, small, large)
 
 
-def main(port, process, words):
+def main(port, process, kind, program=None):
     server = Server(port, process)
-    loads = few if words == ["few"] else all_loads
-    loads(server, publish("direct", "new", SMALL), publish("direct", "new", LARGE))
+    if kind in ("few", "all"):
+        loads = few if kind == "few" else all_loads
+        loads(server, publish("direct", "new", SMALL), publish("direct", "new", LARGE))
+    if kind in ("steady", "all"):
+        steady(server)
+    if kind in ("neighbours", "all"):
+        neighbours(server, program)
 
 
-main(int(sys.argv[1]), int(sys.argv[2]), sys.argv[3:])
+main(int(sys.argv[1]), int(sys.argv[2]), *sys.argv[3:])

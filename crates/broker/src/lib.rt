@@ -10,4 +10,5 @@ mod turns;
 
 pub use broker_core::Pick;
 pub use brokers::Broker;
+pub use model::Event;
 pub use replies::Step;

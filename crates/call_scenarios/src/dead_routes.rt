@@ -50,27 +50,27 @@ fn topology(alloc: Global) -> Result<Topology, Unmet> {
     )
 }
 
-/// Expects that a message of the key `a` goes from this queue to `D` as a dead letter, under this key.
-fn expect_step(topology: &Topology, queue: &[u8], key: &[u8]) -> Result<(), Unmet> {
-    let step = value_of(
-        "Topology::dead_route",
-        topology.dead_route(queue, b"a").ok_or(()),
+/// Expects that a message of the key `a` is sent from this queue to `D` as a dead letter, under this key.
+fn expect_letter(topology: &Topology, queue: &[u8], key: &[u8]) -> Result<(), Unmet> {
+    let letter = value_of(
+        "Topology::dead_letter",
+        topology.dead_letter(queue, b"a").ok_or(()),
     )?;
-    expect_bytes("the exchange", step.exchange, b"D")?;
-    expect_bytes("the key", step.key, key)
+    expect_bytes("the exchange", letter.exchange, b"D")?;
+    expect_bytes("the key", letter.key, key)
 }
 
-/// A dead letter goes to the exchange of its queue, under the queue's key or its own.
+/// A dead letter is sent to the exchange of its queue, under the queue's key or its own.
 pub(crate) fn a_dead_letter_goes_to_the_exchange_of_its_queue(alloc: Global) -> Result<(), Unmet> {
     let topology = topology(alloc)?;
-    expect_step(&topology, b"fixed", b"pay")?;
-    expect_step(&topology, b"kept", b"a")?;
+    expect_letter(&topology, b"fixed", b"pay")?;
+    expect_letter(&topology, b"kept", b"a")?;
     expect(
         "a queue without a dead-letter exchange sends none on",
-        topology.dead_route(b"plain", b"a").is_none(),
+        topology.dead_letter(b"plain", b"a").is_none(),
     )?;
     expect(
         "a queue that is not there sends none on",
-        topology.dead_route(b"absent", b"a").is_none(),
+        topology.dead_letter(b"absent", b"a").is_none(),
     )
 }

@@ -14,7 +14,7 @@ mod streams;
 use scenario_parts::Sums;
 use std::io;
 
-/// The scenarios of an engine, and of a topology.
+/// The scenarios of an engine and of a topology.
 fn tell_engines(sums: &mut Sums, rt: &HostRuntime) -> io::Result<()> {
     let alloc = rt.alloc();
     sums.tell(

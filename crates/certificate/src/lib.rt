@@ -7,4 +7,5 @@ mod refutations;
 mod targets;
 
 pub use admitted::{Checked, admit};
+pub use certificate_check::{CertFault, Certificate, check};
 pub use refutations::{Refutation, disprove, refutes};

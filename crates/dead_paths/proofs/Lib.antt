@@ -2,4 +2,6 @@ pub mod Marked
 pub mod Stepped
 pub mod Visited
 pub mod Traced
-pub mod Coming
+pub mod Chains
+pub mod Explored
+pub mod Leads

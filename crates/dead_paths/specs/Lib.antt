@@ -3,3 +3,6 @@ pub mod Onward
 pub mod Rows
 pub mod Visits
 pub mod Found
+pub mod Reach
+pub mod Exploring
+pub mod Leading

@@ -16,10 +16,13 @@ use model::User;
 use std::alloc::Global;
 use std::marker::Model;
 
+/// Who may log in, in the order of the file.
+pub type Users = Vec<User>;
+
 /// What a file sets up.
 pub struct Definitions {
     topology: Topology,
-    users: Vec<User>,
+    users: Users,
 }
 
 /// Written out, so that a drop is one call.

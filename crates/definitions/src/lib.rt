@@ -11,4 +11,4 @@ mod shape;
 mod stating;
 
 pub use bad::BadDefinitions;
-pub use definitions::{Definitions, read_definitions};
+pub use definitions::{Definitions, Users, read_definitions};

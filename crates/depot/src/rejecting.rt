@@ -1,6 +1,6 @@
 //! A rejection: each death is planned with its dead letter, then room is made, and then all is done, which cannot fail.
 
-ghost use Rattle.std.specs.Prelude.{◌≡◌, ◌+◌, ◌<◌, ◌≤◌, ℕ, ◌++◌, List, length, All, IfOk, OnOk, OnErr, vec_len, vec_capacity};
+ghost use Rattle.std.specs.Prelude.{◌≡◌, ◌⊎◌, ◌+◌, ◌-◌, ◌^◌, ◌<◌, ◌≤◌, ℕ, ◌++◌, List, length, All, IfOk, OnOk, OnErr, vec_len, vec_capacity};
 ghost use Rattle.model.specs.Routing.{key_after};
 ghost use Rattle.depot.specs.declared.plans.Death.{Death as Planned};
 ghost use Rattle.depot.specs.Store.{entries_of};
@@ -136,18 +136,15 @@ fn make_rooms(queues: &mut Queues, deaths: &[Death]) -> Result<(), AllocError>
     Ok(())
 }
 
-/// How many notes these deaths make.
-fn count_notes(deaths: &[Death]) -> Result<usize, AllocError>
-    ensures { IfOk result (λ count. count ≡ notes_in deaths.now) }
+/// How many notes these deaths make, or the greatest number if they are more than that: no vector has room for so many.
+fn count_notes(deaths: &[Death]) -> usize
+    ensures { (result ≡ notes_in deaths.now) ⊎ (result ≡ 2 ^ 64 - 1) }
 {
     let mut count: usize = 0;
     for death in deaths {
-        count = match count.checked_add(1 + death.turns.len()) {
-            Some(more) => more,
-            None => return Err(AllocError),
-        };
+        count = count.saturating_add(1 + death.turns.len());
     }
-    Ok(count)
+    count
 }
 
 /// The message leaves its queue, and then its dead letter comes to each of its queues or is refused there.
@@ -215,7 +212,7 @@ pub(crate) fn reject_in(
 {
     let deaths = plan(alloc, router, queues.as_slice(), connection, channel, gone)?;
     make_rooms(queues, &deaths)?;
-    notes.reserve_exact(count_notes(&deaths)?)?;
+    notes.reserve_exact(count_notes(&deaths))?;
     perform(router.topology().queues(), queues, deaths, notes);
     Ok(())
 }

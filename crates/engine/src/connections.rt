@@ -85,7 +85,7 @@ fn place_by_search(links: &[Connected], number: u64) -> Option<usize>
     }
 }
 
-/// One turn of one connection.
+/// One turn of one connection. Where memory is refused an output in which nothing waits holds no storage.
 fn turn_link(
     alloc: Global,
     users: &[User],
@@ -101,6 +101,7 @@ fn turn_link(
     ensures awake { OnErr result (MayTurn link.old) }
     ensures more { OnErr result (HasMore (kept_of link.old.kept) (stream_of link.old.stream)) }
     ensures idle { IfOk result (λ t. OnIdle t (HoldsNone link.new.output)) }
+    ensures refused { OnErr result (HoldsNone link.new.output) }
     ensures kept { IsKeptEvent link.new.number link.new.kept link.new.stream.fault }
     ensures number { link.new.number ≡ link.old.number }
     ensures topology { topology_kept broker.new ≡ topology_kept broker.old }
@@ -111,7 +112,13 @@ fn turn_link(
     if link.output.bytes().len() >= BOUND {
         return Ok(Turn::Paused);
     }
-    turn_awake(alloc, users, broker, scratch, spares, link)
+    match turn_awake(alloc, users, broker, scratch, spares, link) {
+        Ok(turn) => Ok(turn),
+        Err(error) => {
+            spares.take_back(&mut link.output);
+            Err(error)
+        }
+    }
 }
 
 /// Takes the connection at this place out, where it is over with no output left.

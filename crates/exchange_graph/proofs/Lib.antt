@@ -6,6 +6,7 @@ pub mod Naming
 pub mod Stepping
 pub mod Reached
 pub mod Starting
+mod Visiting
 pub mod Picking
 pub mod Good
 pub mod Edging

@@ -8,7 +8,7 @@ use Rattle.model.specs.Routing.{Picks, none, take, pass, Leads, Routes, of_key}
 use Rattle.model.specs.declared.topologies.Exchange.{Exchange}
 use Rattle.model.specs.declared.topologies.DeclaredQueue.{DeclaredQueue}
 use Rattle.exchange_graph.specs.Marks.{IsSet, AreFound, AreSeen, set_places, exchange_name, queue_name}
-use Rattle.exchange_graph.specs.Targets.{AreTargets, AreVisited, names_at}
+use Rattle.exchange_graph.specs.Targets.{AreTargets, names_at}
 use Rattle.topology_drafts.proofs.Members.{in_get}
 
 -- a place of a mark
@@ -85,16 +85,15 @@ targets_of t start key found f =
       });
     }
 
-pub visited_of : (t : Topology) (start key : Text) (seen : List Bool) → AreSeen t start key seen → AreVisited t start key (set_places 0 seen)
-visited_of t start key seen f =
+pub seen_within : (t : Topology) (start key : Text) (seen : List Bool) → AreSeen t start key seen → (i d : ℕ) → i < length (set_places 0 seen) → get_or (set_places 0 seen) i d < length t.exchanges
+seen_within t start key seen f i d h = let p = between 0 seen (get_or (set_places 0 seen) i d) (in_get (set_places 0 seen) i d h) in omega (arith, p.below, f.room)
+
+pub seen_picked : (t : Topology) (start key : Text) (seen : List Bool) → AreSeen t start key seen → Picks (Leads t (of_key key) start) (exchange_names t.exchanges) (names_at (exchange_names t.exchanges) (set_places 0 seen))
+seen_picked t start key seen f =
     let n : length (exchange_names t.exchanges) ≡ length t.exchanges = length-map t.exchanges (λ (y : Exchange). y.name) in
     let at : (i : ℕ) → 0 + i ≡ i = λ (i : ℕ). omega arith in
-    record {
-      within = λ k d h. (let p = between 0 seen (get_or (set_places 0 seen) k d) (in_get (set_places 0 seen) k d h) in omega (arith, p.below, f.room));
-      rising = rising 0 seen;
-      picked = picks (Leads t (of_key key) start) (exchange_names t.exchanges) 0 seen (record {
-        fits = omega (arith, n, f.room);
-        sound = λ i h s. subst (λ (m : ℕ). Leads t (of_key key) start (exchange_name t m)) (sym (at i)) (f.sound i (omega (arith, h, f.room)) s);
-        all = λ i h p. f.all i (omega (arith, h, f.room)) (subst (λ (m : ℕ). Leads t (of_key key) start (exchange_name t m)) (at i) p);
-      });
-    }
+    picks (Leads t (of_key key) start) (exchange_names t.exchanges) 0 seen (record {
+      fits = omega (arith, n, f.room);
+      sound = λ i h s. subst (λ (m : ℕ). Leads t (of_key key) start (exchange_name t m)) (sym (at i)) (f.sound i (omega (arith, h, f.room)) s);
+      all = λ i h p. f.all i (omega (arith, h, f.room)) (subst (λ (m : ℕ). Leads t (of_key key) start (exchange_name t m)) (at i) p);
+    })

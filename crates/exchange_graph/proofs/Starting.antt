@@ -100,7 +100,7 @@ default_edge {t} w (default {queue = queue} q c e n) z = record {
   there = subst (λ (x : Text). IsIn x (queue_names t.queues)) e (in_map (λ (y : DeclaredQueue). y.name) t.queues q (in_contains t.queues q c));
 }
 
-default_leads : {t : Topology} {key x y : Text} → IsWellFormed t → Leads t (of_key key) x y → x ≡ [] → y ≡ []
+pub default_leads : {t : Topology} {key x y : Text} → IsWellFormed t → Leads t (of_key key) x y → x ≡ [] → y ≡ []
 default_leads w here z = z
 default_leads w (on s l) z = let d = default_edge w s z in absurd (let e = d.leads in cc)
 

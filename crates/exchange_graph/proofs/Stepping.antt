@@ -10,6 +10,7 @@ use Rattle.model.specs.declared.topologies.Exchange.{Exchange}
 use Rattle.model.specs.declared.topologies.Binding.{Binding}
 use Rattle.model.specs.declared.topologies.Place.{Place}
 use Rattle.model.specs.declared.topologies.Place.TheVariants as place
+use Rattle.model.specs.declared.topologies.ExchangeKind.TheVariants.{Fanout}
 use Rattle.exchange_graph.specs.declared.ends.End.{End}
 use Rattle.exchange_graph.specs.declared.ends.End.TheVariants.{Onward}
 use Rattle.exchange_graph.specs.declared.ends.Branch.{Branch}
@@ -18,7 +19,7 @@ use Rattle.exchange_graph.proofs.Good.{well_formed}
 use Rattle.exchange_graph.specs.Marks.{exchange_name}
 use Rattle.exchange_graph.specs.Fans.{Fan, ArePassing, LeadOn, AreSteps, EndsWithin, ways_from, way_of, fan_of, end_of, place_of, or_alternate, exchange_place}
 use Rattle.topology_drafts.proofs.Members.{in_contains, contains_in, in_map}
-use Rattle.exchange_graph.proofs.Naming.{get_map, same_exchange, place_again, ends_within, exchange_stands}
+use Rattle.exchange_graph.proofs.Naming.{get_any, get_map, same_exchange, place_again, ends_within, exchange_stands}
 
 -- ---- the ways of an exchange are its bindings
 
@@ -150,7 +151,7 @@ every_step t key x passing w c a to (alternate {other = other} y d e o shut) q =
 every_step t key x passing w c a to (default z d e n) q =
     absurd (w.default_apart (subst (λ (n' : Text). IsIn n' (exchange_names t.exchanges)) (sym q) (in_map (λ (y : Exchange). y.name) t.exchanges x (in_contains t.exchanges x c))))
 
-pub steps_of : (t : Topology) (key : Text) (x : Exchange) (ends : List End) → IsWellFormed t → Contains t.exchanges x → LeadOn x.kind key (fan_of t x) ends → AreSteps t key x.name ends
+pub steps_of : (t : Topology) (key : Text) (x : Exchange) (ends : List End) → IsWellFormed t → Contains t.exchanges x → LeadOn key (fan_of t x) ends → AreSteps t key x.name ends
 steps_of t key x ends w c l =
     let P : List End → Type 0 = λ (es : List End). AreSteps t key x.name es in
     subst P (sym l.is) (record {
@@ -160,12 +161,16 @@ steps_of t key x ends w c l =
     })
 
 -- .. as they stand in their lists
-pub steps_at : (inside t : Topology) (fans : List Fan) (xs qs : List Text) (at : ℕ) (key : Text) (x : Exchange) (fan : Fan) (ends : List End) → inside ≡ t → IsBuilt inside fans xs qs → at < length t.exchanges
-    → x ≡ get_or inside.exchanges at x → fan ≡ get_or fans at fan → LeadOn x.kind key fan ends → AreSteps t key (exchange_name t at) ends
-steps_at inside t fans xs qs at key x fan ends e b h p q l =
-    let p' : x ≡ get_or t.exchanges at x = p ∙ ap (λ (z : Topology). get_or z.exchanges at x) e in
+plain : Exchange
+plain = record { name = []; kind = Fanout; internal = false; alternate = None }
+
+pub steps_at : (inside t : Topology) (fans : List Fan) (xs qs : List Text) (at : ℕ) (key : Text) (fan : Fan) (ends : List End) → inside ≡ t → IsBuilt inside fans xs qs → at < length t.exchanges
+    → fan ≡ get_or fans at fan → LeadOn key fan ends → AreSteps t key (exchange_name t at) ends
+steps_at inside t fans xs qs at key fan ends e b h q l =
+    let x : Exchange = get_or t.exchanges at plain in
+    let p : x ≡ get_or t.exchanges at x = get_any t.exchanges at plain x h in
     let w : IsWellFormed t = subst (λ (z : Topology). IsWellFormed z) e (well_formed inside b.good) in
     let k : fans ≡ map (fan_of t) t.exchanges = b.known ∙ ap (λ (z : Topology). map (fan_of z) z.exchanges) e in
-    let f : fan ≡ fan_of t x = q ∙ ap (λ (zs : List Fan). get_or zs at fan) k ∙ get_map (fan_of t) t.exchanges at x fan h ∙ ap (fan_of t) (sym p') in
-    let n : x.name ≡ exchange_name t at = ap (λ (z : Exchange). z.name) p' ∙ sym (get_map (λ (z : Exchange). z.name) t.exchanges at x [] h) in
-    subst (λ (z : Text). AreSteps t key z ends) n (steps_of t key x ends w (at, h, sym p') (subst (λ (z : Fan). LeadOn x.kind key z ends) f l))
+    let f : fan ≡ fan_of t x = q ∙ ap (λ (zs : List Fan). get_or zs at fan) k ∙ get_map (fan_of t) t.exchanges at x fan h ∙ ap (fan_of t) (sym p) in
+    let n : x.name ≡ exchange_name t at = ap (λ (z : Exchange). z.name) p ∙ sym (get_map (λ (z : Exchange). z.name) t.exchanges at x [] h) in
+    subst (λ (z : Text). AreSteps t key z ends) n (steps_of t key x ends w (at, h, sym p) (subst (λ (z : Fan). LeadOn key z ends) f l))

@@ -12,7 +12,6 @@ use Rattle.model.specs.declared.topologies.Binding.{Binding}
 use Rattle.model.specs.declared.topologies.Place.{Place}
 use Rattle.model.specs.declared.topologies.Place.TheVariants as place
 use Rattle.model.specs.declared.topologies.ExchangeKind.{ExchangeKind}
-use Rattle.model.specs.declared.topologies.ExchangeKind.TheVariants.{Direct, Fanout, Topic}
 use Rattle.exchange_graph.specs.declared.ends.End.{End}
 use Rattle.exchange_graph.specs.declared.ends.End.TheVariants.{Onward, Into}
 use Rattle.exchange_graph.specs.declared.ends.Branch.{Branch}
@@ -44,23 +43,17 @@ ways_from exchanges queues name (b ∷ bs) =
 abbrev pub patterns_of : List Branch → List (List Token)
 patterns_of ways = map (λ (w : Branch). tokens (words w.key)) ways
 
--- the patterns of a topic exchange; another has none
-abbrev pub topics_of : ExchangeKind → List Branch → List (List Token)
-topics_of Topic ways = patterns_of ways
-topics_of Direct ways = []
-topics_of Fanout ways = []
-
 -- what leads on from one exchange
 pub record Fan : Type 0 where
+  pub kind : ExchangeKind
   pub list : List Branch
-  pub topics : List (List Token)
   pub alternate : Option ℕ
 
 -- what leads on from this exchange
 abbrev pub fan_of : Topology → Exchange → Fan
 fan_of t x = record {
+  kind = x.kind;
   list = ways_from t.exchanges t.queues x.name t.bindings;
-  topics = topics_of x.kind (ways_from t.exchanges t.queues x.name t.bindings);
   alternate = option_map (exchange_place t.exchanges) x.alternate;
 }
 
@@ -99,9 +92,9 @@ or_alternate (Some i) [] = Onward i ∷ []
 or_alternate None [] = []
 
 -- These are the ends of the ways that let this key pass, or else of the alternate exchange.
-pub record LeadOn (kind : ExchangeKind) (key : Text) (fan : Fan) (ends : List End) : Type 0 where
+pub record LeadOn (key : Text) (fan : Fan) (ends : List End) : Type 0 where
   pub passing : List End
-  pub are : ArePassing kind key fan.list passing
+  pub are : ArePassing fan.kind key fan.list passing
   pub is : ends ≡ or_alternate fan.alternate passing
 
 -- These are exactly the steps of a route from the exchange of this name.

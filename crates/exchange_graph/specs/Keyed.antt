@@ -1,5 +1,5 @@
 -- The ends of ways, found by their keys.
-use Rattle.std.specs.Prelude.{◌≡◌, List, [], ◌∷◌, ◌++◌, Option, Some, None, length, if◌then◌else◌}
+use Rattle.std.specs.Prelude.{◌≡◌, List, [], ◌∷◌, ◌++◌, length, if◌then◌else◌}
 use Rattle.std.specs.Str.{bytes_eq}
 use Rattle.model.specs.Words.{Text}
 use Rattle.exchange_graph.specs.declared.ends.End.{End}
@@ -30,8 +30,3 @@ pub record AreKeyed (ways : List Branch) (keyed : KeyedEnds) : Type 0 where
 pub record PutsUnder (key : Text) (end : End) (old new : KeyedEnds) : Type 0 where
   pub even : IsEven new
   pub told : (other : Text) → ends_under other new ≡ ends_under other old ++ (if bytes_eq key other then end ∷ [] else [])
-
--- the index, if there is one, is that of these ways
-abbrev pub IsKeyIndex : List Branch → Option KeyedEnds → Type 0
-IsKeyIndex ways None = Unit {0}
-IsKeyIndex ways (Some keyed) = AreKeyed ways keyed

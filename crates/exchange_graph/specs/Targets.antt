@@ -1,5 +1,5 @@
 -- The queues that a message is routed to, and the exchanges on the way, by their places in the file.
-use Rattle.std.specs.Prelude.{◌<◌, ℕ, List, [], map, length, slice_index_or, All, AllPairs}
+use Rattle.std.specs.Prelude.{◌<◌, ℕ, List, [], ◌∷◌, map, length, slice_index_or, All, AllPairs}
 use Rattle.model.specs.Words.{Text}
 use Rattle.model.specs.Topology.{Topology, exchange_names, queue_names}
 use Rattle.model.specs.Routing.{Leads, Routes, Picks, of_key}
@@ -14,8 +14,6 @@ pub record AreTargets (t : Topology) (exchange key : Text) (targets : List ℕ) 
   pub rising : AllPairs (λ (i j : ℕ). i < j) targets
   pub picked : Picks (Routes t exchange key) (queue_names t.queues) (names_at (queue_names t.queues) targets)
 
--- These places are of exactly the exchanges at the ends of chains from this one under this key, itself among them, each once, in the order of the file.
-pub record AreVisited (t : Topology) (exchange key : Text) (visited : List ℕ) : Type 0 where
-  pub within : All (λ (i : ℕ). i < length t.exchanges) visited
-  pub rising : AllPairs (λ (i j : ℕ). i < j) visited
-  pub picked : Picks (Leads t (of_key key) exchange) (exchange_names t.exchanges) (names_at (exchange_names t.exchanges) visited)
+-- These are exactly the exchanges at the ends of chains from this one under this key, itself among them, each once: the default exchange, then those of the file in its order.
+abbrev pub AreVisited : Topology → Text → Text → List Text → Type 0
+AreVisited t exchange key visited = Picks (Leads t (of_key key) exchange) ([] ∷ exchange_names t.exchanges) visited

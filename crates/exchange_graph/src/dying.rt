@@ -1,15 +1,23 @@
 //! Single dead-letter steps, by names.
 
-ghost use Rattle.std.specs.Prelude.{◌≡◌, unwrap_or};
-ghost use Rattle.exchange_graph.specs.Dying.{StepsByDeath};
+ghost use Rattle.std.specs.Prelude.{◌≡◌, IfOk, unwrap_or};
+ghost use Rattle.exchange_graph.specs.Dying.{GoesOnTo, LeavesFor};
 
 use crate::topologies::Topology;
 use model::Text;
+use std::alloc::{AllocError, Global};
 
-/// Where a dead letter goes: this exchange, under this key.
+/// What a dead letter is sent to: this exchange, under this key.
+#[derive(Drop)]
+pub struct DeadLetter<'a> {
+    pub exchange: &'a [u8],
+    pub key: &'a [u8],
+}
+
+/// Where one death leads: into the queues at these places, in the order of the file, under this key.
 #[derive(Drop)]
 pub struct DeadRoute<'a> {
-    pub exchange: &'a [u8],
+    pub queues: Vec<usize>,
     pub key: &'a [u8],
 }
 
@@ -24,10 +32,10 @@ fn key_after<'a>(fixed: &'a Option<Text>, key: &'a [u8]) -> &'a [u8]
 }
 
 impl Topology {
-    /// Where a message with this key goes from the queue of this name as a dead letter. A queue that is not there, or
-    /// that has no dead-letter exchange, sends none on.
-    pub fn dead_route<'a>(&'a self, queue: &[u8], key: &'a [u8]) -> Option<DeadRoute<'a>>
-        ensures { StepsByDeath result self.now queue.now key.now }
+    /// What a message with this key is sent to if it dies in the queue of this name. A queue that is not there, or that has
+    /// no dead-letter exchange, sends it nowhere.
+    pub fn dead_letter<'a>(&'a self, queue: &[u8], key: &'a [u8]) -> Option<DeadLetter<'a>>
+        ensures { LeavesFor result self.now queue.now key.now }
     {
         self.is_well_formed();
         let Some(place) = self.queue_at(queue) else {
@@ -35,11 +43,31 @@ impl Topology {
         };
         let last = self.queue(place);
         match &last.dead_letter_exchange {
-            Some(exchange) => Some(DeadRoute {
+            Some(exchange) => Some(DeadLetter {
                 exchange: exchange.as_bytes(),
                 key: key_after(&last.dead_letter_key, key),
             }),
             None => None,
         }
+    }
+
+    /// The queues into which one death leads a message with this key from the queue of this name, with the key under which
+    /// it comes there; none if the queue is not there or has no dead-letter exchange.
+    pub fn dead_route<'a>(
+        &'a self,
+        alloc: Global,
+        queue: &[u8],
+        key: &'a [u8],
+    ) -> Result<Option<DeadRoute<'a>>, AllocError>
+        ensures { IfOk result (λ route. GoesOnTo route self.now queue.now key.now) }
+    {
+        let Some(letter) = self.dead_letter(queue, key) else {
+            return Ok(None);
+        };
+        let queues = self.route(alloc, letter.exchange, letter.key)?;
+        Ok(Some(DeadRoute {
+            queues,
+            key: letter.key,
+        }))
     }
 }

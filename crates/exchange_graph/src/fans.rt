@@ -6,15 +6,14 @@ ghost use Rattle.exchange_graph.specs.Fans.{
   ArePassing,
   LeadOn,
   ends_at,
-  ends_by_key,
   ends_of,
   exchange_place,
   fan_of,
   or_alternate,
   patterns_of,
-  topics_of,
 };
-ghost use Rattle.exchange_graph.specs.Keyed.{IsKeyIndex};
+ghost use Rattle.exchange_graph.specs.Keyed.{IsEven, ends_under};
+ghost use Rattle.exchange_graph.specs.Found.{IsIndex, Indexes, kind_of};
 
 use crate::ends::{Branch, End, KeyedEnds};
 use crate::keyed::{ends_under, keyed};
@@ -24,40 +23,34 @@ use std::alloc::{AllocError, Global};
 use std::marker::Model;
 use topic_match::{Matcher, Pattern, Trie};
 
-/// The bindings of one exchange, their ends by key of a direct exchange, the patterns of a topic exchange, and the alternate
-/// exchange.
+/// How the bindings of an exchange are found that let a key pass.
+#[derive(Drop)]
+pub enum Index {
+    /// Of a direct exchange: their ends by their keys.
+    Keys(KeyedEnds),
+    /// Of a fanout exchange: all of them do.
+    All,
+    /// Of a topic exchange: by their patterns.
+    Patterns(Trie),
+}
+
+/// The bindings of one exchange, how those that let a key pass are found, and the alternate exchange.
 #[derive(Drop)]
 pub struct Fan {
     list: Vec<Branch>,
-    by_key: Option<KeyedEnds>,
-    topics: Trie,
+    index: Index,
     alternate: Option<usize>,
 }
 
 impl Model for Fan {
     ghost use Rattle.exchange_graph.specs.Fans.{Fan as Leading};
-    ghost use Rattle.exchange_graph.specs.Keyed.{IsKeyIndex};
+    ghost use Rattle.exchange_graph.specs.Found.{IsIndex, kind_of};
 
     ghost Value = { Leading };
 
-    ghost view = { λ f. record { list = f.list.items; topics = f.topics; alternate = f.alternate } };
+    ghost view = { λ f. record { kind = kind_of f.index; list = f.list.items; alternate = f.alternate } };
 
-    ghost invariant = { λ f. IsKeyIndex f.list.items f.by_key };
-}
-
-/// The ends by key of a direct exchange; another has none.
-fn index_of(
-    alloc: Global,
-    kind: ExchangeKind,
-    ways: &[Branch],
-) -> Result<Option<KeyedEnds>, AllocError>
-    ensures { IfOk result (IsKeyIndex ways.now) }
-{
-    match kind {
-        ExchangeKind::Direct => Ok(Some(keyed(alloc, ways)?)),
-        ExchangeKind::Fanout => Ok(None),
-        ExchangeKind::Topic => Ok(None),
-    }
+    ghost invariant = { λ f. IsIndex f.list.items f.index };
 }
 
 /// The keys of these ways as topic patterns.
@@ -66,22 +59,19 @@ fn patterns_of(alloc: Global, ways: &[Branch]) -> Result<Vec<Pattern>, AllocErro
 {
     let mut found = Vec::new(alloc);
     for way in ways {
-        match Pattern::read(alloc, way.key.as_bytes()) {
-            Ok(pattern) => found.push(pattern)?,
-            Err(_) => return Err(AllocError),
-        }
+        found.push(Pattern::of(alloc, way.key.as_bytes())?)?;
     }
     Ok(found)
 }
 
-/// The patterns of a topic exchange; another has none.
-fn topics_of(alloc: Global, kind: ExchangeKind, ways: &[Branch]) -> Result<Trie, AllocError>
-    ensures { IfOk result (λ made. made ≡ topics_of kind ways.now) }
+/// How the ways of an exchange of this kind are found.
+fn index_of(alloc: Global, kind: ExchangeKind, ways: &[Branch]) -> Result<Index, AllocError>
+    ensures { IfOk result (Indexes kind ways.now) }
 {
     match kind {
-        ExchangeKind::Topic => Trie::new(alloc, patterns_of(alloc, ways)?),
-        ExchangeKind::Direct => Trie::new(alloc, Vec::new(alloc)),
-        ExchangeKind::Fanout => Trie::new(alloc, Vec::new(alloc)),
+        ExchangeKind::Direct => Ok(Index::Keys(keyed(alloc, ways)?)),
+        ExchangeKind::Fanout => Ok(Index::All),
+        ExchangeKind::Topic => Ok(Index::Patterns(Trie::new(alloc, patterns_of(alloc, ways)?)?)),
     }
 }
 
@@ -106,12 +96,10 @@ pub fn fan_of(
     ensures { IfOk result (λ made. made ≡ fan_of (record { exchanges = exchanges.now; queues = queues.now; bindings = bindings.now }) exchange.now) }
 {
     let list = ways_from(alloc, exchanges, queues, exchange.name.as_bytes(), bindings)?;
-    let by_key = index_of(alloc, exchange.kind, list.as_slice())?;
-    let topics = topics_of(alloc, exchange.kind, list.as_slice())?;
+    let index = index_of(alloc, exchange.kind, list.as_slice())?;
     Ok(Fan {
         list,
-        by_key,
-        topics,
+        index,
         alternate: alternate_of(exchanges, exchange),
     })
 }
@@ -133,31 +121,10 @@ pub fn all_fans(
 }
 
 /// The ends of the ways with this key.
-fn ends_by_key(alloc: Global, ways: &[Branch], key: &[u8]) -> Result<Vec<End>, AllocError>
-    ensures { IfOk result (λ ends. ends.items ≡ ends_by_key key.now ways.now) }
+fn ends_by_key(alloc: Global, keyed: &KeyedEnds, key: &[u8]) -> Result<Vec<End>, AllocError>
+    requires { IsEven keyed.now }
+    ensures { IfOk result (λ ends. ends.items ≡ ends_under key.now keyed.now) }
 {
-    let mut ends = Vec::new(alloc);
-    for way in ways {
-        if way.key.as_bytes() == key {
-            ends.push(way.end)?;
-        }
-    }
-    Ok(ends)
-}
-
-/// The ends of the ways with this key, found by their index if there is one.
-fn ends_of_key(
-    alloc: Global,
-    by_key: &Option<KeyedEnds>,
-    ways: &[Branch],
-    key: &[u8],
-) -> Result<Vec<End>, AllocError>
-    requires { IsKeyIndex ways.now by_key.now }
-    ensures { IfOk result (λ ends. ends.items ≡ ends_by_key key.now ways.now) }
-{
-    let Some(keyed) = by_key else {
-        return ends_by_key(alloc, ways, key);
-    };
     let mut ends = Vec::new(alloc);
     ends.extend_from_slice(ends_under(keyed, key))?;
     Ok(ends)
@@ -203,20 +170,17 @@ fn ends_by_topic(
 /// The ends of the ways that let the key pass.
 fn passing(
     alloc: Global,
-    kind: ExchangeKind,
-    by_key: &Option<KeyedEnds>,
-    topics: &Trie,
+    index: &Index,
     ways: &[Branch],
     key: &[u8],
 ) -> Result<Vec<End>, AllocError>
-    requires indexed { IsKeyIndex ways.now by_key.now }
-    requires patterns { topics.now ≡ topics_of kind ways.now }
-    ensures { IfOk result (λ ends. ArePassing kind key.now ways.now ends.items) }
+    requires { IsIndex ways.now index.now }
+    ensures { IfOk result (λ ends. ArePassing (kind_of index.now) key.now ways.now ends.items) }
 {
-    match kind {
-        ExchangeKind::Direct => ends_of_key(alloc, by_key, ways, key),
-        ExchangeKind::Fanout => ends_of(alloc, ways),
-        ExchangeKind::Topic => ends_by_topic(alloc, topics, ways, key),
+    match index {
+        Index::Keys(keyed) => ends_by_key(alloc, keyed, key),
+        Index::All => ends_of(alloc, ways),
+        Index::Patterns(topics) => ends_by_topic(alloc, topics, ways, key),
     }
 }
 
@@ -234,23 +198,10 @@ fn or_alternate(alternate: Option<usize>, ends: &mut Vec<End>) -> Result<(), All
 
 impl Fan {
     /// The ends of the ways that let the key pass, or else of the alternate exchange.
-    pub fn lead_on(
-        &self,
-        alloc: Global,
-        kind: ExchangeKind,
-        key: &[u8],
-    ) -> Result<Vec<End>, AllocError>
-        requires { self.now.topics ≡ topics_of kind self.now.list }
-        ensures { IfOk result (λ ends. LeadOn kind key.now self.now ends.items) }
+    pub fn lead_on(&self, alloc: Global, key: &[u8]) -> Result<Vec<End>, AllocError>
+        ensures { IfOk result (λ ends. LeadOn key.now self.now ends.items) }
     {
-        let mut ends = passing(
-            alloc,
-            kind,
-            &self.by_key,
-            &self.topics,
-            self.list.as_slice(),
-            key,
-        )?;
+        let mut ends = passing(alloc, &self.index, self.list.as_slice(), key)?;
         or_alternate(self.alternate, &mut ends)?;
         Ok(ends)
     }

@@ -11,6 +11,6 @@ mod places;
 mod reach;
 mod topologies;
 
-pub use dying::DeadRoute;
+pub use dying::{DeadLetter, DeadRoute};
 pub use ends::End;
 pub use topologies::Topology;

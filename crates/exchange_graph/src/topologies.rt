@@ -3,6 +3,7 @@
 ghost use Rattle.std.specs.Prelude.{
   ◌≡◌,
   ◌<◌,
+  All,
   length,
   slice_index_or,
   IfOk,
@@ -15,7 +16,7 @@ ghost use Rattle.std.specs.Prelude.{
 };
 ghost use Rattle.std.specs.Str.{bytes_eq};
 ghost use Rattle.model.specs.Topology.{Topology as Handed, IsIn, IsWellFormed, exchange_names, queue_names};
-ghost use Rattle.exchange_graph.specs.Targets.{AreTargets, AreVisited};
+ghost use Rattle.exchange_graph.specs.Targets.{AreTargets, AreVisited, names_at};
 ghost use Rattle.topology_drafts.specs.Causes.{Builds, IsBuildable};
 ghost use Rattle.exchange_graph.specs.Fans.{AreSteps};
 ghost use Rattle.exchange_graph.specs.Marks.{exchange_name, queue_name};
@@ -24,7 +25,7 @@ use crate::ends::End;
 use crate::fans::{Fan, all_fans};
 use crate::marks::set_places;
 use crate::reach::{found, seen};
-use model::{Binding, DeclaredQueue, Exchange};
+use model::{Binding, DeclaredQueue, Exchange, Text};
 use std::alloc::{AllocError, Global};
 use std::marker::Model;
 use topology_drafts::{BadTopology, Names, judge};
@@ -62,6 +63,22 @@ impl Model for Topology {
     ghost view = { λ t. record { exchanges = t.exchanges.items; queues = t.queues.items; bindings = t.bindings.items } };
 
     ghost invariant = { λ t. IsBuilt (record { exchanges = t.exchanges.items; queues = t.queues.items; bindings = t.bindings.items }) t.fans.items t.exchange_names t.queue_names };
+}
+
+/// The names of the exchanges at these places.
+fn names_at(
+    alloc: Global,
+    exchanges: &[Exchange],
+    places: &[usize],
+) -> Result<Vec<Text>, AllocError>
+    requires { All (λ i. i < length exchanges.now) places.now }
+    ensures { IfOk result (λ names. names.items ≡ names_at (exchange_names exchanges.now) places.now) }
+{
+    let mut names = Vec::new(alloc);
+    for place in places {
+        names.push(exchanges[*place].name.clone()?)?;
+    }
+    Ok(names)
 }
 
 impl Topology {
@@ -135,7 +152,7 @@ impl Topology {
         requires { place < length self.now.exchanges }
         ensures { IfOk result (λ ends. AreSteps self.now key.now (exchange_name self.now place) ends.items) }
     {
-        self.fans[place].lead_on(alloc, self.exchanges[place].kind, key)
+        self.fans[place].lead_on(alloc, key)
     }
 
     /// The queues that a message sent to this exchange under this key is routed to, by their places, in the order of the
@@ -152,19 +169,24 @@ impl Topology {
         set_places(alloc, found.as_slice())
     }
 
-    /// The exchanges that a message sent to this exchange under this key passes, by their places, in the order of the
-    /// file, each once, and this one among them. The default exchange `""` and one that is not there have no place; they
-    /// lead on to no exchange.
+    /// The names of the exchanges that a message sent to this exchange under this key passes, in the order of the file, each
+    /// once, and this one among them. The default exchange `""` leads on to no exchange, so it passes itself alone; one
+    /// that is not there passes none.
     pub fn visited(
         &self,
         alloc: Global,
         exchange: &[u8],
         key: &[u8],
-    ) -> Result<Vec<usize>, AllocError>
+    ) -> Result<Vec<Text>, AllocError>
         ensures { IfOk result (λ visited. AreVisited self.now exchange.now key.now visited.items) }
     {
+        self.is_well_formed();
+        if exchange.is_empty() {
+            return Ok(vec![in alloc; Text::empty()]?);
+        }
         let seen = seen(self, alloc, exchange, key)?;
-        set_places(alloc, seen.as_slice())
+        let places = set_places(alloc, seen.as_slice())?;
+        names_at(alloc, self.exchanges.as_slice(), places.as_slice())
     }
 
     /// The exchanges, in the order of the file.

@@ -1,5 +1,5 @@
 -- Files by their names, and what a read of one gives (own).
-use Rattle.std.specs.Prelude.{◌≡◌, ◌<◌, ◌≤◌, ℕ, length, ⊤}
+use Rattle.std.specs.Prelude.{◌≡◌, ◌<◌, ◌≤◌, ℕ, Bool, true, false, Option, Some, None, length, ⊤}
 use Rattle.model.specs.Words.{Text}
 use Rattle.named_files.specs.declared.storage.Unread.{Unread}
 use Rattle.named_files.specs.declared.storage.Unread.TheVariants as unread
@@ -43,6 +43,23 @@ IsUnreadable other = ⊤
 pub record IsFileRead (known : Known) (text : Text) : Type 0 where
   pub whole : HasText known text
   pub short : length text ≤ most_bytes
+
+-- the file has another text, as far as is known
+abbrev pub HasOther : Known → Text → Type 0
+HasOther Unknown text = ⊤
+HasOther Absent text = ⊥
+HasOther (Holds known) text = text ≡ known → ⊥
+
+-- whether the file has this text, no longer than any that is read; else it has another
+abbrev pub TellsSame : Known → Text → Bool → Type 0
+TellsSame known text true = IsFileRead known text
+TellsSame known text false = HasOther known text
+
+-- whether what is left to read is this text, where that is known
+abbrev pub TellsLeft : Option Text → Text → Bool → Type 0
+TellsLeft None text same = ⊤
+TellsLeft (Some left) text true = text ≡ left
+TellsLeft (Some left) text false = text ≡ left → ⊥
 
 -- why it is not; want of memory says nothing
 abbrev pub IsUnread : Known → Unread → Type 0

@@ -1,8 +1,9 @@
 //! Storages that no output holds: those of outputs that were wholly taken, for outputs in which something is to wait next.
 
-ghost use Rattle.std.specs.Prelude.{◌≡◌, ◌≢◌, ◌≤◌, ◌<◌, ◌+◌, [], IfOk, OnOk, OnErr};
+ghost use Rattle.std.specs.Prelude.{◌≡◌, ◌≢◌, ◌≤◌, ◌<◌, ◌+◌, [], drop, slice_get, vec_capacity, vec_len, IfOk, OnOk, OnErr, Some};
 ghost use Rattle.model.specs.Sending.{most_sent};
 ghost use Rattle.outputs.specs.Waiting.{HoldsNone};
+ghost use Rattle.outputs.specs.declared.spares.Spare.{Spare};
 
 use crate::Output;
 use std::alloc::{AllocError, Global};
@@ -12,17 +13,33 @@ use std::marker::Model;
 const MOST_SENT: usize = 1_060_000;
 
 /// How many bytes the first storage of an output has. Behind the small answers of a round it has room for one event more, so that it
-/// does not move.
+/// does not move. One that has grown past it is not kept.
 const FIRST: usize = MOST_SENT + 65_536;
 
 /// So many storages are kept, as many as a round of deliveries may put out to; what is more is freed.
 const MOST_SPARE: usize = 256;
 
+/// So many of them are kept however long nobody takes them.
+const AT_HAND: usize = 16;
+
+/// Past those, one is freed that nobody took while so many came back.
+const LONG: u64 = 1024;
+
+/// A storage that no output holds.
+#[derive(Drop)]
+struct Spare {
+    storage: Vec<u8>,
+    /// How many had come back when it did.
+    since: u64,
+}
+
 /// Storages for outputs. The one that came last is given first.
 #[derive(Drop)]
 pub struct Spares {
     alloc: Global,
-    storages: Vec<Vec<u8>>,
+    spares: Vec<Spare>,
+    /// How many came back.
+    returned: u64,
 }
 
 impl Model for Spares {
@@ -30,9 +47,24 @@ impl Model for Spares {
 
     ghost Value = { ℕ };
 
-    ghost view = { λ s. vec_len s.storages };
+    ghost view = { λ s. vec_len s.spares };
 
-    ghost invariant = { λ s. (vec_len s.storages ≤ 256) × (256 ≤ vec_capacity s.storages) };
+    ghost invariant = { λ s. (vec_len s.spares ≤ 256) × (256 ≤ vec_capacity s.spares) };
+}
+
+/// Frees the first of all, if more than 16 are there and it has not been taken for long: 1,024 came back after it, of `count`.
+fn free_unused(all: &mut Vec<Spare>, count: u64)
+    ensures few { vec_len all.old ≤ 16 → all.new ≡ all.old }
+    ensures unused { (s : Spare) → slice_get all.old.items 0 ≡ Some s → 16 < vec_len all.old → s.since + 1024 < count → all.new.items ≡ drop 1 all.old.items }
+    ensures used { (s : Spare) → slice_get all.old.items 0 ≡ Some s → count ≤ s.since + 1024 → all.new ≡ all.old }
+    ensures least { 16 ≤ vec_len all.old → 16 ≤ vec_len all.new }
+    ensures most { vec_len all.new ≤ vec_len all.old }
+    ensures capacity { vec_capacity all.new ≡ vec_capacity all.old }
+{
+    if all.len() <= AT_HAND || count <= all[0].since.saturating_add(LONG) {
+        return;
+    }
+    drop(all.remove(0));
 }
 
 impl Spares {
@@ -42,7 +74,8 @@ impl Spares {
     {
         Ok(Spares {
             alloc,
-            storages: Vec::with_capacity(alloc, MOST_SPARE)?,
+            spares: Vec::with_capacity(alloc, MOST_SPARE)?,
+            returned: 0,
         })
     }
 
@@ -63,13 +96,16 @@ impl Spares {
         output.reserve(wanted)
     }
 
-    /// Takes the storage of an output in which nothing waits. It is spare from now on, or freed where 256 are; of one in which something
-    /// waits nothing is taken.
+    /// Takes the storage of an output in which nothing waits. It is spare from now on, or freed where 256 are, or where it has grown past
+    /// 1,125,536 bytes; of one in which something waits nothing is taken. Of more than 16 one is freed that nobody took for long.
     pub fn take_back(&mut self, output: &mut Output)
         ensures bytes { output.new.bytes ≡ output.old.bytes }
         ensures none { HoldsNone output.new }
-        ensures kept { output.old.bytes ≡ [] → 0 < output.old.storage → self.old < 256 → self.new ≡ self.old + 1 }
-        ensures freed { 256 ≤ self.old → self.new ≡ self.old }
+        ensures kept { output.old.bytes ≡ [] → 0 < output.old.storage → output.old.storage ≤ 1125536 → self.old ≤ 16 → self.new ≡ self.old + 1 }
+        ensures large { 1125536 < output.old.storage → self.new ≤ self.old }
+        ensures freed { 256 ≤ self.old → self.new ≤ self.old }
+        ensures most { self.new ≤ self.old + 1 }
+        ensures least { 16 ≤ self.old → 16 ≤ self.new }
         ensures rest { output.old.storage ≡ 0 → self.new ≡ self.old }
         // one in which something waits stays as it is
         ensures waits { output.old.bytes ≢ [] → output.new ≡ output.old }
@@ -93,18 +129,25 @@ impl Spares {
         if !output.has_none() {
             return;
         }
-        if let Some(storage) = self.storages.pop() {
-            drop(output.move_into(storage));
+        if let Some(spare) = self.spares.pop() {
+            drop(output.move_into(spare.storage));
         }
     }
 
-    /// Keeps a storage, unless as many as can be are kept.
+    /// Keeps a storage that came back, unless it is large or as many as can be are kept. One is freed that nobody took for long.
     fn keep(&mut self, storage: Vec<u8>)
-        ensures kept { self.old < 256 → self.new ≡ self.old + 1 }
-        ensures freed { 256 ≤ self.old → self.new ≡ self.old }
+        ensures kept { vec_capacity storage ≤ 1125536 → self.old ≤ 16 → self.new ≡ self.old + 1 }
+        ensures large { 1125536 < vec_capacity storage → self.new ≤ self.old }
+        ensures freed { 256 ≤ self.old → self.new ≤ self.old }
+        ensures most { self.new ≤ self.old + 1 }
+        ensures least { 16 ≤ self.old → 16 ≤ self.new }
     {
-        if self.storages.len() < MOST_SPARE {
-            self.storages.push_reserved(storage);
+        self.returned = self.returned.saturating_add(1);
+        free_unused(&mut self.spares, self.returned);
+        if storage.capacity() > FIRST || self.spares.len() >= MOST_SPARE {
+            return;
         }
+        let since = self.returned;
+        self.spares.push_reserved(Spare { storage, since });
     }
 }

@@ -1,5 +1,5 @@
 -- What a look comes to, by its steps.
-use Rattle.std.proofs.Common.{◌≡◌, Bool, true, Option, Some, None, refl, sym, subst}
+use Rattle.std.proofs.Common.{◌≡◌, Bool, true, false, Decides, Option, Some, None, refl, subst}
 use Rattle.std.specs.Prelude.{Err}
 use Rattle.std.specs.Io.KnownBytes.{Keeps}
 use Rattle.model.specs.Words.{Text}
@@ -8,12 +8,14 @@ use Rattle.model.specs.Arrivals.{World}
 use Rattle.runs.specs.Reloaded.{IsPutInForce, TellsReload}
 use Rattle.runs.specs.declared.machine.ReloadFault.{ReloadFault}
 use Rattle.runs.specs.declared.machine.ReloadFault.TheVariants.{Stands, Memory}
-use Rattle.named_files.specs.Files.{Known, AreKept}
+use Rattle.named_files.specs.Files.{Known, Holds, Absent, Unknown, AreKept, HasText}
 use Rattle.scripts.specs.FileNames.{FileNames}
-use Rattle.server.specs.Program.{TellsLine, out_of_memory}
-use Rattle.server.specs.Streams.{PutsOut, change}
-use Rattle.reload_loop.specs.Snapshots.{Snap, IsReadFrom}
-use Rattle.reload_loop.specs.Looks.{IsFaultTold, IsStated, obstacle_told, Looks, done, stopped, wanting}
+use Rattle.server.specs.declared.refusals.Told.{Told}
+use Rattle.server.specs.Program.{TellsLine, refusal_line}
+use Rattle.server.specs.Streams.{OutputStream, change}
+use Rattle.reload_loop.specs.declared.refused.Refused.{Refused}
+use Rattle.reload_loop.specs.Snapshots.{Snap, AllRead, AreHeld, AreSame, IsHeld, IsOther, IsReadFrom, IsSameText, IsSlotOf, WasRead}
+use Rattle.reload_loop.specs.Looks.{IsFaultTold, IsStated, IsToldAgain, Looks, WasRefused, done, refused, stopped, wanting}
 
 -- a stream that was not written to
 pub untouched : (o : Option Text) → Keeps o o
@@ -24,11 +26,55 @@ untouched (Some bytes) = refl
 pub same_holds : (f g : Text → Known) → AreKept f g → g ≡ f
 same_holds f g k = λ i name. k name i
 
-pub done_look : (holds : Text → Known) (names : FileNames) (before after : Option Text) (kept read : Snap) (a b : World) (force : Config) → IsReadFrom holds names read → IsStated names read force → after ≡ before → IsPutInForce a force b
-    → Looks holds names (change before after) kept a read b true
-done_look holds names before after kept read a b force from is e p = done force from is p (subst (λ (z : Option Text). Keeps before z) (sym e) (untouched before))
+-- what is decided so is so, or not
+pub is_not : (b : Bool) (P : Type 0) → b ≡ false → Decides b P → P → ⊥
+is_not b P no' d p = let so : b ≡ true = d.1 p in cc
 
-pub fault_look : (holds : Text → Known) (names : FileNames) (before mid after : Option Text) (kept read : Snap) (a b : World) (force : Config) (fault : ReloadFault) (whole : Bool) → IsReadFrom holds names read → IsStated names read force → mid ≡ before → TellsReload a force (Err fault) b
-    → IsFaultTold (change mid after) fault whole → Looks holds names (change before after) kept a kept b whole
-fault_look holds names before mid after kept read a b force (Stands o) whole from is e t told = stopped read force o from is t.0 t.1 (subst (λ (z : Option Text). TellsLine (change z after) (obstacle_told o) whole) e told)
-fault_look holds names before mid after kept read a b force Memory whole from is e t told = wanting read force from is t (subst (λ (z : Option Text). PutsOut (change z after) out_of_memory whole) e told)
+-- a text that was read and is found again is held
+slot_held : (known slot : Known) → WasRead slot → IsSlotOf known slot → IsHeld known slot
+slot_held known (Holds text) was is = is.whole
+slot_held known Absent was is = absurd was
+slot_held known Unknown was is = absurd was
+
+pub all_held : (holds : Text → Known) (names : FileNames) (s : Snap) → AllRead s → IsReadFrom holds names s → AreHeld holds names s
+all_held holds names s all from = record {
+  definitions = slot_held _ _ all.definitions from.definitions;
+  guarantees = slot_held _ _ all.guarantees from.guarantees;
+  certificates = slot_held _ _ all.certificates from.certificates;
+}
+
+-- the same of files that have the texts of others
+same_held : (known one other : Known) → IsSameText one other → IsSlotOf known one → IsHeld known other
+same_held known (Holds s) (Holds t) same is = subst (λ (x : Text). HasText known x) same is.whole
+same_held known (Holds s) Absent same is = absurd same
+same_held known (Holds s) Unknown same is = absurd same
+same_held known Absent other same is = absurd same
+same_held known Unknown other same is = absurd same
+
+pub read_held : (holds : Text → Known) (names : FileNames) (read kept : Snap) → AreSame read kept → IsReadFrom holds names read → AreHeld holds names kept
+read_held holds names read kept same from = record {
+  definitions = same_held _ _ _ same.definitions from.definitions;
+  guarantees = same_held _ _ _ same.guarantees from.guarantees;
+  certificates = same_held _ _ _ same.certificates from.certificates;
+}
+
+-- files that were read once what is known of them stayed are read from those before
+pub read_before : (a b : Text → Known) (names : FileNames) (s : Snap) → AreKept a b → IsReadFrom b names s → IsReadFrom a names s
+read_before a b names s k h = subst (λ (x : Text → Known). IsReadFrom x names s) (same_holds a b k) h
+
+-- files that were refused are found as they were, and it is told again
+pub refused_again : (a b : Text → Known) (names : FileNames) (err : OutputStream) (kept : Snap) (old : World) (o : Option Refused) (told : Told) (whole : Bool) → AreKept a b → WasRefused names kept o → IsToldAgain b names o told
+    → TellsLine err (refusal_line told.file.now told.why) whole → Looks a names err kept old kept old whole
+refused_again a b names err kept old None told whole k was again line = absurd again
+refused_again a b names err kept old (Some r) told whole k was again line =
+    refused r.read (read_before a b names r.read k again.0) was.other
+    (record { file = r.told.file.now; why = r.told.why; fails = was.fails; told = subst (λ (t : Told). TellsLine err (refusal_line t.file.now t.why) whole) again.1 line })
+
+pub done_look : (holds : Text → Known) (names : FileNames) (o : Option Text) (kept read : Snap) (a b : World) (force : Config) → IsReadFrom holds names read → IsOther read kept → IsStated names read force → IsPutInForce a force b
+    → Looks holds names (change o o) kept a read b true
+done_look holds names o kept read a b force from other is p = done force from other is p (untouched o)
+
+pub fault_look : (holds : Text → Known) (names : FileNames) (err : OutputStream) (kept read : Snap) (a b : World) (force : Config) (fault : ReloadFault) (whole : Bool) → IsReadFrom holds names read → IsOther read kept → IsStated names read force
+    → TellsReload a force (Err fault) b → IsFaultTold err fault whole → Looks holds names err kept a kept b whole
+fault_look holds names err kept read a b force (Stands o) whole from other is t told = stopped read force o from other is t.0 t.1 told
+fault_look holds names err kept read a b force Memory whole from other is t told = wanting read force from other is t told

@@ -15,7 +15,7 @@ use Rattle.server.specs.Streams.{OutputStream, change}
 use Rattle.server.specs.Clients.{Begins, IsTurns, Openings}
 use Rattle.reload_loop.specs.Snapshots.{Snap, IsReadFrom, known_in}
 use Rattle.reload_loop.specs.ServesOn.{ServesOn, Standing, standing}
-use Rattle.reload_loop.specs.Program.{AsksToReload, IsEvery, IsNotReload, ServesReloading}
+use Rattle.reload_loop.specs.Program.{AsksToServe, IsEvery, IsNotServe, ServesReloading}
 use Rattle.reload_loop.proofs.Outcomes.{same_holds}
 
 -- a broker that was just started by what was read, and then so many turns
@@ -45,7 +45,7 @@ serves_reloading holds names turns every may out before said after first last st
 pub serves_kept : (a b : Text → Known) (names : FileNames) (every turns : ℕ) (old new : Standing) → AreKept a b → ServesOn b names every turns old new → ServesOn a names every turns old new
 serves_kept a b names every turns old new k h = subst (λ (x : Text → Known). ServesOn x names every turns old new) (same_holds a b k) h
 
--- what asks for no reload does not ask for one
-pub not_to_reload : (words : List Text) (wanted : Wanted) (names : FileNames) (l : Text) (t : Option Text) (every : Text) → AsksFor words wanted → IsNotReload wanted → AsksToReload words names l t every → ⊥
-not_to_reload words wanted names l t every a not b =
-    subst (λ (w : Wanted). IsNotReload w) (asked_once words wanted (Serve names.definitions names.guarantees names.certificates l t (Some every)) a b) not
+-- what is not to serve was not asked to
+pub not_to_serve : (words : List Text) (wanted : Wanted) (names : FileNames) (l : Text) (t every : Option Text) → AsksFor words wanted → IsNotServe wanted → AsksToServe words names l t every → ⊥
+not_to_serve words wanted names l t every a not b =
+    subst (λ (w : Wanted). IsNotServe w) (asked_once words wanted (Serve names.definitions names.guarantees names.certificates l t every) a b) not

@@ -1,5 +1,5 @@
 -- One look at files between turns: what they state is put in force, or one line tells why not (own).
-use Rattle.std.specs.Prelude.{◌++◌, Bool, true, Some, codes}
+use Rattle.std.specs.Prelude.{◌≡◌, ◌++◌, Bool, true, Option, Some, None, codes, ⊤}
 use Rattle.model.specs.Words.{Text}
 use Rattle.model.specs.State.{Config}
 use Rattle.model.specs.Arrivals.{World, Same}
@@ -12,9 +12,11 @@ use Rattle.named_files.specs.Files.{Known}
 use Rattle.scripts.specs.FileNames.{FileNames}
 use Rattle.scripts.specs.Transcript.{obstacle_line}
 use Rattle.server.specs.declared.refusals.CommandRefusal.{CommandRefusal}
+use Rattle.server.specs.declared.refusals.Told.{Told}
 use Rattle.server.specs.Program.{FailsOver, IsInForceBy, TellsLine, out_of_memory, refusal_line}
 use Rattle.server.specs.Streams.{OutputStream, GetsNothing, PutsOut}
-use Rattle.reload_loop.specs.Snapshots.{Snap, AreHeld, IsReadFrom, known_in}
+use Rattle.reload_loop.specs.declared.refused.Refused.{Refused}
+use Rattle.reload_loop.specs.Snapshots.{Snap, AreHeld, IsOther, IsReadFrom, known_in}
 
 -- the line that tells what stands against a reload: `warren: ` and the line of the note
 abbrev pub obstacle_told : Obstacle → Text
@@ -29,24 +31,48 @@ IsFaultTold err Memory whole = PutsOut err out_of_memory whole
 abbrev pub IsStated : FileNames → Snap → Config → Type 0
 IsStated names read force = IsInForceBy (known_in names read) names force
 
+-- why a file or a certificate is refused, as they were read, and the file of which this is told
+abbrev pub IsWhyRefused : FileNames → Snap → Text → CommandRefusal → Type 0
+IsWhyRefused names read file why = FailsOver (known_in names read) (Some names.definitions) (Some names.guarantees) (Some names.certificates) file why
+
 -- A file or a certificate is refused, as they were read, which is told: all of it, or else a beginning.
 pub record IsRefused (names : FileNames) (read : Snap) (err : OutputStream) (whole : Bool) : Type 0 where
   pub file : Text
   pub why : CommandRefusal
-  pub fails : FailsOver (known_in names read) (Some names.definitions) (Some names.guarantees) (Some names.certificates) file why
+  pub fails : IsWhyRefused names read file why
   pub told : TellsLine err (refusal_line file why) whole
+
+-- ---- what is told again
+
+-- Files that were refused for this, as they were read, with another text than one that is kept.
+pub record IsRefusal (names : FileNames) (kept read : Snap) (file : Text) (why : CommandRefusal) : Type 0 where
+  pub other : IsOther read kept
+  pub fails : IsWhyRefused names read file why
+
+-- what was refused at a look before, if anything was
+abbrev pub WasRefused : FileNames → Snap → Option Refused → Type 0
+WasRefused names kept None = ⊤
+WasRefused names kept (Some r) = IsRefusal names kept r.read r.told.file.now r.told.why
+
+-- this was told of files that are found as they were read then
+abbrev pub IsToldAgain : (Text → Known) → FileNames → Option Refused → Told → Type 0
+IsToldAgain holds names None told = ⊥
+IsToldAgain holds names (Some r) told = IsReadFrom holds names r.read × (told ≡ r.told)
+
+-- ---- a look
 
 -- What a look comes to: the texts by which what is in force was judged, and the world, before it and after it, and whether all was taken that is told. One line is told where anything is refused, and else nothing.
 pub data Looks (holds : Text → Known) (names : FileNames) (err : OutputStream) (kept : Snap) (old : World) : Snap → World → Bool → Type 0 where
   -- the files have those texts
   unchanged : AreHeld holds names kept → GetsNothing err → Looks holds names err kept old kept old true
-  -- what they state now is in force
-  done : {read : Snap} {new : World} (force : Config) → IsReadFrom holds names read → IsStated names read force → IsPutInForce old force new → GetsNothing err → Looks holds names err kept old read new true
-  -- they are refused
-  refused : {whole : Bool} (read : Snap) → IsReadFrom holds names read → IsRefused names read err whole → Looks holds names err kept old kept old whole
+  -- they have others, and what they state now is in force
+  done : {read : Snap} {new : World} (force : Config) → IsReadFrom holds names read → IsOther read kept → IsStated names read force → IsPutInForce old force new
+      → GetsNothing err → Looks holds names err kept old read new true
+  -- they have others, and are refused
+  refused : {whole : Bool} (read : Snap) → IsReadFrom holds names read → IsOther read kept → IsRefused names read err whole → Looks holds names err kept old kept old whole
   -- something stands against what they state
-  stopped : {new : World} {whole : Bool} (read : Snap) (force : Config) (o : Obstacle) → IsReadFrom holds names read → IsStated names read force → IsObstacle old.config.topology force old.state.broker o → Same old new
-      → TellsLine err (obstacle_told o) whole → Looks holds names err kept old kept new whole
+  stopped : {new : World} {whole : Bool} (read : Snap) (force : Config) (o : Obstacle) → IsReadFrom holds names read → IsOther read kept → IsStated names read force
+      → IsObstacle old.config.topology force old.state.broker o → Same old new → TellsLine err (obstacle_told o) whole → Looks holds names err kept old kept new whole
   -- memory was wanting for it
-  wanting : {new : World} {whole : Bool} (read : Snap) (force : Config) → IsReadFrom holds names read → IsStated names read force → Same old new → PutsOut err out_of_memory whole
-      → Looks holds names err kept old kept new whole
+  wanting : {new : World} {whole : Bool} (read : Snap) (force : Config) → IsReadFrom holds names read → IsOther read kept → IsStated names read force → Same old new
+      → PutsOut err out_of_memory whole → Looks holds names err kept old kept new whole

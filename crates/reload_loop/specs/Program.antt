@@ -1,4 +1,4 @@
--- The program, where its files may be read again while it serves (own).
+-- The program with sockets, where its files may be read again while it serves (own).
 use Rattle.std.specs.Prelude.{◌≡◌, ◌<◌, ◌≤◌, ◌^◌, ℕ, Bool, true, List, [], Option, Some, None, ⊤}
 use Rattle.std.specs.Str.Parse.{IsNumeral, digits_value, without_leading_plus}
 use Rattle.model.specs.Words.{Text}
@@ -10,25 +10,34 @@ use Rattle.serving.specs.Whole.{IsServed}
 use Rattle.engine.specs.Wanting.{engine_lacks}
 use Rattle.command_line.specs.CommandLine.{Wanted, Check, Verify, Replay, Serve, Route, AsksFor}
 use Rattle.named_files.specs.Files.{Known, AreKept}
+use Rattle.named_files.specs.Stated.{file_named}
 use Rattle.scripts.specs.FileNames.{FileNames}
 use Rattle.server.specs.Streams.{OutputStream, TriesPut, change, tried}
-use Rattle.server.specs.Program.{IsInForceBy, out_of_memory}
-use Rattle.server.specs.Clients.{CanCome, EndsUnserved, IsTurns, Openings, RunsWithSockets}
+use Rattle.server.specs.declared.clients.ServeArguments.{ServeArguments}
+use Rattle.server.specs.Program.{IsInForceBy, RunsAs, out_of_memory}
+use Rattle.server.specs.Clients.{CanCome, EndsUnserved, IsTurns, Openings, ServeEnds}
 use Rattle.reload_loop.specs.Snapshots.{Snap, IsReadFrom, known_in}
 use Rattle.reload_loop.specs.ServesOn.{ServesOn, standing}
 
--- the words ask to serve these files at this address, for so many turns, and to look at them each time that so many are over
-abbrev pub AsksToReload : List Text → FileNames → Text → Option Text → Text → Type 0
-AsksToReload words names listen turns every = AsksFor words (Serve names.definitions names.guarantees names.certificates listen turns (Some every))
+-- the names of the files that `serve` is asked to serve
+abbrev pub names_in : ServeArguments → FileNames
+names_in a = record { definitions = a.definitions.now; guarantees = a.guarantees.now; certificates = a.certificates.now }
 
--- a command other than `serve` with `--reload`
-abbrev pub IsNotReload : Wanted → Type 0
-IsNotReload (Check definitions guarantees out) = ⊤
-IsNotReload (Verify definitions guarantees certificates) = ⊤
-IsNotReload (Replay script definitions guarantees certificates) = ⊤
-IsNotReload (Serve definitions guarantees certificates listen turns None) = ⊤
-IsNotReload (Serve definitions guarantees certificates listen turns (Some every)) = ⊥
-IsNotReload (Route definitions exchange key) = ⊤
+-- what is asked for with these arguments, where the files are looked at each time that so many turns are over, if a number is given
+abbrev pub asked_by : ServeArguments → Option Text → Wanted
+asked_by a every = Serve a.definitions.now a.guarantees.now a.certificates.now a.listen.now (file_named a.turns) every
+
+-- the words ask to serve these files at this address, for so many turns, and to look at them each time that so many are over, where a number is given
+abbrev pub AsksToServe : List Text → FileNames → Text → Option Text → Option Text → Type 0
+AsksToServe words names listen turns every = AsksFor words (Serve names.definitions names.guarantees names.certificates listen turns every)
+
+-- a command other than `serve`
+abbrev pub IsNotServe : Wanted → Type 0
+IsNotServe (Check definitions guarantees out) = ⊤
+IsNotServe (Verify definitions guarantees certificates) = ⊤
+IsNotServe (Replay script definitions guarantees certificates) = ⊤
+IsNotServe (Serve definitions guarantees certificates listen turns reload) = ⊥
+IsNotServe (Route definitions exchange key) = ⊤
 
 -- so many turns lie between two looks: the number that is given, where it is one or more
 pub record IsEvery (text : Text) (every : ℕ) : Type 0 where
@@ -62,11 +71,16 @@ pub data ReloadsEnd (holds : Text → Known) (names : FileNames) (turns : Option
       → EndsUnserved (known_in names first) names.definitions names.guarantees names.certificates Unasked may out err status → ReloadsEnd holds names turns every Unasked may out err None status
   reloading : {end : Served} {whole : Bool} → ServesReloading holds names turns every may out err end whole → ReloadsEnd holds names turns every Unasked may out err (Some end) (tried whole 0)
 
--- What a call comes to that can open sockets and read its files again.
-pub data RunsWithReloads (words : List Text) (before after : Text → Known) (Unasked : Type 0) (may : Text → Openings) (out err : OutputStream) : Option Served → ℕ → Type 0 where
-  -- what it comes to without reading them again, unless that is asked for; then memory was wanting before that was read
-  without : {end : Option Served} {status : ℕ} → RunsWithSockets words before after Unasked may out err end status
-      → ((names : FileNames) (listen every : Text) (turns : Option Text) → AsksToReload words names listen turns every → TriesPut err out_of_memory 4 status)
-      → RunsWithReloads words before after Unasked may out err end status
-  reloads : {end : Option Served} {status : ℕ} (names : FileNames) (listen every : Text) (turns : Option Text) → AsksToReload words names listen turns every → AreKept before after
-      → ReloadsEnd before names turns every Unasked (may listen) out err end status → RunsWithReloads words before after Unasked may out err end status
+-- What a call comes to that can open sockets, by what may come of that at an address.
+pub data RunsWithSockets (words : List Text) (before after : Text → Known) (Unasked : Type 0) (may : Text → Openings) (out err : OutputStream) : Option Served → ℕ → Type 0 where
+  -- what `program` comes to, unless it is to serve; then memory was wanting before that was read
+  without : {status : ℕ} → RunsAs words before after out err status → Unasked
+      → ((names : FileNames) (listen : Text) (turns every : Option Text) → AsksToServe words names listen turns every → TriesPut err out_of_memory 4 status)
+      → RunsWithSockets words before after Unasked may out err None status
+  -- it is to serve, and not to read its files again
+  serves : {end : Option Served} {status : ℕ} (names : FileNames) (listen : Text) (turns : Option Text) → AsksToServe words names listen turns None → AreKept before after
+      → ServeEnds before names.definitions names.guarantees names.certificates turns Unasked (may listen) out err end status
+      → RunsWithSockets words before after Unasked may out err end status
+  -- it is to serve, and to read them again
+  reloads : {end : Option Served} {status : ℕ} (names : FileNames) (listen every : Text) (turns : Option Text) → AsksToServe words names listen turns (Some every) → AreKept before after
+      → ReloadsEnd before names turns every Unasked (may listen) out err end status → RunsWithSockets words before after Unasked may out err end status

@@ -55,7 +55,29 @@ pub record AreHeld (holds : Text → Known) (names : FileNames) (s : Snap) : Typ
   pub guarantees : IsHeld (holds names.guarantees) s.guarantees
   pub certificates : IsHeld (holds names.certificates) s.certificates
 
+-- a text was read
+abbrev pub WasRead : Known → Type 0
+WasRead (Holds text) = ⊤
+WasRead Absent = ⊥
+WasRead Unknown = ⊥
+
+-- of each of the three
+pub record AllRead (s : Snap) : Type 0 where
+  pub definitions : WasRead s.definitions
+  pub guarantees : WasRead s.guarantees
+  pub certificates : WasRead s.certificates
+
 -- both have a text, which is the same
 abbrev pub IsSameText : Known → Known → Type 0
 IsSameText (Holds s) (Holds t) = s ≡ t
 IsSameText one other = ⊥
+
+-- Each of the three was read, and had the same text in both.
+pub record AreSame (one other : Snap) : Type 0 where
+  pub definitions : IsSameText one.definitions other.definitions
+  pub guarantees : IsSameText one.guarantees other.guarantees
+  pub certificates : IsSameText one.certificates other.certificates
+
+-- one of the three has another text than the one that is kept, or was not read
+abbrev pub IsOther : Snap → Snap → Type 0
+IsOther read kept = AreSame read kept → ⊥

@@ -3,10 +3,11 @@
 
 mod looking;
 mod program;
+mod refused;
 mod serving_on;
 mod snapshots;
 mod telling;
 
-pub use program::program_with_reloads;
+pub use program::program_with_sockets;
 pub use serving_on::serve_and_reload;
 pub use snapshots::{Names, Reading, Snapshot};

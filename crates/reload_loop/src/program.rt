@@ -1,41 +1,39 @@
-//! The program, with `serve --reload`.
+//! The program, with sockets: `serve` too, with looks at its files or without.
 
-ghost use Rattle.std.specs.Prelude.{◌≡◌, None, Some, option_map, IfSome, map};
-ghost use Rattle.command_line.specs.CommandLine.{AsksFor, Serve, wanted_of};
+ghost use Rattle.std.specs.Prelude.{◌≡◌, None, option_map, IfSome, map};
+ghost use Rattle.command_line.specs.CommandLine.{wanted_of};
 ghost use Rattle.engine.specs.World.{world_of};
 ghost use Rattle.named_files.specs.Files.{AreKept};
 ghost use Rattle.named_files.specs.Stated.{file_named};
 ghost use Rattle.serving.specs.Story.{served};
-ghost use Rattle.server.specs.Clients.{RunsWithSockets};
 ghost use Rattle.server.specs.Streams.{change, tried};
-ghost use Rattle.reload_loop.specs.Program.{IsEvery, IsNotReload, ReloadsEnd, RunsWithReloads};
-ghost use Rattle.reload_loop.specs.Snapshots.{names_of};
+ghost use Rattle.reload_loop.specs.Program.{IsEvery, IsNotServe, ReloadsEnd, RunsWithSockets, asked_by, names_in};
 
 use crate::serving_on::serve_and_reload;
 use crate::snapshots::{Names, Reading, Snapshot};
 use command_line::{Asked, command};
 use named_files::Files;
 use server::{
-    Ended, Listener, ServeArguments, Service, answer_with_sockets, begin, refuse_words, turns_of,
+    Ended, Listener, ServeArguments, Service, answer_asked, begin, refuse_words, serve_clients,
+    turns_of,
 };
 use serving::new_is_served;
 use std::alloc::Global;
 use std::convert::AsStr;
 use std::io::Write;
 
-/// What `serve --reload` is asked for.
+/// What `serve` is asked for.
 #[derive(Clone, Copy, Drop)]
-struct ReloadArguments<'a> {
-    names: Names<'a>,
-    listen: &'a str,
-    turns: Option<&'a str>,
-    every: &'a str,
+struct AskedToServe<'a> {
+    arguments: ServeArguments<'a>,
+    /// How many turns lie between two looks at the files, where they are to be looked at.
+    every: Option<&'a str>,
 }
 
-/// The arguments of `serve --reload`, where that is asked for.
-fn reload_arguments(asked: Asked<'_>) -> Option<ReloadArguments<'_>>
-    ensures some { IfSome result (λ a. wanted_of asked.entry ≡ Serve a.names.definitions.now a.names.guarantees.now a.names.certificates.now a.listen.now (file_named a.turns) (Some a.every.now)) }
-    ensures none { result ≡ None → IsNotReload (wanted_of asked.entry) }
+/// What `serve` is asked for, where it is.
+fn asked_to_serve(asked: Asked<'_>) -> Option<AskedToServe<'_>>
+    ensures some { IfSome result (λ a. wanted_of asked.entry ≡ asked_by a.arguments (file_named a.every)) }
+    ensures none { result ≡ None → IsNotServe (wanted_of asked.entry) }
 {
     match asked {
         Asked::Serve {
@@ -44,16 +42,16 @@ fn reload_arguments(asked: Asked<'_>) -> Option<ReloadArguments<'_>>
             certificates,
             listen,
             turns,
-            reload: Some(every),
-        } => Some(ReloadArguments {
-            names: Names {
+            reload,
+        } => Some(AskedToServe {
+            arguments: ServeArguments {
                 definitions,
                 guarantees,
                 certificates,
+                listen,
+                turns,
             },
-            listen,
-            turns,
-            every,
+            every: reload,
         }),
         _ => None,
     }
@@ -77,30 +75,28 @@ fn status_of(whole: bool) -> u8
     if whole { 0 } else { 4 }
 }
 
-/// Serves clients as `serve` does, and looks at the files each time that so many turns are over. No file is changed.
+/// Serves clients as `serve_clients` does, and looks at the files each time that so many turns are over. No file is changed.
 ///
 /// The files are read once before they are judged, so that what is in force was judged by the bytes that are kept. The
 /// status is 4 where standard error did not take each line whole.
 fn serve_reloading<L: Listener, F: Files, O: Write, E: Write>(
     alloc: Global,
-    asked: ReloadArguments<'_>,
+    arguments: ServeArguments<'_>,
+    every: &str,
     listener: &mut L,
     files: &mut F,
     out: &mut O,
     err: &mut E,
 ) -> Ended<L::Sockets>
-    ensures ends { ReloadsEnd (F.holds files.old) (names_of asked.entry.names) (file_named asked.entry.turns) asked.entry.every.now (listener.new ≡ listener.old) (L.listens listener.old asked.entry.listen.now) (change (O.contents out.old) (O.contents out.new)) (change (E.contents err.old) (E.contents err.new)) (option_map (λ s. served (world_of s.server.machine) s.server.peers (L.Sockets.told s.sockets)) result.service) result.status }
+    ensures ends { ReloadsEnd (F.holds files.old) (names_in arguments.entry) (file_named arguments.entry.turns) every.now (listener.new ≡ listener.old) (L.listens listener.old arguments.entry.listen.now) (change (O.contents out.old) (O.contents out.new)) (change (E.contents err.old) (E.contents err.new)) (option_map (λ s. served (world_of s.server.machine) s.server.peers (L.Sockets.told s.sockets)) result.service) result.status }
     ensures files { AreKept (F.holds files.old) (F.holds files.new) }
 {
-    let names = asked.names;
-    let mut kept = Snapshot::take(alloc, names, files);
-    let arguments = ServeArguments {
-        definitions: names.definitions,
-        guarantees: names.guarantees,
-        certificates: names.certificates,
-        listen: asked.listen,
-        turns: asked.turns,
+    let names = Names {
+        definitions: arguments.definitions,
+        guarantees: arguments.guarantees,
+        certificates: arguments.certificates,
     };
+    let mut kept = Snapshot::take(alloc, names, files);
     let mut reading = Reading {
         names,
         snapshot: &kept,
@@ -112,8 +108,8 @@ fn serve_reloading<L: Listener, F: Files, O: Write, E: Write>(
         Ok(service) => service,
         Err(status) => return Ended::without_clients(status),
     };
-    let turns = turns_of(asked.turns);
-    let every = every_of(asked.every);
+    let turns = turns_of(arguments.turns);
+    let every = every_of(every);
     new_is_served(&server, &sockets);
     let whole = serve_and_reload(
         alloc,
@@ -132,11 +128,11 @@ fn serve_reloading<L: Listener, F: Files, O: Write, E: Write>(
     }
 }
 
-/// Does what the words ask for, `serve --reload` too, and gives the exit status; where clients were served, with what served
-/// them.
+/// Does what the words ask for, `serve` too, and gives the exit status; where clients were served, with what served them.
 ///
-/// What isn't `serve --reload` is done as `server::program_with_sockets` does it.
-pub fn program_with_reloads<S: AsStr, L: Listener, F: Files, O: Write, E: Write>(
+/// What isn't `serve` is done as `server::program` does it. `serve` tells on `out` where clients may come, once its files are judged.
+/// With `--reload` it looks at them again while it serves.
+pub fn program_with_sockets<S: AsStr, L: Listener, F: Files, O: Write, E: Write>(
     alloc: Global,
     words: &[S],
     listener: &mut L,
@@ -144,14 +140,18 @@ pub fn program_with_reloads<S: AsStr, L: Listener, F: Files, O: Write, E: Write>
     out: &mut O,
     err: &mut E,
 ) -> Ended<L::Sockets>
-    ensures { RunsWithReloads (map S.text words.now) (F.holds files.old) (F.holds files.new) (listener.new ≡ listener.old) (L.listens listener.old) (change (O.contents out.old) (O.contents out.new)) (change (E.contents err.old) (E.contents err.new)) (option_map (λ s. served (world_of s.server.machine) s.server.peers (L.Sockets.told s.sockets)) result.service) result.status }
+    ensures { RunsWithSockets (map S.text words.now) (F.holds files.old) (F.holds files.new) (listener.new ≡ listener.old) (L.listens listener.old) (change (O.contents out.old) (O.contents out.new)) (change (E.contents err.old) (E.contents err.new)) (option_map (λ s. served (world_of s.server.machine) s.server.peers (L.Sockets.told s.sockets)) result.service) result.status }
 {
     let asked = match command(alloc, words) {
         Ok(asked) => asked,
         Err(error) => return Ended::without_clients(refuse_words(err, &error)),
     };
-    match reload_arguments(asked) {
-        Some(arguments) => serve_reloading(alloc, arguments, listener, files, out, err),
-        None => answer_with_sockets(alloc, asked, listener, files, out, err),
+    let AskedToServe { arguments, every } = match asked_to_serve(asked) {
+        Some(asked) => asked,
+        None => return Ended::without_clients(answer_asked(alloc, asked, files, out, err)),
+    };
+    match every {
+        Some(every) => serve_reloading(alloc, arguments, every, listener, files, out, err),
+        None => serve_clients(alloc, arguments, listener, files, out, err),
     }
 }

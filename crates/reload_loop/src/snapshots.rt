@@ -1,10 +1,18 @@
 //! What the files that are looked at had when they were read.
 
-ghost use Rattle.std.specs.Prelude.{◌≡◌, MatchResult, true};
-ghost use Rattle.model.specs.Words.{Text};
-ghost use Rattle.named_files.specs.Files.{AreKept, IsFileRead, IsUnread, Known};
-ghost use Rattle.reload_loop.specs.Snapshots.{AreHeld, IsReadFrom, IsSameText, known_in, known_of, names_of};
-ghost use Rattle.scripts.specs.FileNames.{FileNames};
+ghost use Rattle.std.specs.Prelude.{◌≡◌, Decides, MatchResult, true};
+ghost use Rattle.named_files.specs.Files.{AreKept, IsFileRead, IsUnread};
+ghost use Rattle.reload_loop.specs.Snapshots.{
+  AllRead,
+  AreHeld,
+  AreSame,
+  IsReadFrom,
+  IsSameText,
+  IsSlotOf,
+  known_in,
+  known_of,
+  names_of,
+};
 
 use named_files::{Files, NotWritten, Unread};
 use std::alloc::Global;
@@ -63,9 +71,35 @@ impl Snapshot {
         }
     }
 
+    /// Whether each of the three was read.
+    fn is_whole(&self) -> bool
+        ensures { result ≡ true → AllRead self.now }
+    {
+        self.definitions.is_ok() & self.guarantees.is_ok() & self.certificates.is_ok()
+    }
+
+    /// Whether each of the three was read, and its file is found to have the same bytes. No file is changed.
+    pub(crate) fn is_held<F: Files>(&self, alloc: Global, names: Names<'_>, files: &mut F) -> bool
+        ensures held { result ≡ true → AreHeld (F.holds files.old) (names_of names.entry) self.now }
+        ensures files { AreKept (F.holds files.old) (F.holds files.new) }
+    {
+        self.is_whole() && self.is_found(alloc, names, files)
+    }
+
+    /// Whether each file is found as it was read: with the same bytes, or again not read, for the same cause. Bytes are compared as
+    /// they are read. No file is changed.
+    pub(crate) fn is_found<F: Files>(&self, alloc: Global, names: Names<'_>, files: &mut F) -> bool
+        ensures found { result ≡ true → IsReadFrom (F.holds files.old) (names_of names.entry) self.now }
+        ensures files { AreKept (F.holds files.old) (F.holds files.new) }
+    {
+        is_found_in(alloc, files, names.definitions, &self.definitions)
+            && is_found_in(alloc, files, names.guarantees, &self.guarantees)
+            && is_found_in(alloc, files, names.certificates, &self.certificates)
+    }
+
     /// Whether each file was read, and had the same bytes in both.
     pub(crate) fn has_same(&self, other: &Snapshot) -> bool
-        ensures { (holds : Text → Known) (names : FileNames) → result ≡ true → IsReadFrom holds names self.now → AreHeld holds names other.now }
+        ensures { Decides result (AreSame self.now other.now) }
     {
         have_same(&self.definitions, &other.definitions)
             && have_same(&self.guarantees, &other.guarantees)
@@ -91,11 +125,32 @@ impl Snapshot {
 
 /// Whether both were read, and had the same bytes.
 fn have_same(one: &Result<Vec<u8>, Unread>, other: &Result<Vec<u8>, Unread>) -> bool
-    ensures { result ≡ true → IsSameText (known_of one.now) (known_of other.now) }
+    ensures { Decides result (IsSameText (known_of one.now) (known_of other.now)) }
 {
     match (one, other) {
         (Ok(one), Ok(other)) => one.as_slice() == other.as_slice(),
         _ => false,
+    }
+}
+
+/// Whether the file of this name is found as it was read. One that was too long is read whole; want of memory is never found again.
+fn is_found_in<F: Files>(
+    alloc: Global,
+    files: &mut F,
+    name: &str,
+    slot: &Result<Vec<u8>, Unread>,
+) -> bool
+    ensures found { result ≡ true → IsSlotOf (F.holds files.old name.now) (known_of slot.now) }
+    ensures files { AreKept (F.holds files.old) (F.holds files.new) }
+{
+    match slot {
+        Ok(bytes) => match files.has_bytes(alloc, name, bytes.as_slice()) {
+            Ok(same) => same,
+            Err(_) => false,
+        },
+        Err(Unread::Failed) => matches!(files.has_bytes(alloc, name, &[]), Err(Unread::Failed)),
+        Err(Unread::TooLong) => matches!(files.read(alloc, name), Err(Unread::TooLong)),
+        Err(Unread::Memory) => false,
     }
 }
 

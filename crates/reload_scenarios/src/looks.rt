@@ -3,7 +3,7 @@
 ghost use Rattle.std.specs.Prelude.{⊤};
 
 use memory_wire::{Client, MemoryWire};
-use reload_loop::program_with_reloads;
+use reload_loop::program_with_sockets;
 use scenario_parts::{
     Closed, MESSAGE, OPENED, OPENING, Unmet, expect, expect_bytes, expect_number, joined, value_of,
 };
@@ -274,7 +274,7 @@ fn serve_over<E: Write>(
     };
     let mut files = Replaced { versions, reads: 0 };
     let mut out: Vec<u8> = Vec::new(alloc);
-    let ended = program_with_reloads(
+    let ended = program_with_sockets(
         alloc,
         WORDS.as_slice(),
         &mut listener,

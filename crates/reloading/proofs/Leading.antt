@@ -9,8 +9,8 @@ use Rattle.model.specs.declared.topologies.DeclaredQueue.{DeclaredQueue}
 use Rattle.laws.proofs.Counts.{in_from_contains}
 use Rattle.laws.proofs.Safe.{comes_fixed}
 use Rattle.exchange_graph.specs.Marks.{queue_name}
-use Rattle.exchange_graph.specs.Dying.{IsDeadRoute, StepsByDeath}
-use Rattle.exchange_graph.specs.declared.dying.DeadRoute.{DeadRoute}
+use Rattle.exchange_graph.specs.Dying.{IsDeadLetter, LeavesFor}
+use Rattle.exchange_graph.specs.declared.dying.DeadLetter.{DeadLetter}
 use Rattle.reloading.specs.Obstacles.{FixesKey, LeadsNowhere}
 use Rattle.reloading.proofs.First.{in_get}
 
@@ -57,7 +57,7 @@ one_death t q x y p last wf d e = one_queue p last t.queues wf.queues_apart (die
 -- ---- whether it leads there
 
 -- a dead letter goes one way
-pub route_tells : (t : Topology) (q key x onward r : Text) (yes' : Bool) → IsWellFormed t → IsDeadRoute t q key x onward → Decides yes' (Comes t (of_key onward) None x r) → Decides yes' (Later t q key r)
+pub route_tells : (t : Topology) (q key x onward r : Text) (yes' : Bool) → IsWellFormed t → IsDeadLetter t q key x onward → Decides yes' (Comes t (of_key onward) None x r) → Decides yes' (Later t q key r)
 route_tells t q key x onward r yes' wf route d = (λ y. later (d.0 y), λ l. d.1 (comes l))
   where
     last : DeclaredQueue
@@ -112,6 +112,6 @@ fixed_at t q i d wf lt named is fixed x last dies =
     subst (λ (z : DeclaredQueue). is_some z.dead_letter_key ≡ true) same fixed
 
 -- what dies nowhere comes nowhere by deaths
-pub leads_nowhere : (t : Topology) (q key r : Text) (route : Option DeadRoute) → is_some route ≡ false → StepsByDeath route t q key → LeadsNowhere t q r
+pub leads_nowhere : (t : Topology) (q key r : Text) (route : Option DeadLetter) → is_some route ≡ false → LeavesFor route t q key → LeadsNowhere t q r
 leads_nowhere t q key r None e steps other l = steps l.exchange l.last l.dies
 leads_nowhere t q key r (Some route) e steps other l = false≢true (sym e)

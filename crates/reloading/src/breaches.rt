@@ -3,12 +3,14 @@
 ghost use Rattle.std.specs.Prelude.{◌≡◌, ◌<◌, ◌-◌, ◌^◌, IfOk};
 ghost use Rattle.model.specs.Topology.{queue_names};
 ghost use Rattle.model.specs.declared.obstacles.Obstacle.TheVariants.{Breaks};
+ghost use Rattle.dead_paths.specs.Leading.{AreLeading};
 ghost use Rattle.reloading.specs.First.{TellsFirst};
 ghost use Rattle.reloading.specs.Obstacles.{TellsEntries, TellsQueues};
 
 use crate::dangers::{endangers_next, may_endanger};
 use crate::passed::{keep, like_at, none_passed, slot_of};
 use crate::standing::Standing;
+use dead_paths::Leading;
 use exchange_graph::Topology;
 use guarantees::Guarantee;
 use model::{Message, Mode, Obstacle, Text};
@@ -31,14 +33,16 @@ fn first_of_queue<S: Standing>(
     standing: &S,
     topology: &Topology,
     guarantee: &Guarantee,
+    leading: &Leading,
     number: usize,
     place: usize,
     queue: &Text,
 ) -> Result<Option<Obstacle>, AllocError>
+    requires { AreLeading topology.now guarantee.now.queue leading.now }
     ensures { IfOk result (λ o. TellsEntries topology.now guarantee.now number (S.entries standing.now) place queue.now o) }
 {
     let name = queue.as_bytes();
-    if !may_endanger(alloc, topology, guarantee, name)? {
+    if !may_endanger(alloc, topology, guarantee, leading, name)? {
         return Ok(None);
     }
     let mut passed = none_passed();
@@ -47,10 +51,55 @@ fn first_of_queue<S: Standing>(
         let message = &entry.message;
         slot = slot_of(&passed, slot, message);
         let like = like_at(&passed, slot, message);
-        if endangers_next(alloc, topology, guarantee, name, like, message)? {
+        if endangers_next(alloc, topology, guarantee, leading, name, like, message)? {
             return Ok(Some(breaks(queue, message, number)?));
         }
         keep(&mut passed, slot, message);
+    }
+    Ok(None)
+}
+
+/// What leads to the guarantee's queue.
+fn leading_to(
+    alloc: Global,
+    topology: &Topology,
+    guarantee: &Guarantee,
+) -> Result<Leading, AllocError>
+    ensures { IfOk result (AreLeading topology.now guarantee.now.queue) }
+{
+    Leading::to(alloc, topology, guarantee.queue().as_bytes())
+}
+
+/// The first message of all queues that the guarantee at this place, which forbids, endangers. What leads to its queue is looked
+/// up once.
+fn first_of_never<S: Standing>(
+    alloc: Global,
+    standing: &S,
+    old: &Topology,
+    topology: &Topology,
+    guarantee: &Guarantee,
+    at: usize,
+) -> Result<Option<Obstacle>, AllocError>
+    requires { at < 2 ^ 64 - 1 }
+    ensures { IfOk result (λ o. TellsQueues topology.now (queue_names old.now.queues) (S.entries standing.now) at guarantee.now o) }
+{
+    let leading = leading_to(alloc, topology, guarantee)?;
+    for place in 0..old.queues().len() {
+        let queue = &old.queue(place).name;
+        let first = first_of_queue(
+            alloc,
+            standing,
+            topology,
+            guarantee,
+            &leading,
+            at + 1,
+            place,
+            queue,
+        )?;
+        match first {
+            Some(first) => return Ok(Some(first)),
+            None => {}
+        }
     }
     Ok(None)
 }
@@ -67,15 +116,10 @@ fn first_of_guarantee<S: Standing>(
     requires { at < 2 ^ 64 - 1 }
     ensures { IfOk result (λ o. TellsQueues topology.now (queue_names old.now.queues) (S.entries standing.now) at guarantee.now o) }
 {
-    for place in 0..old.queues().len() {
-        let queue = &old.queue(place).name;
-        let first = first_of_queue(alloc, standing, topology, guarantee, at + 1, place, queue)?;
-        match first {
-            Some(first) => return Ok(Some(first)),
-            None => {}
-        }
+    match guarantee.mode() {
+        Mode::Reaches => Ok(None),
+        Mode::Never => first_of_never(alloc, standing, old, topology, guarantee, at),
     }
-    Ok(None)
 }
 
 /// The first message that one of the guarantees endangers, guarantee by guarantee.

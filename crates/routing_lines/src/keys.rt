@@ -99,8 +99,16 @@ fn counted_by(
     alloc: Global,
     patterns: Vec<Pattern>,
     key: &str,
-) -> Result<(Vec<usize>, usize), AllocError> {
+) -> Result<(Vec<usize>, u128), AllocError> {
     Trie::new(alloc, patterns)?.matches_counted(alloc, key.as_bytes())
+}
+
+/// Appends a count.
+fn put_count(out: &mut LineAnswer, count: u128) {
+    match format!(in out.alloc(); " count {count}") {
+        Ok(text) => out.put(text.as_str()),
+        Err(_) => out.fail(Unanswered::Memory),
+    }
 }
 
 /// Appends the places that a trie of these patterns finds, and what it counts.
@@ -108,8 +116,7 @@ fn put_counted(out: &mut LineAnswer, patterns: Vec<Pattern>, key: &str) {
     match counted_by(out.alloc(), patterns, key) {
         Ok((places, count)) => {
             put_places(out, places.as_slice());
-            out.put(" count ");
-            out.put_number(count as u64);
+            put_count(out, count);
         }
         Err(_) => out.fail(Unanswered::Memory),
     }

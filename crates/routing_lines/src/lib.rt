@@ -5,7 +5,7 @@
 //! | `pattern`, `match`, `places`, `counted`, `numbered`, `words` | `topic_match`: what is a pattern, and which keys it matches, by both matchers |
 //! | `definitions`, `definitions-hex` | `definitions`: whether a file is read, or why it is refused |
 //! | `counts`, `queue`, `exchange`, `user` | `definitions`: what a file sets up |
-//! | `route`, `visited` | `exchange_graph`: the queues to which a key leads; the exchanges that it passes |
+//! | `route`, `visited`, `dead-route` | `exchange_graph`: the queues to which a key leads; the exchanges that it passes; the queues to which one death leads |
 //! | `guarantees`, `guarantees-hex`, `guarantee`, `covers` | `guarantees`: whether a file is read, or why it is refused; what a guarantee says and covers |
 #![tactic(auto)]
 
@@ -24,7 +24,7 @@ const OF_PATTERNS: [&str; 6] = ["pattern", "match", "places", "counted", "number
 const OF_GUARANTEES: [&str; 4] = ["guarantees", "guarantees-hex", "guarantee", "covers"];
 
 /// The kinds of lines about definitions files.
-const OF_DEFINITIONS: [&str; 8] = [
+const OF_DEFINITIONS: [&str; 9] = [
     "definitions",
     "definitions-hex",
     "counts",
@@ -33,6 +33,7 @@ const OF_DEFINITIONS: [&str; 8] = [
     "user",
     "route",
     "visited",
+    "dead-route",
 ];
 
 /// Answers a line about routing. Tells whether its kind is one of these.

@@ -1,6 +1,6 @@
 //! Lines about definitions files, and about what they set up.
 
-use super::routes::{put_route, put_visited};
+use super::routes::{put_dead_route, put_route, put_visited};
 use definitions::{Definitions, read_definitions};
 use exchange_graph::Topology;
 use line_words::{LineAnswer, Unanswered, bytes_of, file_of, number_of, source_of, words_of};
@@ -108,6 +108,7 @@ fn answer_of_words(out: &mut LineAnswer, kind: &str, read: &Definitions, words: 
         [place] if kind == "user" => put_user(out, read.users(), place),
         [exchange, key] if kind == "route" => put_route(out, topology, exchange, key),
         [exchange, key] if kind == "visited" => put_visited(out, topology, exchange, key),
+        [queue, key] if kind == "dead-route" => put_dead_route(out, topology, queue, key),
         _ => out.fail(Unanswered::Form),
     }
 }

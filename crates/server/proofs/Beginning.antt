@@ -7,7 +7,7 @@ use Rattle.model.specs.Words.{Text}
 use Rattle.model.specs.State.{Config}
 use Rattle.model.specs.Arrivals.{World, new_world}
 use Rattle.engine.specs.Wanting.{engine_lacks}
-use Rattle.command_line.specs.CommandLine.{Wanted, Serve, AsksFor, AreWordsRefused}
+use Rattle.command_line.specs.CommandLine.{Wanted, AsksFor, AreWordsRefused}
 use Rattle.named_files.specs.Files.{Known}
 use Rattle.serving.specs.Wire.{Told}
 use Rattle.serving.specs.Story.{Served, served}
@@ -16,7 +16,7 @@ use Rattle.serving.specs.Whole.{IsServed}
 use Rattle.serving.specs.declared.peers.Peer.{Peer}
 use Rattle.server.specs.Streams.{OutputStream, GetsText, PutsOut, TriesPut}
 use Rattle.server.specs.Program.{IsStarted, ShowsError, out_of_memory}
-use Rattle.server.specs.Clients.{IsTaken, Openings, CanCome, Begins, ServesClients, IsTurns, IsNotServe}
+use Rattle.server.specs.Clients.{IsTaken, Openings, CanCome, Begins, ServesClients, IsTurns}
 
 -- ---- the line
 
@@ -70,7 +70,3 @@ memory_told words e err n wanted is shown asks =
       | inl memory ↦ elim shown [ inl told ↦ told.1 | inr other ↦ absurd (other.0 memory) ]
       | inr nothing ↦ absurd (nothing wanted asks)
     ]
-
--- what is not to serve was not asked to
-pub not_to_serve : (words : List Text) (wanted : Wanted) (d g c l : Text) (t : Option Text) → AsksFor words wanted → IsNotServe wanted → AsksFor words (Serve d g c l t None) → ⊥
-not_to_serve words wanted d g c l t a not b = subst (λ (w : Wanted). IsNotServe w) (asked_once words wanted (Serve d g c l t None) a b) not

@@ -9,12 +9,11 @@ use Rattle.serving.specs.Story.{Served, served}
 use Rattle.serving.specs.Rounds.{Rounds}
 use Rattle.serving.specs.Whole.{IsServed}
 use Rattle.engine.specs.Wanting.{engine_lacks}
-use Rattle.command_line.specs.CommandLine.{Wanted, Check, Verify, Replay, Serve, Route, AsksFor}
-use Rattle.named_files.specs.Files.{Known, AreKept}
+use Rattle.named_files.specs.Files.{Known}
 use Rattle.server.specs.declared.refusals.CommandRefusal.{CommandRefusal}
 use Rattle.server.specs.declared.refusals.CommandRefusal.TheVariants.{Line, Refused, TooLong, Unread, Unwritten, NoExchange, Certificate, NotListening, Memory}
 use Rattle.server.specs.Streams.{OutputStream, GetsNothing, GetsText, PutsOut, TriesPut}
-use Rattle.server.specs.Program.{FailsOver, IsInForce, RunsAs, RefusesWith, out_of_memory}
+use Rattle.server.specs.Program.{FailsOver, IsInForce, RefusesWith, out_of_memory}
 
 -- ---- what is judged
 
@@ -116,27 +115,3 @@ ServeEnds holds definitions guarantees certificates turns Unasked may out err No
     EndsUnserved holds definitions guarantees certificates Unasked may out err status
 ServeEnds holds definitions guarantees certificates turns Unasked may out err (Some end) status =
     ServesClients holds definitions guarantees certificates turns may out err end × (status ≡ 0)
-
--- ---- the whole program
-
--- a command other than `serve` without `--reload`
-abbrev pub IsNotServe : Wanted → Type 0
-IsNotServe (Check definitions guarantees out) = ⊤
-IsNotServe (Verify definitions guarantees certificates) = ⊤
-IsNotServe (Replay script definitions guarantees certificates) = ⊤
-IsNotServe (Serve definitions guarantees certificates listen turns None) = ⊥
-IsNotServe (Serve definitions guarantees certificates listen turns (Some reload)) = ⊤
-IsNotServe (Route definitions exchange key) = ⊤
-
--- the words ask to serve these files at this address, for so many turns, and not to read them again
-abbrev pub AsksToServe : List Text → Text → Text → Text → Text → Option Text → Type 0
-AsksToServe words definitions guarantees certificates listen turns = AsksFor words (Serve definitions guarantees certificates listen turns None)
-
--- What a call comes to that can open sockets, by what may come of that at an address.
-pub data RunsWithSockets (words : List Text) (before after : Text → Known) (Unasked : Type 0) (may : Text → Openings) (out err : OutputStream) : Option Served → ℕ → Type 0 where
-  -- what it comes to without them, unless it is to serve; then memory was wanting before that was read
-  without : {status : ℕ} → RunsAs words before after out err status → Unasked
-      → ((definitions guarantees certificates listen : Text) (turns : Option Text) → AsksToServe words definitions guarantees certificates listen turns → TriesPut err out_of_memory 4 status)
-      → RunsWithSockets words before after Unasked may out err None status
-  serves : {end : Option Served} {status : ℕ} (definitions guarantees certificates listen : Text) (turns : Option Text) → AsksToServe words definitions guarantees certificates listen turns → AreKept before after
-      → ServeEnds before definitions guarantees certificates turns Unasked (may listen) out err end status → RunsWithSockets words before after Unasked may out err end status

@@ -1,7 +1,6 @@
 //! What `serve` does: files are judged first, then clients may come, which is told, and then they are served.
 
-ghost use Rattle.std.specs.Prelude.{◌≡◌, None, [], option_map, IfSome, IfOk, MatchResult, string_bytes};
-ghost use Rattle.command_line.specs.CommandLine.{Serve, wanted_of};
+ghost use Rattle.std.specs.Prelude.{◌≡◌, [], option_map, IfOk, MatchResult, string_bytes};
 ghost use Rattle.engine.specs.World.{world_of};
 ghost use Rattle.named_files.specs.Files.{AreKept};
 ghost use Rattle.named_files.specs.Stated.{file_named};
@@ -13,7 +12,6 @@ ghost use Rattle.server.specs.Clients.{
   EndsUnserved,
   FailsToStart,
   IsTaken,
-  IsNotServe,
   IsTold,
   IsTurns,
   IsUntold,
@@ -26,7 +24,6 @@ ghost use Rattle.server.specs.Streams.{change};
 use crate::refusals::{CommandRefusal, Told, refuse_memory, tell};
 use crate::starting::started;
 use crate::streams::put;
-use command_line::Asked;
 use engine::Engine;
 use named_files::Files;
 use serving::{Server, Wire, new_is_served, serve};
@@ -92,30 +89,6 @@ impl<W: Wire> Ended<W> {
             status,
             service: None,
         }
-    }
-}
-
-/// The arguments of `serve`, where that is asked for without `--reload`.
-pub(crate) fn serve_arguments(asked: Asked<'_>) -> Option<ServeArguments<'_>>
-    ensures some { IfSome result (λ a. wanted_of asked.entry ≡ Serve a.definitions.now a.guarantees.now a.certificates.now a.listen.now (file_named a.turns) None) }
-    ensures none { result ≡ None → IsNotServe (wanted_of asked.entry) }
-{
-    match asked {
-        Asked::Serve {
-            definitions,
-            guarantees,
-            certificates,
-            listen,
-            turns,
-            reload: None,
-        } => Some(ServeArguments {
-            definitions,
-            guarantees,
-            certificates,
-            listen,
-            turns,
-        }),
-        _ => None,
     }
 }
 
@@ -236,7 +209,7 @@ pub fn begin<L: Listener, F: Files, O: Write, E: Write>(
 /// Serves clients over sockets at an address, over what is in force by files, which are judged first. No file is changed.
 ///
 /// Refused as `program` refuses, before the listener is asked. Where clients may come is told on `out`.
-pub(crate) fn serve_clients<L: Listener, F: Files, O: Write, E: Write>(
+pub fn serve_clients<L: Listener, F: Files, O: Write, E: Write>(
     alloc: Global,
     asked: ServeArguments<'_>,
     listener: &mut L,

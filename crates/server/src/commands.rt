@@ -2,8 +2,6 @@
 
 ghost use Rattle.std.specs.Prelude.{◌≡◌, List, Some, map, option_map, MatchResult};
 ghost use Rattle.model.specs.Words.{Text};
-ghost use Rattle.engine.specs.World.{world_of};
-ghost use Rattle.serving.specs.Story.{served};
 ghost use Rattle.clap.specs.Words.{kind_of};
 ghost use Rattle.command_line.specs.CommandLine.{AsksFor, Check, Route, Verify, wanted_of};
 ghost use Rattle.named_files.specs.Files.{AreKept};
@@ -21,9 +19,7 @@ ghost use Rattle.server.specs.Program.{
   ListsFile,
   ShowsError,
 };
-ghost use Rattle.server.specs.Clients.{RunsWithSockets};
 
-use crate::clients::{Ended, Listener, serve_arguments, serve_clients};
 use crate::filing::write_out;
 use crate::refusals::{CommandRefusal, Told, refuse_memory, tell, told_of};
 use crate::replaying::{BrokerFiles, replay};
@@ -142,7 +138,7 @@ fn route<'a, F: Files>(
 
 /// What a command answers; or the status, once it is told why it prints nothing. To serve takes sockets, of which this has
 /// none.
-pub fn answer<F: Files, E: Write>(
+fn answer<F: Files, E: Write>(
     alloc: Global,
     asked: Asked<'_>,
     files: &mut F,
@@ -209,7 +205,7 @@ pub fn refuse_words<E: Write>(err: &mut E, error: &Error) -> u8
 }
 
 /// Does what was asked for, and gives the exit status. To serve takes sockets, of which this has none.
-fn answer_asked<F: Files, O: Write, E: Write>(
+pub fn answer_asked<F: Files, O: Write, E: Write>(
     alloc: Global,
     asked: Asked<'_>,
     files: &mut F,
@@ -229,7 +225,8 @@ fn answer_asked<F: Files, O: Write, E: Write>(
 /// The first word is the program's name. 0 is good; 1 is a guarantee that is broken, or a certificate that is not
 /// accepted by `verify`; 2 is a guarantee that is not decided, where none is broken; 3 is a refused file, certificate or
 /// command line, or an exchange that is not there; 4 is want of memory, or input or output that failed. What a command
-/// prints goes to `out`, what is refused to `err`. It has no sockets, so `serve` is answered as where it cannot listen.
+/// prints goes to `out`, what is refused to `err`. It has no sockets, so `serve` is answered as where it cannot listen:
+/// `reload_loop::program_with_sockets` serves.
 pub fn program<S: AsStr, F: Files, O: Write, E: Write>(
     alloc: Global,
     words: &[S],
@@ -244,42 +241,4 @@ pub fn program<S: AsStr, F: Files, O: Write, E: Write>(
         Err(error) => return refuse_words(err, &error),
     };
     answer_asked(alloc, asked, files, out, err)
-}
-
-/// Does what was asked for, `serve` too, and gives the exit status; where clients were served, with what served them.
-pub fn answer_with_sockets<L: Listener, F: Files, O: Write, E: Write>(
-    alloc: Global,
-    asked: Asked<'_>,
-    listener: &mut L,
-    files: &mut F,
-    out: &mut O,
-    err: &mut E,
-) -> Ended<L::Sockets>
-    ensures { (words : List Text) → AsksFor words (wanted_of asked.entry) → RunsWithSockets words (F.holds files.old) (F.holds files.new) (listener.new ≡ listener.old) (L.listens listener.old) (change (O.contents out.old) (O.contents out.new)) (change (E.contents err.old) (E.contents err.new)) (option_map (λ s. served (world_of s.server.machine) s.server.peers (L.Sockets.told s.sockets)) result.service) result.status }
-{
-    match serve_arguments(asked) {
-        Some(arguments) => serve_clients(alloc, arguments, listener, files, out, err),
-        None => Ended::without_clients(answer_asked(alloc, asked, files, out, err)),
-    }
-}
-
-/// Does what the words ask for, `serve` too, and gives the exit status; where clients were served, with what served them.
-///
-/// What isn't `serve` is done as `program` does it. `serve` tells on `out` where clients may come, once files are judged. No
-/// file is read again while it serves, so `--reload` is answered as `program` answers it.
-pub fn program_with_sockets<S: AsStr, L: Listener, F: Files, O: Write, E: Write>(
-    alloc: Global,
-    words: &[S],
-    listener: &mut L,
-    files: &mut F,
-    out: &mut O,
-    err: &mut E,
-) -> Ended<L::Sockets>
-    ensures { RunsWithSockets (map S.text words.now) (F.holds files.old) (F.holds files.new) (listener.new ≡ listener.old) (L.listens listener.old) (change (O.contents out.old) (O.contents out.new)) (change (E.contents err.old) (E.contents err.new)) (option_map (λ s. served (world_of s.server.machine) s.server.peers (L.Sockets.told s.sockets)) result.service) result.status }
-{
-    let asked = match command(alloc, words) {
-        Ok(asked) => asked,
-        Err(error) => return Ended::without_clients(refuse_words(err, &error)),
-    };
-    answer_with_sockets(alloc, asked, listener, files, out, err)
 }

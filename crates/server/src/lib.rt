@@ -10,11 +10,15 @@ mod routes;
 mod starting;
 mod streams;
 
-pub use clients::{Ended, Listener, Listening, ServeArguments, Service, begin, turns_of};
-pub use commands::{answer_with_sockets, program, program_with_sockets, refuse_words};
-pub use named_files::{Files, NotWritten, Unread};
+pub use clients::{
+    Ended, Listener, Listening, ServeArguments, Service, begin, serve_clients, turns_of,
+};
+pub use command_line::command;
+pub use commands::{answer_asked, program, refuse_words};
+pub use named_files::{Files, NotWritten, Unread, has_bytes_left};
 pub use refusals::{CommandRefusal, Told, put_out_of_memory, put_refusal};
 pub use replaying::{BrokerFiles, in_force};
 pub use routes::routed;
+pub use serving::{Server, Wire, serve};
 pub use starting::started;
 pub use streams::put;

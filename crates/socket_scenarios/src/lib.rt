@@ -1,6 +1,7 @@
 //! Scenarios of clients that are served: over sockets in memory, and over sockets of the system.
 #![tactic(auto)]
 
+mod listening;
 mod neighbours;
 mod patience;
 mod rounds;
@@ -113,6 +114,21 @@ fn tell_silent(sums: &mut Sums, rt: &HostRuntime) -> io::Result<()> {
         rt,
         "silent_sockets_are_asked_in_turn",
         silent::silent_sockets_are_asked_in_turn(rt, alloc),
+    )
+}
+
+/// The scenarios of where sockets of the system listen, of one that has no room, and of the time that they have.
+fn tell_bounds(sums: &mut Sums, rt: &HostRuntime) -> io::Result<()> {
+    let alloc = rt.alloc();
+    sums.tell(
+        rt,
+        "sockets_listen_at_the_address_that_is_asked_for",
+        listening::sockets_listen_at_the_address_that_is_asked_for(rt, alloc),
+    )?;
+    sums.tell(
+        rt,
+        "a_full_socket_takes_more_once_its_client_reads",
+        silent::a_full_socket_takes_more_once_its_client_reads(rt, alloc),
     )?;
     sums.tell(
         rt,
@@ -126,5 +142,6 @@ pub fn tell_all(sums: &mut Sums, rt: &HostRuntime) -> io::Result<()> {
     tell_rounds(sums, rt)?;
     tell_neighbours(sums, rt)?;
     tell_services(sums, rt)?;
-    tell_silent(sums, rt)
+    tell_silent(sums, rt)?;
+    tell_bounds(sums, rt)
 }

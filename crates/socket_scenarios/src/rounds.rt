@@ -3,6 +3,7 @@
 ghost use Rattle.std.specs.Prelude.{◌≡◌, [], IfOk, Some};
 ghost use Rattle.memory_wire.specs.Logs.{told_by};
 
+use crate::watched::Watched;
 use engine::Engine;
 use memory_wire::{Client, MemoryWire, serve_in_memory};
 use scenario_parts::{
@@ -102,7 +103,7 @@ pub(crate) fn a_round_makes_256_of_300_deliveries(alloc: Global) -> Result<(), U
 #[derive(Drop)]
 struct Service {
     server: Server<Engine>,
-    sockets: Sockets,
+    sockets: Watched<Sockets>,
 }
 
 impl Service {
@@ -111,12 +112,15 @@ impl Service {
         let server = new_server(alloc)?;
         let address = value_of("parse", "127.0.0.1:0".parse::<SocketAddr>())?;
         let sockets = value_of("Sockets::bind", Sockets::bind(net, alloc, address))?;
-        Ok(Service { server, sockets })
+        Ok(Service {
+            server,
+            sockets: Watched::new(sockets),
+        })
     }
 
     /// A client that comes.
     fn connect<N: Net>(&self, net: &N) -> Result<N::Stream, Unmet> {
-        let address = value_of("Sockets::local_addr", self.sockets.local_addr())?;
+        let address = value_of("Sockets::local_addr", self.sockets.sockets.local_addr())?;
         value_of("TcpStream::connect", TcpStream::connect(net, address))
     }
 
@@ -152,7 +156,7 @@ pub(crate) fn a_client_of_the_system_is_served<N: Net>(
         got: written.len() as u64,
         taken: answer_len(),
     };
-    let is_counted = service.sockets.totals(0) == Some(totals);
+    let is_counted = service.sockets.sockets.totals(0) == Some(totals);
     expect(
         "all that the first socket gave and took is counted",
         is_counted,
@@ -161,7 +165,7 @@ pub(crate) fn a_client_of_the_system_is_served<N: Net>(
     expect_served(alloc, &mut client)
 }
 
-/// A client that opens and publishes is answered, though the connection of another is reset between the two.
+/// A client that opens and publishes is answered, though the connection of another is reset between the two, which is lost.
 pub(crate) fn a_client_that_is_reset_is_lost_alone<N: Net>(
     net: &N,
     alloc: Global,
@@ -176,6 +180,11 @@ pub(crate) fn a_client_that_is_reset_is_lost_alone<N: Net>(
     drop(reset);
     send(&mut client, PUBLISH)?;
     service.serve(alloc);
+    expect_number(
+        "the number of sockets that were closed",
+        service.sockets.closes,
+        1,
+    )?;
     drop(service);
     expect_served(alloc, &mut client)
 }

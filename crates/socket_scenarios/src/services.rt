@@ -3,11 +3,12 @@
 ghost use Rattle.std.specs.Prelude.{⊤};
 
 use crate::watched::Watched;
+use reload_loop::program_with_sockets;
 use scenario_parts::{
     Closed, ScenarioDisk, Unmet, expect, expect_bytes, expect_number, expect_opened_and_acked,
     opening_and_publish, value_of,
 };
-use server::{Ended, Listener, Listening, program_with_sockets};
+use server::{Ended, Listener, Listening};
 use sockets::Sockets;
 use std::alloc::Global;
 use std::io;

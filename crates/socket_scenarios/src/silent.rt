@@ -1,10 +1,10 @@
-//! Sockets of the system that have nothing: which of them are asked, and when.
+//! Sockets of the system that have nothing, or no room: which of them are asked, and when.
 
 use scenario_parts::{Unmet, expect, expect_number, value_of};
-use serving::{Accept, Read, Wire as _};
+use serving::{Accept, Read, Wire as _, Write};
 use sockets::Sockets;
 use std::alloc::Global;
-use std::io::Write as _;
+use std::io::{self, Read as _, Write as _};
 use std::net::{Net, SocketAddr, TcpStream};
 
 /// How many sockets there are at once: twice as many files are open, and a process may have 1,024.
@@ -12,6 +12,9 @@ const MANY: usize = 400;
 
 /// How many silent sockets a round asks at most.
 const ASKED_AT_MOST: u64 = 32;
+
+/// How many writes fill a socket that nobody reads, whatever room the system gives it.
+const MOST_WRITES: u32 = 100_000;
 
 /// How many rounds in vain are enough, whatever else the machine does.
 const PATIENCE: u32 = 1_000;
@@ -210,4 +213,59 @@ pub(crate) fn silent_sockets_are_asked_in_turn<N: Net>(
         }
     }
     Err(Unmet::Claim("each of them is asked"))
+}
+
+/// Writes until a socket takes less than it is offered: how many bytes it took.
+fn fill(sockets: &mut Sockets, socket: u64) -> Result<u64, Unmet> {
+    let bytes = [0u8; 4096];
+    let mut taken = 0u64;
+    for _ in 0..MOST_WRITES {
+        sockets.accept();
+        match sockets.write(socket, bytes.as_slice()) {
+            Write::Took(count) => {
+                taken = taken.saturating_add(count as u64);
+                if count < bytes.len() {
+                    return Ok(taken);
+                }
+            }
+            Write::Wait => return Ok(taken),
+            Write::Failed => return Err(Unmet::Call("write")),
+        }
+    }
+    Err(Unmet::Claim("a socket that nobody reads gets full"))
+}
+
+/// A client reads so many bytes.
+fn read_all<S: io::Read>(client: &mut S, count: u64) -> Result<(), Unmet> {
+    let mut buffer = [0u8; 4096];
+    let mut left = count;
+    for _ in 0..count {
+        if left == 0 {
+            return Ok(());
+        }
+        let some = value_of("read", client.read(&mut buffer))?;
+        left = left.saturating_sub(some as u64);
+    }
+    expect_number("the number of bytes that are missing", left, 0)
+}
+
+/// A socket that took less than it was offered takes no more by itself, and takes more once its client has read and a rest told of it.
+pub(crate) fn a_full_socket_takes_more_once_its_client_reads<N: Net>(
+    net: &N,
+    alloc: Global,
+) -> Result<(), Unmet> {
+    let mut sockets = listening(net, alloc)?;
+    let (mut client, socket) = met(net, &mut sockets)?;
+    let taken = fill(&mut sockets, socket)?;
+    let waits = matches!(sockets.write(socket, b"one"), Write::Wait);
+    expect("a full socket takes nothing", waits)?;
+    read_all(&mut client, taken)?;
+    for _ in 0..3 {
+        sockets.rest();
+        sockets.accept();
+        if let Write::Took(count) = sockets.write(socket, b"one") {
+            return expect_number("the number of bytes", count as u64, 3);
+        }
+    }
+    Err(Unmet::Claim("a rest tells of room"))
 }

@@ -1,9 +1,10 @@
 //! Sockets of the operating system, as a wire.
 #![tactic(auto)]
 
+mod answers;
 mod counts;
-mod silence;
 mod sockets;
+mod turns;
 mod watch;
 
 pub use counts::Totals;

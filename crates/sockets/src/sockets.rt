@@ -7,10 +7,11 @@ ghost use Rattle.serving.specs.declared.wire.Read.TheVariants as read;
 ghost use Rattle.serving.specs.declared.wire.Write.TheVariants as write;
 ghost use Rattle.sockets.specs.Counts.{fails};
 
+use crate::answers::{is_later, read_answer, write_answer};
 use crate::counts::{
     Count, PLACES, Totals, count_accept, count_read, count_write, place_of, totals_at,
 };
-use crate::silence::{Rounds, Voice};
+use crate::turns::{Rounds, Voice};
 use crate::watch::{Trial, Watch};
 use mio::event::Event;
 use mio::net::{TcpListener, TcpStream};
@@ -18,7 +19,7 @@ use mio::{Events, Interest, Poll, Token};
 use serving::{Accept, Read, Wire, Write};
 use slab::Slab;
 use std::alloc::Global;
-use std::io::{self, ErrorKind, Read as _, Write as _};
+use std::io::{self, Read as _, Write as _};
 use std::net::{Net, SocketAddr};
 use std::rt::HostRuntime;
 use std::time::Duration;
@@ -40,13 +41,16 @@ struct Accepted {
     name: u64,
     stream: TcpStream,
     voice: Voice,
+    /// Since which turn a write waits for room, if one does.
+    full: Option<u64>,
     /// What it still owes, if it came not long ago.
     trial: Option<Trial>,
 }
 
 /// The sockets of a server: one that listens, and those that it accepted, named by numbers that are never used again. None of
 /// them blocks but in `rest`, which waits at most 100 milliseconds for one of them to have something. A socket that had
-/// nothing, or that gave less than it was asked for, is silent: it is asked in its turn, or once an event of a rest names it.
+/// nothing, or that gave less than it was asked for, is silent, and one that took less than it was offered is full: it is asked in
+/// its turn, or once an event of a rest names it.
 #[derive(Drop)]
 pub struct Sockets {
     listener: TcpListener,
@@ -67,7 +71,7 @@ pub struct Sockets {
     counts: Vec<Option<Count>>,
 }
 
-/// What an event says of a socket, whose voice was this.
+/// What an event says of a socket's reads, whose voice was this.
 fn heard(event: &Event, voice: Voice) -> Voice {
     if event.is_read_closed() || event.is_error() {
         Voice::Ending
@@ -78,9 +82,13 @@ fn heard(event: &Event, voice: Voice) -> Voice {
     }
 }
 
-/// Whether there is nothing now, but may be later.
-fn is_wait(error: &io::Error) -> bool {
-    matches!(error.kind(), ErrorKind::WouldBlock | ErrorKind::Interrupted)
+/// Since when a socket is still full behind an event: no longer where it has room, or will never have any, which a write then tells.
+fn still_full(event: &Event, full: Option<u64>) -> Option<u64> {
+    if event.is_writable() || event.is_write_closed() || event.is_error() {
+        None
+    } else {
+        full
+    }
 }
 
 /// What a socket owes after so many bytes more.
@@ -104,8 +112,15 @@ fn listen(net: &impl Net, poll: &Poll, address: SocketAddr) -> io::Result<TcpLis
     Ok(listener)
 }
 
+/// Has a socket send small pieces at once, and a poll tell of it under its name: what there is to read, and room for a write.
+fn set_up(poll: &Poll, stream: &mut TcpStream, name: u64) -> io::Result<()> {
+    stream.set_nodelay(true)?;
+    let both = Interest::READABLE | Interest::WRITABLE;
+    poll.registry().register(stream, Token(name as usize), both)
+}
+
 impl Sockets {
-    ghost use Rattle.std.specs.Prelude.{◌≡◌, ◌+◌, ◌≤◌, ◌<◌, ◌*◌, ℕ, length, IfSome, cond};
+    ghost use Rattle.std.specs.Prelude.{◌≡◌, ◌+◌, ◌≤◌, ◌<◌, ◌*◌, ℕ, List, length, IfSome, cond};
     ghost use Rattle.sockets.specs.Told.{seen, told_by};
 
     /// Listens at this address.
@@ -168,23 +183,18 @@ impl Sockets {
         ensures fresh { IfSome result (λ name. self.old.given * 4096 ≤ name) }
         ensures named { IfSome result (λ name. name < self.new.given * 4096) }
     {
-        if self.accepted.reserve(1).is_err() || stream.set_nodelay(true).is_err() {
-            return None;
-        }
+        self.accepted.reserve(1).ok()?;
         let place = self.accepted.vacant_key() as u64;
         if place >= PLACES || self.given >= MOST_GIVEN {
             return None;
         }
         let name = self.given * PLACES + place;
-        let both = Interest::READABLE | Interest::WRITABLE;
-        self.poll
-            .registry()
-            .register(&mut stream, Token(name as usize), both)
-            .ok()?;
+        set_up(&self.poll, &mut stream, name).ok()?;
         let accepted = Accepted {
             name,
             stream,
             voice: Voice::Speaking,
+            full: None,
             trial: self.watch.trial(),
         };
         self.accepted.insert_reserved(accepted);
@@ -202,7 +212,7 @@ impl Sockets {
     {
         self.rounds.begin();
         self.watch.look();
-        if !self.rounds.asks(self.voice) {
+        if !self.rounds.asks_read(self.voice) {
             return Accept::Nothing;
         }
         self.voice = Voice::Speaking;
@@ -212,13 +222,39 @@ impl Sockets {
                 None if self.fail() => Accept::Failed,
                 None => Accept::Nothing,
             },
-            Err(error) if is_wait(&error) => {
+            Err(error) if is_later(&error) => {
                 self.voice = self.rounds.silent();
                 Accept::Nothing
             }
             Err(_) if self.fail() => Accept::Failed,
             Err(_) => Accept::Nothing,
         }
+    }
+
+    /// A read that failed, where that can still be counted, and else the end.
+    fn failed_read(&mut self) -> Read
+        ensures failures { (s room : ℕ) (bytes : List ℕ) → self.new.failures ≡ self.old.failures + fails (read_call s room result bytes) }
+        ensures counts { self.new.counts ≡ self.old.counts }
+        ensures given { self.new.given ≡ self.old.given }
+        ensures none { (n : ℕ) → result ≡ read.Got n → ⊥ }
+    {
+        if self.fail() {
+            return Read::Failed;
+        }
+        Read::End
+    }
+
+    /// A write that failed, where that can still be counted.
+    fn failed_write(&mut self) -> Write
+        ensures failures { (s : ℕ) (bytes : List ℕ) → self.new.failures ≡ self.old.failures + fails (write_call s result bytes) }
+        ensures counts { self.new.counts ≡ self.old.counts }
+        ensures given { self.new.given ≡ self.old.given }
+        ensures none { (n : ℕ) → result ≡ write.Took n → ⊥ }
+    {
+        if self.fail() {
+            return Write::Failed;
+        }
+        Write::Wait
     }
 
     /// Reads from a socket. One whose time is over is asked once more, and fails where it has nothing.
@@ -232,23 +268,23 @@ impl Sockets {
             return Read::End;
         };
         let is_late = self.watch.is_over(accepted.trial);
-        if !is_late && !self.rounds.asks(accepted.voice) {
+        if !is_late && !self.rounds.asks_read(accepted.voice) {
             return Read::Wait;
         }
         let room = buffer.len();
-        match accepted.stream.read(buffer) {
-            Ok(0) => Read::End,
-            Ok(count) => {
+        match read_answer(accepted.stream.read(buffer), room) {
+            Read::Got(count) => {
                 accepted.voice = self.rounds.after_read(accepted.voice, count < room);
                 accepted.trial = still_owed(accepted.trial, count);
                 Read::Got(count)
             }
-            Err(error) if !is_late && is_wait(&error) => {
+            Read::Wait if is_late => self.failed_read(),
+            Read::Wait => {
                 accepted.voice = self.rounds.silent();
                 Read::Wait
             }
-            Err(_) if self.fail() => Read::Failed,
-            Err(_) => Read::End,
+            Read::End => Read::End,
+            Read::Failed => self.failed_read(),
         }
     }
 
@@ -262,12 +298,15 @@ impl Sockets {
         let Some(accepted) = named(&mut self.accepted, socket) else {
             return Write::Wait;
         };
-        match accepted.stream.write(bytes) {
-            Ok(0) => Write::Wait,
-            Ok(count) => Write::Took(count),
-            Err(error) if is_wait(&error) => Write::Wait,
-            Err(_) if self.fail() => Write::Failed,
-            Err(_) => Write::Wait,
+        if !self.rounds.asks_write(accepted.full) {
+            return Write::Wait;
+        }
+        let answer = write_answer(accepted.stream.write(bytes));
+        accepted.full = self.rounds.after_write(answer, bytes.len());
+        match answer {
+            Write::Took(count) => Write::Took(count),
+            Write::Wait => Write::Wait,
+            Write::Failed => self.failed_write(),
         }
     }
 
@@ -282,6 +321,7 @@ impl Sockets {
                 self.voice = Voice::Speaking;
             } else if let Some(accepted) = named(&mut self.accepted, event.token().0 as u64) {
                 accepted.voice = heard(event, accepted.voice);
+                accepted.full = still_full(event, accepted.full);
             }
         }
         if !self.events.is_empty() {

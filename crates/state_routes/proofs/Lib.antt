@@ -1,4 +1,3 @@
-pub mod Chains
 pub mod Numbers
 pub mod DeadLetters
 pub mod Known

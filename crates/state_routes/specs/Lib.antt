@@ -1,4 +1,3 @@
-pub mod Reach
 pub mod Nodes
 pub mod Gates
 pub mod Deaths

@@ -6,7 +6,7 @@ ghost use Rattle.state_routes.specs.Gates.{open_ways};
 ghost use Rattle.state_routes.specs.Exits.{AddsAlternates, AddsGates, AreEmpty, AreExits, exit_at, no_exit};
 
 use crate::gates::{Gate, add_alternates, add_open};
-use crate::reach::Hop;
+use dead_paths::Hop;
 use model::Mode;
 use std::alloc::{AllocError, Global};
 use std::marker::Model;

@@ -5,10 +5,10 @@ ghost use Rattle.model.specs.Topology.{IsIn};
 ghost use Rattle.state_routes.specs.Gates.{open_ways};
 ghost use Rattle.state_routes.specs.Exits.{IsBounded, LeadFrom, exit_at, open_through};
 ghost use Rattle.state_routes.specs.Following.{Enters, Spreads};
-ghost use Rattle.state_routes.specs.Reach.{AreReached};
+ghost use Rattle.dead_paths.specs.Reach.{AreReached};
 
 use crate::exits::Exits;
-use crate::reach::{Hop, unmarked};
+use dead_paths::{Hop, unmarked};
 use model::Mode;
 use std::alloc::{AllocError, Global};
 

@@ -5,7 +5,7 @@ ghost use Rattle.model.specs.Tracking.{same_kind, same_tracked};
 ghost use Rattle.state_routes.specs.Gates.{all_block, binding_gates, blocks, gate_of, gates_of, has_queue, is_open, is_shut, kind_at, open_alternates, open_links, passes, tracked_place, test_by};
 
 use crate::nodes::link_of;
-use crate::reach::Hop;
+use dead_paths::Hop;
 use exchange_graph::Topology;
 use model::{Binding, ExchangeKind, Mode};
 use std::alloc::{AllocError, Global};
@@ -99,7 +99,7 @@ fn gate_of(topology: &Topology, queue: &[u8], patterns: &[Tracked], binding: &Bi
 {
     let kind = kind_at(topology, binding.source.as_bytes());
     Gate {
-        link: link_of(topology.exchanges(), queue, binding),
+        link: link_of(topology, queue, binding),
         test: test_by(patterns, kind, binding.key.as_bytes()),
     }
 }

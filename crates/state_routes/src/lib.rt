@@ -13,7 +13,6 @@ mod keys;
 mod nodes;
 mod patterns;
 mod places;
-mod reach;
 mod routes;
 mod tracking;
 

@@ -1,77 +1,69 @@
 //! The places of a topology as numbers.
 
-ghost use Rattle.std.specs.Prelude.{◌≡◌, ◌+◌, ◌<◌, ◌≤◌, length, IfOk, IfSome, position};
-ghost use Rattle.std.specs.Str.{bytes_eq};
+ghost use Rattle.std.specs.Prelude.{◌≡◌, ◌+◌, ◌<◌, ◌≤◌, length, IfOk};
 ghost use Rattle.exchange_graph.specs.Fans.{exchange_place};
 ghost use Rattle.state_routes.specs.Nodes.{alternate_links, any_links, end_node, link_of, links_of, node};
 
-use crate::reach::Hop;
+use dead_paths::Hop;
 use exchange_graph::Topology;
 use model::{Binding, Exchange, Place};
 use std::alloc::{AllocError, Global};
 
-/// The place of the first exchange of this name.
-fn first_exchange(exchanges: &[Exchange], name: &[u8]) -> Option<usize>
-    ensures place { result ≡ position (λ x. bytes_eq x.name name.now) exchanges.now }
-    ensures within { IfSome result (λ i. i < length exchanges.now) }
+/// The place of the exchange of this name, or how many there are.
+fn exchange_place(topology: &Topology, name: &[u8]) -> usize
+    ensures is { result ≡ exchange_place topology.now.exchanges name.now }
+    ensures within { result ≤ length topology.now.exchanges }
 {
-    exchanges.iter().position(|x| x.name.as_bytes() == name)
-}
-
-/// The place of the first exchange of this name, or how many there are.
-fn exchange_place(exchanges: &[Exchange], name: &[u8]) -> usize
-    ensures is { result ≡ exchange_place exchanges.now name.now }
-    ensures within { result ≤ length exchanges.now }
-{
-    match first_exchange(exchanges, name) {
+    match topology.exchange_at(name) {
         Some(place) => place,
-        None => exchanges.len(),
+        None => topology.exchanges().len(),
     }
 }
 
 /// The number of an exchange.
-pub fn node(exchanges: &[Exchange], name: &[u8]) -> usize
-    ensures is { result ≡ node exchanges.now name.now }
-    ensures within { result < length exchanges.now + 4 }
+pub fn node(topology: &Topology, name: &[u8]) -> usize
+    ensures is { result ≡ node topology.now.exchanges name.now }
+    ensures within { result < length topology.now.exchanges + 4 }
 {
+    topology.is_buildable();
     if name.is_empty() {
         return 2;
     }
-    exchange_place(exchanges, name) + 3
+    exchange_place(topology, name) + 3
 }
 
 /// The number of a place where a binding ends: 0 for this queue, 1 for any other.
-fn end_node(exchanges: &[Exchange], queue: &[u8], to: &Place) -> usize
-    ensures { result ≡ end_node exchanges.now queue.now to.now }
+fn end_node(topology: &Topology, queue: &[u8], to: &Place) -> usize
+    ensures { result ≡ end_node topology.now.exchanges queue.now to.now }
 {
     match to {
-        Place::Exchange(name) => node(exchanges, name.as_bytes()),
+        Place::Exchange(name) => node(topology, name.as_bytes()),
         Place::Queue(name) => { if name.as_bytes() == queue { 0 } else { 1 } }
     }
 }
 
 /// Where a binding leads from and to.
-pub fn link_of(exchanges: &[Exchange], queue: &[u8], binding: &Binding) -> Hop
-    ensures { result ≡ link_of exchanges.now queue.now binding.now }
+pub fn link_of(topology: &Topology, queue: &[u8], binding: &Binding) -> Hop
+    ensures { result ≡ link_of topology.now.exchanges queue.now binding.now }
 {
     Hop {
-        from: node(exchanges, binding.source.as_bytes()),
-        to: end_node(exchanges, queue, &binding.to),
+        from: node(topology, binding.source.as_bytes()),
+        to: end_node(topology, queue, &binding.to),
     }
 }
 
 /// Where the bindings lead from and to.
 fn links_of(
     alloc: Global,
-    exchanges: &[Exchange],
+    topology: &Topology,
     queue: &[u8],
     bindings: &[Binding],
 ) -> Result<Vec<Hop>, AllocError>
-    ensures { IfOk result (λ links. links.items ≡ links_of exchanges.now queue.now bindings.now) }
+    ensures { IfOk result (λ links. links.items ≡ links_of topology.now.exchanges queue.now bindings.now) }
 {
     let mut links = Vec::new(alloc);
     for binding in bindings {
-        links.push(link_of(exchanges, queue, binding))?;
+        links.push(link_of(topology, queue, binding))?;
     }
     Ok(links)
 }
@@ -79,17 +71,17 @@ fn links_of(
 /// Where the alternate exchange of each of these exchanges leads from and to.
 pub fn alternate_links(
     alloc: Global,
-    all: &[Exchange],
+    topology: &Topology,
     exchanges: &[Exchange],
 ) -> Result<Vec<Hop>, AllocError>
-    ensures { IfOk result (λ links. links.items ≡ alternate_links all.now exchanges.now) }
+    ensures { IfOk result (λ links. links.items ≡ alternate_links topology.now.exchanges exchanges.now) }
 {
     let mut links = Vec::new(alloc);
     for exchange in exchanges {
         if let Some(other) = &exchange.alternate {
             links.push(Hop {
-                from: node(all, exchange.name.as_bytes()),
-                to: node(all, other.as_bytes()),
+                from: node(topology, exchange.name.as_bytes()),
+                to: node(topology, other.as_bytes()),
             })?;
         }
     }
@@ -100,8 +92,8 @@ pub fn alternate_links(
 pub fn any_links(alloc: Global, topology: &Topology, queue: &[u8]) -> Result<Vec<Hop>, AllocError>
     ensures { IfOk result (λ links. links.items ≡ any_links topology.now queue.now) }
 {
-    let mut links = links_of(alloc, topology.exchanges(), queue, topology.bindings())?;
-    let alternates = alternate_links(alloc, topology.exchanges(), topology.exchanges())?;
+    let mut links = links_of(alloc, topology, queue, topology.bindings())?;
+    let alternates = alternate_links(alloc, topology, topology.exchanges())?;
     links.extend_from_slice(alternates.as_slice())?;
     Ok(links)
 }

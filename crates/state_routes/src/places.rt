@@ -7,8 +7,8 @@ ghost use Rattle.state_routes.specs.Placing.{RiseBelow};
 use crate::gates::kind_at;
 use crate::keys::Keys;
 use crate::nodes::{alternate_links, node};
-use crate::reach::Hop;
 use crate::tracking::met;
+use dead_paths::Hop;
 use exchange_graph::Topology;
 use guarantees::Guarantee;
 use model::{Binding, DeclaredQueue, ExchangeKind, Mode, Place};
@@ -33,7 +33,7 @@ fn mark(marks: &mut [bool], place: usize) {
 /// The number of the exchange where dead letters of this queue go, whatever their key; 1 if they go nowhere.
 fn death_end(topology: &Topology, last: &DeclaredQueue) -> usize {
     match &last.dead_letter_exchange {
-        Some(exchange) => node(topology.exchanges(), exchange.as_bytes()),
+        Some(exchange) => node(topology, exchange.as_bytes()),
         None => 1,
     }
 }
@@ -56,11 +56,11 @@ fn queue_end(topology: &Topology, mode: Mode, queue: &[u8], name: &[u8]) -> usiz
 /// Where a binding may lead from and to.
 fn binding_way(topology: &Topology, mode: Mode, queue: &[u8], binding: &Binding) -> Hop {
     let to = match &binding.to {
-        Place::Exchange(name) => node(topology.exchanges(), name.as_bytes()),
+        Place::Exchange(name) => node(topology, name.as_bytes()),
         Place::Queue(name) => queue_end(topology, mode, queue, name.as_bytes()),
     };
     Hop {
-        from: node(topology.exchanges(), binding.source.as_bytes()),
+        from: node(topology, binding.source.as_bytes()),
         to,
     }
 }
@@ -185,7 +185,7 @@ fn keys_of(alloc: Global, topology: &Topology, guarantee: &Guarantee) -> Result<
     let queue = guarantee.queue().as_bytes();
     let of_bindings = binding_ways(alloc, topology, mode, queue)?;
     let of_default = default_ways(alloc, topology, mode, queue)?;
-    let mut ways = alternate_links(alloc, topology.exchanges(), topology.exchanges())?;
+    let mut ways = alternate_links(alloc, topology, topology.exchanges())?;
     ways.extend_from_slice(of_bindings.as_slice())?;
     ways.extend_from_slice(of_default.as_slice())?;
     let leading = leading(alloc, ways.as_slice(), topology.exchanges().len() + 4)?;

@@ -8,7 +8,7 @@ ghost use Rattle.model.specs.Certificates.{IsKept};
 ghost use Rattle.model.specs.Positions.{FitsEach};
 ghost use Rattle.state_routes.specs.Gates.{accepted};
 ghost use Rattle.state_routes.specs.Exits.{IsBounded, open_through};
-ghost use Rattle.state_routes.specs.Reach.{Chain};
+ghost use Rattle.dead_paths.specs.Reach.{Chain};
 ghost use Rattle.certificate_laws.specs.Soundness.{AreOnce};
 ghost use Rattle.state_routes.specs.Known.{IsKeptBy, IsKnown, LeadsBy, keeps};
 
@@ -93,12 +93,12 @@ impl Routes {
         topology.is_well_formed();
         let exchanges = topology.exchanges();
         let gates = all_gates(alloc, topology, mode, queue, letters.patterns())?;
-        let alternates = alternate_links(alloc, exchanges, exchanges)?;
+        let alternates = alternate_links(alloc, topology, exchanges)?;
         let count = exchanges.len() + 4;
         Ok(Routes {
             mode,
             exits: exits_of(alloc, count, gates.as_slice(), alternates.as_slice())?,
-            start: node(exchanges, exchange),
+            start: node(topology, exchange),
         })
     }
 

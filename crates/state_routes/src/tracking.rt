@@ -9,7 +9,7 @@ ghost use Rattle.state_routes.specs.Fitting.{HavePatterns};
 use crate::deaths::{add_links, dying, unfixed_gates};
 use crate::nodes::{any_links, node};
 use crate::patterns::Patterns;
-use crate::reach::reached;
+use dead_paths::reached;
 use exchange_graph::Topology;
 use guarantees::Guarantee;
 use model::{Binding, DeclaredQueue, Exchange, ExchangeKind, Mode, Text};
@@ -109,7 +109,7 @@ fn add_met(
     ensures { OnOk result (list.new ≡ met_onto topology.now marks.now list.old exchanges.now) }
 {
     for exchange in exchanges {
-        if marks[node(topology.exchanges(), exchange.name.as_bytes())] {
+        if marks[node(topology, exchange.name.as_bytes())] {
             add_exchange(alloc, list, exchange, topology.bindings())?;
         }
     }
@@ -129,7 +129,7 @@ pub fn met(
     let mut links = any_links(alloc, topology, queue)?;
     let deaths = unfixed_gates(alloc, topology, dying(mode, topology))?;
     add_links(&mut links, deaths.as_slice())?;
-    let start = node(topology.exchanges(), exchange);
+    let start = node(topology, exchange);
     let count = topology.exchanges().len() + 4;
     let marks = reached(alloc, links.as_slice(), count, start)?;
     Ok(marks)

@@ -19,6 +19,7 @@ mod walks;
 
 pub use matchers::Matcher;
 pub use matching::covers_key;
+pub use model::Token;
 pub use patterns::{BadPattern, Pattern, is_pattern, tokens_of};
 pub use pieces::split;
 pub use plain::Plain;

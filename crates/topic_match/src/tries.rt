@@ -34,17 +34,14 @@ fn first_counts(alloc: Global, words: &[Text]) -> Result<Vec<bool>, AllocError>
 }
 
 /// How many numbers of words are told of all these nodes together.
-fn told_in(met: &[Met]) -> Result<usize, AllocError>
-    ensures { IfOk result (λ count. count ≡ told_in met.now) }
+fn told_in(met: &[Met]) -> u128
+    ensures { result ≡ told_in met.now }
 {
-    let mut count: usize = 0;
+    let mut count: u128 = 0;
     for each in met {
-        let Some(more) = count.checked_add(trues(each.counts.as_slice())) else {
-            return Err(AllocError);
-        };
-        count = more;
+        count += trues(each.counts.as_slice()) as u128;
     }
-    Ok(count)
+    count
 }
 
 /// The nodes whose beginnings match some of these words, from the first on.
@@ -106,7 +103,7 @@ impl Trie {
         &self,
         alloc: Global,
         key: &[u8],
-    ) -> Result<(Vec<usize>, usize), AllocError>
+    ) -> Result<(Vec<usize>, u128), AllocError>
         ensures places { IfOk result (λ found. AreMatches self.now key.now found.0.items) }
         ensures count { IfOk result (λ found. IsCounted self.now key.now found.1) }
     {
@@ -122,7 +119,7 @@ impl Trie {
             words.as_slice(),
         )?;
         let places = rising_at(alloc, self.places.as_slice(), met.as_slice(), words.len())?;
-        Ok((places, told_in(met.as_slice())?))
+        Ok((places, told_in(met.as_slice())))
     }
 }
 

@@ -1,15 +1,20 @@
-use Rattle.std.proofs.Common.{◌≡◌}
+use Rattle.std.proofs.Common.{List, sym, ◌∙◌, subst}
 use Rattle.std.proofs.lemmas.Result.{IfOk-weaker}
-use Rattle.model.specs.declared.topologies.ExchangeKind.TheVariants.{Direct, Fanout}
+use Rattle.model.specs.declared.topologies.ExchangeKind.TheVariants.{Direct}
+use Rattle.exchange_graph.specs.declared.ends.End.{End}
+use Rattle.exchange_graph.specs.declared.fans.Index.{Index}
+use Rattle.exchange_graph.specs.Fans.{ArePassing}
+use Rattle.exchange_graph.specs.Found.{IsIndex}
 use Rattle.exchange_graph.proofs.Passing.{passing_direct, passing_fanout}
 use Rattle.exchange_graph.proofs.fans.passing.Goals as goal
 
-pub returns-in-Direct : goal.returns-in-Direct
-returns-in-Direct c =
-    let same : c.args.kind ≡ Direct = cc in
-    rw same (IfOk-weaker c.ends_of_key.result _ _ (λ v e. rw e (passing_direct c.args.key.now c.args.ways.now)) c.ends_of_key.ensures)
+pub returns-in-Keys : goal.returns-in-Keys
+returns-in-Keys c =
+    let keyed = subst (λ (index : Index). IsIndex c.args.ways.now index) c.in-Keys.is c.requires in
+    rw c.in-Keys.is
+    (IfOk-weaker c.ends_by_key.result _ _
+    (λ v e. subst (λ (es : List End). ArePassing Direct c.args.key.now c.args.ways.now es) (sym (e ∙ keyed.told c.args.key.now)) (passing_direct c.args.key.now c.args.ways.now))
+    c.ends_by_key.ensures)
 
-pub returns-in-Fanout : goal.returns-in-Fanout
-returns-in-Fanout c =
-    let same : c.args.kind ≡ Fanout = cc in
-    rw same (IfOk-weaker c.ends_of.result _ _ (λ v e. rw e (passing_fanout c.args.key.now c.args.ways.now)) c.ends_of.ensures)
+pub returns-in-All : goal.returns-in-All
+returns-in-All c = rw c.in-All.is (IfOk-weaker c.ends_of.result _ _ (λ v e. rw e (passing_fanout c.args.key.now c.args.ways.now)) c.ends_of.ensures)

@@ -3,4 +3,4 @@ use Rattle.state_routes.specs.Nodes.{alternate_links}
 use Rattle.state_routes.proofs.nodes.alternate_links.Given as goal
 
 abbrev pub invariant-loop-exchange : goal.invariant-loop-exchange
-invariant-loop-exchange l = l.links.items ++ alternate_links l.all (drop l.exchange-index l.exchanges) ≡ alternate_links l.all l.exchanges
+invariant-loop-exchange l = l.links.items ++ alternate_links l.topology.exchanges (drop l.exchange-index l.exchanges) ≡ alternate_links l.topology.exchanges l.exchanges

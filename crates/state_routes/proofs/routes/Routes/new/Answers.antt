@@ -1,6 +1,6 @@
 use Rattle.std.proofs.Common.{◌∙◌, ◌+◌, List, length, ap}
 use Rattle.model.specs.declared.topologies.Exchange.{Exchange}
-use Rattle.state_routes.specs.Nodes.{node, alternate_links}
+use Rattle.state_routes.specs.Nodes.{alternate_links}
 use Rattle.state_routes.proofs.Sure.{alternates_below, bounded_as, gates_as, gates_below, known_as}
 use Rattle.state_routes.proofs.routes.Routes.new.Goals as goal
 
@@ -13,16 +13,16 @@ exits_of-requires-clause-gates c =
 pub exits_of-requires-clause-alternates : goal.exits_of-requires-clause-alternates
 exits_of-requires-clause-alternates c =
     alternates_below c.args.topology.now c.as_slice-2.result.now (length c.exchanges-exchanges.result.now + 4)
-    (c.as_slice-2.ensures.value ∙ c.in_ok-alternates.ensures ∙ ap (λ (xs : List Exchange). alternate_links xs xs) c.exchanges-exchanges.ensures)
+    (c.as_slice-2.ensures.value ∙ c.in_ok-alternates.ensures ∙ ap (λ (xs : List Exchange). alternate_links c.args.topology.now.exchanges xs) c.exchanges-exchanges.ensures)
     (ap (λ (xs : List Exchange). length xs + 4) c.exchanges-exchanges.ensures)
 
 pub invariant_of-result : goal.invariant_of-result
 invariant_of-result c =
     bounded_as c.args.topology.now c.args.mode c.args.exchange.now c.args.queue.now c.args.letters.now c.as_slice.result.now c.as_slice-2.result.now (length c.exchanges-exchanges.result.now + 4) c.node.result c.in_ok-exits_of.field-0.items
     (gates_as c.args.topology.now c.args.mode c.args.queue.now c.args.letters.now _ _ _ c.patterns.ensures c.as_slice.ensures.value c.in_ok-gates.ensures)
-    (c.as_slice-2.ensures.value ∙ c.in_ok-alternates.ensures ∙ ap (λ (xs : List Exchange). alternate_links xs xs) c.exchanges-exchanges.ensures)
+    (c.as_slice-2.ensures.value ∙ c.in_ok-alternates.ensures ∙ ap (λ (xs : List Exchange). alternate_links c.args.topology.now.exchanges xs) c.exchanges-exchanges.ensures)
     (ap (λ (xs : List Exchange). length xs + 4) c.exchanges-exchanges.ensures)
-    (c.node.ensures.is ∙ ap (λ (xs : List Exchange). node xs c.args.exchange.now) c.exchanges-exchanges.ensures)
+    c.node.ensures.is
     c.in_ok-exits_of.ensures
 
 pub returns : goal.returns
@@ -30,7 +30,7 @@ returns c =
     known_as c.args.topology.now c.args.mode c.args.exchange.now c.args.queue.now c.args.letters.now c.as_slice.result.now c.as_slice-2.result.now (length c.exchanges-exchanges.result.now + 4) c.node.result c.in_ok-exits_of.field-0.items
     c.is_well_formed.ensures
     (gates_as c.args.topology.now c.args.mode c.args.queue.now c.args.letters.now _ _ _ c.patterns.ensures c.as_slice.ensures.value c.in_ok-gates.ensures)
-    (c.as_slice-2.ensures.value ∙ c.in_ok-alternates.ensures ∙ ap (λ (xs : List Exchange). alternate_links xs xs) c.exchanges-exchanges.ensures)
+    (c.as_slice-2.ensures.value ∙ c.in_ok-alternates.ensures ∙ ap (λ (xs : List Exchange). alternate_links c.args.topology.now.exchanges xs) c.exchanges-exchanges.ensures)
     (ap (λ (xs : List Exchange). length xs + 4) c.exchanges-exchanges.ensures)
-    (c.node.ensures.is ∙ ap (λ (xs : List Exchange). node xs c.args.exchange.now) c.exchanges-exchanges.ensures)
+    c.node.ensures.is
     c.in_ok-exits_of.ensures

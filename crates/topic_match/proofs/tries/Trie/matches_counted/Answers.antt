@@ -30,9 +30,9 @@ returns-clause-places c =
 
 pub returns-clause-count : goal.returns-clause-count
 returns-clause-count c =
-    subst (λ (z : List (List Token)). IsCounted z c.args.key.now c.in_ok-told_in.field-0) c.self.view_is
-    (counted c.self.inside.patterns.items c.self.inside.nodes.items c.self.inside.chains.items c.self.inside.ends.items c.self.inside.places.items c.args.key.now c.in_ok-met.met.items c.in_ok-told_in.field-0
+    subst (λ (z : List (List Token)). IsCounted z c.args.key.now c.told_in.result) c.self.view_is
+    (counted c.self.inside.patterns.items c.self.inside.nodes.items c.self.inside.chains.items c.self.inside.ends.items c.self.inside.places.items c.args.key.now c.in_ok-met.met.items c.told_in.result
     c.self.invariant (let h : 0 < length c.self.inside.patterns.items = search rules in h)
     (same_met c.as_slice.result.now c.self.inside.patterns.items c.as_slice-2.result.now c.self.inside.nodes.items c.as_slice-4.result.now (words c.args.key.now) c.in_ok-met.met.items
     c.as_slice.ensures.value c.as_slice-2.ensures.value (c.as_slice-4.ensures.value ∙ c.in_ok-words.ensures) c.in_ok-met.ensures)
-    (c.in_ok-told_in.ensures ∙ ap (λ (z : List Met). told_in z) c.as_slice-7.ensures.value))
+    (c.told_in.ensures ∙ ap (λ (z : List Met). told_in z) c.as_slice-7.ensures.value))

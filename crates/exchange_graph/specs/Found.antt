@@ -1,0 +1,25 @@
+-- How the ways of an exchange are found that let a key pass.
+use Rattle.std.specs.Prelude.{◌≡◌, List}
+use Rattle.model.specs.declared.topologies.ExchangeKind.{ExchangeKind}
+use Rattle.model.specs.declared.topologies.ExchangeKind.TheVariants.{Direct, Fanout, Topic}
+use Rattle.exchange_graph.specs.declared.ends.Branch.{Branch}
+use Rattle.exchange_graph.specs.declared.fans.Index.{Index}
+use Rattle.exchange_graph.specs.declared.fans.Index.TheVariants.{Keys, All, Patterns}
+use Rattle.exchange_graph.specs.Fans.{patterns_of}
+use Rattle.exchange_graph.specs.Keyed.{AreKeyed}
+
+-- the kind of exchange whose ways are found so
+abbrev pub kind_of : Index → ExchangeKind
+kind_of (Keys keyed) = Direct
+kind_of All = Fanout
+kind_of (Patterns topics) = Topic
+
+-- these ways are found so
+abbrev pub IsIndex : List Branch → Index → Type 0
+IsIndex ways (Keys keyed) = AreKeyed ways keyed
+IsIndex ways All = Unit {0}
+IsIndex ways (Patterns topics) = topics ≡ patterns_of ways
+
+-- and the exchange is of this kind
+abbrev pub Indexes : ExchangeKind → List Branch → Index → Type 0
+Indexes kind ways index = (kind_of index ≡ kind) × IsIndex ways index

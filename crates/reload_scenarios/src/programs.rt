@@ -1,0 +1,188 @@
+//! The program over the files and the sockets of the machine: files lie in the folder that the run has, and sockets are those of
+//! 127.0.0.1.
+
+use host::{Disk, System};
+use reload_loop::program_with_sockets;
+use scenario_parts::{Unmet, expect, expect_bytes, expect_number, value_of};
+use server::{Files as _, Unread};
+use std::alloc::Global;
+use std::fs;
+use std::net::TcpListener;
+
+/// What a call of the program came to.
+#[derive(Drop)]
+struct Outcome {
+    status: u8,
+    out: Vec<u8>,
+    err: Vec<u8>,
+}
+
+/// Calls the program with these words, over the files and the sockets of the machine.
+fn run(rt: &HostRuntime, words: &[&str]) -> Outcome {
+    let alloc = rt.alloc();
+    let mut out: Vec<u8> = Vec::new(alloc);
+    let mut err: Vec<u8> = Vec::new(alloc);
+    let mut files = Disk { rt };
+    let mut system = System { rt };
+    let ended = program_with_sockets(alloc, words, &mut system, &mut files, &mut out, &mut err);
+    Outcome {
+        status: ended.status,
+        out,
+        err,
+    }
+}
+
+/// Expects that these words come to this status, with this output and this complaint.
+fn expect_run(
+    rt: &HostRuntime,
+    words: &[&str],
+    status: u64,
+    out: &[u8],
+    err: &[u8],
+) -> Result<(), Unmet> {
+    let run = run(rt, words);
+    expect_number("the status", u64::from(run.status), status)?;
+    expect_bytes("the output", run.out.as_slice(), out)?;
+    expect_bytes("the complaint", run.err.as_slice(), err)
+}
+
+/// A topic exchange, from which `orders` and `orders.*.#` lead to the queue `audit`.
+const TWO_KEYS: &str = "definitions/two_keys.json";
+
+/// The same without the key `orders`.
+const ONE_KEY: &str = "definitions/one_key.json";
+
+/// Each key that `orders.#` matches comes to `audit`.
+const ORDERS: &str = "guarantees/orders_to_audit.json";
+
+/// Of no topology.
+const NO_FILE: &str = "definitions/nowhere.json";
+
+/// The file that is written.
+const WRITTEN: &str = "certificates_that_were_written.json";
+
+/// What is written to it: the certificate by the five states that docs/FORMATS.md derives.
+const CERTIFICATES: &[u8] =
+    b"[{\"exchange\":\"X\",\"form\":1,\"mode\":\"reaches\",\"pattern\":\"orders.#\",\"queue\":\"audit\",\"states\":[[0,0,0],[1,1,1],[4,0,8],[4,0,12],[6,2,2]]}]";
+
+/// Writes the certificates, by the program.
+fn write(rt: &HostRuntime) -> Result<(), Unmet> {
+    let words = ["warren", "check", TWO_KEYS, ORDERS, "--out", WRITTEN];
+    expect_run(rt, words.as_slice(), 0, b"1 yes states 5\n", b"")
+}
+
+/// Removes the file that was written.
+fn remove(rt: &HostRuntime) -> Result<(), Unmet> {
+    value_of("remove_file", fs::remove_file(rt, WRITTEN))
+}
+
+/// Expects that the file that was written is found to have these bytes and no others, or not.
+fn expect_found(disk: &mut Disk<'_>, alloc: Global, bytes: &[u8], is: bool) -> Result<(), Unmet> {
+    let found = value_of("has_bytes", disk.has_bytes(alloc, WRITTEN, bytes))?;
+    expect("the file is compared rightly", found == is)
+}
+
+/// Certificates that the program wrote are read back, accepted, and compared in parts.
+pub(crate) fn a_file_that_is_written_is_read_back(rt: &HostRuntime) -> Result<(), Unmet> {
+    let alloc = rt.alloc();
+    write(rt)?;
+    let mut disk = Disk { rt };
+    let text = value_of("read", disk.read(alloc, WRITTEN))?;
+    expect_bytes("the file", text.as_slice(), CERTIFICATES)?;
+    expect_found(&mut disk, alloc, CERTIFICATES, true)?;
+    expect_found(&mut disk, alloc, &CERTIFICATES[1..], false)?;
+    expect_found(&mut disk, alloc, &CERTIFICATES[..9], false)?;
+    expect_found(&mut disk, alloc, b"", false)?;
+    let longer = value_of("format", format!(in alloc; "{CERTIFICATES:?}"))?;
+    expect_found(&mut disk, alloc, longer.as_bytes(), false)?;
+    let words = ["warren", "verify", TWO_KEYS, ORDERS, WRITTEN];
+    expect_run(rt, words.as_slice(), 0, b"1 ok\n", b"")?;
+    remove(rt)
+}
+
+/// A file that is longer than a part, and one that differs in its last byte alone.
+pub(crate) fn a_long_file_is_compared_to_its_end(rt: &HostRuntime) -> Result<(), Unmet> {
+    let alloc = rt.alloc();
+    let mut disk = Disk { rt };
+    let mut bytes = value_of("vec", vec![in alloc; 7u8; 100_000])?;
+    value_of("write", disk.write(WRITTEN, bytes.as_slice()))?;
+    expect_found(&mut disk, alloc, bytes.as_slice(), true)?;
+    value_of("push", bytes.push(7))?;
+    expect_found(&mut disk, alloc, bytes.as_slice(), false)?;
+    bytes.truncate(99_999);
+    expect_found(&mut disk, alloc, bytes.as_slice(), false)?;
+    value_of("push", bytes.push(8))?;
+    expect_found(&mut disk, alloc, bytes.as_slice(), false)?;
+    remove(rt)
+}
+
+/// A file that is not there is neither read nor compared.
+pub(crate) fn a_file_that_is_not_there_is_unread(rt: &HostRuntime) -> Result<(), Unmet> {
+    let alloc = rt.alloc();
+    let mut disk = Disk { rt };
+    let read = matches!(disk.read(alloc, NO_FILE), Err(Unread::Failed));
+    expect("it cannot be read", read)?;
+    let compared = matches!(disk.has_bytes(alloc, NO_FILE, b""), Err(Unread::Failed));
+    expect("it cannot be compared", compared)
+}
+
+/// Each status, as docs/OPERATIONS.md has them.
+pub(crate) fn each_status_comes_of_files_of_the_machine(rt: &HostRuntime) -> Result<(), Unmet> {
+    write(rt)?;
+    remove(rt)?;
+    let broken = ["warren", "check", ONE_KEY, ORDERS];
+    expect_run(rt, broken.as_slice(), 1, b"1 no key \"orders\"\n", b"")?;
+    let undecided = [
+        "warren",
+        "check",
+        "definitions/no_binding.json",
+        "guarantees/long_to_q.json",
+    ];
+    expect_run(rt, undecided.as_slice(), 2, b"1 undecided key\n", b"")?;
+    let refused = ["warren", "route", TWO_KEYS, "nowhere", "orders"];
+    expect_run(rt, refused.as_slice(), 3, b"", b"warren: no exchange\n")?;
+    let unread = ["warren", "check", NO_FILE, ORDERS];
+    let told = b"warren: definitions/nowhere.json: cannot read\n";
+    expect_run(rt, unread.as_slice(), 4, b"", told)
+}
+
+/// The words that ask to serve these files at this address for three turns, with a look at them behind each but the last.
+fn words_to_serve(address: &str) -> [&str; 11] {
+    [
+        "warren", "serve", TWO_KEYS, ORDERS, WRITTEN, "--listen", address, "--turns", "3",
+        "--reload", "1",
+    ]
+}
+
+/// The program serves at a port of this machine, and looks at its files, which are as they were.
+pub(crate) fn it_serves_at_a_port_that_is_free(rt: &HostRuntime) -> Result<(), Unmet> {
+    write(rt)?;
+    let run = run(rt, words_to_serve("127.0.0.1:0").as_slice());
+    remove(rt)?;
+    expect_number("the status", u64::from(run.status), 0)?;
+    expect_bytes("the complaint", run.err.as_slice(), b"")?;
+    let told = b"warren: listening on 127.0.0.1:";
+    expect(
+        "it is told where",
+        run.out.as_slice().starts_with(told.as_slice()),
+    )
+}
+
+/// At a port at which another listens no client can come.
+pub(crate) fn it_does_not_listen_at_a_port_that_is_used(rt: &HostRuntime) -> Result<(), Unmet> {
+    let alloc = rt.alloc();
+    let other = value_of("TcpListener::bind", TcpListener::bind(rt, "127.0.0.1:0"))?;
+    let address = value_of("local_addr", other.local_addr())?;
+    let address = value_of("format", format!(in alloc; "{address}"))?;
+    write(rt)?;
+    let run = run(rt, words_to_serve(address.as_str()).as_slice());
+    remove(rt)?;
+    drop(other);
+    expect_number("the status", u64::from(run.status), 4)?;
+    expect_bytes("the output", run.out.as_slice(), b"")?;
+    expect_bytes(
+        "the complaint",
+        run.err.as_slice(),
+        b"warren: cannot listen\n",
+    )
+}
