@@ -19,5 +19,6 @@ mod taking;
 mod unread;
 
 pub use faults::Fault;
+pub use model::Command;
 pub use single::one_next;
 pub use streams::Stream;

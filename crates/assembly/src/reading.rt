@@ -10,7 +10,7 @@ use crate::faults::Fault;
 use crate::frames::take_frame;
 use crate::names::LastNames;
 use crate::unread::Unread;
-use frame::{ReadFrame, read_frame};
+use frame::{Read, read_frame};
 use model::Command;
 use std::alloc::Global;
 
@@ -34,9 +34,9 @@ pub(crate) fn next_command(
 {
     'frames: loop {
         match read_frame(unread.bytes(), max) {
-            ReadFrame::More => return Ok(None),
-            ReadFrame::Fault(code) => return Err(Fault::Broken(code)),
-            ReadFrame::Whole(frame, size) => {
+            Read::More => return Ok(None),
+            Read::Fault(code) => return Err(Fault::Broken(code)),
+            Read::Whole(frame, size) => {
                 let taken = take_frame(alloc, keeps, names, contents, &frame);
                 if taken.is_err() {
                     return taken;

@@ -7,7 +7,7 @@ use broker::Broker;
 use certificate::{Checked, Refutation, disprove, refutes};
 use channel::Channel;
 use engine::{Engine, Turn};
-use frame::{ReadFrame, read_frame};
+use frame::{Read, read_frame};
 use headers::read_size;
 use login::accepts;
 use model::{
@@ -130,11 +130,7 @@ fn holding_broker(alloc: Global) -> Result<Broker, Unmet> {
 /// Frames and headers are read.
 fn expect_wire() -> Result<(), Unmet> {
     match read_frame(MESSAGE, FRAME_MAX) {
-        ReadFrame::Whole(_, len) => expect_number(
-            "the length of a frame",
-            len as u64,
-            FIRST_FRAME,
-        )?,
+        Read::Whole(_, len) => expect_number("the length of a frame", len as u64, FIRST_FRAME)?,
         _ => return Err(Unmet::Call("read_frame")),
     }
     let size = value_of("read_size", read_size(HEADER))?;

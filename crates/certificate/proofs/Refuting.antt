@@ -19,7 +19,7 @@ broken_never t g r yes' m d = subst (λ (z : Mode). Decides yes' (Breaks z t g.e
 
 pub refuted : (t : Topology) (g : Guarantee) (r : Refutation) (yes' : Bool) → MayRefute g r → CoversKey g r.key → Decides yes' (Breaks g.mode t g.exchange g.queue r) → Decides yes' (Refutes t g r)
 refuted t g r yes' may covered d = (
-  λ h. record { short = may.short; covered = covered; breaks = d.0 h },
+  λ h. record { bytes = may.key.0; short = may.key.1; covered = covered; breaks = d.0 h },
   λ s. d.1 s.breaks,
 )
 

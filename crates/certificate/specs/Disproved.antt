@@ -1,5 +1,6 @@
 -- What a refutation has to be before routes tell whether it refutes.
-use Rattle.std.specs.Prelude.{◌≡◌, ◌≤◌, List, [], length}
+use Rattle.std.specs.Prelude.{◌≡◌, ◌<◌, ◌≤◌, List, [], length}
+use Rattle.std.specs.List.{AllByRecursion}
 use Rattle.model.specs.Words.{Text}
 use Rattle.model.specs.Guarantee.{Guarantee}
 use Rattle.model.specs.Refutations.{Refutation}
@@ -11,7 +12,11 @@ abbrev pub HasItsPath : Mode → List Text → Type 0
 HasItsPath Reaches path = path ≡ []
 HasItsPath Never path = Unit {0}
 
+-- a key that can be sent: at most 255 bytes
+abbrev pub IsSendable : Text → Type 0
+IsSendable key = AllByRecursion (λ b. b < 256) key × (length key ≤ 255)
+
 -- a key that can be sent, and no path where none is looked for
 pub record MayRefute (g : Guarantee) (r : Refutation) : Type 0 where
-  pub short : length r.key ≤ 255
+  pub key : IsSendable r.key
   pub path : HasItsPath g.mode r.path

@@ -2,7 +2,7 @@
 
 ghost use Rattle.std.specs.Prelude.{◌≡◌, ◌<◌, Decides, IfOk, Ok, OnErr, false, length, true};
 ghost use Rattle.model.specs.Refutations.{Breaks, Refutes};
-ghost use Rattle.certificate.specs.Disproved.{HasItsPath, MayRefute};
+ghost use Rattle.certificate.specs.Disproved.{HasItsPath, IsSendable, MayRefute};
 
 use crate::targets::is_routed;
 use exchange_graph::Topology;
@@ -53,6 +53,13 @@ impl Refutation {
 /// The most bytes of a key.
 const LONGEST_KEY: usize = 255;
 
+/// Whether a key can be sent.
+fn is_sendable(key: &[u8]) -> bool
+    ensures { Decides result (IsSendable key.now) }
+{
+    key.len() <= LONGEST_KEY
+}
+
 /// Whether a refutation against such a guarantee has the path that it may have: none against a `reaches`.
 fn has_its_path(mode: Mode, path: &[Text]) -> bool
     ensures { Decides result (HasItsPath mode path.now) }
@@ -67,7 +74,8 @@ fn has_its_path(mode: Mode, path: &[Text]) -> bool
 fn may_refute(guarantee: &Guarantee, refutation: &Refutation) -> bool
     ensures { Decides result (MayRefute guarantee.now refutation.now) }
 {
-    refutation.key().len() <= LONGEST_KEY && has_its_path(guarantee.mode(), refutation.path())
+    is_sendable(refutation.key().as_bytes())
+        && has_its_path(guarantee.mode(), refutation.path())
 }
 
 /// Whether the key, or the path of a message with that key, breaks the promise.

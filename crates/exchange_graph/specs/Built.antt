@@ -2,6 +2,8 @@
 use Rattle.std.specs.Prelude.{◌≡◌, List, map}
 use Rattle.model.specs.Words.{Text}
 use Rattle.model.specs.Topology.{Topology, exchange_names, queue_names}
+use Rattle.model.specs.declared.topologies.Exchange.{Exchange}
+use Rattle.model.specs.declared.topologies.DeclaredQueue.{DeclaredQueue}
 use Rattle.topology_drafts.specs.Causes.{IsBuildable}
 use Rattle.exchange_graph.specs.Fans.{Fan, fan_of}
 
@@ -11,3 +13,8 @@ pub record IsBuilt (t : Topology) (fans : List Fan) (of_exchanges of_queues : Li
   pub known : fans ≡ map (fan_of t) t.exchanges
   pub exchanges : of_exchanges ≡ exchange_names t.exchanges
   pub queues : of_queues ≡ queue_names t.queues
+
+-- these are the names of the exchanges, and those of the queues
+pub record AreNamed (exchanges : List Exchange) (queues : List DeclaredQueue) (of_exchanges of_queues : List Text) : Type 0 where
+  pub each_exchange : of_exchanges ≡ exchange_names exchanges
+  pub each_queue : of_queues ≡ queue_names queues

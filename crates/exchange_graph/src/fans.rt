@@ -17,8 +17,8 @@ ghost use Rattle.exchange_graph.specs.Found.{IsIndex, Indexes, kind_of};
 
 use crate::ends::{Branch, End, KeyedEnds};
 use crate::keyed::{ends_under, keyed};
-use crate::places::{exchange_place, ways_from};
-use model::{Binding, DeclaredQueue, Exchange, ExchangeKind};
+use crate::places::NamedLists;
+use model::{Exchange, ExchangeKind};
 use std::alloc::{AllocError, Global};
 use std::marker::Model;
 use topic_match::{Matcher, Pattern, Trie};
@@ -76,11 +76,11 @@ fn index_of(alloc: Global, kind: ExchangeKind, ways: &[Branch]) -> Result<Index,
 }
 
 /// The place of an alternate exchange.
-fn alternate_of(exchanges: &[Exchange], exchange: &Exchange) -> Option<usize>
-    ensures { result ≡ option_map (exchange_place exchanges.now) exchange.now.alternate }
+fn alternate_of(lists: &NamedLists<'_>, exchange: &Exchange) -> Option<usize>
+    ensures { result ≡ option_map (exchange_place lists.now.exchanges) exchange.now.alternate }
 {
     match &exchange.alternate {
-        Some(name) => Some(exchange_place(exchanges, name.as_bytes())),
+        Some(name) => Some(lists.exchange_place(name.as_bytes())),
         None => None,
     }
 }
@@ -88,34 +88,27 @@ fn alternate_of(exchanges: &[Exchange], exchange: &Exchange) -> Option<usize>
 /// What leads on from this exchange.
 pub fn fan_of(
     alloc: Global,
-    exchanges: &[Exchange],
-    queues: &[DeclaredQueue],
-    bindings: &[Binding],
+    lists: &NamedLists<'_>,
     exchange: &Exchange,
 ) -> Result<Fan, AllocError>
-    ensures { IfOk result (λ made. made ≡ fan_of (record { exchanges = exchanges.now; queues = queues.now; bindings = bindings.now }) exchange.now) }
+    ensures { IfOk result (λ made. made ≡ fan_of lists.now exchange.now) }
 {
-    let list = ways_from(alloc, exchanges, queues, exchange.name.as_bytes(), bindings)?;
+    let list = lists.ways_from(alloc, exchange.name.as_bytes())?;
     let index = index_of(alloc, exchange.kind, list.as_slice())?;
     Ok(Fan {
         list,
         index,
-        alternate: alternate_of(exchanges, exchange),
+        alternate: alternate_of(lists, exchange),
     })
 }
 
 /// What leads on from each exchange.
-pub fn all_fans(
-    alloc: Global,
-    exchanges: &[Exchange],
-    queues: &[DeclaredQueue],
-    bindings: &[Binding],
-) -> Result<Vec<Fan>, AllocError>
-    ensures { IfOk result (λ made. made.items ≡ map (fan_of (record { exchanges = exchanges.now; queues = queues.now; bindings = bindings.now })) exchanges.now) }
+pub fn all_fans(alloc: Global, lists: &NamedLists<'_>) -> Result<Vec<Fan>, AllocError>
+    ensures { IfOk result (λ made. made.items ≡ map (fan_of lists.now) lists.now.exchanges) }
 {
     let mut made = Vec::new(alloc);
-    for exchange in exchanges {
-        made.push(fan_of(alloc, exchanges, queues, bindings, exchange)?)?;
+    for exchange in lists.exchanges() {
+        made.push(fan_of(alloc, lists, exchange)?)?;
     }
     Ok(made)
 }

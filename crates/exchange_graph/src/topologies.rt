@@ -24,6 +24,7 @@ ghost use Rattle.exchange_graph.specs.Marks.{exchange_name, queue_name};
 use crate::ends::End;
 use crate::fans::{Fan, all_fans};
 use crate::marks::set_places;
+use crate::places::NamedLists;
 use crate::reach::{found, seen};
 use model::{Binding, DeclaredQueue, Exchange, Text};
 use std::alloc::{AllocError, Global};
@@ -119,9 +120,13 @@ impl Topology {
         let queue_names = Names::apart(alloc, queues.as_slice())?;
         let fans = all_fans(
             alloc,
-            exchanges.as_slice(),
-            queues.as_slice(),
-            bindings.as_slice(),
+            &NamedLists::of(
+                exchanges.as_slice(),
+                queues.as_slice(),
+                bindings.as_slice(),
+                &exchange_names,
+                &queue_names,
+            ),
         )?;
         Ok(Topology {
             exchanges,

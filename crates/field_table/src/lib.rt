@@ -16,7 +16,7 @@ mod takes;
 mod writing;
 
 pub use checking::is_table;
-pub use fields::{Field, FieldTable, TableEntry};
+pub use fields::{Field, FieldTable as Table, TableEntry};
 pub use lookups::has_field;
 pub use reading::read_table;
 pub use refusals::BadTable;

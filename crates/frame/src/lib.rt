@@ -12,7 +12,7 @@ mod reading;
 mod writing;
 
 pub use buffers::Buffer;
-pub use frames::{Frame, ReadFrame};
+pub use frames::{Frame, ReadFrame as Read};
 pub use laws::one_frame;
 pub use reading::read_frame;
 pub use writing::{put_frame, write_frame};

@@ -17,6 +17,7 @@ mod writing;
 
 pub use contents::{BadHeader, Header, UnwrittenHeader};
 pub use laws::{one_header, syntax_errors};
+pub use model::{Content, Properties};
 pub use reading::{read_header, read_size};
 pub use telling::{fields_of, headers_of};
 pub use writing::{put_header, spelled_len, write_header};

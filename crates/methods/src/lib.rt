@@ -15,6 +15,7 @@ mod tables;
 mod writing;
 
 pub use laws::one_method;
+pub use model::Method;
 pub use reading::read_method;
 pub use refusals::{BadMethod, UnwrittenMethod};
 pub use writing::{put_method, spelled_len, write_method};

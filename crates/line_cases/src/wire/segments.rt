@@ -1,6 +1,6 @@
 //! Lines about frames.
 
-use frame::{Frame, ReadFrame, read_frame, write_frame};
+use frame::{Frame, Read, read_frame, write_frame};
 use line_words::{LineAnswer, Unanswered, bytes_of, cut};
 
 /// The longest payload that stands in a line, in bytes.
@@ -22,9 +22,9 @@ fn put_whole(out: &mut LineAnswer, frame: &Frame<'_>, size: usize) {
 /// Appends what stands at the front of the bytes: a frame, `more`, or the reply code.
 pub fn put_front(out: &mut LineAnswer, bytes: &[u8]) {
     match read_frame(bytes, 4096) {
-        ReadFrame::Whole(frame, size) => put_whole(out, &frame, size),
-        ReadFrame::More => out.put("more"),
-        ReadFrame::Fault(code) => out.put_number(u64::from(code)),
+        Read::Whole(frame, size) => put_whole(out, &frame, size),
+        Read::More => out.put("more"),
+        Read::Fault(code) => out.put_number(u64::from(code)),
     }
 }
 

@@ -1,10 +1,10 @@
 //! Lines about field tables.
 
 use super::put_again;
-use field_table::{BadTable, FieldTable, read_table, write_table};
+use field_table::{BadTable, Table, read_table, write_table};
 use line_words::{LineAnswer, Unanswered};
 
-fn put_written(out: &mut LineAnswer, table: &FieldTable, bytes: &[u8]) {
+fn put_written(out: &mut LineAnswer, table: &Table, bytes: &[u8]) {
     let mut written = Vec::new(out.alloc());
     match write_table(&mut written, table) {
         Ok(()) => put_again(out, bytes, written.as_slice()),

@@ -3,6 +3,4 @@ use Rattle.exchange_graph.specs.Fans.{fan_of}
 use Rattle.exchange_graph.proofs.fans.all_fans.Given as goal
 
 abbrev pub invariant-loop-exchange : goal.invariant-loop-exchange
-invariant-loop-exchange l =
-    l.made.items ++ map (fan_of (record { exchanges = l.exchanges; queues = l.queues; bindings = l.bindings })) (drop l.exchange-index l.exchanges)
-    ≡ map (fan_of (record { exchanges = l.exchanges; queues = l.queues; bindings = l.bindings })) l.exchanges
+invariant-loop-exchange l = l.made.items ++ map (fan_of l.lists) (drop l.exchange-index l.lists.exchanges) ≡ map (fan_of l.lists) l.lists.exchanges
