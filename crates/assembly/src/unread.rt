@@ -1,6 +1,6 @@
 //! Bytes of a connection that were not read yet.
 
-ghost use Rattle.std.specs.Prelude.{◌≡◌, ◌≤◌, ◌<◌, [], ◌++◌, length, drop, OnOk, OnErr};
+ghost use Rattle.std.specs.Prelude.{◌≡◌, ◌≤◌, ◌<◌, [], ◌++◌, length, drop, IfOk, OnOk, OnErr};
 
 use bytes::BytesMut;
 use std::alloc::{AllocError, Global};
@@ -13,19 +13,28 @@ const KEPT: usize = 4096;
 #[derive(Drop)]
 pub(crate) struct Unread {
     bytes: BytesMut,
-    /// So many more were found to go in with no growth.
-    room: usize,
 }
 
 impl Model for Unread {
-    ghost use Rattle.std.specs.Prelude.{◌≤◌};
     ghost use Rattle.assembly.specs.Unread.{Waiting};
 
     ghost Value = { Waiting };
 
-    ghost view = { λ u. record { bytes = u.bytes.items; room = u.room } };
+    ghost view = { λ u. record { bytes = u.bytes.items; room = u.bytes.spare } };
+}
 
-    ghost invariant = { λ u. u.room ≤ u.bytes.spare };
+/// These bytes and more behind them, in a storage of their own. Where some stand before the others it has room for as many
+/// again, so that bytes which come one by one are not copied each time.
+fn gathered(alloc: Global, first: &[u8], more: &[u8]) -> Result<BytesMut, AllocError>
+    ensures { IfOk result (λ b. b.items ≡ first.now ++ more.now) }
+{
+    let mut all = Vec::with_capacity(
+        alloc,
+        first.len().saturating_add(more.len().max(first.len())),
+    )?;
+    all.extend_from_slice(first)?;
+    all.extend_from_slice(more)?;
+    Ok(BytesMut::from_vec(all))
 }
 
 impl Unread {
@@ -35,7 +44,6 @@ impl Unread {
     {
         Unread {
             bytes: BytesMut::new(alloc),
-            room: 0,
         }
     }
 
@@ -46,19 +54,19 @@ impl Unread {
         self.bytes.as_slice()
     }
 
-    /// Puts bytes in behind what waits. Where nothing does and there is no room, they are copied into a storage of their own
-    /// length, since one that grows is cleared first. Where memory is refused, which was wanted then, all stays as it was.
+    /// Puts bytes in behind what waits, in a new storage if there is no room. Where memory is refused, which was wanted then,
+    /// all stays as it was.
     pub(crate) fn put(&mut self, more: &[u8]) -> Result<(), AllocError>
         ensures ok { OnOk result (self.new.bytes ≡ self.old.bytes ++ more.now) }
         ensures err { OnErr result (self.new ≡ self.old) }
         ensures full { OnErr result (self.old.room < length more.now) }
     {
-        if self.bytes.is_empty() && self.bytes.capacity() < more.len() {
-            self.bytes = BytesMut::copy_from_slice(*self.bytes.allocator(), more)?;
+        if more.len() <= self.bytes.capacity() - self.bytes.len() {
+            self.bytes.extend_reserved(more);
         } else {
-            self.bytes.extend_from_slice(more)?;
+            let alloc = *self.bytes.allocator();
+            self.bytes = gathered(alloc, self.bytes.as_slice(), more)?;
         }
-        self.room = self.bytes.capacity() - self.bytes.len();
         Ok(())
     }
 
@@ -71,7 +79,6 @@ impl Unread {
         self.bytes.advance(n);
         if self.bytes.is_empty() {
             self.bytes.clear();
-            self.room = self.room.max(self.bytes.capacity());
         }
     }
 
@@ -82,7 +89,6 @@ impl Unread {
     {
         if self.bytes.is_empty() && self.bytes.capacity() > KEPT {
             self.bytes = BytesMut::new(*self.bytes.allocator());
-            self.room = 0;
         }
     }
 }
