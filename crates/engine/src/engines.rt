@@ -30,6 +30,9 @@ use std::marker::Model;
 /// How many connections stand at most.
 const MOST_CONNECTIONS: usize = 1024;
 
+/// The number of a connection. They count from 1 in the order of the openings, and none is given twice.
+pub type ConnId = u64;
+
 /// Why no connection was opened.
 #[derive(Clone, Copy, PartialEq, Eq, Debug, Drop)]
 pub enum Refused {
@@ -113,7 +116,7 @@ impl Engine {
     ///
     /// Refused `Full` where 1,024 connections are not gone, `Spent` where the last number was given, and for memory only
     /// where neither is so. A refusal changes nothing.
-    pub fn open(&mut self, alloc: Global) -> Result<u64, Refused>
+    pub fn open(&mut self, alloc: Global) -> Result<ConnId, Refused>
         ensures { OpenedNew (world_of self.old) result (world_of self.new) }
     {
         let number = next_number(&mut self.links, self.given)?;
@@ -125,7 +128,7 @@ impl Engine {
     /// Opens a connection that runs at once, with channels 1 to `channels` open: its number.
     ///
     /// It is refused as [`Engine::open`] is.
-    pub fn open_ready(&mut self, alloc: Global, channels: u8) -> Result<u64, Refused>
+    pub fn open_ready(&mut self, alloc: Global, channels: u8) -> Result<ConnId, Refused>
         ensures { OpenedReady (world_of self.old) channels result (world_of self.new) }
     {
         let number = next_number(&mut self.links, self.given)?;
@@ -137,7 +140,7 @@ impl Engine {
 
     /// Takes in bytes of the connection `c`. Of one that is over or gone nothing more is read or kept, and no memory is
     /// wanted; of any other it is wanted only where there is no room for them.
-    pub fn feed(&mut self, c: u64, bytes: &[u8]) -> Result<(), AllocError>
+    pub fn feed(&mut self, c: ConnId, bytes: &[u8]) -> Result<(), AllocError>
         ensures ok { OnOk result (Hears (world_of self.old) c bytes.now (world_of self.new)) }
         ensures over { is_over (world_of self.old) c ≡ true → IsOk result × (self.new ≡ self.old) }
         ensures err { OnErr result (self.new ≡ self.old) }
@@ -155,7 +158,7 @@ impl Engine {
     /// where the connection is over or gone. Where memory is refused nothing is performed, and the same is still to come;
     /// of a connection that is over, gone or paused none is wanted, and of any other only where a command is kept or there is
     /// something to read: the first eight bytes, a whole frame or a broken one.
-    pub fn turn(&mut self, alloc: Global, c: u64) -> Result<Turn, AllocError>
+    pub fn turn(&mut self, alloc: Global, c: ConnId) -> Result<Turn, AllocError>
         ensures ok { IfOk result (λ t. Turned (world_of self.old) c t (world_of self.new)) }
         ensures fewer { IfOk result (λ t. OnDid t (left_in self.new.links < left_in self.old.links)) }
         ensures err { OnErr result (Waits (world_of self.old) c (world_of self.new)) }
@@ -201,7 +204,7 @@ impl Engine {
     }
 
     /// Takes `n` bytes from the front of `c`'s output, at most what is there.
-    pub fn sent(&mut self, c: u64, n: u64)
+    pub fn sent(&mut self, c: ConnId, n: u64)
         ensures { TakesAway (world_of self.old) c n (world_of self.new) }
     {
         if let Some(place) = place_of(&self.links, c) {
@@ -216,7 +219,7 @@ impl Engine {
     }
 
     /// Loses the connection `c`: its output is never taken, and what it held is ready again.
-    pub fn lose(&mut self, c: u64)
+    pub fn lose(&mut self, c: ConnId)
         ensures { IsLost (world_of self.old) c (world_of self.new) }
     {
         if let Some(place) = place_of(&self.links, c) {
@@ -226,7 +229,7 @@ impl Engine {
     }
 
     /// What was put out for `c` and not yet taken.
-    pub fn output(&self, c: u64) -> &[u8]
+    pub fn output(&self, c: ConnId) -> &[u8]
         ensures { result.now ≡ ((world_of self.now).wire c).output }
     {
         match place_of(&self.links, c) {
@@ -236,7 +239,7 @@ impl Engine {
     }
 
     /// Whether `c` is over or lost, or was never opened.
-    pub fn is_over(&self, c: u64) -> bool
+    pub fn is_over(&self, c: ConnId) -> bool
         ensures { result ≡ is_over (world_of self.now) c }
     {
         match place_of(&self.links, c) {

@@ -15,7 +15,9 @@ mod reading;
 mod setups;
 mod turning;
 
-pub use engines::{Engine, Refused};
+pub use engines::{ConnId, Engine, Refused};
 pub use machines::run;
+pub use model::{Arrival, Note};
+pub use runs::{ReloadFault, Transcript};
 pub use setups::Setup;
 pub use turning::Turn;
