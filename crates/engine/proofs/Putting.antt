@@ -13,8 +13,8 @@ use Rattle.model.specs.declared.notes.Note.TheVariants.{Reloaded}
 use Rattle.laws.proofs.Consistency.{stay_consistent}
 use Rattle.laws.proofs.Naming.{worlds_named}
 use Rattle.runs.specs.Reloaded.{IsPutInForce, TellsReload}
-use Rattle.runs.specs.declared.machine.ReloadFault.{ReloadFault}
-use Rattle.runs.specs.declared.machine.ReloadFault.TheVariants.{Stands, Memory}
+use Rattle.runs.specs.declared.faults.ReloadFault.{ReloadFault}
+use Rattle.runs.specs.declared.faults.ReloadFault.TheVariants.{InUse, Breaks, Memory}
 use Rattle.certificate.specs.Admitted.{Admitted}
 use Rattle.reloading.specs.Obstacles.{Judges}
 use Rattle.broker.specs.Turns.{WithTurn, topology_kept, broker_of}
@@ -103,7 +103,8 @@ takes old b checked users gs ge put = record { put = put; guarantees = ge; users
 -- ---- nothing is different where it was refused
 
 not_put : (old new : WithTurn) (offered : Config) (f : ReloadFault) → TellsPut old offered (Err f) new → new ≡ old
-not_put old new offered (Stands o) t = t.1
+not_put old new offered (InUse q) t = t.1
+not_put old new offered (Breaks q key number) t = t.1
 not_put old new offered Memory t = t
 
 pub refused_is : (old : Parts) (b : WithTurn) (offered : Config) (f : ReloadFault) → TellsPut old.broker offered (Err f) b → record old { broker = b } ≡ old
@@ -116,7 +117,8 @@ refused_same : (old new : Parts) → new ≡ old → Same (world_of old) (world_
 refused_same old new e = subst (λ (p : Parts). Same (world_of old) (world_of p)) (sym e) (record { config = refl; state = refl; given = refl; wires = λ c. refl })
 
 not_told : (old : Parts) (b : WithTurn) (offered : Config) (f : ReloadFault) → TellsPut old.broker offered (Err f) b → TellsReload (world_of old) offered (Err f) (world_of (record old { broker = b }))
-not_told old b offered (Stands o) t = (t.0, refused_same old (record old { broker = b }) (refused_is old b offered (Stands o) t))
+not_told old b offered (InUse q) t = (t.0, refused_same old (record old { broker = b }) (refused_is old b offered (InUse q) t))
+not_told old b offered (Breaks q key number) t = (t.0, refused_same old (record old { broker = b }) (refused_is old b offered (Breaks q key number) t))
 not_told old b offered Memory t = refused_same old (record old { broker = b }) (refused_is old b offered Memory t)
 
 -- the fault is handed on as it is

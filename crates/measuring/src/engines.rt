@@ -100,11 +100,11 @@ impl Measured {
     pub fn reload(&mut self, checked: Checked, users: Vec<User>) -> bool {
         match self.engine.reload(self.alloc, checked, users) {
             Ok(()) => true,
-            Err(ReloadFault::Stands(_)) => false,
             Err(ReloadFault::Memory) => {
                 self.is_whole = false;
                 false
             }
+            Err(_) => false,
         }
     }
 

@@ -172,8 +172,10 @@ impl Replay {
         };
         let note = match told {
             Ok(()) => Note::Reloaded,
-            Err(ReloadFault::Stands(obstacle)) => Note::ReloadRefused(obstacle),
-            Err(ReloadFault::Memory) => return Err(io::Error::from(AllocError)),
+            Err(fault) => match fault.obstacle() {
+                Some(obstacle) => Note::ReloadRefused(obstacle),
+                None => return Err(io::Error::from(AllocError)),
+            },
         };
         Ok(self.notes.push(note)?)
     }

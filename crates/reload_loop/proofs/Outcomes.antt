@@ -6,8 +6,9 @@ use Rattle.model.specs.Words.{Text}
 use Rattle.model.specs.State.{Config}
 use Rattle.model.specs.Arrivals.{World}
 use Rattle.runs.specs.Reloaded.{IsPutInForce, TellsReload}
-use Rattle.runs.specs.declared.machine.ReloadFault.{ReloadFault}
-use Rattle.runs.specs.declared.machine.ReloadFault.TheVariants.{Stands, Memory}
+use Rattle.model.specs.declared.obstacles.Obstacle.TheVariants as obstacle
+use Rattle.runs.specs.declared.faults.ReloadFault.{ReloadFault}
+use Rattle.runs.specs.declared.faults.ReloadFault.TheVariants.{InUse, Breaks, Memory}
 use Rattle.named_files.specs.Files.{Known, Holds, Absent, Unknown, AreKept, HasText}
 use Rattle.scripts.specs.FileNames.{FileNames}
 use Rattle.server.specs.declared.refusals.Told.{Told}
@@ -76,5 +77,6 @@ done_look holds names o kept read a b force from other is p = done force from ot
 
 pub fault_look : (holds : Text → Known) (names : FileNames) (err : OutputStream) (kept read : Snap) (a b : World) (force : Config) (fault : ReloadFault) (whole : Bool) → IsReadFrom holds names read → IsOther read kept → IsStated names read force
     → TellsReload a force (Err fault) b → IsFaultTold err fault whole → Looks holds names err kept a kept b whole
-fault_look holds names err kept read a b force (Stands o) whole from other is t told = stopped read force o from other is t.0 t.1 told
+fault_look holds names err kept read a b force (InUse q) whole from other is t told = stopped read force (obstacle.InUse q) from other is t.0 t.1 told
+fault_look holds names err kept read a b force (Breaks q key number) whole from other is t told = stopped read force (obstacle.Breaks q key number) from other is t.0 t.1 told
 fault_look holds names err kept read a b force Memory whole from other is t told = wanting read force from other is t told

@@ -6,8 +6,8 @@ use Rattle.model.specs.Arrivals.{World, Same}
 use Rattle.model.specs.Reloading.{IsObstacle}
 use Rattle.model.specs.declared.obstacles.Obstacle.{Obstacle}
 use Rattle.runs.specs.Reloaded.{IsPutInForce}
-use Rattle.runs.specs.declared.machine.ReloadFault.{ReloadFault}
-use Rattle.runs.specs.declared.machine.ReloadFault.TheVariants.{Stands, Memory}
+use Rattle.runs.specs.Faults.{obstacle_in}
+use Rattle.runs.specs.declared.faults.ReloadFault.{ReloadFault}
 use Rattle.named_files.specs.Files.{Known}
 use Rattle.scripts.specs.FileNames.{FileNames}
 use Rattle.scripts.specs.Transcript.{obstacle_line}
@@ -22,10 +22,14 @@ use Rattle.reload_loop.specs.Snapshots.{Snap, AreHeld, IsOther, IsReadFrom, know
 abbrev pub obstacle_told : Obstacle → Text
 obstacle_told o = codes "warren: " ++ obstacle_line o
 
--- what is told of a reload that was not done: all of it, or else a beginning
+-- what stands against a reload is told, or that memory was wanting: all of it, or else a beginning
+abbrev pub IsWhyNotTold : OutputStream → Option Obstacle → Bool → Type 0
+IsWhyNotTold err (Some o) whole = TellsLine err (obstacle_told o) whole
+IsWhyNotTold err None whole = PutsOut err out_of_memory whole
+
+-- what is told of a reload that was not done
 abbrev pub IsFaultTold : OutputStream → ReloadFault → Bool → Type 0
-IsFaultTold err (Stands o) whole = TellsLine err (obstacle_told o) whole
-IsFaultTold err Memory whole = PutsOut err out_of_memory whole
+IsFaultTold err fault whole = IsWhyNotTold err (obstacle_in fault) whole
 
 -- what these files put in force, as they were read
 abbrev pub IsStated : FileNames → Snap → Config → Type 0

@@ -35,8 +35,8 @@ fn put_obstacle<E: Write>(alloc: Global, err: &mut E, obstacle: Obstacle) -> io:
 pub(crate) fn put_fault<E: Write>(alloc: Global, err: &mut E, fault: ReloadFault) -> io::Result<()>
     ensures { IsFaultTold (change (E.contents err.old) (E.contents err.new)) fault (is_ok result) }
 {
-    match fault {
-        ReloadFault::Stands(obstacle) => put_obstacle(alloc, err, obstacle),
-        ReloadFault::Memory => put_out_of_memory(err),
+    match fault.obstacle() {
+        Some(obstacle) => put_obstacle(alloc, err, obstacle),
+        None => put_out_of_memory(err),
     }
 }

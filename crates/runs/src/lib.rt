@@ -1,10 +1,12 @@
 //! Runs of lists of arrivals, over any machine that takes single turns.
 #![tactic(auto)]
 
+mod faults;
 mod machine;
 mod runs;
 mod transcript;
 
-pub use machine::{Machine, ReloadFault};
+pub use faults::ReloadFault;
+pub use machine::Machine;
 pub use runs::run_over;
 pub use transcript::{Shown, Transcript};

@@ -5,7 +5,7 @@ ghost use Rattle.model.specs.Arrivals.{new_world, is_gone, told};
 ghost use Rattle.model.specs.declared.events.Arrival.TheVariants as arrival;
 ghost use Rattle.runs.specs.Runs.{WorksAndTells, AnswersAndTells, PlaysAndTells, IsRunOf};
 
-use crate::machine::{Machine, ReloadFault};
+use crate::machine::Machine;
 use crate::transcript::Transcript;
 use model::{Arrival, Note};
 use std::alloc::{AllocError, Global};
@@ -162,10 +162,10 @@ fn reload<M: Machine>(
     M::offers_sound(&setup);
     match machine.reload(alloc, setup) {
         Ok(()) => transcript.note(vec![in alloc; Note::Reloaded]?),
-        Err(ReloadFault::Stands(obstacle)) => {
-            transcript.note(vec![in alloc; Note::ReloadRefused(obstacle)]?)
-        }
-        Err(ReloadFault::Memory) => Err(AllocError),
+        Err(fault) => match fault.obstacle() {
+            Some(obstacle) => transcript.note(vec![in alloc; Note::ReloadRefused(obstacle)]?),
+            None => Err(AllocError),
+        },
     }
 }
 

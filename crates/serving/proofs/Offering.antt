@@ -10,10 +10,11 @@ use Rattle.model.specs.declared.events.Arrival.TheVariants as arrival
 use Rattle.model.specs.declared.notes.Note.{Note}
 use Rattle.model.specs.declared.notes.Note.TheVariants.{Reloaded, ReloadRefused}
 use Rattle.model.specs.declared.obstacles.Obstacle.{Obstacle}
+use Rattle.model.specs.declared.obstacles.Obstacle.TheVariants as obstacle
 use Rattle.runs.specs.Wants.{Lacks, To_reload}
 use Rattle.runs.specs.Reloaded.{IsPutInForce, TellsReload, IsMemory, wanting}
-use Rattle.runs.specs.declared.machine.ReloadFault.{ReloadFault}
-use Rattle.runs.specs.declared.machine.ReloadFault.TheVariants.{Stands, Memory}
+use Rattle.runs.specs.declared.faults.ReloadFault.{ReloadFault}
+use Rattle.runs.specs.declared.faults.ReloadFault.TheVariants.{InUse, Breaks, Memory}
 use Rattle.serving.specs.Wire.{Told}
 use Rattle.serving.specs.Coming.{whole, short}
 use Rattle.serving.specs.Story.{served, Reload_decided, Reload_undecided}
@@ -78,7 +79,8 @@ undecided {L = L} a b ps told offered sound wants same =
 
 went_reload : {L : Lacks} (a b : World) (ps : List (Option Peer)) (told : Told) (offered : Config) (r : Result Unit ReloadFault) → IsSound offered → TellsReload a offered r b → (IsMemory r → L a (To_reload offered)) → Went L (served a ps told) (served b ps told)
 went_reload a b ps told offered (Ok x) sound p wants = decided a b ps told offered sound (reloads_done a b offered p)
-went_reload a b ps told offered (Err (Stands o)) sound p wants = decided a b ps told offered sound (reloads_refused a b offered o p.0 p.1)
+went_reload a b ps told offered (Err (InUse q)) sound p wants = decided a b ps told offered sound (reloads_refused a b offered (obstacle.InUse q) p.0 p.1)
+went_reload a b ps told offered (Err (Breaks q key number)) sound p wants = decided a b ps told offered sound (reloads_refused a b offered (obstacle.Breaks q key number) p.0 p.1)
 went_reload a b ps told offered (Err Memory) sound p wants = undecided a b ps told offered sound (wants wanting) p
 
 -- what was served before is served after
@@ -90,12 +92,14 @@ served_reloaded f told now a b ps offered r sound p wants was = went_on f told (
 
 stays : (a b : World) (offered : Config) (r : Result Unit ReloadFault) → TellsReload a offered r b → (c : ℕ) → StaysFor c a b
 stays a b offered (Ok x) p c = record { wire = p.wires c; session = p.session c }
-stays a b offered (Err (Stands o)) p c = same_stays a b p.1 c
+stays a b offered (Err (InUse q)) p c = same_stays a b p.1 c
+stays a b offered (Err (Breaks q key number)) p c = same_stays a b p.1 c
 stays a b offered (Err Memory) p c = same_stays a b p c
 
 given_stays : (a b : World) (offered : Config) (r : Result Unit ReloadFault) → TellsReload a offered r b → b.given ≡ a.given
 given_stays a b offered (Ok x) p = p.given
-given_stays a b offered (Err (Stands o)) p = p.1.given
+given_stays a b offered (Err (InUse q)) p = p.1.given
+given_stays a b offered (Err (Breaks q key number)) p = p.1.given
 given_stays a b offered (Err Memory) p = p.given
 
 -- slots and marks are as they should be after it

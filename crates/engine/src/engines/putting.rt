@@ -22,15 +22,11 @@ fn put(
 ) -> Result<(), ReloadFault>
     ensures { (users : List MayLogIn) → TellsPut broker.old (record { topology = topology; guarantees = guarantees.now; users = users }) result broker.new }
 {
-    match broker.obstacle(alloc, &topology, guarantees) {
-        Ok(None) => {}
-        Ok(Some(obstacle)) => return Err(ReloadFault::Stands(obstacle)),
-        Err(_) => return Err(ReloadFault::Memory),
+    if let Some(obstacle) = broker.obstacle(alloc, &topology, guarantees)? {
+        return Err(ReloadFault::of(&obstacle)?);
     }
-    match broker.reload(alloc, topology) {
-        Ok(()) => Ok(()),
-        Err(_) => Err(ReloadFault::Memory),
-    }
+    broker.reload(alloc, topology)?;
+    Ok(())
 }
 
 impl Engine {

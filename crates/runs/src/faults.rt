@@ -1,0 +1,73 @@
+//! Why a reload was not done.
+
+ghost use Rattle.std.specs.Prelude.{◌≡◌, Some, IfOk};
+ghost use Rattle.runs.specs.Faults.{obstacle_in};
+
+use model::{Obstacle, Text};
+use std::alloc::AllocError;
+
+/// Why a reload was not done. What stands against it is the first that does.
+#[derive(Drop)]
+pub enum ReloadFault {
+    /// A message stands in this queue, or a consumer takes from it, and the new topology lacks it.
+    InUse(Text),
+    /// A message stands in this queue that was first sent under this key, and by deaths it could come to a queue that the
+    /// guarantee of this number, counted from 1, forbids it.
+    Breaks {
+        queue: Text,
+        key: Text,
+        guarantee: usize,
+    },
+    /// Memory was wanting.
+    Memory,
+}
+
+impl From<AllocError> for ReloadFault {
+    ghost use Rattle.std.specs.Prelude.{◌≡◌};
+    ghost use Rattle.runs.specs.declared.faults.ReloadFault.TheVariants.{Memory};
+
+    ghost from_gives = { λ _ r. r ≡ Memory };
+
+    fn from(_: AllocError) -> ReloadFault {
+        ReloadFault::Memory
+    }
+}
+
+impl ReloadFault {
+    /// The fault that tells what stands against a reload. Its names are shared.
+    pub fn of(obstacle: &Obstacle) -> Result<ReloadFault, AllocError>
+        ensures { IfOk result (λ fault. obstacle_in fault ≡ Some obstacle.now) }
+    {
+        match obstacle {
+            Obstacle::InUse(queue) => Ok(ReloadFault::InUse(queue.clone()?)),
+            Obstacle::Breaks {
+                queue,
+                key,
+                guarantee,
+            } => Ok(ReloadFault::Breaks {
+                queue: queue.clone()?,
+                key: key.clone()?,
+                guarantee: *guarantee,
+            }),
+        }
+    }
+
+    /// What stands against the reload; none where memory was wanting.
+    pub fn obstacle(self) -> Option<Obstacle>
+        ensures { result ≡ obstacle_in self }
+    {
+        match self {
+            ReloadFault::InUse(queue) => Some(Obstacle::InUse(queue)),
+            ReloadFault::Breaks {
+                queue,
+                key,
+                guarantee,
+            } => Some(Obstacle::Breaks {
+                queue,
+                key,
+                guarantee,
+            }),
+            ReloadFault::Memory => None,
+        }
+    }
+}
