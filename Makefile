@@ -24,7 +24,7 @@ help:
 	@echo "  make cases     runs the cases of crates/cases, and tells of one that its list lacks"
 	@echo "  make pictures  draws the shop anew, whole and broken, with Graphviz"
 	@echo "  make examples  replays the examples, and compares them with their outputs and with the cases"
-	@echo "  make bench     prints what publishes, deliveries, routes and large files cost"
+	@echo "  make bench     prints what publishes, deliveries, routes, large files and files at the limits cost"
 	@echo "  make install   puts the proved program into $(PREFIX)/bin, with its manual page and completions"
 	@echo "  make package   makes a Debian package of the proved program, and prints its SHA-256"
 	@echo "  make manual    makes the manual page and the completions anew, of the program's help"
@@ -158,9 +158,10 @@ examples: same warren
 	@python3 tools/draw $(CHANGED) $(BROKEN) | cmp - $(SHOP)/broken.dot
 	@python3 tools/manual --check --program $(WARREN)
 
-bench:
+bench: warren
 	@$(PROVED) benchmarks > /dev/null
 	@crates/benchmarks/out/benchmarks all
+	@python3 tools/limits $(WARREN)
 
 install: warren
 	@install -D $(WARREN) $(PREFIX)/bin/warren

@@ -1,0 +1,159 @@
+"""Files at the greatest sizes of docs/LIMITS.md: definitions, guarantees and scripts over them, each family meant to be the worst of its kind."""
+
+import os
+import sys
+
+sys.path.append(os.path.dirname(os.path.dirname(os.path.abspath(__file__))))
+from amqp.wire import content, method, short_text  # noqa: E402
+
+PUBLISH = (60, 40)
+FRAME_MAX = 131072
+DIGITS = "0123456789abcdefghijklmnopqrstuvwxyz"
+
+
+def word(number):
+    """A word of three letters of its own for each number below 46,656."""
+    return "".join(DIGITS[number // base % 36] for base in (1296, 36, 1))
+
+
+class Topology:
+    """A definitions file that grows, entry by entry."""
+
+    def __init__(self):
+        self.exchanges, self.queues, self.bindings = [], [], []
+
+    def exchange(self, name, kind, **arguments):
+        self.exchanges.append({"name": name, "vhost": "/", "type": kind, "durable": True, "auto_delete": False, "internal": False, "arguments": arguments})
+
+    def queue(self, name, arguments=None):
+        self.queues.append({"name": name, "vhost": "/", "durable": True, "auto_delete": False, "arguments": arguments or {}})
+
+    def bind(self, source, key, destination, kind="queue"):
+        self.bindings.append(
+            {"source": source, "vhost": "/", "destination": destination, "destination_type": kind, "routing_key": key, "arguments": {}}
+        )
+
+    def own_keys(self, count):
+        """So many queues, each with a dead-letter exchange and a key of its own, which leads to the next; the last leads nowhere."""
+        for number in range(count):
+            self.queue(f"q{number}", {"x-dead-letter-exchange": f"d{number}", "x-dead-letter-routing-key": word(number)})
+            self.exchange(f"d{number}", "direct")
+        for number in range(count - 1):
+            self.bind(f"d{number}", word(number), f"q{number + 1}")
+
+    def file(self):
+        return {
+            "vhosts": [{"name": "/"}],
+            "users": [],
+            "permissions": [],
+            "exchanges": self.exchanges,
+            "queues": self.queues,
+            "bindings": self.bindings,
+        }
+
+
+def guarantee(mode, pattern, queue, excepts=()):
+    found = {"mode": mode, "exchange": "x", "pattern": pattern, "queue": queue}
+    return {**found, "except": list(excepts)} if excepts else found
+
+
+def stars(first, count):
+    """Each key in which this word stands so many words before the last."""
+    return ".".join(["#", first] + ["*"] * count)
+
+
+# ---- each family: a definitions file and its guarantees
+
+
+def chain_of_own_keys():
+    """255 queues with a dead-letter exchange and key of their own, one behind the other, and one `never`."""
+    topology = Topology()
+    topology.exchange("x", "topic")
+    topology.own_keys(255)
+    topology.queue("z")
+    topology.bind("x", "a.#", "q0")
+    return topology.file(), [guarantee("never", "#", "z")]
+
+
+def many_letters():
+    """34,660 states of 63 patterns, and 1,893 letters."""
+    topology = Topology()
+    topology.exchange("x", "topic")
+    for name in ("q", "z"):
+        topology.queue(name)
+    topology.bind("x", stars("a", 14), "q")
+    for pattern in range(61):
+        topology.bind("x", ".".join(word(pattern * 31 + at) for at in range(31)), "q")
+    return topology.file(), [guarantee("never", "#", "z")]
+
+
+def many_certificates():
+    """24 guarantees, each with a certificate of 59,050 states."""
+    topology = Topology()
+    topology.exchange("x", "topic")
+    for name in ["q"] + [f"z{number}" for number in range(24)]:
+        topology.queue(name)
+    for first in ("a", "b"):
+        topology.bind("x", stars(first, 9), "q")
+    return topology.file(), [guarantee("never", "#", f"z{number}") for number in range(24)]
+
+
+def letters_that_all_lead():
+    """64,000 states, from each of which each of 64 letters leads elsewhere."""
+    topology = Topology()
+    topology.exchange("x", "topic")
+    for name in ("q", "z"):
+        topology.queue(name)
+    topology.bind("x", stars("a", 9), "q")
+    for pattern in range(61):
+        topology.bind("x", f"#.{word(pattern)}", "q")
+    return topology.file(), [guarantee("never", "#", "z")]
+
+
+def broken_at_the_end():
+    """A `never` that is broken through 255 queues with keys of their own, each of which comes to 256 exchanges by 3,557 bindings."""
+    topology = Topology()
+    topology.exchange("x", "topic")
+    for number in range(255):
+        topology.exchange(f"e{number}", "topic")
+        topology.queue(f"q{number}", {"x-dead-letter-exchange": "x", "x-dead-letter-routing-key": f"{word(number)}.k"})
+    topology.queue("z")
+    topology.bind("x", "#", "e0", "exchange")
+    for number in range(254):
+        for further in range(14):
+            topology.bind(f"e{number}", "#", f"e{(number + 1 + further * 17) % 255}", "exchange")
+    topology.bind("e254", "a.#", "q0")
+    for number in range(254):
+        topology.bind("e254", f"{word(number)}.#", f"q{number + 1}")
+    topology.bind("e254", f"{word(254)}.k", "z")
+    return topology.file(), [guarantee("never", "a.#", "z")]
+
+
+def undecided_by_states():
+    """A guarantee of which neither all patterns nor a slice of them is decided: both come to more than 65,536 states."""
+    topology = Topology()
+    topology.exchange("x", "topic")
+    topology.queue("q")
+    topology.bind("x", "#", "q")
+    for first in range(62):
+        topology.bind("x", stars(word(first), 15), "q")
+    return topology.file(), [guarantee("reaches", "#", "q")]
+
+
+def judged_at_a_reload():
+    """64 queues with a dead-letter exchange and key of their own, and one `never`."""
+    topology = Topology()
+    topology.exchange("x", "fanout")
+    topology.own_keys(64)
+    topology.queue("z")
+    for number in range(64):
+        topology.bind("x", "", f"q{number}")
+    return topology.file(), [guarantee("never", "#", "z")]
+
+
+def publishes(count):
+    """The lines of a script by which one connection publishes so many messages, each under a key of its own."""
+    yield "ready 1"
+    for number in range(count):
+        arguments = b"\0\0" + short_text("x") + short_text(f"k{number}") + b"\0"
+        yield f"in 1 {(method(1, PUBLISH, arguments) + content(1, bytes(2), b'm', FRAME_MAX)).hex()}"

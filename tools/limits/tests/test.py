@@ -1,0 +1,47 @@
+"""The tests of limits, which want Python 3 alone: python3 tools/limits/tests/test.py"""
+
+import os
+import sys
+import unittest
+
+TOOL = os.path.dirname(os.path.dirname(os.path.abspath(__file__)))
+sys.path[:0] = [TOOL, os.path.join(TOOL, "../shared")]
+import families  # noqa: E402
+from causes import causes_in  # noqa: E402
+from guarantees import guarantee_causes  # noqa: E402
+
+
+class Families(unittest.TestCase):
+    def sizes(self, family):
+        """How many exchanges, queues, bindings and guarantees a family has, of which no file is refused."""
+        definitions, guarantees = family()
+        self.assertEqual(causes_in(definitions), [])
+        self.assertEqual(guarantee_causes({"guarantees": guarantees}, definitions), [])
+        return [len(definitions[it]) for it in ("exchanges", "queues", "bindings")] + [len(guarantees)]
+
+    def test_each_is_within_the_limits(self):
+        self.assertEqual(self.sizes(families.chain_of_own_keys), [256, 256, 255, 1])
+        self.assertEqual(self.sizes(families.many_letters), [1, 2, 62, 1])
+        self.assertEqual(self.sizes(families.letters_that_all_lead), [1, 2, 62, 1])
+        self.assertEqual(self.sizes(families.undecided_by_states), [1, 1, 63, 1])
+        self.assertEqual(self.sizes(families.broken_at_the_end), [256, 256, 3813, 1])
+        self.assertEqual(self.sizes(families.many_certificates), [1, 25, 2, 24])
+        self.assertEqual(self.sizes(families.judged_at_a_reload), [65, 65, 127, 1])
+
+    def test_words_differ(self):
+        definitions, _ = families.many_letters()
+        words = {word for binding in definitions["bindings"] for word in binding["routing_key"].split(".")} - {"#", "*"}
+        self.assertEqual(len(words), 61 * 31 + 1)
+
+    def test_a_publish_is_three_frames(self):
+        ready, first, second = families.publishes(2)
+        self.assertEqual(ready, "ready 1")
+        self.assertEqual(
+            first,
+            "in 1 " + "0100010000000c003c002800000178026b3000ce" + "0200010000000e003c000000000000000000010000ce" + "030001000000016dce",
+        )
+        self.assertNotEqual(first, second)
+
+
+if __name__ == "__main__":
+    unittest.main()
