@@ -1,14 +1,24 @@
 -- What a refutation has to show.
-use Rattle.std.proofs.Common.{◌≡◌, Bool, List, sym, subst}
+use Rattle.std.proofs.Common.{◌≡◌, ◌<◌, ◌≤◌, ℕ, zero, suc, Bool, List, [], ◌∷◌, length, sym, subst, arith, get_or, Fits, w8, leb, leb-true, le-leb}
 use Rattle.model.specs.Words.{Text}
 use Rattle.std.specs.Prelude.{Decides}
+use Rattle.std.specs.List.{AllByRecursion}
 use Rattle.model.specs.Topology.{Topology}
 use Rattle.model.specs.Guarantee.{Guarantee, CoversKey}
 use Rattle.model.specs.Refutations.{Refutation, Breaks, Refutes}
 use Rattle.model.specs.declared.topologies.Mode.{Mode}
 use Rattle.model.specs.declared.topologies.Mode.TheVariants.{Never}
 use Rattle.paths.specs.Stands.{IsPath}
-use Rattle.certificate.specs.Disproved.{MayRefute}
+use Rattle.certificate.specs.Disproved.{IsSendable, MayRefute}
+
+-- ---- keys that can be sent
+
+pub bytes_of : (key : Text) → ((k : ℕ) → Fits w8 (get_or key k 0)) → AllByRecursion (λ b. b < 256) key
+bytes_of [] f = tt
+bytes_of (b ∷ bs) f = ((let q = f zero in omega (arith, q)), bytes_of bs (λ k. f (suc k)))
+
+pub sendable : (key : Text) → AllByRecursion (λ b. b < 256) key → Decides (leb (length key) 255) (IsSendable key)
+sendable key bytes = (λ e. (bytes, leb-true (length key) 255 e), λ s. le-leb (length key) 255 s.1)
 
 -- ---- what breaks the promise
 

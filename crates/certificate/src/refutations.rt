@@ -74,8 +74,7 @@ fn has_its_path(mode: Mode, path: &[Text]) -> bool
 fn may_refute(guarantee: &Guarantee, refutation: &Refutation) -> bool
     ensures { Decides result (MayRefute guarantee.now refutation.now) }
 {
-    is_sendable(refutation.key().as_bytes())
-        && has_its_path(guarantee.mode(), refutation.path())
+    is_sendable(refutation.key().as_bytes()) && has_its_path(guarantee.mode(), refutation.path())
 }
 
 /// Whether the key, or the path of a message with that key, breaks the promise.

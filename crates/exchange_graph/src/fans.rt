@@ -86,11 +86,7 @@ fn alternate_of(lists: &NamedLists<'_>, exchange: &Exchange) -> Option<usize>
 }
 
 /// What leads on from this exchange.
-pub fn fan_of(
-    alloc: Global,
-    lists: &NamedLists<'_>,
-    exchange: &Exchange,
-) -> Result<Fan, AllocError>
+pub fn fan_of(alloc: Global, lists: &NamedLists<'_>, exchange: &Exchange) -> Result<Fan, AllocError>
     ensures { IfOk result (λ made. made ≡ fan_of lists.now exchange.now) }
 {
     let list = lists.ways_from(alloc, exchange.name.as_bytes())?;

@@ -1,7 +1,7 @@
 //! Names are looked up once, when a topology is built.
 
 ghost use Rattle.std.specs.Prelude.{◌≡◌, IfOk};
-ghost use Rattle.model.specs.Topology.{exchange_names, queue_names};
+ghost use Rattle.exchange_graph.specs.Built.{AreNamed};
 ghost use Rattle.exchange_graph.specs.Fans.{exchange_place, queue_place, end_of, ways_from};
 
 use crate::ends::{Branch, End};
@@ -52,8 +52,7 @@ impl<'a> NamedLists<'a> {
         exchange_names: &'a Names,
         queue_names: &'a Names,
     ) -> NamedLists<'a>
-        requires exchanges { exchange_names.entry.now ≡ exchange_names exchanges.entry.now }
-        requires queues { queue_names.entry.now ≡ queue_names queues.entry.now }
+        requires { AreNamed exchanges.now queues.now exchange_names.now queue_names.now }
         ensures { result ≡ record { exchanges = exchanges.entry.now; queues = queues.entry.now; bindings = bindings.entry.now } }
     {
         NamedLists {
