@@ -11,7 +11,7 @@ pub(crate) struct Watch {
     /// Without a clock no socket is ended.
     clock: Option<HostRuntime>,
     patience: Duration,
-    now: Option<Instant>,
+    time: Option<Instant>,
 }
 
 impl Watch {
@@ -22,7 +22,7 @@ impl Watch {
         Watch {
             clock: None,
             patience: Duration::ZERO,
-            now: None,
+            time: None,
         }
     }
 
@@ -31,15 +31,15 @@ impl Watch {
         Watch {
             clock: Some(clock),
             patience,
-            now: None,
+            time: None,
         }
     }
 
     /// Reads the clock, as is done once a round.
     pub(crate) fn look(&mut self)
-        ensures { self.old.clock ≡ None → self.new.now ≡ None }
+        ensures { self.old.clock ≡ None → self.new.time ≡ None }
     {
-        self.now = match &self.clock {
+        self.time = match &self.clock {
             Some(clock) => Instant::now(clock).ok(),
             None => None,
         };
@@ -47,18 +47,18 @@ impl Watch {
 
     /// By when a socket is to be welcomed that came in this round: never where the clock tells no time.
     pub(crate) fn ends(&self) -> Option<Instant>
-        ensures { self.now.now ≡ None → result ≡ None }
+        ensures { self.now.time ≡ None → result ≡ None }
     {
-        self.now?.checked_add(self.patience)
+        self.time?.checked_add(self.patience)
     }
 
     /// Whether the time of a socket is over: not where it was welcomed, or the clock tells no time.
     pub(crate) fn is_over(&self, ends: Option<Instant>) -> bool
         ensures welcomed { ends ≡ None → result ≡ false }
-        ensures timeless { self.now.now ≡ None → result ≡ false }
+        ensures timeless { self.now.time ≡ None → result ≡ false }
     {
-        match (self.now, ends) {
-            (Some(now), Some(ends)) => now >= ends,
+        match (self.time, ends) {
+            (Some(time), Some(ends)) => time >= ends,
             _ => false,
         }
     }
