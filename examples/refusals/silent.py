@@ -1,24 +1,35 @@
-"""Opens as many sockets as a server has room for, none of which says anything, and waits for their ends.
+"""Opens as many sockets as a server has room for, none of which logs in, and waits for their ends.
 
     silent.py WARREN
 
-Each is ended after 30 seconds; a client that logs in slowly is not, and a later one is served."""
+First they say nothing, or a part of a login, and then a login that is refused, whose answer they never answer. Each is ended after 30
+seconds. Not so a client that logs in slowly, and one that has logged in and opens no channel; and a later one is served."""
 import os
 import resource
 import select
 import socket
+import struct
 import subprocess
 import sys
 import time
 
-from serve import LOAD, Client, Lost, opening
+from serve import LOAD, Client, Lost, method, opening, shortstr
 
 ROOM = 1024
-PATIENCE = 30
+PATIENCE, LATE = 30, 1
 LATEST = 60
 ACCOUNT, QUEUE = ("till", "till"), "one"
 # the bytes of start-ok in an opening
 START = 42
+OPEN_CHANNEL = method(1, 20, 10, b"\0")
+# how much of a login one says
+PARTS = (0, 8, 64, 200)
+
+
+def long_login():
+    """A login of more bytes than any of the parts."""
+    product = shortstr("product") + b"S" + struct.pack(">I", 300) + b"x" * 300
+    return b"AMQP\0\0\x09\1" + method(0, 10, 11, struct.pack(">I", len(product)) + product + shortstr("PLAIN"))
 
 
 class Slow(Client):
@@ -37,9 +48,28 @@ class Slow(Client):
         self.left = self.left[count:]
 
 
-def silent_sockets(port, count):
-    """Sockets that say nothing, and when each was there."""
-    return {socket.create_connection(("127.0.0.1", port), timeout=3): time.monotonic() for _ in range(count)}
+class Quiet(Client):
+    """A client that logs in, and opens no channel until it is asked to."""
+
+    def __init__(self, port):
+        self.unread = b""
+        self.socket = socket.create_connection(("127.0.0.1", port), timeout=3)
+        self.send(opening(*ACCOUNT)[: -len(OPEN_CHANNEL)])
+        self.until(10, 41)
+
+    def open(self):
+        self.send(OPEN_CHANNEL)
+        self.until(20, 11)
+
+
+def sockets_that_say(port, each):
+    """Sockets that say these, one after the other, and when each was there."""
+    found = {}
+    for words in each:
+        one = socket.create_connection(("127.0.0.1", port), timeout=3)
+        found[one] = time.monotonic()
+        one.sendall(words)
+    return found
 
 
 def ends_of(silent, latest):
@@ -55,11 +85,14 @@ def ends_of(silent, latest):
             one = named.pop(number)
             poll.unregister(number)
             try:
-                is_ended = one.recv(1) == b""
+                is_ended = one.recv(65536) == b""
             except OSError:
                 is_ended = True
             if is_ended:
                 found.append(time.monotonic() - silent[one])
+            else:
+                named[number] = one
+                poll.register(one, select.POLLIN)
     return found
 
 
@@ -70,27 +103,54 @@ def is_served(port):
         return False
 
 
-def trial(port):
-    """What is wrong, as lines."""
+def wrong_ends(name, sockets, ends):
+    """What is wrong with the seconds after which sockets were ended, as lines."""
+    if len(ends) < len(sockets):
+        return [f"{len(sockets) - len(ends)} {name} were not ended"]
+    if min(ends) < PATIENCE - 0.5 or max(ends) > PATIENCE + LATE:
+        return [f"{name} were ended after {min(ends):.1f} to {max(ends):.1f} seconds"]
+    print(f"{len(ends)} {name} were ended after {min(ends):.1f} to {max(ends):.1f} seconds", flush=True)
+    return []
+
+
+def beside_parts(port):
+    """Sockets that say a part of a login, beside one that says all of it slowly."""
     slow = Slow(port)
     slow.say(0, 8)
     began = time.monotonic()
-    silent = silent_sockets(port, ROOM - 1)
+    login = long_login()
+    silent = sockets_that_say(port, (login[: PARTS[it % len(PARTS)]] for it in range(ROOM - 2)))
     wrong = ["a client is served beside as many as there is room for"] if is_served(port) else []
     slow.say(10, START)
     slow.say(20, len(slow.left))
     slow.until(20, 11)
-    ends = ends_of(silent, began + LATEST)
-    if len(ends) < len(silent):
-        wrong.append(f"{len(silent) - len(ends)} silent sockets were not ended")
-    elif min(ends) < PATIENCE - 0.5:
-        wrong.append(f"a silent socket was ended after {min(ends):.1f} seconds")
-    else:
-        print(f"{len(ends)} silent sockets were ended after {min(ends):.1f} to {max(ends):.1f} seconds")
+    wrong += wrong_ends("sockets with a part of a login", silent, ends_of(silent, began + LATEST))
     if not is_served(port):
         wrong.append("a later client is not served")
     if slow.confirmed(QUEUE, [b"slow"]) != 1:
         wrong.append("the slow client was lost")
+    slow.socket.close()
+    return wrong
+
+
+def beside_refused(port):
+    """Sockets whose login is refused."""
+    began = time.monotonic()
+    refused = sockets_that_say(port, [opening(ACCOUNT[0], "wrong")] * (ROOM - 1))
+    wrong = wrong_ends("refused logins", refused, ends_of(refused, began + LATEST))
+    if not is_served(port):
+        wrong.append("a later client is not served behind refused logins")
+    return wrong
+
+
+def trial(port):
+    """What is wrong, as lines."""
+    quiet = Quiet(port)
+    wrong = beside_parts(port) + beside_refused(port)
+    try:
+        quiet.open()
+    except Lost:
+        return wrong + ["the quiet client was lost"]
     return wrong
 
 
@@ -104,7 +164,7 @@ def main():
     finally:
         server.kill()
         server.wait()
-    print("silent: " + (", ".join(wrong) or "the slow client and a later one are served"))
+    print("silent: " + (", ".join(wrong) or "the slow client, the quiet one and later ones are served"))
     sys.exit(1 if wrong else 0)
 
 

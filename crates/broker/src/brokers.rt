@@ -95,6 +95,11 @@ impl Broker {
         Ok(step)
     }
 
+    /// How many messages came to queues that lag behind those who take from them.
+    pub fn lagged(&self) -> u64 {
+        self.core.lagged()
+    }
+
     /// A delivery that can be made, if there is any: whose turn it is from now on. As long as nothing is delivered, and a delivery
     /// can be made to it, the same is told again. Else queues that have something ready are gone round, from the one behind that
     /// from which was told last, and so are the consumers of a queue. Memory that is wanting only leaves seats awake.

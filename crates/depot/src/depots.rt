@@ -202,6 +202,11 @@ impl Depot {
         self.published
     }
 
+    /// How many messages came to queues that lag behind those who take from them.
+    pub fn lagged(&self) -> u64 {
+        self.queues.lagged()
+    }
+
     /// How many messages of the queue of this name can be given out, or `None` where there is no such queue.
     pub fn ready(&self, name: &[u8]) -> Option<usize>
         ensures { result ≡ option_map (λ _. ready_count (entries_named self.now name.now)) (queue_named self.now.topology.queues name.now) }

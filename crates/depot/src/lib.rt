@@ -7,6 +7,7 @@
 mod depots;
 mod entering;
 mod given;
+mod lags;
 mod moving;
 mod places;
 mod plans;

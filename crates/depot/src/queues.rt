@@ -3,6 +3,7 @@
 ghost use Rattle.std.specs.Prelude.{◌≡◌, [], replicate, IfOk};
 ghost use Rattle.depot.specs.Store.{entries_of};
 
+use crate::lags::Lags;
 use crate::moving::take_over_in;
 use crate::places::{hold_at, purge_at, push_at, release_at, remove_at, reserve_at, take_first_at};
 use crate::signs::QueueSigns;
@@ -20,6 +21,7 @@ pub(crate) type Queue = Indexed;
 pub(crate) struct Queues {
     queues: Vec<Queue>,
     signs: QueueSigns,
+    lags: Lags,
 }
 
 impl Model for Queues {
@@ -92,7 +94,17 @@ impl Queues {
     {
         let queues = empty_queues(alloc, count)?;
         let signs = QueueSigns::new(alloc, count)?;
-        Ok(Queues { queues, signs })
+        let lags = Lags::new(alloc, count)?;
+        Ok(Queues {
+            queues,
+            signs,
+            lags,
+        })
+    }
+
+    /// How many messages came to queues that lagged.
+    pub(crate) fn lagged(&self) -> u64 {
+        self.lags.count()
     }
 
     /// The queues themselves.
@@ -130,6 +142,7 @@ impl Queues {
         ensures len { length self.new ≡ length self.old }
     {
         push_at(&mut self.queues, place, message);
+        self.lags.come(place);
         self.signs.sign(&self.queues, place);
     }
 
@@ -143,6 +156,7 @@ impl Queues {
         ensures len { length self.new ≡ length self.old }
     {
         let arrival = hold_at(&mut self.queues, place, holder);
+        self.lags.take(place, self.queues[place].ready());
         self.signs.sign(&self.queues, place);
         arrival
     }
@@ -155,6 +169,7 @@ impl Queues {
         ensures len { length self.new ≡ length self.old }
     {
         let entry = take_first_at(&mut self.queues, place);
+        self.lags.take(place, self.queues[place].ready());
         self.signs.sign(&self.queues, place);
         entry
     }
@@ -207,6 +222,7 @@ impl Queues {
         let Queues {
             queues: mut left,
             signs: _,
+            lags: _,
         } = old;
         take_over_in(&mut self.queues, &mut self.signs, &mut left, places);
     }

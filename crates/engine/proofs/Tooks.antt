@@ -13,7 +13,8 @@ use Rattle.model.specs.declared.events.Event.{Event}
 use Rattle.model.specs.declared.events.Event.TheVariants as event
 use Rattle.model.specs.declared.notes.Note.{Note}
 use Rattle.laws.proofs.Whole.{turn_keeps, turn_confirms}
-use Rattle.runs.specs.Opened.{Hears, TakesAway, IsLost}
+use Rattle.model.specs.Phases.{is_running}
+use Rattle.runs.specs.Opened.{runs, Hears, TakesAway, IsLost}
 use Rattle.runs.proofs.Worlds.{waits_not}
 use Rattle.assembly.specs.Held.{stream_of}
 use Rattle.broker.specs.Turns.{topology_kept, broker_of}
@@ -288,6 +289,9 @@ output_at p c i l e place here = ap (λ (o : Option Connected). (wire_of o).outp
 
 pub over_at : (p : Parts) (c i : ℕ) (l : Connected) → IsEngine p → IsLinkPlace p.links c (Some i) → get_or p.links i l ≡ l → is_over (world_of p) c ≡ is_ended l.session.phase
 over_at p c i l e place here = ap (λ (o : Option Connected). is_ended (session_of o).phase) (found_at p.links c i l e.links.rising place here)
+
+pub runs_at : (p : Parts) (c i : ℕ) (l : Connected) → IsEngine p → IsLinkPlace p.links c (Some i) → get_or p.links i l ≡ l → runs (world_of p) c ≡ is_running l.session.phase
+runs_at p c i l e place here = ap (λ (o : Option Connected). is_running (session_of o).phase) (found_at p.links c i l e.links.rising place here)
 
 -- ---- of one that is over nothing is heard
 

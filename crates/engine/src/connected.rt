@@ -1,13 +1,13 @@
 //! What is kept of one connection.
 
 ghost use Rattle.std.specs.Prelude.{◌≡◌, IsTrue};
-ghost use Rattle.model.specs.Phases.{no_session, running_session};
+ghost use Rattle.model.specs.Phases.{is_running, no_session, running_session};
 ghost use Rattle.model.specs.Opening.{new_session};
 ghost use Rattle.model.specs.Commands.{new_stream, running_stream};
 ghost use Rattle.engine.specs.World.{is_link_gone, IsNew};
 
 use assembly::Stream;
-use model::Event;
+use model::{Event, Phase};
 use outputs::Output;
 use session::Session;
 use std::alloc::Global;
@@ -62,6 +62,13 @@ impl Connected {
             kept: None,
             output: Output::new(alloc),
         }
+    }
+
+    /// The broker performs its commands.
+    pub(crate) fn runs(&self) -> bool
+        ensures { result ≡ is_running self.now.session.phase }
+    {
+        matches!(self.session.phase(), Phase::Running)
     }
 
     /// It is over, with no output left. Of one that is over no limits are kept.

@@ -7,7 +7,7 @@ ghost use Rattle.model.specs.Arrivals.{Same, Waits, new_world, is_over, is_awake
 ghost use Rattle.model.specs.Consuming.{CanDeliver};
 ghost use Rattle.model.specs.Headline.{IsSound};
 ghost use Rattle.model.specs.Tracing.{AreKept};
-ghost use Rattle.runs.specs.Opened.{Hears, Idles, TakesAway, IsLost};
+ghost use Rattle.runs.specs.Opened.{runs, Hears, Idles, TakesAway, IsLost};
 ghost use Rattle.engine.specs.World.{world_of};
 ghost use Rattle.engine.specs.Reading.{HasMore};
 ghost use Rattle.engine.specs.Engines.{Turned, OnDid, left_in, room_for};
@@ -246,6 +246,21 @@ impl Engine {
             Some(place) => self.links[place].session.is_over(),
             None => true,
         }
+    }
+
+    /// Whether the broker performs the commands of `c`: from the end of its login to its close.
+    pub fn runs(&self, c: u64) -> bool
+        ensures { result ≡ runs (world_of self.now) c }
+    {
+        match place_of(&self.links, c) {
+            Some(place) => self.links[place].runs(),
+            None => false,
+        }
+    }
+
+    /// How many messages came to queues that lag behind those who take from them.
+    pub fn lagged(&self) -> u64 {
+        self.broker.lagged()
     }
 
     /// What is in force is sound: the topology is well formed, and its guarantees hold.

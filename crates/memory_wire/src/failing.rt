@@ -104,6 +104,10 @@ impl<W: Wire> Wire for Failing<W> {
         self.wire.close(socket);
     }
 
+    fn welcome(&mut self, socket: u64) {
+        self.wire.welcome(socket);
+    }
+
     fn rest(&mut self) {
         self.wire.rest();
     }

@@ -26,6 +26,7 @@ pub enum Logged {
     NothingTaken(u64, Vec<u8>),
     WriteFailed(u64, Vec<u8>),
     Closed(u64),
+    Welcomed(u64),
     Rested,
 }
 

@@ -115,6 +115,10 @@ impl Wire for MemoryWire {
         self.log.add(Ok(Logged::Closed(socket)));
     }
 
+    fn welcome(&mut self, socket: u64) {
+        self.log.add(Ok(Logged::Welcomed(socket)));
+    }
+
     fn rest(&mut self) {
         self.log.add(Ok(Logged::Rested));
     }

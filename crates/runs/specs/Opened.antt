@@ -1,11 +1,16 @@
 -- What the single calls of a machine come to.
-use Rattle.std.specs.Prelude.{◌≡◌, ◌+◌, ℕ, List, true, false, Option, Some, None, MatchBool}
+use Rattle.std.specs.Prelude.{◌≡◌, ◌+◌, ℕ, List, Bool, true, false, Option, Some, None, MatchBool}
 use Rattle.model.specs.Run.{Happening, notes_of}
+use Rattle.model.specs.Phases.{is_running}
 use Rattle.model.specs.Commands.{Stream, new_stream, running_stream}
 use Rattle.model.specs.Arrivals.{World, Same, Waits, Rests, Turns, Opens, Loses, Takes_off, Delivers, NoneCanDeliver, can_open, is_over, is_gone, with_heard}
 use Rattle.model.specs.declared.events.Event.{Event}
 use Rattle.model.specs.declared.events.Event.TheVariants as event
 use Rattle.model.specs.declared.notes.Note.{Note}
+
+-- the broker performs the commands of the connection
+abbrev pub runs : World → ℕ → Bool
+runs w c = is_running (w.state.session c).phase
 
 -- the connection that was opened by this event, of which this stream is awaited; none where no more can be opened
 abbrev pub IsOpened : Event → Stream → World → Option ℕ → World → Type 0

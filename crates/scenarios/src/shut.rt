@@ -64,6 +64,14 @@ impl<'a> Machine for Shut<'a> {
         true
     }
 
+    fn runs(&self, _c: u64) -> bool {
+        false
+    }
+
+    fn lagged(&self) -> u64 {
+        0
+    }
+
     fn is_sound(&self) {}
 
     ghost use Rattle.model.specs.Headline.{IsSound};
@@ -110,6 +118,8 @@ impl Wire for OneCaller {
     fn close(&mut self, socket: u64) {
         self.closed = Some(socket);
     }
+
+    fn welcome(&mut self, _socket: u64) {}
 
     fn rest(&mut self) {
         self.rests = self.rests.saturating_add(1);

@@ -132,11 +132,11 @@ fit_does {L = L} a b d os does f = go d does.table (attempts_le L (attempts d) a
     go (Met i p) t le br = fit_filled a.world b.world a.peers b.peers i p t.1 (met_given L a.world b.world os t.0 br) t.3 f
     go (Turned_away s o) t le br = fit_same a b le t.3 f
     go (Met_no_one x) t le br = fit_same a b le t f
-    go (Heard i p bytes) t le br = fit_same a b le t.1 f
-    go (Heard_partly i p bytes) t le br = fit_freed a b i le t.1 f
-    go (Heard_nothing i p) t le br = fit_same a b le t.1 f
-    go (Heard_end i p x) t le br = fit_freed a b i le t.1 f
-    go (Gave i p offered taken) t le br = fit_same a b le t.2.1 f
+    go (Heard i p room bytes enters) t le br = fit_same a b le t.1.1 f
+    go (Heard_partly i p room bytes) t le br = fit_freed a b i le t.1.1 f
+    go (Heard_nothing i p room) t le br = fit_same a b le t.1.1 f
+    go (Heard_end i p room x) t le br = fit_freed a b i le t.1.1 f
+    go (Gave i p offered taken enters) t le br = fit_same a b le t.2.1 f
     go (Gave_partly i p offered taken) t le br = fit_freed a b i le t.2.1 f
     go (Gave_nothing i p offered) t le br = fit_same a b le t.1.1 f
     go (Gave_up i p offered) t le br = fit_freed a b i le t.1.1 f

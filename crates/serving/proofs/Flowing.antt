@@ -364,12 +364,15 @@ flows_deed {L = L} p v w (Met i q) os k does pair = flows_one L p.connection v.w
 flows_deed {L = L} p v w (Turned_away s o) os k does pair = subst (λ (t : Arrival Config). Flows p.connection v.world (taken_by p.connection v.world t) (events_of os) w.world) does.table.0 (flows_one L p.connection v.world w.world o os k does.brings)
 flows_deed {L = L} p v w (Met_no_one true) os k does pair = flows_none p.connection v.world w.world os does.brings
 flows_deed {L = L} p v w (Met_no_one false) os k does pair = flows_none p.connection v.world w.world os does.brings
-flows_deed {L = L} p v w (Heard i q bytes) os k does pair = flows_one L p.connection v.world w.world (whole (arrival.In q.connection bytes)) os k does.brings
-flows_deed {L = L} p v w (Heard_partly i q bytes) os k does pair = flows_lost L p.connection v.world w.world (short (arrival.In q.connection bytes)) q.connection os tt k does.brings
-flows_deed {L = L} p v w (Heard_nothing i q) os k does pair = flows_none p.connection v.world w.world os does.brings
-flows_deed {L = L} p v w (Heard_end i q true) os k does pair = flows_one L p.connection v.world w.world (whole (arrival.Lose q.connection)) os k does.brings
-flows_deed {L = L} p v w (Heard_end i q false) os k does pair = flows_one L p.connection v.world w.world (whole (arrival.Lose q.connection)) os k does.brings
-flows_deed {L = L} p v w (Gave i q offered taken) os k does pair =
+flows_deed {L = L} p v w (Heard i q room bytes true) os k does pair = flows_one L p.connection v.world w.world (whole (arrival.In q.connection bytes)) os k does.brings
+flows_deed {L = L} p v w (Heard i q room bytes false) os k does pair = flows_one L p.connection v.world w.world (whole (arrival.In q.connection bytes)) os k does.brings
+flows_deed {L = L} p v w (Heard_partly i q room bytes) os k does pair = flows_lost L p.connection v.world w.world (short (arrival.In q.connection bytes)) q.connection os tt k does.brings
+flows_deed {L = L} p v w (Heard_nothing i q room) os k does pair = flows_none p.connection v.world w.world os does.brings
+flows_deed {L = L} p v w (Heard_end i q room true) os k does pair = flows_one L p.connection v.world w.world (whole (arrival.Lose q.connection)) os k does.brings
+flows_deed {L = L} p v w (Heard_end i q room false) os k does pair = flows_one L p.connection v.world w.world (whole (arrival.Lose q.connection)) os k does.brings
+flows_deed {L = L} p v w (Gave i q offered taken true) os k does pair =
+    subst (λ (z : List ℕ). Flows p.connection v.world z (events_of os) w.world) (taken_written p q v.world taken does.table.1 pair) (flows_one L p.connection v.world w.world (whole (arrival.Sent q.connection (length taken))) os k does.brings)
+flows_deed {L = L} p v w (Gave i q offered taken false) os k does pair =
     subst (λ (z : List ℕ). Flows p.connection v.world z (events_of os) w.world) (taken_written p q v.world taken does.table.1 pair) (flows_one L p.connection v.world w.world (whole (arrival.Sent q.connection (length taken))) os k does.brings)
 flows_deed {L = L} p v w (Gave_partly i q offered taken) os k does pair =
     subst (λ (z : List ℕ). Flows p.connection v.world z (events_of os) w.world) (taken_written p q v.world taken does.table.1 pair) (flows_lost L p.connection v.world w.world (short (arrival.Sent q.connection (length taken))) q.connection os tt k does.brings)

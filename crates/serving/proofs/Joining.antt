@@ -67,12 +67,14 @@ joined_one p v w (Met i q) os does pair = record { pieces = refl; amounts = refl
 joined_one p v w (Turned_away s o) os does pair = opening_joined p o _ does.table.0 (record { pieces = refl; amounts = refl; losses = refl })
 joined_one p v w (Met_no_one true) os does pair = record { pieces = refl; amounts = refl; losses = refl }
 joined_one p v w (Met_no_one false) os does pair = record { pieces = refl; amounts = refl; losses = refl }
-joined_one p v w (Heard i q bytes) os does pair = record { pieces = same_bytes (q.connection == p.connection) (q.socket == p.socket) bytes pair; amounts = refl; losses = refl }
-joined_one p v w (Heard_partly i q bytes) os does pair = record { pieces = same_bytes (q.connection == p.connection) (q.socket == p.socket) bytes pair; amounts = refl; losses = short_loss (q.connection == p.connection) }
-joined_one p v w (Heard_nothing i q) os does pair = record { pieces = refl; amounts = refl; losses = refl }
-joined_one p v w (Heard_end i q true) os does pair = record { pieces = refl; amounts = refl; losses = same_end (q.connection == p.connection) (q.socket == p.socket) pair }
-joined_one p v w (Heard_end i q false) os does pair = record { pieces = refl; amounts = refl; losses = same_end (q.connection == p.connection) (q.socket == p.socket) pair }
-joined_one p v w (Gave i q offered taken) os does pair = record { pieces = refl; amounts = same_amount (q.connection == p.connection) (q.socket == p.socket) (length taken) pair; losses = refl }
+joined_one p v w (Heard i q room bytes true) os does pair = record { pieces = same_bytes (q.connection == p.connection) (q.socket == p.socket) bytes pair; amounts = refl; losses = refl }
+joined_one p v w (Heard i q room bytes false) os does pair = record { pieces = same_bytes (q.connection == p.connection) (q.socket == p.socket) bytes pair; amounts = refl; losses = refl }
+joined_one p v w (Heard_partly i q room bytes) os does pair = record { pieces = same_bytes (q.connection == p.connection) (q.socket == p.socket) bytes pair; amounts = refl; losses = short_loss (q.connection == p.connection) }
+joined_one p v w (Heard_nothing i q room) os does pair = record { pieces = refl; amounts = refl; losses = refl }
+joined_one p v w (Heard_end i q room true) os does pair = record { pieces = refl; amounts = refl; losses = same_end (q.connection == p.connection) (q.socket == p.socket) pair }
+joined_one p v w (Heard_end i q room false) os does pair = record { pieces = refl; amounts = refl; losses = same_end (q.connection == p.connection) (q.socket == p.socket) pair }
+joined_one p v w (Gave i q offered taken true) os does pair = record { pieces = refl; amounts = same_amount (q.connection == p.connection) (q.socket == p.socket) (length taken) pair; losses = refl }
+joined_one p v w (Gave i q offered taken false) os does pair = record { pieces = refl; amounts = same_amount (q.connection == p.connection) (q.socket == p.socket) (length taken) pair; losses = refl }
 joined_one p v w (Gave_partly i q offered taken) os does pair = record { pieces = refl; amounts = same_amount (q.connection == p.connection) (q.socket == p.socket) (length taken) pair; losses = short_loss (q.connection == p.connection) }
 joined_one p v w (Gave_nothing i q offered) os does pair = record { pieces = refl; amounts = refl; losses = refl }
 joined_one p v w (Gave_up i q offered) os does pair = record { pieces = refl; amounts = refl; losses = same_end (q.connection == p.connection) (q.socket == p.socket) pair }

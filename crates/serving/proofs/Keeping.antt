@@ -148,7 +148,7 @@ went_pumps n a b p s = (s.deeds, s.occurrences, s.story)
 went_rests : (L : Lacks) (v w : Served) (acted : Bool) → RestsUnless v acted w → Went L v w
 went_rests L v w true e = subst (λ (z : Served). Went L v z) (sym e) (went v v [] false (serves_not v))
 went_rests L v w false (e, t) =
-    went_one v w Paused [] (record { table = ap (λ (z : Served). z.peers) e; brings = (refl, ap (λ (z : Served). z.world) e); told = t })
+    went_one v w Paused [] (record { table = ap (λ (z : Served). z.peers) e; brings = (refl, ap (λ (z : Served). z.world) e); welcomes = tt; told = t })
 
 went_round : {L : Lacks} (a b : Served) → IsRound L a b → Went L a b
 went_round {L = L} a b r =

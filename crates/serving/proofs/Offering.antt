@@ -71,11 +71,11 @@ reloads_refused a b offered o stands same = (
 
 decided : {L : Lacks} (a b : World) (ps : List (Option Peer)) (told : Told) (offered : Config) → IsSound offered → (os : List Occurrence) × Reloads a offered os b → Went L (served a ps told) (served b ps told)
 decided {L = L} a b ps told offered sound (os, p) =
-    went_one (served a ps told) (served b ps told) (Reload_decided offered) os (record { table = (sound, refl); brings = attempt_one L a b (whole (arrival.Reload offered)) os p; told = tells_none told })
+    went_one (served a ps told) (served b ps told) (Reload_decided offered) os (record { table = (sound, refl); brings = attempt_one L a b (whole (arrival.Reload offered)) os p; welcomes = tt; told = tells_none told })
 
 undecided : {L : Lacks} (a b : World) (ps : List (Option Peer)) (told : Told) (offered : Config) → IsSound offered → L a (To_reload offered) → Same a b → Went L (served a ps told) (served b ps told)
 undecided {L = L} a b ps told offered sound wants same =
-    went_one (served a ps told) (served b ps told) (Reload_undecided offered) [] (record { table = (sound, refl); brings = attempt_one L a b (short (arrival.Reload offered)) [] ([], refl, (wants, (refl, same))); told = tells_none told })
+    went_one (served a ps told) (served b ps told) (Reload_undecided offered) [] (record { table = (sound, refl); brings = attempt_one L a b (short (arrival.Reload offered)) [] ([], refl, (wants, (refl, same))); welcomes = tt; told = tells_none told })
 
 went_reload : {L : Lacks} (a b : World) (ps : List (Option Peer)) (told : Told) (offered : Config) (r : Result Unit ReloadFault) → IsSound offered → TellsReload a offered r b → (IsMemory r → L a (To_reload offered)) → Went L (served a ps told) (served b ps told)
 went_reload a b ps told offered (Ok x) sound p wants = decided a b ps told offered sound (reloads_done a b offered p)

@@ -10,7 +10,7 @@ use Rattle.std.proofs.lemmas.List.Sums.{sum_by-append}
 use Rattle.model.specs.Topology.{IsIn}
 use Rattle.model.specs.History.{Occurrence}
 use Rattle.model.specs.Arrivals.{World}
-use Rattle.serving.specs.Wire.{Call, Accepted, Not_accepted, Accept_failed, Got, Nothing_got, Read_ended, Read_failed, Took, Nothing_taken, Write_failed, Closed, Rested, Ask, ask, asks, Totals, no_bytes, with_got, with_taken, total_after, totals_after, Told, Tells, Follows, is_failed}
+use Rattle.serving.specs.Wire.{Call, Accepted, Not_accepted, Accept_failed, Got, Nothing_got, Read_ended, Read_failed, Took, Nothing_taken, Write_failed, Closed, Welcomed, Rested, Ask, ask, asks, Totals, no_bytes, with_got, with_taken, total_after, totals_after, Told, Tells, Follows, is_failed}
 use Rattle.serving.specs.Coming.{Attempt, Brings, Attempts}
 use Rattle.serving.specs.Story.{Served, served, Deed, calls, is_done, is_unasked, DoesDeed, Story, Serves}
 use Rattle.serving.specs.Rounds.{RestsUnless}
@@ -67,6 +67,7 @@ totals_any s o (Read_failed r room ∷ ys) t e = totals_any s o ys t e
 totals_any s o (Nothing_taken r offered ∷ ys) t e = totals_any s o ys t e
 totals_any s o (Write_failed r offered ∷ ys) t e = totals_any s o ys t e
 totals_any s o (Closed r ∷ ys) t e = totals_any s o ys t e
+totals_any s o (Welcomed r ∷ ys) t e = totals_any s o ys t e
 totals_any s o (Rested ∷ ys) t e = totals_any s o ys t e
 
 totals_then : (s : ℕ) (a b c : Option Totals) (xs ys : List Call) (t : Totals) → ((u : Totals) → b ≡ Some u → totals_after s a xs ≡ Some u) → (c ≡ Some t → totals_after s b ys ≡ Some t) → c ≡ Some t → totals_after s a (xs ++ ys) ≡ Some t

@@ -18,11 +18,11 @@ abbrev pub peer_of : Deed → Option Peer
 peer_of (Met i p) = Some p
 peer_of (Turned_away s o) = None
 peer_of (Met_no_one x) = None
-peer_of (Heard i p bytes) = Some p
-peer_of (Heard_partly i p bytes) = Some p
-peer_of (Heard_nothing i p) = Some p
-peer_of (Heard_end i p x) = Some p
-peer_of (Gave i p offered taken) = Some p
+peer_of (Heard i p room bytes enters) = Some p
+peer_of (Heard_partly i p room bytes) = Some p
+peer_of (Heard_nothing i p room) = Some p
+peer_of (Heard_end i p room x) = Some p
+peer_of (Gave i p offered taken enters) = Some p
 peer_of (Gave_partly i p offered taken) = Some p
 peer_of (Gave_nothing i p offered) = Some p
 peer_of (Gave_up i p offered) = Some p
@@ -112,11 +112,11 @@ goes {L = L} known v w d os does k = go d does.table (attempts_le L (attempts d)
     go (Met i p) t le does = record { knows = knows_met known v w i p t.1 (met_given L v.world w.world os t.0 does.brings) t.2 t.3 does.told k; mine = inl refl }
     go (Turned_away s o) t le does = record { knows = knows_same known v w _ t.3 le does.told k; mine = tt }
     go (Met_no_one x) t le does = record { knows = knows_same known v w _ t le does.told k; mine = tt }
-    go (Heard i p bytes) t le does = record { knows = knows_same known v w _ t.1 le does.told k; mine = k.slots i p t.0 }
-    go (Heard_partly i p bytes) t le does = record { knows = knows_freed known v w i _ t.1 le does.told k; mine = k.slots i p t.0 }
-    go (Heard_nothing i p) t le does = record { knows = knows_same known v w _ t.1 le does.told k; mine = k.slots i p t.0 }
-    go (Heard_end i p x) t le does = record { knows = knows_freed known v w i _ t.1 le does.told k; mine = k.slots i p t.0 }
-    go (Gave i p offered taken) t le does = record { knows = knows_same known v w _ t.2.1 le does.told k; mine = k.slots i p t.2.0 }
+    go (Heard i p room bytes enters) t le does = record { knows = knows_same known v w _ t.1.1 le does.told k; mine = k.slots i p t.1.0 }
+    go (Heard_partly i p room bytes) t le does = record { knows = knows_freed known v w i _ t.1.1 le does.told k; mine = k.slots i p t.1.0 }
+    go (Heard_nothing i p room) t le does = record { knows = knows_same known v w _ t.1.1 le does.told k; mine = k.slots i p t.1.0 }
+    go (Heard_end i p room x) t le does = record { knows = knows_freed known v w i _ t.1.1 le does.told k; mine = k.slots i p t.1.0 }
+    go (Gave i p offered taken enters) t le does = record { knows = knows_same known v w _ t.2.1 le does.told k; mine = k.slots i p t.2.0 }
     go (Gave_partly i p offered taken) t le does = record { knows = knows_freed known v w i _ t.2.1 le does.told k; mine = k.slots i p t.2.0 }
     go (Gave_nothing i p offered) t le does = record { knows = knows_same known v w _ t.1.1 le does.told k; mine = k.slots i p t.1.0 }
     go (Gave_up i p offered) t le does = record { knows = knows_freed known v w i _ t.1.1 le does.told k; mine = k.slots i p t.1.0 }

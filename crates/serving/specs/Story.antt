@@ -1,5 +1,5 @@
 -- What a server does: what it asks of its wire, what is answered, and which arrivals it makes of that, the pumps that it makes by itself, and the reloads that it is called for (own).
-use Rattle.std.specs.Prelude.{◌≡◌, ◌≢◌, ◌≤◌, ◌+◌, ◌⊎◌, ℕ, zero, suc, List, [], ◌∷◌, ◌++◌, length, take, flat_map, count_by, is_some, Bool, true, false, Option, Some, None, slice_index_or, slice_set, if◌then◌else◌, MatchBool}
+use Rattle.std.specs.Prelude.{◌≡◌, ◌≢◌, ◌≤◌, ◌+◌, ◌⊎◌, ◌&&◌, not, ℕ, zero, suc, List, [], ◌∷◌, ◌++◌, length, take, flat_map, count_by, is_some, Bool, true, false, Option, Some, None, slice_index_or, slice_set, if◌then◌else◌, MatchBool}
 use Rattle.std.specs.List.{list_any}
 use Rattle.model.specs.State.{Config}
 use Rattle.model.specs.History.{Occurrence}
@@ -7,9 +7,10 @@ use Rattle.model.specs.Headline.{IsSound}
 use Rattle.model.specs.Consuming.{CanDeliver}
 use Rattle.model.specs.Arrivals.{World, Answers, NoneCanDeliver, is_gone, can_open}
 use Rattle.model.specs.declared.events.Arrival.TheVariants as arrival
-use Rattle.serving.specs.Wire.{Call, Accepted, Not_accepted, Accept_failed, Got, Nothing_got, Read_ended, Read_failed, Took, Nothing_taken, Write_failed, Closed, Rested, Ask, asks, Told, Tells, IsFresh}
+use Rattle.serving.specs.Wire.{Call, Accepted, Not_accepted, Accept_failed, Got, Nothing_got, Read_ended, Read_failed, Took, Nothing_taken, Write_failed, Closed, Welcomed, Rested, Ask, asks, Told, Tells, IsFresh}
 use Rattle.serving.specs.Coming.{Attempt, whole, short, Brings, Attempts}
 use Rattle.runs.specs.Wants.{Lacks, To_open}
+use Rattle.runs.specs.Opened.{runs}
 use Rattle.serving.specs.declared.peers.Peer.{Peer}
 
 -- a machine's world, whose socket is which by slot, and what the wire tells
@@ -22,9 +23,13 @@ pub record Served : Type 0 where
 abbrev pub served : World → List (Option Peer) → Told → Served
 served w ps t = record { world = w; peers = ps; told = t }
 
--- the room that a server offers to a read: its whole buffer, of 65,536 bytes
+-- the most room that a server offers to a read: its whole buffer, of 65,536 bytes
 abbrev pub read_room : ℕ
 read_room = 65536
+
+-- the room that a read is offered: at least 16 bytes, and at most 65,536
+abbrev pub IsOffer : ℕ → Type 0
+IsOffer room = (16 ≤ room) × (room ≤ read_room)
 
 -- One thing that a server does: what it makes of one answer of its wire, a pump, a pause of the wire, or a reload between two calls that serve.
 pub data Deed : Type 0 where
@@ -33,13 +38,15 @@ pub data Deed : Type 0 where
   -- a socket came, and no connection could be opened, or memory was refused: none was opened
   Turned_away : (socket : ℕ) → (opening : Attempt) → Deed
   Met_no_one : (is_failure : Bool) → Deed
-  Heard : (slot : ℕ) → (peer : Peer) → (bytes : List ℕ) → Deed
+  -- bytes came into so much room, and by them the connection came to run, or not
+  Heard : (slot : ℕ) → (peer : Peer) → (room : ℕ) → (bytes : List ℕ) → (enters : Bool) → Deed
   -- memory was refused on the way
-  Heard_partly : (slot : ℕ) → (peer : Peer) → (bytes : List ℕ) → Deed
-  Heard_nothing : (slot : ℕ) → (peer : Peer) → Deed
+  Heard_partly : (slot : ℕ) → (peer : Peer) → (room : ℕ) → (bytes : List ℕ) → Deed
+  Heard_nothing : (slot : ℕ) → (peer : Peer) → (room : ℕ) → Deed
   -- the input of a socket ended, or its read failed
-  Heard_end : (slot : ℕ) → (peer : Peer) → (is_failure : Bool) → Deed
-  Gave : (slot : ℕ) → (peer : Peer) → (offered taken : List ℕ) → Deed
+  Heard_end : (slot : ℕ) → (peer : Peer) → (room : ℕ) → (is_failure : Bool) → Deed
+  -- by what waited for that the connection came to run, or not
+  Gave : (slot : ℕ) → (peer : Peer) → (offered taken : List ℕ) → (enters : Bool) → Deed
   -- memory was refused for what waited
   Gave_partly : (slot : ℕ) → (peer : Peer) → (offered taken : List ℕ) → Deed
   Gave_nothing : (slot : ℕ) → (peer : Peer) → (offered : List ℕ) → Deed
@@ -59,16 +66,21 @@ pub data Deed : Type 0 where
   -- memory was refused for it
   Reload_undecided : (offered : Config) → Deed
 
+-- a socket whose connection comes to run is welcomed
+abbrev pub greeting : ℕ → Bool → List Call
+greeting s true = Welcomed s ∷ []
+greeting s false = []
+
 -- what was asked of the wire by it, and answered
 abbrev pub calls : Deed → List Call
 calls (Met i p) = Accepted p.socket ∷ []
 calls (Turned_away s o) = Accepted s ∷ Closed s ∷ []
 calls (Met_no_one failed) = (if failed then Accept_failed else Not_accepted) ∷ []
-calls (Heard i p bytes) = Got p.socket read_room bytes ∷ []
-calls (Heard_partly i p bytes) = Got p.socket read_room bytes ∷ Closed p.socket ∷ []
-calls (Heard_nothing i p) = Nothing_got p.socket read_room ∷ []
-calls (Heard_end i p failed) = (if failed then Read_failed p.socket read_room else Read_ended p.socket read_room) ∷ Closed p.socket ∷ []
-calls (Gave i p offered taken) = Took p.socket offered taken ∷ []
+calls (Heard i p room bytes enters) = Got p.socket room bytes ∷ greeting p.socket enters
+calls (Heard_partly i p room bytes) = Got p.socket room bytes ∷ Closed p.socket ∷ []
+calls (Heard_nothing i p room) = Nothing_got p.socket room ∷ []
+calls (Heard_end i p room failed) = (if failed then Read_failed p.socket room else Read_ended p.socket room) ∷ Closed p.socket ∷ []
+calls (Gave i p offered taken enters) = Took p.socket offered taken ∷ greeting p.socket enters
 calls (Gave_partly i p offered taken) = Took p.socket offered taken ∷ Closed p.socket ∷ []
 calls (Gave_nothing i p offered) = Nothing_taken p.socket offered ∷ []
 calls (Gave_up i p offered) = Write_failed p.socket offered ∷ Closed p.socket ∷ []
@@ -85,11 +97,11 @@ abbrev pub attempts : Deed → List Attempt
 attempts (Met i p) = whole arrival.Open ∷ []
 attempts (Turned_away s o) = o ∷ []
 attempts (Met_no_one failed) = []
-attempts (Heard i p bytes) = whole (arrival.In p.connection bytes) ∷ []
-attempts (Heard_partly i p bytes) = short (arrival.In p.connection bytes) ∷ whole (arrival.Lose p.connection) ∷ []
-attempts (Heard_nothing i p) = []
-attempts (Heard_end i p failed) = whole (arrival.Lose p.connection) ∷ []
-attempts (Gave i p offered taken) = whole (arrival.Sent p.connection (length taken)) ∷ []
+attempts (Heard i p room bytes enters) = whole (arrival.In p.connection bytes) ∷ []
+attempts (Heard_partly i p room bytes) = short (arrival.In p.connection bytes) ∷ whole (arrival.Lose p.connection) ∷ []
+attempts (Heard_nothing i p room) = []
+attempts (Heard_end i p room failed) = whole (arrival.Lose p.connection) ∷ []
+attempts (Gave i p offered taken enters) = whole (arrival.Sent p.connection (length taken)) ∷ []
 attempts (Gave_partly i p offered taken) = short (arrival.Sent p.connection (length taken)) ∷ whole (arrival.Lose p.connection) ∷ []
 attempts (Gave_nothing i p offered) = []
 attempts (Gave_up i p offered) = whole (arrival.Lose p.connection) ∷ []
@@ -104,7 +116,7 @@ attempts (Reload_undecided g) = short (arrival.Reload g) ∷ []
 -- something was done: a rest stands only where nothing was
 abbrev pub is_done : Deed → Bool
 is_done (Met_no_one failed) = false
-is_done (Heard_nothing i p) = false
+is_done (Heard_nothing i p room) = false
 is_done (Gave_nothing i p offered) = false
 is_done Pumped_nothing = false
 is_done Pump_refused = false
@@ -166,16 +178,16 @@ abbrev pub MayTurnAway : Lacks → World → List (Option Peer) → Bool → Typ
 MayTurnAway L w ps true = can_open w ≡ false
 MayTurnAway L w ps false = L w To_open ⊎ NoneFree ps
 
--- what a deed is about stands so in the slots, what a write was offered is all of the connection's own output and what it took the first of that, a delivery could be made where one was, and what a reload offers is sound
+-- what a deed is about stands so in the slots, a read is offered at least 16 and at most 65,536 bytes, what a write was offered is all of the connection's own output and what it took the first of that, a delivery could be made where one was, and what a reload offers is sound
 abbrev pub Table : Lacks → Served → Deed → List (Option Peer) → Type 0
 Table L v (Met i p) new = (can_open v.world ≡ true) × (p.connection ≡ v.world.given + 1) × IsFresh p.socket v.told × Filled v.peers i p new
 Table L v (Turned_away s o) new = (o.arrival ≡ arrival.Open) × MayTurnAway L v.world v.peers o.is_whole × IsFresh s v.told × (new ≡ v.peers)
 Table L v (Met_no_one failed) new = new ≡ v.peers
-Table L v (Heard i p bytes) new = KeepsPeer v.peers i p new
-Table L v (Heard_partly i p bytes) new = Freed v.peers i p new
-Table L v (Heard_nothing i p) new = KeepsPeer v.peers i p new
-Table L v (Heard_end i p failed) new = Freed v.peers i p new
-Table L v (Gave i p offered taken) new = IsOutput v.world p.connection offered × IsFront v.world p.connection taken × KeepsPeer v.peers i p new
+Table L v (Heard i p room bytes enters) new = IsOffer room × KeepsPeer v.peers i p new
+Table L v (Heard_partly i p room bytes) new = IsOffer room × Freed v.peers i p new
+Table L v (Heard_nothing i p room) new = IsOffer room × KeepsPeer v.peers i p new
+Table L v (Heard_end i p room failed) new = IsOffer room × Freed v.peers i p new
+Table L v (Gave i p offered taken enters) new = IsOutput v.world p.connection offered × IsFront v.world p.connection taken × KeepsPeer v.peers i p new
 Table L v (Gave_partly i p offered taken) new = IsOutput v.world p.connection offered × IsFront v.world p.connection taken × Freed v.peers i p new
 Table L v (Gave_nothing i p offered) new = IsOutput v.world p.connection offered × KeepsPeer v.peers i p new
 Table L v (Gave_up i p offered) new = IsOutput v.world p.connection offered × Freed v.peers i p new
@@ -192,10 +204,21 @@ abbrev pub TakesIn : Lacks → World → List (Option Peer) → ℕ → Bool →
 TakesIn L old ps s true new now = (can_open old ≡ true) × ((os : List Occurrence) × Answers old arrival.Open os new) × ((i : ℕ) × Filled ps i (record { connection = old.given + 1; socket = s }) now)
 TakesIn L old ps s false new now = ((o : Attempt) × (o.arrival ≡ arrival.Open) × MayTurnAway L old ps o.is_whole × Brings L old o [] new) × (now ≡ ps)
 
+-- the connection did not run, and runs now
+abbrev pub comes_to_run : World → World → ℕ → Bool
+comes_to_run old new c = not (runs old c) && runs new c
+
+-- a socket is welcomed exactly where its connection comes to run by the deed
+abbrev pub Welcomes : World → Deed → World → Type 0
+Welcomes old (Heard i p room bytes enters) new = enters ≡ comes_to_run old new p.connection
+Welcomes old (Gave i p offered taken enters) new = enters ≡ comes_to_run old new p.connection
+Welcomes old d new = Unit {0}
+
 -- One deed.
 pub record DoesDeed (L : Lacks) (old : Served) (d : Deed) (os : List Occurrence) (new : Served) : Type 0 where
   pub table : Table L old d new.peers
   pub brings : Attempts L old.world (attempts d) os new.world
+  pub welcomes : Welcomes old.world d new.world
   pub told : Tells old.told (calls d) new.told
 
 -- These deeds, one after another.

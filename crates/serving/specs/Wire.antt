@@ -15,12 +15,14 @@ pub data Call : Type 0 where
   Nothing_taken : (socket : ℕ) → (offered : List ℕ) → Call
   Write_failed : (socket : ℕ) → (offered : List ℕ) → Call
   Closed : (socket : ℕ) → Call
+  -- its connection has come to run
+  Welcomed : (socket : ℕ) → Call
   Rested : Call
 
--- what was asked, without the answer: a read into so much room, a write of these bytes; closes and rests are left out
+-- what was asked, without the answer: a read, a write of these bytes; closes, welcomes and rests are left out
 pub data Ask : Type 0 where
   To_accept : Ask
-  To_read : (socket room : ℕ) → Ask
+  To_read : (socket : ℕ) → Ask
   To_write : (socket : ℕ) → (bytes : List ℕ) → Ask
 
 -- the ask of a call, if it is an accept, a read or a write
@@ -28,14 +30,15 @@ abbrev pub ask : Call → Option Ask
 ask (Accepted s) = Some To_accept
 ask Not_accepted = Some To_accept
 ask Accept_failed = Some To_accept
-ask (Got s room bytes) = Some (To_read s room)
-ask (Nothing_got s room) = Some (To_read s room)
-ask (Read_ended s room) = Some (To_read s room)
-ask (Read_failed s room) = Some (To_read s room)
+ask (Got s room bytes) = Some (To_read s)
+ask (Nothing_got s room) = Some (To_read s)
+ask (Read_ended s room) = Some (To_read s)
+ask (Read_failed s room) = Some (To_read s)
 ask (Took s offered taken) = Some (To_write s offered)
 ask (Nothing_taken s offered) = Some (To_write s offered)
 ask (Write_failed s offered) = Some (To_write s offered)
 ask (Closed s) = None
+ask (Welcomed s) = None
 ask Rested = None
 
 -- the accepts, reads and writes among these calls, in order

@@ -5,6 +5,7 @@
 //! told by its ghost, so the contracts say which arrivals at the machine the answers became.
 #![tactic(auto)]
 
+mod offers;
 mod peers;
 mod quiet;
 mod rounds;

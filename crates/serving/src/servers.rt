@@ -11,6 +11,7 @@ ghost use Rattle.serving.specs.Whole.{GoesOn, IsServed};
 ghost use Rattle.runs.specs.Reloaded.{IsMemory, TellsReload};
 ghost use Rattle.runs.specs.Wants.{To_reload};
 
+use crate::offers::Offers;
 use crate::peers::Peer;
 use crate::quiet::Quiet;
 use crate::rounds::round;
@@ -20,14 +21,15 @@ use slab::Slab;
 use std::alloc::{AllocError, Global};
 use std::marker::Model;
 
-/// The room that a read is offered, in bytes: it is the whole buffer.
+/// The room that a read is offered at most, in bytes: it is the whole buffer.
 const READ_ROOM: usize = 65_536;
 
-/// A machine, whose socket is which, which slots are quiet, and the buffer that reads go into.
+/// A machine, whose socket is which, which slots are quiet, what reads are offered, and the buffer that they go into.
 pub struct Server<M: Machine> {
     machine: M,
     peers: Slab<Peer>,
     quiet: Quiet,
+    offers: Offers,
     buffer: Vec<u8>,
 }
 
@@ -38,6 +40,7 @@ impl<M: Machine + Drop> Drop for Server<M> {
             machine: _,
             peers: _,
             quiet: _,
+            offers: _,
             buffer: _,
         } = self;
     }
@@ -66,13 +69,14 @@ impl<M: Machine> Server<M> {
             machine,
             peers: Slab::new(alloc),
             quiet: Quiet::new(alloc),
+            offers: Offers::new(alloc)?,
             buffer,
         })
     }
 
-    /// One round: an accept, a read into the whole buffer of each connection that is neither paused nor over, at most 256
-    /// pumps, a write of all that waits for each with output, the end of those that are over with no output left, and a rest
-    /// where nothing was done.
+    /// One round: an accept, a read of 16 to 65,536 bytes of each connection that is neither paused nor over, at most 256 pumps, a
+    /// write of all that waits for each with output, the end of those that are over with no output left, and a rest where nothing
+    /// was done. A socket is welcomed exactly as its connection comes to run.
     pub fn round<W: Wire>(&mut self, alloc: Global, wire: &mut W)
         ensures { IsRound M.lacks (served (M.world self.old.machine) self.old.peers (W.told wire.old)) (served (M.world self.new.machine) self.new.peers (W.told wire.new)) }
     {
@@ -81,6 +85,7 @@ impl<M: Machine> Server<M> {
             &mut self.machine,
             &mut self.peers,
             &mut self.quiet,
+            &mut self.offers,
             wire,
             self.buffer.as_mut_slice(),
         );

@@ -27,6 +27,11 @@ fn tell_rounds(sums: &mut Sums, rt: &HostRuntime) -> io::Result<()> {
     )?;
     sums.tell(
         rt,
+        "one_that_fills_a_queue_is_offered_less",
+        rounds::one_that_fills_a_queue_is_offered_less(alloc),
+    )?;
+    sums.tell(
+        rt,
         "a_client_of_the_system_is_served",
         rounds::a_client_of_the_system_is_served(rt, alloc),
     )?;
@@ -132,8 +137,8 @@ fn tell_bounds(sums: &mut Sums, rt: &HostRuntime) -> io::Result<()> {
     )?;
     sums.tell(
         rt,
-        "a_socket_that_says_too_little_is_ended",
-        patience::a_socket_that_says_too_little_is_ended(rt, alloc),
+        "a_socket_that_is_not_welcomed_is_ended",
+        patience::a_socket_that_is_not_welcomed_is_ended(rt, alloc),
     )
 }
 

@@ -1,4 +1,4 @@
-//! Sockets of the system that say too little after they came.
+//! Sockets of the system that are not welcomed after they came.
 
 use crate::silent::{got_in_the_end, met, round};
 use scenario_parts::{Unmet, expect, value_of};
@@ -9,19 +9,16 @@ use std::io;
 use std::net::SocketAddr;
 use std::time::Duration;
 
-/// How many milliseconds a socket has in which to say enough.
+/// How many milliseconds a socket has until it is to be welcomed.
 const TIME: u64 = 200;
 
 /// How many rounds in vain are enough, whatever else the machine does.
 const PATIENCE: u32 = 1_000;
 
-/// Bytes of which a socket has said enough once two of them have come.
-const HALF: [u8; 32] = [0; 32];
+/// As many bytes as a login has, and more.
+const WORDS: [u8; 200] = [0; 200];
 
-/// Bytes of which one is missing.
-const SHORT: [u8; 63] = [0; 63];
-
-/// Sockets that listen at a port that is free, and end those that say too little.
+/// Sockets that listen at a port that is free, and end those that are not welcomed in time.
 fn listening(rt: &HostRuntime, alloc: Global) -> Result<Sockets, Unmet> {
     let address = value_of("parse", "127.0.0.1:0".parse::<SocketAddr>())?;
     let sockets = value_of("Sockets::bind", Sockets::bind(rt, alloc, address))?;
@@ -56,25 +53,24 @@ fn expect_ended(sockets: &mut Sockets, socket: u64) -> Result<(), Unmet> {
             _ => return Err(Unmet::Call("read")),
         }
     }
-    Err(Unmet::Claim("a socket that says too little is ended"))
+    Err(Unmet::Claim("a socket that is not welcomed is ended"))
 }
 
-/// A socket that says nothing in its time is ended, and one that says 63 bytes. One that says 64, however slowly, is heard
-/// long after.
-pub(crate) fn a_socket_that_says_too_little_is_ended(
+/// A socket that says nothing in its time is ended, and one that says much. One that is welcomed is heard long after, though it
+/// said nothing.
+pub(crate) fn a_socket_that_is_not_welcomed_is_ended(
     rt: &HostRuntime,
     alloc: Global,
 ) -> Result<(), Unmet> {
     let mut sockets = listening(rt, alloc)?;
-    let (mut slow, slow_socket) = met(rt, &mut sockets)?;
-    let (mut short, short_socket) = met(rt, &mut sockets)?;
+    let (mut welcome, welcome_socket) = met(rt, &mut sockets)?;
+    let (mut long, long_socket) = met(rt, &mut sockets)?;
     let (_silent, silent_socket) = met(rt, &mut sockets)?;
-    say(&mut sockets, &mut slow, slow_socket, HALF.as_slice())?;
-    say(&mut sockets, &mut short, short_socket, SHORT.as_slice())?;
-    say(&mut sockets, &mut slow, slow_socket, HALF.as_slice())?;
+    say(&mut sockets, &mut long, long_socket, WORDS.as_slice())?;
+    sockets.welcome(welcome_socket);
     expect_ended(&mut sockets, silent_socket)?;
-    expect_ended(&mut sockets, short_socket)?;
-    let waits = matches!(round(&mut sockets, slow_socket), Read::Wait);
-    expect("a socket that said enough is not ended", waits)?;
-    say(&mut sockets, &mut slow, slow_socket, b"more")
+    expect_ended(&mut sockets, long_socket)?;
+    let waits = matches!(round(&mut sockets, welcome_socket), Read::Wait);
+    expect("a socket that was welcomed is not ended", waits)?;
+    say(&mut sockets, &mut welcome, welcome_socket, b"more")
 }

@@ -5,7 +5,7 @@ ghost use Rattle.memory_wire.specs.Logs.{told_by};
 
 use crate::watched::Watched;
 use engine::Engine;
-use memory_wire::{Client, MemoryWire, serve_in_memory};
+use memory_wire::{Client, Logged, MemoryWire, serve_in_memory};
 use scenario_parts::{
     CONSUME, MESSAGE, OPENING, PUBLISH, STOPPED, Unmet, answer_len, deliveries_in, expect,
     expect_number, expect_opened_and_acked, joined, new_broker, opening_and_publish, value_of,
@@ -16,6 +16,19 @@ use std::alloc::Global;
 use std::io;
 use std::io::{Read as _, Write as _};
 use std::net::{Net, SocketAddr, TcpStream};
+
+/// How many rounds in vain are enough.
+const PATIENCE: u32 = 64;
+
+/// More messages than are read in the rounds of a scenario.
+const MANY: u64 = 8_000;
+
+/// No bytes.
+const NOTHING: &[u8] = &[];
+
+/// A publish to `orders` under the key `old`, which is routed to no queue.
+const LOST: &[u8] =
+    b"\x01\x00\x01\x00\x00\x00\x12\x00\x3c\x00\x28\x00\x00\x06orders\x03old\x00\xce\x02\x00\x01\x00\x00\x00\x0e\x00\x3c\x00\x00\x00\x00\x00\x00\x00\x00\x00\x02\x00\x00\xce\x03\x00\x01\x00\x00\x00\x02hi\xce";
 
 /// A client that writes these two, of which a read gives at most as much as the first, and that takes all that it is offered.
 fn client(alloc: Global, first: &[u8], second: &[u8]) -> Result<Client, Unmet> {
@@ -59,21 +72,31 @@ pub(crate) fn a_client_is_served_beside_one_that_stops_inside_a_body(
     expect_opened_and_acked(alloc, written.as_slice())
 }
 
-/// One socket, which at its first read has an opening, a consume of `audit` and so many publishes that are routed there.
-fn one_that_publishes_and_consumes(alloc: Global, count: u64) -> Result<MemoryWire, Unmet> {
-    let mut input = joined(alloc, OPENING, CONSUME)?;
+/// An opening, this many times a message, and what is behind them.
+fn words_of(alloc: Global, count: u64, message: &[u8], last: &[u8]) -> Result<Vec<u8>, Unmet> {
+    let mut words = joined(alloc, OPENING, NOTHING)?;
     for _ in 0..count {
-        value_of("extend_from_slice", input.extend_from_slice(MESSAGE))?;
+        value_of("extend_from_slice", words.extend_from_slice(message))?;
     }
-    let mut clients = Vec::new(alloc);
-    let piece = input.len();
-    let client = Client {
+    value_of("extend_from_slice", words.extend_from_slice(last))?;
+    Ok(words)
+}
+
+/// A client that writes this, of which a read gives as much as it has room for.
+fn one_that_writes(input: Vec<u8>) -> Client {
+    Client {
         input,
         read: 0,
-        piece,
+        piece: usize::MAX,
         window: usize::MAX,
-    };
-    value_of("push", clients.push(client))?;
+    }
+}
+
+/// One socket, which publishes so many messages that are routed to `audit`, and then consumes from it.
+fn one_that_publishes_and_consumes(alloc: Global, count: u64) -> Result<MemoryWire, Unmet> {
+    let input = words_of(alloc, count, MESSAGE, CONSUME)?;
+    let mut clients = Vec::new(alloc);
+    value_of("push", clients.push(one_that_writes(input)))?;
     Ok(MemoryWire::new(alloc, clients))
 }
 
@@ -89,14 +112,76 @@ fn deliveries_after_one_more(
     Ok(deliveries_in(written.as_slice()))
 }
 
-/// Of 300 messages for one consumer a round delivers 256, and the next one the others.
+/// Goes on to the first round that delivers something, and tells how many deliveries it makes.
+fn first_deliveries(
+    alloc: Global,
+    server: &mut Server<Engine>,
+    wire: &mut MemoryWire,
+) -> Result<u64, Unmet> {
+    for _ in 0..PATIENCE {
+        let count = deliveries_after_one_more(alloc, server, wire)?;
+        if count > 0 {
+            return Ok(count);
+        }
+    }
+    Ok(0)
+}
+
+/// Of 300 messages that wait for one consumer a round delivers 256, and the next one the others.
 pub(crate) fn a_round_makes_256_of_300_deliveries(alloc: Global) -> Result<(), Unmet> {
     let mut server = new_server(alloc)?;
     let mut wire = one_that_publishes_and_consumes(alloc, 300)?;
-    let first = deliveries_after_one_more(alloc, &mut server, &mut wire)?;
+    let first = first_deliveries(alloc, &mut server, &mut wire)?;
     expect_number("the number of deliveries of one round", first, 256)?;
     let both = deliveries_after_one_more(alloc, &mut server, &mut wire)?;
     expect_number("the number of deliveries of two rounds", both, 300)
+}
+
+/// Three sockets: one consumes from `audit`, one publishes to it without a pause, and one publishes as much to no queue.
+fn one_that_fills_and_one_that_does_not(alloc: Global) -> Result<MemoryWire, Unmet> {
+    let mut clients = Vec::new(alloc);
+    for (count, message, last) in [
+        (0, MESSAGE, CONSUME),
+        (MANY, MESSAGE, NOTHING),
+        (MANY, LOST, NOTHING),
+    ] {
+        let input = words_of(alloc, count, message, last)?;
+        value_of("push", clients.push(one_that_writes(input)))?;
+    }
+    Ok(MemoryWire::new(alloc, clients))
+}
+
+/// The room of a read that gave something to this socket.
+fn room_of(call: &Logged, socket: u64) -> Option<usize> {
+    match call {
+        Logged::Got(name, room, _) if *name == socket => Some(*room),
+        _ => None,
+    }
+}
+
+/// The room of the last read that gave something to this socket, or none.
+fn last_room(wire: &MemoryWire, socket: u64) -> u64 {
+    let mut last = 0;
+    for call in &wire.log.calls {
+        if let Some(room) = room_of(call, socket) {
+            last = room as u64;
+        }
+    }
+    last
+}
+
+/// Where one publishes to a queue that lags behind its consumer, reads of it are offered less and less, and those of
+/// another that does not as much as ever.
+pub(crate) fn one_that_fills_a_queue_is_offered_less(alloc: Global) -> Result<(), Unmet> {
+    let mut server = new_server(alloc)?;
+    let mut wire = one_that_fills_and_one_that_does_not(alloc)?;
+    let is_whole = serve_in_memory(alloc, &mut server, &mut wire, 24);
+    expect("the log is whole", is_whole)?;
+    expect(
+        "the one that fills the queue is offered an eighth or less",
+        last_room(&wire, 1) <= 8_192,
+    )?;
+    expect_number("the room of the other", last_room(&wire, 2), 65_536)
 }
 
 /// A server with sockets of the system.

@@ -53,6 +53,10 @@ impl<W: Wire> Wire for Watched<W> {
         self.sockets.close(socket);
     }
 
+    fn welcome(&mut self, socket: u64) {
+        self.sockets.welcome(socket);
+    }
+
     fn rest(&mut self) {
         self.sockets.rest();
     }

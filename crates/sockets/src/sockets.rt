@@ -12,7 +12,7 @@ use crate::counts::{
     Count, PLACES, Totals, count_accept, count_read, count_write, place_of, totals_at,
 };
 use crate::turns::{Rounds, Voice};
-use crate::watch::{Trial, Watch};
+use crate::watch::Watch;
 use mio::event::Event;
 use mio::net::{TcpListener, TcpStream};
 use mio::{Events, Interest, Poll, Token};
@@ -22,7 +22,7 @@ use std::alloc::Global;
 use std::io::{self, Read as _, Write as _};
 use std::net::{Net, SocketAddr};
 use std::rt::HostRuntime;
-use std::time::Duration;
+use std::time::{Duration, Instant};
 
 /// The token of the listening socket. The others have their names, which are never so great.
 const LISTENER: Token = Token(usize::MAX);
@@ -43,8 +43,8 @@ struct Accepted {
     voice: Voice,
     /// Since which turn a write waits for room, if one does.
     full: Option<u64>,
-    /// What it still owes, if it came not long ago.
-    trial: Option<Trial>,
+    /// By when its connection is to run, if it does not yet.
+    ends: Option<Instant>,
 }
 
 /// The sockets of a server: one that listens, and those that it accepted, named by numbers that are never used again. None of
@@ -62,7 +62,7 @@ pub struct Sockets {
     given: u64,
     /// Whose turn it is to be asked.
     rounds: Rounds,
-    /// Who has been silent for too long.
+    /// Who has taken too long to log in.
     watch: Watch,
     /// Whether a socket may have come.
     voice: Voice,
@@ -89,11 +89,6 @@ fn still_full(event: &Event, full: Option<u64>) -> Option<u64> {
     } else {
         full
     }
-}
-
-/// What a socket owes after so many bytes more.
-fn still_owed(trial: Option<Trial>, count: usize) -> Option<Trial> {
-    trial?.after(count)
 }
 
 /// The socket of this name, where it is still there.
@@ -142,7 +137,7 @@ impl Sockets {
         })
     }
 
-    /// The same sockets. A read of one from which fewer than 64 bytes came in so much time since it was accepted fails.
+    /// The same sockets. A read of one fails that was not welcomed in so much time since it was accepted, whatever it sent.
     pub fn with_patience(mut self, clock: &HostRuntime, patience: Duration) -> Sockets
         ensures { told_by result ≡ told_by self }
     {
@@ -195,7 +190,7 @@ impl Sockets {
             stream,
             voice: Voice::Speaking,
             full: None,
-            trial: self.watch.trial(),
+            ends: self.watch.ends(),
         };
         self.accepted.insert_reserved(accepted);
         self.given += 1;
@@ -257,7 +252,7 @@ impl Sockets {
         Write::Wait
     }
 
-    /// Reads from a socket. One whose time is over is asked once more, and fails where it has nothing.
+    /// Reads from a socket. One whose time is over fails.
     fn read_from(&mut self, socket: u64, buffer: &mut [u8]) -> Read
         ensures failures { (s room : ℕ) → self.new.failures ≡ self.old.failures + fails (read_call s room result buffer.new) }
         ensures counts { self.new.counts ≡ self.old.counts }
@@ -267,18 +262,18 @@ impl Sockets {
         let Some(accepted) = named(&mut self.accepted, socket) else {
             return Read::End;
         };
-        let is_late = self.watch.is_over(accepted.trial);
-        if !is_late && !self.rounds.asks_read(accepted.voice) {
+        if self.watch.is_over(accepted.ends) {
+            return self.failed_read();
+        }
+        if !self.rounds.asks_read(accepted.voice) {
             return Read::Wait;
         }
         let room = buffer.len();
         match read_answer(accepted.stream.read(buffer), room) {
             Read::Got(count) => {
                 accepted.voice = self.rounds.after_read(accepted.voice, count < room);
-                accepted.trial = still_owed(accepted.trial, count);
                 Read::Got(count)
             }
-            Read::Wait if is_late => self.failed_read(),
             Read::Wait => {
                 accepted.voice = self.rounds.silent();
                 Read::Wait
@@ -356,6 +351,12 @@ impl Wire for Sockets {
     fn close(&mut self, socket: u64) {
         if named(&mut self.accepted, socket).is_some() {
             self.accepted.try_remove(place_of(socket));
+        }
+    }
+
+    fn welcome(&mut self, socket: u64) {
+        if let Some(accepted) = named(&mut self.accepted, socket) {
+            accepted.ends = None;
         }
     }
 

@@ -1,45 +1,17 @@
-//! How long a socket may be silent before it logs in.
+//! How long a socket may take to log in.
 
-ghost use Rattle.std.specs.Prelude.{◌≡◌, ◌+◌, None, IfSome};
+ghost use Rattle.std.specs.Prelude.{◌≡◌, None, false};
 
 use std::rt::HostRuntime;
 use std::time::{Duration, Instant};
 
-/// So many bytes a socket owes. An opening has at least 74, from the protocol header to connection.open.
-const LOGIN: u64 = 64;
-
-/// What a socket owes that came not long ago.
-#[derive(Clone, Copy, Drop)]
-pub(crate) struct Trial {
-    /// By when.
-    ends: Instant,
-    /// How many bytes.
-    missing: u64,
-}
-
-/// The clock by which sockets are ended that came and are silent, and what it showed in this round.
+/// The clock by which sockets are ended that came and are not welcomed, and what it showed in this round.
 #[derive(Clone, Copy, Drop)]
 pub(crate) struct Watch {
     /// Without a clock no socket is ended.
     clock: Option<HostRuntime>,
     patience: Duration,
-    now: Option<Instant>,
-}
-
-impl Trial {
-    /// What is owed after so many bytes, or nothing any more.
-    pub(crate) fn after(self, count: usize) -> Option<Trial>
-        ensures { IfSome result (λ t. (t.ends ≡ self.ends) × (self.missing ≡ t.missing + count)) }
-    {
-        let missing = self.missing.checked_sub(count as u64)?;
-        if missing == 0 {
-            return None;
-        }
-        Some(Trial {
-            ends: self.ends,
-            missing,
-        })
-    }
+    time: Option<Instant>,
 }
 
 impl Watch {
@@ -50,7 +22,7 @@ impl Watch {
         Watch {
             clock: None,
             patience: Duration::ZERO,
-            now: None,
+            time: None,
         }
     }
 
@@ -59,35 +31,34 @@ impl Watch {
         Watch {
             clock: Some(clock),
             patience,
-            now: None,
+            time: None,
         }
     }
 
     /// Reads the clock, as is done once a round.
     pub(crate) fn look(&mut self)
-        ensures { self.old.clock ≡ None → self.new.now ≡ None }
+        ensures { self.old.clock ≡ None → self.new.time ≡ None }
     {
-        self.now = match &self.clock {
+        self.time = match &self.clock {
             Some(clock) => Instant::now(clock).ok(),
             None => None,
         };
     }
 
-    /// What a socket owes that came in this round: nothing where the clock tells no time.
-    pub(crate) fn trial(&self) -> Option<Trial>
-        ensures { IfSome result (λ t. t.missing ≡ 64) }
+    /// By when a socket is to be welcomed that came in this round: never where the clock tells no time.
+    pub(crate) fn ends(&self) -> Option<Instant>
+        ensures { self.now.time ≡ None → result ≡ None }
     {
-        let ends = self.now?.checked_add(self.patience)?;
-        Some(Trial {
-            ends,
-            missing: LOGIN,
-        })
+        self.time?.checked_add(self.patience)
     }
 
-    /// Whether the time of a socket is over that still owes something.
-    pub(crate) fn is_over(&self, trial: Option<Trial>) -> bool {
-        match (self.now, trial) {
-            (Some(now), Some(trial)) => now >= trial.ends,
+    /// Whether the time of a socket is over: not where it was welcomed, or the clock tells no time.
+    pub(crate) fn is_over(&self, ends: Option<Instant>) -> bool
+        ensures welcomed { ends ≡ None → result ≡ false }
+        ensures timeless { self.now.time ≡ None → result ≡ false }
+    {
+        match (self.time, ends) {
+            (Some(time), Some(ends)) => time >= ends,
             _ => false,
         }
     }

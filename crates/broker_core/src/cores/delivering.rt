@@ -60,6 +60,11 @@ impl Core {
         }
     }
 
+    /// How many messages came to queues that lag behind those who take from them.
+    pub fn lagged(&self) -> u64 {
+        self.depot.lagged()
+    }
+
     /// The first place at or behind this one whose queue has a message that can be given out.
     pub fn next_ready(&self, from: usize) -> Option<usize>
         ensures { IsNextPicked self.now from result }

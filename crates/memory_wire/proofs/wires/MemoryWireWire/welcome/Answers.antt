@@ -1,0 +1,10 @@
+use Rattle.std.proofs.Common.{refl, arith}
+use Rattle.serving.specs.Wire.{Welcomed}
+use Rattle.memory_wire.specs.Logs.{told_by}
+use Rattle.memory_wire.proofs.Telling.{tells_one}
+use Rattle.memory_wire.proofs.wires.MemoryWireWire.welcome.Goals as goal
+
+pub returns : goal.returns
+returns c =
+    let come = c.args.self.now.come in
+    tells_one (told_by c.args.self.now.log) (told_by c.add.new.self) come come (Welcomed c.args.socket) (c.add.ensures (Welcomed c.args.socket) refl) refl (omega arith) (λ s e. absurd (cc e))

@@ -1,0 +1,98 @@
+//! How much room a read of each slot is offered.
+//!
+//! A round makes 256 deliveries at most, and a consumer takes no more of them than its limit until it is heard again. So where one
+//! round reads thousands of publishes, consumers starve and their queues grow. A connection that fills a queue which lags is offered less
+//! at each of its reads, and any other more, so that rounds are as short as it takes. Nothing is promised of it but the bounds.
+
+ghost use Rattle.std.specs.Prelude.{◌≤◌};
+ghost use Rattle.serving.specs.Story.{IsOffer, read_room};
+
+use std::alloc::{AllocError, Global};
+
+/// The room of a read, at least and at most.
+const LEAST: usize = 16;
+const MOST: usize = 65_536;
+
+/// What a socket is offered at most until its connection runs: no frame of a login is longer.
+const LOGIN: usize = 4_096;
+
+/// What each is offered at most while sockets come, of whom one round accepts one.
+const HURRIED: usize = 1_024;
+
+/// In so many rounds after one that accepted a socket, so that it logs in at once.
+const HURRY: u32 = 16;
+
+/// So many slots have an offer of their own, as many as there are connections.
+const SLOTS: usize = 1_024;
+
+/// The offers, by slot.
+#[derive(Drop)]
+pub(crate) struct Offers {
+    rooms: Vec<usize>,
+    /// In how many rounds yet there is a hurry.
+    hurry: u32,
+}
+
+impl Offers {
+    /// Nobody came.
+    pub(crate) fn new(alloc: Global) -> Result<Offers, AllocError> {
+        Ok(Offers {
+            rooms: vec![in alloc; MOST; SLOTS]?,
+            hurry: 0,
+        })
+    }
+
+    /// One round more.
+    pub(crate) fn pass(&mut self) {
+        self.hurry = self.hurry.saturating_sub(1);
+    }
+
+    /// A socket came, and has this slot.
+    pub(crate) fn begin(&mut self, slot: usize) {
+        self.hurry = HURRY;
+        if slot < self.rooms.len() {
+            self.rooms[slot] = MOST;
+        }
+    }
+
+    /// What a slot is offered by what was read for it so far.
+    fn own(&self, slot: usize) -> usize {
+        if slot < self.rooms.len() {
+            self.rooms[slot]
+        } else {
+            MOST
+        }
+    }
+
+    /// What each is offered at most now, whose connection runs or not yet.
+    fn most(&self, runs: bool) -> usize
+        ensures { result ≤ read_room }
+    {
+        if self.hurry > 0 {
+            HURRIED
+        } else if runs {
+            MOST
+        } else {
+            LOGIN
+        }
+    }
+
+    /// The room that a read for this slot is offered, whose connection runs or not yet.
+    pub(crate) fn room(&self, slot: usize, runs: bool) -> usize
+        ensures { IsOffer result }
+    {
+        self.own(slot).min(self.most(runs)).max(LEAST)
+    }
+
+    /// After a read for this slot, by which messages came to queues that lag or not, it is offered half as much, or a quarter more.
+    pub(crate) fn learn(&mut self, slot: usize, has_filled: bool) {
+        if slot < self.rooms.len() {
+            let room = self.rooms[slot];
+            self.rooms[slot] = if has_filled {
+                (room / 2).max(LEAST)
+            } else {
+                room.saturating_add(room / 4).min(MOST)
+            };
+        }
+    }
+}
