@@ -11,6 +11,7 @@ use std::alloc::{AllocError, Global};
 
 /// The room of a read, at least and at most.
 const LEAST: usize = 16;
+
 const MOST: usize = 65_536;
 
 /// What a socket is offered at most until its connection runs: no frame of a login is longer.
