@@ -97,9 +97,9 @@ const REPLACED: Version = Version {
 /// Files that are replaced between looks.
 #[derive(Drop)]
 struct Replaced {
-    /// The files at the start and at the first looks. From then on they are `REPLACED`.
+    /// The files as they are each time that the definitions are read, first. From then on they are `REPLACED`.
     versions: &'static [Version],
-    /// How often the definitions were read.
+    /// How often the definitions were read, or compared.
     reads: usize,
 }
 
@@ -187,8 +187,9 @@ const WORDS: [&str; 11] = [
     "2",
 ];
 
-/// How often the files are read: at the start, and at each of six looks.
-const READS: u64 = 7;
+/// How often the definitions are read where the first of six looks finds others: at the start, and at each look to compare them with
+/// those in force; and once more where they differ.
+const READS_OF_OTHERS: u64 = 8;
 
 /// How often the client publishes: in the second turn and in each behind it.
 const PUBLISHES: u64 = 13;
@@ -261,11 +262,12 @@ fn answer(alloc: Global, old: u64) -> Result<Vec<u8>, AllocError> {
     Ok(answer)
 }
 
-/// Serves the client over these files, with this stream as standard error, and gives the status. Expects that so many of the
-/// publishes came to `audit`, and those behind them to `stock`.
+/// Serves the client over these files, with this stream as standard error, and gives the status. Expects that the definitions were read
+/// so often, and that so many of the publishes came to `audit`, and those behind them to `stock`.
 fn serve_over<E: Write>(
     alloc: Global,
     versions: &'static [Version],
+    reads: u64,
     old: u64,
     err: &mut E,
 ) -> Result<u8, Unmet> {
@@ -283,7 +285,7 @@ fn serve_over<E: Write>(
         err,
     );
     expect_bytes("the output", out.as_slice(), b"warren: listening on here\n")?;
-    expect_number("how often files were read", files.reads as u64, READS)?;
+    expect_number("how often files were read", files.reads as u64, reads)?;
     let status = ended.status;
     let service = value_of("serve", ended.service.ok_or(()))?;
     expect("the log is whole", service.sockets.log.is_whole)?;
@@ -296,19 +298,32 @@ fn serve_over<E: Write>(
 /// What fits is put in force at the first look, and looks that find it again do nothing.
 pub(crate) fn files_that_are_replaced_are_put_in_force(alloc: Global) -> Result<(), Unmet> {
     let mut err: Vec<u8> = Vec::new(alloc);
-    let status = serve_over(alloc, &[STARTED], 1, &mut err)?;
+    let status = serve_over(alloc, &[STARTED], READS_OF_OTHERS, 1, &mut err)?;
     expect_number("the status", u64::from(status), 0)?;
     expect("nothing is told", err.is_empty())
 }
 
-/// Files that do not fit at four looks, and fit at the fifth.
+/// Files that do not fit at four looks, and fit at the fifth. A look compares the definitions with those in force, then with those that
+/// were refused, and reads them where they differ from both.
 const FITTING_IN_THE_END: &[Version] = &[
     STARTED,
+    // the first look compares them once, and reads them
     BROKEN_OFF,
     BROKEN_OFF,
+    // the second finds what was refused
+    BROKEN_OFF,
+    BROKEN_OFF,
+    // the third and the fourth compare them twice, and read them
+    UNCERTIFIED,
+    UNCERTIFIED,
     UNCERTIFIED,
     WITHOUT_AUDIT,
+    WITHOUT_AUDIT,
+    WITHOUT_AUDIT,
 ];
+
+/// How often the definitions are read then: as above, twice at the fifth look, and once at the sixth.
+const READS_IN_THE_END: u64 = 14;
 
 /// How many publishes come before the fifth look, which is behind the tenth turn.
 const BEFORE_THE_FIFTH: u64 = 9;
@@ -316,7 +331,13 @@ const BEFORE_THE_FIFTH: u64 = 9;
 /// Each look at files that do not fit tells so in one line, and the client is served by what was in force before.
 pub(crate) fn files_that_do_not_fit_are_told_at_each_look(alloc: Global) -> Result<(), Unmet> {
     let mut err: Vec<u8> = Vec::new(alloc);
-    let status = serve_over(alloc, FITTING_IN_THE_END, BEFORE_THE_FIFTH, &mut err)?;
+    let status = serve_over(
+        alloc,
+        FITTING_IN_THE_END,
+        READS_IN_THE_END,
+        BEFORE_THE_FIFTH,
+        &mut err,
+    )?;
     expect_number("the status", u64::from(status), 0)?;
     expect_bytes(
         "what is told",
@@ -327,6 +348,12 @@ pub(crate) fn files_that_do_not_fit_are_told_at_each_look(alloc: Global) -> Resu
 
 /// Where such a line is not taken the client is served all the same, and the status is 4.
 pub(crate) fn looks_whose_lines_are_not_taken_have_status_four(alloc: Global) -> Result<(), Unmet> {
-    let status = serve_over(alloc, FITTING_IN_THE_END, BEFORE_THE_FIFTH, &mut Closed)?;
+    let status = serve_over(
+        alloc,
+        FITTING_IN_THE_END,
+        READS_IN_THE_END,
+        BEFORE_THE_FIFTH,
+        &mut Closed,
+    )?;
     expect_number("the status", u64::from(status), 4)
 }
