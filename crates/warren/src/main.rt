@@ -29,21 +29,23 @@ fn refuse<W: Write>(err: &mut W, error: &io::Error) -> u8 {
     3
 }
 
+/// Does what the words ask for, and gives the status.
+fn run<O: Write, E: Write>(rt: &HostRuntime, words: &[String], out: &mut O, err: &mut E) -> u8 {
+    let mut files = Disk { rt };
+    let mut system = System { rt };
+    let ended = program_with_sockets(rt.alloc(), words, &mut system, &mut files, out, err);
+    let status = ended.status;
+    drop(ended);
+    status
+}
+
 fn main(rt: HostRuntime) -> ExitCode {
     let mut out = io::writer(&rt);
     let error_stream = rt.stderr();
     let mut err = io::writer(&error_stream);
-    let words = match words(&rt) {
-        Ok(words) => words,
-        Err(error) => return ExitCode::from(refuse(&mut err, &error)),
+    let status = match words(&rt) {
+        Ok(words) => run(&rt, words.as_slice(), &mut out, &mut err),
+        Err(error) => refuse(&mut err, &error),
     };
-    let ended = program_with_sockets(
-        rt.alloc(),
-        words.as_slice(),
-        &mut System { rt: &rt },
-        &mut Disk { rt: &rt },
-        &mut out,
-        &mut err,
-    );
-    ExitCode::from(ended.status)
+    ExitCode::from(status)
 }
