@@ -62,6 +62,15 @@ def stars(first, count):
     return ".".join(["#", first] + ["*"] * count)
 
 
+def topic_beside(*queues):
+    """A topology with the topic exchange `x` and these queues."""
+    topology = Topology()
+    topology.exchange("x", "topic")
+    for name in queues:
+        topology.queue(name)
+    return topology
+
+
 # ---- each family: a definitions file and its guarantees
 
 
@@ -77,10 +86,7 @@ def chain_of_own_keys():
 
 def many_letters():
     """34,660 states of 63 patterns, and 1,893 letters."""
-    topology = Topology()
-    topology.exchange("x", "topic")
-    for name in ("q", "z"):
-        topology.queue(name)
+    topology = topic_beside("q", "z")
     topology.bind("x", stars("a", 14), "q")
     for pattern in range(61):
         topology.bind("x", ".".join(word(pattern * 31 + at) for at in range(31)), "q")
@@ -89,10 +95,7 @@ def many_letters():
 
 def many_certificates():
     """24 guarantees, each with a certificate of 59,050 states."""
-    topology = Topology()
-    topology.exchange("x", "topic")
-    for name in ["q"] + [f"z{number}" for number in range(24)]:
-        topology.queue(name)
+    topology = topic_beside("q", *(f"z{number}" for number in range(24)))
     for first in ("a", "b"):
         topology.bind("x", stars(first, 9), "q")
     return topology.file(), [guarantee("never", "#", f"z{number}") for number in range(24)]
@@ -100,10 +103,7 @@ def many_certificates():
 
 def letters_that_all_lead():
     """64,000 states, from each of which each of 64 letters leads elsewhere."""
-    topology = Topology()
-    topology.exchange("x", "topic")
-    for name in ("q", "z"):
-        topology.queue(name)
+    topology = topic_beside("q", "z")
     topology.bind("x", stars("a", 9), "q")
     for pattern in range(61):
         topology.bind("x", f"#.{word(pattern)}", "q")
@@ -131,9 +131,7 @@ def broken_at_the_end():
 
 def undecided_by_states():
     """A guarantee of which neither all patterns nor a slice of them is decided: both come to more than 65,536 states."""
-    topology = Topology()
-    topology.exchange("x", "topic")
-    topology.queue("q")
+    topology = topic_beside("q")
     topology.bind("x", "#", "q")
     for first in range(62):
         topology.bind("x", stars(word(first), 15), "q")
