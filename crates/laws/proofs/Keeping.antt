@@ -12,15 +12,16 @@ use Rattle.model.specs.Guarantee.{Covers}
 use Rattle.model.specs.Headline.{IsSound}
 use Rattle.model.specs.Message.{Message}
 use Rattle.model.specs.Reloading.{NothingStands, by_entry, stood_now}
-use Rattle.model.specs.Run.{AreCounted}
+use Rattle.model.specs.History.{Occurrence, Of_event, Of_reload, History, reloads_of}
+use Rattle.model.specs.Run.{AreCounted, empty_state}
 use Rattle.model.specs.State.{Config, State, Step}
-use Rattle.model.specs.Tracing.{by_publish, IsKept, AreKept}
+use Rattle.model.specs.Tracing.{by_publish, IsKept, AreKept, AreSafe, NoneStood}
 use Rattle.model.specs.declared.topologies.DeclaredQueue.{DeclaredQueue}
 use Rattle.model.specs.declared.messages.Entry.{Entry}
 use Rattle.model.specs.declared.events.Send.{Send}
 use Rattle.model.specs.declared.events.Event.{Event}
 use Rattle.model.specs.declared.notes.Note.{Note}
-use Rattle.laws.specs.Tracing.{MessagesStayKept, ReloadsKeep}
+use Rattle.laws.specs.Tracing.{KeptAreSafe, MessagesStayKept, NoEventMarks, ReloadsKeep}
 use Rattle.laws.proofs.Dying.{IsLetter}
 use Rattle.laws.proofs.Entering.{picked}
 use Rattle.laws.proofs.Once.{key_is_short, routed_is_there}
@@ -99,6 +100,46 @@ stay_kept = record {
 -- Each step leaves messages where they may stand.
 pub step_kept : (f : Config) (old new : State) (e : Event) (sends : List Send) (notes : List Note) → IsSound f → IsSaid e → AreCounted old.broker → AreKept f old.broker → Step f old e sends notes new → AreKept f new.broker
 step_kept f old new e sends notes sound said counted kept s = kept_on f old.broker new.broker e sends notes sound said counted kept (step_came f old new e sends notes s)
+
+-- ---- no event marks a message
+
+unmarked : (t : Topology) (old new : Broker) (e : Event) (sends : List Send) (notes : List Note) (q : Text) (x : Entry) → NoneStood old → Came t old new e sends notes q x → x.message.stood ≡ false
+unmarked t old new e sends notes q x none (stood o) = o.same.stood ∙ none q o.entry o.there
+unmarked t old new e sends notes q x none (by_letter l) = ap (λ (z : Entry). z.message.stood) l.is
+unmarked t old new e sends notes q x none (published p i is) = ap (λ (z : Entry). z.message.stood) is
+
+pub no_event_marks : NoEventMarks
+no_event_marks = record {
+  empty = λ q e i. absurd i;
+  acts = λ t old new e sends notes none a q x i. unmarked t old new e sends notes q x none (came t old new sends notes e a q x i);
+}
+
+-- so no step does
+step_unmarked : (f : Config) (old new : State) (e : Event) (sends : List Send) (notes : List Note) → NoneStood old.broker → Step f old e sends notes new → NoneStood new.broker
+step_unmarked f old new e sends notes none s q x i = unmarked f.topology old.broker new.broker e sends notes q x none (step_came f old new e sends notes s q x i)
+
+-- and nothing that happens without a reload, under what was in force at first
+record Unmarked (f last : Config) (new : State) : Type 0 where
+  none : NoneStood new.broker
+  same : last ≡ f
+
+unmarked_over : (f last : Config) (os : List Occurrence) (old new : State) → reloads_of os ≡ [] → NoneStood old.broker → History f old os last new → Unmarked f last new
+unmarked_over f last [] old new no none (is, s) = record { none = subst (λ (z : State). NoneStood z.broker) (sym s) none; same = is }
+unmarked_over f last (Of_event h ∷ os) old new no none (is, s, step, rest) =
+    let before : NoneStood h.before.broker = subst (λ (z : State). NoneStood z.broker) (sym s) none in
+    let u = unmarked_over h.config last os h.after new no (step_unmarked h.config h.before h.after h.event h.sends h.notes before step) rest in
+    record { none = u.none; same = u.same ∙ is }
+unmarked_over f last (Of_reload r ∷ os) old new no none h = absurd (cc)
+
+pub kept_are_safe : KeptAreSafe
+kept_are_safe f b kept none q e i g is_in never covers =
+    let at = (kept.each q e i).safe g is_in never covers in
+    (at.1 (none q e i), at.0)
+
+pub safe_over : (f last : Config) (os : List Occurrence) (new : State) → History f empty_state os last new → AreKept last new.broker → reloads_of os ≡ [] → AreSafe f.topology f.guarantees new.broker
+safe_over f last os new history kept no =
+    let u = unmarked_over f last os empty_state new no no_event_marks.empty history in
+    kept_are_safe f new.broker (subst (λ (g : Config). AreKept g new.broker) u.same kept) u.none
 
 -- ---- a reload
 

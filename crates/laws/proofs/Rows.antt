@@ -1,5 +1,5 @@
 -- The worked examples.
-use Rattle.std.proofs.Common.{◌≡◌, ◌≤◌, ℕ, suc, ◌+◌, ◌-◌, Bool, true, false, List, [], ◌∷◌, ◌++◌, refl, sym, ap, ◌∙◌, arith, get_or, drop, lit≤, inl, inr, length, map, None}
+use Rattle.std.proofs.Common.{◌≡◌, ◌≤◌, ℕ, suc, ◌+◌, ◌-◌, Bool, true, false, List, [], ◌∷◌, ◌++◌, refl, sym, ap, subst, ◌∙◌, arith, get_or, drop, lit≤, inl, inr, length, map, None}
 use Rattle.std.specs.Prelude.{codes, decimal, filter_map, if◌then◌else◌}
 use Rattle.std.specs.Str.{bytes_eq}
 use Rattle.std.proofs.lemmas.Bool.{false≢true}
@@ -10,14 +10,14 @@ use Rattle.model.specs.Frames.{Frame, frame_bytes, IsFrame, Begins}
 use Rattle.model.specs.Guarantee.{CoversKey}
 use Rattle.model.specs.Spelling.{method_frame, spelling}
 use Rattle.model.specs.Step.{consume_sends, content_or_none, return_of, returned_notes}
-use Rattle.model.specs.Routing.{Routes, Picks, none as none_picked}
+use Rattle.model.specs.Routing.{Routes, Picks, none as none_picked, default, here, routed}
 use Rattle.model.specs.Topology.{Topology}
 use Rattle.model.specs.Consuming.{is_in_use, server_tag, first_free}
 use Rattle.model.specs.Broker.{Consumer, Broker}
-use Rattle.model.specs.State.{State}
+use Rattle.model.specs.State.{Config, State}
 use Rattle.model.specs.Run.{Stays}
-use Rattle.model.specs.Reloading.{by_entry, stood_now}
-use Rattle.model.specs.History.{Of_reload, IsDecided, StaysOver}
+use Rattle.model.specs.Reloading.{IsObstacle, by_entry, stood_now}
+use Rattle.model.specs.History.{Of_reload, IsDecided, IsRefused, StaysOver}
 use Rattle.model.specs.Acks.{Ack, acks_in, HasAcksOf, IsReading, EnteredOnce, ack_for}
 use Rattle.model.specs.Allowed.{AreAllowed}
 use Rattle.model.specs.Causes.{HaveOrigins, DiesAt}
@@ -27,10 +27,12 @@ use Rattle.model.specs.Contents.{HasSource, given_out, sent_back, HaveSources}
 use Rattle.model.specs.declared.notes.Note.{Note}
 use Rattle.model.specs.declared.notes.Note.TheVariants.{Entered, Left, Reloaded, ReloadRefused}
 use Rattle.model.specs.declared.messages.Entry.{Entry}
+use Rattle.model.specs.declared.obstacles.Obstacle.{Obstacle}
+use Rattle.model.specs.declared.obstacles.Obstacle.TheVariants.{InUse, Breaks}
 use Rattle.model.specs.declared.notes.Way.TheVariants.{Publish, Dead}
 use Rattle.model.specs.declared.notes.Cause.TheVariants.{Acked, Rejected}
 use Rattle.model.specs.declared.methods.Method.TheVariants.{ConfirmSelectOk, BasicAck}
-use Rattle.laws.specs.Rows.{first_published, first_sent, no_content, WordsOfKeys, FirstConsumer, RefusedConsumes, FullQueues, FirstInput, FirstOutput, BadEnd, TooLargeContent, HeadlineRefuses, select_ok, first_ack, multiple_ack, first_entry, with_entries, forbids, event_of_notes, one_event, reload_of_none, vanishing, bad_end, wanted, first_acked, notes_without_entry, consumer_under, consuming_under}
+use Rattle.laws.specs.Rows.{first_published, first_sent, no_content, WordsOfKeys, FirstConsumer, RefusedConsumes, FullQueues, FirstInput, FirstOutput, BadEnd, TooLargeContent, HeadlineRefuses, select_ok, first_ack, multiple_ack, first_entry, with_entries, forbids, event_of_notes, one_event, reload_of_none, refused_reload, with_audit, under, audit_to_bin, bin, into_bin, reload_into_bin, somebody, vanishing, bad_end, wanted, first_acked, notes_without_entry, consumer_under, consuming_under}
 use Rattle.laws.proofs.Reading.{reading_apart, size_at, size_is, rest_is}
 
 pub words_of_keys : WordsOfKeys
@@ -188,6 +190,47 @@ stranded_by_reload : IsDecided (reload_of_none (with_entries (first_entry ∷ []
 stranded_by_reload (inl done) = done.nothing.none_stranded (codes "audit") (record { was = inl refl; gone = λ i. i; in_use = by_entry first_entry (inl refl) })
 stranded_by_reload (inr refused) = let other : Reloaded ∷ [] ≡ ReloadRefused refused.obstacle ∷ [] = refused.noted in cc
 
+-- for what it was refused
+refused_for : List Note → Obstacle
+refused_for (ReloadRefused obstacle ∷ notes) = obstacle
+refused_for notes = InUse []
+
+-- a refusal is for the obstacle that was noted
+stands_so : (offered in_force : Config) (state : State) (obstacle : Obstacle) → IsRefused (refused_reload offered state obstacle in_force) → IsObstacle with_audit.topology offered state.broker obstacle
+stands_so offered in_force state obstacle refused = subst (IsObstacle with_audit.topology offered state.broker) (sym (ap refused_for refused.noted)) refused.stands
+
+-- the queue is not gone
+refused_for_nothing : IsDecided (refused_reload with_audit (with_entries []) (InUse (codes "audit")) with_audit) → ⊥
+refused_for_nothing (inl done) = let other : ReloadRefused (InUse (codes "audit")) ∷ [] ≡ Reloaded ∷ [] = done.noted in cc
+refused_for_nothing (inr refused) = let first = stands_so with_audit with_audit (with_entries []) (InUse (codes "audit")) refused in first.stranded.gone (inl refl)
+
+-- the queue is gone, and is looked at first
+refused_for_the_second : IsDecided (refused_reload (under []) (with_entries (first_entry ∷ [])) (Breaks (codes "audit") (codes "new") 1) with_audit) → ⊥
+refused_for_the_second (inl done) = let other : ReloadRefused (Breaks (codes "audit") (codes "new") 1) ∷ [] ≡ Reloaded ∷ [] = done.noted in cc
+refused_for_the_second (inr refused) =
+    let danger = stands_so (under []) with_audit (with_entries (first_entry ∷ [])) (Breaks (codes "audit") (codes "new") 1) refused in
+    danger.0 (codes "audit") (record { was = inl refl; gone = λ i. i; in_use = by_entry first_entry (inl refl) })
+
+-- what is in force has a user more
+refused_with_users : IsDecided (refused_reload (under []) (with_entries (first_entry ∷ [])) (InUse (codes "audit")) (record with_audit { users = somebody ∷ [] })) → ⊥
+refused_with_users (inl done) = let other : ReloadRefused (InUse (codes "audit")) ∷ [] ≡ Reloaded ∷ [] = done.noted in cc
+refused_with_users (inr refused) = let more : 1 ≡ 0 = ap (λ (f : Config). length f.users) refused.in_force in zero_is_not_one (sym more)
+
+-- the message may come to the queue by one death
+done_beside_a_danger : IsDecided reload_into_bin → ⊥
+done_beside_a_danger (inl done) =
+    done.nothing.none_endangered forbids (codes "audit") first_entry (0, lit≤ tt, refl) (inl refl) (inl refl) (record {
+      never = refl;
+      covers = (refl, record { pattern = word none; kept_in = λ e i m. i });
+      later = record {
+        last = audit_to_bin;
+        exchange = [];
+        dies = record { is_queue = (0, lit≤ tt, refl); is_named = refl; dead = refl };
+        comes = routed ([], here, default bin (1, lit≤ tt, refl) refl refl);
+      };
+    })
+done_beside_a_danger (inr refused) = let other : Reloaded ∷ [] ≡ ReloadRefused refused.obstacle ∷ [] = refused.noted in cc
+
 pub headline_refuses : HeadlineRefuses
 headline_refuses = record {
   output_without_ack = no_ack_there;
@@ -207,6 +250,10 @@ headline_refuses = record {
   content_of_no_publish = no_source;
   reload_loses_one = lost_by_reload;
   reload_strands_one = stranded_by_reload;
+  reload_refused_for_nothing = refused_for_nothing;
+  reload_refused_for_the_second = refused_for_the_second;
+  reload_refused_with_users = refused_with_users;
+  reload_beside_a_danger = done_beside_a_danger;
   two_letters_of_one = two_of_one;
 }
 

@@ -1,10 +1,16 @@
--- Outside Running a publish and one whose content is too large have the same answer: no phase looks at what is published.
-use Rattle.std.proofs.Common.{◌≡◌, ℕ, List, Bool, true, false, refl, ◌∙◌, sym}
-use Rattle.std.specs.Prelude.{MatchBool}
+-- Outside Running, and on a channel that is not open, a publish and one whose content is too large have the same answer: no phase looks at what is published.
+use Rattle.std.proofs.Common.{◌≡◌, ◌⊎◌, ℕ, List, Bool, true, false, refl, ◌∙◌, sym, subst, inl, inr, Option, Some, None}
+use Rattle.std.specs.Prelude.{MatchBool, ◌==◌, nat_lt, if◌then◌else◌}
 use Rattle.std.proofs.lemmas.Bool.{false≢true}
 use Rattle.model.specs.Phases.{Session, Move, is_running}
 use Rattle.model.specs.Opening.{LogsIn, MovesInOpening, IsAnswered, opening_move}
-use Rattle.model.specs.State.{AnswersBy, OfCommand, OfLarge}
+use Rattle.model.specs.State.{Config, State, AnswersBy, OfCommand, OfLarge}
+use Rattle.model.specs.Topology.{Topology}
+use Rattle.model.specs.Broker.{Broker, Channel, Connection}
+use Rattle.model.specs.Step.{Refusal, Of_connection, Decides, OnConnection, OnLarge, refusal, refusal_of_large}
+use Rattle.model.specs.declared.contents.Content.{Content}
+use Rattle.model.specs.declared.events.Send.{Send}
+use Rattle.model.specs.declared.notes.Note.{Note}
 use Rattle.model.specs.Commands.{no_publish}
 use Rattle.model.specs.declared.messages.User.{User}
 use Rattle.model.specs.declared.methods.Publish.{Publish}
@@ -53,18 +59,52 @@ answered_alike users c h s move a b phase.Running m = opened_alike users c h s m
 answered_alike users c h s move a b phase.Closing m = m
 answered_alike users c h s move a b phase.Over m = opened_alike users c h s move a b m
 
-pub unseen : UnkeptIsUnseen
-unseen f old c h p content sends notes new outside = by (old.session c).phase outside
-  where
-    answers : (q : Phase) (a b : Publish) → AnswersBy f.users old q c h (BasicPublish a) sends notes new → AnswersBy f.users old q c h (BasicPublish b) sends notes new
-    answers q a b x = record { move = x.move; answered = answered_alike f.users c h (old.session c) x.move a b q x.answered; moves = x.moves }
+-- ---- on a channel that is not open
 
-    by : (q : Phase) → is_running q ≡ false
-        → (OfCommand f old q c h (BasicPublish p) content sends notes new → OfLarge f old q c h sends notes new) × (OfLarge f old q c h sends notes new → OfCommand f old q c h (BasicPublish p) content sends notes new)
-    by phase.Header e = (answers phase.Header p no_publish, answers phase.Header no_publish p)
-    by phase.Start e = (answers phase.Start p no_publish, answers phase.Start no_publish p)
-    by phase.Tune e = (answers phase.Tune p no_publish, answers phase.Tune no_publish p)
-    by phase.Open e = (answers phase.Open p no_publish, answers phase.Open no_publish p)
-    by phase.Running e = absurd (false≢true (sym e))
-    by phase.Closing e = (answers phase.Closing p no_publish, answers phase.Closing no_publish p)
-    by phase.Over e = (answers phase.Over p no_publish, answers phase.Over no_publish p)
+refused_alike : (z l : Bool) → (if z then Some (Of_connection 503) else if l then Some (Of_connection 504) else Some (Of_connection 504)) ≡ Some (if z then Of_connection 503 else if l then Of_connection 504 else Of_connection 504)
+refused_alike true l = refl
+refused_alike false true = refl
+refused_alike false false = refl
+
+module _ (t : Topology) (old new : Broker) (c h : ℕ) (p : Publish) (content : Option Content) (sends : List Send) (notes : List Note) (shut : old.channel c h ≡ None) where
+  -- both are refused alike
+  refused : (conn : Connection) → refusal t old conn h (BasicPublish p) (old.channel c h) ≡ Some (refusal_of_large conn h (old.channel c h))
+  refused conn = subst (λ (ch : Option Channel). refusal t old conn h (BasicPublish p) ch ≡ Some (refusal_of_large conn h ch)) (sym shut) (refused_alike (h == 0) (nat_lt conn.channel_max h))
+
+  shut_to : (o : Option Connection) → OnConnection t old c h (BasicPublish p) content sends notes new o → OnLarge old c h sends notes new o
+  shut_to None d = d
+  shut_to (Some conn) d = subst (λ (r : Option Refusal). Decides t old c h (BasicPublish p) content r sends notes new) (refused conn) d
+
+  shut_from : (o : Option Connection) → OnLarge old c h sends notes new o → OnConnection t old c h (BasicPublish p) content sends notes new o
+  shut_from None d = d
+  shut_from (Some conn) d = subst (λ (r : Option Refusal). Decides t old c h (BasicPublish p) content r sends notes new) (sym (refused conn)) d
+
+-- ---- all phases
+
+module _ (f : Config) (old new : State) (c h : ℕ) (p : Publish) (content : Option Content) (sends : List Send) (notes : List Note) where
+  abbrev Alike : Phase → Type 0
+  Alike q =
+      (OfCommand f old q c h (BasicPublish p) content sends notes new → OfLarge f old q c h sends notes new)
+      × (OfLarge f old q c h sends notes new → OfCommand f old q c h (BasicPublish p) content sends notes new)
+
+  answers : (q : Phase) (a b : Publish) → AnswersBy f.users old q c h (BasicPublish a) sends notes new → AnswersBy f.users old q c h (BasicPublish b) sends notes new
+  answers q a b x = record { move = x.move; answered = answered_alike f.users c h (old.session c) x.move a b q x.answered; moves = x.moves }
+
+  running_alike : old.broker.channel c h ≡ None → Alike phase.Running
+  running_alike shut = (
+    λ s. record { acts = shut_to f.topology old.broker new.broker c h p content sends notes shut (old.broker.connection c) s.acts; session = s.session },
+    λ s. record { acts = shut_from f.topology old.broker new.broker c h p content sends notes shut (old.broker.connection c) s.acts; session = s.session },
+  )
+
+  by : (q : Phase) → (is_running q ≡ false) ⊎ (old.broker.channel c h ≡ None) → Alike q
+  by phase.Header e = (answers phase.Header p no_publish, answers phase.Header no_publish p)
+  by phase.Start e = (answers phase.Start p no_publish, answers phase.Start no_publish p)
+  by phase.Tune e = (answers phase.Tune p no_publish, answers phase.Tune no_publish p)
+  by phase.Open e = (answers phase.Open p no_publish, answers phase.Open no_publish p)
+  by phase.Running (inl e) = absurd (false≢true (sym e))
+  by phase.Running (inr shut) = running_alike shut
+  by phase.Closing e = (answers phase.Closing p no_publish, answers phase.Closing no_publish p)
+  by phase.Over e = (answers phase.Over p no_publish, answers phase.Over no_publish p)
+
+pub unseen : UnkeptIsUnseen
+unseen f old c h p content sends notes new either = by f old new c h p content sends notes (old.session c).phase either

@@ -22,6 +22,7 @@ use Rattle.model.specs.declared.notes.Note.{Note}
 use Rattle.laws.specs.Promises.{ack_sent, nack_sent}
 use Rattle.laws.specs.Accounts.{Lasts}
 use Rattle.laws.specs.Delivery.{TurnsConfirm, HeadlineHolds}
+use Rattle.laws.specs.Reloading.{KeepsOn}
 use Rattle.laws.proofs.Histories.{ToldOver, Lasting, histories_keep, lasting, decided_each, sourced_over, gives_in_order, acks_over, nacks_over, over_plays}
 use Rattle.laws.proofs.Counts.{all-append, all_each, filter_all}
 use Rattle.laws.proofs.Reading.{sent_acks, frames_each}
@@ -29,7 +30,7 @@ use Rattle.laws.proofs.Plays.{IsPut, IsTold, Told, said_each, sound_each, told_t
 use Rattle.laws.proofs.Speaking.{IsCommandSend, AreCommandSends}
 use Rattle.laws.proofs.Spoken.{sent_to, is_spoken, own_sends, puts_sends, settled_silent}
 use Rattle.laws.proofs.View.{IsAnswerAtMost, goes, acted, acted_commands}
-use Rattle.laws.proofs.Keeping.{stay_kept}
+use Rattle.laws.proofs.Keeping.{stay_kept, safe_over}
 use Rattle.laws.proofs.Never.{run_keeps}
 use Rattle.laws.proofs.Acks.{run_acks}
 use Rattle.laws.proofs.Nacks.{run_nacks, sent_nacks}
@@ -195,11 +196,12 @@ pump_keeps old new hs sound consistent pumps = told_keeps old new hs sound consi
 
 -- of what is a history, and spoke to each connection as its phase says
 pub promises_hold : (f : Config) (os : List Occurrence) (w : World) (seen : Seen)
-    → IsSound f → ToldOver (new_world f) os w → ((c : ℕ) → AreCommandSends (sent_to c (events_of os)) ⊎ (sent_to c (events_of os) ≡ send.Greeting c ∷ [])) → Shows os w seen → KeepsPromises os w.state.broker seen.connections
+    → IsSound f → ToldOver (new_world f) os w → ((c : ℕ) → AreCommandSends (sent_to c (events_of os)) ⊎ (sent_to c (events_of os) ≡ send.Greeting c ∷ [])) → Shows os w seen → KeepsPromises f os w.state.broker seen.connections
 promises_hold f os w seen sound told spoken shows =
     record {
-      events = (histories_keep f w.config os empty_state w.state sound told.offered (said_each hs told.each) (record { counted = λ n q lt. refl; kept = stay_kept.empty f }) told.history).kept;
+      events = keeps_on.kept;
       reloads = decided_each f w.config os empty_state w.state told.history;
+      safe = safe_over f w.config os w.state told.history keeps_on.begun.kept;
       agreed = lasts.agreed;
       present = lasts.present;
       logged_in = all_each Lasts _ (λ h l. l.logged_in) hs lasts.events;
@@ -216,6 +218,9 @@ promises_hold f os w seen sound told spoken shows =
   where
     hs : List Happening
     hs = events_of os
+
+    keeps_on : KeepsOn empty_state os w.config w.state
+    keeps_on = histories_keep f w.config os empty_state w.state sound told.offered (said_each hs told.each) (record { counted = λ n q lt. refl; kept = stay_kept.empty f }) told.history
 
     -- what is seen of a connection is all that was put out for it
     output : (i : ℕ) (one : Shown) → slice_get seen.connections i ≡ Some one → one.output ≡ put_out (i + 1) hs

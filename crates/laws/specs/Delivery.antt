@@ -31,4 +31,4 @@ TurnsConfirm = (old new : World) (c : ℕ) (hs : List Happening) → Turns old c
 -- Whatever arrives, the headline holds of what happened and of what was seen, where what each reload offers is sound.
 abbrev pub HeadlineHolds : Config → Type 0
 HeadlineHolds f = (arrivals : List (Arrival Config)) (os : List Occurrence) (w : World) (seen : Seen)
-    → IsSound f → AreOffered arrivals → Plays (new_world f) arrivals os w → Shows os w seen → KeepsPromises os w.state.broker seen.connections
+    → IsSound f → AreOffered arrivals → Plays (new_world f) arrivals os w → Shows os w seen → KeepsPromises f os w.state.broker seen.connections

@@ -38,7 +38,10 @@ use Rattle.model.specs.declared.topologies.Mode.TheVariants.{Reaches, Never}
 use Rattle.model.specs.declared.events.Command.TheVariants.{TooLarge}
 use Rattle.model.specs.declared.methods.Method.TheVariants.{ConfirmSelect, BasicPublish}
 use Rattle.model.specs.declared.notes.Note.{Note}
-use Rattle.model.specs.declared.notes.Note.TheVariants.{Published, Entered, Confirmed, Left, Reloaded}
+use Rattle.model.specs.declared.notes.Note.TheVariants.{Published, Entered, Confirmed, Left, Reloaded, ReloadRefused}
+use Rattle.model.specs.declared.obstacles.Obstacle.{Obstacle}
+use Rattle.model.specs.declared.obstacles.Obstacle.TheVariants.{InUse, Breaks}
+use Rattle.model.specs.declared.messages.User.{User}
 use Rattle.model.specs.declared.notes.Answer.TheVariants.{Ack}
 
 -- ---- words of keys
@@ -173,6 +176,30 @@ with_audit = record (under []) { topology = record { exchanges = []; queues = re
 abbrev pub reload_of_none : State → State → Reload
 reload_of_none old new = record { config = with_audit; offered = under []; before = old; notes = Reloaded ∷ []; after = new; in_force = under [] }
 
+-- one that is refused for this, after which this is in force
+abbrev pub refused_reload : Config → State → Obstacle → Config → Reload
+refused_reload offered state obstacle in_force = record { config = with_audit; offered = offered; before = state; notes = ReloadRefused obstacle ∷ []; after = state; in_force = in_force }
+
+-- the queue `audit`, whose messages die into `bin` by the default exchange
+abbrev pub audit_to_bin : DeclaredQueue
+audit_to_bin = record { name = codes "audit"; limit = None; byte_limit = None; dead_letter_exchange = Some []; dead_letter_key = Some (codes "bin") }
+
+-- the queue `bin`
+abbrev pub bin : DeclaredQueue
+bin = record { name = codes "bin"; limit = None; byte_limit = None; dead_letter_exchange = None; dead_letter_key = None }
+
+-- both, where what is sent to `orders` under `new` must not come to `bin`
+abbrev pub into_bin : Config
+into_bin = record (under (forbids ∷ [])) { topology = record { exchanges = []; queues = audit_to_bin ∷ bin ∷ []; bindings = [] } }
+
+-- a reload by which that is in force, while such a message waits in `audit`
+abbrev pub reload_into_bin : Reload
+reload_into_bin = record { config = with_audit; offered = into_bin; before = with_entries (first_entry ∷ []); notes = Reloaded ∷ []; after = with_entries (stood_now first_entry ∷ []); in_force = into_bin }
+
+-- a user
+abbrev pub somebody : User
+somebody = record { name = codes "bob"; hash = [] }
+
 -- Each promise of the headline fails where it should: an output, notes or events that break it.
 pub record HeadlineRefuses : Type 0 where
   -- an output from which the ack of an acked publish is missing
@@ -209,6 +236,14 @@ pub record HeadlineRefuses : Type 0 where
   pub reload_loses_one : StaysOver (with_entries (first_entry ∷ [])).broker (Of_reload (reload_of_none (with_entries (first_entry ∷ [])) (with_entries [])) ∷ []) (with_entries []).broker → ⊥
   -- one that is done although a queue in use is gone
   pub reload_strands_one : IsDecided (reload_of_none (with_entries (first_entry ∷ [])) (with_entries (stood_now first_entry ∷ []))) → ⊥
+  -- a reload that is refused though nothing stands against it
+  pub reload_refused_for_nothing : IsDecided (refused_reload with_audit (with_entries []) (InUse (codes "audit")) with_audit) → ⊥
+  -- one that is refused for what could come to be forbidden, while a queue in use is gone
+  pub reload_refused_for_the_second : IsDecided (refused_reload (under []) (with_entries (first_entry ∷ [])) (Breaks (codes "audit") (codes "new") 1) with_audit) → ⊥
+  -- one that is refused, and puts other users in force
+  pub reload_refused_with_users : IsDecided (refused_reload (under []) (with_entries (first_entry ∷ [])) (InUse (codes "audit")) (record with_audit { users = somebody ∷ [] })) → ⊥
+  -- one that is done though a message could come where it is forbidden
+  pub reload_beside_a_danger : IsDecided reload_into_bin → ⊥
   -- two dead letters of one message, in one queue
   pub two_letters_of_one : DieOnce (event_of_notes [] (with_entries (first_entry ∷ [])) (Left 1 (codes "audit") Rejected ∷ Entered 1 (codes "bin") Dead ∷ Entered 1 (codes "bin") Dead ∷ []) (with_entries [])) → ⊥
 

@@ -6,7 +6,7 @@ use Rattle.model.specs.Step.{Acts}
 use Rattle.model.specs.State.{Config}
 use Rattle.model.specs.Run.{AreCounted, empty_broker}
 use Rattle.model.specs.Arrivals.{IsSaid}
-use Rattle.model.specs.Tracing.{AreTraced, AreSafe, AreKept}
+use Rattle.model.specs.Tracing.{AreTraced, AreSafe, AreKept, NoneStood}
 use Rattle.model.specs.Reloading.{NothingStands, with_all_stood}
 use Rattle.model.specs.Headline.{IsSound}
 use Rattle.model.specs.declared.events.Send.{Send}
@@ -30,3 +30,12 @@ pub record MessagesStayKept : Type 0 where
 -- A reload that nothing stands against leaves it so under what it puts in force.
 abbrev pub ReloadsKeep : Type 0
 ReloadsKeep = (f g : Config) (b : Broker) → AreKept f b → NothingStands f.topology g b → AreKept g (with_all_stood b)
+
+-- No message of the empty broker is marked as having stood at a reload, and no event marks one.
+pub record NoEventMarks : Type 0 where
+  pub empty : NoneStood empty_broker
+  pub acts : (t : Topology) (old new : Broker) (e : Event) (sends : List Send) (notes : List Note) → NoneStood old → Acts t old e sends notes new → NoneStood new
+
+-- Where none is, what every broker keeps says that no guarantee forbids a message its queue, nor one to which it may come from there by deaths.
+abbrev pub KeptAreSafe : Type 0
+KeptAreSafe = (f : Config) (b : Broker) → AreKept f b → NoneStood b → AreSafe f.topology f.guarantees b

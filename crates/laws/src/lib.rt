@@ -21,7 +21,7 @@ ghost use Rattle.laws.specs.Order.{EnteringIsFresh, GivenAfterThoseAhead, GivenI
 ghost use Rattle.laws.specs.Promises.{AckedEnterOnce, AcksAreAcked, CausesAreShown, ForbiddenAreNotEntered, ForbiddenAreNotEnteredAtEvents, GivenAsPublished, LettersComeAsRouted, LettersComeOnce, NacksAreNacked, OriginsAreShown, PublishesEnterAsRouted, RunsKeepEvents};
 ghost use Rattle.laws.specs.Rows.{WordsOfKeys, FirstInput, FirstOutput, BadEnd, TooLargeContent, HeadlineRefuses, FirstConsumer, RefusedConsumes, FullQueues};
 ghost use Rattle.laws.specs.Reloading.{HistoriesKeep};
-ghost use Rattle.laws.specs.Tracing.{MessagesStayKept, MessagesStayTraced, ReloadsKeep, TracedAreSafe};
+ghost use Rattle.laws.specs.Tracing.{KeptAreSafe, MessagesStayKept, MessagesStayTraced, NoEventMarks, ReloadsKeep, TracedAreSafe};
 ghost use Rattle.laws.specs.Streams.{CuttingDoesNotMatter, FaultsStay, GoingOnStays, FirstBytesComeFirst, TuningDoesNotMatter};
 ghost use Rattle.laws.specs.Unkept.{UnkeptIsUnseen};
 ghost use Rattle.model.specs.Guarantee.{Guarantee};
@@ -204,6 +204,16 @@ pub fn traced_messages_are_safe()
     ensures { TracedAreSafe }
 {}
 
+/// A message is marked as having stood at a reload by a reload alone.
+pub fn events_mark_no_message()
+    ensures { NoEventMarks }
+{}
+
+/// Where no message is marked so, none stands in a queue that a guarantee forbids it, nor may it come to one by deaths.
+pub fn kept_messages_are_safe()
+    ensures { KeptAreSafe }
+{}
+
 /// What is sent at one event can be put out, and is spelled by 1,060,000 bytes at most.
 pub fn sends_can_be_put_out()
     ensures { SendsAreOwn }
@@ -270,7 +280,8 @@ pub fn one_reading()
     ensures { OneReading }
 {}
 
-/// A content that is only counted is not missed: outside Running a publish is answered as one that is too large.
+/// A content that is only counted is not missed: outside Running, and on a channel that is not open, as each is on which a publish began
+/// before Running, a publish is answered as one that is too large.
 pub fn unkept_contents_are_unseen()
     ensures { UnkeptIsUnseen }
 {}

@@ -23,6 +23,7 @@ use Rattle.model.specs.Noted.{PublishesAreTaken}
 use Rattle.model.specs.Settled.{SettlesAsAsked, NoneIsForgotten}
 use Rattle.model.specs.Alone.{ChangesOwnAlone, ArePresent}
 use Rattle.model.specs.LoggedIn.{EntersByLogin}
+use Rattle.model.specs.Tracing.{AreSafe}
 use Rattle.model.specs.declared.notes.Note.{Note}
 use Rattle.model.specs.declared.events.Arrival.{Arrival}
 
@@ -65,11 +66,13 @@ pub record KeepsOccurrences (old : Broker) (os : List Occurrence) (new : Broker)
   -- what stood in a queue or entered it left it by an event or stands there, through each reload too
   pub stays : StaysOver old os new
 
--- Of all that happened from the empty broker to this one, and of the outputs of the connections:
-pub record KeepsPromises (os : List Occurrence) (last : Broker) (connections : List Shown) : Type 0 where
+-- Of all that happened from the empty broker to this one, with this in force at first, and of the outputs of the connections:
+pub record KeepsPromises (f : Config) (os : List Occurrence) (last : Broker) (connections : List Shown) : Type 0 where
   pub events : KeepsOccurrences empty_broker os last
   -- each reload was done where nothing stood against it, or refused for the first thing that did, and then changed nothing
   pub reloads : AllByRecursion IsDecided (reloads_of os)
+  -- where nothing was reloaded, no guarantee forbids a message the queue where it stands at the end, nor one to which it may come from there by deaths
+  pub safe : reloads_of os ≡ [] → AreSafe f.topology f.guarantees last
   -- after each event and each reload each message that is held is outstanding under its tag on the channel that holds it, and each that is outstanding there is held: so none is held by a channel that is not open
   pub agreed : AllByRecursion (λ (o : Occurrence). IsAgreed (state_after o).broker) os
   -- and a channel is open only on a connection that runs
@@ -101,7 +104,7 @@ pub record CertifiedDelivery (f : Config) (arrivals : List (Arrival Config)) (se
   pub last : World
   pub plays : Plays (new_world f) arrivals occurrences last
   pub shows : Shows occurrences last seen
-  pub promises : KeepsPromises occurrences last.state.broker seen.connections
+  pub promises : KeepsPromises f occurrences last.state.broker seen.connections
 
 -- what an accepted topology and its guarantees keep
 pub record IsSound (f : Config) : Type 0 where

@@ -56,3 +56,9 @@ pub record AreKept (f : Config) (b : Broker) : Type 0 where
   pub each : (q : Text) (e : Entry) → IsIn e (b.queue q) → IsKept f q e.message
   -- messages of one publish were first sent to the same place
   pub alike : (q r : Text) (e d : Entry) → IsIn e (b.queue q) → IsIn d (b.queue r) → e.message.number ≡ d.message.number → AreSentAlike e.message d.message
+
+-- ---- before any reload
+
+-- no message stood when a reload was done
+abbrev pub NoneStood : Broker → Type 0
+NoneStood b = (q : Text) (e : Entry) → IsIn e (b.queue q) → e.message.stood ≡ false

@@ -27,4 +27,4 @@ pub record IsRunOf (f : Config) (arrivals : List (Arrival Config)) (last : World
   pub plays : Plays (new_world f) arrivals occurrences last
   pub shows : Shows occurrences last seen
   -- certified delivery
-  pub promises : KeepsPromises occurrences last.state.broker seen.connections
+  pub promises : KeepsPromises f occurrences last.state.broker seen.connections

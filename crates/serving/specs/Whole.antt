@@ -46,7 +46,7 @@ pub record IsServed (L : Lacks) (f : Config) (told : Told) (new : Served) : Type
   -- where memory was never refused, the arrivals are played exactly
   pub plays : AllByRecursion IsWhole (arrived deeds) → Plays (new_world f) (arrivals_of (arrived deeds)) occurrences new.world
   -- certified delivery, by what was in force at each event, also where memory was refused
-  pub promises : KeepsPromises occurrences new.world.state.broker (seen_of (events_of occurrences) new.world)
+  pub promises : KeepsPromises f occurrences new.world.state.broker (seen_of (events_of occurrences) new.world)
   -- what arrived for a connection is what its socket gave and took
   pub joined : AreJoined deeds
   -- what its socket took is a beginning of what was put out for it
