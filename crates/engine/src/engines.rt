@@ -6,7 +6,7 @@ ghost use Rattle.std.specs.Prelude.{◌≡◌, ◌<◌, ℕ, length, true, IfOk,
 ghost use Rattle.model.specs.Arrivals.{Same, Waits, new_world, is_over, is_awake};
 ghost use Rattle.model.specs.Consuming.{CanDeliver};
 ghost use Rattle.model.specs.Headline.{IsSound};
-ghost use Rattle.model.specs.Tracing.{AreKept};
+ghost use Rattle.model.specs.Tracing.{AreKept, AreSafe, NoneStood};
 ghost use Rattle.runs.specs.Opened.{runs, Hears, Idles, TakesAway, IsLost};
 ghost use Rattle.engine.specs.World.{world_of};
 ghost use Rattle.engine.specs.Reading.{HasMore};
@@ -272,9 +272,10 @@ impl Engine {
     }
 
     /// Each message stands in a queue of the topology, and no guarantee forbids it one to which it may still come from there by
-    /// deaths, nor, unless it stood when the last reload was done, the queue where it stands.
+    /// deaths, nor, unless it stood when the last reload was done, the queue where it stands: so none at all before any reload.
     pub fn is_safe(&self)
-        ensures { AreKept (world_of self.now).config (world_of self.now).state.broker }
+        ensures kept { AreKept (world_of self.now).config (world_of self.now).state.broker }
+        ensures safe { NoneStood (world_of self.now).state.broker → AreSafe (world_of self.now).config.topology (world_of self.now).config.guarantees (world_of self.now).state.broker }
     {
         // A look at a field, as above.
         let _links = &self.links;

@@ -124,12 +124,12 @@ record Unmarked (f last : Config) (new : State) : Type 0 where
   same : last ≡ f
 
 unmarked_over : (f last : Config) (os : List Occurrence) (old new : State) → reloads_of os ≡ [] → NoneStood old.broker → History f old os last new → Unmarked f last new
-unmarked_over f last [] old new no none (is, s) = record { none = subst (λ (z : State). NoneStood z.broker) (sym s) none; same = is }
-unmarked_over f last (Of_event h ∷ os) old new no none (is, s, step, rest) =
+unmarked_over f last [] old new without none (is, s) = record { none = subst (λ (z : State). NoneStood z.broker) (sym s) none; same = is }
+unmarked_over f last (Of_event h ∷ os) old new without none (is, s, step, rest) =
     let before : NoneStood h.before.broker = subst (λ (z : State). NoneStood z.broker) (sym s) none in
-    let u = unmarked_over h.config last os h.after new no (step_unmarked h.config h.before h.after h.event h.sends h.notes before step) rest in
+    let u = unmarked_over h.config last os h.after new without (step_unmarked h.config h.before h.after h.event h.sends h.notes before step) rest in
     record { none = u.none; same = u.same ∙ is }
-unmarked_over f last (Of_reload r ∷ os) old new no none h = absurd (cc)
+unmarked_over f last (Of_reload r ∷ os) old new without none h = absurd (cc)
 
 pub kept_are_safe : KeptAreSafe
 kept_are_safe f b kept none q e i g is_in never covers =
@@ -137,8 +137,8 @@ kept_are_safe f b kept none q e i g is_in never covers =
     (at.1 (none q e i), at.0)
 
 pub safe_over : (f last : Config) (os : List Occurrence) (new : State) → History f empty_state os last new → AreKept last new.broker → reloads_of os ≡ [] → AreSafe f.topology f.guarantees new.broker
-safe_over f last os new history kept no =
-    let u = unmarked_over f last os empty_state new no no_event_marks.empty history in
+safe_over f last os new history kept without =
+    let u = unmarked_over f last os empty_state new without no_event_marks.empty history in
     kept_are_safe f new.broker (subst (λ (g : Config). AreKept g new.broker) u.same kept) u.none
 
 -- ---- a reload

@@ -191,7 +191,7 @@ stranded_by_reload (inl done) = done.nothing.none_stranded (codes "audit") (reco
 stranded_by_reload (inr refused) = let other : Reloaded ∷ [] ≡ ReloadRefused refused.obstacle ∷ [] = refused.noted in cc
 
 -- for what it was refused
-refused_for : List Note → Obstacle
+abbrev refused_for : List Note → Obstacle
 refused_for (ReloadRefused obstacle ∷ notes) = obstacle
 refused_for notes = InUse []
 

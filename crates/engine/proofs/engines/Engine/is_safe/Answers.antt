@@ -1,7 +1,13 @@
 use Rattle.std.proofs.Common.{subst}
-use Rattle.model.specs.Tracing.{AreKept}
+use Rattle.model.specs.Tracing.{AreKept, AreSafe, NoneStood}
+use Rattle.laws.proofs.Keeping.{kept_are_safe}
 use Rattle.engine.specs.World.{Parts, world_of}
 use Rattle.engine.proofs.engines.Engine.is_safe.Goals as goal
 
-pub returns : goal.returns
-returns c = subst (λ (p : Parts). AreKept (world_of p).config (world_of p).state.broker) c.self.view_is c.self.invariant.consistent.kept
+pub returns-clause-kept : goal.returns-clause-kept
+returns-clause-kept c = subst (λ (p : Parts). AreKept (world_of p).config (world_of p).state.broker) c.self.view_is c.self.invariant.consistent.kept
+
+pub returns-clause-safe : goal.returns-clause-safe
+returns-clause-safe c =
+    subst (λ (p : Parts). NoneStood (world_of p).state.broker → AreSafe (world_of p).config.topology (world_of p).config.guarantees (world_of p).state.broker) c.self.view_is
+    (kept_are_safe (world_of c.self.inside).config (world_of c.self.inside).state.broker c.self.invariant.consistent.kept)
