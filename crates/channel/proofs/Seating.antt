@@ -13,7 +13,7 @@ use Rattle.model.specs.declared.methods.Consume.{Consume}
 use Rattle.laws.specs.Consumers.{NextTagsAreFound}
 use Rattle.channel.specs.Seats.{is_named}
 use Rattle.channel.specs.Names.{server_name, IsNextName, AreNamesSpent}
-use Rattle.channel.specs.Deliveries.{Given, with_consumer_added, RefusesConsumer, AddsConsumer, RefusesUnnamed, ConsumesUnnamed, IsMadeUnder}
+use Rattle.channel.specs.Deliveries.{Given, with_consumer_added, MaySeat, JudgesSeat, AddsConsumer, RefusesUnnamed, ConsumesUnnamed, IsMadeUnder}
 use Rattle.channel.specs.Open.{Open, consumer_in, open_in, places_of, IsConsumerSeated, IsUnseated, SeatsConsumer}
 use Rattle.channel.specs.declared.consumers.Consumer.{Consumer}
 use Rattle.channel.specs.declared.consumers.SeatRefusal.{SeatRefusal}
@@ -117,20 +117,25 @@ given_wanting : (ch : seen.Channel) (tag : Text) → (length tag ≡ 0 → ⊥) 
 given_wanting ch [] h = absurd (h refl)
 given_wanting ch (b ∷ bs) h = refl
 
-pub named_seated : (old : Open) (given : Given) (queue : ℕ) (m : Consume) (number : ℕ) → (length m.consumer_tag ≡ 0 → ⊥)
-    → AddsConsumer old.given m.consumer_tag queue m.no_ack (Ok number) given → IsConsumerSeated old queue m m.consumer_tag (record old { given = given })
-named_seated old given queue m number h (free, (few, (left, (is, (made, seats))))) = record {
-  free = λ names. decides (open_in names old) m false false false
-      (given_taken (open_in names old) m.consumer_tag h ∙ any_tagged names m.consumer_tag old.given.consumers ∙ free)
-      (few_in names old.given.consumers few)
-      (or_left old.given.next_number (is_tag_wanting (open_in names old) m.consumer_tag) left (given_wanting (open_in names old) m.consumer_tag h));
+-- nothing stands against it
+pub named_free : (old : Open) (m : Consume) → (length m.consumer_tag ≡ 0 → ⊥) → MaySeat old.given m.consumer_tag → (names : List Text) → refusal_of_seat (open_in names old) m ≡ None
+named_free old m h may names =
+    decides (open_in names old) m false false false
+    (given_taken (open_in names old) m.consumer_tag h ∙ any_tagged names m.consumer_tag old.given.consumers ∙ may.free)
+    (few_in names old.given.consumers may.few)
+    (or_left old.given.next_number (is_tag_wanting (open_in names old) m.consumer_tag) may.left (given_wanting (open_in names old) m.consumer_tag h))
+
+pub named_seated : (old : Open) (given : Given) (queue : ℕ) (m : Consume) → (length m.consumer_tag ≡ 0 → ⊥)
+    → MaySeat old.given m.consumer_tag → AddsConsumer old.given m.consumer_tag queue m.no_ack given → IsConsumerSeated old queue m m.consumer_tag (record old { given = given })
+named_seated old given queue m h may (made, seats) = record {
+  free = named_free old m h may;
   named = λ names. given_tag (open_in names old) m.consumer_tag h;
   made = λ names there. made_of old given queue m m.consumer_tag old.given.next_name given.seats made names (given_tag (open_in names old) m.consumer_tag h) (given_name (open_in names old) m.consumer_tag h) there;
   outstanding = ap (λ (g : Given). g.outstanding) made;
   places = ap (λ (g : Given). places_of g.consumers) made ∙ places_more old.given.consumers _;
 }
 
-pub named_refused : (old : Open) (m : Consume) (r : SeatRefusal) → (length m.consumer_tag ≡ 0 → ⊥) → RefusesConsumer old.given m.consumer_tag r → IsUnseated old m r
+pub named_refused : (old : Open) (m : Consume) (r : SeatRefusal) → (length m.consumer_tag ≡ 0 → ⊥) → JudgesSeat old.given m.consumer_tag (Some r) → IsUnseated old m r
 named_refused old m InUse h used = λ names.
     decides (open_in names old) m true _ _ (given_taken (open_in names old) m.consumer_tag h ∙ any_tagged names m.consumer_tag old.given.consumers ∙ used) refl refl
 named_refused old m TooMany h (free, many) = λ names.
@@ -138,7 +143,7 @@ named_refused old m TooMany h (free, many) = λ names.
 named_refused old m Spent h (free, (few, spent)) = λ names.
     decides (open_in names old) m false false true (given_taken (open_in names old) m.consumer_tag h ∙ any_tagged names m.consumer_tag old.given.consumers ∙ free) (few_in names old.given.consumers few)
     (or_spent old.given.next_number (is_tag_wanting (open_in names old) m.consumer_tag) spent)
-named_refused old m Memory h why = tt
+named_refused old m Memory h why = absurd why
 
 -- ---- a tag of the server's
 
@@ -166,14 +171,19 @@ next_is laws names old n next = laws.only (open_in names old) n next.least next.
 none_is : NextTagsAreFound → (names : List Text) (old : Open) → AreNamesSpent old.given.consumers old.given.next_name → next_free (open_in names old) ≡ greatest
 none_is laws names old spent = laws.none_left (open_in names old) spent.within (λ k le lt. any_tagged names (server_name k) old.given.consumers ∙ spent.used k le lt)
 
+unnamed_free : NextTagsAreFound → (old : Open) (m : Consume) (n : ℕ) → m.consumer_tag ≡ [] → length old.given.consumers < 256 → old.given.next_number < greatest → IsNextName old.given.consumers old.given.next_name n
+    → (names : List Text) → refusal_of_seat (open_in names old) m ≡ None
+unnamed_free laws old m n none few left next names =
+    decides (open_in names old) m false false false
+    (no_tag_taken (open_in names old) m.consumer_tag none)
+    (few_in names old.given.consumers few)
+    (or_left old.given.next_number (is_tag_wanting (open_in names old) m.consumer_tag) left
+    (no_tag_wanting (open_in names old) m.consumer_tag none ∙ ap (nat_le greatest) (next_is laws names old n next) ∙ lt-leb greatest n next.left))
+
 unnamed_made : NextTagsAreFound → (old : Open) (given : Given) (queue : ℕ) (m : Consume) (tag : Text) (n : ℕ) → m.consumer_tag ≡ []
     → length old.given.consumers < 256 → old.given.next_number < greatest → IsMadeUnder old.given queue m.no_ack tag given n → IsConsumerSeated old queue m tag (record old { given = given })
 unnamed_made laws old given queue m tag n none few left is = record {
-  free = λ names. decides (open_in names old) m false false false
-      (no_tag_taken (open_in names old) m.consumer_tag none)
-      (few_in names old.given.consumers few)
-      (or_left old.given.next_number (is_tag_wanting (open_in names old) m.consumer_tag) left
-      (no_tag_wanting (open_in names old) m.consumer_tag none ∙ ap (nat_le greatest) (next_is laws names old n is.next) ∙ lt-leb greatest n is.next.left));
+  free = unnamed_free laws old m n none few left is.next;
   named = λ names. tagged names;
   made = λ names there. made_of old given queue m tag (n + 1) given.seats (is.made ∙ ap (λ (t : Text). record (with_consumer_added old.given t queue m.no_ack given.seats) { next_name = n + 1 }) (sym is.named)) names (tagged names)
       (sym (no_tag_name (open_in names old) m.consumer_tag none ∙ ap (λ (k : ℕ). k + 1) (next_is laws names old n is.next))) there;
@@ -201,13 +211,9 @@ unnamed_refused laws old m Spent h (few, spent) = λ names. let none = no_tag m.
     wanting names none (inr s) =
         ap (λ (b : Bool). (old.given.next_number == greatest) || b) (no_tag_wanting (open_in names old) m.consumer_tag none ∙ ap (nat_le greatest) (none_is laws names old s))
         ∙ or_true (old.given.next_number == greatest)
-unnamed_refused laws old m Memory h why = tt
+unnamed_refused laws old m Memory h (few, (left, (n, next))) = unnamed_free laws old m n (no_tag m.consumer_tag h) few left next
 
 pub unnamed_seats : NextTagsAreFound → (old : Open) (given : Given) (queue : ℕ) (m : Consume) (r : Result Text SeatRefusal) → length m.consumer_tag ≡ 0
     → ConsumesUnnamed old.given queue m.no_ack r given → SeatsConsumer old queue m r (record old { given = given })
 unnamed_seats laws old given queue m (Ok tag) h is = unnamed_seated laws old given queue m tag h is
 unnamed_seats laws old given queue m (Err r) h (why, same) = (unnamed_refused laws old m r h why, ap (λ (g : Given). record old { given = g }) same)
-
-pub named_unseated : (old : Open) (given : Given) (m : Consume) (tag : Text) (r : SeatRefusal) → (length m.consumer_tag ≡ 0 → ⊥) → tag ≡ m.consumer_tag
-    → RefusesConsumer old.given tag r → given ≡ old.given → IsUnseated old m r × (record old { given = given } ≡ old)
-named_unseated old given m tag r h e why same = (named_refused old m r h (subst (λ (t : Text). RefusesConsumer old.given t r) e why), ap (λ (g : Given). record old { given = g }) same)

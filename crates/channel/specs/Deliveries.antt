@@ -58,24 +58,30 @@ taker_at g number = if may_be_given g number then consumer_at g number else None
 abbrev pub with_consumer_added : Given → Text → ℕ → Bool → ℕ → Given
 with_consumer_added g name queue no_ack seats = record g { seats = seats; next_number = g.next_number + 1; consumers = g.consumers ++ record { number = g.next_number; tag = name; queue = queue; no_ack = no_ack; limit = g.each_limit } ∷ [] }
 
--- why a consumer was refused, in this order: its tag is in use on the channel; there are 256 (own); the numbers are spent; memory was wanting, where there was no room for one more
-abbrev pub RefusesConsumer : Given → Text → SeatRefusal → Type 0
-RefusesConsumer g name InUse = list_any (is_named name) g.consumers ≡ true
-RefusesConsumer g name TooMany = (list_any (is_named name) g.consumers ≡ false) × (256 ≤ length g.consumers)
-RefusesConsumer g name Spent = (list_any (is_named name) g.consumers ≡ false) × ((length g.consumers < 256) × (g.next_number ≡ greatest))
-RefusesConsumer g name Memory = (list_any (is_named name) g.consumers ≡ false) × ((length g.consumers < 256) × ((g.next_number < greatest) × (g.seats ≡ 0)))
+-- Nothing stands against a consumer of this tag: it is not in use on the channel, there are fewer than 256 (own), and a number is left.
+pub record MaySeat (g : Given) (name : Text) : Type 0 where
+  pub free : list_any (is_named name) g.consumers ≡ false
+  pub few : length g.consumers < 256
+  pub left : g.next_number < greatest
 
--- A consumer was made, or refused: then nothing changed.
-abbrev pub AddsConsumer : Given → Text → ℕ → Bool → Result ℕ SeatRefusal → Given → Type 0
-AddsConsumer old name queue no_ack (Ok number) new = (list_any (is_named name) old.consumers ≡ false) × ((length old.consumers < 256) × ((old.next_number < greatest) × ((number ≡ old.next_number) × ((new ≡ with_consumer_added old name queue no_ack new.seats) × (old.seats ≤ new.seats + 1)))))
-AddsConsumer old name queue no_ack (Err refusal) new = RefusesConsumer old name refusal × (new ≡ old)
+-- the first thing that stands against it, in this order, or that nothing does
+abbrev pub JudgesSeat : Given → Text → Option SeatRefusal → Type 0
+JudgesSeat g name None = MaySeat g name
+JudgesSeat g name (Some InUse) = list_any (is_named name) g.consumers ≡ true
+JudgesSeat g name (Some TooMany) = (list_any (is_named name) g.consumers ≡ false) × (256 ≤ length g.consumers)
+JudgesSeat g name (Some Spent) = (list_any (is_named name) g.consumers ≡ false) × ((length g.consumers < 256) × (g.next_number ≡ greatest))
+JudgesSeat g name (Some Memory) = ⊥
 
--- why a consumer without a tag of its own was refused, in this order: there are 256; the numbers or the names are spent; memory was wanting
+-- a consumer was made, for which there is room for one fewer now
+abbrev pub AddsConsumer : Given → Text → ℕ → Bool → Given → Type 0
+AddsConsumer old name queue no_ack new = (new ≡ with_consumer_added old name queue no_ack new.seats) × (old.seats ≤ new.seats + 1)
+
+-- why a consumer without a tag of its own was refused, in this order: there are 256; the numbers or the names are spent; memory was wanting, and a name is left
 abbrev pub RefusesUnnamed : Given → SeatRefusal → Type 0
 RefusesUnnamed g InUse = ⊥
 RefusesUnnamed g TooMany = 256 ≤ length g.consumers
 RefusesUnnamed g Spent = (length g.consumers < 256) × ((g.next_number ≡ greatest) ⊎ AreNamesSpent g.consumers g.next_name)
-RefusesUnnamed g Memory = (length g.consumers < 256) × (g.next_number < greatest)
+RefusesUnnamed g Memory = (length g.consumers < 256) × ((g.next_number < greatest) × ((n : ℕ) × IsNextName g.consumers g.next_name n))
 
 -- A consumer was made under the next name, of this number.
 pub record IsMadeUnder (old : Given) (queue : ℕ) (no_ack : Bool) (tag : Text) (new : Given) (n : ℕ) : Type 0 where

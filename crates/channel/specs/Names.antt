@@ -1,7 +1,6 @@
 -- Consumer tags that the server makes where a client gives none (AMQP 0-9-1, basic.consume, "consumer-tag"; their form is own).
-use Rattle.std.specs.Prelude.{◌≡◌, ◌<◌, ◌≤◌, ℕ, List, ◌++◌, codes, decimal, true, false, Option, Some, None, Result, Ok, Err}
+use Rattle.std.specs.Prelude.{◌≡◌, ◌<◌, ◌≤◌, ℕ, List, ◌++◌, codes, decimal, true, false, Option, Some, None}
 use Rattle.std.specs.List.{list_any}
-use Rattle.std.specs.declared.alloc.AllocError.{AllocError}
 use Rattle.model.specs.Words.{Text}
 use Rattle.model.specs.Step.{greatest}
 use Rattle.channel.specs.Seats.{is_named}
@@ -25,8 +24,7 @@ pub record AreNamesSpent (consumers : List Consumer) (from : ℕ) : Type 0 where
   pub within : from ≤ greatest
   pub used : (k : ℕ) → from ≤ k → k < greatest → list_any (is_named (server_name k)) consumers ≡ true
 
--- The next name was made, or none is left, or memory was wanting.
-abbrev pub FindsName : List Consumer → ℕ → Result (Option Name) AllocError → Type 0
-FindsName consumers from (Ok (Some name)) = IsNextName consumers from name.number × (name.tag ≡ server_name name.number)
-FindsName consumers from (Ok None) = AreNamesSpent consumers from
-FindsName consumers from (Err e) = Unit {0}
+-- The next name was made, or none is left.
+abbrev pub FindsName : List Consumer → ℕ → Option Name → Type 0
+FindsName consumers from (Some name) = IsNextName consumers from name.number × (name.tag.bytes ≡ server_name name.number)
+FindsName consumers from None = AreNamesSpent consumers from

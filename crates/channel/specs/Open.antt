@@ -90,12 +90,12 @@ pub record IsConsumerSeated (old : Open) (queue : ℕ) (m : Consume) (tag : Text
   pub outstanding : new.given.outstanding ≡ old.given.outstanding
   pub places : places_of new.given.consumers ≡ places_of old.given.consumers ++ queue ∷ []
 
--- why none was made: as the model says, or for want of memory
+-- why none was made: as the model says, or for want of memory where nothing stands against it
 abbrev pub IsUnseated : Open → Consume → SeatRefusal → Type 0
 IsUnseated old m InUse = (names : List Text) → refusal_of_seat (open_in names old) m ≡ Some (Of_connection 530)
 IsUnseated old m TooMany = (names : List Text) → refusal_of_seat (open_in names old) m ≡ Some (Of_connection 506)
 IsUnseated old m Spent = (names : List Text) → refusal_of_seat (open_in names old) m ≡ Some (Of_connection 541)
-IsUnseated old m Memory = Unit {0}
+IsUnseated old m Memory = (names : List Text) → refusal_of_seat (open_in names old) m ≡ None
 
 -- A consumer was made under this tag, or refused: then nothing changed.
 abbrev pub SeatsConsumer : Open → ℕ → Consume → Result Text SeatRefusal → Open → Type 0

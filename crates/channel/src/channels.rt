@@ -113,8 +113,8 @@ impl Channel {
 
     /// Makes a consumer of the queue at this place, under the tag that the consume gives, or where it gives none under one of
     /// the server's. Tells its tag. Refused, in this order: where a consumer of the channel has the tag (530), where the channel
-    /// has 256 consumers (506), and where the numbers or the server's tags are spent (541). Where it is refused, or memory is
-    /// wanting, nothing changes. Source: AMQP 0-9-1, basic.consume.
+    /// has 256 consumers (506), and where the numbers or the server's tags are spent (541). Memory is wanting only where nothing
+    /// stands against it. Where it is refused, or memory is wanting, nothing changes. Source: AMQP 0-9-1, basic.consume.
     pub fn consume(
         &mut self,
         alloc: Global,
@@ -128,6 +128,9 @@ impl Channel {
             return self
                 .deliveries
                 .consume_unnamed(alloc, queue, consume.no_ack);
+        }
+        if let Some(refusal) = self.deliveries.refusal(consume.consumer_tag.as_bytes()) {
+            return Err(refusal);
         }
         let tag = consume.consumer_tag.clone()?;
         self.deliveries
@@ -187,9 +190,12 @@ impl Channel {
         self.deliveries.next_tag()
     }
 
-    /// Makes room for so many messages more that are given out. Where memory is wanting nothing changes.
+    /// Makes room for so many messages more that are given out. Where memory is wanting, as it may be only where there was not
+    /// so much, nothing changes.
     pub fn reserve(&mut self, more: usize) -> Result<(), AllocError>
         ensures same { self.new ≡ record self.old { given = record self.old.given { room = self.new.given.room } } }
+        ensures kept { self.old.given.room ≤ self.new.given.room }
+        ensures full { OnErr result (self.old.given.room < more) }
         ensures room { OnOk result (more ≤ self.new.given.room) }
         ensures err { OnErr result (self.new ≡ self.old) }
     {

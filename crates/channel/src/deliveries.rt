@@ -38,7 +38,7 @@ impl Deliveries {
     ghost use Rattle.model.specs.Prefetch.{has_tag_left};
     ghost use Rattle.channel.specs.Outstanding.{tag_of};
     ghost use Rattle.channel.specs.Seats.{AreNumbered, consumers_of, is_named, takes_from};
-    ghost use Rattle.channel.specs.Deliveries.{with_given, with_limit, may_be_given, consumer_at, taker_at, AddsConsumer, ConsumesUnnamed};
+    ghost use Rattle.channel.specs.Deliveries.{with_given, with_limit, may_be_given, consumer_at, taker_at, AddsConsumer, ConsumesUnnamed, JudgesSeat, MaySeat};
     ghost use Rattle.channel.specs.Moving.{given_moved};
 
     /// Nothing was given out, there is no consumer and no limit. It takes no memory.
@@ -187,24 +187,34 @@ impl Deliveries {
         self.seats.count_from(queue)
     }
 
-    /// Makes a consumer of this tag. Tells its number. Refused, in this order: where a consumer of the channel has the tag
-    /// (530), where the channel has 256 consumers (506), where the numbers are spent (541), and for want of memory, only where
-    /// there was no room for one more. Then nothing changes.
-    pub fn consume(&mut self, tag: Text, queue: usize, no_ack: bool) -> Result<u64, SeatRefusal>
-        ensures { AddsConsumer self.old tag queue no_ack result self.new }
+    /// What stands against a consumer of this tag: that one of the channel has the tag (530), that there are 256 (506), or
+    /// that the numbers are spent (541). It takes no memory.
+    pub fn refusal(&self, tag: &[u8]) -> Option<SeatRefusal>
+        ensures { JudgesSeat self.now tag.now result }
     {
-        if self.seats.has(tag.as_bytes()) {
-            return Err(SeatRefusal::InUse);
+        if self.seats.has(tag) {
+            return Some(SeatRefusal::InUse);
         }
         if self.seats.len() >= 256 {
-            return Err(SeatRefusal::TooMany);
+            return Some(SeatRefusal::TooMany);
         }
+        if self.next_number == u64::MAX {
+            return Some(SeatRefusal::Spent);
+        }
+        None
+    }
+
+    /// Makes a consumer of this tag, against which nothing stands. Memory is wanting only where there was no room for one
+    /// more. Then nothing changes.
+    pub fn consume(&mut self, tag: Text, queue: usize, no_ack: bool) -> Result<(), AllocError>
+        requires { MaySeat self.old tag }
+        ensures ok { OnOk result (AddsConsumer self.old tag queue no_ack self.new) }
+        ensures full { OnErr result (self.old.seats ≡ 0) }
+        ensures err { OnErr result (self.new ≡ self.old) }
+    {
         let number = self.next_number;
-        if number == u64::MAX {
-            return Err(SeatRefusal::Spent);
-        }
         if self.seats.reserve().is_err() {
-            return Err(SeatRefusal::Memory);
+            return Err(AllocError);
         }
         let consumer = Consumer {
             number,
@@ -216,11 +226,12 @@ impl Deliveries {
         let held = given_to(self.pending.all(), number);
         self.seats.push(consumer, held);
         self.next_number = number + 1;
-        Ok(number)
+        Ok(())
     }
 
     /// Makes a consumer for whom the client gave no tag: its tag is `amq.ctag-N`, N counted from 1 on the channel, past those
-    /// in use. Tells the tag. Refused as with `consume`, and where the names are spent (541).
+    /// in use. Tells the tag. Refused, in this order: where the channel has 256 consumers (506), where the numbers or the names
+    /// are spent (541), and for want of memory. Then nothing changes.
     pub fn consume_unnamed(
         &mut self,
         alloc: Global,
@@ -235,16 +246,13 @@ impl Deliveries {
         if self.next_number == u64::MAX {
             return Err(SeatRefusal::Spent);
         }
-        match next_name(alloc, &self.seats, self.next_name) {
-            Err(_) => Err(SeatRefusal::Memory),
-            Ok(None) => Err(SeatRefusal::Spent),
-            Ok(Some(name)) => {
-                let tag = name.tag.clone()?;
-                self.consume(name.tag, queue, no_ack)?;
-                self.next_name = name.number + 1;
-                Ok(tag)
-            }
-        }
+        let Some(name) = next_name(&self.seats, self.next_name) else {
+            return Err(SeatRefusal::Spent);
+        };
+        let tag = Text::from_slice(alloc, name.tag.as_bytes())?;
+        self.consume(tag.clone()?, queue, no_ack)?;
+        self.next_name = name.number + 1;
+        Ok(tag)
     }
 
     /// Takes the consumer of this tag out, if there is one. What it was given stays outstanding.
