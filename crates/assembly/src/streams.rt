@@ -60,8 +60,8 @@ impl Model for Stream {
 }
 
 impl Stream {
-    /// The stream of a connection that was just opened: its first eight bytes are awaited, a frame has at most 4,096 bytes,
-    /// and contents are only counted.
+    /// A stream of which no byte has come: its first eight bytes are awaited, a frame has at most 4,096 bytes, and contents are
+    /// kept. That of a connection that does not run is told so (`set_running`).
     pub fn new(alloc: Global) -> Stream
         ensures stream { stream_of result ≡ new_stream }
         ensures fault { result.fault ≡ None }
@@ -70,7 +70,7 @@ impl Stream {
             alloc,
             is_new: true,
             max: 4096,
-            keeps: false,
+            keeps: true,
             contents: Vec::new(alloc),
             unread: Unread::new(alloc),
             names: LastNames::new(alloc),

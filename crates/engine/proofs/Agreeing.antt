@@ -2,7 +2,7 @@
 use Rattle.std.proofs.Common.{◌≡◌, ◌+◌, ℕ, List, Bool, true, false, Some, Result, Ok, Err, sym, subst}
 use Rattle.std.specs.Prelude.{IfOk, OnErr, MatchBool}
 use Rattle.model.specs.Run.{Happening}
-use Rattle.model.specs.Commands.{new_stream, running_stream}
+use Rattle.model.specs.Commands.{opened_stream, running_stream}
 use Rattle.model.specs.Arrivals.{World, Same, Turns, Waits, is_over, is_gone, with_heard, Takes_off, Delivers, delivers, Loses}
 use Rattle.model.specs.Consistent.{IsConsistent}
 use Rattle.model.specs.declared.events.Event.TheVariants as event
@@ -52,8 +52,8 @@ loses_agrees old new c k lost = go (is_gone old c) lost
 
 pub opens_new_agrees : (old new : World) (n : ℕ) → Agrees old → OpensNew old (Some n) new → Agrees new
 opens_new_agrees old new n k o = record {
-  consistent = stay_consistent.awaits old new new_stream o.2.0 k.consistent o.2.1;
-  named = worlds_named.opens old new (event.Open (old.given + 1)) new_stream o.2.0 tt k.named o.2.1;
+  consistent = stay_consistent.awaits old new opened_stream o.2.0 k.consistent o.2.1;
+  named = worlds_named.opens old new (event.Open (old.given + 1)) opened_stream o.2.0 tt k.named o.2.1;
 }
 
 pub opens_ready_agrees : (old new : World) (k n : ℕ) → Agrees old → OpensReady old k (Some n) new → Agrees new

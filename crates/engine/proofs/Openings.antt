@@ -4,7 +4,7 @@ use Rattle.std.specs.Prelude.{◌==◌, ◌&&◌, not, nat_lt}
 use Rattle.std.specs.List.{AllByRecursion}
 use Rattle.std.proofs.lemmas.Bool.Decides.{nat_tests}
 use Rattle.model.specs.Broker.{Broker, with_one}
-use Rattle.model.specs.Commands.{Stream, new_stream, running_stream}
+use Rattle.model.specs.Commands.{Stream, opened_stream, running_stream}
 use Rattle.model.specs.Opening.{new_session}
 use Rattle.model.specs.Phases.{Session, running_session}
 use Rattle.model.specs.State.{Config, Step}
@@ -111,11 +111,11 @@ can_open_is p a few left = let same = standing_is p a in grind (arith, nat_tests
 -- ---- what happens then
 
 -- no byte of it has come, and the broker is as before
-pub steps_new : (old new : Parts) (l : Connected) → AreLinks old.given old.links → IsOneMore old new l new_session new_stream → broker_of new.broker ≡ broker_of old.broker
+pub steps_new : (old new : Parts) (l : Connected) → AreLinks old.given old.links → IsOneMore old new l new_session opened_stream → broker_of new.broker ≡ broker_of old.broker
     → Step (config_of old) (state_of old) (event.Open (old.given + 1)) [] [] (state_of new)
 steps_new old new l a m same = record {
   free = ap (λ (o : Option Connected). (session_of o).phase) (none_above old.given old.links (old.given + 1) a.each (omega arith));
-  steps = record { acts = record { sent = refl; noted = refl; left = subst (λ (b : Broker). Is (broker_of old.broker) b) (sym same) (is_same (broker_of old.broker)) }; session = sessions_are old new l new_session new_stream a m };
+  steps = record { acts = record { sent = refl; noted = refl; left = subst (λ (b : Broker). Is (broker_of old.broker) b) (sym same) (is_same (broker_of old.broker)) }; session = sessions_are old new l new_session opened_stream a m };
 }
 
 -- it runs at once, and is one of the broker's
@@ -145,11 +145,11 @@ opened old new l e sess st a few left m stepped =
     )
 
 -- so it is under the number that was found
-pub opened_new : (old new : Parts) (l : Connected) (n : ℕ) → AreLinks old.given old.links → Numbers old.given old.links (Ok n) → IsOneMore old new l new_session new_stream → broker_of new.broker ≡ broker_of old.broker
-    → IsOpened (event.Open (old.given + 1)) new_stream (world_of old) (Some n) (world_of new)
+pub opened_new : (old new : Parts) (l : Connected) (n : ℕ) → AreLinks old.given old.links → Numbers old.given old.links (Ok n) → IsOneMore old new l new_session opened_stream → broker_of new.broker ≡ broker_of old.broker
+    → IsOpened (event.Open (old.given + 1)) opened_stream (world_of old) (Some n) (world_of new)
 opened_new old new l n a numbers m same =
-    subst (λ (k : ℕ). IsOpened (event.Open (old.given + 1)) new_stream (world_of old) (Some k) (world_of new)) (sym numbers.0)
-    (opened old new l (event.Open (old.given + 1)) new_session new_stream a numbers.1 numbers.2 m (steps_new old new l a m same))
+    subst (λ (k : ℕ). IsOpened (event.Open (old.given + 1)) opened_stream (world_of old) (Some k) (world_of new)) (sym numbers.0)
+    (opened old new l (event.Open (old.given + 1)) new_session opened_stream a numbers.1 numbers.2 m (steps_new old new l a m same))
 
 pub opened_ready : (old new : Parts) (l : Connected) (n k : ℕ) → AreLinks old.given old.links → Numbers old.given old.links (Ok n) → IsOneMore old new l running_session running_stream
     → Acts (topology_kept old.broker) (broker_of old.broker) (event.Running n 255 k) [] [] (broker_of new.broker)

@@ -1,6 +1,6 @@
 -- What the opening of a connection comes to.
 use Rattle.std.specs.Prelude.{◌≡◌, ◌+◌, ◌<◌, ◌≤◌, ℕ, List, length, true, false, nat_lt, Some, Result, Ok, Err}
-use Rattle.model.specs.Commands.{Stream, new_stream, running_stream}
+use Rattle.model.specs.Commands.{Stream, opened_stream, running_stream}
 use Rattle.model.specs.Arrivals.{World, Same, standing, can_open}
 use Rattle.model.specs.declared.events.Event.{Event}
 use Rattle.model.specs.declared.events.Event.TheVariants as event
@@ -25,7 +25,7 @@ OpenedBy e s old (Err Memory) new = (can_open old ≡ true) × Same old new
 
 -- so of a connection of which no byte has come
 abbrev pub OpenedNew : World → Result ℕ Refused → World → Type 0
-OpenedNew old r new = OpenedBy (event.Open (old.given + 1)) new_stream old r new
+OpenedNew old r new = OpenedBy (event.Open (old.given + 1)) opened_stream old r new
 
 -- and of one that runs at once, with channels 1 to k open
 abbrev pub OpenedReady : World → ℕ → Result ℕ Refused → World → Type 0

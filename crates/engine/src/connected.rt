@@ -3,7 +3,7 @@
 ghost use Rattle.std.specs.Prelude.{◌≡◌, IsTrue};
 ghost use Rattle.model.specs.Phases.{is_running, no_session, running_session};
 ghost use Rattle.model.specs.Opening.{new_session};
-ghost use Rattle.model.specs.Commands.{new_stream, running_stream};
+ghost use Rattle.model.specs.Commands.{opened_stream, running_stream};
 ghost use Rattle.engine.specs.World.{is_link_gone, IsNew};
 
 use assembly::Stream;
@@ -40,12 +40,14 @@ impl Drop for Connected {
 impl Connected {
     /// A connection of which no byte has come.
     pub(crate) fn new(alloc: Global, number: u64) -> Connected
-        ensures { IsNew result number new_session new_stream }
+        ensures { IsNew result number new_session opened_stream }
     {
+        let mut stream = Stream::new(alloc);
+        stream.set_running(false);
         Connected {
             number,
             session: Session::new(),
-            stream: Stream::new(alloc),
+            stream,
             kept: None,
             output: Output::new(alloc),
         }

@@ -3,7 +3,7 @@ use Rattle.std.proofs.Common.{◌≡◌, ◌≢◌, ◌+◌, ℕ, List, [], ◌�
 use Rattle.std.specs.Prelude.{◌==◌, if◌then◌else◌}
 use Rattle.std.proofs.lemmas.Bool.{eqb-true, eqb-false, false≢true}
 use Rattle.model.specs.Broker.{with_one}
-use Rattle.model.specs.Commands.{Stream, Yields, GoesOn, stays, goes as read_on, Ends, heard, new_stream, running_stream}
+use Rattle.model.specs.Commands.{Stream, Yields, GoesOn, stays, goes as read_on, Ends, heard, opened_stream, running_stream}
 use Rattle.model.specs.Opening.{new_session}
 use Rattle.model.specs.Phases.{Session, running_session, no_session}
 use Rattle.model.specs.State.{Config, State, Step}
@@ -208,7 +208,7 @@ reload_all old new offered os p a d = wire_as _ _ (old.wire d) (new.wire d) (ses
 
 answer_all : (old new : World) (t : Arrival Config) (os : List Occurrence) → Answers old t os new → All old → All new
 answer_all old new arrival.Open os (hs, e, p) a =
-    from_either (can_open old) (λ o. one_all old new (old.given + 1) new_session (record new_wire { stream = new_stream }) a o.happens.stepped.steps.session o.wires refl) (λ s. same_all old new a s.1.state s.1.wires) p
+    from_either (can_open old) (λ o. one_all old new (old.given + 1) new_session (record new_wire { stream = opened_stream }) a o.happens.stepped.steps.session o.wires refl) (λ s. same_all old new a s.1.state s.1.wires) p
 answer_all old new (arrival.Ready k) os (hs, e, p) a =
     from_either (can_open old) (λ o. one_all old new (old.given + 1) (record running_session { channel_max = 255 }) (record new_wire { stream = running_stream }) a o.happens.stepped.session o.wires refl) (λ s. same_all old new a s.1.state s.1.wires) p
 answer_all old new (arrival.In c bytes) os (hs, e, p) a = from_either (is_over old c) (λ s. same_all old new a s.1.state s.1.wires) (λ w. works_off_all c (with_heard old c bytes) new hs w (heard_all old c bytes a)) p

@@ -9,7 +9,7 @@ use Rattle.model.specs.Phases.{Session, is_running}
 use Rattle.model.specs.Run.{Happening, put_out, empty_state}
 use Rattle.model.specs.History.{Occurrence, Of_event, Of_reload, Reload, IsDecided, events_of, notes_over}
 use Rattle.model.specs.Spelling.{spelling, receiver, IsSpelled}
-use Rattle.model.specs.Commands.{Stream, Yields, Ends, GoesOn, HasWithin, new_stream, running_stream, heard, with_max, keeping}
+use Rattle.model.specs.Commands.{Stream, Yields, Ends, GoesOn, HasWithin, opened_stream, running_stream, heard, with_max, keeping}
 use Rattle.model.specs.declared.events.Phase.{Phase}
 use Rattle.model.specs.declared.events.Phase.TheVariants as phase
 use Rattle.model.specs.declared.events.Command.{Command}
@@ -281,7 +281,7 @@ ByEvents os Holds = (hs : List Happening) × (os ≡ map Of_event hs) × Holds h
 
 -- What one arrival brings: one for a connection that is gone does nothing, nor do bytes for one that is over. A reload offers a configuration.
 abbrev pub Answers : World → Arrival Config → List Occurrence → World → Type 0
-Answers old arrival.Open os new = ByEvents os (λ hs. MatchBool (can_open old) (Opens old (event.Open (old.given + 1)) new_stream hs new) (Nothing_happens old hs new))
+Answers old arrival.Open os new = ByEvents os (λ hs. MatchBool (can_open old) (Opens old (event.Open (old.given + 1)) opened_stream hs new) (Nothing_happens old hs new))
 Answers old (arrival.Ready k) os new = ByEvents os (λ hs. MatchBool (can_open old) (Opens old (event.Running (old.given + 1) 255 k) running_stream hs new) (Nothing_happens old hs new))
 Answers old (arrival.In c bytes) os new = ByEvents os (λ hs. MatchBool (is_over old c) (Nothing_happens old hs new) (WorksOff (with_heard old c bytes) c hs new))
 Answers old (arrival.Sent c n) os new = ByEvents os (λ hs. MatchBool (is_gone old c) (Nothing_happens old hs new) (TakesAndWorks old c n hs new))

@@ -200,9 +200,13 @@ abbrev pub Commands : Stream → List Command → Option ℕ → Type 0
 Commands s [] end = Ends s end
 Commands s (c ∷ cs) end = (next : Stream) × Yields s c next × Commands next cs end
 
--- a connection of which no byte has come: until limits are agreed on, a frame has at most 4,096 bytes (AMQP 0-9-1, frame-min-size)
+-- a stream of which no byte has come: until limits are agreed on, a frame has at most 4,096 bytes (AMQP 0-9-1, frame-min-size)
 abbrev pub new_stream : Stream
-new_stream = record { is_new = true; max = 4096; keeps = false; pending = λ h. Nothing; unread = [] }
+new_stream = record { is_new = true; max = 4096; keeps = true; pending = λ h. Nothing; unread = [] }
+
+-- that of a connection that is opened: it does not run, so contents are only counted
+abbrev pub opened_stream : Stream
+opened_stream = record new_stream { keeps = false }
 
 -- a connection that is opened as running
 abbrev pub running_stream : Stream

@@ -2,7 +2,7 @@
 use Rattle.std.specs.Prelude.{◌≡◌, ◌+◌, ℕ, List, Bool, true, false, Option, Some, None, MatchBool}
 use Rattle.model.specs.Run.{Happening, notes_of}
 use Rattle.model.specs.Phases.{is_running}
-use Rattle.model.specs.Commands.{Stream, new_stream, running_stream}
+use Rattle.model.specs.Commands.{Stream, opened_stream, running_stream}
 use Rattle.model.specs.Arrivals.{World, Same, Waits, Rests, Turns, Opens, Loses, Takes_off, Delivers, NoneCanDeliver, can_open, is_over, is_gone, with_heard}
 use Rattle.model.specs.declared.events.Event.{Event}
 use Rattle.model.specs.declared.events.Event.TheVariants as event
@@ -19,7 +19,7 @@ IsOpened e s old (Some n) new = (can_open old ≡ true) × (n ≡ new.given) × 
 
 -- a connection is opened of which no byte has come
 abbrev pub OpensNew : World → Option ℕ → World → Type 0
-OpensNew old opened new = IsOpened (event.Open (old.given + 1)) new_stream old opened new
+OpensNew old opened new = IsOpened (event.Open (old.given + 1)) opened_stream old opened new
 
 -- a connection is opened that runs at once, with channels 1 to k open
 abbrev pub OpensReady : World → ℕ → Option ℕ → World → Type 0
