@@ -6,13 +6,14 @@ ghost use Rattle.model.specs.Guarantee.{AllHold};
 ghost use Rattle.certificate.specs.Certified.{Admits};
 
 use crate::certified::all_certified;
+use crate::copies;
 use certificate_check::{CertFault, Certificate};
 use exchange_graph::Topology;
 use guarantees::Guarantee;
 use std::alloc::{AllocError, Global};
 use std::marker::Model;
 
-/// A topology and guarantees that hold of it. Only `admit` makes one.
+/// A topology and guarantees that hold of it. Only `admit` makes one, and `clone` another like it.
 pub struct Checked {
     topology: Topology,
     guarantees: Vec<Guarantee>,
@@ -79,6 +80,17 @@ impl Checked {
         ensures { result.now ≡ self.now.guarantees }
     {
         self.guarantees.as_slice()
+    }
+
+    /// The same once more, for one that is put in force twice. Texts are shared.
+    pub fn clone(&self, alloc: Global) -> Result<Checked, AllocError>
+        ensures { IfOk result (λ copy. copy ≡ self.now) }
+    {
+        self.topology.is_well_formed();
+        Ok(Checked {
+            topology: copies::topology(alloc, &self.topology)?,
+            guarantees: copies::all(alloc, self.guarantees.as_slice())?,
+        })
     }
 
     /// Its parts, and what they keep.

@@ -3,6 +3,7 @@
 
 mod admitted;
 mod certified;
+mod copies;
 mod refutations;
 mod targets;
 

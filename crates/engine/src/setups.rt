@@ -1,12 +1,27 @@
 //! What an engine is set up by.
 
-ghost use Rattle.std.specs.Prelude.{◌≡◌};
+ghost use Rattle.std.specs.Prelude.{◌≡◌, IfOk};
 ghost use Rattle.model.specs.Headline.{IsSound};
 ghost use Rattle.engine.specs.InForce.{in_force};
 
 use certificate::Checked;
 use model::User;
+use std::alloc::{AllocError, Global};
 use std::marker::Model;
+
+/// These users once more, sharing their texts.
+pub(crate) fn copied_users(alloc: Global, users: &[User]) -> Result<Vec<User>, AllocError>
+    ensures { IfOk result (λ copies. copies.items ≡ users.now) }
+{
+    let mut copies = Vec::new(alloc);
+    for user in users {
+        copies.push(User {
+            name: user.name.clone()?,
+            hash: user.hash.clone()?,
+        })?;
+    }
+    Ok(copies)
+}
 
 /// What is to be in force: a topology with guarantees that hold of it, and who may log in.
 pub struct Setup {
@@ -39,6 +54,16 @@ impl Setup {
         ensures { result ≡ in_force checked users.items }
     {
         Setup { checked, users }
+    }
+
+    /// The same once more, sharing its texts.
+    pub fn clone(&self, alloc: Global) -> Result<Setup, AllocError>
+        ensures { IfOk result (λ copy. copy ≡ self.now) }
+    {
+        Ok(Setup {
+            checked: self.checked.clone(alloc)?,
+            users: copied_users(alloc, self.users.as_slice())?,
+        })
     }
 
     /// What every setup would put in force is sound.

@@ -14,10 +14,10 @@ use std::alloc::{AllocError, Global};
 pub fn run_over<M: Machine>(
     alloc: Global,
     machine: &mut M,
-    arrivals: Vec<Arrival<M::Setup>>,
+    arrivals: &[Arrival<M::Setup>],
 ) -> Result<Transcript, AllocError>
     requires { M.world machine.old ≡ new_world (M.world machine.old).config }
-    ensures { IfOk result (λ t. IsRunOf (M.world machine.old).config (map (told M.config) arrivals.items) (M.world machine.new) t) }
+    ensures { IfOk result (λ t. IsRunOf (M.world machine.old).config (map (told M.config) arrivals.now) (M.world machine.new) t) }
 {
     machine.is_sound();
     let mut transcript = Transcript::new(alloc);
@@ -29,10 +29,10 @@ pub fn run_over<M: Machine>(
 fn play<M: Machine>(
     alloc: Global,
     machine: &mut M,
-    arrivals: Vec<Arrival<M::Setup>>,
+    arrivals: &[Arrival<M::Setup>],
     transcript: &mut Transcript,
 ) -> Result<(), AllocError>
-    ensures { OnOk result (PlaysAndTells (M.world machine.old) (map (told M.config) arrivals.items) transcript.old (M.world machine.new) transcript.new) }
+    ensures { OnOk result (PlaysAndTells (M.world machine.old) (map (told M.config) arrivals.now) transcript.old (M.world machine.new) transcript.new) }
 {
     for arrival in arrivals {
         arrive(alloc, machine, arrival, transcript)?;
@@ -44,19 +44,19 @@ fn play<M: Machine>(
 fn arrive<M: Machine>(
     alloc: Global,
     machine: &mut M,
-    arrival: Arrival<M::Setup>,
+    arrival: &Arrival<M::Setup>,
     transcript: &mut Transcript,
 ) -> Result<(), AllocError>
-    ensures { OnOk result (AnswersAndTells (M.world machine.old) (told M.config arrival) transcript.old (M.world machine.new) transcript.new) }
+    ensures { OnOk result (AnswersAndTells (M.world machine.old) (told M.config arrival.now) transcript.old (M.world machine.new) transcript.new) }
 {
     match arrival {
         Arrival::Open => open(alloc, machine, transcript),
-        Arrival::Ready(k) => open_ready(alloc, machine, k, transcript),
-        Arrival::In(c, bytes) => hear(alloc, machine, c, bytes.as_bytes(), transcript),
-        Arrival::Sent(c, n) => take(alloc, machine, c, n, transcript),
+        Arrival::Ready(k) => open_ready(alloc, machine, *k, transcript),
+        Arrival::In(c, bytes) => hear(alloc, machine, *c, bytes.as_bytes(), transcript),
+        Arrival::Sent(c, n) => take(alloc, machine, *c, *n, transcript),
         Arrival::Pump => pump(alloc, machine, transcript),
-        Arrival::Lose(c) => lose(machine, c, transcript),
-        Arrival::Reload(setup) => reload(alloc, machine, setup, transcript),
+        Arrival::Lose(c) => lose(machine, *c, transcript),
+        Arrival::Reload(setup) => reload(alloc, machine, M::copied(alloc, setup)?, transcript),
     }
 }
 

@@ -108,7 +108,7 @@ fn shown(alloc: Global, taken: &[u64]) -> Result<Transcript, Unmet> {
     let Ok(arrivals) = arrivals(alloc, taken) else {
         return Err(Unmet::Call("arrivals"));
     };
-    match run(alloc, checked, Vec::new(alloc), arrivals) {
+    match run(alloc, &checked, &[], arrivals.as_slice()) {
         Ok(shown) => Ok(shown),
         Err(_) => Err(Unmet::Call("run")),
     }
@@ -174,7 +174,7 @@ pub(crate) fn a_publish_that_waited_goes_by_what_is_in_force_then(
     let Ok(arrivals) = arrivals_with_reload(alloc, reload) else {
         return Err(Unmet::Call("arrivals"));
     };
-    let Ok(shown) = run(alloc, checked, Vec::new(alloc), arrivals) else {
+    let Ok(shown) = run(alloc, &checked, &[], arrivals.as_slice()) else {
         return Err(Unmet::Call("run"));
     };
     expect_number("the number of notes", shown.notes().len() as u64, 6)?;

@@ -80,6 +80,10 @@ impl<'a> Machine for Shut<'a> {
         ensures { IsSound (record { topology = record { exchanges = []; queues = []; bindings = [] }; guarantees = []; users = [] }) }
     {}
 
+    fn copied(_alloc: Global, _setup: &()) -> Result<(), AllocError> {
+        Ok(())
+    }
+
     fn reload(&mut self, _alloc: Global, _setup: ()) -> Result<(), ReloadFault> {
         Err(ReloadFault::Memory)
     }
@@ -158,7 +162,7 @@ pub(crate) fn arrivals_for_no_connection_do_nothing(alloc: Global) -> Result<(),
         has_memory: true,
         pumps: &mut pumps,
     };
-    let transcript = value_of("run_over", run_over(alloc, &mut machine, arrivals))?;
+    let transcript = value_of("run_over", run_over(alloc, &mut machine, arrivals.as_slice()))?;
     drop(machine);
     expect(
         "no connection is shown",

@@ -211,7 +211,7 @@ fn played(
 ) -> Result<Vec<u8>, AllocError>
     ensures { IfOk result (λ printed. PrintsRun (in_force checked users.items) arrivals.items printed.items) }
 {
-    let transcript = engine::run(alloc, checked, users, arrivals)?;
+    let transcript = engine::run(alloc, &checked, users.as_slice(), arrivals.as_slice())?;
     transcript_text(alloc, &transcript)
 }
 

@@ -1,0 +1,111 @@
+//! Topologies and guarantees once more. Their texts are shared.
+
+ghost use Rattle.std.specs.Prelude.{◌≡◌, IfOk};
+
+use exchange_graph::Topology;
+use guarantees::Guarantee;
+use model::{Binding, DeclaredQueue, Exchange, Place, Text};
+use std::alloc::{AllocError, Global};
+
+/// What can be had once more.
+pub(crate) trait Copied: Drop {
+    /// The same, sharing its texts.
+    fn copied(&self, alloc: Global) -> Result<Self, AllocError>
+        ensures { IfOk result (λ copy. copy ≡ self.now) };
+}
+
+impl Copied for Text {
+    fn copied(&self, _alloc: Global) -> Result<Text, AllocError> {
+        self.clone()
+    }
+}
+
+impl Copied for Exchange {
+    fn copied(&self, alloc: Global) -> Result<Exchange, AllocError> {
+        Ok(Exchange {
+            name: self.name.clone()?,
+            kind: self.kind,
+            internal: self.internal,
+            alternate: perhaps(alloc, &self.alternate)?,
+        })
+    }
+}
+
+impl Copied for DeclaredQueue {
+    fn copied(&self, alloc: Global) -> Result<DeclaredQueue, AllocError> {
+        Ok(DeclaredQueue {
+            name: self.name.clone()?,
+            limit: self.limit,
+            byte_limit: self.byte_limit,
+            dead_letter_exchange: perhaps(alloc, &self.dead_letter_exchange)?,
+            dead_letter_key: perhaps(alloc, &self.dead_letter_key)?,
+        })
+    }
+}
+
+impl Copied for Place {
+    fn copied(&self, _alloc: Global) -> Result<Place, AllocError> {
+        match self {
+            Place::Exchange(name) => Ok(Place::Exchange(name.clone()?)),
+            Place::Queue(name) => Ok(Place::Queue(name.clone()?)),
+        }
+    }
+}
+
+impl Copied for Binding {
+    fn copied(&self, alloc: Global) -> Result<Binding, AllocError> {
+        Ok(Binding {
+            source: self.source.clone()?,
+            to: self.to.copied(alloc)?,
+            key: self.key.clone()?,
+        })
+    }
+}
+
+impl Copied for Guarantee {
+    fn copied(&self, alloc: Global) -> Result<Guarantee, AllocError> {
+        self.are_patterns();
+        let copy = Guarantee::new(
+            self.mode(),
+            self.exchange().clone()?,
+            self.pattern().clone()?,
+            self.queue().clone()?,
+            all(alloc, self.excepts())?,
+        );
+        copy.ok_or(AllocError)
+    }
+}
+
+/// A text once more, if there is one.
+fn perhaps(alloc: Global, text: &Option<Text>) -> Result<Option<Text>, AllocError>
+    ensures { IfOk result (λ copy. copy ≡ text.now) }
+{
+    match text {
+        Some(text) => Ok(Some(text.copied(alloc)?)),
+        None => Ok(None),
+    }
+}
+
+/// All of these once more, in their order.
+pub(crate) fn all<T: Copied>(alloc: Global, those: &[T]) -> Result<Vec<T>, AllocError>
+    ensures { IfOk result (λ copies. copies.items ≡ those.now) }
+{
+    let mut copies = Vec::new(alloc);
+    for one in those {
+        copies.push(one.copied(alloc)?)?;
+    }
+    Ok(copies)
+}
+
+/// The same topology.
+pub(crate) fn topology(alloc: Global, topology: &Topology) -> Result<Topology, AllocError>
+    ensures { IfOk result (λ copy. copy ≡ topology.now) }
+{
+    topology.is_buildable();
+    Topology::sound(
+        alloc,
+        all(alloc, topology.exchanges())?,
+        all(alloc, topology.queues())?,
+        all(alloc, topology.bindings())?,
+    )
+}
