@@ -1,3 +1,5 @@
 pub mod Listed
 pub mod Whole
 pub mod Spelling
+pub mod Joining
+pub mod Drafting

@@ -83,7 +83,7 @@ form_depth Whole t ss = let a = states_depth ss in omega (arith, a)
 form_depth (Sliced places) t ss = let a = states_depth ss in let b = places_depth places in omega (arith, a, b)
 form_depth (Excepting excepts places) t ss = let a = states_depth ss in let b = places_depth places in let d = excepts_depth excepts in omega (arith, a, b, d)
 
-certificate_depth : (c : Certificate) → depth (certificate_data c) ≤ 3
+pub certificate_depth : (c : Certificate) → depth (certificate_data c) ≤ 3
 certificate_depth c = form_depth c.form (texts_of c) c.states
 
 pub file_depth : (cs : List Certificate) → depth (file_data cs) ≤ 127
@@ -109,7 +109,7 @@ form_whole Whole t ss = rw (states_whole ss) refl
 form_whole (Sliced places) t ss = rw (states_whole ss, places_whole places) refl
 form_whole (Excepting excepts places) t ss = rw (states_whole ss, places_whole places, excepts_whole excepts) refl
 
-certificate_whole : (c : Certificate) → has_float (certificate_data c) ≡ false
+pub certificate_whole : (c : Certificate) → has_float (certificate_data c) ≡ false
 certificate_whole c = form_whole c.form (texts_of c) c.states
 
 pub file_whole : (cs : List Certificate) → has_float (file_data cs) ≡ false

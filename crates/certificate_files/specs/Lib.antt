@@ -4,3 +4,5 @@ pub mod Stated
 pub mod Reads
 pub mod Spelled
 pub mod Writes
+pub mod Joined
+pub mod Drafts

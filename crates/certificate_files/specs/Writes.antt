@@ -10,7 +10,7 @@ use Rattle.serde_json.specs.declared.value.Value.{Value}
 use Rattle.model.specs.Words.{Text}
 use Rattle.model.specs.Certificates.{Certificate, Form, Whole, Sliced, Excepting}
 use Rattle.certificate_files.specs.declared.unwritten.Unwritten.{Unwritten}
-use Rattle.certificate_files.specs.declared.unwritten.Unwritten.TheVariants.{NotText, Memory}
+use Rattle.certificate_files.specs.declared.unwritten.Unwritten.TheVariants.{NotText, TooLong, Memory}
 use Rattle.certificate_files.specs.Spelled.{certificate_data, excepts_data, file_data, form_data, Texts}
 use Rattle.certificate_files.specs.Reads.{IsCertificatesFile}
 
@@ -28,9 +28,10 @@ pub record AreTexts (c : Certificate) : Type 0 where
   pub queue : IsUtf8 c.queue
   pub excepts : HasTexts c.form
 
--- nothing is written for this reason alone; want of memory owes nothing
+-- nothing is written for this reason alone, and no length is one; want of memory owes nothing
 abbrev pub FailsToWrite : Unwritten → Type 0 → Type 0
 FailsToWrite NotText why = why → ⊥
+FailsToWrite TooLong why = ⊥
 FailsToWrite Memory why = Unit {0}
 
 -- the text is lent, or is no UTF-8, or memory was refused

@@ -7,6 +7,8 @@ use std::alloc::{AllocError, AllocFailed};
 pub enum Unwritten {
     /// A text of some certificate is not UTF-8, as every text of a JSON file is.
     NotText,
+    /// Their file would be too long to be read back.
+    TooLong,
     /// A growth was refused.
     Memory,
 }

@@ -171,7 +171,7 @@ fn value_of(
 }
 
 /// The value of a certificate.
-fn certificate_value(alloc: Global, certificate: &Certificate) -> Result<Value, Unwritten>
+pub fn certificate_value(alloc: Global, certificate: &Certificate) -> Result<Value, Unwritten>
     ensures { GivesData result certificate.now }
 {
     let texts = Texts {
