@@ -5,7 +5,8 @@
                           program left without a refusal. Then the parent goes on to the next growth.
    REFUSE_LATER=1         another child has each later growth refused too
    REFUSE_AGAIN=1         the last line of the output, which begins with "again:", may differ: its numbers are added up
-   REFUSE_FILE=PATH       a file that the program writes: a child that ends for want of memory must have written none
+   REFUSE_FILE=PATH       a file that the program writes: a child that ends for want of memory must have written none,
+                          and may have printed all before
    REFUSE_AT=N            no fork: the Nth growth behind the first accept is refused
    FAIL_CALL, FAIL_AT, FAIL_ERROR    the call of this name that is the FAIL_ATth behind the first accept fails so
    REFUSE_REPORT=PATH     where what came of it is appended */
@@ -137,7 +138,7 @@ static void judge(int all, int status) {
     int outs = again ? is_same_but_for_the_counts(out) : out == expected_out_len && !memcmp(made_out, expected_out, out);
     if (code == expected_status && errs && outs) same++;
     else if (again && code == 4 && !out && !err) memory++; /* its input could not be read */
-    else if (!again && code == 4 && out == 0 && err == 15 && !memcmp(made_err, "warren: memory\n", 15) && has_written_nothing()) memory++;
+    else if (!again && code == 4 && (out == 0 || (written_file && outs)) && err == 15 && !memcmp(made_err, "warren: memory\n", 15) && has_written_nothing()) memory++;
     else {
         other++;
         made_out[out < 300 ? out : 300] = made_err[err < 200 ? err : 200] = 0;

@@ -1,5 +1,5 @@
 -- What is known of files that are kept stays known.
-use Rattle.std.proofs.Common.{◌≡◌, ◌≤◌, ℕ, List, Option, Some, length, sym, subst, inl, inr, arith}
+use Rattle.std.proofs.Common.{◌≡◌, ◌≤◌, ℕ, List, [], Option, Some, None, length, sym, subst, inl, inr, arith}
 use Rattle.std.proofs.lemmas.Option.{slice_get_within}
 use Rattle.std.proofs.Math.Path.{fun_ext}
 use Rattle.model.specs.Words.{Text}
@@ -12,14 +12,16 @@ use Rattle.definitions.specs.Reads.{Stated}
 use Rattle.guarantee_search.specs.declared.verdicts.Verdict.{Verdict}
 use Rattle.server.specs.declared.refusals.CommandRefusal.{CommandRefusal}
 use Rattle.server.specs.declared.refusals.CommandRefusal.TheVariants.{Line, Refused, TooLong, Unread, Unwritten, NoExchange, Certificate as OfCertificate, NotListening, Memory}
-use Rattle.command_line.specs.CommandLine.{Wanted, Check}
+use Rattle.certificate_files.specs.Drafts.{Adds}
+use Rattle.certificate_files.specs.declared.drafts.Draft.{Draft}
+use Rattle.command_line.specs.CommandLine.{Wanted}
 use Rattle.named_files.specs.Files.{Known, AreKept}
 use Rattle.named_files.specs.Stated.{SetsUp, FailsToSetUp, FailsToCertify, IsWhyUncertified}
 use Rattle.named_files.proofs.Kept.{kept_then, kept_but_then, why_kept}
-use Rattle.verdicts.specs.Verdicts.{FindsVerdicts, status_of_verdicts}
+use Rattle.verdicts.specs.Verdicts.{JudgesAll}
 use Rattle.named_files.specs.declared.refusals.FileRefusal.{FileRefusal}
 use Rattle.server.specs.Refusals.{of_refused, IsOfFile}
-use Rattle.server.specs.Program.{unwritten, wanting, IsNotAnswered, FilesAreLeft, IsUnfiled, IsFiled, WritesOut, unnamed, doubtful, filed}
+use Rattle.server.specs.Program.{wanting, Drafts, IsJudgedUnfiled, IsNotAnswered, FilesAreLeft, IsUnfiled, IsFiled, WritesOut, unnamed, doubtful, filed}
 
 -- ---- files
 
@@ -68,19 +70,39 @@ writes_then a b c out vs k (unnamed h) = unnamed (kept_then a b c k h)
 writes_then a b c out vs k (doubtful n h) = doubtful n (kept_then a b c k h)
 writes_then a b c out vs k (filed z h) = filed z (filed_then a b c _ _ k h)
 
+unfiled_then : (a b c : Text → Known) (file : Text) (why : CommandRefusal) → AreKept a b → IsUnfiled b c file why → IsUnfiled a c file why
+unfiled_then a b c file (Line n) k h = absurd h.0
+unfiled_then a b c file (Refused n) k h = absurd h.0
+unfiled_then a b c file TooLong k h = absurd h.0
+unfiled_then a b c file Unread k h = absurd h.0
+unfiled_then a b c file Unwritten k h = (h.0, kept_but_then file a b c k h.1)
+unfiled_then a b c file NoExchange k h = absurd h.0
+unfiled_then a b c file (OfCertificate n fault) k h = absurd h.0
+unfiled_then a b c file NotListening k h = absurd h.0
+unfiled_then a b c file Memory k h = (h.0, kept_then a b c k h.1)
+
 -- all guarantees hold, and their certificates are not written
-pub unfiled : (a b c : Text → Known) (definitions guarantees : Text) (out : Option Text) (file : Text) (why : CommandRefusal) (stated : Stated) (gs : List Guarantee) (vs : List Verdict)
-    → SetsUp a (Some definitions) (Some guarantees) stated gs → FindsVerdicts stated.topology gs vs → out ≡ Some file → status_of_verdicts vs ≡ 0
-    → AreKept a b → IsUnfiled b c file why → IsNotAnswered a c (Check definitions guarantees out) file why
-unfiled a b c d g out file (Line n) stated gs vs s f o z k h = absurd h.0
-unfiled a b c d g out file (Refused n) stated gs vs s f o z k h = absurd h.0
-unfiled a b c d g out file TooLong stated gs vs s f o z k h = absurd h.0
-unfiled a b c d g out file Unread stated gs vs s f o z k h = absurd h.0
-unfiled a b c d g out file Unwritten stated gs vs s f o z k h = (rw o (unwritten stated gs vs s f z), kept_but_then file a b c k h.1)
-unfiled a b c d g out file NoExchange stated gs vs s f o z k h = absurd h.0
-unfiled a b c d g out file (OfCertificate n fault) stated gs vs s f o z k h = absurd h.0
-unfiled a b c d g out file NotListening stated gs vs s f o z k h = absurd h.0
-unfiled a b c d g out file Memory stated gs vs s f o z k h = (wanting, kept_then a b c k h.1)
+pub unfiled : (a b c : Text → Known) (definitions guarantees : Text) (out : Option Text) (file text : Text) (why : CommandRefusal) (status : ℕ) (stated : Stated) (gs : List Guarantee) (vs : List Verdict)
+    → SetsUp a (Some definitions) (Some guarantees) stated gs → JudgesAll stated.topology gs vs text status → out ≡ Some file → status ≡ 0
+    → AreKept a b → IsUnfiled b c file why → (out ≡ Some file) × IsJudgedUnfiled a c definitions guarantees file text why
+unfiled a b c d g out file text why status stated gs vs s j o z k h = (
+  o,
+  record {
+    stated = stated;
+    promised = gs;
+    set_up = s;
+    verdicts = vs;
+    judged = subst (λ (n : ℕ). JudgesAll stated.topology gs vs text n) z j;
+    unfiled = unfiled_then a b c file why k h;
+  },
+)
+
+-- the draft of a named file, with what was added
+pub drafted : (out : Option Text) (before after : Option Draft) (cs : List Certificate) → Drafts out before [] → Adds before after cs → Drafts out after cs
+drafted None before after cs d a = tt
+drafted (Some file) None after cs d a = absurd d
+drafted (Some file) (Some e) None cs d a = absurd a
+drafted (Some file) (Some e) (Some f) cs d a = a [] d
 
 -- memory was wanting
 pub wants : (a b : Text → Known) (wanted : Wanted) (file : Text) (why : CommandRefusal) → why ≡ Memory → AreKept a b → IsNotAnswered a b wanted file why

@@ -6,9 +6,10 @@ use Rattle.clap.specs.declared.error.Error.{Error}
 use Rattle.command_line.specs.CommandLine.{Wanted, AsksFor, AreWordsRefused}
 use Rattle.model.specs.Words.{Text}
 use Rattle.named_files.specs.Files.{Known, AreKept}
-use Rattle.server.specs.Streams.{OutputStream, GetsNothing, TriesPut, tried}
+use Rattle.server.specs.Streams.{OutputStream, GetsNothing, PutsOut, TriesPut, change, tried}
 use Rattle.server.specs.declared.refusals.CommandRefusal.{CommandRefusal}
-use Rattle.server.specs.Program.{RunsAs, printed, told_of, untold, unasked, unread, IsCommandAnswered, IsNotAnswered, RefusesWith, ShowsError, status_of}
+use Rattle.server.specs.declared.refusals.Told.{Told}
+use Rattle.server.specs.Program.{RunsAs, printed, put_unfiled, told_of, untold, unasked, unread, AnswersBut, IsCommandAnswered, IsNotAnswered, PutsBoth, RefusesWith, ShowsError, out_of_memory, refusal_line, status_of}
 
 -- ---- streams
 
@@ -45,6 +46,36 @@ piece_put a b c text rest n h p = record {
 pub nothing_put : (a b c : Option Text) (text rest : Text) → HasPut a b text rest → Keeps b c → HasPut a c text rest
 nothing_put a b c text rest h p = record { front = h.front; whole = h.whole; gets = no_more a b c h.front h.gets p }
 
+-- ---- a stream that is written to behind a call that wrote nothing
+
+kept_append : (a b c : Option Text) (xs : Text) → Keeps a b → Appends b c xs → Appends a c xs
+kept_append None b c xs p q = tt
+kept_append (Some x) None c xs p q = absurd p
+kept_append (Some x) (Some y) None xs p q = absurd q
+kept_append (Some x) (Some y) (Some z) xs p q = q ∙ ap (λ (l : Text). l ++ xs) p
+
+kept_keeps : (a b c : Option Text) → Keeps a b → Keeps b c → Keeps a c
+kept_keeps None b c p q = tt
+kept_keeps (Some x) None c p q = absurd p
+kept_keeps (Some x) (Some y) None p q = absurd q
+kept_keeps (Some x) (Some y) (Some z) p q = q ∙ p
+
+kept_put : (a b c : Option Text) (text : Text) (whole : Bool) → Keeps a b → PutsOut (change b c) text whole → PutsOut (change a c) text whole
+kept_put a b c text true k p = kept_append a b c text k p
+kept_put a b c text false k p = record { front = p.front; rest = p.rest; whole = p.whole; left = p.left; gets = kept_append a b c p.front k p.gets }
+
+kept_refuses : (a b c : Option Text) (file : Text) (why : CommandRefusal) (n : ℕ) → Keeps a b → RefusesWith (change b c) file why n → RefusesWith (change a c) file why n
+kept_refuses a b c file why n k put =
+    elim put [
+      | inl told ↦ inl (told.0, kept_put a b c (refusal_line file why) told.0 k told.1, told.2)
+      | inr told ↦ inr (told.0, kept_put a b c out_of_memory told.0 k told.1, told.2)
+    ]
+
+kept_both : (out : OutputStream) (a b c : Option Text) (text : Text) (wanted : ℕ) (unwritten : Option Told) (n : ℕ) → Keeps a b
+    → PutsBoth out (change b c) text wanted unwritten n → PutsBoth out (change a c) text wanted unwritten n
+kept_both out a b c text wanted None n k p = (p.0, kept_keeps a b c k p.1)
+kept_both out a b c text wanted (Some told) n k p = (p.0, p.1, kept_refuses a b c told.file.now told.why n k p.2)
+
 -- ---- the program
 
 at_status : (words : List Text) (before after : Text → Known) (out err : OutputStream) (m n : ℕ) → n ≡ m → RunsAs words before after out err m → RunsAs words before after out err n
@@ -54,10 +85,21 @@ four : (done : Bool) → tried done 4 ≡ 4
 four true = refl
 four false = refl
 
-pub prints : (words : List Text) (before after : Text → Known) (out err : OutputStream) (wanted : Wanted) (text : Text) (status n : ℕ)
+prints : (words : List Text) (before after : Text → Known) (out err : OutputStream) (wanted : Wanted) (text : Text) (status n : ℕ)
     → AsksFor words wanted → IsCommandAnswered before after wanted text status → GetsNothing err → TriesPut out text status n → RunsAs words before after out err n
 prints words before after out err wanted text status n asks is quiet put =
     at_status words before after out err (tried put.0 status) n put.2 (printed wanted text status put.0 asks is put.1 quiet)
+
+puts_but : (words : List Text) (before after : Text → Known) (out err : OutputStream) (wanted : Wanted) (text : Text) (status n : ℕ) (unwritten : Option Told)
+    → AsksFor words wanted → AnswersBut before after wanted text status unwritten → PutsBoth out err text status unwritten n → RunsAs words before after out err n
+puts_but words before after out err wanted text status n None asks is put = prints words before after out err wanted text status n asks is put.1 put.0
+puts_but words before after out err wanted text status n (Some told) asks is put = put_unfiled told.why put.0 asks is put.1 put.2
+
+-- what was answered, with nothing on standard error, is put out
+pub puts : (words : List Text) (before after : Text → Known) (out : OutputStream) (a b c : Option Text) (wanted : Wanted) (text : Text) (status n : ℕ) (unwritten : Option Told)
+    → AsksFor words wanted → AnswersBut before after wanted text status unwritten → Keeps a b → PutsBoth out (change b c) text status unwritten n → RunsAs words before after out (change a c) n
+puts words before after out a b c wanted text status n unwritten asks is quiet put =
+    puts_but words before after out (change a c) wanted text status n unwritten asks is (kept_both out a b c text status unwritten n quiet put)
 
 pub tells : (words : List Text) (before after : Text → Known) (out err : OutputStream) (wanted : Wanted) (file : Text) (why : CommandRefusal) (n : ℕ)
     → AsksFor words wanted → IsNotAnswered before after wanted file why → GetsNothing out → RefusesWith err file why n → RunsAs words before after out err n

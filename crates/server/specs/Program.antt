@@ -12,12 +12,15 @@ use Rattle.clap.specs.declared.error.kind.ErrorKind.{ErrorKind}
 use Rattle.clap.specs.declared.error.kind.ErrorKind.TheVariants.{OutOfMemory}
 use Rattle.definitions.specs.Reads.{Stated}
 use Rattle.certificate_check.specs.declared.faults.CertFault.{CertFault}
+use Rattle.certificate_files.specs.Drafts.{IsDraft}
 use Rattle.certificate_files.specs.Reads.{IsCertificatesFile}
+use Rattle.certificate_files.specs.declared.drafts.Draft.{Draft}
 use Rattle.certificate.specs.Certified.{AreCertified, FailsFirst}
 use Rattle.guarantee_search.specs.declared.verdicts.Verdict.{Verdict}
 use Rattle.model.specs.Headline.{CertifiedDelivery}
 use Rattle.command_line.specs.CommandLine.{Wanted, Check, Verify, Replay, Serve, Route, AsksFor, AsksNothing}
 use Rattle.server.specs.declared.refusals.CommandRefusal.{CommandRefusal}
+use Rattle.server.specs.declared.refusals.Told.{Told}
 use Rattle.server.specs.declared.replaying.BrokerFiles.{BrokerFiles}
 use Rattle.server.specs.declared.refusals.CommandRefusal.TheVariants.{Line, Refused, TooLong, Unread, Unwritten, NoExchange, Certificate, NotListening, Memory}
 use Rattle.server.specs.Refusals.{IsOfFile}
@@ -28,7 +31,7 @@ use Rattle.server.specs.Routes.{ListsExchange}
 use Rattle.named_files.specs.Files.{Known, HasText, IsTooLong, IsUnreadable, AreKept, AreKeptBut, most_bytes}
 use Rattle.server.specs.Streams.{OutputStream, GetsNothing, PutsOut, TriesPut, tried}
 use Rattle.named_files.specs.Stated.{file_named, States, HoldsCertificates, CertifiesAt, SetsUp, FailsToSetUp, FailsToCertify}
-use Rattle.verdicts.specs.Verdicts.{FindsVerdicts, JudgesAll, certificates_in, status_of_verdicts}
+use Rattle.verdicts.specs.Verdicts.{JudgesAll, certificates_in, status_of_verdicts}
 use Rattle.verdicts.specs.Outcomes.{Verifies, fault_number}
 
 -- ---- what is in force
@@ -150,6 +153,12 @@ pub data WritesOut (before after : Text → Known) : Option Text → List Verdic
   -- all hold
   filed : {file : Text} {verdicts : List Verdict} → status_of_verdicts verdicts ≡ 0 → IsFiled before after file (certificates_in verdicts) → WritesOut before after (Some file) verdicts
 
+-- a file is named, and its draft is of these certificates
+abbrev pub Drafts : Option Text → Option Draft → List Shown → Type 0
+Drafts None draft cs = Unit {0}
+Drafts (Some file) None cs = ⊥
+Drafts (Some file) (Some draft) cs = IsDraft draft cs
+
 -- ---- refusals
 
 -- the line that tells of a file: `warren: FILE: ` and what is wrong with it
@@ -233,6 +242,15 @@ pub record IsJudged (before after : Text → Known) (definitions guarantees : Te
   pub judged : JudgesAll stated.topology promised verdicts text status
   pub written : WritesOut before after out verdicts
 
+-- `check`, where all guarantees hold and their file is not written: the verdicts all the same, and why it is not
+pub record IsJudgedUnfiled (before after : Text → Known) (definitions guarantees file text : Text) (why : CommandRefusal) : Type 0 where
+  pub stated : Stated
+  pub promised : List Guarantee
+  pub set_up : SetsUp before (Some definitions) (Some guarantees) stated promised
+  pub verdicts : List Verdict
+  pub judged : JudgesAll stated.topology promised verdicts text 0
+  pub unfiled : IsUnfiled before after file why
+
 -- `verify`: whether the certificate of each guarantee is accepted
 pub record IsVerified (holds : Text → Known) (definitions guarantees certificates text : Text) (status : ℕ) : Type 0 where
   pub stated : Stated
@@ -261,6 +279,19 @@ IsCommandAnswered before after (Verify definitions guarantees certificates) text
 IsCommandAnswered before after (Replay script definitions guarantees certificates) text status = IsReplayed before script definitions guarantees certificates text status × AreKept before after
 IsCommandAnswered before after (Serve definitions guarantees certificates listen turns reload) text status = ⊥
 IsCommandAnswered before after (Route definitions exchange key) text status = IsRouted before definitions exchange key text status × AreKept before after
+
+-- what a command prints that was to write a file, why it could not, and the files before and after it
+abbrev pub IsAnsweredUnfiled : (Text → Known) → (Text → Known) → Wanted → Text → Text → CommandRefusal → Type 0
+IsAnsweredUnfiled before after (Check definitions guarantees out) text file why = (out ≡ Some file) × IsJudgedUnfiled before after definitions guarantees file text why
+IsAnsweredUnfiled before after (Verify definitions guarantees certificates) text file why = ⊥
+IsAnsweredUnfiled before after (Replay script definitions guarantees certificates) text file why = ⊥
+IsAnsweredUnfiled before after (Serve definitions guarantees certificates listen turns reload) text file why = ⊥
+IsAnsweredUnfiled before after (Route definitions exchange key) text file why = ⊥
+
+-- a command is answered whole, or but for a file of which this is told
+abbrev pub AnswersBut : (Text → Known) → (Text → Known) → Wanted → Text → ℕ → Option Told → Type 0
+AnswersBut before after wanted text status None = IsCommandAnswered before after wanted text status
+AnswersBut before after wanted text status (Some told) = IsAnsweredUnfiled before after wanted text told.file.now told.why
 
 -- the definitions file that a command names
 abbrev pub definitions_of : Wanted → Option Text
@@ -339,10 +370,6 @@ pub data Fails (holds : Text → Known) : Wanted → Text → CommandRefusal →
   -- the script is refused, or the files of a reload in it, over what is in force
   unplayed : {script file : Text} {why : CommandRefusal} {definitions guarantees certificates : Option Text} (force : Config)
       → IsInForce holds definitions guarantees certificates force → FailsToPlay holds script file why → Fails holds (Replay script definitions guarantees certificates) file why
-  -- all guarantees hold, and their certificates are not written
-  unwritten : {definitions guarantees file : Text} (stated : Stated) (gs : List Guarantee) (verdicts : List Verdict)
-      → SetsUp holds (Some definitions) (Some guarantees) stated gs → FindsVerdicts stated.topology gs verdicts → status_of_verdicts verdicts ≡ 0
-      → Fails holds (Check definitions guarantees (Some file)) file Unwritten
   -- the exchange is not there
   unrouted : {file exchange key : Text} → ListsFile (holds file) exchange key None → Fails holds (Route file exchange key) file NoExchange
   -- this call opens no socket
@@ -378,6 +405,11 @@ pub record IsWhyTold (before after : Text → Known) (wanted : Wanted) (err : Ou
   pub fails : IsNotAnswered before after wanted file why
   pub told : RefusesWith err file why status
 
+-- the text was put out, with this status; and then, where this is told of a file, the line of it
+abbrev pub PutsBoth : OutputStream → OutputStream → Text → ℕ → Option Told → ℕ → Type 0
+PutsBoth out err text wanted None status = TriesPut out text wanted status × GetsNothing err
+PutsBoth out err text wanted (Some told) status = (done : Bool) × PutsOut out text done × RefusesWith err told.file.now told.why status
+
 -- a command line that was refused for this was shown: want of memory by our own line, any other by clap's text
 abbrev pub ShowsError : ErrorKind → OutputStream → ℕ → Type 0
 ShowsError kind err status = ((kind ≡ OutOfMemory) × TriesPut err out_of_memory 4 status) ⊎ ((kind ≡ OutOfMemory → ⊥) × ((done : Bool) × (status ≡ tried done 3)))
@@ -388,6 +420,9 @@ pub data RunsAs (words : List Text) (before after : Text → Known) (out err : O
   -- what the command answers was put out
   printed : (wanted : Wanted) (text : Text) (status : ℕ) (done : Bool) → AsksFor words wanted → IsCommandAnswered before after wanted text status → PutsOut out text done → GetsNothing err
       → RunsAs words before after out err (tried done status)
+  -- what it answers was put out, and then was told why a file is not written
+  put_unfiled : {wanted : Wanted} {text file : Text} {status : ℕ} (why : CommandRefusal) (done : Bool) → AsksFor words wanted → IsAnsweredUnfiled before after wanted text file why → PutsOut out text done
+      → RefusesWith err file why status → RunsAs words before after out err status
   -- why it prints nothing was told
   told_of : {wanted : Wanted} {file : Text} (why : CommandRefusal) (done : Bool) → AsksFor words wanted → IsNotAnswered before after wanted file why → GetsNothing out → PutsOut err (refusal_line file why) done
       → RunsAs words before after out err (tried done (status_of why))

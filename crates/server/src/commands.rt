@@ -8,19 +8,19 @@ ghost use Rattle.named_files.specs.Files.{AreKept};
 ghost use Rattle.named_files.specs.Stated.{FailsToState, file_named};
 ghost use Rattle.server.specs.Streams.{GetsNothing, change};
 ghost use Rattle.server.specs.Program.{
+  AnswersBut,
   RunsAs,
   Fails,
-  IsCommandAnswered,
-  IsJudged,
   IsNotAnswered,
   IsRouted,
   IsVerified,
   IsWhyTold,
   ListsFile,
+  PutsBoth,
   ShowsError,
 };
 
-use crate::filing::write_out;
+use crate::filing::{draft_for, write_out};
 use crate::refusals::{CommandRefusal, Told, refuse_memory, tell, told_of};
 use crate::replaying::{BrokerFiles, replay};
 use crate::routes::routed;
@@ -34,28 +34,52 @@ use std::convert::AsStr;
 use std::io::Write;
 use verdicts::{Output, judge, verify};
 
+/// What a command prints, with its status; and what is told of a file that it was to write, where it could not.
+#[derive(Drop)]
+struct Answered<'a> {
+    output: Output,
+    unwritten: Option<Told<'a>>,
+}
+
+impl<'a> From<Output> for Answered<'a> {
+    ghost use Rattle.std.specs.Prelude.{◌≡◌, None};
+
+    ghost from_gives = { λ output answered. (answered.output ≡ output) × (answered.unwritten ≡ None) };
+
+    fn from(output: Output) -> Answered<'a> {
+        Answered {
+            output,
+            unwritten: None,
+        }
+    }
+}
+
 /// `check DEFS GUARANTEES`: the verdict on each guarantee; the certificates are written where a file is named and all
-/// guarantees hold.
+/// guarantees hold. Where they can't be written the verdicts are answered all the same.
 fn check<'a, F: Files>(
     alloc: Global,
     definitions: &'a str,
     guarantees: &'a str,
     out: Option<&'a str>,
     files: &mut F,
-) -> Result<Output, Told<'a>>
-    ensures { MatchResult result (λ o. IsJudged (F.holds files.old) (F.holds files.new) definitions.now guarantees.now (file_named out.entry) o.text.items o.status) (λ told. IsNotAnswered (F.holds files.old) (F.holds files.new) (Check definitions.now guarantees.now (file_named out.entry)) told.file.now told.why) }
+) -> Result<Answered<'a>, Told<'a>>
+    ensures { MatchResult result (λ a. AnswersBut (F.holds files.old) (F.holds files.new) (Check definitions.now guarantees.now (file_named out.entry)) a.output.text.items a.output.status a.unwritten) (λ told. IsNotAnswered (F.holds files.old) (F.holds files.new) (Check definitions.now guarantees.now (file_named out.entry)) told.file.now told.why) }
 {
     let setup = match set_up(alloc, Some(definitions), Some(guarantees), files) {
         Ok(setup) => setup,
         Err(refused) => return Err(told_of(refused)),
     };
-    let (output, verdicts) = match judge(alloc, &setup.topology, setup.guarantees.as_slice()) {
+    let draft = draft_for(alloc, out);
+    let (output, draft) = match judge(alloc, &setup.topology, setup.guarantees.as_slice(), draft) {
         Ok(judged) => judged,
         Err(error) => return Err(Told::from(error)),
     };
-    match write_out(alloc, out, output.status, verdicts, files) {
-        Ok(_) => Ok(output),
-        Err(told) => Err(told),
+    match write_out(out, output.status, draft, files) {
+        Ok(_) => Ok(Answered::from(output)),
+        Err(told) => Ok(Answered {
+            output,
+            unwritten: Some(told),
+        }),
     }
 }
 
@@ -138,13 +162,13 @@ fn route<'a, F: Files>(
 
 /// What a command answers; or the status, once it is told why it prints nothing. To serve takes sockets, of which this has
 /// none.
-fn answer<F: Files, E: Write>(
+fn answer<'a, F: Files, E: Write>(
     alloc: Global,
-    asked: Asked<'_>,
+    asked: Asked<'a>,
     files: &mut F,
     err: &mut E,
-) -> Result<Output, u8>
-    ensures { MatchResult result (λ o. IsCommandAnswered (F.holds files.old) (F.holds files.new) (wanted_of asked.entry) o.text.items o.status × GetsNothing (change (E.contents err.old) (E.contents err.new))) (λ status. IsWhyTold (F.holds files.old) (F.holds files.new) (wanted_of asked.entry) (change (E.contents err.old) (E.contents err.new)) status) }
+) -> Result<Answered<'a>, u8>
+    ensures { MatchResult result (λ a. AnswersBut (F.holds files.old) (F.holds files.new) (wanted_of asked.entry) a.output.text.items a.output.status a.unwritten × GetsNothing (change (E.contents err.old) (E.contents err.new))) (λ status. IsWhyTold (F.holds files.old) (F.holds files.new) (wanted_of asked.entry) (change (E.contents err.old) (E.contents err.new)) status) }
 {
     match asked {
         Asked::Check {
@@ -152,7 +176,7 @@ fn answer<F: Files, E: Write>(
             guarantees,
             out,
         } => match check(alloc, definitions, guarantees, out, files) {
-            Ok(output) => Ok(output),
+            Ok(answered) => Ok(answered),
             Err(told) => Err(tell(alloc, err, told)),
         },
         Asked::Verify {
@@ -160,7 +184,7 @@ fn answer<F: Files, E: Write>(
             guarantees,
             certificates,
         } => match verify_files(alloc, definitions, guarantees, certificates, files) {
-            Ok(output) => Ok(output),
+            Ok(output) => Ok(Answered::from(output)),
             Err(told) => Err(tell(alloc, err, told)),
         },
         Asked::Replay {
@@ -168,17 +192,17 @@ fn answer<F: Files, E: Write>(
             definitions,
             guarantees,
             certificates,
-        } => replay(
-            alloc,
-            script,
-            BrokerFiles {
+        } => {
+            let named = BrokerFiles {
                 definitions,
                 guarantees,
                 certificates,
-            },
-            files,
-            err,
-        ),
+            };
+            match replay(alloc, script, named, files, err) {
+                Ok(output) => Ok(Answered::from(output)),
+                Err(status) => Err(status),
+            }
+        }
         Asked::Serve { .. } => {
             let why = CommandRefusal::NotListening;
             Err(tell(alloc, err, Told { file: "", why }))
@@ -188,9 +212,26 @@ fn answer<F: Files, E: Write>(
             exchange,
             key,
         } => match route(alloc, definitions, exchange, key, files) {
-            Ok(output) => Ok(output),
+            Ok(output) => Ok(Answered::from(output)),
             Err(told) => Err(tell(alloc, err, told)),
         },
+    }
+}
+
+/// Puts out what a command answers, and then tells of a file that it could not write; and gives the status.
+fn put_answer<O: Write, E: Write>(
+    alloc: Global,
+    answered: Answered<'_>,
+    out: &mut O,
+    err: &mut E,
+) -> u8
+    ensures { PutsBoth (change (O.contents out.old) (O.contents out.new)) (change (E.contents err.old) (E.contents err.new)) answered.entry.output.text.items answered.entry.output.status answered.entry.unwritten result }
+{
+    let Answered { output, unwritten } = answered;
+    let status = tried(put(out, output.text.as_slice()), output.status);
+    match unwritten {
+        None => status,
+        Some(told) => tell(alloc, err, told),
     }
 }
 
@@ -215,7 +256,7 @@ pub fn answer_asked<F: Files, O: Write, E: Write>(
     ensures { (words : List Text) → AsksFor words (wanted_of asked.entry) → RunsAs words (F.holds files.old) (F.holds files.new) (change (O.contents out.old) (O.contents out.new)) (change (E.contents err.old) (E.contents err.new)) result }
 {
     match answer(alloc, asked, files, err) {
-        Ok(output) => tried(put(out, output.text.as_slice()), output.status),
+        Ok(answered) => put_answer(alloc, answered, out, err),
         Err(status) => status,
     }
 }
@@ -225,8 +266,8 @@ pub fn answer_asked<F: Files, O: Write, E: Write>(
 /// The first word is the program's name. 0 is good; 1 is a guarantee that is broken, or a certificate that is not
 /// accepted by `verify`; 2 is a guarantee that is not decided, where none is broken; 3 is a refused file, certificate or
 /// command line, or an exchange that is not there; 4 is want of memory, or input or output that failed. What a command
-/// prints goes to `out`, what is refused to `err`. It has no sockets, so `serve` is answered as where it cannot listen:
-/// `reload_loop::program_with_sockets` serves.
+/// prints goes to `out`, what is refused to `err`. Where `check` can't write its file it prints the verdicts, and tells so
+/// then. It has no sockets, so `serve` is answered as where it cannot listen: `reload_loop::program_with_sockets` serves.
 pub fn program<S: AsStr, F: Files, O: Write, E: Write>(
     alloc: Global,
     words: &[S],

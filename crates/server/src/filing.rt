@@ -1,43 +1,45 @@
 //! Certificates that `check` writes to a file.
 
-ghost use Rattle.std.specs.Prelude.{◌≡◌, MatchResult, Some};
+ghost use Rattle.std.specs.Prelude.{◌≡◌, [], List, MatchResult, Some};
+ghost use Rattle.certificate_files.specs.Drafts.{IsDraft};
+ghost use Rattle.guarantee_search.specs.declared.verdicts.Verdict.{Verdict};
+ghost use Rattle.model.specs.Certificates.{Certificate as Shown};
 ghost use Rattle.named_files.specs.Stated.{file_named};
-ghost use Rattle.server.specs.Program.{IsFiled, WritesOut, IsUnwritten, IsUnfiled, ReadsBack};
+ghost use Rattle.server.specs.Program.{Drafts, IsFiled, IsUnfiled, IsUnwritten, ReadsBack, WritesOut};
 ghost use Rattle.verdicts.specs.Verdicts.{certificates_in, status_of_verdicts};
 
 use crate::refusals::{CommandRefusal, Told};
-use certificate_check::Certificate;
-use certificate_files::{Unwritten, write_certificates};
-use guarantee_search::Verdict;
+use certificate_files::{Draft, Unwritten};
 use named_files::Files;
 use std::alloc::Global;
-use verdicts::certificates_in;
 
-/// The greatest file that is written, in bytes: no longer one is read.
-const LIMIT: usize = 16_777_216;
-
-/// The file of these certificates, where one may be that long to be read back.
-fn text_of(alloc: Global, certificates: &[Certificate]) -> Result<Vec<u8>, CommandRefusal>
-    ensures { MatchResult result (λ text. ReadsBack text.items certificates.now) IsUnwritten }
+/// A draft of no certificates, if a file is named.
+pub fn draft_for(alloc: Global, out: Option<&str>) -> Option<Draft>
+    ensures { Drafts (file_named out.entry) result [] }
 {
-    match write_certificates(alloc, certificates) {
-        Ok(text) if text.len() <= LIMIT => Ok(text),
-        Ok(_) => Err(CommandRefusal::Unwritten),
+    match out {
+        Some(_) => Some(Draft::new(alloc)),
+        None => None,
+    }
+}
+
+/// The text of a drafted file.
+fn text_of(draft: Draft) -> Result<Vec<u8>, CommandRefusal>
+    ensures { (cs : List Shown) → IsDraft draft cs → MatchResult result (λ text. ReadsBack text.items cs) IsUnwritten }
+{
+    match draft.finished() {
+        Ok(text) => Ok(text),
         Err(Unwritten::NotText) => Err(CommandRefusal::Unwritten),
+        Err(Unwritten::TooLong) => Err(CommandRefusal::Unwritten),
         Err(Unwritten::Memory) => Err(CommandRefusal::Memory),
     }
 }
 
-/// Writes these certificates to a file.
-fn write_file<F: Files>(
-    alloc: Global,
-    file: &str,
-    certificates: &[Certificate],
-    files: &mut F,
-) -> Result<(), CommandRefusal>
-    ensures { MatchResult result (λ _. IsFiled (F.holds files.old) (F.holds files.new) file.now certificates.now) (λ why. IsUnfiled (F.holds files.old) (F.holds files.new) file.now why) }
+/// Writes a drafted file.
+fn write_file<F: Files>(file: &str, draft: Draft, files: &mut F) -> Result<(), CommandRefusal>
+    ensures { (cs : List Shown) → IsDraft draft cs → MatchResult result (λ _. IsFiled (F.holds files.old) (F.holds files.new) file.now cs) (λ why. IsUnfiled (F.holds files.old) (F.holds files.new) file.now why) }
 {
-    let text = match text_of(alloc, certificates) {
+    let text = match text_of(draft) {
         Ok(text) => text,
         Err(why) => return Err(why),
     };
@@ -47,40 +49,28 @@ fn write_file<F: Files>(
     }
 }
 
-/// Writes the certificates among the verdicts to a file.
-fn write_verdicts<F: Files>(
-    alloc: Global,
-    file: &str,
-    verdicts: Vec<Verdict>,
-    files: &mut F,
-) -> Result<(), CommandRefusal>
-    ensures { MatchResult result (λ _. IsFiled (F.holds files.old) (F.holds files.new) file.now (certificates_in verdicts.items)) (λ why. IsUnfiled (F.holds files.old) (F.holds files.new) file.now why) }
-{
-    match certificates_in(alloc, verdicts) {
-        Ok(certificates) => write_file(alloc, file, certificates.as_slice(), files),
-        Err(_) => Err(CommandRefusal::Memory),
-    }
-}
-
-/// Writes the certificates among the verdicts, where a file is named and the status says that all guarantees hold.
+/// Writes the drafted file of the certificates among some verdicts, where one is named and the status says that all
+/// guarantees hold.
 pub fn write_out<'a, F: Files>(
-    alloc: Global,
     out: Option<&'a str>,
     status: u8,
-    verdicts: Vec<Verdict>,
+    draft: Option<Draft>,
     files: &mut F,
 ) -> Result<(), Told<'a>>
-    requires { status ≡ status_of_verdicts verdicts.items }
-    ensures { MatchResult result (λ _. WritesOut (F.holds files.old) (F.holds files.new) (file_named out.entry) verdicts.items) (λ told. (file_named out.entry ≡ Some told.file.now) × (status_of_verdicts verdicts.items ≡ 0) × IsUnfiled (F.holds files.old) (F.holds files.new) told.file.now told.why) }
+    ensures { (verdicts : List Verdict) → status ≡ status_of_verdicts verdicts → Drafts (file_named out.entry) draft (certificates_in verdicts) → MatchResult result (λ _. WritesOut (F.holds files.old) (F.holds files.new) (file_named out.entry) verdicts) (λ told. (file_named out.entry ≡ Some told.file.now) × (status ≡ 0) × IsUnfiled (F.holds files.old) (F.holds files.new) told.file.now told.why) }
 {
     let file = match out {
         Some(file) => file,
         None => return Ok(()),
     };
+    let draft = match draft {
+        Some(draft) => draft,
+        None => return Ok(()),
+    };
     if status != 0 {
         return Ok(());
     }
-    match write_verdicts(alloc, file, verdicts, files) {
+    match write_file(file, draft, files) {
         Ok(_) => Ok(()),
         Err(why) => Err(Told { file, why }),
     }

@@ -44,7 +44,7 @@ pub enum CommandRefusal {
     Memory,
 }
 
-/// Why a command prints nothing, and the file of which this is told.
+/// Why a command prints nothing, or writes no file, and the file of which this is told.
 #[derive(Clone, Copy, PartialEq, Eq, Debug, Drop)]
 pub struct Told<'a> {
     /// The name of the file.

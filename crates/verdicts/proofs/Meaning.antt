@@ -16,7 +16,7 @@ use Rattle.topology_drafts.proofs.Members.{contains_in}
 use Rattle.guarantee_search.specs.Verdicts.{FindsVerdict}
 use Rattle.guarantee_search.specs.declared.verdicts.Verdict.{Verdict}
 use Rattle.guarantee_search.specs.declared.verdicts.Verdict.TheVariants.{Yes, No, Undecided}
-use Rattle.verdicts.specs.Verdicts.{EachWith, FindsVerdicts, IsMeant, is_no, is_undecided, status_of_verdicts}
+use Rattle.verdicts.specs.Verdicts.{EachWith, FindsVerdicts, IsMeant, is_no, is_undecided, status_by, status_of_verdicts}
 use Rattle.verdicts.specs.Outcomes.{Outcome, TellsOutcome, AreOutcomes, of_too_many, is_fault, status_of_outcomes}
 
 -- ---- verdicts
@@ -38,10 +38,6 @@ some_no t n (h ∷ gs) [] f a = absurd f
 some_no t n (h ∷ gs) (Yes c ∷ vs) f a = let s = some_no t (n + 1) gs vs f.1 a in (s.0, inr s.1, s.2)
 some_no t n (h ∷ gs) (No r ∷ vs) f a = (h, inl refl, refutation_sound t h r f.0)
 some_no t n (h ∷ gs) (Undecided why ∷ vs) f a = let s = some_no t (n + 1) gs vs f.1 a in (s.0, inr s.1, s.2)
-
--- the status by whether some verdict is a no, and some is undecided
-abbrev status_by : Bool → Bool → ℕ
-status_by a b = if a then 1 else if b then 2 else 0
 
 is_zero : (a b : Bool) → status_by a b ≡ 0 → (a ≡ false) × (b ≡ false)
 is_zero true b e = absurd (cc)

@@ -1,10 +1,12 @@
 -- What `check` prints (own): the verdict on each guarantee, a line each, and the status.
-use Rattle.std.specs.Prelude.{◌≡◌, ◌+◌, ◌++◌, ℕ, Bool, true, false, List, [], ◌∷◌, codes, decimal, length, map, if◌then◌else◌, Contains}
+use Rattle.std.specs.Prelude.{◌≡◌, ◌+◌, ◌++◌, ℕ, Bool, true, false, List, [], ◌∷◌, codes, decimal, length, map, if◌then◌else◌, Contains, Option}
 use Rattle.std.specs.List.{list_any}
 use Rattle.model.specs.Words.{Text}
 use Rattle.model.specs.Topology.{Topology}
 use Rattle.model.specs.Guarantee.{Guarantee, Holds, AllHold}
 use Rattle.model.specs.Certificates.{Certificate}
+use Rattle.certificate_files.specs.Drafts.{Adds}
+use Rattle.certificate_files.specs.declared.drafts.Draft.{Draft}
 use Rattle.guarantee_search.specs.Verdicts.{FindsVerdict}
 use Rattle.guarantee_search.specs.declared.verdicts.UndecidedCause.{UndecidedCause}
 use Rattle.guarantee_search.specs.declared.verdicts.UndecidedCause.TheVariants.{TooManyStates, KeyTooLong}
@@ -38,8 +40,12 @@ is_undecided (No r) = false
 is_undecided (Undecided why) = true
 
 -- the exit status: 1 where some guarantee is broken, 2 where none is and some is undecided, 0 where all hold
+abbrev pub status_by : Bool → Bool → ℕ
+status_by broken undecided = if broken then 1 else if undecided then 2 else 0
+
+-- the exit status of these verdicts
 abbrev pub status_of_verdicts : List Verdict → ℕ
-status_of_verdicts vs = if list_any is_no vs then 1 else if list_any is_undecided vs then 2 else 0
+status_of_verdicts vs = status_by (list_any is_no vs) (list_any is_undecided vs)
 
 -- the certificates among the verdicts
 abbrev pub certificates_in : List Verdict → List Certificate
@@ -92,3 +98,9 @@ pub record JudgesAll (t : Topology) (gs : List Guarantee) (verdicts : List Verdi
   pub shown : text ≡ verdict_lines 1 verdicts
   pub status_is : status ≡ status_of_verdicts verdicts
   pub means : IsMeant t gs status
+
+-- The same of verdicts that are not kept; and a draft, if one is wanted, with exactly the certificates among them, in their order.
+pub record Judges (t : Topology) (gs : List Guarantee) (before after : Option Draft) (text : Text) (status : ℕ) : Type 0 where
+  pub verdicts : List Verdict
+  pub judged : JudgesAll t gs verdicts text status
+  pub adds : Adds before after (certificates_in verdicts)

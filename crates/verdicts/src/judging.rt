@@ -1,23 +1,21 @@
 //! The verdicts on guarantees, as `check` prints them.
 
 ghost use Rattle.std.specs.Prelude.{◌≡◌, ◌++◌, ◌∷◌, [], codes, decimal, IfOk, OnOk, string_bytes};
-ghost use Rattle.std.specs.List.{list_any};
+ghost use Rattle.certificate_files.specs.Drafts.{Adds};
 ghost use Rattle.scripts.specs.Transcript.{line, name_word};
 ghost use Rattle.verdicts.specs.Verdicts.{
-  FindsVerdicts,
   certificates_in,
   undecided_word,
   is_no,
   is_undecided,
-  JudgesAll,
+  Judges,
   path_text,
   path_words,
-  status_of_verdicts,
+  status_by,
   verdict_line,
-  verdict_lines,
 };
 
-use certificate_check::Certificate;
+use certificate_files::Draft;
 use exchange_graph::Topology;
 use guarantee_search::{UndecidedCause, Verdict, search};
 use guarantees::Guarantee;
@@ -30,21 +28,6 @@ use std::alloc::{AllocError, Global};
 pub struct Output {
     pub text: Vec<u8>,
     pub status: u8,
-}
-
-/// The verdict on each guarantee, in their order.
-fn verdicts_on(
-    alloc: Global,
-    topology: &Topology,
-    guarantees: &[Guarantee],
-) -> Result<Vec<Verdict>, AllocError>
-    ensures { IfOk result (λ verdicts. FindsVerdicts topology.now guarantees.now verdicts.items) }
-{
-    let mut verdicts = Vec::new(alloc);
-    for guarantee in guarantees {
-        verdicts.push(search(alloc, topology, guarantee)?)?;
-    }
-    Ok(verdicts)
 }
 
 /// The line of a guarantee that holds.
@@ -128,18 +111,6 @@ fn verdict_line(alloc: Global, number: u64, verdict: &Verdict) -> Result<String,
     }
 }
 
-/// Appends the lines of the verdicts, numbered from 1.
-fn put_verdicts(alloc: Global, text: &mut Vec<u8>, verdicts: &[Verdict]) -> Result<(), AllocError>
-    ensures { OnOk result (text.new.items ≡ text.old.items ++ verdict_lines 1 verdicts.now) }
-{
-    let mut number = 1;
-    for verdict in verdicts {
-        put_line(text, verdict_line(alloc, number, verdict)?)?;
-        number += 1;
-    }
-    Ok(())
-}
-
 fn is_no(verdict: &Verdict) -> bool
     ensures { result ≡ is_no verdict.now }
 {
@@ -158,78 +129,57 @@ fn is_undecided(verdict: &Verdict) -> bool
     }
 }
 
-fn has_no(verdicts: &[Verdict]) -> bool
-    ensures { result ≡ list_any is_no verdicts.now }
+/// The status that verdicts leave of which some are broken, or some undecided.
+fn status_of(broken: bool, undecided: bool) -> u8
+    ensures { result ≡ status_by broken undecided }
 {
-    verdicts.iter().any(|verdict| is_no(verdict))
-}
-
-fn has_undecided(verdicts: &[Verdict]) -> bool
-    ensures { result ≡ list_any is_undecided verdicts.now }
-{
-    verdicts.iter().any(|verdict| is_undecided(verdict))
-}
-
-/// The status that the verdicts leave.
-fn status_of(verdicts: &[Verdict]) -> u8
-    ensures { result ≡ status_of_verdicts verdicts.now }
-{
-    if has_no(verdicts) {
+    if broken {
         return 1;
     }
-    if has_undecided(verdicts) {
+    if undecided {
         return 2;
     }
     0
 }
 
-/// What is printed of the verdicts, and the status that they leave.
-fn output_of(alloc: Global, verdicts: &[Verdict]) -> Result<Output, AllocError>
-    ensures { IfOk result (λ o. (o.text.items ≡ verdict_lines 1 verdicts.now) × (o.status ≡ status_of_verdicts verdicts.now)) }
+/// The draft with the certificate of a verdict, if a file is wanted and it has one.
+fn filed(alloc: Global, file: Option<Draft>, verdict: &Verdict) -> Option<Draft>
+    ensures { Adds file result (certificates_in (verdict.now ∷ [])) }
 {
-    let mut text = Vec::new(alloc);
-    put_verdicts(alloc, &mut text, verdicts)?;
-    Ok(Output {
-        text,
-        status: status_of(verdicts),
-    })
-}
-
-/// Appends the certificate of a verdict, if it has one.
-fn put_certificate(found: &mut Vec<Certificate>, verdict: Verdict) -> Result<(), AllocError>
-    ensures { OnOk result (found.new.items ≡ found.old.items ++ certificates_in (verdict ∷ [])) }
-{
+    let draft = match file {
+        Some(draft) => draft,
+        None => return None,
+    };
     match verdict {
-        Verdict::Yes(certificate) => Ok(found.push(certificate)?),
-        _ => Ok(()),
+        Verdict::Yes(certificate) => Some(draft.with_certificate(alloc, certificate)),
+        _ => Some(draft),
     }
 }
 
-/// The certificates among the verdicts, in their order. The one error is want of memory.
-pub fn certificates_in(
-    alloc: Global,
-    verdicts: Vec<Verdict>,
-) -> Result<Vec<Certificate>, AllocError>
-    ensures { IfOk result (λ found. found.items ≡ certificates_in verdicts.items) }
-{
-    let mut found = Vec::new(alloc);
-    for verdict in verdicts {
-        put_certificate(&mut found, verdict)?;
-    }
-    Ok(found)
-}
-
-/// What is printed of guarantees, a line each, numbered from 1, with the status; and the verdicts, in the same order. The
-/// status is 0 only where all guarantees hold, and 1 only where one of them fails. The one error is want of memory.
-#[tactic(auto, using(crate::proofs::Meaning::verdicts_mean))]
+/// What is printed of guarantees, a line each, numbered from 1, with the status; and the draft with their certificates, if
+/// a file is wanted. The status is 0 only where all guarantees hold, and 1 only where one of them fails. No verdict is kept
+/// once its line is made. The one error is want of memory.
 pub fn judge(
     alloc: Global,
     topology: &Topology,
     guarantees: &[Guarantee],
-) -> Result<(Output, Vec<Verdict>), AllocError>
-    ensures { IfOk result (λ r. JudgesAll topology.now guarantees.now r.1.items r.0.text.items r.0.status) }
+    draft: Option<Draft>,
+) -> Result<(Output, Option<Draft>), AllocError>
+    ensures { IfOk result (λ r. Judges topology.now guarantees.now draft r.1 r.0.text.items r.0.status) }
 {
-    let verdicts = verdicts_on(alloc, topology, guarantees)?;
-    let output = output_of(alloc, verdicts.as_slice())?;
-    Ok((output, verdicts))
+    let mut file = draft;
+    let mut text = Vec::new(alloc);
+    let mut number = 1;
+    let mut broken = false;
+    let mut undecided = false;
+    for guarantee in guarantees {
+        let verdict = search(alloc, topology, guarantee)?;
+        put_line(&mut text, verdict_line(alloc, number, &verdict)?)?;
+        broken = broken | is_no(&verdict);
+        undecided = undecided | is_undecided(&verdict);
+        file = filed(alloc, file, &verdict);
+        number += 1;
+    }
+    let status = status_of(broken, undecided);
+    Ok((Output { text, status }, file))
 }

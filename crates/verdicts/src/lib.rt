@@ -4,5 +4,5 @@
 mod judging;
 mod verifying;
 
-pub use judging::{Output, certificates_in, judge};
+pub use judging::{Output, judge};
 pub use verifying::verify;

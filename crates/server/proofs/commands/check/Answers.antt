@@ -1,6 +1,6 @@
 use Rattle.server.specs.Program.{unset}
 use Rattle.named_files.specs.Stated.{FailsToSetUp}
-use Rattle.server.proofs.Kept.{told_as, left_of_kept, wants, writes_then, unfiled}
+use Rattle.server.proofs.Kept.{told_as, left_of_kept, wants, writes_then, unfiled, drafted}
 use Rattle.server.proofs.commands.check.Goals as goal
 
 pub returns-in-Err : goal.returns-in-Err
@@ -8,21 +8,3 @@ returns-in-Err g c = (unset (told_as (FailsToSetUp _ _ _) _ _ _ _ c.told_of.ensu
 
 pub returns-in-Err-judge : goal.returns-in-Err-judge
 returns-in-Err-judge g c = wants _ _ _ _ _ c.from.ensures c.in-Ok.ensures.files
-
-pub returns-in-Ok-write_out : goal.returns-in-Ok-write_out
-returns-in-Ok-write_out g c =
-    record {
-      stated = record { topology = c.in-Ok.setup.topology; users = c.in-Ok.setup.users.items };
-      promised = c.in-Ok.setup.guarantees.items;
-      set_up = c.in-Ok.ensures.states;
-      verdicts = c.in-Ok-judge.judged.1.items;
-      judged = (rw c.as_slice.ensures.value at c.in-Ok-judge.ensures);
-      written = writes_then _ _ _ _ _ c.in-Ok.ensures.files c.in-Ok-write_out.ensures;
-    }
-
-pub returns : goal.returns
-returns g c =
-    let failed = c.in-Err-write_out.ensures in
-    let judged = rw c.as_slice.ensures.value at c.in-Ok-judge.ensures in
-    unfiled _ _ _ _ _ _ _ _ (record { topology = c.in-Ok.setup.topology; users = c.in-Ok.setup.users.items }) c.in-Ok.setup.guarantees.items c.in-Ok-judge.judged.1.items
-    c.in-Ok.ensures.states judged.found failed.0 failed.1 c.in-Ok.ensures.files failed.2
