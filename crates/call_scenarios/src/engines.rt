@@ -1,6 +1,6 @@
 //! Single calls of an engine.
 
-use engine::{Engine, Turn};
+use engine::{Engine, Refused, Turn};
 use scenario_parts::{Unmet, expect, expect_bytes, expect_number, in_force, value_of};
 use std::alloc::Global;
 
@@ -110,4 +110,33 @@ pub(crate) fn a_lost_connection_is_over_and_its_number_is_not_given_again(
     )?;
     expect_opened(alloc, &mut engine, 2)?;
     expect("connection 2 is not over", !engine.is_over(2))
+}
+
+/// How many connections stand at most.
+const MOST_CONNECTIONS: u64 = 1_024;
+
+/// Expects that no more connection is opened, in either way.
+fn expect_full(alloc: Global, engine: &mut Engine) -> Result<(), Unmet> {
+    let opened = engine.open(alloc);
+    expect(
+        "no connection is opened where 1,024 are not gone",
+        matches!(opened, Err(Refused::Full)),
+    )?;
+    let ready = engine.open_ready(alloc, 1);
+    expect(
+        "none is opened that runs at once",
+        matches!(ready, Err(Refused::Full)),
+    )
+}
+
+/// 1,024 connections are opened, and no more until one of them is lost.
+pub(crate) fn an_engine_opens_1024_connections_and_no_more(alloc: Global) -> Result<(), Unmet> {
+    let mut engine = new_engine(alloc)?;
+    for number in 1..=MOST_CONNECTIONS {
+        expect_opened(alloc, &mut engine, number)?;
+    }
+    expect_full(alloc, &mut engine)?;
+    engine.lose(512);
+    expect_opened(alloc, &mut engine, MOST_CONNECTIONS + 1)?;
+    expect_full(alloc, &mut engine)
 }

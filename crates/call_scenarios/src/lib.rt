@@ -10,6 +10,7 @@ mod nothing_left;
 mod parts;
 mod room;
 mod streams;
+mod thrifty;
 
 use scenario_parts::Sums;
 use std::io;
@@ -26,6 +27,11 @@ fn tell_engines(sums: &mut Sums, rt: &HostRuntime) -> io::Result<()> {
         rt,
         "a_lost_connection_is_over_and_its_number_is_not_given_again",
         engines::a_lost_connection_is_over_and_its_number_is_not_given_again(alloc),
+    )?;
+    sums.tell(
+        rt,
+        "an_engine_opens_1024_connections_and_no_more",
+        engines::an_engine_opens_1024_connections_and_no_more(alloc),
     )?;
     sums.tell(
         rt,

@@ -1,8 +1,9 @@
-//! The scenarios of runs and rounds: of a machine on which no connection can be opened, of a connection that is paused, and of a wire
-//! of which each call fails. `cases` runs them.
+//! The scenarios of runs and rounds: of a machine on which no connection can be opened, of a connection that is paused, of more clients
+//! than a server takes, and of a wire of which each call fails. `cases` runs them.
 #![tactic(auto)]
 
 mod failing;
+mod full;
 mod pauses;
 mod shut;
 
@@ -30,7 +31,7 @@ fn tell_runs(sums: &mut Sums, rt: &HostRuntime) -> io::Result<()> {
     )
 }
 
-/// The scenarios of rounds of a machine on which no connection can be opened.
+/// The scenarios of rounds of a machine on which no connection can be opened, or no more.
 fn tell_rounds(sums: &mut Sums, rt: &HostRuntime) -> io::Result<()> {
     let alloc = rt.alloc();
     sums.tell(
@@ -42,6 +43,11 @@ fn tell_rounds(sums: &mut Sums, rt: &HostRuntime) -> io::Result<()> {
         rt,
         "want_of_memory_ends_the_pumps_of_a_round",
         shut::want_of_memory_ends_the_pumps_of_a_round(alloc),
+    )?;
+    sums.tell(
+        rt,
+        "a_server_takes_1024_clients_and_closes_one_more",
+        full::a_server_takes_1024_clients_and_closes_one_more(alloc),
     )
 }
 
