@@ -1,5 +1,5 @@
 -- The connections that run, each with its open channels, as they are kept.
-use Rattle.std.specs.Prelude.{◌≡◌, ◌==◌, ◌<◌, true, false, ℕ, List, [], Bool, Option, Some, None, nat_eq, slice_index_or, option_map}
+use Rattle.std.specs.Prelude.{◌≡◌, ◌==◌, ◌<◌, ◌≤◌, true, false, ℕ, List, [], Bool, Option, Some, None, nat_eq, slice_index_or, option_map}
 use Rattle.std.specs.Map.{lookup}
 use Rattle.model.specs.Words.{Text}
 use Rattle.model.specs.Step.{is_spent, channels_up_to}
@@ -64,11 +64,12 @@ CanGive ch = (k : Open) → ch ≡ Some k → has_tag_left k.given.next_tag ≡ 
 abbrev pub HasRoom : Option Open → Type 0
 HasRoom ch = (k : Open) → ch ≡ Some k → 0 < k.given.room
 
--- The channel is as it was, but that it has room for one delivery more.
+-- The channel is as it was, but that it has room for one delivery more, and for no fewer than it had.
 pub record SetsRoom (ch : Open) (new : Option Open) : Type 0 where
   pub room : ℕ
   pub is : new ≡ Some (record ch { given = record ch.given { room = room } })
   pub some : 0 < room
+  pub kept : ch.given.room ≤ room
 
 -- this channel stands at h now, and the others as before
 abbrev pub IsChannelSet : List (Option Open) → ℕ → Option Open → List (Option Open) → Type 0

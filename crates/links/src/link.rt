@@ -189,9 +189,10 @@ impl Link {
         cancel_at(&mut self.channels, number, tag);
     }
 
-    /// Room is made for one message more that is given out on this channel.
+    /// Room is made for one message more that is given out on this channel. Memory is wanting only where it has none.
     pub(crate) fn reserve(&mut self, number: u16) -> Result<(), AllocError>
         ensures ok { OnOk result ((ch : Open) → channel_in self.old number ≡ Some ch → (new : Option Open) × SetsRoom ch new × PutsIn self.old number new self.new) }
+        ensures full { OnErr result (room_in (channel_in self.old number) ≡ 0) }
         ensures err { OnErr result (self.new ≡ self.old) }
     {
         reserve_at(&mut self.channels, number)

@@ -236,10 +236,12 @@ impl Links {
         }
     }
 
-    /// Room is made for one message more that is given out on this channel.
+    /// Room is made for one message more that is given out on this channel. Memory is wanting only where it has none, and then
+    /// nothing changes.
     pub fn reserve(&mut self, connection: u64, channel: u16) -> Result<(), AllocError>
         requires { IsSome (channel_of self.old connection channel) }
         ensures ok { OnOk result ((ch : Open) → channel_of self.old connection channel ≡ Some ch → (new : Option Open) × SetsRoom ch new × PutsChannel self.old connection channel new self.new) }
+        ensures full { OnErr result (room_in (channel_of self.old connection channel) ≡ 0) }
         ensures err { OnErr result (self.new ≡ self.old) }
     {
         match self.links.get_mut(&connection) {

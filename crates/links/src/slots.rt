@@ -107,9 +107,10 @@ fn cancel_in(slot: &mut Option<Channel>, tag: &[u8])
     }
 }
 
-/// Room is made for one message more that is given out on this channel.
+/// Room is made for one message more that is given out on this channel. Memory is wanting only where it has none.
 fn reserve_in(slot: &mut Option<Channel>) -> Result<(), AllocError>
     ensures ok { OnOk result ((ch : Open) → slot.old ≡ Some ch → SetsRoom ch slot.new) }
+    ensures full { OnErr result (room_in slot.old ≡ 0) }
     ensures err { OnErr result (slot.new ≡ slot.old) }
 {
     match slot {
@@ -212,6 +213,7 @@ pub(crate) fn cancel_at(channels: &mut [Option<Channel>], number: u16, tag: &[u8
 /// The same of the channel of this number.
 pub(crate) fn reserve_at(channels: &mut [Option<Channel>], number: u16) -> Result<(), AllocError>
     ensures ok { OnOk result ((ch : Open) → slice_index_or channels.old number None ≡ Some ch → (new : Option Open) × SetsRoom ch new × IsChannelSet channels.old number new channels.new) }
+    ensures full { OnErr result (room_in (slice_index_or channels.old number None) ≡ 0) }
     ensures err { OnErr result (channels.new ≡ channels.old) }
 {
     let at = number as usize;
