@@ -1,6 +1,6 @@
 //! Guarantees that are put together, and their certificates.
 
-use certificate_check::Certificate;
+use certificate::Certificate;
 use exchange_graph::Topology;
 use guarantee_search::{Verdict, search};
 use guarantees::Guarantee;

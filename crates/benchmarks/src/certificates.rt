@@ -1,8 +1,7 @@
 //! How long certificates take: found, checked, and admitted.
 
 use benchmark_loads::stated::{Stated, certificates, found, guarantee_of};
-use certificate::admit;
-use certificate_check::{Certificate, check};
+use certificate::{Certificate, admit, check};
 use exchange_graph::Topology;
 use guarantees::Guarantee;
 use measuring::{LARGE, Shape, Texts, built};

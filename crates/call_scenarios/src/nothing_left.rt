@@ -5,9 +5,7 @@ use crate::frugal::Frugal;
 use crate::parts::{Stated, checked, new_engine};
 use crate::room::{Room, can_be_taken};
 use crate::thrifty::Thrifty;
-use certificate::{Checked, Refutation, disprove};
-use certificate_check::{CertFault, check};
-use certificate_files::{BadCertificates, read_certificates};
+use certificate::{BadCertificates, CertFault, Certificate, Checked, Refutation, check, disprove};
 use definitions::{BadDefinitions, read_definitions};
 use engine::{Engine, Refused, Turn};
 use guarantee_search::{Verdict, search};
@@ -178,12 +176,12 @@ impl Calls {
             Err(_) => Outcome::Other,
         };
         expect_outcome("read_guarantees does as expected", guarantees, expected)?;
-        let certificates = match read_certificates(alloc, CERTIFICATES) {
+        let certificates = match Certificate::read(alloc, CERTIFICATES) {
             Ok(_) => Outcome::Done,
             Err(BadCertificates::Memory) => Outcome::Wanting,
             Err(_) => Outcome::Other,
         };
-        expect_outcome("read_certificates does as expected", certificates, expected)
+        expect_outcome("Certificate::read does as expected", certificates, expected)
     }
 
     /// Checks the certificate.

@@ -3,9 +3,7 @@
 ghost use Rattle.judging.specs.Judged.{IsAsked};
 
 use crate::filing::{CERTIFICATES, DEFINITIONS, GUARANTEES};
-use certificate::{Checked, admit};
-use certificate_check::{CertFault, Certificate};
-use certificate_files::read_certificates;
+use certificate::{CertFault, Certificate, Checked, admit};
 use definitions::read_definitions;
 use engine::{Engine, Turn};
 use exchange_graph::Topology;
@@ -31,7 +29,7 @@ impl Stated {
             "read_guarantees",
             read_guarantees(alloc, guarantees, &topology),
         )?;
-        let certificates = value_of("read_certificates", read_certificates(alloc, CERTIFICATES))?;
+        let certificates = value_of("Certificate::read", Certificate::read(alloc, CERTIFICATES))?;
         Ok(Stated {
             topology,
             guarantees,

@@ -185,12 +185,19 @@ impl Thrifty {
     fn expect_stream(&mut self) -> Result<(), Unmet> {
         self.stream.set_max(FRAME_MAX);
         self.stream.set_running(true);
-        expect("nothing is to be read", matches!(self.stream.next(), Ok(None)))?;
+        expect(
+            "nothing is to be read",
+            matches!(self.stream.next(), Ok(None)),
+        )?;
         expect_number("the bytes to be read", self.stream.unread() as u64, 0)?;
         let mut session = Session::running();
         session.after(&[]);
         expect("a session runs", matches!(session.phase(), Phase::Running))?;
-        expect_number("the greatest channel", u64::from(session.channel_max()), 255)
+        expect_number(
+            "the greatest channel",
+            u64::from(session.channel_max()),
+            255,
+        )
     }
 
     /// A consumer may take a message, and one that was cancelled may not.
@@ -267,7 +274,10 @@ impl Thrifty {
 
     /// The consumer may take nothing until it is asked to requeue what it has; then it may, unless it is paused.
     fn expect_broker(&mut self, alloc: Global) -> Result<(), Unmet> {
-        expect("the consumer holds what it may", self.broker.pick().is_none())?;
+        expect(
+            "the consumer holds what it may",
+            self.broker.pick().is_none(),
+        )?;
         let reject = Method::BasicReject(Reject {
             delivery_tag: 1,
             requeue: true,

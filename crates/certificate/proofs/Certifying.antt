@@ -7,8 +7,8 @@ use Rattle.model.specs.Guarantee.{Guarantee, AllHold}
 use Rattle.model.specs.Certificates.{Certificate}
 use Rattle.certificate_laws.proofs.Certificates.{certificate_sound}
 use Rattle.certificate_laws.proofs.Trackings.{contained}
-use Rattle.certificate_check.specs.Checks.{Checks}
-use Rattle.certificate_check.specs.declared.faults.CertFault.{CertFault}
+use Rattle.certificate.specs.Checks.{Checks}
+use Rattle.certificate.specs.declared.faults.CertFault.{CertFault}
 use Rattle.certificate.specs.Certified.{IsCertifiedAt, IsUncertified, ChecksAt, AreCertifiedBelow, AreCertified, FailsFirst}
 
 place_in : (gs : List Guarantee) (g : Guarantee) → IsIn g gs → (n : ℕ) × (slice_get gs n ≡ Some g)

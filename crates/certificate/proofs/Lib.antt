@@ -1,3 +1,13 @@
+pub mod Forming
+pub mod Placing
+pub mod Marking
+pub mod Judging
+pub mod Walking
+pub mod Listed
+pub mod Whole
+pub mod Spelling
+pub mod Joining
+pub mod Drafting
 pub mod Routed
 pub mod Refuting
 pub mod Certifying

@@ -3,9 +3,9 @@ use Rattle.std.specs.Prelude.{◌≡◌, ◌<◌, ◌⊎◌, ℕ, List, length, 
 use Rattle.model.specs.Topology.{Topology}
 use Rattle.model.specs.Guarantee.{Guarantee, AllHold}
 use Rattle.model.specs.Certificates.{Certificate, Accepts}
-use Rattle.certificate_check.specs.Checks.{Faults}
-use Rattle.certificate_check.specs.declared.faults.CertFault.{CertFault}
-use Rattle.certificate_check.specs.declared.faults.CertFault.TheVariants.{Form}
+use Rattle.certificate.specs.Checks.{Faults}
+use Rattle.certificate.specs.declared.faults.CertFault.{CertFault}
+use Rattle.certificate.specs.declared.faults.CertFault.TheVariants.{Form}
 use Rattle.certificate.specs.Admitted.{Admitted}
 
 -- the certificate at this place is accepted for the guarantee

@@ -5,9 +5,10 @@ ghost use Rattle.model.specs.Topology.{IsWellFormed};
 ghost use Rattle.model.specs.Guarantee.{AllHold};
 ghost use Rattle.certificate.specs.Certified.{Admits};
 
+use crate::certificates::Certificate;
 use crate::certified::all_certified;
 use crate::copies;
-use certificate_check::{CertFault, Certificate};
+use crate::faults::CertFault;
 use exchange_graph::Topology;
 use guarantees::Guarantee;
 use std::alloc::{AllocError, Global};

@@ -1,10 +1,12 @@
 //! Guarantees with a certificate each.
 
 ghost use Rattle.std.specs.Prelude.{◌<◌, ◌≡◌, Err, length};
-ghost use Rattle.certificate_check.specs.declared.faults.CertFault.TheVariants.{Form};
+ghost use Rattle.certificate.specs.declared.faults.CertFault.TheVariants.{Form};
 ghost use Rattle.certificate.specs.Certified.{Certifies, ChecksAt};
 
-use certificate_check::{CertFault, Certificate, check};
+use crate::certificates::Certificate;
+use crate::checking::check;
+use crate::faults::CertFault;
 use exchange_graph::Topology;
 use guarantees::Guarantee;
 use std::alloc::Global;

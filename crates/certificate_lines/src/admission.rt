@@ -1,9 +1,7 @@
 //! Lines about guarantees that are admitted by their certificates.
 
 use super::faults::put_fault;
-use certificate::{Checked, admit};
-use certificate_check::{CertFault, Certificate};
-use certificate_files::read_certificates;
+use certificate::{CertFault, Certificate, Checked, admit};
 use definitions::{Definitions, read_definitions};
 use exchange_graph::Topology;
 use guarantees::{Guarantee, read_guarantees};
@@ -77,7 +75,7 @@ fn answer_of_files(out: &mut LineAnswer, files: &[String], words: &[&str]) {
     let [definitions, guarantees, certificates] = files else {
         return out.fail(Unanswered::Form);
     };
-    match read_certificates(out.alloc(), certificates.as_bytes()) {
+    match Certificate::read(out.alloc(), certificates.as_bytes()) {
         Ok(offered) => answer_by(
             out,
             definitions.as_str(),

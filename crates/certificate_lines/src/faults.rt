@@ -1,6 +1,6 @@
 //! Faults of certificates, told.
 
-use certificate_check::CertFault;
+use certificate::CertFault;
 use line_words::{LineAnswer, Unanswered};
 use model::Text;
 

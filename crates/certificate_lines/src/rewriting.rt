@@ -1,12 +1,11 @@
 //! Lines about certificates files.
 
-use certificate_check::Certificate;
-use certificate_files::{read_certificates, write_certificates};
+use certificate::Certificate;
 use line_words::{LineAnswer, Unanswered, bytes_of, source_of};
 
 /// Appends how many certificates a file has, or why it is refused.
 fn put_outcome(out: &mut LineAnswer, bytes: &[u8]) {
-    match read_certificates(out.alloc(), bytes) {
+    match Certificate::read(out.alloc(), bytes) {
         Ok(found) => {
             out.put("read ");
             out.put_number(found.len() as u64);
@@ -20,7 +19,7 @@ fn put_outcome(out: &mut LineAnswer, bytes: &[u8]) {
 
 /// Appends the file of these certificates.
 pub fn put_file_of(out: &mut LineAnswer, certificates: &[Certificate]) {
-    match write_certificates(out.alloc(), certificates) {
+    match Certificate::write(out.alloc(), certificates) {
         Ok(written) => out.put_bytes(written.as_slice()),
         Err(_) => out.fail(Unanswered::File),
     }
@@ -28,7 +27,7 @@ pub fn put_file_of(out: &mut LineAnswer, certificates: &[Certificate]) {
 
 /// Appends whether what is written of these certificates is the text of the file, or what is written.
 fn put_again(out: &mut LineAnswer, certificates: &[Certificate], file: &[u8]) {
-    match write_certificates(out.alloc(), certificates) {
+    match Certificate::write(out.alloc(), certificates) {
         Ok(written) if written.as_slice() == file => out.put("the same"),
         Ok(written) => out.put_bytes(written.as_slice()),
         Err(_) => out.fail(Unanswered::File),
@@ -37,7 +36,7 @@ fn put_again(out: &mut LineAnswer, certificates: &[Certificate], file: &[u8]) {
 
 /// Appends whether what is written of the certificates of a file is the file's own text, or that text.
 fn put_rewritten(out: &mut LineAnswer, file: &[u8]) {
-    match read_certificates(out.alloc(), file) {
+    match Certificate::read(out.alloc(), file) {
         Ok(found) => put_again(out, found.as_slice(), file.trim_ascii()),
         Err(_) => out.fail(Unanswered::File),
     }

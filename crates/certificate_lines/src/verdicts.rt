@@ -2,9 +2,7 @@
 
 use super::faults::put_fault;
 use super::rewriting::put_file_of;
-use certificate::{Refutation, disprove};
-use certificate_check::{Certificate, check};
-use certificate_files::read_certificates;
+use certificate::{Certificate, Refutation, check, disprove};
 use definitions::read_definitions;
 use exchange_graph::Topology;
 use guarantee_search::{UndecidedCause, Verdict, search};
@@ -63,7 +61,7 @@ fn put_one_checked(
 
 /// Appends what is told of the one certificate of a file.
 fn put_check_of(out: &mut LineAnswer, topology: &Topology, guarantee: &Guarantee, file: &str) {
-    match read_certificates(out.alloc(), file.as_bytes()) {
+    match Certificate::read(out.alloc(), file.as_bytes()) {
         Ok(found) => put_one_checked(out, topology, guarantee, found.as_slice()),
         Err(_) => out.fail(Unanswered::File),
     }

@@ -10,5 +10,5 @@ mod names;
 mod shape;
 mod stating;
 
-pub use bad::BadDefinitions;
+pub use bad::{BadDefinitions, BadDefinitions as Bad};
 pub use definitions::{Definitions, Users, read_definitions};

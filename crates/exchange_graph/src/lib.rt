@@ -14,3 +14,4 @@ mod topologies;
 pub use dying::{DeadLetter, DeadRoute};
 pub use ends::End;
 pub use topologies::Topology;
+pub use topology_drafts::BadTopology as Bad;

@@ -1,7 +1,6 @@
 //! What a search says of a guarantee.
 
-use certificate::Refutation;
-use certificate_check::Certificate;
+use certificate::{Certificate, Refutation};
 
 /// Why a guarantee is not decided.
 #[derive(Clone, Copy, PartialEq, Eq, Debug, Drop)]

@@ -6,6 +6,6 @@ mod promises;
 mod reading;
 mod stated;
 
-pub use bad::BadGuarantees;
+pub use bad::{BadGuarantees, BadGuarantees as Bad};
 pub use promises::Guarantee;
 pub use reading::read_guarantees;

@@ -4,8 +4,8 @@ use Rattle.definitions.specs.Numbers.{definitions_cause}
 use Rattle.definitions.specs.declared.bad.BadDefinitions.{BadDefinitions}
 use Rattle.guarantees.specs.Numbers.{guarantees_cause}
 use Rattle.guarantees.specs.declared.bad.BadGuarantees.{BadGuarantees}
-use Rattle.certificate_files.specs.Numbers.{certificates_cause}
-use Rattle.certificate_files.specs.declared.bad.BadCertificates.{BadCertificates}
+use Rattle.certificate.specs.Numbers.{certificates_cause}
+use Rattle.certificate.specs.declared.bad.BadCertificates.{BadCertificates}
 use Rattle.named_files.specs.declared.refusals.FileRefusal.{FileRefusal}
 use Rattle.named_files.specs.declared.refusals.FileRefusal.TheVariants.{Refused, TooLong, Unread, Memory}
 use Rattle.named_files.specs.declared.storage.Unread.{Unread as Why}

@@ -13,9 +13,9 @@ use Rattle.definitions.specs.Reads.{Stated, ReadsDefinitions, IsFirst}
 use Rattle.guarantees.specs.declared.bad.BadGuarantees.{BadGuarantees}
 use Rattle.guarantees.specs.Numbers.{guarantees_cause}
 use Rattle.guarantees.specs.Reads.{AreAccepted, IsFirstAgainst}
-use Rattle.certificate_files.specs.declared.bad.BadCertificates.{BadCertificates}
-use Rattle.certificate_files.specs.Numbers.{certificates_cause}
-use Rattle.certificate_files.specs.Reads.{IsCertificatesFile, ReadsCertificateFile}
+use Rattle.certificate.specs.declared.bad.BadCertificates.{BadCertificates}
+use Rattle.certificate.specs.Numbers.{certificates_cause}
+use Rattle.certificate.specs.Reads.{IsCertificatesFile, ReadsCertificateFile}
 use Rattle.named_files.specs.declared.refusals.FileRefusal.{FileRefusal}
 use Rattle.named_files.specs.declared.refusals.FileRefusal.TheVariants.{Refused, TooLong, Unread, Memory}
 use Rattle.named_files.specs.Files.{Known, HasText, IsTooLong, IsUnreadable}

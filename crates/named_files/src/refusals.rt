@@ -68,13 +68,13 @@ impl From<guarantees::BadGuarantees> for FileRefusal {
     }
 }
 
-impl From<certificate_files::BadCertificates> for FileRefusal {
+impl From<certificate::BadCertificates> for FileRefusal {
     ghost use Rattle.std.specs.Prelude.{◌≡◌};
     ghost use Rattle.named_files.specs.Refusals.{of_certificates};
 
     ghost from_gives = { λ cause r. r ≡ of_certificates cause };
 
-    fn from(cause: certificate_files::BadCertificates) -> FileRefusal {
+    fn from(cause: certificate::BadCertificates) -> FileRefusal {
         match cause.number() {
             14 => FileRefusal::Memory,
             number => FileRefusal::Refused(number),

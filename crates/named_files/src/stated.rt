@@ -23,8 +23,7 @@ ghost use Rattle.named_files.specs.Stated.{
 use crate::builtin::builtin;
 use crate::refusals::{FileRefusal, RefusedFile};
 use crate::storage::Files;
-use certificate_check::Certificate;
-use certificate_files::read_certificates;
+use certificate::Certificate;
 use definitions::{Definitions, read_definitions};
 use exchange_graph::Topology;
 use guarantees::{Guarantee, read_guarantees};
@@ -157,7 +156,7 @@ fn read_certificates_of<F: Files>(
     ensures files { AreKept (F.holds files.old) (F.holds files.new) }
 {
     let text = files.read(alloc, file)?;
-    Ok(read_certificates(alloc, text.as_slice())?)
+    Ok(Certificate::read(alloc, text.as_slice())?)
 }
 
 /// The certificates of a file, where one is named, and else none. No file is changed. Refused as definitions are.

@@ -1,9 +1,9 @@
 //! Single calls, each made once more where memory was wanting.
 
 use crate::counts::{Counts, count};
-use certificate::{Checked, Refutation, admit, disprove};
-use certificate_check::{CertFault, Certificate, check};
-use certificate_files::{BadCertificates, read_certificates};
+use certificate::{
+    BadCertificates, CertFault, Certificate, Checked, Refutation, admit, check, disprove,
+};
 use definitions::{BadDefinitions, Definitions, read_definitions};
 use exchange_graph::Topology;
 use guarantee_search::{Verdict, search};
@@ -70,7 +70,7 @@ pub fn guarantees_of(
 
 /// The certificates of a file.
 pub fn certificates_of(alloc: Global, setting: Setting<'_>) -> io::Result<Vec<Certificate>> {
-    match read_certificates(alloc, setting.certificates.as_bytes()) {
+    match Certificate::read(alloc, setting.certificates.as_bytes()) {
         Ok(certificates) => Ok(certificates),
         Err(BadCertificates::Memory) => Err(io::Error::from(AllocError)),
         Err(_) => Err(malformed()),

@@ -7,7 +7,7 @@ use crate::asking::{
 use crate::counts::Counts;
 use crate::replaying::Replay;
 use crate::sections::{Section, sections_of};
-use certificate_check::CertFault;
+use certificate::CertFault;
 use engine::Engine;
 use guarantee_search::Verdict;
 use scripts::{BadScript, read_script};

@@ -6,14 +6,14 @@ use Rattle.model.specs.Words.{Text}
 use Rattle.model.specs.Topology.{Topology}
 use Rattle.model.specs.Guarantee.{Guarantee}
 use Rattle.model.specs.Certificates.{Certificate}
-use Rattle.certificate_check.specs.declared.faults.CertFault.{CertFault}
+use Rattle.certificate.specs.declared.faults.CertFault.{CertFault}
 use Rattle.certificate.specs.Certified.{FailsFirst}
 use Rattle.definitions.specs.Reads.{Stated}
 use Rattle.guarantee_search.specs.declared.verdicts.Verdict.{Verdict}
 use Rattle.server.specs.declared.refusals.CommandRefusal.{CommandRefusal}
 use Rattle.server.specs.declared.refusals.CommandRefusal.TheVariants.{Line, Refused, TooLong, Unread, Unwritten, NoExchange, Certificate as OfCertificate, NotListening, Memory}
-use Rattle.certificate_files.specs.Drafts.{Adds}
-use Rattle.certificate_files.specs.declared.drafts.Draft.{Draft}
+use Rattle.certificate.specs.Drafts.{Adds}
+use Rattle.certificate.specs.declared.drafts.Draft.{Draft}
 use Rattle.command_line.specs.CommandLine.{Wanted}
 use Rattle.named_files.specs.Files.{Known, AreKept}
 use Rattle.named_files.specs.Stated.{SetsUp, FailsToSetUp, FailsToCertify, IsWhyUncertified}

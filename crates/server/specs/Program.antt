@@ -11,10 +11,10 @@ use Rattle.model.specs.declared.events.Arrival.TheVariants as arrival
 use Rattle.clap.specs.declared.error.kind.ErrorKind.{ErrorKind}
 use Rattle.clap.specs.declared.error.kind.ErrorKind.TheVariants.{OutOfMemory}
 use Rattle.definitions.specs.Reads.{Stated}
-use Rattle.certificate_check.specs.declared.faults.CertFault.{CertFault}
-use Rattle.certificate_files.specs.Drafts.{IsDraft}
-use Rattle.certificate_files.specs.Reads.{IsCertificatesFile}
-use Rattle.certificate_files.specs.declared.drafts.Draft.{Draft}
+use Rattle.certificate.specs.declared.faults.CertFault.{CertFault}
+use Rattle.certificate.specs.Drafts.{IsDraft}
+use Rattle.certificate.specs.Reads.{IsCertificatesFile}
+use Rattle.certificate.specs.declared.drafts.Draft.{Draft}
 use Rattle.certificate.specs.Certified.{AreCertified, FailsFirst}
 use Rattle.guarantee_search.specs.declared.verdicts.Verdict.{Verdict}
 use Rattle.model.specs.Headline.{CertifiedDelivery}

@@ -1,7 +1,7 @@
 //! Certificates that `check` writes to a file.
 
 ghost use Rattle.std.specs.Prelude.{◌≡◌, [], List, MatchResult, Some};
-ghost use Rattle.certificate_files.specs.Drafts.{IsDraft};
+ghost use Rattle.certificate.specs.Drafts.{IsDraft};
 ghost use Rattle.guarantee_search.specs.declared.verdicts.Verdict.{Verdict};
 ghost use Rattle.model.specs.Certificates.{Certificate as Shown};
 ghost use Rattle.named_files.specs.Stated.{file_named};
@@ -9,7 +9,7 @@ ghost use Rattle.server.specs.Program.{Drafts, IsFiled, IsUnfiled, IsUnwritten, 
 ghost use Rattle.verdicts.specs.Verdicts.{certificates_in, status_of_verdicts};
 
 use crate::refusals::{CommandRefusal, Told};
-use certificate_files::{Draft, Unwritten};
+use certificate::{Draft, Unwritten};
 use named_files::Files;
 use std::alloc::Global;
 

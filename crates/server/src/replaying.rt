@@ -29,8 +29,7 @@ ghost use Rattle.scripts.specs.Script.{script};
 ghost use Rattle.server.specs.Streams.{GetsNothing, change};
 
 use crate::refusals::{CommandRefusal, Told, refuse_memory, tell, told_of};
-use certificate::{Checked, admit};
-use certificate_check::{CertFault, Certificate};
+use certificate::{CertFault, Certificate, Checked, admit};
 use engine::Setup;
 use exchange_graph::Topology;
 use guarantees::Guarantee;

@@ -6,8 +6,8 @@ use Rattle.model.specs.Words.{Text}
 use Rattle.model.specs.Topology.{Topology}
 use Rattle.model.specs.Guarantee.{Guarantee}
 use Rattle.model.specs.Certificates.{Certificate}
-use Rattle.certificate_files.specs.Drafts.{Adds, IsDraft}
-use Rattle.certificate_files.specs.declared.drafts.Draft.{Draft}
+use Rattle.certificate.specs.Drafts.{Adds, IsDraft}
+use Rattle.certificate.specs.declared.drafts.Draft.{Draft}
 use Rattle.guarantee_search.specs.Verdicts.{FindsVerdict}
 use Rattle.guarantee_search.specs.declared.verdicts.Verdict.{Verdict}
 use Rattle.guarantee_search.specs.declared.verdicts.Verdict.TheVariants.{Yes, No, Undecided}

@@ -11,7 +11,7 @@ use Rattle.certificate_laws.proofs.Refutations.{refutation_sound}
 use Rattle.certificate_laws.proofs.Trackings.{contained}
 use Rattle.certificate.specs.Certified.{IsCertifiedAt, AreCertifiedBelow, AreCertified}
 use Rattle.certificate.proofs.Certifying.{certified_all, certified_hold}
-use Rattle.certificate_check.specs.declared.faults.CertFault.TheVariants.{Form}
+use Rattle.certificate.specs.declared.faults.CertFault.TheVariants.{Form}
 use Rattle.topology_drafts.proofs.Members.{contains_in}
 use Rattle.guarantee_search.specs.Verdicts.{FindsVerdict}
 use Rattle.guarantee_search.specs.declared.verdicts.Verdict.{Verdict}

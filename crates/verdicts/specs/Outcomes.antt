@@ -5,8 +5,8 @@ use Rattle.model.specs.Words.{Text}
 use Rattle.model.specs.Topology.{Topology}
 use Rattle.model.specs.Guarantee.{Guarantee, AllHold}
 use Rattle.model.specs.Certificates.{Certificate}
-use Rattle.certificate_check.specs.declared.faults.CertFault.{CertFault}
-use Rattle.certificate_check.specs.declared.faults.CertFault.TheVariants.{Start, Open, Missed, Forbidden, Form, Memory}
+use Rattle.certificate.specs.declared.faults.CertFault.{CertFault}
+use Rattle.certificate.specs.declared.faults.CertFault.TheVariants.{Start, Open, Missed, Forbidden, Form, Memory}
 use Rattle.certificate.specs.Certified.{ChecksAt, AreCertified}
 use Rattle.scripts.specs.Transcript.{line, name_word}
 use Rattle.verdicts.specs.Verdicts.{EachWith}

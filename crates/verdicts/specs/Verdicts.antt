@@ -5,8 +5,8 @@ use Rattle.model.specs.Words.{Text}
 use Rattle.model.specs.Topology.{Topology}
 use Rattle.model.specs.Guarantee.{Guarantee, Holds, AllHold}
 use Rattle.model.specs.Certificates.{Certificate}
-use Rattle.certificate_files.specs.Drafts.{Adds}
-use Rattle.certificate_files.specs.declared.drafts.Draft.{Draft}
+use Rattle.certificate.specs.Drafts.{Adds}
+use Rattle.certificate.specs.declared.drafts.Draft.{Draft}
 use Rattle.guarantee_search.specs.Verdicts.{FindsVerdict}
 use Rattle.guarantee_search.specs.declared.verdicts.UndecidedCause.{UndecidedCause}
 use Rattle.guarantee_search.specs.declared.verdicts.UndecidedCause.TheVariants.{TooManyStates, KeyTooLong}

@@ -1,7 +1,7 @@
 //! The verdicts on guarantees, as `check` prints them.
 
 ghost use Rattle.std.specs.Prelude.{◌≡◌, ◌++◌, ◌∷◌, [], codes, decimal, IfOk, OnOk, string_bytes};
-ghost use Rattle.certificate_files.specs.Drafts.{Adds};
+ghost use Rattle.certificate.specs.Drafts.{Adds};
 ghost use Rattle.scripts.specs.Transcript.{line, name_word};
 ghost use Rattle.verdicts.specs.Verdicts.{
   certificates_in,
@@ -15,7 +15,7 @@ ghost use Rattle.verdicts.specs.Verdicts.{
   verdict_line,
 };
 
-use certificate_files::Draft;
+use certificate::Draft;
 use exchange_graph::Topology;
 use guarantee_search::{UndecidedCause, Verdict, search};
 use guarantees::Guarantee;

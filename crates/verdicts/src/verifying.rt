@@ -16,7 +16,7 @@ ghost use Rattle.verdicts.specs.Outcomes.{
 ghost use Rattle.verdicts.specs.Verdicts.{EachWith};
 
 use crate::judging::Output;
-use certificate_check::{CertFault, Certificate, check};
+use certificate::{CertFault, Certificate, check};
 use exchange_graph::Topology;
 use guarantees::Guarantee;
 use model::Text;

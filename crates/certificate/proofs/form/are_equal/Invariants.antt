@@ -1,0 +1,6 @@
+use Rattle.std.proofs.Common.{◌≡◌, drop}
+use Rattle.certificate.specs.Places.{same_texts}
+use Rattle.certificate.proofs.form.are_equal.Given as goal
+
+abbrev pub invariant-loop-at : goal.invariant-loop-at
+invariant-loop-at l = same_texts (drop l.at l.texts) (drop l.at l.others) ≡ same_texts l.texts l.others

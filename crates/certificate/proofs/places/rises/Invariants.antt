@@ -1,0 +1,6 @@
+use Rattle.std.proofs.Common.{◌≡◌, drop}
+use Rattle.certificate.specs.Places.{rises}
+use Rattle.certificate.proofs.places.rises.Given as goal
+
+abbrev pub invariant-loop-at : goal.invariant-loop-at
+invariant-loop-at l = rises (drop l.at l.numbers) ≡ rises l.numbers

@@ -1,0 +1,10 @@
+use Rattle.std.proofs.Common.{◌≡◌, drop}
+use Rattle.serde_json.specs.View.{items_view}
+use Rattle.json_file.specs.Members.{each}
+use Rattle.json_file.proofs.Reading.{with_front}
+use Rattle.state_walks.specs.Judged.{states_of}
+use Rattle.certificate.specs.Stated.{state_in}
+use Rattle.certificate.proofs.reading.states.Given as goal
+
+abbrev pub invariant-loop-value : goal.invariant-loop-value
+invariant-loop-value l = with_front (states_of l.found.items) (each state_in (items_view (drop l.value-index l.values))) ≡ each state_in (items_view l.values)

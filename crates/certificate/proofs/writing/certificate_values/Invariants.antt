@@ -1,0 +1,7 @@
+use Rattle.std.proofs.Common.{◌≡◌, ◌++◌, drop, map}
+use Rattle.serde_json.specs.View.{view}
+use Rattle.certificate.specs.Spelled.{certificate_data}
+use Rattle.certificate.proofs.writing.certificate_values.Given as goal
+
+abbrev pub invariant-loop-certificate : goal.invariant-loop-certificate
+invariant-loop-certificate l = map view l.found.items ++ map certificate_data (drop l.certificate-index l.certificates) ≡ map certificate_data l.certificates

@@ -1,0 +1,109 @@
+//! Certificates, as plain data.
+
+ghost use Rattle.std.specs.Prelude.{◌≡◌};
+ghost use Rattle.state_walks.specs.Judged.{states_of};
+ghost use Rattle.certificate.specs.Views.{form_view};
+
+use crate::forms::Form;
+use model::Text;
+use std::marker::Model;
+
+/// What shows that a guarantee holds: the guarantee's texts, and states that letters never lead out of, but for those
+/// that its form passes over.
+pub struct Certificate {
+    form: Form,
+    exchange: Text,
+    mode: Text,
+    pattern: Text,
+    queue: Text,
+    states: Vec<Vec<u64>>,
+}
+
+/// Written out, so that a drop is one call.
+impl Drop for Certificate {
+    fn drop(self) {
+        let Certificate {
+            form: _,
+            exchange: _,
+            mode: _,
+            pattern: _,
+            queue: _,
+            states: _,
+        } = self;
+    }
+}
+
+impl Model for Certificate {
+    ghost use Rattle.state_walks.specs.Judged.{states_of};
+    ghost use Rattle.model.specs.Certificates.{Certificate as Shown};
+    ghost use Rattle.certificate.specs.Views.{form_view};
+
+    ghost Value = { Shown };
+
+    ghost view = { λ c. record { form = form_view c.form; exchange = c.exchange; mode = c.mode; pattern = c.pattern; queue = c.queue; states = states_of c.states.items } };
+}
+
+impl Certificate {
+    /// The certificate of these parts.
+    pub fn new(
+        form: Form,
+        exchange: Text,
+        mode: Text,
+        pattern: Text,
+        queue: Text,
+        states: Vec<Vec<u64>>,
+    ) -> Certificate
+        ensures { result ≡ record { form = form_view form; exchange = exchange; mode = mode; pattern = pattern; queue = queue; states = states_of states.items } }
+    {
+        Certificate {
+            form,
+            exchange,
+            mode,
+            pattern,
+            queue,
+            states,
+        }
+    }
+
+    /// What its states have numbers for.
+    pub fn form(&self) -> &Form
+        ensures { form_view result.now ≡ self.now.form }
+    {
+        &self.form
+    }
+
+    /// The exchange of its guarantee.
+    pub fn exchange(&self) -> &Text
+        ensures { result.now ≡ self.now.exchange }
+    {
+        &self.exchange
+    }
+
+    /// The mode of its guarantee, by name.
+    pub fn mode(&self) -> &Text
+        ensures { result.now ≡ self.now.mode }
+    {
+        &self.mode
+    }
+
+    /// The pattern of its guarantee.
+    pub fn pattern(&self) -> &Text
+        ensures { result.now ≡ self.now.pattern }
+    {
+        &self.pattern
+    }
+
+    /// The queue of its guarantee.
+    pub fn queue(&self) -> &Text
+        ensures { result.now ≡ self.now.queue }
+    {
+        &self.queue
+    }
+
+    /// Its states.
+    pub fn states(&self) -> &[Vec<u64>]
+        ensures { states_of result.now ≡ self.now.states }
+    {
+        self.states.as_slice()
+    }
+}

@@ -1,0 +1,102 @@
+//! The file of certificates that are found one by one.
+
+ghost use Rattle.std.specs.Prelude.{◌≡◌, ◌++◌, ◌∷◌, [], length, nat_lt, IfOk, List, MatchResult, OnOk};
+ghost use Rattle.model.specs.Certificates.{Certificate as Shown};
+ghost use Rattle.serde_json.specs.Written.{comma_if};
+ghost use Rattle.certificate.specs.Drafts.{HasNoFile, IsBegun, IsDraft, IsFile, Puts};
+
+use crate::certificates::Certificate;
+use crate::unwritten::Unwritten;
+use crate::writing::certificate_value;
+use std::alloc::{AllocError, Global};
+
+/// The greatest file that is written, in bytes: no longer one is read.
+const LIMIT: usize = 16_777_216;
+
+/// The file of certificates that are found one by one, as far as it is written.
+#[derive(Drop)]
+pub enum Draft {
+    /// The file, but for the bracket that closes it.
+    Text(Vec<u8>),
+    /// There is none, for this reason.
+    Refused(Unwritten),
+}
+
+/// Appends a comma, if something stands behind the first bracket.
+fn put_comma(text: &mut Vec<u8>) -> Result<(), AllocError>
+    ensures { OnOk result (text.new.items ≡ text.old.items ++ comma_if (nat_lt 1 (length text.old.items))) }
+{
+    if text.len() > 1 {
+        text.push(b',')?;
+    }
+    Ok(())
+}
+
+/// Appends a certificate, behind a comma if another stands before it.
+fn put_certificate(
+    alloc: Global,
+    text: &mut Vec<u8>,
+    certificate: &Certificate,
+) -> Result<(), Unwritten>
+    ensures { Puts result text.old.items text.new.items certificate.now }
+{
+    let value = certificate_value(alloc, certificate)?;
+    let written = value.to_string(alloc)?;
+    put_comma(text)?;
+    text.extend_from_slice(written.as_str().as_bytes())?;
+    Ok(())
+}
+
+/// The file that begins so, with a certificate more.
+fn longer(alloc: Global, begun: Vec<u8>, certificate: &Certificate) -> Draft
+    ensures { (cs : List Shown) → IsBegun begun.items cs → IsDraft result (cs ++ certificate.now ∷ []) }
+{
+    let mut text = begun;
+    match put_certificate(alloc, &mut text, certificate) {
+        Ok(()) if text.len() < LIMIT => Draft::Text(text),
+        Ok(()) => Draft::Refused(Unwritten::TooLong),
+        Err(why) => Draft::Refused(why),
+    }
+}
+
+/// The file that begins so, with its last bracket.
+fn closed(begun: Vec<u8>) -> Result<Vec<u8>, AllocError>
+    ensures { IfOk result (λ text. text.items ≡ begun.items ++ 93 ∷ []) }
+{
+    let mut text = begun;
+    text.push(b']')?;
+    Ok(text)
+}
+
+impl Draft {
+    /// The file of no certificate.
+    pub fn new(alloc: Global) -> Draft
+        ensures { IsDraft result [] }
+    {
+        let mut text = Vec::new(alloc);
+        match text.push(b'[') {
+            Ok(()) => Draft::Text(text),
+            Err(_) => Draft::Refused(Unwritten::Memory),
+        }
+    }
+
+    /// The file with a certificate more. It is given up if it grows past the limit, a text is not UTF-8, or a growth is refused.
+    pub fn with_certificate(self, alloc: Global, certificate: &Certificate) -> Draft
+        ensures { (cs : List Shown) → IsDraft self cs → IsDraft result (cs ++ certificate.now ∷ []) }
+    {
+        match self {
+            Draft::Text(text) => longer(alloc, text, certificate),
+            Draft::Refused(why) => Draft::Refused(why),
+        }
+    }
+
+    /// The whole file, or why there is none.
+    pub fn finished(self) -> Result<Vec<u8>, Unwritten>
+        ensures { (cs : List Shown) → IsDraft self cs → MatchResult result (λ text. IsFile text.items cs) (λ why. HasNoFile why cs) }
+    {
+        match self {
+            Draft::Text(text) => Ok(closed(text)?),
+            Draft::Refused(why) => Err(why),
+        }
+    }
+}

@@ -1,0 +1,168 @@
+//! The places that a certificate tracks, and the patterns at them.
+
+ghost use Rattle.std.specs.Prelude.{◌≡◌, ◌<◌, ◌++◌, ◌∷◌, ℕ, List, [], AllPairs, Decides, IfOk, OnOk, length, nat_lt};
+ghost use Rattle.std.specs.List.{AllByRecursion, cons_option, list_all, slice_get};
+ghost use Rattle.model.specs.Certificates.{at_places, IsZeroFirst};
+ghost use Rattle.certificate.specs.Places.{AreFewPlaces, Chooses, HasFewPlaces, IsPassedOver, SlicesAt, is_less_first, passes_over, rises};
+ghost use Rattle.certificate.specs.Views.{form_view};
+
+use crate::forms::Form;
+use std::alloc::{AllocError, Global};
+use word_automata::Tracked;
+
+/// The most patterns that are tracked.
+pub const MOST_PATTERNS: usize = 64;
+
+/// Whether a number is less than the first of these, if there is one.
+fn is_less_first(number: u64, rest: &[u64]) -> bool
+    ensures { result ≡ is_less_first number rest.now }
+{
+    match rest.first() {
+        Some(next) => number < *next,
+        None => true,
+    }
+}
+
+/// Whether each number is less than the next.
+fn rises(numbers: &[u64]) -> bool
+    ensures { result ≡ rises numbers.now }
+{
+    for at in 0..numbers.len() {
+        if !is_less_first(numbers[at], &numbers[at + 1..]) {
+            return false;
+        }
+    }
+    true
+}
+
+/// Whether the numbers rise strictly.
+fn are_rising(numbers: &[u64]) -> bool
+    ensures { Decides result (AllPairs (λ (i j : ℕ). i < j) numbers.now) }
+{
+    rises(numbers)
+}
+
+/// Whether the first number is 0.
+fn is_zero_first(numbers: &[u64]) -> bool
+    ensures { Decides result (IsZeroFirst numbers.now) }
+{
+    match numbers.first() {
+        Some(first) => *first == 0,
+        None => false,
+    }
+}
+
+/// Whether there are at most 64 places that rise from 0.
+fn are_few(places: &[u64]) -> bool
+    ensures { Decides result (AreFewPlaces places.now) }
+{
+    places.len() <= MOST_PATTERNS && is_zero_first(places) && are_rising(places)
+}
+
+/// Whether the places of a form, if it names any, are at most 64 and rise from 0.
+pub fn has_few_places(form: &Form) -> bool
+    ensures { Decides result (HasFewPlaces (form_view form.now)) }
+{
+    match form {
+        Form::Whole => true,
+        Form::Sliced(places) => are_few(places.as_slice()),
+        Form::Excepting { places, .. } => are_few(places.as_slice()),
+    }
+}
+
+/// Whether states are passed over.
+pub fn passes_over(form: &Form) -> bool
+    ensures { result ≡ passes_over (form_view form.now) }
+{
+    match form {
+        Form::Whole => false,
+        Form::Sliced(_) => true,
+        Form::Excepting { .. } => true,
+    }
+}
+
+/// Whether the state is passed over, where states are.
+pub fn is_passed_over(drops: bool, state: &[u64]) -> bool
+    ensures { Decides result (IsPassedOver drops state.now) }
+{
+    drops && is_zero_first(state)
+}
+
+/// Whether each is less than the count.
+fn are_below(places: &[u64], count: usize) -> bool
+    ensures { result ≡ list_all (λ i. nat_lt i count) places.now }
+{
+    places.iter().all(|place| *place < count as u64)
+}
+
+/// Whether each is a place of a list of this length.
+fn are_within(places: &[u64], count: usize) -> bool
+    ensures { Decides result (AllByRecursion (λ i. i < count) places.now) }
+{
+    are_below(places, count)
+}
+
+/// Adds a copy of the pattern at this place, if there is one.
+fn add_at(
+    alloc: Global,
+    found: &mut Vec<Tracked>,
+    list: &[Tracked],
+    place: u64,
+) -> Result<(), AllocError>
+    ensures { OnOk result (found.new.items ≡ found.old.items ++ cons_option (slice_get list.now place) []) }
+{
+    match list.get(place as usize) {
+        Some(pattern) => {
+            let copy = Tracked::new(alloc, pattern.kind(), pattern.text().clone()?)?;
+            found.push(copy)?;
+            Ok(())
+        }
+        None => Ok(()),
+    }
+}
+
+/// Copies of the patterns at these places of the list.
+pub fn at_places(
+    alloc: Global,
+    list: &[Tracked],
+    places: &[u64],
+) -> Result<Vec<Tracked>, AllocError>
+    ensures { IfOk result (λ found. found.items ≡ at_places list.now places.now) }
+{
+    let mut found = Vec::new(alloc);
+    for place in places {
+        add_at(alloc, &mut found, list, *place)?;
+    }
+    Ok(found)
+}
+
+/// The patterns at these places, where each is one of the list's.
+fn slice(
+    alloc: Global,
+    list: &[Tracked],
+    places: &[u64],
+) -> Result<Option<Vec<Tracked>>, AllocError>
+    requires { AreFewPlaces places.now }
+    ensures { IfOk result (SlicesAt list.now places.now) }
+{
+    if !are_within(places, list.len()) {
+        return Ok(None);
+    }
+    Ok(Some(at_places(alloc, list, places)?))
+}
+
+/// The patterns of the list that states have numbers for, where each place is one of the list's.
+pub fn chosen(
+    alloc: Global,
+    form: &Form,
+    list: Vec<Tracked>,
+) -> Result<Option<Vec<Tracked>>, AllocError>
+    requires { HasFewPlaces (form_view form.now) }
+    ensures { IfOk result (Chooses (form_view form.now) list.items) }
+{
+    match form {
+        Form::Whole => Ok(Some(list)),
+        Form::Sliced(places) => slice(alloc, list.as_slice(), places.as_slice()),
+        Form::Excepting { places, .. } => slice(alloc, list.as_slice(), places.as_slice()),
+    }
+}

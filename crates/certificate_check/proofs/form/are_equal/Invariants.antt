@@ -1,6 +1,0 @@
-use Rattle.std.proofs.Common.{◌≡◌, drop}
-use Rattle.certificate_check.specs.Places.{same_texts}
-use Rattle.certificate_check.proofs.form.are_equal.Given as goal
-
-abbrev pub invariant-loop-at : goal.invariant-loop-at
-invariant-loop-at l = same_texts (drop l.at l.texts) (drop l.at l.others) ≡ same_texts l.texts l.others

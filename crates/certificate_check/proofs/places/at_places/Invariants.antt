@@ -1,6 +1,0 @@
-use Rattle.std.proofs.Common.{◌≡◌, ◌++◌, drop}
-use Rattle.model.specs.Certificates.{at_places}
-use Rattle.certificate_check.proofs.places.at_places.Given as goal
-
-abbrev pub invariant-loop-place : goal.invariant-loop-place
-invariant-loop-place l = l.found.items ++ at_places l.list (drop l.place-index l.places) ≡ at_places l.list l.places

@@ -1,5 +1,0 @@
-pub mod Listed
-pub mod Whole
-pub mod Spelling
-pub mod Joining
-pub mod Drafting

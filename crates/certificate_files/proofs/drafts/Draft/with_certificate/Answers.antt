@@ -1,8 +1,0 @@
-use Rattle.std.proofs.Common.{subst}
-use Rattle.certificate_files.specs.Drafts.{IsDraft}
-use Rattle.certificate_files.specs.declared.drafts.Draft.{Draft}
-use Rattle.certificate_files.proofs.Drafting.{fails_still}
-use Rattle.certificate_files.proofs.drafts.Draft.with_certificate.Goals as goal
-
-pub returns-in-Refused : goal.returns-in-Refused
-returns-in-Refused c = λ cs d. fails_still cs c.args.certificate.now c.in-Refused.why (subst (λ (z : Draft). IsDraft z cs) c.in-Refused.is d)

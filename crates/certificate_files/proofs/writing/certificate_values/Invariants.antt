@@ -1,7 +1,0 @@
-use Rattle.std.proofs.Common.{◌≡◌, ◌++◌, drop, map}
-use Rattle.serde_json.specs.View.{view}
-use Rattle.certificate_files.specs.Spelled.{certificate_data}
-use Rattle.certificate_files.proofs.writing.certificate_values.Given as goal
-
-abbrev pub invariant-loop-certificate : goal.invariant-loop-certificate
-invariant-loop-certificate l = map view l.found.items ++ map certificate_data (drop l.certificate-index l.certificates) ≡ map certificate_data l.certificates
