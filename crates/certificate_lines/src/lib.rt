@@ -3,10 +3,10 @@
 //! | kinds | asked of |
 //! |---|---|
 //! | `admit`, `admitted` | `certificate`: what is admitted of a file of guarantees by one of certificates, and where it leads a key |
-//! | `check` | `certificate_check`: whether the certificate of a file is accepted, or its fault |
+//! | `check` | `certificate`: whether the certificate of a file is accepted, or its fault |
 //! | `search`, `certificate` | `guarantee_search`: the verdict, which a check or `disprove` then takes; the file of the certificate that was found |
 //! | `disprove` | `certificate`: whether a key, with a path, breaks a guarantee |
-//! | `certificates`, `certificates-hex`, `rewritten` | `certificate_files`: whether a file is read, or why it is refused; whether it is written as it was |
+//! | `certificates`, `certificates-hex`, `rewritten` | `certificate`: whether a file is read, or why it is refused; whether it is written as it was |
 #![tactic(auto)]
 
 mod admission;
