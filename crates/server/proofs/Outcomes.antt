@@ -93,7 +93,7 @@ prints words before after out err wanted text status n asks is quiet put =
 puts_but : (words : List Text) (before after : Text → Known) (out err : OutputStream) (wanted : Wanted) (text : Text) (status n : ℕ) (unwritten : Option Told)
     → AsksFor words wanted → AnswersBut before after wanted text status unwritten → PutsBoth out err text status unwritten n → RunsAs words before after out err n
 puts_but words before after out err wanted text status n None asks is put = prints words before after out err wanted text status n asks is put.1 put.0
-puts_but words before after out err wanted text status n (Some told) asks is put = put_unfiled told.why put.0 asks is put.1 put.2
+puts_but words before after out err wanted text status n (Some told) asks is put = put_unfiled wanted text told.file.now told.why put.0 asks is put.1 put.2
 
 -- what was answered, with nothing on standard error, is put out
 pub puts : (words : List Text) (before after : Text → Known) (out : OutputStream) (a b c : Option Text) (wanted : Wanted) (text : Text) (status n : ℕ) (unwritten : Option Told)

@@ -421,7 +421,7 @@ pub data RunsAs (words : List Text) (before after : Text → Known) (out err : O
   printed : (wanted : Wanted) (text : Text) (status : ℕ) (done : Bool) → AsksFor words wanted → IsCommandAnswered before after wanted text status → PutsOut out text done → GetsNothing err
       → RunsAs words before after out err (tried done status)
   -- what it answers was put out, and then was told why a file is not written
-  put_unfiled : {wanted : Wanted} {text file : Text} {status : ℕ} (why : CommandRefusal) (done : Bool) → AsksFor words wanted → IsAnsweredUnfiled before after wanted text file why → PutsOut out text done
+  put_unfiled : {status : ℕ} (wanted : Wanted) (text file : Text) (why : CommandRefusal) (done : Bool) → AsksFor words wanted → IsAnsweredUnfiled before after wanted text file why → PutsOut out text done
       → RefusesWith err file why status → RunsAs words before after out err status
   -- why it prints nothing was told
   told_of : {wanted : Wanted} {file : Text} (why : CommandRefusal) (done : Bool) → AsksFor words wanted → IsNotAnswered before after wanted file why → GetsNothing out → PutsOut err (refusal_line file why) done
