@@ -1,8 +1,10 @@
 //! Certificates that are written to a file, and what is told of that file.
 
+use certificate::{Certificate, Draft, Form, Unwritten};
+use model::Text;
 use scenario_parts::{Unmet, expect, expect_bytes, expect_number, value_of};
 use server::{Files, NotWritten, Unread, program};
-use std::alloc::Global;
+use std::alloc::{AllocError, Global};
 
 /// The greatest file that is read, in bytes.
 const LIMIT: usize = 16_777_216;
@@ -108,4 +110,46 @@ pub(crate) fn certificates_that_are_written_are_accepted(alloc: Global) -> Resul
         "certificates",
     ];
     expect_printed(alloc, &mut disk, verify.as_slice(), b"1 ok\n")
+}
+
+/// How many states the large certificate has.
+const STATES: u32 = 8_192;
+
+/// How many bytes it has in a file: 82 before its states, 2 behind them, and between these 321 for each, with a comma between two.
+const LARGE: u64 = 2_637_907;
+
+/// A certificate of 8,192 states with 64 numbers of four digits.
+fn large(alloc: Global) -> Result<Certificate, AllocError> {
+    let mut states = Vec::new(alloc);
+    for _ in 0..STATES {
+        states.push(vec![in alloc; 1_000_u64; 64]?)?;
+    }
+    Ok(Certificate::new(
+        Form::Whole,
+        Text::fixed(b"X"),
+        Text::fixed(b"reaches"),
+        Text::fixed(b"#"),
+        Text::fixed(b"audit"),
+        states,
+    ))
+}
+
+/// The file of so many of this certificate.
+fn file_of(alloc: Global, certificate: &Certificate, count: u8) -> Result<Vec<u8>, Unwritten> {
+    let mut draft = Draft::new(alloc);
+    for _ in 0..count {
+        draft = draft.with_certificate(alloc, certificate);
+    }
+    draft.finished()
+}
+
+/// A file of certificates that would be too long to be read back is given up.
+pub(crate) fn a_file_past_the_limit_is_given_up(alloc: Global) -> Result<(), Unmet> {
+    let certificate = value_of("the certificate", large(alloc))?;
+    let six = value_of("the file of six", file_of(alloc, &certificate, 6))?;
+    expect_number("its length", six.len() as u64, 6 * LARGE + 7)?;
+    expect(
+        "seven have no file",
+        matches!(file_of(alloc, &certificate, 7), Err(Unwritten::TooLong)),
+    )
 }

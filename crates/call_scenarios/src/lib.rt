@@ -57,6 +57,11 @@ fn tell_programs(sums: &mut Sums, rt: &HostRuntime) -> io::Result<()> {
         rt,
         "certificates_that_are_written_are_accepted",
         filing::certificates_that_are_written_are_accepted(alloc),
+    )?;
+    sums.tell(
+        rt,
+        "a_file_past_the_limit_is_given_up",
+        filing::a_file_past_the_limit_is_given_up(alloc),
     )
 }
 
