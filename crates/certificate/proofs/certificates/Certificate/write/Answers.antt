@@ -3,7 +3,7 @@ use Rattle.std.specs.Global.{Vec}
 use Rattle.serde_json.specs.Data.{Data, array}
 use Rattle.serde_json.specs.View.{items_of, view}
 use Rattle.certificate.proofs.Spelling.{written}
-use Rattle.certificate.proofs.writing.Certificate.write.Goals as goal
+use Rattle.certificate.proofs.certificates.Certificate.write.Goals as goal
 
 pub returns : goal.returns
 returns c =

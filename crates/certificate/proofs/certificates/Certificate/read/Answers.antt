@@ -1,7 +1,7 @@
 use Rattle.std.proofs.lemmas.Result.{err_from_is_err_and}
 use Rattle.serde_json.specs.View.{view}
 use Rattle.certificate.proofs.Whole.{unread}
-use Rattle.certificate.proofs.reading.Certificate.read.Goals as goal
+use Rattle.certificate.proofs.certificates.Certificate.read.Goals as goal
 
 pub returns-in_err-found : goal.returns-in_err-found
 returns-in_err-found c =
