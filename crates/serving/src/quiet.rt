@@ -81,13 +81,4 @@ impl Quiet {
             self.marks[slot] = is_quiet;
         }
     }
-
-    /// Takes all marks away.
-    pub(crate) fn clear(&mut self)
-        ensures { (i : ℕ) → slice_index_or self.new i false ≡ false }
-    {
-        for slot in 0..self.marks.len() {
-            self.marks[slot] = false;
-        }
-    }
 }
