@@ -144,14 +144,15 @@ made_of : (old new : Parts) (c : ℕ) (notes : List Note) → LinksPumped (topol
 made_of old new c notes p = p.pumped.acts.made
 
 pumps : (old new : Parts) (c : ℕ) (notes : List Note) → IsEngine old → Stays old new
-    → LinksPumped (topology_kept old.broker) (broker_of old.broker) c old.links notes (broker_of new.broker) new.links → IsPump (world_of old) notes (world_of new)
+    → LinksPumped (topology_kept old.broker) (broker_of old.broker) c old.links notes (broker_of new.broker) new.links → IsPump (world_of old) c notes (world_of new)
 pumps old new c notes e st p =
     let f = p.change in
     let ch = output_changes old.links new.links c f (open_still old c new.links f e (made_of old new c notes p)) in
     let b = becomes old new f.place f.old f.new st e.links.rising ch in
     let did = delivered old new f.old f.new notes b (found_there old.links new.links c f e.links.rising) e.consistent f.rest
     (subst (λ (n : ℕ). LinkPumped (topology_kept old.broker) (broker_of old.broker) n f.old notes (broker_of new.broker) f.new) (sym f.number) p.pumped) in
-    record { connection = f.old.number; happenings = did.0; noted = did.1; delivers = did.2; promises = pump_keeps (world_of old) (world_of new) did.0 (sound old e) e.consistent (delivers did.2) }
+    subst (λ (n : ℕ). IsPump (world_of old) n notes (world_of new)) f.number
+    (record { happenings = did.0; noted = did.1; delivers = did.2; promises = pump_keeps (world_of old) (world_of new) did.0 (sound old e) e.consistent (delivers did.2) })
 
 pumps_engine : (old new : Parts) (c : ℕ) (notes : List Note) → IsEngine old → Stays old new
     → LinksPumped (topology_kept old.broker) (broker_of old.broker) c old.links notes (broker_of new.broker) new.links → IsEngine new
@@ -159,7 +160,7 @@ pumps_engine old new c notes e st p =
     let f = p.change in
     let done = pumps old new c notes e st p in
     engine_change old new f.place f.old f.new e st (output_changes old.links new.links c f (open_still old c new.links f e (made_of old new c notes p)))
-    (delivers_agrees (world_of old) (world_of new) done.connection done.happenings (agreed old e) done.delivers)
+    (delivers_agrees (world_of old) (world_of new) c done.happenings (agreed old e) done.delivers)
 
 -- ---- memory was wanting
 
@@ -209,9 +210,9 @@ pub picked_engine : (old : Parts) (b : WithTurn) → b.kept ≡ old.broker.kept 
 picked_engine old b same e = subst (λ (k : Kept). IsEngine (with_kept old b k)) (sym same) (turned_engine old b.turn e)
 
 pub picked_pumps : (old new : Parts) (b : WithTurn) (c : ℕ) (notes : List Note) → IsEngine old → b.kept ≡ old.broker.kept → Stays (record old { broker = b }) new
-    → LinksPumped (topology_kept b) (broker_of b) c old.links notes (broker_of new.broker) new.links → IsPump (world_of old) notes (world_of new)
+    → LinksPumped (topology_kept b) (broker_of b) c old.links notes (broker_of new.broker) new.links → IsPump (world_of old) c notes (world_of new)
 picked_pumps old new b c notes e same st p =
-    subst (λ (k : Kept). IsPump (world_of (with_kept old b k)) notes (world_of new)) same (pumps (record old { broker = b }) new c notes (picked_engine old b same e) st p)
+    subst (λ (k : Kept). IsPump (world_of (with_kept old b k)) c notes (world_of new)) same (pumps (record old { broker = b }) new c notes (picked_engine old b same e) st p)
 
 can_still : (old : Parts) (b : WithTurn) (c : ℕ) → b.kept ≡ old.broker.kept → CanDeliver (broker_of old.broker) c → CanDeliver (broker_of b) c
 can_still old b c same made = subst (λ (k : Kept). CanDeliver (core.broker_of k) c) (sym same) made

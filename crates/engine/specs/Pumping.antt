@@ -53,9 +53,8 @@ pub record LinksNotPumped (b : Broker) (c : ℕ) (ls : List Connected) (new_b : 
 
 -- ---- the engine
 
--- A message was delivered to a consumer of one of the connections, and the promises hold of what happened by it.
-pub record IsPump (old : World) (notes : List Note) (new : World) : Type 0 where
-  pub connection : ℕ
+-- A message was delivered to a consumer of this connection, and the promises hold of what happened by it.
+pub record IsPump (old : World) (connection : ℕ) (notes : List Note) (new : World) : Type 0 where
   pub happenings : List Happening
   pub noted : notes ≡ notes_of happenings
   pub delivers : Delivers old connection happenings new

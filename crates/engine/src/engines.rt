@@ -22,8 +22,9 @@ use crate::turning::Turn;
 use broker::Broker;
 use certificate::Checked;
 use guarantees::Guarantee;
-use model::{Note, User};
+use model::User;
 use outputs::{Scratch, Spares};
+use runs::Delivered;
 use std::alloc::{AllocError, Global};
 use std::marker::Model;
 
@@ -179,16 +180,17 @@ impl Engine {
         }
     }
 
-    /// Makes one delivery to a consumer, of whatever connection, and gives its notes: none where no delivery can be made.
+    /// Makes one delivery to a consumer, and tells of which connection, with its notes: none where no delivery can be made.
     ///
     /// Where memory is refused nothing is delivered; it is wanted only where a delivery can be made.
-    pub fn pump(&mut self, alloc: Global) -> Result<Option<Vec<Note>>, AllocError>
-        ensures ok { IfOk result (λ did. MatchOption did (Idles (world_of self.old) (world_of self.new)) (λ notes. IsPump (world_of self.old) notes.items (world_of self.new))) }
+    pub fn pump(&mut self, alloc: Global) -> Result<Option<Delivered>, AllocError>
+        ensures ok { IfOk result (λ did. MatchOption did (Idles (world_of self.old) (world_of self.new)) (λ d. IsPump (world_of self.old) d.connection d.notes.items (world_of self.new))) }
         ensures err { OnErr result (Same (world_of self.old) (world_of self.new)) }
         ensures wanted { OnErr result ((c : ℕ) × CanDeliver (world_of self.old).state.broker c) }
     {
         match self.broker.pick() {
             Some(pick) => {
+                let connection = pick.connection;
                 let notes = pump_among(
                     alloc,
                     &mut self.broker,
@@ -197,7 +199,7 @@ impl Engine {
                     &mut self.links,
                     pick,
                 )?;
-                Ok(Some(notes))
+                Ok(Some(Delivered { connection, notes }))
             }
             None => Ok(None),
         }

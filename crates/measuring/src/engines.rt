@@ -116,7 +116,7 @@ impl Measured {
     /// Whether a delivery was made.
     fn delivered(&mut self) -> bool {
         match self.engine.pump(self.alloc) {
-            Ok(notes) => notes.is_some(),
+            Ok(delivered) => delivered.is_some(),
             Err(_) => {
                 self.is_whole = false;
                 false

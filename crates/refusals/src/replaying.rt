@@ -138,16 +138,16 @@ impl Replay {
     /// One delivery, if any can be made.
     fn pump(&mut self, alloc: Global, counts: &mut Counts) -> Result<(), AllocError> {
         self.look()?;
-        let notes = match self.engine.pump(alloc) {
-            Ok(notes) => notes,
+        let delivered = match self.engine.pump(alloc) {
+            Ok(delivered) => delivered,
             Err(_) => {
                 count(&mut counts.pumps);
                 self.compare(counts);
                 self.engine.pump(alloc)?
             }
         };
-        match notes {
-            Some(mut notes) => self.notes.append(&mut notes),
+        match delivered {
+            Some(mut delivered) => self.notes.append(&mut delivered.notes),
             None => Ok(()),
         }
     }

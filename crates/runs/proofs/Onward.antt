@@ -114,8 +114,8 @@ loses a b c s t e gathers lost =
     (map Of_event loss.0, tt, (loss.0, refl, match_false (is_gone a c) _ _ e loss.1), subst (λ (z : Seen). TellsEvents a s (map Of_event loss.0) b z) (sym gathers) (tells_loses a b c loss.0 s loss.1))
 
 -- a delivery was made, and what was noted is told
-pub pumps : (a b : World) (s t : Seen) (notes : List Note) → Pumped a notes b → t ≡ record s { notes = s.notes ++ notes } → AnswersAndTells a arrival.Pump s b t
-pumps a b s t notes (c, hs, noted, made) e = (map Of_event hs, tt, (hs, refl, delivers made), subst (λ (z : Seen). TellsEvents a s (map Of_event hs) b z) (sym e) (tells_delivers a b c hs s notes noted made))
+pub pumps : (a b : World) (s t : Seen) (c : ℕ) (notes : List Note) → Pumped a c notes b → t ≡ record s { notes = s.notes ++ notes } → AnswersAndTells a arrival.Pump s b t
+pumps a b s t c notes (hs, noted, made) e = (map Of_event hs, tt, (hs, refl, delivers made), subst (λ (z : Seen). TellsEvents a s (map Of_event hs) b z) (sym e) (tells_delivers a b c hs s notes noted made))
 
 pub pumps_not : (a b : World) (s : Seen) → Idles a b → AnswersAndTells a arrival.Pump s b s
 pumps_not a b s i = ([], tt, ([], refl, idles i.0 (refl, i.1)), tells_same a b s i.1)

@@ -37,9 +37,9 @@ Did old c notes new = (hs : List Happening) × (notes ≡ notes_of hs) × Turns 
 abbrev pub DidNothing : World → ℕ → World → Type 0
 DidNothing old c new = Rests old c × Waits old c new
 
--- one delivery was made, to one of the connections, with these notes
-abbrev pub Pumped : World → List Note → World → Type 0
-Pumped old notes new = (c : ℕ) × (hs : List Happening) × (notes ≡ notes_of hs) × Delivers old c hs new
+-- one delivery was made, to connection c, with these notes
+abbrev pub Pumped : World → ℕ → List Note → World → Type 0
+Pumped old c notes new = (hs : List Happening) × (notes ≡ notes_of hs) × Delivers old c hs new
 
 -- no delivery can be made, to whatever connection, and nothing was done
 abbrev pub Idles : World → World → Type 0

@@ -133,7 +133,7 @@ fn pump<M: Machine>(
     ensures { OnOk result (AnswersAndTells (M.world machine.old) arrival.Pump transcript.old (M.world machine.new) transcript.new) }
 {
     match machine.pump(alloc)? {
-        Some(notes) => transcript.note(notes),
+        Some(delivered) => transcript.note(delivered.notes),
         None => Ok(()),
     }
 }

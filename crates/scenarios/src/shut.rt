@@ -1,7 +1,7 @@
 //! Runs, and rounds over a wire that is scripted, of a machine on which no connection can be opened.
 
 use model::{Arrival, Note, Text};
-use runs::{Machine, ReloadFault, run_over};
+use runs::{Delivered, Machine, ReloadFault, run_over};
 use scenario_parts::{Unmet, expect, expect_number, value_of};
 use serving::{Accept, Read, Server, Wire, Write, serve};
 use std::alloc::{AllocError, Global};
@@ -46,7 +46,7 @@ impl<'a> Machine for Shut<'a> {
 
     fn sent(&mut self, _c: u64, _n: u64) {}
 
-    fn pump(&mut self, _alloc: Global) -> Result<Option<Vec<Note>>, AllocError> {
+    fn pump(&mut self, _alloc: Global) -> Result<Option<Delivered>, AllocError> {
         *self.pumps = self.pumps.saturating_add(1);
         if self.has_memory {
             return Ok(None);

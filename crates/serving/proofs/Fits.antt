@@ -158,6 +158,10 @@ serves_fit {L = L} a b xs p s f = fit_story L s.deeds a b s.occurrences s.story 
 pub pumps_fit : {L : Lacks} (n : ℕ) (a b : Served) (p : Bool) → PumpsUp L n a p b → IsFit a.world a.peers → IsFit b.world b.peers
 pumps_fit {L = L} n a b p s f = fit_story L s.deeds a b s.occurrences s.story f
 
+-- where no number is given, each slot has a connection of its own that was opened
+pub fit_on : (a b : World) (ps : List (Option Peer)) → b.given ≡ a.given → IsFit a ps → IsFit b ps
+fit_on a b ps e fit = record { apart = fit.apart; given = λ i p at. let le = fit.given i p at in omega (arith, le, e) }
+
 -- with no slot every server fits
 pub fit_none : (w : World) → IsFit w []
 fit_none w = record { apart = λ i j p q at. absurd (cc at); given = λ i p at. absurd (cc at) }

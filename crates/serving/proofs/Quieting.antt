@@ -7,7 +7,7 @@ use Rattle.model.specs.Arrivals.{World, Same, is_over, is_gone, is_paused, has_o
 use Rattle.serving.specs.Wire.{To_write}
 use Rattle.serving.specs.Story.{At, Filled}
 use Rattle.serving.specs.Fit.{ApartFrom, IsFit}
-use Rattle.serving.specs.Quiet.{IsQuiet, IsMarkedAt, AreQuiet}
+use Rattle.serving.specs.Quiet.{IsQuiet, IsMarkedAt, AreQuiet, IsOther, Wakes}
 use Rattle.serving.specs.Rounds.{HasEnded, write_of}
 use Rattle.serving.specs.declared.peers.Peer.{Peer}
 use Rattle.serving.proofs.Turning.{awake_stands}
@@ -116,6 +116,29 @@ quiet_met a b ps qs i p ms fit apart filled quiet = still_quiet a b ps qs ms (sl
     let before : At ps j q = sym (filled.others j old.0) ∙ at in
     let given = fit.given j q before in
     (before, old.1, others_stay (a.given + 1) a b apart q.connection (λ e. omega (arith, given, e))))
+
+-- something was delivered to connection c, and its slot is not marked now
+pub quiet_woken : (a b : World) (ps : List (Option Peer)) (c : ℕ) (ms ns : List Bool) → ApartFrom c a b → Wakes c ps ms ns → AreQuiet a ps ms → AreQuiet b ps ns
+quiet_woken a b ps c ms ns apart wakes quiet = still_quiet a b ps ps ms ns quiet (λ j q at m. let w = (wakes j).0 m in (at, w.0, others_stay c a b apart q.connection (w.1 q at)))
+
+-- where one mark was taken away the others stay
+marked_elsewhere : (marks : List Bool) (i j : ℕ) → j ≢ i → IsMarkedAt marks j → IsMarkedAt (slice_set marks i false) j
+marked_elsewhere [] i j ne m = m
+marked_elsewhere (x ∷ xs) zero zero ne m = absurd (ne refl)
+marked_elsewhere (x ∷ xs) zero (suc j) ne m = m
+marked_elsewhere (x ∷ xs) (suc i) zero ne m = m
+marked_elsewhere (x ∷ xs) (suc i) (suc j) ne m = marked_elsewhere xs i j (λ e. ne (ap suc e)) m
+
+-- the slot of connection c has lost its mark
+pub woken : (w : World) (ps : List (Option Peer)) (i : ℕ) (p : Peer) (c : ℕ) (ms : List Bool) → IsFit w ps → At ps i p → p.connection ≡ c → Wakes c ps ms (slice_set ms i false)
+woken w ps i p c ms fit here is = λ j. (
+  λ m. let old = still_marked ms i j m in (old.1, λ q at e. old.0 (fit.apart j i q p at here (e ∙ sym is))),
+  λ was. marked_elsewhere ms i j (λ e. was.1 p (subst (λ (k : ℕ). At ps k p) (sym e) here) is) was.0,
+)
+
+-- no slot holds it
+pub none_woken : (ps : List (Option Peer)) (c : ℕ) (ms : List Bool) → ((i : ℕ) → IsOther c ps i) → Wakes c ps ms ms
+none_woken ps c ms others = λ j. (λ m. (m, others j), λ was. was.0)
 
 -- a slot is marked whose connection is quiet
 pub quiet_marked : (w : World) (ps : List (Option Peer)) (i : ℕ) (p : Peer) (ms : List Bool) → At ps i p → IsQuiet w p.connection → AreQuiet w ps ms → AreQuiet w ps (slice_set ms i true)

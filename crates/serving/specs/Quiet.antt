@@ -1,5 +1,5 @@
 -- Which slots there is nothing to do for until something comes for them (own).
-use Rattle.std.specs.Prelude.{◌≡◌, ℕ, List, length, Bool, true, false, Option, slice_index_or}
+use Rattle.std.specs.Prelude.{◌≡◌, ◌≢◌, ◌↔◌, ℕ, List, length, Bool, true, false, Option, slice_index_or}
 use Rattle.model.specs.Arrivals.{World, is_awake, has_output}
 use Rattle.serving.specs.Story.{At, read_room}
 use Rattle.serving.specs.Fit.{IsFit}
@@ -17,6 +17,14 @@ IsMarkedAt marks i = slice_index_or marks i false ≡ true
 -- each slot that is marked and holds a peer is quiet
 abbrev pub AreQuiet : World → List (Option Peer) → List Bool → Type 0
 AreQuiet w ps marks = (i : ℕ) (p : Peer) → At ps i p → IsMarkedAt marks i → IsQuiet w p.connection
+
+-- the slot does not hold connection c
+abbrev pub IsOther : ℕ → List (Option Peer) → ℕ → Type 0
+IsOther c ps i = (p : Peer) → At ps i p → p.connection ≢ c
+
+-- exactly those slots are marked that were marked, but for the slot of connection c
+abbrev pub Wakes : ℕ → List (Option Peer) → List Bool → List Bool → Type 0
+Wakes c ps old new = (i : ℕ) → IsMarkedAt new i ↔ IsMarkedAt old i × IsOther c ps i
 
 -- What a server keeps: each slot has a connection of its own, each that is marked is quiet, and the buffer has its room.
 pub record IsServerKept (w : World) (ps : List (Option Peer)) (marks : List Bool) (buffer : List ℕ) : Type 0 where

@@ -1,14 +1,19 @@
 //! Which slots there is nothing to do for until something comes for them.
 
-ghost use Rattle.std.specs.Prelude.{◌≡◌, ◌<◌, ◌≤◌, ℕ, OnOk, length, slice_index_or, slice_set, false};
+ghost use Rattle.std.specs.Prelude.{◌≡◌, ◌<◌, ◌≤◌, ℕ, [], IfOk, OnOk, length, slice_index_or, slice_set, false};
 
 use std::alloc::{AllocError, Global};
 use std::marker::Model;
+
+/// So many slots are remembered, each for the numbers of connections that leave the same when divided by this.
+const REMEMBERED: usize = 16_384;
 
 /// Slots that are marked as quiet: one without a mark is looked at.
 #[derive(Drop)]
 pub(crate) struct Quiet {
     marks: Vec<bool>,
+    /// Which slot a connection had when it was last looked at. It is a guess: others may have been remembered in its place.
+    slots: Vec<u16>,
 }
 
 impl Model for Quiet {
@@ -21,11 +26,32 @@ impl Model for Quiet {
 
 impl Quiet {
     /// No slot is marked, and none can be.
-    pub(crate) fn new(alloc: Global) -> Quiet
-        ensures { (i : ℕ) → slice_index_or result i false ≡ false }
+    pub(crate) fn new(alloc: Global) -> Result<Quiet, AllocError>
+        ensures { IfOk result (λ q. q ≡ []) }
     {
-        Quiet {
+        Ok(Quiet {
             marks: Vec::new(alloc),
+            slots: vec![in alloc; 0; REMEMBERED]?,
+        })
+    }
+
+    /// Remembers which slot a connection has.
+    pub(crate) fn learn(&mut self, connection: u64, slot: usize)
+        ensures { self.new ≡ self.old }
+    {
+        let place = connection as usize % REMEMBERED;
+        if place < self.slots.len() {
+            self.slots[place] = (slot % 65_536) as u16;
+        }
+    }
+
+    /// The slot that a connection is likely to have.
+    pub(crate) fn guess(&self, connection: u64) -> usize {
+        let place = connection as usize % REMEMBERED;
+        if place < self.slots.len() {
+            self.slots[place] as usize
+        } else {
+            0
         }
     }
 
@@ -53,15 +79,6 @@ impl Quiet {
     {
         if slot < self.marks.len() {
             self.marks[slot] = is_quiet;
-        }
-    }
-
-    /// Takes all marks away.
-    pub(crate) fn clear(&mut self)
-        ensures { (i : ℕ) → slice_index_or self.new i false ≡ false }
-    {
-        for slot in 0..self.marks.len() {
-            self.marks[slot] = false;
         }
     }
 }

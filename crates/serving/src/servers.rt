@@ -65,11 +65,14 @@ impl<M: Machine> Server<M> {
         ensures { IfOk result (λ s. s ≡ record { machine = machine; peers = [] }) }
     {
         let buffer = vec![in alloc; 0; READ_ROOM]?;
+        let peers = Slab::new(alloc);
+        let quiet = Quiet::new(alloc)?;
+        let offers = Offers::new(alloc)?;
         Ok(Server {
             machine,
-            peers: Slab::new(alloc),
-            quiet: Quiet::new(alloc),
-            offers: Offers::new(alloc)?,
+            peers,
+            quiet,
+            offers,
             buffer,
         })
     }

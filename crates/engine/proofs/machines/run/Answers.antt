@@ -1,3 +1,5 @@
+use Rattle.std.proofs.Common.{◌≡◌}
+use Rattle.model.specs.Arrivals.{new_world}
 use Rattle.engine.specs.World.{world_of}
 use Rattle.engine.specs.InForce.{in_force}
 use Rattle.engine.proofs.Asked.{ok_map}
@@ -6,4 +8,6 @@ use Rattle.engine.proofs.machines.run.Goals as goal
 
 pub returns : goal.returns
 returns c =
-    ok_map c.run_over.result _ _ (λ t run. certified (in_force c.args.checked c.args.users.items) (world_of c.in_ok-engine.engine) (world_of c.run_over.new.machine) c.args.arrivals.items t c.in_ok-engine.ensures run) c.run_over.ensures
+    let f = in_force c.args.checked.now c.args.users.now in
+    let fresh : world_of c.in_ok-engine.engine ≡ new_world f = rw (c.in_ok-checked.ensures, c.in_ok-copied_users.ensures) at c.in_ok-engine.ensures in
+    ok_map c.run_over.result _ _ (λ t run. certified f (world_of c.in_ok-engine.engine) (world_of c.run_over.new.machine) c.args.arrivals.now t fresh run) c.run_over.ensures

@@ -1,5 +1,5 @@
-use Rattle.std.proofs.Common.{map, [], ◌∷◌, sym, subst, List}
-use Rattle.std.proofs.lemmas.List.{map-append}
+use Rattle.std.proofs.Common.{map, [], ◌∷◌, ◌++◌, sym, subst, ap, ◌∙◌, arith, List, take}
+use Rattle.std.proofs.lemmas.List.{map-append, take_more}
 use Rattle.model.specs.State.{Config}
 use Rattle.model.specs.Arrivals.{told}
 use Rattle.model.specs.declared.events.Arrival.{Arrival}
@@ -14,9 +14,14 @@ pub loop-arrival-preserved : goal.loop-arrival-preserved
 loop-arrival-preserved g c =
     let world = g.M.Machine.world in
     let f = told g.M.Machine.config in
+    let all = c.args.arrivals.now in
+    let i = c.loop-arrival.arrival-index in
+    let item = c.arrival-item.result in
+    let done = take i all in
+    let one_more = take_more all i item (omega arith) ∙ ap (λ a. done ++ a ∷ []) (sym c.arrival-item.is) in
     record {
       played = subst (λ (z : List (Arrival Config)). PlaysAndTells (world c.args.machine.now) z c.args.transcript.now (world c.arrive.new.machine) c.arrive.new.transcript)
-          (sym (map-append f c.loop-arrival.yielded (c.in-Some.arrival ∷ [])))
-          (plays_more (world c.args.machine.now) (world c.loop-arrival.machine) (world c.arrive.new.machine) (map f c.loop-arrival.yielded) (f c.in-Some.arrival) c.args.transcript.now c.loop-arrival.transcript c.arrive.new.transcript
+          (sym (ap (map f) one_more ∙ map-append f done (item ∷ [])))
+          (plays_more (world c.args.machine.now) (world c.loop-arrival.machine) (world c.arrive.new.machine) (map f done) (f item) c.args.transcript.now c.loop-arrival.transcript c.arrive.new.transcript
           c.loop-arrival.invariant.played c.in_ok-arrive.ensures);
     }

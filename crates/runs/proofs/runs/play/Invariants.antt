@@ -1,7 +1,7 @@
-use Rattle.std.proofs.Common.{map}
+use Rattle.std.proofs.Common.{map, take}
 use Rattle.model.specs.Arrivals.{told}
 use Rattle.runs.specs.Runs.{PlaysAndTells}
 use Rattle.runs.proofs.runs.play.Given as goal
 
 abbrev pub invariant-loop-arrival : goal.invariant-loop-arrival
-invariant-loop-arrival g l = record { played : PlaysAndTells (g.M.Machine.world l.initial.machine) (map (told g.M.Machine.config) l.yielded) l.initial.transcript (g.M.Machine.world l.machine) l.transcript }
+invariant-loop-arrival g l = record { played : PlaysAndTells (g.M.Machine.world l.initial.machine) (map (told g.M.Machine.config) (take l.arrival-index l.arrivals)) l.initial.transcript (g.M.Machine.world l.machine) l.transcript }

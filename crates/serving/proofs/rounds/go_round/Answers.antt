@@ -13,6 +13,18 @@ read_all-has_heard-requires g c =
     let met = served (world c.accept_one-has_met.new.machine) c.accept_one-has_met.new.peers.slots (told c.accept_one-has_met.new.wire) in
     record { fit = serves_fit old met _ _ c.accept_one-has_met.ensures.serves c.requires.fit; quiet = c.accept_one-has_met.ensures.quiet; room = c.requires.room }
 
+pub pump_all-has_pumped-requires : goal.pump_all-has_pumped-requires
+pump_all-has_pumped-requires g c =
+    let world = g.M.Machine.world in
+    let told = g.W.Wire.told in
+    let old = served (world c.args.machine.now) c.args.peers.now.slots (told c.args.wire.now) in
+    let met = served (world c.accept_one-has_met.new.machine) c.accept_one-has_met.new.peers.slots (told c.accept_one-has_met.new.wire) in
+    let heard = served (world c.read_all-has_heard.new.machine) c.read_all-has_heard.new.peers.slots (told c.read_all-has_heard.new.wire) in
+    record {
+      fit = serves_fit met heard _ _ c.read_all-has_heard.ensures.serves (serves_fit old met _ _ c.accept_one-has_met.ensures.serves c.requires.fit);
+      quiet = c.read_all-has_heard.ensures.quiet;
+    }
+
 pub settle_all-has_settled-requires : goal.settle_all-has_settled-requires
 settle_all-has_settled-requires g c =
     let world = g.M.Machine.world in
@@ -23,7 +35,7 @@ settle_all-has_settled-requires g c =
     let pumped = served (world c.pump_all-has_pumped.new.machine) heard.peers heard.told in
     record {
       fit = pumps_fit _ heard pumped _ (c.pump_all-has_pumped.ensures.pumps heard.peers heard.told) (serves_fit met heard _ _ c.read_all-has_heard.ensures.serves (serves_fit old met _ _ c.accept_one-has_met.ensures.serves c.requires.fit));
-      quiet = c.pump_all-has_pumped.ensures.quiet heard.peers c.read_all-has_heard.ensures.quiet;
+      quiet = c.pump_all-has_pumped.ensures.quiet;
     }
 
 pub returns : goal.returns

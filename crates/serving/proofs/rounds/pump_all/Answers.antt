@@ -1,11 +1,33 @@
-use Rattle.std.proofs.Common.{refl, inl}
-use Rattle.serving.proofs.Quieting.{none_marked, quiet_idle}
+use Rattle.std.proofs.Common.{true, false, arith}
+use Rattle.serving.specs.Story.{served, PumpsOnce}
+use Rattle.serving.specs.Rounds.{most_pumps}
+use Rattle.serving.proofs.Pumping.{pumped_not, pumped_more, pumped_last, pumped_all}
 use Rattle.serving.proofs.rounds.pump_all.Goals as goal
 
-pub returns-then-not-pump_up-clause-quiet : goal.returns-then-not-pump_up-clause-quiet
-returns-then-not-pump_up-clause-quiet g c = λ ps quiet.
-    let world = g.M.Machine.world in
-    quiet_idle (world c.args.machine.now) (world c.pump_up.new.machine) ps ps 0 c.args.quiet.now c.args.quiet.now (c.pump_up.ensures.idle c.if-not-pump_up.true) (inl refl) (λ j. refl) quiet
+pub loop-init : goal.loop-init
+loop-init g c = record { fit = c.requires.fit; quiet = c.requires.quiet; so_far = λ ps told. pumped_not most_pumps (served (g.M.Machine.world c.args.machine.now) ps told) }
 
-pub returns-clause-quiet : goal.returns-clause-quiet
-returns-clause-quiet g c = λ ps quiet. none_marked (g.M.Machine.world c.pump_up.new.machine) ps c.clear.new.self c.clear.ensures
+pub loop-preserved : goal.loop-preserved
+loop-preserved g c = record {
+  fit = c.pump_once.ensures.fit;
+  quiet = c.pump_once.ensures.quiet;
+  so_far = λ ps told.
+      let world = g.M.Machine.world in
+      let here = served (world c.loop.machine) ps told in
+      let next = served (world c.pump_once.new.machine) ps told in
+      let one : PumpsOnce g.M.Machine.lacks here true next = rw c.if-not-pump_once.false at c.pump_once.ensures.pumps ps told in
+      pumped_more most_pumps c.loop.counter (served (world c.args.machine.now) ps told) here next c.loop.done c.loop-test.true (c.loop.invariant.so_far ps told) one;
+}
+
+pub returns-then-not-pump_once-clause-pumps : goal.returns-then-not-pump_once-clause-pumps
+returns-then-not-pump_once-clause-pumps g c = λ ps told.
+    let world = g.M.Machine.world in
+    let here = served (world c.loop.machine) ps told in
+    let next = served (world c.pump_once.new.machine) ps told in
+    let last : PumpsOnce g.M.Machine.lacks here false next = rw c.if-not-pump_once.true at c.pump_once.ensures.pumps ps told in
+    pumped_last most_pumps c.loop.counter (served (world c.args.machine.now) ps told) here next c.loop.done c.loop-test.true (c.loop.invariant.so_far ps told) last
+
+pub returns-clause-pumps : goal.returns-clause-pumps
+returns-clause-pumps g c = λ ps told.
+    let world = g.M.Machine.world in
+    pumped_all most_pumps c.loop.counter (served (world c.args.machine.now) ps told) (served (world c.loop.machine) ps told) c.loop.done (omega (arith, c.loop-test.false)) (c.loop.invariant.so_far ps told)

@@ -58,7 +58,7 @@ returns-in_ok-notes-in-Some-clause-ok c =
     let old : Parts = record { broker = i.broker; guarantees = i.guarantees.items; users = i.users.items; given = i.given; links = i.links.items } in
     let new : Parts = record old { broker = c.pump_among.new.broker; links = c.pump_among.new.links.items } in
     let notes = c.in_ok-notes-in-Some.notes.items in
-    subst (λ (p : Parts). IsPump (world_of p) notes (world_of new)) c.self.view_is
+    subst (λ (p : Parts). IsPump (world_of p) c.in-Some.pick.connection notes (world_of new)) c.self.view_is
     (picked_pumps old new c.pick.new.self c.in-Some.pick.connection notes c.self.invariant c.in-Some.ensures.kept (record { topology = c.pump_among.ensures.topology; guarantees = refl; users = refl; given = refl }) c.in_ok-notes-in-Some.ensures.ok)
 
 pub returns-in-None-clause-ok : goal.returns-in-None-clause-ok
