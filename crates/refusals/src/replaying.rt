@@ -7,7 +7,7 @@ use crate::put_out::Outputs;
 use crate::sections::{Section, text_of};
 use engine::{Engine, Refused, Turn};
 use model::{Arrival, Note};
-use runs::ReloadFault;
+use runs::{Delivered, ReloadFault};
 use scripts::{ReloadFiles, put_line};
 use std::alloc::{AllocError, Global};
 use std::io;
@@ -147,7 +147,10 @@ impl Replay {
             }
         };
         match delivered {
-            Some(mut delivered) => self.notes.append(&mut delivered.notes),
+            Some(Delivered {
+                connection: _,
+                mut notes,
+            }) => self.notes.append(&mut notes),
             None => Ok(()),
         }
     }
