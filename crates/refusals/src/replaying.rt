@@ -147,10 +147,12 @@ impl Replay {
             }
         };
         match delivered {
-            Some(Delivered {
-                connection: _,
-                mut notes,
-            }) => self.notes.append(&mut notes),
+            Some(
+                Delivered {
+                    connection: _,
+                    mut notes,
+                },
+            ) => self.notes.append(&mut notes),
             None => Ok(()),
         }
     }

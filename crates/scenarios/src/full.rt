@@ -41,7 +41,11 @@ pub(crate) fn a_server_takes_1024_clients_and_closes_one_more(alloc: Global) -> 
     let mut server = value_of("Server::new", Server::new(alloc, engine))?;
     let is_whole = serve_in_memory(alloc, &mut server, &mut wire, MOST_CONNECTIONS + 1);
     expect("all calls are logged", is_whole)?;
-    expect_number("the number of clients", wire.come as u64, MOST_CONNECTIONS + 1)?;
+    expect_number(
+        "the number of clients",
+        wire.come as u64,
+        MOST_CONNECTIONS + 1,
+    )?;
     let sockets = value_of("closed", closed(alloc, &wire.log))?;
     expect_number("the number of closed sockets", sockets.len() as u64, 1)?;
     let last = sockets.first().copied().unwrap_or(0);

@@ -162,7 +162,10 @@ pub(crate) fn arrivals_for_no_connection_do_nothing(alloc: Global) -> Result<(),
         has_memory: true,
         pumps: &mut pumps,
     };
-    let transcript = value_of("run_over", run_over(alloc, &mut machine, arrivals.as_slice()))?;
+    let transcript = value_of(
+        "run_over",
+        run_over(alloc, &mut machine, arrivals.as_slice()),
+    )?;
     drop(machine);
     expect(
         "no connection is shown",
