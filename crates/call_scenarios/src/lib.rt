@@ -10,7 +10,6 @@ mod nothing_left;
 mod parts;
 mod room;
 mod streams;
-mod thrifty;
 
 use scenario_parts::Sums;
 use std::io;

@@ -4,7 +4,6 @@ use crate::filing::{CERTIFICATES, DEFINITIONS, GUARANTEES};
 use crate::frugal::Frugal;
 use crate::parts::{Stated, checked, new_engine};
 use crate::room::{Room, can_be_taken};
-use crate::thrifty::Thrifty;
 use certificate::{BadCertificates, CertFault, Certificate, Checked, Refutation, check, disprove};
 use definitions::{BadDefinitions, read_definitions};
 use engine::{Engine, Refused, Turn};
@@ -272,8 +271,7 @@ fn expect_ample(alloc: Global) -> Result<(), Unmet> {
     expect_outcome("reload does as expected", reload, Outcome::Done)?;
     let admission = admission(alloc, Stated::with(alloc, GUARANTEES)?);
     expect_outcome("admit does as expected", admission, Outcome::Done)?;
-    Frugal::new(alloc)?.expect_all(alloc, &mut Room::none(alloc))?;
-    Thrifty::new(alloc)?.expect_all(alloc, &mut Room::none(alloc))
+    Frugal::new(alloc)?.expect_all(alloc, &mut Room::none(alloc))
 }
 
 /// Makes each call that takes memory where none is left, by these.
@@ -300,11 +298,9 @@ pub(crate) fn no_memory_is_left(rt: &HostRuntime, alloc: Global) -> Result<(), U
     expect_ample(alloc)?;
     let mut calls = Calls::new(alloc)?;
     let mut frugal = Frugal::new(alloc)?;
-    let mut thrifty = Thrifty::new(alloc)?;
     let mut room = Room::new(alloc)?;
     expect_wanting(alloc, &mut calls, &mut room)?;
     frugal.expect_all(alloc, &mut room)?;
-    thrifty.expect_all(alloc, &mut room)?;
     drop(room);
     calls.expect_all(alloc, Outcome::Done)?;
     calls.expect_outputs(CONSUMED_AND_DELIVERED)?;

@@ -1,14 +1,11 @@
 //! What calls are made of: files, what they state, and an engine.
 
-ghost use Rattle.judging.specs.Judged.{IsAsked};
-
 use crate::filing::{CERTIFICATES, DEFINITIONS, GUARANTEES};
 use certificate::{CertFault, Certificate, Checked, admit};
 use definitions::read_definitions;
 use engine::{Engine, Turn};
 use exchange_graph::Topology;
 use guarantees::{Guarantee, read_guarantees};
-use model::{Body, Content, Event, Method, Properties, Publish, Text};
 use scenario_parts::{CONSUME, MESSAGE, Unmet, expect, new_broker, value_of};
 use std::alloc::Global;
 
@@ -45,34 +42,6 @@ impl Stated {
             certificates,
         } = self;
         admit(alloc, topology, guarantees, certificates.as_slice())
-    }
-}
-
-/// A publish of an empty body by the default exchange to the queue `audit`.
-pub(crate) fn publish() -> (Publish, Content) {
-    let publish = Publish {
-        reserved: 0,
-        exchange: Text::empty(),
-        routing_key: Text::fixed(b"audit"),
-        mandatory: false,
-        immediate: false,
-    };
-    let content = Content {
-        properties: Properties::none(),
-        body: Body::empty(),
-    };
-    (publish, content)
-}
-
-/// A command on channel 1 of connection 1.
-pub(crate) fn command(method: Method, content: Option<Content>) -> Event
-    ensures { IsAsked result }
-{
-    Event::Command {
-        connection: 1,
-        channel: 1,
-        method,
-        content,
     }
 }
 
