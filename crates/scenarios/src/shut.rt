@@ -80,7 +80,11 @@ impl<'a> Machine for Shut<'a> {
         ensures { IsSound (record { topology = record { exchanges = []; queues = []; bindings = [] }; guarantees = []; users = [] }) }
     {}
 
-    fn copied(_alloc: Global, _setup: &()) -> Result<(), AllocError> {
+    ghost use Rattle.std.specs.Prelude.{◌≡◌, IfOk};
+
+    fn copied(_alloc: Global, _setup: &()) -> Result<(), AllocError>
+        ensures { IfOk result (λ copy. (new_world (record { topology = record { exchanges = []; queues = []; bindings = [] }; guarantees = []; users = [] })).config ≡ (new_world (record { topology = record { exchanges = []; queues = []; bindings = [] }; guarantees = []; users = [] })).config) }
+    {
         Ok(())
     }
 
