@@ -105,7 +105,7 @@ out_next done o (x ∷ xs) = ap (λ (y : CountedConsumer). y ∷ map (uncounted 
 -- where it waited
 pub out_waiting : (gone : List Outstanding) (i : ℕ) (x d : Outstanding) (first seats new : List CountedConsumer) → i < length gone → x ≡ get_or gone i d → seats ≡ map (counted_out (waiting (take i gone))) first
     → (is_waiting x ≡ true → new ≡ map (uncounted x.by) seats) → (is_waiting x ≡ false → new ≡ seats) → new ≡ map (counted_out (waiting (take (i + 1) gone))) first
-out_waiting gone i x d first seats new lt is was yes no = go (is_waiting x) refl
+out_waiting gone i x d first seats new lt is was counts stays = go (is_waiting x) refl
   where
     more : (b : Bool) → is_waiting x ≡ b → waiting (take (i + 1) gone) ≡ waiting (take i gone) ++ cond b (x ∷ []) []
     more b e =
@@ -113,8 +113,8 @@ out_waiting gone i x d first seats new lt is was yes no = go (is_waiting x) refl
         ∙ ap (λ (t : Bool). waiting (take i gone) ++ cond t (x ∷ []) []) e
 
     go : (b : Bool) → is_waiting x ≡ b → new ≡ map (counted_out (waiting (take (i + 1) gone))) first
-    go true e = yes e ∙ ap (map (uncounted x.by)) was ∙ out_next (waiting (take i gone)) x first ∙ ap (λ (os : List Outstanding). map (counted_out os) first) (sym (more true e))
-    go false e = no e ∙ was ∙ ap (λ (os : List Outstanding). map (counted_out os) first) (sym (more false e ∙ append-nil (waiting (take i gone))))
+    go true e = counts e ∙ ap (map (uncounted x.by)) was ∙ out_next (waiting (take i gone)) x first ∙ ap (λ (os : List Outstanding). map (counted_out os) first) (sym (more true e))
+    go false e = stays e ∙ was ∙ ap (λ (os : List Outstanding). map (counted_out os) first) (sym (more false e ∙ append-nil (waiting (take i gone))))
 
 -- none is settled at first
 nothing_out : (s : CountedConsumer) → counted_out [] s ≡ s

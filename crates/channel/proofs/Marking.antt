@@ -1,6 +1,7 @@
 -- What is settled has its place marked; what is kept is closed up, and counted.
 use Rattle.std.proofs.Common.{◌≡◌, ℕ, length-drop, length-append, append-nil, zero, suc, ◌+◌, ◌*◌, ◌<◌, ◌≤◌, List, [], ◌∷◌, ◌++◌, length, get_or, set, take, drop, refl, sym, ap, subst, ◌∙◌, arith, Bool, true, false, cond, not, Option, Some, None}
-use Rattle.std.specs.Prelude.{filter, count_by, ◌&&◌, ◌==◌}
+use Rattle.std.specs.Prelude.{filter, count_by, ◌&&◌, ◌==◌, Result, Ok, Err, OnOk}
+use Rattle.std.specs.Result.{is_err}
 use Rattle.std.proofs.lemmas.List.{drop-set-add, set_split, get_or-drop, length-set}
 use Rattle.std.proofs.lemmas.List.Elements.{All-filter, filter-append, filter_more}
 use Rattle.std.proofs.lemmas.List.Quantifiers.{all_pairs_push}
@@ -190,3 +191,8 @@ kept_closed xs new start front count last order counted within ordered same few 
 pub few_closed : (b : Bool) (places new count waits : ℕ) → (b ≡ true → new ≡ waits) → (b ≡ false → places ≤ 2 * count + 32) → new ≤ places → count ≡ waits → new ≤ 2 * count + 32
 few_closed true places new count waits closed sparse fewer is = let e = closed refl in omega arith
 few_closed false places new count waits closed sparse fewer is = let e = sparse refl in omega arith
+
+-- it is no error
+pub on_ok : {T E : Type 0} (r : Result T E) (P : Type 0) → is_err r ≡ false → OnOk r P → P
+on_ok (Ok x) P e h = h
+on_ok (Err x) P e h = absurd (cc)

@@ -23,5 +23,5 @@ invariant_of-self c =
     let kept = ap (λ (ys : List Outstanding). length ys) c.forget_in-self-inside.ensures.kept in
     let long = c.len.ensures in
     kept_closed xs c.close_if-self-inside.new.items.items front c.close_if-self-inside.result (c.self.inside.count - c.count_settled-gone.result) c.self.inside.last (c.forget_in-self-inside.ensures.order c.self.inside.last c.self.invariant.order) (omega arith)
-    c.close_if-self-inside.ensures.start (c.close_if-self-inside.ensures.order c.self.inside.last) c.close_if-self-inside.ensures.waiting (few_closed c.is_sparse-is_wanted.result (length xs) (length c.close_if-self-inside.new.items.items) (c.self.inside.count - c.count_settled-gone.result) (length (waiting (drop front xs)))
-    (λ e. c.close_if-self-inside.ensures.closed e) (λ e. let s = c.is_sparse-is_wanted.ensures e in omega arith) (let f = c.close_if-self-inside.ensures.fewer in omega arith) (omega arith))
+    (let s = c.close_if-self-inside.ensures.start in omega arith) (c.close_if-self-inside.ensures.order c.self.inside.last) c.close_if-self-inside.ensures.waiting (few_closed c.is_sparse-is_wanted.result (length xs) (length c.close_if-self-inside.new.items.items) (c.self.inside.count - c.count_settled-gone.result) (length (waiting (drop front xs)))
+    (λ e. let s = c.close_if-self-inside.ensures.closed e in omega arith) (λ e. let s = c.is_sparse-is_wanted.ensures e in omega arith) (let f = c.close_if-self-inside.ensures.fewer in omega arith) (omega arith))
