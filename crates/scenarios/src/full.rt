@@ -38,7 +38,9 @@ pub(crate) fn a_server_takes_1024_clients_and_closes_one_more(alloc: Global) -> 
     let clients = value_of("clients", silent_clients(alloc))?;
     let mut wire = MemoryWire::new(alloc, clients);
     let engine = new_broker(alloc)?;
-    let mut server = value_of("Server::new", Server::new(alloc, engine))?;
+    let Ok(mut server) = Server::new(alloc, engine) else {
+        return Err(Unmet::Call("Server::new"));
+    };
     let is_whole = serve_in_memory(alloc, &mut server, &mut wire, MOST_CONNECTIONS + 1);
     expect("all calls are logged", is_whole)?;
     expect_number(
