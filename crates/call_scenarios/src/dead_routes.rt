@@ -6,20 +6,20 @@ use scenario_parts::{Unmet, expect, expect_bytes, value_of};
 use std::alloc::Global;
 
 /// A queue of this name, with the exchange `D` for its dead letters.
-fn dying(name: &'static [u8], key: Option<Text>) -> DeclaredQueue {
+fn dying(name: Text, key: Option<Text>) -> DeclaredQueue {
     DeclaredQueue {
-        name: Text::fixed(name),
+        name,
         limit: None,
         byte_limit: None,
-        dead_letter_exchange: Some(Text::fixed(b"D")),
+        dead_letter_exchange: Some(Text::short(b"D")),
         dead_letter_key: key,
     }
 }
 
 /// A queue of this name, whose messages don't die.
-fn undying(name: &'static [u8]) -> DeclaredQueue {
+fn undying(name: Text) -> DeclaredQueue {
     DeclaredQueue {
-        name: Text::fixed(name),
+        name,
         limit: None,
         byte_limit: None,
         dead_letter_exchange: None,
@@ -31,19 +31,19 @@ fn undying(name: &'static [u8]) -> DeclaredQueue {
 fn topology(alloc: Global) -> Result<Topology, Unmet> {
     let mut exchanges = Vec::new(alloc);
     let exchange = Exchange {
-        name: Text::fixed(b"D"),
+        name: Text::short(b"D"),
         kind: ExchangeKind::Direct,
         internal: false,
         alternate: None,
     };
     value_of("Vec::push", exchanges.push(exchange))?;
     let mut queues = Vec::new(alloc);
-    value_of("Vec::push", queues.push(undying(b"plain")))?;
+    value_of("Vec::push", queues.push(undying(Text::short(b"plain"))))?;
     value_of(
         "Vec::push",
-        queues.push(dying(b"fixed", Some(Text::fixed(b"pay")))),
+        queues.push(dying(Text::short(b"fixed"), Some(Text::short(b"pay")))),
     )?;
-    value_of("Vec::push", queues.push(dying(b"kept", None)))?;
+    value_of("Vec::push", queues.push(dying(Text::short(b"kept"), None)))?;
     value_of(
         "Topology::build",
         Topology::build(alloc, exchanges, queues, Vec::new(alloc)),

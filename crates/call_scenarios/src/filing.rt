@@ -126,10 +126,10 @@ fn large(alloc: Global) -> Result<Certificate, AllocError> {
     }
     Ok(Certificate::new(
         Form::Whole,
-        Text::fixed(b"X"),
-        Text::fixed(b"reaches"),
-        Text::fixed(b"#"),
-        Text::fixed(b"audit"),
+        Text::short(b"X"),
+        Text::short(b"reaches"),
+        Text::short(b"#"),
+        Text::short(b"audit"),
         states,
     ))
 }

@@ -17,7 +17,7 @@ use model::{
 use queue::{Indexed, Store};
 use scenario_parts::{MESSAGE, Unmet, expect, expect_bytes, expect_number, value_of};
 use session::Session;
-use std::alloc::Global;
+use std::alloc::{AllocError, Global};
 
 /// The greatest frame.
 const FRAME_MAX: u32 = 131_072;
@@ -45,6 +45,7 @@ const CONSUMED: &[u8] = b"\x00\x00\x06\x00\x3c\x00\x15\x01t\xce";
 #[derive(Drop)]
 pub(crate) struct Frugal {
     checked: Checked,
+    users: Vec<User>,
     long: Refutation,
     stream: Stream,
     channel: Channel,
@@ -59,7 +60,7 @@ fn publish() -> (Publish, Content) {
     let publish = Publish {
         reserved: 0,
         exchange: Text::empty(),
-        routing_key: Text::fixed(b"audit"),
+        routing_key: Text::short(b"audit"),
         mandatory: false,
         immediate: false,
     };
@@ -118,7 +119,7 @@ fn holding_broker(alloc: Global) -> Result<Broker, Unmet> {
         channel: 1,
         method: Method::BasicGet(Get {
             reserved: 0,
-            queue: Text::fixed(b"audit"),
+            queue: Text::short(b"audit"),
             no_ack: false,
         }),
         content: None,
@@ -137,16 +138,20 @@ fn expect_wire() -> Result<(), Unmet> {
     expect_number("the size of a body", size, 2)
 }
 
-/// A user logs in by the right password alone.
-fn expect_logins() -> Result<(), Unmet> {
-    let users = [User {
-        name: Text::fixed(b"bob"),
-        hash: Text::fixed(HASH),
-    }];
-    let right = accepts(users.as_slice(), b"PLAIN", b"\x00bob\x00wonder");
-    expect("the right password is accepted", right)?;
-    let wrong = accepts(users.as_slice(), b"PLAIN", b"\x00bob\x00blunder");
-    expect("a wrong one is not", !wrong)
+/// The user `bob`, whose password is `wonder`.
+fn users(alloc: Global) -> Result<Vec<User>, AllocError> {
+    let mut users = Vec::new(alloc);
+    users.push(User {
+        name: Text::short(b"bob"),
+        hash: Text::from_slice(alloc, HASH)?,
+    })?;
+    Ok(users)
+}
+
+/// The refutation under a key that is too long.
+fn too_long(alloc: Global) -> Result<Refutation, AllocError> {
+    let key = Text::from_slice(alloc, LONG_KEY)?;
+    Ok(Refutation::new(key, Vec::new(alloc)))
 }
 
 /// A session runs, and ends.
@@ -172,7 +177,8 @@ impl Frugal {
         )?;
         Ok(Frugal {
             checked: checked(alloc)?,
-            long: Refutation::new(Text::fixed(LONG_KEY), Vec::new(alloc)),
+            users: value_of("users", users(alloc))?,
+            long: value_of("too_long", too_long(alloc))?,
             stream: broken_stream(alloc)?,
             channel: roomy_channel(alloc)?,
             queue: roomy_queue(alloc)?,
@@ -196,6 +202,14 @@ impl Frugal {
         )?;
         let disproved = disprove(alloc, topology, guarantee, &self.long);
         expect("a key that is too long disproves nothing", !disproved)
+    }
+
+    /// A user logs in by the right password alone.
+    fn expect_logins(&self) -> Result<(), Unmet> {
+        let right = accepts(&self.users, b"PLAIN", b"\x00bob\x00wonder");
+        expect("the right password is accepted", right)?;
+        let wrong = accepts(&self.users, b"PLAIN", b"\x00bob\x00blunder");
+        expect("a wrong one is not", !wrong)
     }
 
     /// A stream that broke tells so again, whatever is set.
@@ -296,7 +310,7 @@ impl Frugal {
     /// Makes each call. What some of them give back is taken before the next.
     pub(crate) fn expect_all(&mut self, alloc: Global, room: &mut Room) -> Result<(), Unmet> {
         expect_wire()?;
-        expect_logins()?;
+        self.expect_logins()?;
         expect_session()?;
         self.expect_checked(alloc)?;
         self.expect_stream()?;

@@ -97,7 +97,7 @@ impl Calls {
             heartbeats: heartbeats(alloc)?,
             stated: Stated::with(alloc, GUARANTEES)?,
             too_much: Stated::with(alloc, TOO_MUCH)?,
-            refutation: Refutation::new(Text::fixed(b"pay"), Vec::new(alloc)),
+            refutation: Refutation::new(Text::short(b"pay"), Vec::new(alloc)),
         })
     }
 

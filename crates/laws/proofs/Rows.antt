@@ -216,18 +216,34 @@ refused_with_users : IsDecided (refused_reload (under []) (with_entries (first_e
 refused_with_users (inl done) = let other : ReloadRefused (InUse (codes "audit")) ∷ [] ≡ Reloaded ∷ [] = done.noted in cc
 refused_with_users (inr refused) = let more : 1 ≡ 0 = ap (λ (f : Config). length f.users) refused.in_force in zero_is_not_one (sym more)
 
+-- the guarantee covers what the message was first sent under
+covers_first : CoversKey forbids (codes "new")
+covers_first = record { pattern = word none; kept_in = λ e i m. i }
+
 -- the message may come to the queue by one death
+comes_to_bin : Later into_bin.topology (codes "audit") (codes "new") (codes "bin")
+comes_to_bin = record {
+  last = audit_to_bin;
+  exchange = [];
+  dies = record { is_queue = (0, lit≤ tt, refl); is_named = refl; dead = refl };
+  comes = routed ([], here, default bin (1, lit≤ tt, refl) refl refl);
+}
+
+-- it is where it must not be
+stays_forbidden : AreSafe with_audit.topology (record forbids { queue = codes "audit" } ∷ []) (with_entries (first_entry ∷ [])).broker → ⊥
+stays_forbidden safe =
+    (safe (codes "audit") first_entry (inl refl) (record forbids { queue = codes "audit" }) (0, lit≤ tt, refl) refl (refl, record { pattern = word none; kept_in = λ e i m. i })).0 refl
+
+-- by its death it may come there
+dies_forbidden : AreSafe into_bin.topology into_bin.guarantees (with_entries (first_entry ∷ [])).broker → ⊥
+dies_forbidden safe = (safe (codes "audit") first_entry (inl refl) forbids (0, lit≤ tt, refl) refl (refl, covers_first)).1 comes_to_bin
+
 done_beside_a_danger : IsDecided reload_into_bin → ⊥
 done_beside_a_danger (inl done) =
     done.nothing.none_endangered forbids (codes "audit") first_entry (0, lit≤ tt, refl) (inl refl) (inl refl) (record {
       never = refl;
-      covers = (refl, record { pattern = word none; kept_in = λ e i m. i });
-      later = record {
-        last = audit_to_bin;
-        exchange = [];
-        dies = record { is_queue = (0, lit≤ tt, refl); is_named = refl; dead = refl };
-        comes = routed ([], here, default bin (1, lit≤ tt, refl) refl refl);
-      };
+      covers = (refl, covers_first);
+      later = comes_to_bin;
     })
 done_beside_a_danger (inr refused) = let other : Reloaded ∷ [] ≡ ReloadRefused refused.obstacle ∷ [] = refused.noted in cc
 
@@ -254,6 +270,8 @@ headline_refuses = record {
   reload_refused_for_the_second = refused_for_the_second;
   reload_refused_with_users = refused_with_users;
   reload_beside_a_danger = done_beside_a_danger;
+  forbidden_stay = stays_forbidden;
+  forbidden_death = dies_forbidden;
   two_letters_of_one = two_of_one;
 }
 

@@ -76,7 +76,7 @@ pub fn reply_text(code: u16) -> Text
     ensures text { result ≡ code_text code }
     ensures short { length result < 256 }
 {
-    let text: &'static [u8] = match code {
+    let text: &[u8] = match code {
         311 => b"content-too-large",
         312 => b"no-route",
         403 => b"access-refused",
@@ -92,5 +92,5 @@ pub fn reply_text(code: u16) -> Text
         540 => b"not-implemented",
         _ => b"internal-error",
     };
-    Text::fixed(text)
+    Text::short(text)
 }

@@ -13,22 +13,10 @@ const MOST_SHORT: usize = 22;
 /// Where the bytes of a text stand.
 #[derive(Drop)]
 enum Kept {
-    /// In the program itself.
-    Fixed(&'static [u8]),
     /// In a block that all clones share.
     Shared(Arc<Vec<u8>>),
     /// In the text itself: the first so many of these.
     Short(u8, [u8; 22]),
-}
-
-/// These bytes, in place.
-fn short(bytes: &[u8]) -> Text
-    requires { length bytes.now ≤ 22 }
-    ensures { result ≡ bytes.now }
-{
-    Text {
-        kept: Kept::Short(bytes.len() as u8, padded(bytes)),
-    }
 }
 
 /// A name or a key: any bytes, in 24 bytes of its own. Where there are more than 22, clones share them.
@@ -45,11 +33,11 @@ impl Drop for Text {
 
 impl Model for Text {
     ghost use Rattle.std.specs.Prelude.{List, ℕ, take};
-    ghost use Rattle.model.specs.declared.texts.Kept.TheVariants.{Fixed, Shared, Short};
+    ghost use Rattle.model.specs.declared.texts.Kept.TheVariants.{Shared, Short};
 
     ghost Value = { List ℕ };
 
-    ghost view = { λ t. elim t.kept [ Fixed s ↦ s.now | Shared a ↦ a.value.items | Short len place ↦ take len place ] };
+    ghost view = { λ t. elim t.kept [ Shared a ↦ a.value.items | Short len place ↦ take len place ] };
 }
 
 impl Text {
@@ -57,17 +45,16 @@ impl Text {
     pub fn empty() -> Text
         ensures { result ≡ [] }
     {
-        Text {
-            kept: Kept::Fixed(&[]),
-        }
+        Text::short(&[])
     }
 
-    /// These bytes of the program. It takes no memory.
-    pub fn fixed(bytes: &'static [u8]) -> Text
+    /// These bytes, at most 22, in the text itself. It takes no memory.
+    pub fn short(bytes: &[u8]) -> Text
+        requires { length bytes.now ≤ 22 }
         ensures { result ≡ bytes.now }
     {
         Text {
-            kept: Kept::Fixed(bytes),
+            kept: Kept::Short(bytes.len() as u8, padded(bytes)),
         }
     }
 
@@ -77,7 +64,7 @@ impl Text {
         ensures err { IfErr result (λ e. e.value ≡ bytes) }
     {
         if bytes.len() <= MOST_SHORT {
-            return Ok(short(&bytes));
+            return Ok(Text::short(&bytes));
         }
         let alloc = *bytes.allocator();
         match Arc::new(alloc, bytes) {
@@ -93,7 +80,7 @@ impl Text {
         ensures { IfOk result (λ t. t ≡ bytes.now) }
     {
         if bytes.len() <= MOST_SHORT {
-            return Ok(short(bytes));
+            return Ok(Text::short(bytes));
         }
         match Text::from_vec(Vec::from_slice(alloc, bytes)?) {
             Ok(text) => Ok(text),
@@ -106,9 +93,6 @@ impl Text {
         ensures { IfOk result (λ t. t ≡ self.now) }
     {
         match &self.kept {
-            Kept::Fixed(bytes) => Ok(Text {
-                kept: Kept::Fixed(*bytes),
-            }),
             Kept::Shared(shared) => Ok(Text {
                 kept: Kept::Shared(Arc::try_clone(shared)?),
             }),
@@ -122,7 +106,6 @@ impl Text {
         ensures { result.now ≡ self.now }
     {
         match &self.kept {
-            Kept::Fixed(bytes) => *bytes,
             Kept::Shared(shared) => shared.as_slice(),
             Kept::Short(len, place) => first_of(place, *len),
         }

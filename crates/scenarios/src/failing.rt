@@ -25,11 +25,11 @@ pub(crate) struct Calls {
 }
 
 /// A publish to `orders` under the key `new`, whose body is `lo`, and a get of `audit`, to be acknowledged.
-const PUBLISH_AND_GET: &[u8] =
+pub(crate) const PUBLISH_AND_GET: &[u8] =
     b"\x01\x00\x01\x00\x00\x00\x12\x00\x3c\x00\x28\x00\x00\x06orders\x03new\x00\xce\x02\x00\x01\x00\x00\x00\x0e\x00\x3c\x00\x00\x00\x00\x00\x00\x00\x00\x00\x02\x00\x00\xce\x03\x00\x01\x00\x00\x00\x02lo\xce\x01\x00\x01\x00\x00\x00\x0d\x00\x3c\x00\x46\x00\x00\x05audit\x00\xce";
 
 /// Two gets of `audit`, to be acknowledged.
-const GET_TWICE: &[u8] =
+pub(crate) const GET_TWICE: &[u8] =
     b"\x01\x00\x01\x00\x00\x00\x0d\x00\x3c\x00\x46\x00\x00\x05audit\x00\xce\x01\x00\x01\x00\x00\x00\x0d\x00\x3c\x00\x46\x00\x00\x05audit\x00\xce";
 
 /// get-ok of `lo` with delivery tag 1, given out for the first time and the last that is ready, and its content.
@@ -55,7 +55,7 @@ const EMPTY: &[u8] = b"\x01\x00\x01\x00\x00\x00\x05\x00\x3c\x00\x48\x00\xce";
 const PATIENCE: u64 = 1_000;
 
 /// A client that opens, and writes this once it can.
-fn client(alloc: Global, then: &[u8], window: usize) -> Result<Client, Unmet> {
+pub(crate) fn client(alloc: Global, then: &[u8], window: usize) -> Result<Client, Unmet> {
     Ok(Client {
         input: joined(alloc, OPENING, then)?,
         read: 0,
@@ -138,7 +138,7 @@ impl Run {
 }
 
 /// Whether a call closed the socket of a client.
-fn is_close(call: &Logged, client: u64) -> bool {
+pub(crate) fn is_close(call: &Logged, client: u64) -> bool {
     match call {
         Logged::Closed(socket) => *socket == client,
         _ => false,

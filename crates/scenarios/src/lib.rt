@@ -1,11 +1,13 @@
 //! The scenarios of runs and rounds: of a machine on which no connection can be opened, of a connection that is paused, of more clients
-//! than a server takes, and of a wire of which each call fails. `cases` runs them.
+//! than a server takes, of a wire of which each call fails, and of a machine of which each is refused memory. `cases` runs them.
 #![tactic(auto)]
 
 mod failing;
 mod full;
 mod pauses;
+mod refused;
 mod shut;
+mod wanting;
 
 use failing::{Pace, each_call_of_a_wire_fails};
 use scenario_parts::Sums;
@@ -64,7 +66,7 @@ fn tell_failing(sums: &mut Sums, rt: &HostRuntime, name: &str, pace: Pace) -> io
     sums.tell(rt, name, Ok(()))
 }
 
-/// The scenarios of a wire of which each call fails in turn.
+/// The scenarios of a wire of which each call fails in turn, and of a machine of which each is refused memory.
 fn tell_failures(sums: &mut Sums, rt: &HostRuntime) -> io::Result<()> {
     let whole = Pace {
         window: usize::MAX,
@@ -80,6 +82,11 @@ fn tell_failures(sums: &mut Sums, rt: &HostRuntime) -> io::Result<()> {
         rt,
         "a_call_that_fails_loses_no_other_client_where_writes_take_one_byte",
         single,
+    )?;
+    sums.tell(
+        rt,
+        "a_call_that_is_refused_memory_loses_no_other_client",
+        refused::a_call_that_is_refused_memory_loses_no_other_client(rt.alloc()),
     )
 }
 

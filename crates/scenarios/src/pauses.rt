@@ -36,9 +36,9 @@ fn single<T: Drop>(alloc: Global, value: T) -> Result<Vec<T>, Unmet> {
 }
 
 /// A queue of this name, with no limit.
-fn queue(name: &'static [u8]) -> DeclaredQueue {
+fn queue(name: Text) -> DeclaredQueue {
     DeclaredQueue {
-        name: Text::fixed(name),
+        name,
         limit: None,
         byte_limit: None,
         dead_letter_exchange: None,
@@ -49,23 +49,23 @@ fn queue(name: &'static [u8]) -> DeclaredQueue {
 /// The queues `audit` and `ledger`.
 fn queues(alloc: Global) -> Result<Vec<DeclaredQueue>, AllocError> {
     let mut queues = Vec::new(alloc);
-    queues.push(queue(b"audit"))?;
-    queues.push(queue(b"ledger"))?;
+    queues.push(queue(Text::short(b"audit")))?;
+    queues.push(queue(Text::short(b"ledger")))?;
     Ok(queues)
 }
 
 /// A direct exchange `orders`, which routes the key `new` to this queue.
-fn shop(alloc: Global, to: &'static [u8]) -> Result<Checked, Unmet> {
+fn shop(alloc: Global, to: Text) -> Result<Checked, Unmet> {
     let orders = Exchange {
-        name: Text::fixed(b"orders"),
+        name: Text::short(b"orders"),
         kind: ExchangeKind::Direct,
         internal: false,
         alternate: None,
     };
     let binding = Binding {
-        source: Text::fixed(b"orders"),
-        to: Place::Queue(Text::fixed(to)),
-        key: Text::fixed(b"new"),
+        source: Text::short(b"orders"),
+        to: Place::Queue(to),
+        key: Text::short(b"new"),
     };
     in_force(
         alloc,
@@ -94,8 +94,8 @@ fn arrivals(alloc: Global, taken: &[u64]) -> Result<Vec<Arrival<Setup>>, AllocEr
     let mut arrivals = Vec::new(alloc);
     arrivals.push(Arrival::Ready(1))?;
     arrivals.push(Arrival::In(1, publish))?;
-    arrivals.push(Arrival::In(1, Text::fixed(GET)))?;
-    arrivals.push(Arrival::In(1, Text::fixed(GET)))?;
+    arrivals.push(Arrival::In(1, Text::short(GET)))?;
+    arrivals.push(Arrival::In(1, Text::short(GET)))?;
     for count in taken {
         arrivals.push(Arrival::Sent(1, *count))?;
     }
@@ -104,7 +104,7 @@ fn arrivals(alloc: Global, taken: &[u64]) -> Result<Vec<Arrival<Setup>>, AllocEr
 
 /// What such a connection is shown.
 fn shown(alloc: Global, taken: &[u64]) -> Result<Transcript, Unmet> {
-    let checked = shop(alloc, b"audit")?;
+    let checked = shop(alloc, Text::short(b"audit"))?;
     let Ok(arrivals) = arrivals(alloc, taken) else {
         return Err(Unmet::Call("arrivals"));
     };
@@ -151,7 +151,7 @@ pub(crate) fn a_paused_connection_performs_nothing_until_its_output_is_below_the
 fn arrivals_with_reload(alloc: Global, reload: Checked) -> Result<Vec<Arrival<Setup>>, AllocError> {
     let mut arrivals = arrivals(alloc, &[])?;
     let setup = Setup::new(reload, Vec::new(alloc));
-    arrivals.push(Arrival::In(1, Text::fixed(PUBLISH_EMPTY)))?;
+    arrivals.push(Arrival::In(1, Text::from_slice(alloc, PUBLISH_EMPTY)?))?;
     arrivals.push(Arrival::Reload(setup))?;
     arrivals.push(Arrival::Sent(1, 200))?;
     Ok(arrivals)
@@ -169,8 +169,8 @@ fn has_entered_last(shown: &Transcript, name: &[u8]) -> bool {
 pub(crate) fn a_publish_that_waited_goes_by_what_is_in_force_then(
     alloc: Global,
 ) -> Result<(), Unmet> {
-    let checked = shop(alloc, b"audit")?;
-    let reload = shop(alloc, b"ledger")?;
+    let checked = shop(alloc, Text::short(b"audit"))?;
+    let reload = shop(alloc, Text::short(b"ledger"))?;
     let Ok(arrivals) = arrivals_with_reload(alloc, reload) else {
         return Err(Unmet::Call("arrivals"));
     };

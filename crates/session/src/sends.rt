@@ -15,18 +15,18 @@ use std::alloc::{AllocError, Global};
 const PROPERTIES: &[u8] =
     b"\x0ccapabilitiesF\x00\x00\x00\x3f\x12publisher_confirmst\x01\x1aexchange_exchange_bindingst\x01\x0abasic.nackt\x01\x07productS\x00\x00\x00\x06warren";
 
-/// connection.start.
-pub(crate) fn start() -> Method
-    ensures is { result ≡ said.start }
-    ensures fits { Fits result }
+/// connection.start. It takes memory for the server's properties.
+pub(crate) fn start(alloc: Global) -> Result<Method, AllocError>
+    ensures is { IfOk result (λ method. method ≡ said.start) }
+    ensures fits { IfOk result (λ method. Fits method) }
 {
-    Method::ConnectionStart(Start {
+    Ok(Method::ConnectionStart(Start {
         version_major: 0,
         version_minor: 9,
-        server_properties: Table::from_pairs(Text::fixed(PROPERTIES)),
-        mechanisms: Text::fixed(b"PLAIN"),
-        locales: Text::fixed(b"en_US"),
-    })
+        server_properties: Table::from_pairs(Text::from_slice(alloc, PROPERTIES)?),
+        mechanisms: Text::short(b"PLAIN"),
+        locales: Text::short(b"en_US"),
+    }))
 }
 
 /// connection.tune.

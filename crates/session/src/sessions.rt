@@ -187,7 +187,7 @@ impl Session {
             return Ok(nothing(alloc));
         }
         if bytes.as_slice() == b"AMQP\x00\x00\x09\x01".as_slice() {
-            let sends = one(alloc, connection, start())?;
+            let sends = one(alloc, connection, start(alloc)?)?;
             self.move_to(Phase::Start);
             Ok(sends)
         } else {

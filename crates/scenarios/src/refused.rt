@@ -1,0 +1,113 @@
+//! A machine of whose calls that may want memory each is refused it in turn.
+
+use crate::failing::{GET_TWICE, PUBLISH_AND_GET, client, is_close};
+use crate::wanting::Wanting;
+use memory_wire::MemoryWire;
+use scenario_parts::{ACKED, OPENED, PUBLISH, Unmet, expect, joined, new_broker, value_of};
+use serving::{Server, serve};
+use std::alloc::Global;
+
+/// How many calls are tried at most.
+const PATIENCE: u64 = 1_000;
+
+/// So many calls at least are made for two clients: each opening alone is five commands.
+const FEWEST: u64 = 20;
+
+/// In how many rounds they are served.
+const ROUNDS: u64 = 16;
+
+/// The body of the message of `PUBLISH_AND_GET`, in its frame.
+const FIRST_BODY: &[u8] = b"\x00\x00\x00\x02lo\xce";
+
+/// That of the message of `PUBLISH`.
+const SECOND_BODY: &[u8] = b"\x00\x00\x00\x02hi\xce";
+
+/// How often the socket of a client was closed.
+fn closes(wire: &MemoryWire, client: u64) -> u64 {
+    let mut count = 0u64;
+    for call in &wire.log.calls {
+        count = count.saturating_add(u64::from(is_close(call, client)));
+    }
+    count
+}
+
+/// Whether this is a part of the bytes.
+fn has_part(bytes: &[u8], part: &[u8]) -> bool {
+    for start in 0..bytes.len() {
+        if bytes.split_at(start).1.starts_with(part) {
+            return true;
+        }
+    }
+    false
+}
+
+/// Expects that a client was answered this first, and got a message with this body.
+fn expect_answered(
+    alloc: Global,
+    wire: &MemoryWire,
+    client: u64,
+    first: &[u8],
+    body: &[u8],
+) -> Result<(), Unmet> {
+    let answer = value_of("Log::taken_by", wire.log.taken_by(alloc, client))?;
+    expect("who stays is answered", answer.starts_with(first))?;
+    expect(
+        "who stays gets its message",
+        has_part(answer.as_slice(), body),
+    )
+}
+
+/// Expects that at most one client was lost, and that the other's publish was acked and its message is there.
+fn expect_one_lost(alloc: Global, wire: &MemoryWire) -> Result<(), Unmet> {
+    let first = closes(wire, 0);
+    let second = closes(wire, 1);
+    expect("at most one is lost", first.saturating_add(second) <= 1)?;
+    if first == 0 {
+        expect_answered(alloc, wire, 0, OPENED, FIRST_BODY)?;
+    }
+    if second == 0 {
+        let acked = joined(alloc, OPENED, ACKED)?;
+        expect_answered(alloc, wire, 1, acked.as_slice(), SECOND_BODY)?;
+    }
+    Ok(())
+}
+
+/// Serves two clients, each of whom publishes a message and gets it, while the call of this number is refused memory. Tells
+/// whether there was such a call.
+fn serve_two(alloc: Global, count: u64) -> Result<bool, Unmet> {
+    let mut left = count;
+    let machine = Wanting {
+        machine: new_broker(alloc)?,
+        left: &mut left,
+    };
+    let then = joined(alloc, PUBLISH, GET_TWICE)?;
+    let mut clients = Vec::new(alloc);
+    value_of(
+        "push",
+        clients.push(client(alloc, PUBLISH_AND_GET, usize::MAX)?),
+    )?;
+    value_of(
+        "push",
+        clients.push(client(alloc, then.as_slice(), usize::MAX)?),
+    )?;
+    let mut wire = MemoryWire::new(alloc, clients);
+    let Ok(mut server) = Server::new(alloc, machine) else {
+        return Err(Unmet::Call("Server::new"));
+    };
+    serve(alloc, &mut server, &mut wire, ROUNDS);
+    drop(server);
+    expect_one_lost(alloc, &wire)?;
+    Ok(left == 0)
+}
+
+/// Each call that may want memory is refused it in a run of its own: at most the client is lost for whom it was made.
+pub(crate) fn a_call_that_is_refused_memory_loses_no_other_client(
+    alloc: Global,
+) -> Result<(), Unmet> {
+    for count in 1..PATIENCE {
+        if !serve_two(alloc, count)? {
+            return expect("calls were refused", count > FEWEST);
+        }
+    }
+    Err(Unmet::Claim("a run has an end"))
+}

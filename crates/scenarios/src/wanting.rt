@@ -1,0 +1,117 @@
+//! A machine of whose calls one is refused memory.
+
+use model::Note;
+use runs::{Delivered, Machine, ReloadFault};
+use std::alloc::{AllocError, Global};
+
+/// A machine as it is, but that memory is refused for one of its calls that may want it.
+#[derive(Drop)]
+pub(crate) struct Wanting<'a, M: Machine> {
+    pub(crate) machine: M,
+    /// How many such calls are to come up to the refused one; 0 behind it.
+    pub(crate) left: &'a mut u64,
+}
+
+/// Whether a call is the one that is refused.
+fn is_refused(left: &mut u64) -> bool {
+    if *left == 0 {
+        return false;
+    }
+    *left -= 1;
+    *left == 0
+}
+
+impl<'a, M: Machine> Machine for Wanting<'a, M> {
+    type Setup = M::Setup;
+
+    ghost use Rattle.std.specs.Prelude.{◌≡◌, IfOk};
+    ghost use Rattle.model.specs.Headline.{IsSound};
+
+    ghost world = { λ s. M.world s.machine };
+
+    ghost config = { M.config };
+
+    // it may want memory for whatever is asked
+    ghost lacks = { λ w n. Unit {0} };
+
+    ghost left = { λ s. M.left s.machine };
+
+    fn open(&mut self, alloc: Global) -> Result<Option<u64>, AllocError> {
+        if is_refused(self.left) {
+            return Err(AllocError);
+        }
+        self.machine.open(alloc)
+    }
+
+    fn open_ready(&mut self, alloc: Global, k: u8) -> Result<Option<u64>, AllocError> {
+        if is_refused(self.left) {
+            return Err(AllocError);
+        }
+        self.machine.open_ready(alloc, k)
+    }
+
+    fn feed(&mut self, alloc: Global, c: u64, bytes: &[u8]) -> Result<(), AllocError> {
+        if is_refused(self.left) {
+            return Err(AllocError);
+        }
+        self.machine.feed(alloc, c, bytes)
+    }
+
+    fn turn(&mut self, alloc: Global, c: u64) -> Result<Option<Vec<Note>>, AllocError> {
+        if is_refused(self.left) {
+            return Err(AllocError);
+        }
+        self.machine.turn(alloc, c)
+    }
+
+    fn pump(&mut self, alloc: Global) -> Result<Option<Delivered>, AllocError> {
+        if is_refused(self.left) {
+            return Err(AllocError);
+        }
+        self.machine.pump(alloc)
+    }
+
+    fn sent(&mut self, c: u64, n: u64) {
+        self.machine.sent(c, n);
+    }
+
+    fn lose(&mut self, c: u64) {
+        self.machine.lose(c);
+    }
+
+    fn output(&self, c: u64) -> &[u8] {
+        self.machine.output(c)
+    }
+
+    fn is_over(&self, c: u64) -> bool {
+        self.machine.is_over(c)
+    }
+
+    fn runs(&self, c: u64) -> bool {
+        self.machine.runs(c)
+    }
+
+    fn lagged(&self) -> u64 {
+        self.machine.lagged()
+    }
+
+    fn is_sound(&self) {
+        self.machine.is_sound();
+    }
+
+    fn offers_sound(setup: &M::Setup)
+        ensures { IsSound (M.config setup.now) }
+    {
+        M::offers_sound(setup);
+    }
+
+    fn copied(alloc: Global, setup: &M::Setup) -> Result<M::Setup, AllocError>
+        ensures { IfOk result (λ copy. M.config copy ≡ M.config setup.now) }
+    {
+        M::copied(alloc, setup)
+    }
+
+    fn reload(&mut self, alloc: Global, setup: M::Setup) -> Result<(), ReloadFault> {
+        self.machine.reload(alloc, setup)
+    }
+}
