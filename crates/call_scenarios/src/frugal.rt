@@ -1,6 +1,6 @@
 //! Calls that take no memory, and so can be made where none is left.
 
-use crate::parts::{Stated, checked, new_engine};
+use crate::parts::{Stated, checked, command, new_engine, publish};
 use crate::room::Room;
 use assembly::{Fault, Stream};
 use broker::Broker;
@@ -10,10 +10,7 @@ use engine::{Engine, Turn};
 use frame::{Read, read_frame};
 use headers::read_size;
 use login::accepts;
-use model::{
-    Body, Content, Event, Get, Holder, Message, Method, Nack, Properties, Publish, Taker, Text,
-    User,
-};
+use model::{Get, Holder, Message, Method, Nack, Taker, Text, User};
 use queue::{Indexed, Store};
 use scenario_parts::{MESSAGE, Unmet, expect, expect_bytes, expect_number, value_of};
 use session::Session;
@@ -55,22 +52,6 @@ pub(crate) struct Frugal {
     engine: Engine,
 }
 
-/// A publish of an empty body by the default exchange to the queue `audit`.
-fn publish() -> (Publish, Content) {
-    let publish = Publish {
-        reserved: 0,
-        exchange: Text::empty(),
-        routing_key: Text::short(b"audit"),
-        mandatory: false,
-        immediate: false,
-    };
-    let content = Content {
-        properties: Properties::none(),
-        body: Body::empty(),
-    };
-    (publish, content)
-}
-
 /// A stream that met a frame that is too long.
 fn broken_stream(alloc: Global) -> Result<Stream, Unmet> {
     let mut stream = Stream::running(alloc);
@@ -107,23 +88,14 @@ fn holding_broker(alloc: Global) -> Result<Broker, Unmet> {
     let mut broker = value_of("Broker::new", Broker::new(alloc, stated.topology))?;
     value_of("Broker::open", broker.open(alloc, 1, 255, 1))?;
     let (publish, content) = publish();
-    let publish = Event::Command {
-        connection: 1,
-        channel: 1,
-        method: Method::BasicPublish(publish),
-        content: Some(content),
-    };
+    let publish = command(Method::BasicPublish(publish), Some(content));
     value_of("Broker::step", broker.step(alloc, &publish))?;
-    let get = Event::Command {
-        connection: 1,
-        channel: 1,
-        method: Method::BasicGet(Get {
-            reserved: 0,
-            queue: Text::short(b"audit"),
-            no_ack: false,
-        }),
-        content: None,
-    };
+    let get = Method::BasicGet(Get {
+        reserved: 0,
+        queue: Text::short(b"audit"),
+        no_ack: false,
+    });
+    let get = command(get, None);
     value_of("Broker::step", broker.step(alloc, &get))?;
     Ok(broker)
 }
@@ -266,16 +238,12 @@ impl Frugal {
 
     /// A rejection requeues what is held, and nothing can be delivered; the connection is paused, goes on, and is lost.
     fn expect_broker(&mut self, alloc: Global) -> Result<(), Unmet> {
-        let nack = Event::Command {
-            connection: 1,
-            channel: 1,
-            method: Method::BasicNack(Nack {
-                delivery_tag: 1,
-                multiple: false,
-                requeue: true,
-            }),
-            content: None,
-        };
+        let nack = Method::BasicNack(Nack {
+            delivery_tag: 1,
+            multiple: false,
+            requeue: true,
+        });
+        let nack = command(nack, None);
         let step = value_of("Broker::step", self.broker.step(alloc, &nack))?;
         expect("nothing is sent", step.sends.is_empty())?;
         expect("nothing is noted", step.notes.is_empty())?;

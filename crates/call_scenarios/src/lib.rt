@@ -10,6 +10,7 @@ mod nothing_left;
 mod parts;
 mod room;
 mod streams;
+mod thrifty;
 
 use scenario_parts::Sums;
 use std::io;
@@ -64,13 +65,44 @@ fn tell_programs(sums: &mut Sums, rt: &HostRuntime) -> io::Result<()> {
     )
 }
 
-/// The scenario of a process that has no memory left.
+/// The scenarios of parts of a broker in a process that has no memory left.
+fn tell_thrift(sums: &mut Sums, rt: &HostRuntime) -> io::Result<()> {
+    let alloc = rt.alloc();
+    sums.tell(
+        rt,
+        "positions_take_no_memory",
+        thrifty::positions_take_no_memory(rt, alloc),
+    )?;
+    sums.tell(
+        rt,
+        "a_sound_stream_takes_no_memory",
+        thrifty::a_sound_stream_takes_no_memory(rt, alloc),
+    )?;
+    sums.tell(
+        rt,
+        "a_queue_takes_no_memory",
+        thrifty::a_queue_takes_no_memory(rt, alloc),
+    )?;
+    sums.tell(
+        rt,
+        "a_depot_takes_no_memory",
+        thrifty::a_depot_takes_no_memory(rt, alloc),
+    )?;
+    sums.tell(
+        rt,
+        "a_broker_with_a_consumer_takes_no_memory",
+        thrifty::a_broker_with_a_consumer_takes_no_memory(rt, alloc),
+    )
+}
+
+/// The scenarios of a process that has no memory left.
 fn tell_memory(sums: &mut Sums, rt: &HostRuntime) -> io::Result<()> {
     sums.tell(
         rt,
         "no_memory_is_left",
         nothing_left::no_memory_is_left(rt, rt.alloc()),
-    )
+    )?;
+    tell_thrift(sums, rt)
 }
 
 /// Runs these scenarios, and prints a line for each.

@@ -1,11 +1,14 @@
 //! What calls are made of: files, what they state, and an engine.
 
+ghost use Rattle.judging.specs.Judged.{IsAsked};
+
 use crate::filing::{CERTIFICATES, DEFINITIONS, GUARANTEES};
 use certificate::{CertFault, Certificate, Checked, admit};
 use definitions::read_definitions;
 use engine::{Engine, Turn};
 use exchange_graph::Topology;
 use guarantees::{Guarantee, read_guarantees};
+use model::{Body, Consume, Content, Event, Method, Properties, Publish, Table, Text};
 use scenario_parts::{CONSUME, MESSAGE, Unmet, expect, new_broker, value_of};
 use std::alloc::Global;
 
@@ -42,6 +45,48 @@ impl Stated {
             certificates,
         } = self;
         admit(alloc, topology, guarantees, certificates.as_slice())
+    }
+}
+
+/// A publish of an empty body by the default exchange to the queue `audit`.
+pub(crate) fn publish() -> (Publish, Content) {
+    let publish = Publish {
+        reserved: 0,
+        exchange: Text::empty(),
+        routing_key: Text::short(b"audit"),
+        mandatory: false,
+        immediate: false,
+    };
+    let content = Content {
+        properties: Properties::none(),
+        body: Body::empty(),
+    };
+    (publish, content)
+}
+
+/// A consume of the queue `audit` under the tag `t`.
+pub(crate) fn consume() -> Consume {
+    Consume {
+        reserved: 0,
+        queue: Text::short(b"audit"),
+        consumer_tag: Text::short(b"t"),
+        no_local: false,
+        no_ack: false,
+        exclusive: false,
+        no_wait: false,
+        arguments: Table::empty(),
+    }
+}
+
+/// A command on channel 1 of connection 1.
+pub(crate) fn command(method: Method, content: Option<Content>) -> Event
+    ensures { IsAsked result }
+{
+    Event::Command {
+        connection: 1,
+        channel: 1,
+        method,
+        content,
     }
 }
 

@@ -1,6 +1,6 @@
 //! All room that the process can be given.
 
-use scenario_parts::{Unmet, value_of};
+use scenario_parts::{Unmet, expect, value_of};
 use std::alloc::Global;
 use std::fs;
 
@@ -49,6 +49,17 @@ impl Room {
     pub(crate) fn new(alloc: Global) -> Result<Room, Unmet> {
         let blocks = value_of("Vec::with_capacity", Vec::with_capacity(alloc, MOST_BLOCKS))?;
         Ok(Room { blocks })
+    }
+
+    /// All that the process can be given.
+    pub(crate) fn of_all(rt: &HostRuntime, alloc: Global) -> Result<Room, Unmet> {
+        expect(
+            "all room can be taken from this allocator",
+            can_be_taken(rt),
+        )?;
+        let mut room = Room::new(alloc)?;
+        room.take_all(alloc);
+        Ok(room)
     }
 
     /// Takes all that is left, from the largest blocks on.

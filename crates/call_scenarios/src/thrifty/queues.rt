@@ -1,0 +1,83 @@
+//! A queue.
+
+use crate::room::Room;
+use crate::thrifty::{HOLDER, message};
+use model::Entry;
+use queue::{Indexed, Store};
+use scenario_parts::{Unmet, expect, expect_number, value_of};
+use std::alloc::Global;
+
+/// How many messages there are.
+const MESSAGES: u64 = 3;
+
+/// A queue of the messages 1, 2 and 3.
+fn filled_queue(alloc: Global) -> Result<Indexed, Unmet> {
+    let mut queue = Indexed::new(alloc);
+    for number in 1..=MESSAGES {
+        let message = message(alloc, number)?;
+        value_of("Store::reserve", queue.reserve(1))?;
+        queue.push(message);
+    }
+    Ok(queue)
+}
+
+/// What a queue tells of its three messages.
+fn expect_told(queue: &Indexed) -> Result<(), Unmet> {
+    expect_number(
+        "the number of ready messages",
+        queue.ready() as u64,
+        MESSAGES,
+    )?;
+    expect("three are the most", queue.is_full(Some(3), None, 0))?;
+    expect("not of four", !queue.is_full(Some(4), None, 0))?;
+    match queue.first_ready() {
+        Some(first) => expect_number("the first publish", first.message.number(), 1),
+        None => Err(Unmet::Claim("a message is ready")),
+    }
+}
+
+/// The first message is held, made ready again, held again and taken out.
+fn expect_held(queue: &mut Indexed) -> Result<Option<Entry>, Unmet> {
+    for _ in 0..2 {
+        if queue.held(&HOLDER, 0).is_some() {
+            return Err(Unmet::Claim("nobody holds a message"));
+        }
+        let arrival = value_of("Store::hold", queue.hold(HOLDER).ok_or(()))?;
+        expect("it is released", queue.release(&HOLDER, arrival))?;
+    }
+    if queue.held(&HOLDER, 0).is_some() {
+        return Err(Unmet::Claim("nobody holds a message then"));
+    }
+    let arrival = value_of("Store::hold", queue.hold(HOLDER).ok_or(()))?;
+    Ok(queue.remove(&HOLDER, arrival))
+}
+
+/// One message is taken, and the last is purged; there is room for its number.
+fn expect_emptied(queue: &mut Indexed, numbers: &mut Vec<u64>) -> Result<(), Unmet> {
+    let taken = queue.take_first();
+    expect("the second is taken", taken.is_some())?;
+    value_of("reserve", numbers.reserve(queue.ready()))?;
+    queue.purge(numbers);
+    let purged = numbers.last().copied().unwrap_or(0);
+    expect_number("the number of what is purged", purged, MESSAGES)
+}
+
+/// All of it. What is taken out stays until the end, so that no memory is given back meanwhile.
+fn expect_queue(queue: &mut Indexed, numbers: &mut Vec<u64>) -> Result<(), Unmet> {
+    expect_told(&*queue)?;
+    let held = expect_held(queue)?;
+    expect("what is held is taken out", held.is_some())?;
+    expect_emptied(queue, numbers)
+}
+
+/// Messages are told, held, made ready again, taken and purged.
+pub(crate) fn a_queue_takes_no_memory(rt: &HostRuntime, alloc: Global) -> Result<(), Unmet> {
+    let mut first = filled_queue(alloc)?;
+    let mut second = filled_queue(alloc)?;
+    let mut numbers = value_of("Vec::with_capacity", Vec::with_capacity(alloc, 2))?;
+    expect_queue(&mut first, &mut numbers)?;
+    let room = Room::of_all(rt, alloc)?;
+    let outcome = expect_queue(&mut second, &mut numbers);
+    drop(room);
+    outcome
+}
