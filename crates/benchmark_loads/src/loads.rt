@@ -10,6 +10,8 @@ pub struct Load {
     pub shape: Shape,
     pub connections: u64,
     pub publishes: u64,
+    /// How many of them a client writes at once.
+    pub window: u64,
     /// Bytes of a body.
     pub body: usize,
     /// How many bytes are handed in at once.
@@ -22,6 +24,12 @@ pub struct Load {
 
 const WHOLE: usize = 16_777_216;
 
+/// What the system gives of a socket at most by one read.
+const READ: usize = 65_536;
+
+/// How many publishes most clients write at once.
+const WINDOW: u64 = 100;
+
 /// A load of one connection and one key, whose windows are handed in whole.
 pub fn plain(name: &'static str, shape: Shape, publishes: u64, body: usize) -> Load {
     Load {
@@ -29,6 +37,7 @@ pub fn plain(name: &'static str, shape: Shape, publishes: u64, body: usize) -> L
         shape,
         connections: 1,
         publishes,
+        window: WINDOW,
         body,
         piece: WHOLE,
         keys: Keys::One,
@@ -43,6 +52,7 @@ fn by(name: &'static str, connections: u64) -> Load {
         shape: Shape::Direct,
         connections,
         publishes: 100_000,
+        window: WINDOW,
         body: 12,
         piece: WHOLE,
         keys: Keys::One,
@@ -57,6 +67,7 @@ fn fresh(name: &'static str, shape: Shape, publishes: u64) -> Load {
         shape,
         connections: 1,
         publishes,
+        window: WINDOW,
         body: 12,
         piece: WHOLE,
         keys: Keys::Fresh,
@@ -71,6 +82,7 @@ fn pieces(name: &'static str, piece: usize, publishes: u64) -> Load {
         shape: Shape::Direct,
         connections: 1,
         publishes,
+        window: WINDOW,
         body: 12,
         piece,
         keys: Keys::One,
@@ -85,10 +97,26 @@ fn with_properties(name: &'static str, properties: &'static [u8]) -> Load {
         shape: Shape::Direct,
         connections: 1,
         publishes: 100_000,
+        window: WINDOW,
         body: 12,
         piece: WHOLE,
         keys: Keys::One,
         properties,
+    }
+}
+
+/// A load of large bodies, each of which is read in parts.
+fn large(name: &'static str, publishes: u64, body: usize) -> Load {
+    Load {
+        name,
+        shape: Shape::Direct,
+        connections: 1,
+        publishes,
+        window: 1,
+        body,
+        piece: READ,
+        keys: Keys::One,
+        properties: NONE,
     }
 }
 
@@ -134,6 +162,7 @@ pub fn load_at(place: u32) -> Option<Load> {
         18 => with_properties("delivery-mode", MODE),
         19 => with_properties("delivery-mode, content-type", MODE_TYPE),
         20 => with_properties("delivery-mode, content-type, message-id", MODE_TYPE_ID),
+        21 => large("direct, 1,000,000 bytes", 200, 1_000_000),
         _ => return None,
     };
     Some(load)

@@ -7,9 +7,6 @@ use measuring::{Client, Measured, Part, SELECT, built, print_parts, resident_byt
 use std::alloc::Global;
 use std::io;
 
-/// How many publishes a client writes at once.
-const WINDOW: u64 = 100;
-
 /// How many parts of a load are measured apart.
 const PARTS: u64 = 10;
 
@@ -47,9 +44,10 @@ impl Part for Running {
 
     /// So many windows, by the load's connections in turn.
     fn run(&mut self, part: u64) {
-        for window in 0..self.load.publishes / PARTS / WINDOW {
+        let publishes = self.load.window.max(1);
+        for window in 0..self.load.publishes / PARTS / publishes {
             let connection = part.saturating_add(window) % self.load.connections.max(1) + 1;
-            let bytes = self.client.window(self.alloc, WINDOW);
+            let bytes = self.client.window(self.alloc, publishes);
             self.engine
                 .perform_pieces(connection, bytes, self.load.piece);
         }

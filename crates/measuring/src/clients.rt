@@ -10,6 +10,9 @@ pub const SELECT: [u8; 13] = [1, 0, 1, 0, 0, 0, 5, 0, 85, 0, 10, 0, 206];
 /// The end of a frame.
 const END: [u8; 1] = [206];
 
+/// The longest payload of a frame.
+const LONGEST: usize = 131_064;
+
 /// Flags and values of no property.
 pub const NO_PROPERTIES: &[u8] = &[0, 0];
 
@@ -52,12 +55,12 @@ fn put_header(out: &mut Written, size: u64, properties: &[u8]) {
     out.put(END.as_slice());
 }
 
-/// Appends a content header, and the body.
+/// Appends a content header, and the body in the longest frames.
 fn put_content(out: &mut Written, properties: &[u8], body: &[u8]) {
     put_header(out, body.len() as u64, properties);
-    if !body.is_empty() {
-        put_head(out, 3, body.len());
-        out.put(body);
+    for piece in body.chunks(LONGEST) {
+        put_head(out, 3, piece.len());
+        out.put(piece);
         out.put(END.as_slice());
     }
 }

@@ -14,9 +14,10 @@ use Rattle.scripts.specs.FileNames.{FileNames}
 use Rattle.server.specs.declared.refusals.Told.{Told}
 use Rattle.server.specs.Program.{TellsLine, refusal_line}
 use Rattle.server.specs.Streams.{OutputStream, change}
-use Rattle.reload_loop.specs.declared.refused.Refused.{Refused}
+use Rattle.reload_loop.specs.declared.found.Found.{Found}
+use Rattle.reload_loop.specs.declared.found.Found.TheVariants.{Nothing, Refused, Admitted}
 use Rattle.reload_loop.specs.Snapshots.{Snap, AllRead, AreHeld, AreSame, IsHeld, IsOther, IsReadFrom, IsSameText, IsSlotOf, WasRead}
-use Rattle.reload_loop.specs.Looks.{IsFaultTold, IsStated, IsToldAgain, Looks, WasRefused, done, refused, stopped, wanting}
+use Rattle.reload_loop.specs.Looks.{IsFaultTold, IsFound, IsFoundAgain, IsStated, Looks, WasFound, done, refused, stopped, wanting}
 
 -- a stream that was not written to
 pub untouched : (o : Option Text) → Keeps o o
@@ -63,13 +64,26 @@ read_held holds names read kept same from = record {
 pub read_before : (a b : Text → Known) (names : FileNames) (s : Snap) → AreKept a b → IsReadFrom b names s → IsReadFrom a names s
 read_before a b names s k h = subst (λ (x : Text → Known). IsReadFrom x names s) (same_holds a b k) h
 
--- files that were refused are found as they were, and it is told again
-pub refused_again : (a b : Text → Known) (names : FileNames) (err : OutputStream) (kept : Snap) (old : World) (o : Option Refused) (told : Told) (whole : Bool) → AreKept a b → WasRefused names kept o → IsToldAgain b names o told
-    → TellsLine err (refusal_line told.file.now told.why) whole → Looks a names err kept old kept old whole
-refused_again a b names err kept old None told whole k was again line = absurd again
-refused_again a b names err kept old (Some r) told whole k was again line =
-    refused r.read (read_before a b names r.read k again.0) was.other
-    (record { file = r.told.file.now; why = r.told.why; fails = was.fails; told = subst (λ (t : Told). TellsLine err (refusal_line t.file.now t.why) whole) again.1 line })
+-- what was found before is found in files that are found as they were read then
+pub found_again : (holds : Text → Known) (names : FileNames) (kept : Snap) (found : Found) → WasFound names kept found → IsFoundAgain holds names found → IsFound holds names kept found
+found_again holds names kept Nothing was again = absurd again
+found_again holds names kept (Refused read told) was again = (again, was)
+found_again holds names kept (Admitted read force) was again = (again, was)
+
+-- what is found now was found
+pub was_found : (holds : Text → Known) (names : FileNames) (kept : Snap) (found : Found) → IsFound holds names kept found → WasFound names kept found
+was_found holds names kept Nothing is = tt
+was_found holds names kept (Refused read told) is = is.1
+was_found holds names kept (Admitted read force) is = is.1
+
+-- what is found in files once what is known of them stayed is found in those before
+pub found_before : (a b : Text → Known) (names : FileNames) (kept : Snap) (found : Found) → AreKept a b → IsFound b names kept found → IsFound a names kept found
+found_before a b names kept found k = subst (λ (x : Text → Known). IsFound x names kept found) (same_holds a b k)
+
+-- what was refused is told
+pub refused_look : (holds : Text → Known) (names : FileNames) (err : OutputStream) (kept read : Snap) (old : World) (told : Told) (whole : Bool) → IsFound holds names kept (Refused read told)
+    → TellsLine err (refusal_line told.file.now told.why) whole → Looks holds names err kept old kept old whole
+refused_look holds names err kept read old told whole is line = refused read is.0 is.1.other (record { file = told.file.now; why = told.why; fails = is.1.fails; told = line })
 
 pub done_look : (holds : Text → Known) (names : FileNames) (o : Option Text) (kept read : Snap) (a b : World) (force : Config) → IsReadFrom holds names read → IsOther read kept → IsStated names read force → IsPutInForce a force b
     → Looks holds names (change o o) kept a read b true

@@ -12,10 +12,10 @@ use Rattle.named_files.specs.Files.{Known}
 use Rattle.scripts.specs.FileNames.{FileNames}
 use Rattle.scripts.specs.Transcript.{obstacle_line}
 use Rattle.server.specs.declared.refusals.CommandRefusal.{CommandRefusal}
-use Rattle.server.specs.declared.refusals.Told.{Told}
 use Rattle.server.specs.Program.{FailsOver, IsInForceBy, TellsLine, out_of_memory, refusal_line}
 use Rattle.server.specs.Streams.{OutputStream, GetsNothing, PutsOut}
-use Rattle.reload_loop.specs.declared.refused.Refused.{Refused}
+use Rattle.reload_loop.specs.declared.found.Found.{Found}
+use Rattle.reload_loop.specs.declared.found.Found.TheVariants.{Nothing, Refused, Admitted}
 use Rattle.reload_loop.specs.Snapshots.{Snap, AreHeld, IsOther, IsReadFrom, known_in}
 
 -- the line that tells what stands against a reload: `warren: ` and the line of the note
@@ -46,22 +46,35 @@ pub record IsRefused (names : FileNames) (read : Snap) (err : OutputStream) (who
   pub fails : IsWhyRefused names read file why
   pub told : TellsLine err (refusal_line file why) whole
 
--- ---- what is told again
+-- ---- what is found again
 
 -- Files that were refused for this, as they were read, with another text than one that is kept.
 pub record IsRefusal (names : FileNames) (kept read : Snap) (file : Text) (why : CommandRefusal) : Type 0 where
   pub other : IsOther read kept
   pub fails : IsWhyRefused names read file why
 
--- what was refused at a look before, if anything was
-abbrev pub WasRefused : FileNames → Snap → Option Refused → Type 0
-WasRefused names kept None = ⊤
-WasRefused names kept (Some r) = IsRefusal names kept r.read r.told.file.now r.told.why
+-- Files that state this, as they were read, with another text than one that is kept.
+pub record IsOffered (names : FileNames) (kept read : Snap) (force : Config) : Type 0 where
+  pub other : IsOther read kept
+  pub states : IsStated names read force
 
--- this was told of files that are found as they were read then
-abbrev pub IsToldAgain : (Text → Known) → FileNames → Option Refused → Told → Type 0
-IsToldAgain holds names None told = ⊥
-IsToldAgain holds names (Some r) told = IsReadFrom holds names r.read × (told ≡ r.told)
+-- what was found at a look before and is not in force, if anything was
+abbrev pub WasFound : FileNames → Snap → Found → Type 0
+WasFound names kept Nothing = ⊤
+WasFound names kept (Refused read told) = IsRefusal names kept read told.file.now told.why
+WasFound names kept (Admitted read force) = IsOffered names kept read force
+
+-- it was found in files that are found as they were read then
+abbrev pub IsFoundAgain : (Text → Known) → FileNames → Found → Type 0
+IsFoundAgain holds names Nothing = ⊥
+IsFoundAgain holds names (Refused read told) = IsReadFrom holds names read
+IsFoundAgain holds names (Admitted read force) = IsReadFrom holds names read
+
+-- it is found in these files; where it is nothing they have what is kept
+abbrev pub IsFound : (Text → Known) → FileNames → Snap → Found → Type 0
+IsFound holds names kept Nothing = AreHeld holds names kept
+IsFound holds names kept (Refused read told) = IsReadFrom holds names read × IsRefusal names kept read told.file.now told.why
+IsFound holds names kept (Admitted read force) = IsReadFrom holds names read × IsOffered names kept read force
 
 -- ---- a look
 

@@ -1,9 +1,9 @@
 //! Serving, with a look at files each time that so many turns are over: what they state is put in force.
 #![tactic(auto)]
 
+mod found;
 mod looking;
 mod program;
-mod refused;
 mod serving_on;
 mod snapshots;
 mod telling;

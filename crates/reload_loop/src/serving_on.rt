@@ -11,6 +11,7 @@ ghost use Rattle.serving.specs.Whole.{IsServed};
 ghost use Rattle.reload_loop.specs.Snapshots.{names_of};
 ghost use Rattle.reload_loop.specs.ServesOn.{ServesOn, standing};
 
+use crate::found::Found;
 use crate::looking::look;
 use crate::snapshots::{Names, Snapshot};
 use engine::Engine;
@@ -23,8 +24,8 @@ use std::io::Write;
 ///
 /// Where the files have other bytes than those that are kept, by which what is in force was judged, what they state is put
 /// in force. Where they are refused, or something stands against it, one line is put on `err`, what stands stays in force,
-/// and the next look tries again: files that are refused are judged again once they have other bytes, and told at each look. The
-/// result says whether `err` took each such line whole.
+/// and the next look tries again: files are judged again once they have other bytes, until then a refusal is told at each look, and
+/// what was admitted is offered at each. The result says whether `err` took each such line whole.
 pub fn serve_and_reload<W: Wire, F: Files, E: Write>(
     alloc: Global,
     server: &mut Server<Engine>,
@@ -42,12 +43,12 @@ pub fn serve_and_reload<W: Wire, F: Files, E: Write>(
     ensures served { (f : Config) (told : Told) → IsServed engine_lacks f told (served (world_of server.old.machine) server.old.peers (W.told sockets.old)) → IsServed engine_lacks f told (served (world_of server.new.machine) server.new.peers (W.told sockets.new)) }
     ensures files { AreKept (F.holds files.old) (F.holds files.new) }
 {
-    let mut refused = None;
+    let mut found = Found::Nothing;
     let mut whole = true;
     let mut left = turns;
     while every < left {
         serve(alloc, server, sockets, every);
-        let taken = look(alloc, server, names, kept, &mut refused, files, err).is_ok();
+        let taken = look(alloc, server, names, kept, &mut found, files, err).is_ok();
         whole = taken & whole;
         left -= every;
     }

@@ -28,7 +28,7 @@ loop-left-preserved g c =
           }) s);
       served = λ f before was. c.look.ensures.served f before mid.told (c.serve.ensures.served f before (c.loop-left.invariant.served f before was));
       files = λ name. c.look.ensures.files name ∙ c.loop-left.invariant.files name;
-      refused = c.look.ensures.refused;
+      found = c.look.ensures.found;
     }
 
 pub returns-clause-serves : goal.returns-clause-serves

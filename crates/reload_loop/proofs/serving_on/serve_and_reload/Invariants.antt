@@ -7,7 +7,7 @@ use Rattle.serving.specs.Wire.{Told}
 use Rattle.serving.specs.Story.{served}
 use Rattle.serving.specs.Whole.{IsServed}
 use Rattle.reload_loop.specs.Snapshots.{names_of}
-use Rattle.reload_loop.specs.Looks.{WasRefused}
+use Rattle.reload_loop.specs.Looks.{WasFound}
 use Rattle.reload_loop.specs.ServesOn.{Standing, ServesOn, standing}
 use Rattle.reload_loop.proofs.serving_on.serve_and_reload.Given as goal
 
@@ -22,7 +22,7 @@ invariant-loop-left g l =
       serves : (new : Standing) → ServesOn (holds l.fn.files) (names_of l.names) l.every l.left (standing here l.kept (says l.err) l.whole) new → ServesOn (holds l.fn.files) (names_of l.names) l.every l.turns (standing start l.fn.kept (says l.fn.err) true) new;
       served : (f : Config) (before : Told) → IsServed engine_lacks f before start → IsServed engine_lacks f before here;
       files : AreKept (holds l.fn.files) (holds l.files);
-      refused : WasRefused (names_of l.names) l.kept l.refused;
+      found : WasFound (names_of l.names) l.kept l.found;
     }
 
 abbrev pub decreases-loop-left : goal.decreases-loop-left
