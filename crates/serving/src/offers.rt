@@ -7,6 +7,7 @@
 ghost use Rattle.std.specs.Prelude.{◌≤◌};
 ghost use Rattle.serving.specs.Story.{IsOffer, read_room};
 
+use crate::peers::SLOTS;
 use std::alloc::{AllocError, Global};
 
 /// The room of a read, at least and at most.
@@ -22,9 +23,6 @@ const HURRIED: usize = 1_024;
 
 /// In so many rounds after one that accepted a socket, so that it logs in at once.
 const HURRY: u32 = 16;
-
-/// So many slots have an offer of their own, as many as there are connections.
-const SLOTS: usize = 1_024;
 
 /// What is known of a slot.
 #[derive(Clone, Copy, Drop)]
