@@ -7,7 +7,7 @@ use Rattle.model.specs.Arrivals.{World, Same, can_open, is_gone, Answers, Delive
 use Rattle.model.specs.declared.events.Arrival.TheVariants as arrival
 use Rattle.serving.specs.Wire.{Accepted, Not_accepted, Accept_failed, Got, Nothing_got, Read_ended, Read_failed, Took, Nothing_taken, Write_failed, Closed, asks, To_accept, To_read, To_write, Told, Tells, IsFresh}
 use Rattle.serving.specs.Coming.{Attempt, whole, short, Brings, FallsShort}
-use Rattle.serving.specs.Story.{served, At, Filled, NoneFree, MayTurnAway, TakesIn, IsOffer, greeting, comes_to_run, Met, Turned_away, Met_no_one, Heard, Heard_partly, Heard_nothing, Heard_end, Gave, Gave_partly, Gave_nothing, Gave_up, Pumped, Pumped_nothing, Pump_refused, Let_go, Serves, PumpsOnce}
+use Rattle.serving.specs.Story.{served, At, Filled, MayTurnAway, TakesIn, IsOffer, greeting, comes_to_run, Met, Turned_away, Met_no_one, Heard, Heard_partly, Heard_nothing, Heard_end, Gave, Gave_partly, Gave_nothing, Gave_up, Pumped, Pumped_nothing, Pump_refused, Let_go, Serves, PumpsOnce}
 use Rattle.serving.specs.declared.peers.Peer.{Peer}
 use Rattle.serving.proofs.Turning.{match_false, opens_one}
 use Rattle.serving.proofs.Onward.{tells_none, tells_then, serves_one, attempt_one, attempt_two}
@@ -155,13 +155,13 @@ takes_in L a b ps qs new s n i same o filled =
     let number : n ≡ a.given + 1 = o.1 ∙ o.2.1.given in
     (o.0, opens_one a b o.2.0 o.0 o.2.1, (i, subst (λ (m : ℕ). Filled ps i (record { connection = m; socket = s }) new) number (subst (λ (z : List (Option Peer)). Filled z i (record { connection = n; socket = s }) new) same filled)))
 
-pub kept_out : (L : Lacks) (a b : World) (ps qs : List (Option Peer)) (s : ℕ) (o : Attempt) → o.arrival ≡ arrival.Open → MayTurnAway L a ps o.is_whole → Brings L a o [] b → qs ≡ ps → TakesIn L a ps s false b qs
+pub kept_out : (L : Lacks) (a b : World) (ps qs : List (Option Peer)) (s : ℕ) (o : Attempt) → o.arrival ≡ arrival.Open → MayTurnAway L a o.is_whole → Brings L a o [] b → qs ≡ ps → TakesIn L a ps s false b qs
 kept_out L a b ps qs s o is may brings e = ((o, is, may, brings), e)
 
 pub is_full : (L : Lacks) (a b : World) (ps qs : List (Option Peer)) (s : ℕ) → can_open a ≡ false → Same a b → qs ≡ ps → TakesIn L a ps s false b qs
 is_full L a b ps qs s full same e = kept_out L a b ps qs s (whole arrival.Open) refl full ([], refl, match_false (can_open a) _ _ full (refl, same)) e
 
-pub no_memory : (L : Lacks) (a b : World) (ps qs : List (Option Peer)) (s : ℕ) → L a To_open ⊎ NoneFree ps → Same a b → qs ≡ ps → TakesIn L a ps s false b qs
+pub no_memory : (L : Lacks) (a b : World) (ps qs : List (Option Peer)) (s : ℕ) → L a To_open → Same a b → qs ≡ ps → TakesIn L a ps s false b qs
 no_memory L a b ps qs s wants same e = kept_out L a b ps qs s (short arrival.Open) refl wants ([], refl, (refl, same)) e
 
 pub same_not : (a : World) → Same a a

@@ -92,6 +92,7 @@ slot_within (q ∷ ps) (suc i) p at = let lt = slot_within ps i p at in omega (a
 pub fit_within : (a b : World) (ps qs : List (Option Peer)) → a.given ≤ b.given → ((j : ℕ) (p : Peer) → At qs j p → At ps j p) → IsFit a ps → IsFit b qs
 fit_within a b ps qs le sub f = record {
   apart = λ i j p q x y e. f.apart i j p q (sub i p x) (sub j q y) e;
+  numbered = λ i p x. f.numbered i p (sub i p x);
   given = λ i p x. let g = f.given i p (sub i p x) in omega (arith, g, le);
 }
 
@@ -112,6 +113,7 @@ filled_at ps qs i p f j q at = go (cases_eq j i)
 fit_filled : (a b : World) (ps qs : List (Option Peer)) (i : ℕ) (p : Peer) → p.connection ≡ a.given + 1 → b.given ≡ a.given + 1 → Filled ps i p qs → IsFit a ps → IsFit b qs
 fit_filled a b ps qs i p is more filled f = record {
   apart = λ j k q r x y e. apart j k q r (filled_at ps qs i p filled j q x) (filled_at ps qs i p filled k r y) e;
+  numbered = λ j q x. numbered j q (filled_at ps qs i p filled j q x);
   given = λ j q x. given j q (filled_at ps qs i p filled j q x);
 }
   where
@@ -120,6 +122,10 @@ fit_filled a b ps qs i p is more filled f = record {
     apart j k q r (inl x) (inr y) e = let g = f.given k r y in let n = ap (λ (z : Peer). z.connection) x.1 in absurd (omega (arith, g, n, is, e))
     apart j k q r (inr x) (inl y) e = let g = f.given j q x in let n = ap (λ (z : Peer). z.connection) y.1 in absurd (omega (arith, g, n, is, e))
     apart j k q r (inr x) (inr y) e = f.apart j k q r x y e
+
+    numbered : (j : ℕ) (q : Peer) → ((j ≡ i) × (q ≡ p)) ⊎ At ps j q → 0 < q.connection
+    numbered j q (inl x) = let n = ap (λ (z : Peer). z.connection) x.1 in omega (arith, n, is)
+    numbered j q (inr x) = f.numbered j q x
 
     given : (j : ℕ) (q : Peer) → ((j ≡ i) × (q ≡ p)) ⊎ At ps j q → q.connection ≤ b.given
     given j q (inl x) = let n = ap (λ (z : Peer). z.connection) x.1 in omega (arith, n, is, more)
@@ -160,8 +166,8 @@ pumps_fit {L = L} n a b p s f = fit_story L s.deeds a b s.occurrences s.story f
 
 -- where no number is given, each slot has a connection of its own that was opened
 pub fit_on : (a b : World) (ps : List (Option Peer)) → b.given ≡ a.given → IsFit a ps → IsFit b ps
-fit_on a b ps e fit = record { apart = fit.apart; given = λ i p at. let le = fit.given i p at in omega (arith, le, e) }
+fit_on a b ps e fit = record { apart = fit.apart; numbered = fit.numbered; given = λ i p at. let le = fit.given i p at in omega (arith, le, e) }
 
 -- with no slot every server fits
 pub fit_none : (w : World) → IsFit w []
-fit_none w = record { apart = λ i j p q at. absurd (cc at); given = λ i p at. absurd (cc at) }
+fit_none w = record { apart = λ i j p q at. absurd (cc at); numbered = λ i p at. absurd (cc at); given = λ i p at. absurd (cc at) }

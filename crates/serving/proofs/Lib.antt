@@ -6,6 +6,7 @@ pub mod Staying
 pub mod Apart
 pub mod Fits
 pub mod Quieting
+pub mod Seating
 pub mod Pairs
 pub mod Joining
 pub mod Flowing

@@ -1,5 +1,5 @@
 -- A reload between two calls that serve: what is offered is decided, or memory was refused, and no slot and no output is different.
-use Rattle.std.proofs.Common.{◌≡◌, ℕ, List, [], ◌∷◌, Bool, Option, refl, inl, inr, arith}
+use Rattle.std.proofs.Common.{◌≡◌, ℕ, List, [], ◌∷◌, Bool, Option, refl, ◌∙◌, inl, inr, arith}
 use Rattle.std.specs.Prelude.{Result, Ok, Err}
 use Rattle.model.specs.State.{Config}
 use Rattle.model.specs.History.{Occurrence, Of_reload, Reload}
@@ -11,6 +11,7 @@ use Rattle.model.specs.declared.notes.Note.{Note}
 use Rattle.model.specs.declared.notes.Note.TheVariants.{Reloaded, ReloadRefused}
 use Rattle.model.specs.declared.obstacles.Obstacle.{Obstacle}
 use Rattle.model.specs.declared.obstacles.Obstacle.TheVariants as obstacle
+use Rattle.slab.specs.Slab.{Slab}
 use Rattle.runs.specs.Wants.{Lacks, To_reload}
 use Rattle.runs.specs.Reloaded.{IsPutInForce, TellsReload, IsMemory, wanting}
 use Rattle.runs.specs.declared.faults.ReloadFault.{ReloadFault}
@@ -22,7 +23,7 @@ use Rattle.serving.specs.Quiet.{IsServerKept}
 use Rattle.serving.specs.Whole.{IsServed}
 use Rattle.serving.specs.declared.peers.Peer.{Peer}
 use Rattle.serving.proofs.Onward.{tells_none, attempt_one}
-use Rattle.serving.proofs.Apart.{StaysFor, same_stays}
+use Rattle.serving.proofs.Apart.{StaysFor, same_stays, gone_stays}
 use Rattle.serving.proofs.Fits.{fit_within}
 use Rattle.serving.proofs.Quieting.{still_quiet}
 use Rattle.serving.proofs.Keeping.{Went, went_one, went_on}
@@ -103,11 +104,14 @@ given_stays a b offered (Err (Breaks q key number)) p = p.1.given
 given_stays a b offered (Err Memory) p = p.given
 
 -- slots and marks are as they should be after it
-pub kept_reloaded : (a b : World) (ps : List (Option Peer)) (marks : List Bool) (buffer : List ℕ) (offered : Config) (r : Result Unit ReloadFault) → TellsReload a offered r b → IsServerKept a ps marks buffer → IsServerKept b ps marks buffer
-kept_reloaded a b ps marks buffer offered r p k =
+pub kept_reloaded : (a b : World) (peers : Slab Peer) (marks : List Bool) (buffer : List ℕ) (offered : Config) (r : Result Unit ReloadFault) → TellsReload a offered r b → IsServerKept a peers marks buffer → IsServerKept b peers marks buffer
+kept_reloaded a b peers marks buffer offered r p k =
+    let ps = peers.slots in
     let same = given_stays a b offered r p in
     record {
       fit = fit_within a b ps ps (omega (arith, same)) (λ j q at. at) k.fit;
+      ended = λ i q at. gone_stays a b q.connection (stays a b offered r p q.connection) ∙ k.ended i q at;
       quiet = still_quiet a b ps ps marks marks k.quiet (λ j q at m. (at, m, stays a b offered r p q.connection));
+      most = k.most;
       room = k.room;
     }

@@ -40,9 +40,16 @@ still_marked (x ∷ xs) (suc i) (suc j) m = let s = still_marked xs i j m in (λ
 pub other_marked : (marks : List Bool) (i : ℕ) → slice_index_or marks i false ≡ false → (j : ℕ) → IsMarkedAt marks j → (j ≢ i) × IsMarkedAt marks j
 other_marked marks i none j m = (λ e. false≢true (sym none ∙ ap (λ (k : ℕ). slice_index_or marks k false) (sym e) ∙ m), m)
 
--- with no mark nothing is said
-pub none_marked : (w : World) (ps : List (Option Peer)) (marks : List Bool) → ((i : ℕ) → slice_index_or marks i false ≡ false) → AreQuiet w ps marks
-none_marked w ps marks none = λ i p at m. absurd (false≢true (sym (none i) ∙ m))
+-- with no slot nothing is said
+no_one_at : (ps : List (Option Peer)) (i : ℕ) (p : Peer) → ps ≡ [] → At ps i p → ⊥
+no_one_at [] i p e at = cc at
+no_one_at (o ∷ ps) i p e at = cc e
+
+pub none_quiet : (w : World) (ps : List (Option Peer)) (marks : List Bool) → ps ≡ [] → AreQuiet w ps marks
+none_quiet w ps marks none = λ i p at m. absurd (no_one_at ps i p none at)
+
+pub none_ended : (w : World) (ps : List (Option Peer)) → ps ≡ [] → (i : ℕ) → HasEnded w ps i
+none_ended w ps none i = λ p at. absurd (no_one_at ps i p none at)
 
 -- ---- one connection
 

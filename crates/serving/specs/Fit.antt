@@ -1,12 +1,17 @@
 -- Which connection has which slot, and what one connection's arrivals leave as it was.
-use Rattle.std.specs.Prelude.{◌≡◌, ◌≢◌, ◌≤◌, ℕ, List, Option}
+use Rattle.std.specs.Prelude.{◌≡◌, ◌≢◌, ◌≤◌, ◌<◌, ℕ, List, Option}
 use Rattle.model.specs.Arrivals.{World}
 use Rattle.serving.specs.Story.{At}
 use Rattle.serving.specs.declared.peers.Peer.{Peer}
 
+-- so many slots there are at least: as many as connections may stand
+abbrev pub most_peers : ℕ
+most_peers = 1024
+
 -- Each slot has a connection of its own, which was opened.
 pub record IsFit (w : World) (peers : List (Option Peer)) : Type 0 where
   pub apart : (i j : ℕ) (p q : Peer) → At peers i p → At peers j q → p.connection ≡ q.connection → i ≡ j
+  pub numbered : (i : ℕ) (p : Peer) → At peers i p → 0 < p.connection
   pub given : (i : ℕ) (p : Peer) → At peers i p → p.connection ≤ w.given
 
 -- of every connection but c the phase, the bytes to come and the output stay

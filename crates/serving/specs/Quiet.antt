@@ -1,8 +1,10 @@
 -- Which slots there is nothing to do for until something comes for them (own).
-use Rattle.std.specs.Prelude.{◌≡◌, ◌≢◌, ◌↔◌, ℕ, List, length, Bool, true, false, Option, slice_index_or}
+use Rattle.std.specs.Prelude.{◌≡◌, ◌≢◌, ◌↔◌, ◌≤◌, ℕ, List, length, Bool, true, false, Option, slice_index_or}
 use Rattle.model.specs.Arrivals.{World, is_awake, has_output}
 use Rattle.serving.specs.Story.{At, read_room}
-use Rattle.serving.specs.Fit.{IsFit}
+use Rattle.serving.specs.Rounds.{HasEnded}
+use Rattle.slab.specs.Slab.{Slab}
+use Rattle.serving.specs.Fit.{IsFit, most_peers}
 use Rattle.serving.specs.declared.peers.Peer.{Peer}
 
 -- It is awake, and nothing is put out for it.
@@ -26,8 +28,10 @@ IsOther c ps i = (p : Peer) → At ps i p → p.connection ≢ c
 abbrev pub Wakes : ℕ → List (Option Peer) → List Bool → List Bool → Type 0
 Wakes c ps old new = (i : ℕ) → IsMarkedAt new i ↔ IsMarkedAt old i × IsOther c ps i
 
--- What a server keeps: each slot has a connection of its own, each that is marked is quiet, and the buffer has its room.
-pub record IsServerKept (w : World) (ps : List (Option Peer)) (marks : List Bool) (buffer : List ℕ) : Type 0 where
-  pub fit : IsFit w ps
-  pub quiet : AreQuiet w ps marks
+-- What a server keeps: each slot has a connection of its own, none that is over with no output left, each that is marked is quiet, there is a slot for all that may stand, and the buffer has its room.
+pub record IsServerKept (w : World) (peers : Slab Peer) (marks : List Bool) (buffer : List ℕ) : Type 0 where
+  pub fit : IsFit w peers.slots
+  pub ended : (i : ℕ) → HasEnded w peers.slots i
+  pub quiet : AreQuiet w peers.slots marks
+  pub most : most_peers ≤ peers.capacity
   pub room : length buffer ≡ read_room

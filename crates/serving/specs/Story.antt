@@ -169,19 +169,15 @@ IsOutput w c bytes = bytes ≡ (w.wire c).output
 abbrev pub IsFront : World → ℕ → List ℕ → Type 0
 IsFront w c bytes = (n : ℕ) × (n ≤ length (w.wire c).output) × (bytes ≡ take n (w.wire c).output)
 
--- no slot is free, so that one more needs memory
-abbrev pub NoneFree : List (Option Peer) → Type 0
-NoneFree ps = length ps ≤ count_by is_some ps
-
--- why a socket is turned away: no more connections can be opened; or memory was wanting, for one or for its slot
-abbrev pub MayTurnAway : Lacks → World → List (Option Peer) → Bool → Type 0
-MayTurnAway L w ps true = can_open w ≡ false
-MayTurnAway L w ps false = L w To_open ⊎ NoneFree ps
+-- why a socket is turned away: no more connections can be opened, or memory was wanting for one
+abbrev pub MayTurnAway : Lacks → World → Bool → Type 0
+MayTurnAway L w true = can_open w ≡ false
+MayTurnAway L w false = L w To_open
 
 -- what a deed is about stands so in the slots, a read is offered at least 16 and at most 65,536 bytes, what a write was offered is all of the connection's own output and what it took the first of that, a delivery could be made where one was, and what a reload offers is sound
 abbrev pub Table : Lacks → Served → Deed → List (Option Peer) → Type 0
 Table L v (Met i p) new = (can_open v.world ≡ true) × (p.connection ≡ v.world.given + 1) × IsFresh p.socket v.told × Filled v.peers i p new
-Table L v (Turned_away s o) new = (o.arrival ≡ arrival.Open) × MayTurnAway L v.world v.peers o.is_whole × IsFresh s v.told × (new ≡ v.peers)
+Table L v (Turned_away s o) new = (o.arrival ≡ arrival.Open) × MayTurnAway L v.world o.is_whole × IsFresh s v.told × (new ≡ v.peers)
 Table L v (Met_no_one failed) new = new ≡ v.peers
 Table L v (Heard i p room bytes enters) new = IsOffer room × KeepsPeer v.peers i p new
 Table L v (Heard_partly i p room bytes) new = IsOffer room × Freed v.peers i p new
@@ -202,7 +198,7 @@ Table L v (Reload_undecided g) new = IsSound g × (new ≡ v.peers)
 -- A socket that came is taken in, or it is not and nothing changes.
 abbrev pub TakesIn : Lacks → World → List (Option Peer) → ℕ → Bool → World → List (Option Peer) → Type 0
 TakesIn L old ps s true new now = (can_open old ≡ true) × ((os : List Occurrence) × Answers old arrival.Open os new) × ((i : ℕ) × Filled ps i (record { connection = old.given + 1; socket = s }) now)
-TakesIn L old ps s false new now = ((o : Attempt) × (o.arrival ≡ arrival.Open) × MayTurnAway L old ps o.is_whole × Brings L old o [] new) × (now ≡ ps)
+TakesIn L old ps s false new now = ((o : Attempt) × (o.arrival ≡ arrival.Open) × MayTurnAway L old o.is_whole × Brings L old o [] new) × (now ≡ ps)
 
 -- the connection did not run, and runs now
 abbrev pub comes_to_run : World → World → ℕ → Bool

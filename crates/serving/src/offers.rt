@@ -7,6 +7,7 @@
 ghost use Rattle.std.specs.Prelude.{◌≤◌};
 ghost use Rattle.serving.specs.Story.{IsOffer, read_room};
 
+use crate::peers::SLOTS;
 use std::alloc::{AllocError, Global};
 
 /// The room of a read, at least and at most.
@@ -23,13 +24,25 @@ const HURRIED: usize = 1_024;
 /// In so many rounds after one that accepted a socket, so that it logs in at once.
 const HURRY: u32 = 16;
 
-/// So many slots have an offer of their own, as many as there are connections.
-const SLOTS: usize = 1_024;
+/// What is known of a slot.
+#[derive(Clone, Copy, Drop)]
+struct Offer {
+    /// The room by what was read for it so far.
+    room: usize,
+    /// Whether its connection ran when it was last heard.
+    runs: bool,
+}
+
+/// The offer of a slot that nothing was read for yet.
+const FIRST: Offer = Offer {
+    room: MOST,
+    runs: false,
+};
 
 /// The offers, by slot.
 #[derive(Drop)]
 pub(crate) struct Offers {
-    rooms: Vec<usize>,
+    offers: Vec<Offer>,
     /// In how many rounds yet there is a hurry.
     hurry: u32,
 }
@@ -38,7 +51,7 @@ impl Offers {
     /// Nobody came.
     pub(crate) fn new(alloc: Global) -> Result<Offers, AllocError> {
         Ok(Offers {
-            rooms: vec![in alloc; MOST; SLOTS]?,
+            offers: vec![in alloc; FIRST; SLOTS]?,
             hurry: 0,
         })
     }
@@ -51,17 +64,17 @@ impl Offers {
     /// A socket came, and has this slot.
     pub(crate) fn begin(&mut self, slot: usize) {
         self.hurry = HURRY;
-        if slot < self.rooms.len() {
-            self.rooms[slot] = MOST;
+        if slot < self.offers.len() {
+            self.offers[slot] = FIRST;
         }
     }
 
-    /// What a slot is offered by what was read for it so far.
-    fn own(&self, slot: usize) -> usize {
-        if slot < self.rooms.len() {
-            self.rooms[slot]
+    /// What is known of a slot.
+    fn own(&self, slot: usize) -> Offer {
+        if slot < self.offers.len() {
+            self.offers[slot]
         } else {
-            MOST
+            FIRST
         }
     }
 
@@ -78,21 +91,26 @@ impl Offers {
         }
     }
 
-    /// The room that a read for this slot is offered, whose connection runs or not yet.
-    pub(crate) fn room(&self, slot: usize, runs: bool) -> usize
+    /// The room that a read for this slot is offered.
+    pub(crate) fn room(&self, slot: usize) -> usize
         ensures { IsOffer result }
     {
-        self.own(slot).min(self.most(runs)).max(LEAST)
+        let offer = self.own(slot);
+        offer.room.min(self.most(offer.runs)).max(LEAST)
     }
 
-    /// After a read for this slot, by which messages came to queues that lag or not, it is offered half as much, or a quarter more.
-    pub(crate) fn learn(&mut self, slot: usize, has_filled: bool) {
-        if slot < self.rooms.len() {
-            let room = self.rooms[slot];
-            self.rooms[slot] = if has_filled {
-                (room / 2).max(LEAST)
-            } else {
-                room.saturating_add(room / 4).min(MOST)
+    /// After a read for this slot, by which messages came to queues that lag or not, it is offered half as much, or a quarter more. As
+    /// its bytes came, its connection ran or not yet.
+    pub(crate) fn learn(&mut self, slot: usize, has_run: bool, has_filled: bool) {
+        if slot < self.offers.len() {
+            let room = self.offers[slot].room;
+            self.offers[slot] = Offer {
+                room: if has_filled {
+                    (room / 2).max(LEAST)
+                } else {
+                    room.saturating_add(room / 4).min(MOST)
+                },
+                runs: has_run,
             };
         }
     }

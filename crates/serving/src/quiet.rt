@@ -1,6 +1,6 @@
 //! Which slots there is nothing to do for until something comes for them.
 
-ghost use Rattle.std.specs.Prelude.{◌≡◌, ◌<◌, ◌≤◌, ℕ, [], IfOk, OnOk, length, slice_index_or, slice_set, false};
+ghost use Rattle.std.specs.Prelude.{◌≡◌, IfOk, length, slice_index_or, slice_set, false};
 
 use std::alloc::{AllocError, Global};
 use std::marker::Model;
@@ -25,12 +25,12 @@ impl Model for Quiet {
 }
 
 impl Quiet {
-    /// No slot is marked, and none can be.
-    pub(crate) fn new(alloc: Global) -> Result<Quiet, AllocError>
-        ensures { IfOk result (λ q. q ≡ []) }
+    /// A mark for so many slots, of which none has a peer.
+    pub(crate) fn new(alloc: Global, slots: usize) -> Result<Quiet, AllocError>
+        ensures { IfOk result (λ q. length q ≡ slots) }
     {
         Ok(Quiet {
-            marks: Vec::new(alloc),
+            marks: vec![in alloc; true; slots]?,
             slots: vec![in alloc; 0; REMEMBERED]?,
         })
     }
@@ -53,17 +53,6 @@ impl Quiet {
         } else {
             0
         }
-    }
-
-    /// Makes room for a mark of this slot, where all before it have one.
-    pub(crate) fn make_room(&mut self, slot: usize) -> Result<(), AllocError>
-        ensures marks { (i : ℕ) → slice_index_or self.new i false ≡ slice_index_or self.old i false }
-        ensures room { OnOk result (slot ≤ length self.old → slot < length self.new) }
-    {
-        if self.marks.len() <= slot {
-            self.marks.push(false)?;
-        }
-        Ok(())
     }
 
     /// Whether this slot is marked.

@@ -12,7 +12,7 @@ ghost use Rattle.runs.specs.Reloaded.{IsMemory, TellsReload};
 ghost use Rattle.runs.specs.Wants.{To_reload};
 
 use crate::offers::Offers;
-use crate::peers::Peer;
+use crate::peers::{Peer, SLOTS};
 use crate::quiet::Quiet;
 use crate::rounds::round;
 use crate::wire::Wire;
@@ -54,19 +54,19 @@ impl<M: Machine> Model for Server<M> {
 
     ghost view = { λ s. record { machine = s.machine; peers = s.peers.slots } };
 
-    ghost invariant = { λ s. IsServerKept (M.world s.machine) s.peers.slots s.quiet s.buffer.items };
+    ghost invariant = { λ s. IsServerKept (M.world s.machine) s.peers s.quiet s.buffer.items };
 }
 
 impl<M: Machine> Server<M> {
-    /// A server of this machine, with no socket yet.
+    /// A server of this machine, with no socket yet, and with a slot for each connection that may stand at a time.
     pub fn new(alloc: Global, machine: M) -> Result<Server<M>, AllocError>
     where
         M: Drop,
         ensures { IfOk result (λ s. s ≡ record { machine = machine; peers = [] }) }
     {
         let buffer = vec![in alloc; 0; READ_ROOM]?;
-        let peers = Slab::new(alloc);
-        let quiet = Quiet::new(alloc)?;
+        let peers = Slab::with_capacity(alloc, SLOTS)?;
+        let quiet = Quiet::new(alloc, peers.capacity())?;
         let offers = Offers::new(alloc)?;
         Ok(Server {
             machine,

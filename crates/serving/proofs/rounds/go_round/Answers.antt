@@ -1,4 +1,4 @@
-use Rattle.std.proofs.Common.{false, sym}
+use Rattle.std.proofs.Common.{◌∙◌, false, sym}
 use Rattle.std.specs.Prelude.{◌||◌}
 use Rattle.serving.specs.Story.{served}
 use Rattle.serving.proofs.Onward.{or_false, serves_not}
@@ -51,7 +51,9 @@ returns g c =
     record {
       fit = serves_fit pumped settled _ _ c.settle_all-has_settled.ensures.serves
           (pumps_fit _ heard pumped _ pumps (serves_fit met heard _ _ c.read_all-has_heard.ensures.serves (serves_fit old met _ _ c.accept_one-has_met.ensures.serves c.requires.fit)));
+      ended = c.settle_all-has_settled.ensures.ended;
       quiet = c.settle_all-has_settled.ensures.quiet;
+      capacity = c.settle_all-has_settled.ensures.capacity ∙ c.read_all-has_heard.ensures.capacity ∙ c.accept_one-has_met.ensures.capacity;
       round = record {
         met = met;
         heard = heard;

@@ -1,10 +1,27 @@
-use Rattle.std.proofs.Common.{◌∙◌, ◌++◌, None, refl, slice_index_or}
-use Rattle.serving.specs.Story.{served}
+use Rattle.std.proofs.Common.{◌≡◌, ◌∙◌, ◌++◌, List, [], None, refl, sym, ap, subst, append-nil, count_by, drop, flat_map, slice_index_or}
+use Rattle.std.specs.Prelude.{is_some}
+use Rattle.serving.specs.Wire.{Ask}
+use Rattle.serving.specs.Story.{Serves, served}
 use Rattle.serving.specs.Rounds.{read_of, reads_due}
 use Rattle.serving.proofs.Onward.{serves_then}
 use Rattle.serving.proofs.Apart.{later_on, due_on}
 use Rattle.serving.proofs.Fits.{serves_fit}
+use Rattle.serving.proofs.Seating.{left_behind, none_due}
 use Rattle.serving.proofs.rounds.read_all.Goals as goal
+
+-- no slot is left that is taken, so that nothing is due of those behind
+pub returns-then-left-eq0-clause-serves : goal.returns-then-left-eq0-clause-serves
+returns-then-left-eq0-clause-serves g c =
+    let world = g.M.Machine.world in
+    let told = g.W.Wire.told in
+    let inv = c.loop-slot.invariant in
+    let i = c.loop-slot.slot in
+    let start = served (world c.args.machine.now) c.args.peers.now.slots (told c.args.wire.now) in
+    let here = served (world c.loop-slot.machine) c.loop-slot.peers.slots (told c.loop-slot.wire) in
+    let none : count_by is_some (drop i start.peers) ≡ 0 = ap (count_by is_some) (sym inv.later) ∙ inv.left ∙ c.if-left-eq0.true in
+    let rest : flat_map (read_of here.world) (drop i start.peers) ≡ [] = none_due (read_of here.world) refl (drop i start.peers) none in
+    let asked : inv.so_far.0 ≡ reads_due start = sym (append-nil inv.so_far.0) ∙ ap (λ (z : List Ask). inv.so_far.0 ++ z) (sym rest) ∙ inv.so_far.2 in
+    subst (λ (z : List Ask). Serves g.M.Machine.lacks start z c.loop-slot.done here) asked inv.so_far.1
 
 pub loop-slot-preserved : goal.loop-slot-preserved
 loop-slot-preserved g c =
@@ -19,6 +36,8 @@ loop-slot-preserved g c =
     record {
       fit = serves_fit here next _ _ one.serves inv.fit;
       quiet = one.quiet;
+      capacity = one.capacity ∙ inv.capacity;
+      left = left_behind here.peers next.peers i c.loop-slot.left c.count_at-left.result c.count_at-left.ensures.count one.later inv.left;
       later = one.later ∙ later_on start.peers here.peers i inv.later;
       so_far = (
         inv.so_far.0 ++ read_of here.world (slice_index_or here.peers i None),

@@ -21,6 +21,7 @@ loop-slot-preserved g c =
       fit = serves_fit here next _ _ one.serves inv.fit;
       length = one.length ∙ inv.length;
       quiet = one.quiet;
+      capacity = one.capacity ∙ inv.capacity;
       ended = λ k lt. elim (cases_eq k i) [
         | inl e ↦ subst (λ (n : ℕ). HasEnded next.world next.peers n) (sym e) one.ended
         | inr ne ↦ let less : k < i = omega (arith, lt, ne) in one.before k less (inv.ended k less)
