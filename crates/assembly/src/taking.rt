@@ -305,7 +305,10 @@ fn take_body(pending: &mut Awaited, frame: &Frame<'_>) -> Result<Option<Command>
                 return Err(Fault::Broken(501));
             }
             if length < gathering.size {
-                return match gathering.body.append(frame.payload, gathering.size as usize) {
+                return match gathering
+                    .body
+                    .append(frame.payload, gathering.size as usize)
+                {
                     Ok(()) => Ok(None),
                     Err(_) => Err(Fault::Memory),
                 };
