@@ -3,3 +3,4 @@ pub mod Leading
 pub mod Entries
 pub mod Kept
 pub mod Judged
+pub mod Wanting

@@ -2,3 +2,4 @@ pub mod First
 pub mod Standing
 pub mod Obstacles
 pub mod Passed
+pub mod Wanting

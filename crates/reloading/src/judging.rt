@@ -1,7 +1,10 @@
 //! The judgement.
 
-ghost use Rattle.std.specs.Prelude.{IfOk};
+ghost use Rattle.std.specs.Prelude.{IfOk, OnErr};
+ghost use Rattle.model.specs.Broker.{Broker};
 ghost use Rattle.reloading.specs.Obstacles.{JudgesReload};
+ghost use Rattle.reloading.specs.Standing.{IsStanding};
+ghost use Rattle.reloading.specs.Wanting.{MayWant};
 
 use crate::breaches::first_breach;
 use crate::standing::Standing;
@@ -12,7 +15,8 @@ use model::Obstacle;
 use std::alloc::{AllocError, Global};
 
 /// The first thing that stands against a reload from the old topology to this one with these guarantees, or nothing where
-/// nothing does. Where memory is wanting nothing is told. It changes nothing.
+/// nothing does. Where memory is wanting nothing is told; it may be only where no queue in use is gone, or where the first that is has
+/// a name of more than 22 bytes. It changes nothing.
 ///
 /// Queues in use that are gone are looked at first, in the order of the old file; then, guarantee by guarantee, queue by queue
 /// of the old file and entry by entry, messages that could come by deaths where they are forbidden.
@@ -23,7 +27,8 @@ pub fn obstacle<S: Standing>(
     topology: &Topology,
     guarantees: &[Guarantee],
 ) -> Result<Option<Obstacle>, AllocError>
-    ensures { IfOk result (JudgesReload old.now (S.entries standing.now) (S.consumed standing.now) topology.now guarantees.now) }
+    ensures told { IfOk result (JudgesReload old.now (S.entries standing.now) (S.consumed standing.now) topology.now guarantees.now) }
+    ensures wants { OnErr result ((b : Broker) → IsStanding old.now (S.entries standing.now) (S.consumed standing.now) b → MayWant old.now topology.now b) }
 {
     match first_stranded(standing, old, topology)? {
         Some(stranded) => Ok(Some(stranded)),

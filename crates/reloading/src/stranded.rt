@@ -1,14 +1,19 @@
 //! Queues in use that a new topology lacks.
 
-ghost use Rattle.std.specs.Prelude.{◌≡◌, IfOk, Decides};
+ghost use Rattle.std.specs.Prelude.{◌≡◌, IfOk, OnErr, Decides, Some};
 ghost use Rattle.model.specs.Topology.{queue_names};
+ghost use Rattle.model.specs.declared.obstacles.Obstacle.TheVariants.{InUse};
 ghost use Rattle.reloading.specs.First.{TellsFirst};
 ghost use Rattle.reloading.specs.Obstacles.{IsUsed, TellsQueue, TellsUse};
+ghost use Rattle.reloading.specs.Wanting.{FirstIsLong, IsLong};
 
 use crate::standing::Standing;
 use exchange_graph::Topology;
 use model::{Obstacle, Text};
 use std::alloc::AllocError;
+
+/// How many bytes a name has at most that is told without memory.
+const MOST_SHORT: usize = 22;
 
 /// Whether a message stands in the queue at this place, ready or held, or a consumer takes from it.
 fn is_used<S: Standing>(standing: &S, place: usize) -> bool
@@ -17,16 +22,29 @@ fn is_used<S: Standing>(standing: &S, place: usize) -> bool
     standing.walk(place).next().is_some() || standing.is_consumed(place)
 }
 
+/// A name once more, to be told: memory is wanting only for a long one.
+fn told_name(name: &Text) -> Result<Text, AllocError>
+    ensures same { IfOk result (λ t. t ≡ name.now) }
+    ensures wants { OnErr result (IsLong name.now) }
+{
+    if name.len() <= MOST_SHORT {
+        return Ok(Text::short(name.as_bytes()));
+    }
+    name.clone()
+}
+
 /// The queue at this place, which the new topology lacks, if it is in use.
 fn gone_at<S: Standing>(
     standing: &S,
     place: usize,
     queue: &Text,
 ) -> Result<Option<Obstacle>, AllocError>
-    ensures { IfOk result (λ o. TellsUse (S.entries standing.now place) (S.consumed standing.now place) queue.now o) }
+    ensures told { IfOk result (λ o. TellsUse (S.entries standing.now place) (S.consumed standing.now place) queue.now o) }
+    ensures used { OnErr result (TellsUse (S.entries standing.now place) (S.consumed standing.now place) queue.now (Some (InUse queue.now))) }
+    ensures wants { OnErr result (IsLong queue.now) }
 {
     if is_used(standing, place) {
-        return Ok(Some(Obstacle::InUse(queue.clone()?)));
+        return Ok(Some(Obstacle::InUse(told_name(queue)?)));
     }
     Ok(None)
 }
@@ -38,7 +56,9 @@ fn stranded_at<S: Standing>(
     place: usize,
     queue: &Text,
 ) -> Result<Option<Obstacle>, AllocError>
-    ensures { IfOk result (λ o. TellsQueue topology.now (S.entries standing.now) (S.consumed standing.now) place queue.now o) }
+    ensures told { IfOk result (λ o. TellsQueue topology.now (S.entries standing.now) (S.consumed standing.now) place queue.now o) }
+    ensures stranded { OnErr result (TellsQueue topology.now (S.entries standing.now) (S.consumed standing.now) place queue.now (Some (InUse queue.now))) }
+    ensures wants { OnErr result (IsLong queue.now) }
 {
     match topology.queue_at(queue.as_bytes()) {
         Some(_) => Ok(None),
@@ -46,13 +66,14 @@ fn stranded_at<S: Standing>(
     }
 }
 
-/// The first queue in use that the new topology lacks.
+/// The first queue in use that the new topology lacks. Memory is wanting only to tell a long name.
 pub fn first_stranded<S: Standing>(
     standing: &S,
     old: &Topology,
     topology: &Topology,
 ) -> Result<Option<Obstacle>, AllocError>
-    ensures { IfOk result (λ o. TellsFirst (TellsQueue topology.now (S.entries standing.now) (S.consumed standing.now)) (queue_names old.now.queues) o) }
+    ensures told { IfOk result (λ o. TellsFirst (TellsQueue topology.now (S.entries standing.now) (S.consumed standing.now)) (queue_names old.now.queues) o) }
+    ensures wants { OnErr result (FirstIsLong topology.now (queue_names old.now.queues) (S.entries standing.now) (S.consumed standing.now)) }
 {
     for place in 0..old.queues().len() {
         let queue = &old.queue(place).name;

@@ -1,6 +1,6 @@
 //! Why a reload was not done.
 
-ghost use Rattle.std.specs.Prelude.{◌≡◌, Some, IfOk};
+ghost use Rattle.std.specs.Prelude.{◌≡◌, Some};
 ghost use Rattle.runs.specs.Faults.{obstacle_in};
 
 use model::{Obstacle, Text};
@@ -34,21 +34,21 @@ impl From<AllocError> for ReloadFault {
 }
 
 impl ReloadFault {
-    /// The fault that tells what stands against a reload. Its names are shared.
-    pub fn of(obstacle: &Obstacle) -> Result<ReloadFault, AllocError>
-        ensures { IfOk result (λ fault. obstacle_in fault ≡ Some obstacle.now) }
+    /// The fault that tells what stands against a reload.
+    pub fn of(obstacle: Obstacle) -> ReloadFault
+        ensures { obstacle_in result ≡ Some obstacle }
     {
         match obstacle {
-            Obstacle::InUse(queue) => Ok(ReloadFault::InUse(queue.clone()?)),
+            Obstacle::InUse(queue) => ReloadFault::InUse(queue),
             Obstacle::Breaks {
                 queue,
                 key,
                 guarantee,
-            } => Ok(ReloadFault::Breaks {
-                queue: queue.clone()?,
-                key: key.clone()?,
-                guarantee: *guarantee,
-            }),
+            } => ReloadFault::Breaks {
+                queue,
+                key,
+                guarantee,
+            },
         }
     }
 

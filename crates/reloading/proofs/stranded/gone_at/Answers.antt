@@ -1,7 +1,11 @@
-use Rattle.std.proofs.Common.{ap}
+use Rattle.std.proofs.Common.{ap, refl}
 use Rattle.model.specs.Words.{Text}
 use Rattle.model.specs.declared.obstacles.Obstacle.TheVariants.{InUse}
+use Rattle.reloading.proofs.Wanting.{on_err}
 use Rattle.reloading.proofs.stranded.gone_at.Goals as goal
 
-pub returns-then-is_used : goal.returns-then-is_used
-returns-then-is_used g c = (c.is_used.ensures.0 c.if-is_used.true, ap (λ (z : Text). InUse z) c.in_ok-clone.ensures)
+pub returns-then-is_used-clause-told : goal.returns-then-is_used-clause-told
+returns-then-is_used-clause-told g c = (c.is_used.ensures.0 c.if-is_used.true, ap (λ (z : Text). InUse z) c.in_ok-told_name.ensures.same)
+
+pub returns-in_err-told_name-clause-used : goal.returns-in_err-told_name-clause-used
+returns-in_err-told_name-clause-used g c = on_err c.from_residual.result _ (c.is_used.ensures.0 c.if-is_used.true, refl)

@@ -4,12 +4,18 @@ use Rattle.model.specs.Words.{Text}
 use Rattle.model.specs.Topology.{IsIn, queue_names}
 use Rattle.reloading.proofs.First.{stranded_not}
 use Rattle.reloading.proofs.Judged.{gone_tells}
+use Rattle.reloading.proofs.Wanting.{on_err_too}
 use Rattle.reloading.proofs.stranded.stranded_at.Goals as goal
 
-pub returns-in-Some : goal.returns-in-Some
-returns-in-Some g c gone used = stranded_not c.args.topology.now c.in-Some.field-0 c.args.queue.now c.in-Some.ensures.within (c.in-Some.ensures.named ∙ c.as_bytes.ensures) gone
+pub returns-in-Some-clause-told : goal.returns-in-Some-clause-told
+returns-in-Some-clause-told g c gone used = stranded_not c.args.topology.now c.in-Some.field-0 c.args.queue.now c.in-Some.ensures.within (c.in-Some.ensures.named ∙ c.as_bytes.ensures) gone
 
-pub returns-in-None : goal.returns-in-None
-returns-in-None g c =
+pub returns-in-None-clause-told : goal.returns-in-None-clause-told
+returns-in-None-clause-told g c =
     let gone = subst (λ (z : Text). IsIn z (queue_names c.args.topology.now.queues) → ⊥) c.as_bytes.ensures c.in-None.ensures.absent in
-    IfOk-weaker c.gone_at.result _ _ (λ o told. gone_tells c.args.topology.now (g.S.Standing.entries c.args.standing.now) (g.S.Standing.consumed c.args.standing.now) c.args.place c.args.queue.now o gone told) c.gone_at.ensures
+    IfOk-weaker c.gone_at.result _ _ (λ o told. gone_tells c.args.topology.now (g.S.Standing.entries c.args.standing.now) (g.S.Standing.consumed c.args.standing.now) c.args.place c.args.queue.now o gone told) c.gone_at.ensures.told
+
+pub returns-in-None-clause-stranded : goal.returns-in-None-clause-stranded
+returns-in-None-clause-stranded g c =
+    let gone = subst (λ (z : Text). IsIn z (queue_names c.args.topology.now.queues) → ⊥) c.as_bytes.ensures c.in-None.ensures.absent in
+    on_err_too c.gone_at.result _ _ (λ told. (gone, told)) c.gone_at.ensures.used

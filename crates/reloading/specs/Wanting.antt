@@ -1,0 +1,25 @@
+-- Where memory may be wanting for a reload (own).
+use Rattle.std.specs.Prelude.{◌<◌, ℕ, List, Bool, length, Some}
+use Rattle.model.specs.Words.{Text}
+use Rattle.model.specs.Topology.{Topology}
+use Rattle.model.specs.Broker.{Broker}
+use Rattle.model.specs.Reloading.{NoneIsStranded, IsFirstStranded}
+use Rattle.model.specs.declared.messages.Entry.{Entry}
+use Rattle.model.specs.declared.obstacles.Obstacle.TheVariants.{InUse}
+use Rattle.reloading.specs.First.{TellsFirst}
+use Rattle.reloading.specs.Obstacles.{TellsQueue}
+
+-- a name that is shared where it is told; one of at most 22 bytes is copied, which takes no memory
+abbrev pub IsLong : Text → Type 0
+IsLong q = 22 < length q
+
+-- Memory may be wanting for a reload to the new topology: no queue in use is gone, or the first that is has a long name.
+pub data MayWant (old new : Topology) (b : Broker) : Type 0 where
+  none_gone : NoneIsStranded old new b → MayWant old new b
+  long_name : (q : Text) → IsFirstStranded old new b q → IsLong q → MayWant old new b
+
+-- The first queue in use that is gone, of those with these names, has a long name.
+pub record FirstIsLong (new : Topology) (names : List Text) (entries : ℕ → List Entry) (consumed : ℕ → Bool) : Type 0 where
+  pub queue : Text
+  pub first : TellsFirst (TellsQueue new entries consumed) names (Some (InUse queue))
+  pub long : IsLong queue
