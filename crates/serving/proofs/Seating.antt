@@ -104,8 +104,8 @@ has_once c (Some p ∷ ps) apart = cond_le (p.connection == c) (tally (has c) ps
     here : p.connection == c ≡ true → 1 + tally (has c) ps ≤ 1
     here e =
         let none : tally (has c) ps ≡ 0 = tally_none (has c) ps (λ i. has_not c (slice_index_or ps i None) (λ q at f.
-            let same : 0 ≡ suc i = apart 0 (suc i) p q refl at (eqb-true p.connection c e ∙ sym f) in
-            absurd (omega (arith, same)))) in
+        let same : 0 ≡ suc i = apart 0 (suc i) p q refl at (eqb-true p.connection c e ∙ sym f) in
+        absurd (omega (arith, same)))) in
         omega (arith, none)
 
 -- one number more: its connection is gone, and no slot has it, or it stands, and one slot at most has it
@@ -118,7 +118,7 @@ seated_more w ps fit ended n before = if_le (is_gone w (suc n)) (tally (has_upto
     gone : is_gone w (suc n) ≡ true → tally (has_upto (suc n)) ps ≤ standing w n
     gone e =
         let none : tally (has (suc n)) ps ≡ 0 = tally_none (has (suc n)) ps (λ i. has_not (suc n) (slice_index_or ps i None) (λ p at f.
-            false≢true (sym (ended i p at) ∙ ap (is_gone w) f ∙ e))) in
+        false≢true (sym (ended i p at) ∙ ap (is_gone w) f ∙ e))) in
         omega (arith, before, more, none)
 
     stands : is_gone w (suc n) ≡ false → tally (has_upto (suc n)) ps ≤ standing w n + 1
