@@ -1,5 +1,5 @@
 -- Each deed, as a server goes on by it.
-use Rattle.std.proofs.Common.{Bool, true, false, ◌≡◌, ◌≤◌, ◌⊎◌, ℕ, ◌+◌, List, [], ◌∷◌, ◌++◌, Option, None, Some, length, map, take, refl, sym, subst, ◌∙◌, slice_set}
+use Rattle.std.proofs.Common.{Bool, true, false, ◌≡◌, ◌≤◌, ℕ, ◌+◌, List, [], ◌∷◌, ◌++◌, Option, None, Some, length, map, take, refl, sym, subst, ◌∙◌, slice_set}
 use Rattle.std.proofs.lemmas.List.{length-take-le}
 use Rattle.model.specs.Run.{Happening}
 use Rattle.model.specs.History.{Occurrence, Of_event}

@@ -7,6 +7,7 @@ pub mod Apart
 pub mod Fits
 pub mod Quieting
 pub mod Seating
+pub mod Loudness
 pub mod Pairs
 pub mod Joining
 pub mod Flowing

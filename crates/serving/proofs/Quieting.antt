@@ -157,6 +157,16 @@ quiet_marked w ps i p ms here is quiet = λ j q at m. go j q at (marked_now ms i
         subst (λ (x : Peer). IsQuiet w x.connection) (sym same) is
     go j q at (inr m) = quiet j q at m
 
+-- a slot is marked that is free
+pub quiet_free : (w : World) (ps : List (Option Peer)) (i : ℕ) (ms : List Bool) → slice_index_or ps i None ≡ None → AreQuiet w ps ms → AreQuiet w ps (slice_set ms i true)
+quiet_free w ps i ms free quiet = λ j q at m. go j q at (marked_now ms i j m)
+  where
+    go : (j : ℕ) (q : Peer) → At ps j q → (j ≡ i) ⊎ IsMarkedAt ms j → IsQuiet w q.connection
+    go j q at (inl e) =
+        let none : None ≡ Some q = sym free ∙ ap (λ (k : ℕ). slice_index_or ps k None) (sym e) ∙ at in
+        absurd (cc none)
+    go j q at (inr m) = quiet j q at m
+
 pub quiet_freed : (w : World) (ps : List (Option Peer)) (i : ℕ) (ms : List Bool) → AreQuiet w ps ms → AreQuiet w (slice_set ps i None) ms
 quiet_freed w ps i ms quiet = λ j q at m. quiet j q (freed_at ps i j q at) m
 

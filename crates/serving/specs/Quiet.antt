@@ -1,9 +1,10 @@
 -- Which slots there is nothing to do for until something comes for them (own).
-use Rattle.std.specs.Prelude.{◌≡◌, ◌≢◌, ◌↔◌, ◌≤◌, ℕ, List, length, Bool, true, false, Option, slice_index_or}
+use Rattle.std.specs.Prelude.{◌≡◌, ◌≢◌, ◌↔◌, ◌≤◌, ◌<◌, ◌*◌, ℕ, List, length, Bool, true, false, cond, Option, slice_index_or}
 use Rattle.model.specs.Arrivals.{World, is_awake, has_output}
 use Rattle.serving.specs.Story.{At, read_room}
 use Rattle.serving.specs.Rounds.{HasEnded}
 use Rattle.slab.specs.Slab.{Slab}
+use Rattle.marks.specs.Places.{bit_of}
 use Rattle.serving.specs.Fit.{IsFit, most_peers}
 use Rattle.serving.specs.declared.peers.Peer.{Peer}
 
@@ -19,6 +20,21 @@ IsMarkedAt marks i = slice_index_or marks i false ≡ true
 -- each slot that is marked and holds a peer is quiet
 abbrev pub AreQuiet : World → List (Option Peer) → List Bool → Type 0
 AreQuiet w ps marks = (i : ℕ) (p : Peer) → At ps i p → IsMarkedAt marks i → IsQuiet w p.connection
+
+-- the bit of a slot in the set of those that have no mark: 0 too behind the last mark
+abbrev pub loud_bit : List Bool → ℕ → ℕ
+loud_bit marks i = cond (slice_index_or marks i true) 0 1
+
+-- This set has those slots that have no mark, up to the last mark.
+pub record AreLoud (loud : List ℕ) (marks : List Bool) : Type 0 where
+  pub room : length marks ≤ length loud * 64
+  pub each : (i : ℕ) → bit_of loud i ≡ loud_bit marks i
+
+-- This is the first slot with no mark, of those from `from` on.
+pub record IsNextLoud (marks : List Bool) (from slot : ℕ) : Type 0 where
+  pub least : from ≤ slot
+  pub loud : slice_index_or marks slot false ≡ false
+  pub before : (i : ℕ) → from ≤ i → i < slot → IsMarkedAt marks i
 
 -- the slot does not hold connection c
 abbrev pub IsOther : ℕ → List (Option Peer) → ℕ → Type 0

@@ -1,5 +1,5 @@
 -- What a server does: what it asks of its wire, what is answered, and which arrivals it makes of that, the pumps that it makes by itself, and the reloads that it is called for (own).
-use Rattle.std.specs.Prelude.{◌≡◌, ◌≢◌, ◌≤◌, ◌+◌, ◌⊎◌, ◌&&◌, not, ℕ, zero, suc, List, [], ◌∷◌, ◌++◌, length, take, flat_map, count_by, is_some, Bool, true, false, Option, Some, None, slice_index_or, slice_set, if◌then◌else◌, MatchBool}
+use Rattle.std.specs.Prelude.{◌≡◌, ◌≢◌, ◌≤◌, ◌+◌, ◌&&◌, not, ℕ, zero, suc, List, [], ◌∷◌, ◌++◌, length, take, flat_map, Bool, true, false, Option, Some, None, slice_index_or, slice_set, if◌then◌else◌, MatchBool}
 use Rattle.std.specs.List.{list_any}
 use Rattle.model.specs.State.{Config}
 use Rattle.model.specs.History.{Occurrence}

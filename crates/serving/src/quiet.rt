@@ -1,36 +1,81 @@
 //! Which slots there is nothing to do for until something comes for them.
 
-ghost use Rattle.std.specs.Prelude.{◌≡◌, IfOk, length, slice_index_or, slice_set, false};
+ghost use Rattle.std.specs.Prelude.{◌≡◌, ◌<◌, ◌≤◌, ◌*◌, ℕ, IfOk, cond, length, replicate, slice_index_or, slice_set, false, true};
+ghost use Rattle.marks.specs.Places.{Differs, bit_of};
+ghost use Rattle.serving.specs.Quiet.{IsNextLoud};
 
+use marks::{Flat, Over, Places};
 use std::alloc::{AllocError, Global};
 use std::marker::Model;
 
 /// So many slots are remembered, each for the numbers of connections that leave the same when divided by this.
 const REMEMBERED: usize = 16_384;
 
-/// Slots that are marked as quiet: one without a mark is looked at.
+/// A set of slots, of which the next is found without a look at each.
+type SlotSet = Over<Flat>;
+
+/// Slots that are marked as quiet: one without a mark is loud, and is looked at.
 #[derive(Drop)]
 pub(crate) struct Quiet {
     marks: Vec<bool>,
+    /// Those without a mark.
+    loud: SlotSet,
     /// Which slot a connection had when it was last looked at. It is a guess: others may have been remembered in its place.
     slots: Vec<u16>,
 }
 
 impl Model for Quiet {
     ghost use Rattle.std.specs.Prelude.{Bool, List};
+    ghost use Rattle.serving.specs.Quiet.{AreLoud};
 
     ghost Value = { List Bool };
 
     ghost view = { λ q. q.marks.items };
+
+    ghost invariant = { λ q. AreLoud q.loud q.marks.items };
+}
+
+/// A mark for each of so many slots.
+fn all_marked(alloc: Global, slots: usize) -> Result<Vec<bool>, AllocError>
+    ensures { IfOk result (λ marks. marks.items ≡ replicate slots true) }
+{
+    let marks = vec![in alloc; true; slots]?;
+    Ok(marks)
+}
+
+/// A set with room for so many slots, and with none in it.
+fn room_for(alloc: Global, slots: usize) -> Result<SlotSet, AllocError>
+    ensures none { IfOk result (λ set. (i : ℕ) → bit_of set i ≡ 0) }
+    ensures room { IfOk result (λ set. slots ≤ length set * 64) }
+{
+    let mut set = <Over<Flat>>::empty(alloc);
+    set.grow(slots)?;
+    Ok(set)
+}
+
+/// Puts a slot in, or takes it out.
+fn put(set: &mut SlotSet, slot: usize, is_in: bool)
+    requires { slot < length set.old * 64 }
+    ensures bit { Differs (bit_of set.old) (bit_of set.new) slot (cond is_in 1 0) }
+    ensures len { length set.new ≡ length set.old }
+{
+    if is_in {
+        set.set(slot);
+    } else {
+        set.clear(slot);
+    }
 }
 
 impl Quiet {
-    /// A mark for so many slots, of which none has a peer.
+    /// So many slots, all of them marked: none has a peer.
     pub(crate) fn new(alloc: Global, slots: usize) -> Result<Quiet, AllocError>
-        ensures { IfOk result (λ q. length q ≡ slots) }
+        ensures { IfOk result (λ q. q ≡ replicate slots true) }
     {
+        let marks = all_marked(alloc, slots)?;
+        let loud = room_for(alloc, slots)?;
         Ok(Quiet {
-            marks: vec![in alloc; true; slots]?,
+            marks,
+            loud,
             slots: vec![in alloc; 0; REMEMBERED]?,
         })
     }
@@ -68,6 +113,17 @@ impl Quiet {
     {
         if slot < self.marks.len() {
             self.marks[slot] = is_quiet;
+            put(&mut self.loud, slot, !is_quiet);
+        }
+    }
+
+    /// The first slot without a mark, of those from `from` on. Those behind the last mark have none.
+    pub(crate) fn next_loud(&self, from: usize) -> usize
+        ensures { IsNextLoud self.now from result }
+    {
+        match self.loud.next(from) {
+            Some(slot) => slot,
+            None => from.max(self.marks.len()),
         }
     }
 }

@@ -1,7 +1,5 @@
 use Rattle.std.proofs.Common.{◌≡◌, ◌∙◌, List, [], Option, sym, subst}
 use Rattle.serving.specs.Fit.{IsFit}
-use Rattle.serving.specs.Quiet.{AreQuiet}
-use Rattle.serving.specs.Rounds.{HasEnded}
 use Rattle.serving.specs.declared.peers.Peer.{Peer}
 use Rattle.serving.proofs.Fits.{fit_none}
 use Rattle.serving.proofs.Quieting.{none_quiet, none_ended}
